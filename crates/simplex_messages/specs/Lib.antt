@@ -1,0 +1,3 @@
+pub mod Notarize
+pub mod ConflictingNotarize
+pub mod Activity

@@ -1,0 +1,9 @@
+use Rattle.std.proofs.Common.{arith}
+use Rattle.simplex_types.proofs.Signed.{kinds-differ, one_subject}
+use Rattle.simplex_types.proofs.subject.signed_bytes_name_one_subject.Goals as goal
+
+pub returns-clause-kinds : goal.returns-clause-kinds
+returns-clause-kinds g c = kinds-differ
+
+pub returns-clause-subjects : goal.returns-clause-subjects
+returns-clause-subjects g c = one_subject (g.met.D.Read.one_spelling 0 (omega arith))

@@ -1,0 +1,121 @@
+//! Values as bytes: each value has one spelling, and reading stops at the first trouble from the left.
+
+ghost use Rattle.std.specs.Prelude.{◌≡◌, ◌++◌, ℕ, ◌<◌, ◌≤◌, ◌^◌, List, Result, length, IfOk, OnOk, OnErr, take, vec_len};
+ghost use Rattle.simplex_types.specs.Codec.{Gives, IsCodec, bytes_at};
+ghost use Rattle.simplex_types.specs.declared.codec.CodecError.{CodecError};
+ghost use Rattle.simplex_types.specs.declared.codec.CodecError.TheVariants.{Memory};
+
+use std::alloc::{AllocError, AllocFailed, Global};
+use thiserror::Error;
+
+/// Why no value was read: the first trouble from the left.
+#[derive(Clone, Copy, Debug, PartialEq, Eq, Hash, Error)]
+pub enum CodecError {
+    /// The bytes end inside a value.
+    #[error("the bytes end inside a value")]
+    End,
+    /// A byte or a value that can't stand there.
+    #[error("a byte or a value that can't stand there")]
+    Invalid,
+    /// A count above its bound.
+    #[error("a count above its bound")]
+    TooLong,
+    /// Memory ran out.
+    #[error("out of memory")]
+    Memory,
+}
+
+impl From<AllocError> for CodecError {
+    ghost from_gives = { λ _ e. e ≡ Memory };
+
+    fn from(_error: AllocError) -> CodecError {
+        CodecError::Memory
+    }
+}
+
+impl<T: Drop> From<AllocFailed<T>> for CodecError {
+    ghost from_gives = { λ _ e. e ≡ Memory };
+
+    fn from(_error: AllocFailed<T>) -> CodecError {
+        CodecError::Memory
+    }
+}
+
+/// Values that are written as bytes.
+pub trait Write {
+    /// What holds of each value of the type: its spelling can be read again.
+    ghost fits: { Self → Type 0 };
+
+    /// The value's one spelling.
+    ghost spelling: { Self → List ℕ };
+
+    /// Appends the spelling. Where memory is refused, a part of it may stand behind what was there.
+    fn append(&self, out: &mut Vec<u8>) -> Result<(), AllocError>
+        ensures ok { OnOk result (out.new.items ≡ out.old.items ++ spelling self.now) }
+        ensures readable { OnOk result (fits self.now) }
+        ensures err { OnErr result (take (vec_len out.old) out.new.items ≡ out.old.items) };
+
+    /// Appends the spelling. Where memory is refused, the vector is as it was.
+    final fn write(&self, out: &mut Vec<u8>) -> Result<(), AllocError>
+        ensures ok { OnOk result (out.new.items ≡ out.old.items ++ spelling self.now) }
+        ensures readable { OnOk result (fits self.now) }
+        ensures err { OnErr result (out.new.items ≡ out.old.items) }
+    {
+        let start = out.len();
+        let written = self.append(out);
+        if written.is_err() {
+            out.truncate(start);
+        }
+        written
+    }
+}
+
+/// Values whose spelling has a known length.
+pub trait EncodeSize: Write {
+    /// No spelling of the type has more bytes.
+    ghost max_size: { ℕ };
+
+    /// How many bytes the spelling has.
+    fn encode_size(&self) -> usize
+        ensures size { result ≡ length (Self.spelling self.now) }
+        ensures bounded { result ≤ max_size }
+        ensures readable { Self.fits self.now };
+
+    /// How many bytes a spelling of the type has at most.
+    fn max_encode_size() -> usize
+        ensures { result ≡ max_size };
+
+    /// Spellings are far shorter than memory is large, so that their lengths can be added.
+    ghost short: { max_size < 2 ^ 48 };
+}
+
+/// Values that are read from bytes.
+pub trait Read: Write + Sized {
+    /// What reading gives, under a bound on the committee's size: the value and the bytes behind it,
+    /// or the first trouble from the left.
+    ghost reading: { ℕ → List ℕ → Result (Self × List ℕ) CodecError };
+
+    /// Reads the value at the front, and leaves the slice behind it. `bound` is the committee's size.
+    /// After any refusal the slice stands where it stood.
+    fn read_cfg(alloc: Global, input: &mut &[u8], bound: u32) -> Result<Self, CodecError>
+        ensures { Gives (reading bound) input.old.now input.new.now result };
+
+    /// Exactly the spellings are read, and what was spelled is read again whatever follows. So each
+    /// value has one spelling, and no spelling begins another.
+    ghost one_spelling: { (n : ℕ) → n < 2 ^ 32 → IsCodec Self.fits Self.spelling (reading n) };
+}
+
+/// Reads so many bytes as they are.
+pub(crate) fn read_bytes<const N: usize>(input: &mut &[u8]) -> Result<[u8; N], CodecError>
+    ensures { Gives (bytes_at N) input.old.now input.new.now result }
+{
+    let all: &[u8] = *input;
+    if all.len() < N {
+        return Err(CodecError::End);
+    }
+    let (front, rest) = all.split_at(N);
+    let mut bytes = [0; N];
+    bytes.copy_from_slice(front);
+    *input = rest;
+    Ok(bytes)
+}

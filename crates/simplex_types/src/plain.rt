@@ -1,0 +1,261 @@
+//! A scheme with no secret, for tests and tools: a signature is a hash of what is signed.
+
+ghost use Rattle.std.specs.Prelude.{◌≡◌, ◌↔◌, ◌<◌, ◌≤◌, ◌^◌, ◌++◌, ℕ, List, Option, length, IsTrue, IfOk, IfSome};
+ghost use Rattle.std.specs.Option.{ForSome};
+ghost use Rattle.std.specs.Int.{w32, to_be_bytes};
+ghost use Rattle.std.proofs.Common.{rules};
+ghost use Rattle.sha2.specs.Hashers.{Holds256};
+ghost use Rattle.simplex_types.specs.Codec.{bytes_at, bytes-IsCodec};
+ghost use Rattle.simplex_types.specs.Plain.{hashed, signature};
+ghost use Rattle.simplex_types.specs.Proposal.{proposal_spelling};
+ghost use Rattle.simplex_types.specs.Round.{round_spelling};
+ghost use Rattle.simplex_types.specs.Subject.{statement, message, namespace};
+ghost use Rattle.simplex_types.specs.Varint.{varint};
+
+use crate::codec::{CodecError, EncodeSize, Read, Write, read_bytes};
+use crate::digest::Digest;
+use crate::duplicate::Duplicate;
+use crate::position::{Participant, Round};
+use crate::proposal::Proposal;
+use crate::scheme::{Attestation, Scheme, Signature};
+use crate::subject::{Namespace, Subject};
+use sha2::{Digest as _, Sha256};
+use std::alloc::{AllocError, Global};
+use std::marker::Model;
+
+/// The public key of a member under the plain scheme: its index.
+#[derive(Clone, Copy, Debug, PartialEq, Eq, PartialOrd, Ord, Hash)]
+pub struct PlainKey(Participant);
+
+impl Model for PlainKey {
+    ghost Value = { ℕ };
+
+    ghost view = { λ k. k.0 };
+
+    ghost inverse = { λ n. record { 0 = n } };
+}
+
+impl PlainKey {
+    /// The member whose key it is.
+    pub const fn index(self) -> Participant
+        ensures { result ≡ self }
+    {
+        self.0
+    }
+}
+
+impl Duplicate for PlainKey {
+    fn duplicate(&self, _alloc: Global) -> Result<Self, AllocError> {
+        Ok(*self)
+    }
+}
+
+/// A signature of the plain scheme: a SHA-256 hash (FIPS 180-4).
+#[derive(Clone, Copy, Debug, PartialEq, Eq, PartialOrd, Ord, Hash)]
+pub struct PlainSignature([u8; 32]);
+
+impl Model for PlainSignature {
+    ghost Value = { List ℕ };
+
+    ghost view = { λ s. s.0 };
+
+    ghost inverse = { λ bytes. record { 0 = bytes } };
+}
+
+impl Write for PlainSignature {
+    ghost fits = { λ s. length s ≡ 32 };
+
+    ghost spelling = { λ s. s };
+
+    fn append(&self, out: &mut Vec<u8>) -> Result<(), AllocError> {
+        out.extend_from_slice(&self.0)
+    }
+}
+
+impl EncodeSize for PlainSignature {
+    ghost max_size = { 32 };
+
+    fn encode_size(&self) -> usize {
+        let bytes: &[u8] = &self.0;
+        bytes.len()
+    }
+
+    fn max_encode_size() -> usize {
+        32
+    }
+
+    ghost short = { Prim.search rules };
+}
+
+impl Read for PlainSignature {
+    ghost reading = { λ _. bytes_at 32 };
+
+    ghost one_spelling = { λ _ _. bytes-IsCodec 32 };
+
+    fn read_cfg(_alloc: Global, input: &mut &[u8], _bound: u32) -> Result<Self, CodecError> {
+        Ok(PlainSignature(read_bytes(input)?))
+    }
+}
+
+impl Signature for PlainSignature {
+    ghost equal_is_same = { Prim.search rules };
+
+    ghost small = { Prim.search rules };
+}
+
+impl Duplicate for PlainSignature {
+    fn duplicate(&self, _alloc: Global) -> Result<Self, AllocError> {
+        Ok(*self)
+    }
+}
+
+/// A committee whose signatures are hashes of what is signed. Anyone can make them.
+#[derive(Debug, Drop)]
+pub struct PlainScheme {
+    namespace: Namespace,
+    participants: u32,
+    me: Option<Participant>,
+}
+
+impl Model for PlainScheme {
+    ghost use Rattle.std.specs.Prelude.{◌≤◌, ◌<◌, length};
+    ghost use Rattle.std.specs.Option.{ForSome};
+    ghost use Rattle.simplex_types.specs.Plain.{Committee};
+
+    ghost Value = { Committee };
+
+    ghost view = { λ s. record { base = s.namespace; participants = s.participants; me = s.me } };
+
+    ghost invariant = { λ s. (length s.namespace ≤ 255) × ForSome s.me (λ i. i < s.participants) };
+}
+
+impl PlainScheme {
+    /// The most members of a committee.
+    pub const MAX_PARTICIPANTS: u32 = 65_535;
+
+    /// The most bytes of a namespace's base.
+    pub const MAX_BASE: usize = 255;
+
+    /// The committee with this base of its namespaces and so many members, seen by member `me`, or
+    /// by nobody of it. Refused only where memory is.
+    pub fn new(
+        alloc: Global,
+        base: &[u8],
+        participants: u32,
+        me: Option<Participant>,
+    ) -> Result<Self, AllocError>
+        requires short_base { length base.now ≤ 255 }
+        requires some { 0 < participants }
+        requires at_most { participants ≤ 65535 }
+        requires member { ForSome me (λ i. i < participants) }
+        ensures base { IfOk result (λ s. s.base ≡ base.now) }
+        ensures participants { IfOk result (λ s. s.participants ≡ participants) }
+        ensures me { IfOk result (λ s. s.me ≡ me) }
+    {
+        let namespace = Namespace::new(alloc, base)?;
+        Ok(PlainScheme {
+            namespace,
+            participants,
+            me,
+        })
+    }
+
+    fn signature_of<D: Digest>(
+        &self,
+        index: Participant,
+        subject: &Subject<'_, D>,
+    ) -> PlainSignature
+        ensures { result ≡ signature D.spelling self.now.base index (statement subject.now) }
+    {
+        let base = self.namespace.base();
+        let kind = subject.kind_name();
+        let mut hasher = Sha256::new();
+        hasher.update(index.get().to_be_bytes());
+        hasher.update(((base.len() + kind.len()) as u32).to_be_bytes());
+        hasher.update(base);
+        hasher.update(kind);
+        match subject {
+            Subject::Notarize(proposal) => hash_proposal(&mut hasher, proposal),
+            Subject::Nullify(round) => hash_round(&mut hasher, round),
+            Subject::Finalize(proposal) => hash_proposal(&mut hasher, proposal),
+        }
+        PlainSignature(hasher.finalize())
+    }
+}
+
+/// Hashes a number as it is spelled.
+#[tactic(auto, using(crate::specs::Varint::varint_steps))]
+fn hash_number(hasher: &mut Sha256, number: u64)
+    ensures { (m : List ℕ) → Holds256 hasher.old m → Holds256 hasher.new (m ++ varint number) }
+{
+    if number < 128 {
+        hasher.update([number as u8]);
+    } else {
+        hasher.update([(number % 128) as u8 + 128]);
+        hash_number(hasher, number / 128);
+    }
+}
+
+/// Hashes a round as it is spelled.
+fn hash_round(hasher: &mut Sha256, round: &Round)
+    ensures { (m : List ℕ) → Holds256 hasher.old m → Holds256 hasher.new (m ++ round_spelling round.now) }
+{
+    hash_number(hasher, round.epoch.get());
+    hash_number(hasher, round.view.get());
+}
+
+/// Hashes a proposal as it is spelled.
+fn hash_proposal<D: Digest>(hasher: &mut Sha256, proposal: &Proposal<D>)
+    ensures { (m : List ℕ) → Holds256 hasher.old m → Holds256 hasher.new (m ++ proposal_spelling D.spelling proposal.now) }
+{
+    hash_round(hasher, &proposal.round);
+    hash_number(hasher, proposal.parent.get());
+    hasher.update(proposal.payload.as_bytes());
+}
+
+impl<D: Digest> Scheme<D> for PlainScheme {
+    type PublicKey = PlainKey;
+
+    type Signature = PlainSignature;
+
+    ghost size = { λ s. s.participants };
+
+    ghost own = { λ s. s.me };
+
+    ghost key_of = { λ s i. i };
+
+    ghost attests = { λ s i subject a. (i < s.participants) × (a ≡ signature D.spelling s.base i subject) };
+
+    fn participants(&self) -> u32 {
+        self.participants
+    }
+
+    fn me(&self) -> Option<Participant> {
+        self.me
+    }
+
+    fn key(&self, index: Participant) -> Option<PlainKey> {
+        if index.get() < self.participants {
+            Some(PlainKey(index))
+        } else {
+            None
+        }
+    }
+
+    fn sign(&self, subject: &Subject<'_, D>) -> Option<Attestation<PlainSignature>> {
+        let signer = self.me?;
+        let signature = self.signature_of(signer, subject);
+        Some(Attestation { signer, signature })
+    }
+
+    fn verify_attestation(
+        &self,
+        subject: &Subject<'_, D>,
+        attestation: &Attestation<PlainSignature>,
+    ) -> bool {
+        attestation.signer.get() < self.participants
+            && self.signature_of(attestation.signer, subject) == attestation.signature
+    }
+
+    ghost attests_member = { λ s i x a h. h.0 };
+}
