@@ -76,7 +76,7 @@ class Source:
 
 
 def guilty_messages(source, first, second):
-    """The second vote is seen loose or in the evidence only, which two others report."""
+    """Two others report the evidence, and the second vote need not be seen outside of it."""
     if source.one_in(2):
         yield NOTARIZE + second
     yield CONFLICTING_NOTARIZE + first + second

@@ -37,9 +37,9 @@ def arguments():
 
 
 def generate(shape, reports, path):
-    options = {"--shape": shape, "--reports": reports, "--participants": PARTICIPANTS, "--out": path}
-    words = [str(word) for option in options.items() for word in option]
-    subprocess.run([sys.executable, str(GENERATE)] + words, check=True)
+    options = {"shape": shape, "reports": reports, "participants": PARTICIPANTS, "out": path}
+    words = [f"--{name}={value}" for name, value in options.items()]
+    subprocess.run([sys.executable, str(GENERATE), *words], check=True)
 
 
 class Program:

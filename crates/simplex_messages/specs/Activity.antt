@@ -10,34 +10,44 @@ use Rattle.simplex_messages.specs.declared.activity.Activity.TheVariants as acti
 use Rattle.simplex_messages.specs.Notarize.{notarize_spelling, notarize_fits, notarize_at, notarize-IsCodec}
 use Rattle.simplex_messages.specs.ConflictingNotarize.{conflicting_spelling, conflicting_fits, conflicting_at, conflicting-IsCodec}
 
+-- a report of the scheme S on payloads D, whose keys are K and signatures G
 module _ {S D K G : Type 0} where
+  -- the byte that a report begins with
   unfoldable pub activity_tag : Activity S D K G → ℕ
   activity_tag (activity.Notarize v) = 0
   activity_tag (activity.ConflictingNotarize c) = 7
 
+  -- the bytes behind the tag: those of the vote or of the evidence
   unfoldable pub activity_body : (D → List ℕ) → (G → List ℕ) → Activity S D K G → List ℕ
   activity_body p f (activity.Notarize v) = notarize_spelling p f v
   activity_body p f (activity.ConflictingNotarize c) = conflicting_spelling p f c
 
+  -- a report's bytes: the tag, then what it holds
   unfoldable pub activity_spelling : (D → List ℕ) → (G → List ℕ) → Activity S D K G → List ℕ
   activity_spelling p f a = activity_tag a ∷ activity_body p f a
 
+  -- a report whose vote or evidence can be read again
   unfoldable pub activity_fits : (D → D → Bool) → (D → Type 0) → (G → Type 0) → Activity S D K G → Type 0
   activity_fits same P F (activity.Notarize v) = notarize_fits P F v
   activity_fits same P F (activity.ConflictingNotarize c) = conflicting_fits same P F c
 
+  -- a vote as a report
   abbrev pub notarize_report : Notarize S D K G → Activity S D K G
   notarize_report v = activity.Notarize v
 
+  -- evidence as a report
   abbrev pub conflicting_report : Notarize S D K G × Notarize S D K G → Activity S D K G
   conflicting_report c = activity.ConflictingNotarize c
 
+  -- what stands behind a tag: a vote behind 0, evidence behind 7, and nothing behind another
   unfoldable pub behind_tag : (D → D → Bool) → (List ℕ → Result (D × List ℕ) CodecError) → (List ℕ → Result (G × List ℕ) CodecError) → ℕ → List ℕ → Result (Activity S D K G × List ℕ) CodecError
   behind_tag same q r = or_at 0 notarize_report (notarize_at q r) (or_at 7 conflicting_report (conflicting_at same q r) (λ _. nothing_at))
 
+  -- the report at the front: a tag, then what stands behind it
   unfoldable pub activity_at : (D → D → Bool) → (List ℕ → Result (D × List ℕ) CodecError) → (List ℕ → Result (G × List ℕ) CodecError) → List ℕ → Result (Activity S D K G × List ℕ) CodecError
   activity_at same q r = tagged_at (behind_tag same q r)
 
+  -- behind each tag one form is read, exactly where its bytes stand
   activity-IsChoice : {P : D → Type 0} {p : D → List ℕ} {q : List ℕ → Result (D × List ℕ) CodecError} {F : G → Type 0} {f : G → List ℕ} {r : List ℕ → Result (G × List ℕ) CodecError}
       (same : D → D → Bool) → IsCodec P p q → IsCodec F f r
       → IsChoice (activity_fits same P F) activity_tag (activity_body p f) (behind_tag same q r)
@@ -61,6 +71,7 @@ module _ {S D K G : Type 0} where
       again (activity.Notarize v) rest fits = rw ((notarize-IsCodec c d).again v rest fits) refl
       again (activity.ConflictingNotarize e) rest fits = rw ((conflicting-IsCodec same c d).again e rest fits) refl
 
+  -- a report is read exactly where its bytes stand
   pub activity-IsCodec : {P : D → Type 0} {p : D → List ℕ} {q : List ℕ → Result (D × List ℕ) CodecError} {F : G → Type 0} {f : G → List ℕ} {r : List ℕ → Result (G × List ℕ) CodecError}
       (same : D → D → Bool) → IsCodec P p q → IsCodec F f r → IsCodec (activity_fits same P F) (activity_spelling p f) (activity_at same q r)
   unfolding activity_spelling activity_at

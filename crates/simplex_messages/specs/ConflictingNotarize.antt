@@ -5,16 +5,21 @@ use Rattle.simplex_types.specs.Codec.{IsCodec, both_at, checked_at, both-IsCodec
 use Rattle.simplex_messages.specs.declared.notarize.Notarize.{Notarize}
 use Rattle.simplex_messages.specs.Notarize.{notarize_spelling, notarize_fits, notarize_at, notarize-IsCodec, contradict}
 
+-- evidence of the scheme S on payloads D, whose keys are K and signatures G
 module _ {S D K G : Type 0} where
+  -- the bytes of evidence: the first vote, then the second
   unfoldable pub conflicting_spelling : (D → List ℕ) → (G → List ℕ) → Notarize S D K G × Notarize S D K G → List ℕ
   conflicting_spelling payload signature c = notarize_spelling payload signature c.0 ++ notarize_spelling payload signature c.1
 
+  -- two votes whose numbers fit their types, and which contradict each other
   unfoldable pub conflicting_fits : (D → D → Bool) → (D → Type 0) → (G → Type 0) → Notarize S D K G × Notarize S D K G → Type 0
   conflicting_fits same P F c = (notarize_fits P F c.0 × notarize_fits P F c.1) × (contradict same c.0 c.1 ≡ true)
 
+  -- the evidence at the front: two votes, refused once both are read unless they contradict each other
   unfoldable pub conflicting_at : (D → D → Bool) → (List ℕ → Result (D × List ℕ) CodecError) → (List ℕ → Result (G × List ℕ) CodecError) → List ℕ → Result ((Notarize S D K G × Notarize S D K G) × List ℕ) CodecError
   conflicting_at same payload signature = checked_at (λ c. contradict same c.0 c.1) (both_at (notarize_at payload signature) (notarize_at payload signature))
 
+  -- evidence is read exactly where its bytes stand
   pub conflicting-IsCodec : {P : D → Type 0} {p : D → List ℕ} {q : List ℕ → Result (D × List ℕ) CodecError} {F : G → Type 0} {f : G → List ℕ} {r : List ℕ → Result (G × List ℕ) CodecError}
       (same : D → D → Bool) → IsCodec P p q → IsCodec F f r → IsCodec (conflicting_fits same P F) (conflicting_spelling p f) (conflicting_at same q r)
   unfolding conflicting_fits conflicting_spelling conflicting_at

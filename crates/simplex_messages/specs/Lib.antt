@@ -1,3 +1,4 @@
 pub mod Notarize
 pub mod ConflictingNotarize
 pub mod Activity
+pub mod Guilt

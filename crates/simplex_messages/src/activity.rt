@@ -4,10 +4,7 @@ ghost use Rattle.std.specs.Prelude.{◌≡◌};
 
 use crate::conflicting_notarize::ConflictingNotarize;
 use crate::notarize::Notarize;
-use simplex_types::{
-    CodecError, Digest, Duplicate, EncodeSize, Epoch, Epochable, Read, Scheme, View, Viewable,
-    Write,
-};
+use simplex_types::{CodecError, Digest, Duplicate, EncodeSize, Read, Scheme, Write};
 use std::alloc::{AllocError, Global};
 
 /// A report: a vote that was cast, or evidence against its signer.
@@ -21,7 +18,10 @@ pub enum Activity<S: Scheme<D>, D: Digest> {
 }
 
 impl<S: Scheme<D>, D: Digest> Duplicate for Activity<S, D> {
-    fn duplicate(&self, alloc: Global) -> Result<Self, AllocError> {
+    /// Never refused: a report owns no memory.
+    fn duplicate(&self, alloc: Global) -> Result<Self, AllocError>
+        ensures { result ≡ Ok self.now }
+    {
         match self {
             Activity::Notarize(vote) => Ok(Activity::Notarize(vote.duplicate(alloc)?)),
             Activity::ConflictingNotarize(evidence) => {

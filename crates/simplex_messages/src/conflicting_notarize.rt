@@ -36,8 +36,8 @@ impl<S: Scheme<D>, D: Digest> Model for ConflictingNotarize<S, D> {
 
 impl<S: Scheme<D>, D: Digest> ConflictingNotarize<S, D> {
     ghost use Rattle.std.specs.Prelude.{◌≡◌, ◌↔◌, IsTrue};
-    ghost use Rattle.simplex_types.specs.Subject.{notarize};
     ghost use Rattle.simplex_messages.specs.Notarize.{Contradict};
+    ghost use Rattle.simplex_messages.specs.Guilt.{Verifies};
 
     /// The evidence of two votes that contradict each other. [`Notarize::contradicts`] is the test.
     pub fn new(first: Notarize<S, D>, second: Notarize<S, D>) -> Self
@@ -73,7 +73,7 @@ impl<S: Scheme<D>, D: Digest> ConflictingNotarize<S, D> {
 
     /// Whether both votes' attestations attest them.
     pub fn verify(&self, scheme: &S) -> bool
-        ensures { IsTrue result ↔ (S.attests scheme.now self.now.0.attestation.signer (notarize self.now.0.proposal) self.now.0.attestation.signature × S.attests scheme.now self.now.1.attestation.signer (notarize self.now.1.proposal) self.now.1.attestation.signature) }
+        ensures { IsTrue result ↔ (Verifies (S.attests scheme.now) self.now.0 × Verifies (S.attests scheme.now) self.now.1) }
     {
         self.first.verify(scheme) && self.second.verify(scheme)
     }
@@ -104,7 +104,10 @@ impl<S: Scheme<D>, D: Digest> Attributable for ConflictingNotarize<S, D> {
 }
 
 impl<S: Scheme<D>, D: Digest> Duplicate for ConflictingNotarize<S, D> {
-    fn duplicate(&self, alloc: Global) -> Result<Self, AllocError> {
+    /// Never refused: evidence owns no memory.
+    fn duplicate(&self, alloc: Global) -> Result<Self, AllocError>
+        ensures { result ≡ Ok self.now }
+    {
         let first = self.first.duplicate(alloc)?;
         let second = self.second.duplicate(alloc)?;
         Ok(ConflictingNotarize { first, second })

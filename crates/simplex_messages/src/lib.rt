@@ -3,8 +3,12 @@
 
 mod activity;
 mod conflicting_notarize;
+mod laws;
 mod notarize;
+#[cfg(test)]
+mod tests;
 
 pub use activity::Activity;
 pub use conflicting_notarize::ConflictingNotarize;
+pub use laws::equal_messages_are_one;
 pub use notarize::Notarize;

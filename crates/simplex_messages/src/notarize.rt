@@ -23,13 +23,14 @@ impl<S: Scheme<D>, D: Digest> Notarize<S, D> {
     ghost use Rattle.std.specs.Prelude.{◌≡◌, ◌↔◌, ℕ, Option, Some, None, IsTrue, IsNone, IfSome};
     ghost use Rattle.simplex_types.specs.Subject.{notarize};
     ghost use Rattle.simplex_messages.specs.Notarize.{Contradict, contradict};
+    ghost use Rattle.simplex_messages.specs.Guilt.{Verifies};
 
     /// The vote of the member whose key the scheme has, or `None` without a key.
     pub fn sign(scheme: &S, proposal: Proposal<D>) -> Option<Self>
         ensures without_key { IsNone result ↔ (S.own scheme.now ≡ None) }
         ensures in_own_name { IfSome result (λ v. S.own scheme.now ≡ Some v.attestation.signer) }
         ensures proposal { IfSome result (λ v. v.proposal ≡ proposal) }
-        ensures attests { IfSome result (λ v. S.attests scheme.now v.attestation.signer (notarize proposal) v.attestation.signature) }
+        ensures attests { IfSome result (λ v. Verifies (S.attests scheme.now) v) }
     {
         let attestation = scheme.sign(&Subject::Notarize(&proposal))?;
         Some(Notarize {
@@ -40,7 +41,7 @@ impl<S: Scheme<D>, D: Digest> Notarize<S, D> {
 
     /// Whether the signer's attestation attests the vote.
     pub fn verify(&self, scheme: &S) -> bool
-        ensures { IsTrue result ↔ S.attests scheme.now self.now.attestation.signer (notarize self.now.proposal) self.now.attestation.signature }
+        ensures { IsTrue result ↔ Verifies (S.attests scheme.now) self.now }
     {
         scheme.verify_attestation(&Subject::Notarize(&self.proposal), &self.attestation)
     }
@@ -88,7 +89,10 @@ impl<S: Scheme<D>, D: Digest> Attributable for Notarize<S, D> {
 }
 
 impl<S: Scheme<D>, D: Digest> Duplicate for Notarize<S, D> {
-    fn duplicate(&self, _alloc: Global) -> Result<Self, AllocError> {
+    /// Never refused: a vote owns no memory.
+    fn duplicate(&self, _alloc: Global) -> Result<Self, AllocError>
+        ensures { result ≡ Ok self.now }
+    {
         Ok(Notarize {
             proposal: self.proposal,
             attestation: self.attestation,

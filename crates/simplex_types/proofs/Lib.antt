@@ -1,1 +1,3 @@
+pub mod OneVarint
 pub mod Signed
+pub mod Terms

@@ -6,6 +6,7 @@ use Rattle.std.proofs.lemmas.List.{take_at, drop_at, take-append-drop, length-ta
 use Rattle.simplex_types.specs.declared.codec.CodecError.{CodecError}
 use Rattle.simplex_types.specs.declared.codec.CodecError.TheVariants.{End, Invalid, TooLong, Memory}
 
+-- the next step, unless there was trouble before it
 infixl 10 ◌>>=◌
 abbrev pub ◌>>=◌ : {A B : Type 0} → Result A CodecError → (A → Result B CodecError) → Result B CodecError
 (Ok x) >>= f = f x
@@ -78,12 +79,15 @@ pub refused_ok : {A : Type 0} (b : Bool) (d : CodecError) (r : Result A CodecErr
 refused_ok true d r y e = absurd cc
 refused_ok false d r y e = (refl, e)
 
+-- a step without trouble
 abbrev pub done : {A : Type 0} → A → Result A CodecError
 done x = Ok x
 
+-- two such steps are equal only where their values are
 pub ok_is : {A : Type 0} (x y : A) → done x ≡ done y → x ≡ y
 ok_is x y e = cc
 
+-- bytes as they are have one spelling
 pub bytes-IsCodec : (n : ℕ) → IsCodec (λ xs. length xs ≡ n) (λ xs. xs) (bytes_at n)
 bytes-IsCodec n = record {
   takes = λ bytes x rest e.
@@ -96,6 +100,7 @@ bytes-IsCodec n = record {
       rw (long, take_at x rest n len, drop_at x rest n len) refl;
 }
 
+-- a pair has one spelling where each part has
 pub both-IsCodec : {A B : Type 0} {F : A → Type 0} {G : B → Type 0} {f : A → List ℕ} {g : B → List ℕ} {r : List ℕ → Result (A × List ℕ) CodecError} {s : List ℕ → Result (B × List ℕ) CodecError}
     → IsCodec F f r → IsCodec G g s → IsCodec (λ (p : A × B). F p.0 × G p.1) (λ (p : A × B). f p.0 ++ g p.1) (both_at r s)
 both-IsCodec {A} {B} {F} {G} {f} {g} {r} {s} p q = record {
@@ -124,10 +129,12 @@ as-IsCodec {A} {B} {F} {f} {r} made parts there back p = record {
   again = λ y rest fits. rw (p.again (parts y) rest fits) (ap (λ (z : B). Ok (z, rest)) (back y));
 }
 
+-- a test that must be true
 pub passed_ok : {A : Type 0} (b : Bool) (d : CodecError) (r : Result A CodecError) (y : A) → cond b r (Err d) ≡ Ok y → (b ≡ true) × (r ≡ Ok y)
 passed_ok true d r y e = (refl, e)
 passed_ok false d r y e = absurd cc
 
+-- values that pass a test have one spelling where all have
 pub checked-IsCodec : {A : Type 0} {F : A → Type 0} {f : A → List ℕ} {r : List ℕ → Result (A × List ℕ) CodecError} (test : A → Bool)
     → IsCodec F f r → IsCodec (λ (x : A). F x × (test x ≡ true)) f (checked_at test r)
 checked-IsCodec {A} {F} {f} {r} test p = record {
@@ -145,6 +152,7 @@ pub record IsChoice {A : Type 0} (Fits : A → Type 0) (tag : A → ℕ) (body :
   pub takes : (t : ℕ) (bytes : List ℕ) (x : A) (rest : List ℕ) → behind t bytes ≡ Ok (x, rest) → (t ≡ tag x) × (bytes ≡ body x ++ rest) × Fits x
   pub again : (x : A) (rest : List ℕ) → Fits x → behind (tag x) (body x ++ rest) ≡ Ok (x, rest)
 
+-- tagged values have one spelling where each tag tells its form
 pub tagged-IsCodec : {A : Type 0} {F : A → Type 0} {tag : A → ℕ} {body : A → List ℕ} {behind : ℕ → List ℕ → Result (A × List ℕ) CodecError}
     → IsChoice F tag body behind → IsCodec F (λ (x : A). tag x ∷ body x) (tagged_at behind)
 tagged-IsCodec {A} {F} {tag} {body} {behind} p = record { takes = tagged_takes; again = p.again }

@@ -1,3 +1,4 @@
+pub mod Positions
 pub mod Codec
 pub mod Varint
 pub mod Round

@@ -1,5 +1,5 @@
 -- The plain scheme: a signature is a hash, and there is no secret.
-use Rattle.std.specs.Prelude.{◌≡◌, ℕ, ◌<◌, List, ◌++◌, length, Option}
+use Rattle.std.specs.Prelude.{ℕ, List, ◌++◌, length, Option}
 use Rattle.std.specs.Int.{w32, to_be_bytes}
 use Rattle.sha2.specs.Sha256.{sha256}
 use Rattle.simplex_types.specs.Subject.{Statement, message, namespace}

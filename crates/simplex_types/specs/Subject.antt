@@ -1,14 +1,11 @@
 -- What is signed: a statement, in the namespace of its kind, as the bytes of a message.
-use Rattle.std.specs.Prelude.{◌≡◌, ℕ, ◌≤◌, ◌<◌, List, [], ◌∷◌, ◌++◌, codes, Result, Ok, reverse}
-use Rattle.std.proofs.Common.{ap, sym, ◌∙◌, refl, arith}
-use Rattle.simplex_types.specs.declared.codec.CodecError.{CodecError}
+use Rattle.std.specs.Prelude.{◌≡◌, ℕ, List, ◌++◌, codes}
 use Rattle.simplex_types.specs.declared.position.Round.{Round}
 use Rattle.simplex_types.specs.declared.proposal.Proposal.{Proposal}
 use Rattle.simplex_types.specs.declared.subject.Subject.{Subject}
 use Rattle.simplex_types.specs.declared.subject.Subject.TheVariants as code
-use Rattle.simplex_types.specs.Codec.{IsCodec, spelling-one}
-use Rattle.simplex_types.specs.Round.{round_spelling, round_fits, round-IsCodec}
-use Rattle.simplex_types.specs.Proposal.{proposal_spelling, proposal_fits, proposal-IsCodec}
+use Rattle.simplex_types.specs.Round.{round_spelling, round_fits}
+use Rattle.simplex_types.specs.Proposal.{proposal_spelling, proposal_fits}
 
 -- what a vote says, wherever the subject lies in memory
 pub data Statement (D : Type 0) : Type 0 where

@@ -18,6 +18,7 @@ unfoldable pub varint_in : ℕ → ℕ → List ℕ
 varint_in zero n = n ∷ []
 varint_in (suc k) n = if nat_lt n 128 then n ∷ [] else ((n % 128 + 128) ∷ varint_in k (n / 128))
 
+-- a number in groups of seven bits
 unfoldable pub varint : ℕ → List ℕ
 varint n = varint_in n n
 
@@ -32,11 +33,13 @@ groups_enough (suc k) (suc m) n p q = elim (cases_lt n 128) [
   | inr le ↦ rw (le-ltb n 128 le) (ap (λ (xs : List ℕ). (n % 128 + 128) ∷ xs) (groups_enough k m (n / 128) (omega arith) (omega arith)))
 ]
 
+-- a number below 128 is one group
 pub varint-last : (n : ℕ) → n < 128 → varint n ≡ n ∷ []
 unfolding varint varint_in
 varint-last zero p = refl
 varint-last (suc n) p = rw (lt-ltb (suc n) 128 p) refl
 
+-- another begins with its low seven bits
 pub varint-step : (n : ℕ) → 128 ≤ n → varint n ≡ (n % 128 + 128) ∷ varint (n / 128)
 unfolding varint varint_in
 varint-step zero p = absurd (omega arith)
@@ -52,6 +55,7 @@ varint_at most (b ∷ bytes) =
       if high.0 == 0 then Err Invalid else Ok (b - 128 + 128 * high.0, high.1)))
     else Err Invalid
 
+-- what was spelled is read again, for any number of groups that is enough
 again_in : (k most n : ℕ) (rest : List ℕ) → n ≤ k → n ≤ most → varint_at most (varint_in k n ++ rest) ≡ Ok (n, rest)
 unfolding varint_at varint_in
 again_in zero most n rest p q = rw (lt-ltb n 128 (omega arith), le-ltb most n q) refl
@@ -68,10 +72,12 @@ again_in (suc k) most n rest p q = elim (cases_lt n 128) [
       rw (le-ltb n 128 le) (rw (b-is, b-small, room, inner, some) (ap (λ (m : ℕ). Ok (m, rest)) whole))
 ]
 
+-- what was spelled is read again, whatever follows
 again : (most n : ℕ) (rest : List ℕ) → n ≤ most → varint_at most (varint n ++ rest) ≡ Ok (n, rest)
 unfolding varint
 again most n rest p = again_in n most n rest (omega arith) p
 
+-- what is read was spelled, and is at most the bound
 takes : (most : ℕ) (bytes : List ℕ) (x : ℕ) (rest : List ℕ) → varint_at most bytes ≡ Ok (x, rest) → (bytes ≡ varint x ++ rest) × (x ≤ most)
 unfolding varint_at
 takes most [] x rest e = absurd cc
@@ -100,6 +106,7 @@ takes most (b ∷ bytes) x rest e = elim (cases_lt b 128) [
   ]
 ]
 
+-- each number up to a bound has one spelling
 pub varint-IsCodec : (most : ℕ) → IsCodec (λ n. n ≤ most) varint (varint_at most)
 varint-IsCodec most = record { takes = takes most; again = again most }
 
@@ -107,6 +114,7 @@ varint-IsCodec most = record { takes = takes most; again = again most }
 abbrev pub max_u64 : ℕ
 max_u64 = 18446744073709551615
 
+-- the greatest number of 32 bits
 abbrev pub max_u32 : ℕ
 max_u32 = 4294967295
 
@@ -120,6 +128,7 @@ length-varint (suc k) n small = elim (cases_lt n 128) [
   | inr le ↦ rw (varint-step n le) (omega (arith, length-varint k (n / 128) (omega (arith, pow-suc 128 (suc k), small))))
 ]
 
+-- one more group is counted, and what is left has at most the groups that are left of eleven
 pub fewer_groups : (size rest : ℕ) → size ≤ 10 → 128 ≤ rest → rest < 128 ^ (11 - size) → (size < 10) × (rest / 128 < 128 ^ (11 - (size + 1)))
 fewer_groups size rest p q r = elim (cases_lt size 10) [
   | inl lt ↦
@@ -132,4 +141,5 @@ fewer_groups size rest p q r = elim (cases_lt size 10) [
       let g : rest < 128 ^ 1 = subst (λ (k : ℕ). rest < 128 ^ k) e r in absurd (omega arith)
 ]
 
+-- what a number's groups are, by its size
 pub ruleset varint_steps = (varint-last, varint-step)

@@ -119,3 +119,6 @@ pub(crate) fn read_bytes<const N: usize>(input: &mut &[u8]) -> Result<[u8; N], C
     *input = rest;
     Ok(bytes)
 }
+
+#[cfg(test)]
+mod tests;

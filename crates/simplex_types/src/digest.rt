@@ -92,7 +92,9 @@ impl Read for Sha256Digest {
 }
 
 impl Duplicate for Sha256Digest {
-    fn duplicate(&self, _alloc: Global) -> Result<Self, AllocError> {
+    fn duplicate(&self, _alloc: Global) -> Result<Self, AllocError>
+        ensures { result ≡ Ok self.now }
+    {
         Ok(*self)
     }
 }
@@ -121,5 +123,26 @@ impl fmt::Display for Sha256Digest {
         let mut digits = [0; 64];
         hex::encode_to_slice(bytes, &mut digits).unwrap();
         f.write_str(str::from_utf8(&digits).unwrap())
+    }
+}
+
+#[cfg(test)]
+mod tests {
+    use super::*;
+    use std::test::Fail;
+
+    #[test]
+    fn digest_prints_as_lower_case_digits(rt: HostRuntime) -> Result<(), Fail> {
+        let mut bytes = [0; 32];
+        bytes[0] = 0x01;
+        bytes[31] = 0xef;
+        let digest = Sha256Digest::new(bytes);
+        let text = format!(in rt.alloc(); "{digest}")?;
+        assert_eq!(rt;
+            text.as_str(),
+            "01000000000000000000000000000000000000000000000000000000000000ef"
+        );
+        assert_eq!(rt; digest.as_bytes(), bytes.as_slice());
+        Ok(())
     }
 }

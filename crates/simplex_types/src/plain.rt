@@ -45,7 +45,9 @@ impl PlainKey {
 }
 
 impl Duplicate for PlainKey {
-    fn duplicate(&self, _alloc: Global) -> Result<Self, AllocError> {
+    fn duplicate(&self, _alloc: Global) -> Result<Self, AllocError>
+        ensures { result ≡ Ok self.now }
+    {
         Ok(*self)
     }
 }
@@ -104,7 +106,9 @@ impl Signature for PlainSignature {
 }
 
 impl Duplicate for PlainSignature {
-    fn duplicate(&self, _alloc: Global) -> Result<Self, AllocError> {
+    fn duplicate(&self, _alloc: Global) -> Result<Self, AllocError>
+        ensures { result ≡ Ok self.now }
+    {
         Ok(*self)
     }
 }
@@ -259,3 +263,6 @@ impl<D: Digest> Scheme<D> for PlainScheme {
 
     ghost attests_member = { λ s i x a h. h.0 };
 }
+
+#[cfg(test)]
+mod tests;

@@ -1,11 +1,14 @@
 //! What is voted for.
 
-ghost use Rattle.std.specs.Prelude.{◌≡◌, ◌+◌};
+ghost use Rattle.std.specs.Prelude.{◌≡◌, ◌+◌, ◌↔◌, IsTrue};
+ghost use Rattle.simplex_types.specs.declared.proposal.Proposal.{Proposal};
+ghost use Rattle.simplex_types.specs.Proposal.{proposal_cmp};
 
+use crate::attributes::{Epochable, Viewable};
 use crate::codec::{CodecError, EncodeSize, Read, Write};
 use crate::digest::Digest;
 use crate::duplicate::Duplicate;
-use crate::position::{Epoch, Epochable, Round, View, Viewable};
+use crate::position::{Epoch, Round, View};
 use std::alloc::{AllocError, Global};
 
 /// A payload for a round, on top of the proposal of an earlier view, its parent.
@@ -35,6 +38,13 @@ impl<D: Digest> Proposal<D> {
         }
     }
 }
+
+/// The laws of comparing proposals: the order is by epoch, view, parent, then payload, and equality is
+/// identity.
+pub fn proposals_are_ordered<D: Digest>()
+    ensures order { (p q : Proposal D) → ⟦<Proposal<D> as Ord>⟧.cmp p q ≡ proposal_cmp D.cmp p q }
+    ensures equality { (p q : Proposal D) → IsTrue (⟦<Proposal<D> as PartialEq>⟧.eq p q) ↔ (p ≡ q) }
+{}
 
 impl<D: Digest> Epochable for Proposal<D> {
     ghost epoch_of = { λ p. p.round.epoch };
@@ -105,7 +115,12 @@ impl<D: Digest> Read for Proposal<D> {
 }
 
 impl<D: Digest> Duplicate for Proposal<D> {
-    fn duplicate(&self, _alloc: Global) -> Result<Self, AllocError> {
+    fn duplicate(&self, _alloc: Global) -> Result<Self, AllocError>
+        ensures { result ≡ Ok self.now }
+    {
         Ok(*self)
     }
 }
+
+#[cfg(test)]
+mod tests;

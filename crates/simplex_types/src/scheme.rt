@@ -3,10 +3,11 @@
 ghost use Rattle.std.specs.Prelude.{◌≡◌, ◌↔◌, ◌<◌, ◌≤◌, ◌^◌, ℕ, Bool, List, Option, Some, None, IsTrue, IfSome, IsSome, IsNone};
 ghost use Rattle.simplex_types.specs.Subject.{Statement, statement};
 
+use crate::attributes::Attributable;
 use crate::codec::{CodecError, EncodeSize, Read, Write};
 use crate::digest::Digest;
 use crate::duplicate::Duplicate;
-use crate::position::{Attributable, Participant};
+use crate::position::Participant;
 use crate::subject::Subject;
 use std::alloc::{AllocError, Global};
 use std::hash::Hash;
@@ -139,7 +140,9 @@ impl<G: Read> Read for Attestation<G> {
 }
 
 impl<G: Copy> Duplicate for Attestation<G> {
-    fn duplicate(&self, _alloc: Global) -> Result<Self, AllocError> {
+    fn duplicate(&self, _alloc: Global) -> Result<Self, AllocError>
+        ensures { result ≡ Ok self.now }
+    {
         Ok(*self)
     }
 }

@@ -6,7 +6,6 @@ ghost use Rattle.simplex_types.specs.Varint.{varint, varint_at, varint-IsCodec, 
 ghost use Rattle.simplex_types.specs.Round.{round_fits, round_spelling, round_at, round-IsCodec};
 
 use crate::codec::{CodecError, EncodeSize, Read, Write};
-use crate::duplicate::Duplicate;
 use crate::position::{Epoch, Participant, Round, View};
 use crate::varint::{put_varint, read_u32, read_u64, u32_size, varint_size};
 use std::alloc::{AllocError, Global};

@@ -1,8 +1,8 @@
 //! Numbers in groups of seven bits, the least significant group first, in the shortest form.
 
-ghost use Rattle.std.specs.Prelude.{◌≡◌, ◌++◌, ◌≤◌, ℕ, List, length, IfOk, OnOk, OnErr, take, vec_len};
+ghost use Rattle.std.specs.Prelude.{◌≡◌, ◌↔◌, ◌++◌, ◌≤◌, ℕ, List, length, IfOk, OnOk, OnErr, take, vec_len};
 ghost use Rattle.simplex_types.specs.Codec.{Gives, MatchesReading};
-ghost use Rattle.simplex_types.specs.Varint.{varint_at, varint, max_u32, max_u64};
+ghost use Rattle.simplex_types.specs.Varint.{IsVarint, varint_at, varint, max_u32, max_u64};
 
 use crate::codec::CodecError;
 use std::alloc::AllocError;
@@ -90,3 +90,8 @@ pub(crate) fn u32_size(number: u32) -> usize
 {
     varint_size(u64::from(number))
 }
+
+/// The law of numbers as bytes: a number has exactly one spelling.
+pub fn numbers_have_one_spelling()
+    ensures { (n : ℕ) (bytes : List ℕ) → IsVarint n bytes ↔ (bytes ≡ varint n) }
+{}

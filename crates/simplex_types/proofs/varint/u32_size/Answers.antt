@@ -1,5 +1,5 @@
-use Rattle.std.proofs.Common.{arith, length}
-use Rattle.simplex_types.specs.Varint.{varint, length-varint}
+use Rattle.std.proofs.Common.{arith}
+use Rattle.simplex_types.specs.Varint.{length-varint}
 use Rattle.simplex_types.proofs.varint.u32_size.Goals as goal
 
 pub returns-clause-small : goal.returns-clause-small

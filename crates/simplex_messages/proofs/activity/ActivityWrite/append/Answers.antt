@@ -1,4 +1,4 @@
-use Rattle.std.proofs.Common.{arith, rules, append_assoc}
+use Rattle.std.proofs.Common.{arith, append_assoc}
 use Rattle.std.proofs.lemmas.Grind.{common_steps}
 use Rattle.simplex_messages.specs.Activity.{activity_spelling, activity_tag, activity_body}
 use Rattle.simplex_messages.proofs.activity.ActivityWrite.append.Goals as goal

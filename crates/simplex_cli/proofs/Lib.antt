@@ -1,0 +1,9 @@
+pub mod Casts
+pub mod Tallies
+pub mod Counting
+pub mod Suspects
+pub mod Judging
+pub mod Reading
+pub mod Numerals
+pub mod Words
+pub mod Counts

@@ -1,0 +1,48 @@
+-- One more report read.
+use Rattle.std.proofs.Common.{◌≡◌, ◌<◌, ℕ, List, [], ◌∷◌, ◌++◌, length, length-append, refl, sym, ap, ◌∙◌, subst, append_assoc, arith}
+use Rattle.std.specs.Prelude.{Result, Ok, Err, IfOk}
+use Rattle.std.specs.List.{flat_map}
+use Rattle.std.specs.BTreeMap.{BTreeMap}
+use Rattle.std.specs.declared.cmp.Ordering.{Ordering}
+use Rattle.std.proofs.lemmas.List.{append-nil}
+use Rattle.std.proofs.lemmas.List.Concat.{flat_map-append}
+use Rattle.std.proofs.lemmas.List.Elements.{All-nil, All-cons, All-append}
+use Rattle.simplex_types.specs.declared.codec.CodecError.{CodecError}
+use Rattle.simplex_types.specs.Codec.{IsCodec, Gives}
+use Rattle.simplex_types.specs.Subject.{Statement}
+use Rattle.simplex_messages.specs.declared.notarize.Notarize.{Notarize}
+use Rattle.simplex_messages.specs.declared.activity.Activity.{Activity}
+use Rattle.simplex_messages.specs.Activity.{activity_spelling}
+use Rattle.simplex_messages.specs.Guilt.{votes_in, votes_of}
+use Rattle.simplex_cli.specs.declared.cast.Kept.{Kept}
+use Rattle.simplex_cli.specs.declared.cast.Suspect.{Suspect}
+use Rattle.simplex_cli.specs.Tally.{Holds}
+use Rattle.simplex_cli.specs.Counted.{CountsSoFar}
+
+-- what was read can be read again
+pub IfOk-fits : {A : Type 0} {Fits : A → Type 0} {spelling : A → List ℕ} {reading : List ℕ → Result (A × List ℕ) CodecError} → IsCodec Fits spelling reading → (old new : List ℕ) (r : Result A CodecError) → Gives reading old new r → IfOk r Fits
+IfOk-fits codec old new (Ok x) gives = (codec.takes old x new gives).1
+IfOk-fits codec old new (Err e) gives = tt
+
+module _ {S D K G : Type 0} {attests : ℕ → Statement D → G → Type 0} {cmp : D → D → Ordering} {Fits : Activity S D K G → Type 0} (spelling : Activity S D K G → List ℕ) where
+  pub counts_none : (bytes : List ℕ) (kept : BTreeMap Suspect (Kept D G)) → Holds {S = S} {K = K} attests cmp [] kept → CountsSoFar attests cmp Fits spelling bytes bytes kept
+  counts_none bytes kept h = record { reports = []; fitting = All-nil Fits; whole = refl; holds = h }
+
+  pub counts_more : (bytes rest after : List ℕ) (old new : BTreeMap Suspect (Kept D G)) (report : Activity S D K G) → CountsSoFar attests cmp Fits spelling bytes rest old → Fits report → rest ≡ spelling report ++ after
+      → ((votes : List (Notarize S D K G)) → Holds attests cmp votes old → Holds attests cmp (votes ++ votes_in report) new) → CountsSoFar attests cmp Fits spelling bytes after new
+  counts_more bytes rest after old new report s fits spelled counted =
+      let one : flat_map spelling (report ∷ []) ≡ spelling report = append-nil (spelling report) in
+      let votes : votes_of (s.reports ++ report ∷ []) ≡ votes_of s.reports ++ votes_in report = flat_map-append votes_in s.reports (report ∷ []) ∙ ap (λ (vs : List (Notarize S D K G)). votes_of s.reports ++ vs) (append-nil (votes_in report)) in
+      let spellings : flat_map spelling (s.reports ++ report ∷ []) ≡ flat_map spelling s.reports ++ spelling report = flat_map-append spelling s.reports (report ∷ []) ∙ ap (λ (bs : List ℕ). flat_map spelling s.reports ++ bs) one in
+      record {
+        reports = s.reports ++ report ∷ [];
+        fitting = All-append Fits s.reports (report ∷ []) s.fitting (All-cons Fits report [] fits (All-nil Fits));
+        whole = s.whole ∙ ap (λ (bs : List ℕ). flat_map spelling s.reports ++ bs) spelled ∙ sym (append_assoc (flat_map spelling s.reports) (spelling report) after) ∙ ap (λ (bs : List ℕ). bs ++ after) (sym spellings);
+        holds = subst (λ (vs : List (Notarize S D K G)). Holds attests cmp vs new) (sym votes) (counted (votes_of s.reports) s.holds);
+      }
+
+module _ {S D K G : Type 0} where
+  -- a report takes a byte at least
+  pub shorter : (p : D → List ℕ) (f : G → List ℕ) (report : Activity S D K G) (rest after : List ℕ) → rest ≡ activity_spelling p f report ++ after → length after < length rest
+  unfolding activity_spelling
+  shorter p f report rest after spelled = omega (arith, ap length spelled, length-append (activity_spelling p f report) after)

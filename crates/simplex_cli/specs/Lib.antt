@@ -1,0 +1,7 @@
+pub mod Cast
+pub mod Tally
+pub mod Audit
+pub mod Counted
+pub mod Command
+pub mod Lines
+pub mod Running

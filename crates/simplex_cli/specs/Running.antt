@@ -1,0 +1,31 @@
+-- What the program writes for what it reads.
+use Rattle.std.specs.Prelude.{◌≡◌, ◌<◌, ℕ, List, length, codes, Option, None}
+use Rattle.std.specs.Ordering.{nat_cmp}
+use Rattle.std.specs.Cmp.Lexicographic.{slice_cmp, pointwise}
+use Rattle.std.specs.Prelude.{◌==◌}
+use Rattle.std.specs.Io.KnownBytes.{Appends}
+use Rattle.simplex_types.specs.Codec.{bytes_at}
+use Rattle.simplex_types.specs.Plain.{Committee, signature}
+use Rattle.simplex_types.specs.Subject.{Statement}
+use Rattle.simplex_messages.specs.declared.activity.Activity.{Activity}
+use Rattle.simplex_messages.specs.Activity.{activity_fits, activity_spelling, activity_at}
+use Rattle.simplex_cli.specs.Audit.{IsAudit}
+use Rattle.simplex_cli.specs.Lines.{lines_of}
+
+-- a signature of the plain scheme of so many members over the base `simplex`
+abbrev pub plain_attests : ℕ → ℕ → Statement (List ℕ) → List ℕ → Type 0
+plain_attests count i statement a = (i < count) × (a ≡ signature (λ d. d) (codes "simplex") i statement)
+
+-- reports of the plain scheme over SHA-256 digests
+abbrev pub Report : Type 0
+Report = Activity Committee (List ℕ) ℕ (List ℕ)
+
+-- the text is the lines of the audit of these bytes, which named this place
+pub record IsAnswer (count : ℕ) (bytes : List ℕ) (fault : Option ℕ) (text : List ℕ) : Type 0 where
+  pub evidence : List Report
+  pub audit : IsAudit (plain_attests count) (slice_cmp nat_cmp) (activity_fits (pointwise ◌==◌) (λ d. length d ≡ 32) (λ s. length s ≡ 32)) (activity_spelling (λ d. d) (λ s. s)) (activity_at (pointwise ◌==◌) (bytes_at 32) (bytes_at 32)) bytes evidence fault
+  pub text_is : text ≡ lines_of evidence fault
+
+-- the lines of the audit of these bytes, which named this place, were written
+abbrev pub AuditsOver : ℕ → List ℕ → Option ℕ → Option (List ℕ) → Option (List ℕ) → Type 0
+AuditsOver count bytes fault old new = (text : List ℕ) × IsAnswer count bytes fault text × Appends old new text

@@ -1,0 +1,66 @@
+//! The audit of reports: who signed two proposals of one round.
+
+ghost use Rattle.std.specs.Prelude.{◌≡◌, ◌++◌, [], IfOk};
+ghost use Rattle.simplex_types.specs.Codec.{Gives};
+ghost use Rattle.simplex_cli.specs.Audit.{IsAudit};
+ghost use Rattle.simplex_cli.specs.Counted.{Counts};
+ghost use Rattle.simplex_cli.specs.Tally.{Holds};
+
+use crate::tally::Tally;
+use crate::verdict::Audit;
+use simplex_messages::Activity;
+use simplex_types::{CodecError, Digest, Read, Scheme, Write};
+use std::alloc::{AllocError, Global};
+
+#[cfg(test)]
+mod tests;
+
+/// Finds the signers of which two verifying votes contradict each other, among the reports that the
+/// bytes hold up to the first place where none stands.
+///
+/// The evidence against each is of the least two proposals that it voted for in the round, and of
+/// each the vote that was read first and verifies. Refused only where memory is.
+pub fn audit<S: Scheme<D>, D: Digest>(
+    alloc: Global,
+    scheme: &S,
+    bytes: &[u8],
+) -> Result<Audit<S, D>, AllocError>
+    ensures { IfOk result (λ a. IsAudit (S.attests scheme.now) D.cmp ⟦<Activity<S, D> as Write>⟧.fits ⟦<Activity<S, D> as Write>⟧.spelling (⟦<Activity<S, D> as Read>⟧.reading (S.size scheme.now)) bytes.now a.evidence.items a.fault) }
+{
+    let mut tally = Tally::new(alloc);
+    let fault = count_reports(alloc, scheme, bytes, &mut tally)?;
+    let evidence = tally.evidence(alloc, scheme)?;
+    Ok(Audit { evidence, fault })
+}
+
+/// Counts the votes of the reports, and tells the place of the first byte at which none stands.
+fn count_reports<S: Scheme<D>, D: Digest>(
+    alloc: Global,
+    scheme: &S,
+    bytes: &[u8],
+    tally: &mut Tally<S, D>,
+) -> Result<Option<usize>, AllocError>
+    requires { Holds {S = S} {K = S.PublicKey} (S.attests scheme.now) D.cmp [] tally.old.kept }
+    ensures { IfOk result (λ fault. Counts (S.attests scheme.now) D.cmp ⟦<Activity<S, D> as Write>⟧.fits ⟦<Activity<S, D> as Write>⟧.spelling (⟦<Activity<S, D> as Read>⟧.reading (S.size scheme.now)) bytes.now fault tally.new.kept) }
+{
+    let bound = scheme.participants();
+    let mut rest = bytes;
+    while !rest.is_empty() {
+        let report: Activity<S, D> = match next_message(alloc, &mut rest, bound) {
+            Ok(report) => report,
+            Err(CodecError::Memory) => return Err(AllocError),
+            Err(_) => return Ok(Some(bytes.len() - rest.len())),
+        };
+        tally.count_report(scheme, &report)?;
+    }
+    Ok(None)
+}
+
+/// Reads one message, and tells that it can be read again and that what was read is its spelling.
+fn next_message<M: Read>(alloc: Global, input: &mut &[u8], bound: u32) -> Result<M, CodecError>
+    ensures exact { Gives (M.reading bound) input.old.now input.new.now result }
+    ensures fitting { IfOk result M.fits }
+    ensures spelled { IfOk result (λ message. input.old.now ≡ M.spelling message ++ input.new.now) }
+{
+    M::read_cfg(alloc, input, bound)
+}

@@ -1,0 +1,138 @@
+use super::*;
+use simplex_messages::{ConflictingNotarize, Notarize};
+use simplex_types::{
+    Attestation, Duplicate, Epoch, Participant, PlainSignature, Proposal, Round, Sha256Digest,
+    Subject, View,
+};
+use std::test::Fail;
+
+/// The index of a member.
+#[derive(Clone, Copy, PartialEq, Eq)]
+struct Key(u32);
+
+impl Duplicate for Key {
+    fn duplicate(&self, _alloc: Global) -> Result<Self, AllocError> {
+        Ok(*self)
+    }
+}
+
+/// A committee of four, each of whom has many signatures on a subject: all but one.
+#[derive(Drop)]
+struct Lenient {
+    refused: PlainSignature,
+}
+
+impl Scheme<Sha256Digest> for Lenient {
+    ghost use Rattle.std.specs.Prelude.{◌≢◌, ◌<◌, None};
+
+    type PublicKey = Key;
+
+    type Signature = PlainSignature;
+
+    ghost size = { λ _. 4 };
+
+    ghost own = { λ _. None };
+
+    ghost key_of = { λ _ i. record { 0 = i } };
+
+    ghost attests = { λ s i _ signature. (i < 4) × (signature ≢ s.refused) };
+
+    fn participants(&self) -> u32 {
+        4
+    }
+
+    fn me(&self) -> Option<Participant> {
+        None
+    }
+
+    fn key(&self, index: Participant) -> Option<Key> {
+        if index.get() < 4 {
+            Some(Key(index.get()))
+        } else {
+            None
+        }
+    }
+
+    fn sign(&self, _subject: &Subject<'_, Sha256Digest>) -> Option<Attestation<PlainSignature>> {
+        None
+    }
+
+    fn verify_attestation(
+        &self,
+        _subject: &Subject<'_, Sha256Digest>,
+        attestation: &Attestation<PlainSignature>,
+    ) -> bool {
+        attestation.signer.get() < 4 && attestation.signature != self.refused
+    }
+
+    ghost attests_member = { λ s i x a h. h.0 };
+}
+
+/// The signature that is 32 times this byte.
+fn signature(alloc: Global, byte: u8) -> Result<PlainSignature, Fail> {
+    let bytes = [byte; 32];
+    let mut rest = bytes.as_slice();
+    Ok(PlainSignature::read_cfg(alloc, &mut rest, 4)?)
+}
+
+/// Signer 1's vote in view 2, for the payload and with the signature that are 32 times these bytes.
+fn vote(alloc: Global, payload: u8, signed: u8) -> Result<Notarize<Lenient, Sha256Digest>, Fail> {
+    let round = Round::new(Epoch::new(0), View::new(2));
+    let payload = Sha256Digest::new([payload; 32]);
+    Ok(Notarize {
+        proposal: Proposal::new(round, View::new(1), payload),
+        attestation: Attestation {
+            signer: Participant::new(1),
+            signature: signature(alloc, signed)?,
+        },
+    })
+}
+
+#[test]
+fn the_votes_read_first_that_verify_are_kept(rt: HostRuntime) -> Result<(), Fail> {
+    let scheme = Lenient {
+        refused: signature(rt.alloc(), 0)?,
+    };
+    // Payloads and signatures, of which 0 does not verify, and the signatures that are kept of the
+    // payloads 10 and 11.
+    let rows: [(&[(u8, u8)], u8, u8); 3] = [
+        (
+            &[(10, 0), (10, 1), (11, 2), (10, 3), (11, 0), (11, 4)],
+            1,
+            2,
+        ),
+        (
+            &[
+                (12, 1),
+                (11, 0),
+                (11, 2),
+                (11, 3),
+                (10, 0),
+                (10, 4),
+                (10, 5),
+            ],
+            4,
+            2,
+        ),
+        (
+            &[(11, 5), (12, 1), (10, 6), (12, 2), (11, 1), (10, 1)],
+            6,
+            5,
+        ),
+    ];
+    for (ballots, least, next) in rows {
+        let mut bytes = Vec::new(rt.alloc());
+        for (payload, signed) in ballots {
+            Activity::Notarize(vote(rt.alloc(), *payload, *signed)?).write(&mut bytes)?;
+        }
+        let found = audit(rt.alloc(), &scheme, &bytes)?;
+        assert_eq!(rt; found.fault, None);
+        let first = vote(rt.alloc(), 10, least)?;
+        let second = vote(rt.alloc(), 11, next)?;
+        assert!(rt; first.contradicts(&second));
+        let evidence = ConflictingNotarize::new(first, second);
+        let wanted = [Activity::ConflictingNotarize(evidence)];
+        assert_eq!(rt; found.evidence.as_slice(), wanted.as_slice());
+    }
+    Ok(())
+}

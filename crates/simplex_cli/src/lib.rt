@@ -1,0 +1,22 @@
+//! The command line program: its words, the audit that it runs, and the lines that it prints.
+#![tactic(auto)]
+
+mod auditing;
+mod cast;
+mod command;
+#[cfg(test)]
+mod fakes;
+mod input;
+mod lines;
+mod program;
+mod running;
+#[cfg(test)]
+mod samples;
+mod tally;
+mod verdict;
+
+pub use auditing::audit;
+pub use command::{Command, USAGE, number_of, parse_words};
+pub use program::{run_words, words_unread};
+pub use running::audit_over;
+pub use verdict::Audit;

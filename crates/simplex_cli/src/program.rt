@@ -1,0 +1,67 @@
+//! The program over its words and streams.
+
+ghost use Rattle.std.specs.Prelude.{◌≡◌, ◌≢◌, ◌⊎◌, ℕ, None, Some, IfSome, map, string_bytes};
+ghost use Rattle.std.specs.IoError.{error_kind};
+ghost use Rattle.std.specs.declared.io.ErrorKind.TheVariants.{OutOfMemory};
+ghost use Rattle.simplex_cli.specs.Command.{SpellsCommand};
+ghost use Rattle.simplex_cli.specs.Running.{AuditsOver};
+ghost use Rattle.simplex_cli.specs.declared.command.Command.{Command};
+ghost use Rattle.simplex_cli.specs.declared.command.Command.TheVariants.{Audit};
+
+use crate::command::{Command, USAGE, parse_words};
+use crate::running::{Trouble, audit_over};
+use std::alloc::Global;
+use std::io;
+use std::io::{Read, Write};
+
+#[cfg(test)]
+mod tests;
+
+/// Runs the command that the words after the program's name spell, and answers the status: 2, with
+/// the usage on `faults`, where they spell none.
+///
+/// The command `node` is not there yet, and is answered as words that spell none.
+pub fn run_words<R: Read, W: Write, F: Write>(
+    alloc: Global,
+    words: &[String],
+    input: &mut R,
+    output: &mut W,
+    faults: &mut F,
+) -> u8
+    ensures refused { ((count : ℕ) → ¬ SpellsCommand (map string_bytes words.now) (Audit count)) → result ≡ 2 }
+    ensures unread { result ≡ 2 → input.new ≡ input.old }
+    ensures unwritten { result ≡ 2 → output.new ≡ output.old }
+
+    // An audit answers 0 or 3 and says nothing on `faults`, or 1.
+    ensures audit { (count : ℕ) → SpellsCommand (map string_bytes words.now) (Audit count) → (result ≡ 0) ⊎ ((result ≡ 1) ⊎ (result ≡ 3)) }
+    ensures whole { (count : ℕ) → SpellsCommand (map string_bytes words.now) (Audit count) → result ≡ 0 → IfSome (R.remaining input.old) (λ bytes. AuditsOver count bytes None (W.contents output.old) (W.contents output.new)) }
+    ensures faulty { (count : ℕ) → SpellsCommand (map string_bytes words.now) (Audit count) → result ≡ 3 → IfSome (R.remaining input.old) (λ bytes. (place : ℕ) × AuditsOver count bytes (Some place) (W.contents output.old) (W.contents output.new)) }
+    ensures silent { (count : ℕ) → SpellsCommand (map string_bytes words.now) (Audit count) → result ≢ 1 → faults.new ≡ faults.old }
+{
+    match parse_words(words) {
+        Some(Command::Audit { count }) => audit_over(alloc, count, input, output, faults),
+        Some(Command::Node { .. }) => usage(faults),
+        None => usage(faults),
+    }
+}
+
+/// The status where the words could not be read: 1, with a line on `faults`, where memory ran out,
+/// and 2, with the usage, where one of them is no text.
+pub fn words_unread<F: Write>(error: &io::Error, faults: &mut F) -> u8
+    ensures memory { error_kind error.now ≡ OutOfMemory → result ≡ 1 }
+    ensures usage { error_kind error.now ≢ OutOfMemory → result ≡ 2 }
+{
+    if error.kind() == io::ErrorKind::OutOfMemory {
+        let _ = faults.write_all(Trouble::Memory.line().as_bytes());
+        return 1;
+    }
+    usage(faults)
+}
+
+/// Writes how the program is called, and answers the status 2.
+fn usage<F: Write>(faults: &mut F) -> u8
+    ensures { result ≡ 2 }
+{
+    let _ = writeln!(faults, "{USAGE}");
+    2
+}
