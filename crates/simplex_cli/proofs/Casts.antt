@@ -1,5 +1,5 @@
 -- One more vote of a signer in a round.
-use Rattle.std.proofs.Common.{◌≡◌, ◌≢◌, ◌<◌, ◌⊎◌, ℕ, zero, suc, List, [], ◌∷◌, ◌++◌, refl, sym, ap, ◌∙◌, subst, inl, inr, append_assoc, arith}
+use Rattle.std.proofs.Common.{◌≡◌, ◌≢◌, zero, suc, List, [], ◌∷◌, ◌++◌, refl, sym, ap, ◌∙◌, subst, inl, inr, append_assoc, arith}
 use Rattle.std.specs.Prelude.{Contains}
 use Rattle.std.specs.Cmp.{IsTotalOrder}
 use Rattle.std.specs.Ordering.{ordering_reverse}
@@ -8,7 +8,6 @@ use Rattle.std.specs.declared.cmp.Ordering.TheVariants.{Less, Equal, Greater}
 use Rattle.std.proofs.lemmas.List.Elements.{Contains-append_cases}
 use Rattle.simplex_cli.specs.declared.cast.Choice.{Choice}
 use Rattle.simplex_cli.specs.declared.cast.Cast.{Cast}
-use Rattle.simplex_cli.specs.declared.cast.Kept.{Kept}
 use Rattle.simplex_cli.specs.declared.cast.Kept.TheVariants.{One, Two}
 use Rattle.simplex_cli.specs.Cast.{IsLower, IsFirst, Summarizes}
 

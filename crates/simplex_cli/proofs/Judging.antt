@@ -1,11 +1,11 @@
 -- What is kept of the votes is the verdict on them.
-use Rattle.std.proofs.Common.{◌≡◌, ◌≢◌, ◌↔◌, ◌<◌, ◌≤◌, ◌⊎◌, ℕ, zero, suc, Bool, true, false, cond, List, [], ◌∷◌, ◌++◌, length, Option, Some, None, refl, sym, ap, ◌∙◌, subst, inl, inr, map, arith, get_or}
-use Rattle.std.specs.Prelude.{Contains, All, AllPairs, IsTrue, MatchOption}
-use Rattle.std.specs.List.{flat_map, AllByRecursion, slice_get, slice_index_or}
+use Rattle.std.proofs.Common.{◌≡◌, ◌≢◌, ◌⊎◌, ℕ, Bool, true, false, List, [], ◌∷◌, ◌++◌, Option, Some, None, refl, sym, ap, ◌∙◌, subst, inl, inr, map, arith, get_or}
+use Rattle.std.specs.Prelude.{Contains, AllPairs}
+use Rattle.std.specs.List.{flat_map, AllByRecursion, slice_get}
 use Rattle.std.specs.List.Sorted.{IsStrictlySortedBy}
-use Rattle.std.specs.Map.{keys_of, lookup}
+use Rattle.std.specs.Map.{keys_of}
 use Rattle.std.specs.Cmp.{IsTotalOrder}
-use Rattle.std.specs.Ordering.{is_eq, eq_by_cmp}
+use Rattle.std.specs.Ordering.{is_eq}
 use Rattle.std.specs.BTreeMap.{BTreeMap, get, is_at, IsOrdered}
 use Rattle.std.specs.declared.cmp.Ordering.{Ordering}
 use Rattle.std.specs.declared.cmp.Ordering.TheVariants.{Less}
@@ -24,15 +24,14 @@ use Rattle.simplex_types.specs.declared.position.Round.{Round}
 use Rattle.simplex_types.specs.declared.proposal.Proposal.{Proposal}
 use Rattle.simplex_types.specs.Subject.{Statement}
 use Rattle.simplex_messages.specs.declared.notarize.Notarize.{Notarize}
-use Rattle.simplex_messages.specs.Notarize.{Contradict}
 use Rattle.simplex_messages.specs.Activity.{conflicting_report}
-use Rattle.simplex_messages.specs.Guilt.{Verifies, IsCastBy, IsGuilty, IsFirstRead, IsLeastEvidence, IsBelow, StandsBefore}
+use Rattle.simplex_messages.specs.Guilt.{Verifies, IsCastBy, IsGuilty, IsFirstRead, IsLeastEvidence, StandsBefore}
 use Rattle.simplex_cli.specs.declared.cast.Choice.{Choice}
 use Rattle.simplex_cli.specs.declared.cast.Cast.{Cast}
 use Rattle.simplex_cli.specs.declared.cast.Kept.{Kept}
 use Rattle.simplex_cli.specs.declared.cast.Kept.TheVariants.{One, Two}
 use Rattle.simplex_cli.specs.declared.cast.Suspect.{Suspect}
-use Rattle.simplex_cli.specs.Cast.{IsLower, IsFirst, Summarizes}
+use Rattle.simplex_cli.specs.Cast.{IsFirst, Summarizes}
 use Rattle.simplex_cli.specs.Tally.{suspect_cmp, casts_of, Holds, counted_of, suspect_of, cast_of, vote_of, pairs_in}
 use Rattle.simplex_cli.specs.Audit.{culprit, IsVerdict}
 use Rattle.simplex_cli.proofs.Casts.{only_element, IsLower-differs}

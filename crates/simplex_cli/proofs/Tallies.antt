@@ -1,5 +1,5 @@
 -- One more vote in the count.
-use Rattle.std.proofs.Common.{◌≡◌, ◌⊎◌, ℕ, Bool, true, false, cond, List, [], ◌∷◌, ◌++◌, Option, Some, None, refl, sym, ap, ◌∙◌, subst, inl, inr, arith}
+use Rattle.std.proofs.Common.{◌≡◌, ℕ, true, false, cond, List, [], ◌∷◌, ◌++◌, Option, Some, None, refl, sym, ap, ◌∙◌, subst, inl, inr, arith}
 use Rattle.std.specs.Prelude.{Contains, MatchOption}
 use Rattle.std.specs.Cmp.{Equal-is}
 use Rattle.std.proofs.lemmas.Map.Lookups.{exact_unsigned}
@@ -8,12 +8,11 @@ use Rattle.std.specs.BTreeMap.{BTreeMap, get}
 use Rattle.std.specs.declared.cmp.Ordering.{Ordering}
 use Rattle.std.specs.declared.cmp.Ordering.TheVariants.{Less, Equal, Greater}
 use Rattle.std.proofs.lemmas.Bool.{cases_Bool}
-use Rattle.simplex_cli.specs.declared.cast.Choice.{Choice}
 use Rattle.simplex_cli.specs.declared.cast.Cast.{Cast}
 use Rattle.simplex_cli.specs.declared.cast.Kept.{Kept}
-use Rattle.simplex_cli.specs.declared.cast.Kept.TheVariants.{One, Two}
+use Rattle.simplex_cli.specs.declared.cast.Kept.TheVariants.{One}
 use Rattle.simplex_cli.specs.declared.cast.Suspect.{Suspect}
-use Rattle.simplex_cli.specs.Cast.{IsLower, IsFirst, Summarizes}
+use Rattle.simplex_cli.specs.Cast.{Summarizes}
 use Rattle.simplex_cli.specs.Tally.{suspect_cmp, casts_of, Tallies}
 use Rattle.simplex_cli.proofs.Casts.{only_element, IsFirst-last}
 

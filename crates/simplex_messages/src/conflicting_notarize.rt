@@ -73,7 +73,8 @@ impl<S: Scheme<D>, D: Digest> ConflictingNotarize<S, D> {
 
     /// Whether both votes' attestations attest them.
     pub fn verify(&self, scheme: &S) -> bool
-        ensures { IsTrue result ↔ (Verifies (S.attests scheme.now) self.now.0 × Verifies (S.attests scheme.now) self.now.1) }
+        ensures { IsTrue result
+            ↔ (Verifies (S.attests scheme.now) self.now.0 × Verifies (S.attests scheme.now) self.now.1) }
     {
         self.first.verify(scheme) && self.second.verify(scheme)
     }

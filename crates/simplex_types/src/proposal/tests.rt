@@ -39,6 +39,7 @@ fn distinct<T: Copy + Eq + Hash>(alloc: Global, values: &[T]) -> Result<usize, A
 
 #[test]
 fn proposals_are_ordered_by_round_then_parent_then_payload(rt: HostRuntime) {
+    proposals_are_ordered::<Sha256Digest>();
     assert!(rt; is_increasing(&in_order()));
 }
 
