@@ -7,3 +7,4 @@ pub mod Reading
 pub mod Numerals
 pub mod Words
 pub mod Counts
+pub mod Written

@@ -8,6 +8,8 @@ use Rattle.simplex_types.specs.declared.proposal.Proposal.{Proposal}
 use Rattle.simplex_messages.specs.declared.notarize.Notarize.{Notarize}
 use Rattle.simplex_messages.specs.declared.activity.Activity.{Activity}
 use Rattle.simplex_messages.specs.declared.activity.Activity.TheVariants as activity
+use Rattle.simplex_cli.specs.declared.trouble.Trouble.{Trouble}
+use Rattle.simplex_cli.specs.declared.trouble.Trouble.TheVariants.{Memory, Device, Write}
 
 -- the code of the newline that ends each line
 abbrev pub newline : List ℕ
@@ -40,3 +42,13 @@ fault_line place = concat (codes "fault at byte " ∷ decimal place ∷ newline 
 -- the lines of an audit: one for each piece of evidence, and the fault's, if there is one
 abbrev pub lines_of : {S K G : Type 0} → List (Activity S (List ℕ) K G) → Option ℕ → List ℕ
 lines_of evidence fault = flat_map evidence_line evidence ++ option_map_or fault_line fault []
+
+-- the line on standard error for what kept an audit from its answer
+abbrev pub trouble_line : Trouble → List ℕ
+trouble_line Memory = codes "error: memory" ++ newline
+trouble_line Device = codes "error: device" ++ newline
+trouble_line Write = codes "error: write" ++ newline
+
+-- the line on standard error for words that are no command
+abbrev pub usage_line : List ℕ
+usage_line = codes "usage: simplex audit COUNT | simplex node RECORD INDEX COUNT" ++ newline

@@ -1,5 +1,5 @@
 -- What the program writes for what it reads.
-use Rattle.std.specs.Prelude.{◌≡◌, ◌<◌, ℕ, List, length, codes, Option}
+use Rattle.std.specs.Prelude.{◌≡◌, ◌<◌, ℕ, List, ◌++◌, length, codes, Option}
 use Rattle.std.specs.Ordering.{nat_cmp}
 use Rattle.std.specs.Cmp.Lexicographic.{slice_cmp, pointwise}
 use Rattle.std.specs.Prelude.{◌==◌}
@@ -29,3 +29,11 @@ pub record IsAnswer (count : ℕ) (bytes : List ℕ) (fault : Option ℕ) (text 
 -- the lines of the audit of these bytes, which named this place, were written
 abbrev pub AuditsOver : ℕ → List ℕ → Option ℕ → Option (List ℕ) → Option (List ℕ) → Type 0
 AuditsOver count bytes fault old new = (text : List ℕ) × IsAnswer count bytes fault text × Appends old new text
+
+-- a front of the text was written: all of it, a part, or nothing
+abbrev pub AppendsFront : Option (List ℕ) → Option (List ℕ) → List ℕ → Type 0
+AppendsFront old new text = (front : List ℕ) × (rest : List ℕ) × (text ≡ front ++ rest) × Appends old new front
+
+-- a front of the lines of the audit of these bytes was written
+abbrev pub BreaksOff : ℕ → List ℕ → Option (List ℕ) → Option (List ℕ) → Type 0
+BreaksOff count bytes old new = (fault : Option ℕ) × (text : List ℕ) × IsAnswer count bytes fault text × AppendsFront old new text

@@ -25,8 +25,8 @@ pub enum Command<'a> {
     },
 }
 
-/// How the program is called, for a person who called it in another way.
-pub const USAGE: &str = "usage: simplex audit COUNT | simplex node RECORD INDEX COUNT";
+/// How the program is called, for a person who called it in another way: a line, with its newline.
+pub const USAGE: &str = "usage: simplex audit COUNT | simplex node RECORD INDEX COUNT\n";
 
 /// The number that a word spells in decimal digits, with no sign and no leading zero. A word that
 /// spells no number below 65,536 in this way is refused.

@@ -8,15 +8,18 @@ mod command;
 mod fakes;
 mod input;
 mod lines;
+mod output;
 mod program;
 mod running;
 #[cfg(test)]
 mod samples;
 mod tally;
+mod trouble;
 mod verdict;
 
 pub use auditing::audit;
 pub use command::{Command, USAGE, number_of, parse_words};
 pub use program::{run_words, words_unread};
-pub use running::audit_over;
+pub use running::{audit_over, write_audit};
+pub use trouble::Trouble;
 pub use verdict::Audit;

@@ -4,12 +4,17 @@ ghost use Rattle.std.specs.Prelude.{◌≡◌, ◌≢◌, ◌⊎◌, ℕ, None, 
 ghost use Rattle.std.specs.IoError.{error_kind};
 ghost use Rattle.std.specs.declared.io.ErrorKind.TheVariants.{OutOfMemory};
 ghost use Rattle.simplex_cli.specs.Command.{SpellsCommand};
-ghost use Rattle.simplex_cli.specs.Running.{AuditsOver};
+ghost use Rattle.simplex_cli.specs.Lines.{trouble_line, usage_line};
+ghost use Rattle.simplex_cli.specs.Running.{AppendsFront, AuditsOver, BreaksOff};
 ghost use Rattle.simplex_cli.specs.declared.command.Command.{Command};
 ghost use Rattle.simplex_cli.specs.declared.command.Command.TheVariants.{Audit};
+ghost use Rattle.simplex_cli.specs.declared.trouble.Trouble.{Trouble};
+ghost use Rattle.simplex_cli.specs.declared.trouble.Trouble.TheVariants.{Memory, Write};
 
 use crate::command::{Command, USAGE, parse_words};
-use crate::running::{Trouble, audit_over};
+use crate::output::write_whole;
+use crate::running::audit_over;
+use crate::trouble::Trouble;
 use std::alloc::Global;
 use std::io;
 use std::io::{Read, Write};
@@ -31,12 +36,15 @@ pub fn run_words<R: Read, W: Write, F: Write>(
     ensures refused { ((count : ℕ) → ¬ SpellsCommand (map string_bytes words.now) (Audit count)) → result ≡ 2 }
     ensures unread { result ≡ 2 → input.new ≡ input.old }
     ensures unwritten { result ≡ 2 → output.new ≡ output.old }
+    ensures usage { result ≡ 2 → AppendsFront (F.contents faults.old) (F.contents faults.new) usage_line }
 
-    // An audit answers 0 or 3 and says nothing on `faults`, or 1.
+    // An audit answers as `audit_over` does.
     ensures audit { (count : ℕ) → SpellsCommand (map string_bytes words.now) (Audit count) → (result ≡ 0) ⊎ ((result ≡ 1) ⊎ (result ≡ 3)) }
     ensures whole { (count : ℕ) → SpellsCommand (map string_bytes words.now) (Audit count) → result ≡ 0 → IfSome (R.remaining input.old) (λ bytes. AuditsOver count bytes None (W.contents output.old) (W.contents output.new)) }
     ensures faulty { (count : ℕ) → SpellsCommand (map string_bytes words.now) (Audit count) → result ≡ 3 → IfSome (R.remaining input.old) (λ bytes. (place : ℕ) × AuditsOver count bytes (Some place) (W.contents output.old) (W.contents output.new)) }
     ensures silent { (count : ℕ) → SpellsCommand (map string_bytes words.now) (Audit count) → result ≢ 1 → faults.new ≡ faults.old }
+    ensures troubled { result ≡ 1 → (trouble : Trouble) × (trouble ≢ Write → output.new ≡ output.old) × AppendsFront (F.contents faults.old) (F.contents faults.new) (trouble_line trouble) }
+    ensures broken_off { (count : ℕ) → SpellsCommand (map string_bytes words.now) (Audit count) → result ≡ 1 → (output.new ≡ output.old) ⊎ IfSome (R.remaining input.old) (λ bytes. BreaksOff count bytes (W.contents output.old) (W.contents output.new)) }
 {
     match parse_words(words) {
         Some(Command::Audit { count }) => audit_over(alloc, count, input, output, faults),
@@ -50,9 +58,11 @@ pub fn run_words<R: Read, W: Write, F: Write>(
 pub fn words_unread<F: Write>(error: &io::Error, faults: &mut F) -> u8
     ensures memory { error_kind error.now ≡ OutOfMemory → result ≡ 1 }
     ensures usage { error_kind error.now ≢ OutOfMemory → result ≡ 2 }
+    ensures memory_told { result ≡ 1 → AppendsFront (F.contents faults.old) (F.contents faults.new) (trouble_line Memory) }
+    ensures usage_told { result ≡ 2 → AppendsFront (F.contents faults.old) (F.contents faults.new) usage_line }
 {
     if error.kind() == io::ErrorKind::OutOfMemory {
-        let _ = faults.write_all(Trouble::Memory.line().as_bytes());
+        let _ = write_whole(faults, Trouble::Memory.line().as_bytes());
         return 1;
     }
     usage(faults)
@@ -60,8 +70,9 @@ pub fn words_unread<F: Write>(error: &io::Error, faults: &mut F) -> u8
 
 /// Writes how the program is called, and answers the status 2.
 fn usage<F: Write>(faults: &mut F) -> u8
-    ensures { result ≡ 2 }
+    ensures status { result ≡ 2 }
+    ensures told { AppendsFront (F.contents faults.old) (F.contents faults.new) usage_line }
 {
-    let _ = writeln!(faults, "{USAGE}");
+    let _ = write_whole(faults, USAGE.as_bytes());
     2
 }

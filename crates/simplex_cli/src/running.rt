@@ -1,13 +1,16 @@
 //! The program over any streams.
 
-ghost use Rattle.std.specs.Prelude.{◌≡◌, ◌≢◌, ◌<◌, ◌⊎◌, ℕ, List, None, Some, IsSome, IfSome, IfOk, IfErr, OnSome, string_bytes, map};
-ghost use Rattle.simplex_cli.specs.Running.{AuditsOver, IsAnswer};
-ghost use Rattle.simplex_cli.specs.declared.running.Trouble.TheVariants.{Memory, Device, Write};
+ghost use Rattle.std.specs.Prelude.{◌≡◌, ◌≢◌, ◌<◌, ◌⊎◌, None, Some, ℕ, IfSome, IfOk, IfErr, string_bytes};
+ghost use Rattle.simplex_cli.specs.Lines.{trouble_line};
+ghost use Rattle.simplex_cli.specs.Running.{AppendsFront, AuditsOver, BreaksOff, IsAnswer};
+ghost use Rattle.simplex_cli.specs.declared.trouble.Trouble.{Trouble};
+ghost use Rattle.simplex_cli.specs.declared.trouble.Trouble.TheVariants.{Write};
 
 use crate::auditing::audit;
-use crate::command::{Command, USAGE, parse_words};
 use crate::input::{InputError, read_all};
 use crate::lines::text_of;
+use crate::output::write_whole;
+use crate::trouble::Trouble;
 use crate::verdict::Audit;
 use simplex_types::{PlainScheme, Sha256Digest};
 use std::alloc::{AllocError, Global};
@@ -19,42 +22,11 @@ mod tests;
 /// The base of the namespaces that the program's committees sign in.
 const BASE: &[u8; 7] = b"simplex";
 
-/// Why the audit has no answer.
-#[derive(Clone, Copy, Debug, PartialEq, Eq)]
-pub(crate) enum Trouble {
-    /// Memory ran out.
-    Memory,
-    /// A read failed, or the input had not ended after 2^32 reads.
-    Device,
-    /// A write failed.
-    Write,
-}
-
-impl From<AllocError> for Trouble {
-    ghost from_gives = { λ _ trouble. trouble ≡ Memory };
-
-    fn from(_error: AllocError) -> Trouble {
-        Trouble::Memory
-    }
-}
-
-impl Trouble {
-    /// The line for standard error.
-    pub(crate) fn line(self) -> &'static str {
-        match self {
-            Trouble::Memory => "error: memory\n",
-            Trouble::Device => "error: device\n",
-            Trouble::Write => "error: write\n",
-        }
-    }
-}
-
 /// Audits the reports of `input` under the plain scheme of `count` members, and writes the lines of
 /// the audit to `output`.
 ///
 /// Answers the status: 0 where the input is whole reports, 3 where a place was named at which none
-/// stands, and 1, with a line on `faults`, where memory ran out, a read failed (or the input had not
-/// ended after 2^32 reads) or a write failed.
+/// stands, and 1, with the line of the [`Trouble`] on `faults`, where [`write_audit`] has no answer.
 pub fn audit_over<R: Read, W: Write, F: Write>(
     alloc: Global,
     count: u16,
@@ -67,19 +39,32 @@ pub fn audit_over<R: Read, W: Write, F: Write>(
     ensures whole { result ≡ 0 → IfSome (R.remaining input.old) (λ bytes. AuditsOver count bytes None (W.contents output.old) (W.contents output.new)) }
     ensures faulty { result ≡ 3 → IfSome (R.remaining input.old) (λ bytes. (place : ℕ) × AuditsOver count bytes (Some place) (W.contents output.old) (W.contents output.new)) }
     ensures silent { result ≢ 1 → faults.new ≡ faults.old }
+
+    // With status 1 the line of one trouble, or a front of it, stands on `faults`, and unless a write
+    // failed the output is untouched.
+    ensures troubled { result ≡ 1 → (trouble : Trouble) × (trouble ≢ Write → output.new ≡ output.old) × AppendsFront (F.contents faults.old) (F.contents faults.new) (trouble_line trouble) }
+    ensures broken_off { result ≡ 1 → (output.new ≡ output.old) ⊎ IfSome (R.remaining input.old) (λ bytes. BreaksOff count bytes (W.contents output.old) (W.contents output.new)) }
 {
-    match run(alloc, count, input, output) {
+    match write_audit(alloc, count, input, output) {
         Ok(None) => 0,
         Ok(Some(_)) => 3,
         Err(trouble) => {
-            let _ = faults.write_all(trouble.line().as_bytes());
+            let _ = write_whole(faults, trouble.line().as_bytes());
             1
         }
     }
 }
 
-/// The place of the fault, if there is one, when the lines are written.
-fn run<R: Read, W: Write>(
+/// Audits the reports of `input` under the plain scheme of `count` members, writes the lines of the
+/// audit to `output`, and answers the place, counted from 0, of the first byte at which no whole
+/// report stands, if there is one.
+///
+/// # Errors
+///
+/// [`Trouble::Memory`] where memory ran out and [`Trouble::Device`] where a read failed, or the input
+/// had not ended after 2^32 reads: then nothing was written. [`Trouble::Write`] where a write failed:
+/// then a front of the lines may have been written.
+pub fn write_audit<R: Read, W: Write>(
     alloc: Global,
     count: u16,
     input: &mut R,
@@ -88,6 +73,7 @@ fn run<R: Read, W: Write>(
     requires { 0 < count }
     ensures written { IfOk result (λ fault. IfSome (R.remaining input.old) (λ bytes. AuditsOver count bytes fault (W.contents output.old) (W.contents output.new))) }
     ensures unwritten { IfErr result (λ trouble. trouble ≢ Write → output.new ≡ output.old) }
+    ensures broken_off { IfErr result (λ trouble. trouble ≡ Write → IfSome (R.remaining input.old) (λ bytes. BreaksOff count bytes (W.contents output.old) (W.contents output.new))) }
 {
     let bytes = match read_all(alloc, input) {
         Ok(bytes) => bytes,
@@ -95,7 +81,7 @@ fn run<R: Read, W: Write>(
         Err(InputError::Device) => return Err(Trouble::Device),
     };
     let (text, fault) = answer_to(alloc, count, &bytes)?;
-    if output.write_all(text.as_bytes()).is_err() || output.flush().is_err() {
+    if write_whole(output, text.as_bytes()).is_err() {
         return Err(Trouble::Write);
     }
     Ok(fault)

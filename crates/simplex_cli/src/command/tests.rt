@@ -104,6 +104,6 @@ fn refuses_other_words(rt: HostRuntime) -> Result<(), Fail> {
 fn says_how_it_is_called(rt: HostRuntime) {
     assert_eq!(rt;
         USAGE,
-        "usage: simplex audit COUNT | simplex node RECORD INDEX COUNT"
+        "usage: simplex audit COUNT | simplex node RECORD INDEX COUNT\n"
     );
 }

@@ -280,6 +280,40 @@ fn each_failed_write_is_reported(rt: HostRuntime) -> Result<(), Fail> {
 }
 
 #[test]
+fn a_slow_output_takes_all_past_an_interruption(rt: HostRuntime) {
+    let alloc = rt.alloc();
+    for writes in 0..STORED_LINES.len() as u64 {
+        let mut input = STORED.as_slice();
+        let mut output = SlowWriter {
+            taken: Vec::new(alloc),
+            fault: Fault::after(writes, io::ErrorKind::Interrupted),
+        };
+        let mut faults = Vec::new(alloc);
+        let status = audit_over(alloc, 4, &mut input, &mut output, &mut faults);
+        assert_eq!(rt; status, 3, "at {writes}");
+        assert_eq!(rt;
+            output.taken.as_slice(),
+            STORED_LINES.as_bytes(),
+            "at {writes}"
+        );
+    }
+}
+
+#[test]
+fn trouble_is_answered_by_name(rt: HostRuntime) {
+    let alloc = rt.alloc();
+    let mut input = SlowReader {
+        rest: STORED,
+        fault: Fault::after(3, io::ErrorKind::Other),
+    };
+    let mut output = Vec::new(alloc);
+    let answer = write_audit(alloc, 4, &mut input, &mut output);
+    assert_eq!(rt; answer, Err(Trouble::Device));
+    let answer = write_audit(alloc, 4, &mut STORED.as_slice(), &mut output);
+    assert_eq!(rt; answer, Ok(Some(138)));
+}
+
+#[test]
 fn trouble_on_both_streams_keeps_its_status(rt: HostRuntime) {
     let alloc = rt.alloc();
     let mut input = SlowReader {

@@ -1,7 +1,7 @@
-use Rattle.std.proofs.Common.{◌≡◌, ℕ, None, Some, subst, refl}
+use Rattle.std.proofs.Common.{◌≡◌, ℕ, None, Some, ◌⊎◌, subst, refl}
 use Rattle.std.specs.Prelude.{IfSome}
 use Rattle.simplex_cli.specs.declared.command.Command.TheVariants.{Audit}
-use Rattle.simplex_cli.specs.Running.{AuditsOver}
+use Rattle.simplex_cli.specs.Running.{AuditsOver, BreaksOff}
 use Rattle.simplex_cli.proofs.Counts.{one_count}
 use Rattle.simplex_cli.proofs.program.run_words.Goals as goal
 
@@ -22,3 +22,9 @@ returns-in-None-clause-audit g c = λ count spelled. absurd (c.in-None.ensures.r
 
 pub returns-in-None-clause-silent : goal.returns-in-None-clause-silent
 returns-in-None-clause-silent g c = λ count spelled. absurd (c.in-None.ensures.refused refl (Audit count) spelled)
+
+pub returns-in-Some-Audit-clause-broken_off : goal.returns-in-Some-Audit-clause-broken_off
+returns-in-Some-Audit-clause-broken_off g c = λ count spelled ended.
+    let own = rw c.in-Some-Audit.field-0-is at c.in-Some-Audit.ensures.accepted in
+    let same : c.in-Some-Audit.count ≡ count = one_count _ c.in-Some-Audit.count count own spelled in
+    subst (λ (n : ℕ). (c.audit_over.new.output ≡ c.args.output.now) ⊎ IfSome (g.R.Read.remaining c.args.input.now) (λ bytes. BreaksOff n bytes (g.W.Write.contents c.args.output.now) (g.W.Write.contents c.audit_over.new.output))) same (c.audit_over.ensures.broken_off ended)
