@@ -2,7 +2,7 @@
 use Rattle.std.specs.Prelude.{◌≡◌, ◌≢◌, ℕ, ◌==◌, ◌&&◌, Bool, not, List, ◌++◌, Result, refl}
 use Rattle.simplex_types.specs.declared.codec.CodecError.{CodecError}
 use Rattle.simplex_types.specs.declared.proposal.Proposal.{Proposal}
-use Rattle.simplex_types.specs.declared.scheme.Attestation.{Attestation}
+use Rattle.simplex_types.specs.declared.attestation.Attestation.{Attestation}
 use Rattle.simplex_types.specs.Codec.{IsCodec, both_at, as_at, both-IsCodec, as-IsCodec}
 use Rattle.simplex_types.specs.Attestation.{attestation_spelling, attestation_fits, attestation_at, attestation-IsCodec}
 use Rattle.simplex_types.specs.Proposal.{proposal_spelling, proposal_fits, proposal_at, proposal-IsCodec}

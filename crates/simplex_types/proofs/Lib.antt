@@ -1,3 +1,6 @@
+pub mod Ascending
 pub mod OneVarint
 pub mod Signed
 pub mod Terms
+pub mod Sorting
+pub mod Quorums

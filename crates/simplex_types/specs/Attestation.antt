@@ -1,7 +1,7 @@
 -- Attestations as bytes.
 use Rattle.std.specs.Prelude.{ℕ, ◌≤◌, List, ◌++◌, Result, refl}
 use Rattle.simplex_types.specs.declared.codec.CodecError.{CodecError}
-use Rattle.simplex_types.specs.declared.scheme.Attestation.{Attestation}
+use Rattle.simplex_types.specs.declared.attestation.Attestation.{Attestation}
 use Rattle.simplex_types.specs.Codec.{IsCodec, both_at, as_at, both-IsCodec, as-IsCodec}
 use Rattle.simplex_types.specs.Varint.{varint, varint_at, varint-IsCodec, max_u32}
 

@@ -1,5 +1,5 @@
 -- Values and their bytes: a spelling, and a reading from left to right that stops at the first trouble.
-use Rattle.std.specs.Prelude.{◌≡◌, ℕ, List, [], ◌∷◌, ◌++◌, length, take, drop, nat_lt, ◌==◌, Result, Ok, Err, if◌then◌else◌, refl}
+use Rattle.std.specs.Prelude.{◌≡◌, ℕ, List, [], ◌∷◌, ◌++◌, length, take, drop, nat_lt, ◌==◌, Result, Ok, Err, if◌then◌else◌, refl, ⊤}
 use Rattle.std.proofs.Common.{inl, inr, ◌⊎◌, sym, ◌∙◌, ap, subst, append_assoc, length-append, arith, true, false, Bool, cond, ◌≤◌}
 use Rattle.std.proofs.lemmas.Bool.{ltb-false, le-ltb, eqb-true, cases_Bool}
 use Rattle.std.proofs.lemmas.List.{take_at, drop_at, take-append-drop, length-take}
@@ -21,10 +21,22 @@ Gives reading old new (Err Invalid) = (reading old ≡ Err Invalid) × (new ≡ 
 Gives reading old new (Err TooLong) = (reading old ≡ Err TooLong) × (new ≡ old)
 Gives reading old new (Err Memory) = new ≡ old
 
+-- The same, where what was answered is seen by view.
+abbrev pub GivesBy : {X A : Type 0} → (X → A) → (List ℕ → Result (A × List ℕ) CodecError) → List ℕ → List ℕ → Result X CodecError → Type 0
+GivesBy view reading old new (Ok x) = reading old ≡ Ok (view x, new)
+GivesBy view reading old new (Err End) = (reading old ≡ Err End) × (new ≡ old)
+GivesBy view reading old new (Err Invalid) = (reading old ≡ Err Invalid) × (new ≡ old)
+GivesBy view reading old new (Err TooLong) = (reading old ≡ Err TooLong) × (new ≡ old)
+GivesBy view reading old new (Err Memory) = new ≡ old
+
 -- What is read is spelled so, and what is spelled so is read, whatever follows.
 pub record IsCodec {A : Type 0} (Fits : A → Type 0) (spelling : A → List ℕ) (reading : List ℕ → Result (A × List ℕ) CodecError) : Type 0 where
   pub takes : (bytes : List ℕ) (x : A) (rest : List ℕ) → reading bytes ≡ Ok (x, rest) → (bytes ≡ spelling x ++ rest) × Fits x
   pub again : (x : A) (rest : List ℕ) → Fits x → reading (spelling x ++ rest) ≡ Ok (x, rest)
+
+-- what can be read under a bound: what can be read at all, and is within the bound
+abbrev pub Readable : {A : Type 0} → (A → Type 0) → (A → Type 0) → A → Type 0
+Readable Fits Within x = Fits x × Within x
 
 -- a fixed number of bytes as they are
 abbrev pub bytes_at : ℕ → List ℕ → Result (List ℕ × List ℕ) CodecError
@@ -174,6 +186,21 @@ or_ok {A} {B} own made r others t bytes x rest e = elim (cases_Bool (t == own)) 
       inl (eqb-true t own yes-it, a.0.0, ap (λ (z : B × List ℕ). z.0) c, a.1 ∙ ap (λ (z : B × List ℕ). Ok (a.0.0, z.1)) c)
   | inr no-it ↦ inr (rw no-it at e)
 ]
+
+-- what is spelled may be said in other words
+pub said-IsCodec : {A : Type 0} {F G : A → Type 0} {f : A → List ℕ} {r : List ℕ → Result (A × List ℕ) CodecError} → IsCodec F f r → ((x : A) → F x → G x) → ((x : A) → G x → F x) → IsCodec G f r
+said-IsCodec p there back = record {
+  takes = λ bytes x rest e. let q = p.takes bytes x rest e in (q.0, there x q.1);
+  again = λ x rest fits. p.again x rest (back x fits);
+}
+
+-- values of which a bound asks nothing
+pub unbounded-IsCodec : {A : Type 0} {F : A → Type 0} {f : A → List ℕ} {r : List ℕ → Result (A × List ℕ) CodecError} → IsCodec F f r → IsCodec (Readable F (λ _. ⊤)) f r
+unbounded-IsCodec p = said-IsCodec p (λ x h. (h, tt)) (λ x h. h.0)
+
+-- values that are all within the bound
+pub bounded-IsCodec : {A : Type 0} {F W : A → Type 0} {f : A → List ℕ} {r : List ℕ → Result (A × List ℕ) CodecError} → IsCodec (Readable F W) f r → ((x : A) → W x) → IsCodec F f r
+bounded-IsCodec p all_within = said-IsCodec p (λ x h. h.0) (λ x h. (h, all_within x))
 
 -- two values of one spelling are one
 pub spelling-one : {A : Type 0} {F : A → Type 0} {f : A → List ℕ} {r : List ℕ → Result (A × List ℕ) CodecError} → IsCodec F f r → (x y : A) → F x → F y → f x ≡ f y → x ≡ y

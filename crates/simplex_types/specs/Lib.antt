@@ -4,5 +4,10 @@ pub mod Varint
 pub mod Round
 pub mod Proposal
 pub mod Attestation
+pub mod AttestationList
+pub mod ListCodec
+pub mod ListEquality
+pub mod ListSize
+pub mod Quorum
 pub mod Subject
 pub mod Plain

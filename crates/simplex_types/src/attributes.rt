@@ -53,7 +53,7 @@ impl Viewable for Round {
 #[cfg(test)]
 mod tests {
     use super::*;
-    use crate::scheme::Attestation;
+    use crate::attestation::Attestation;
 
     fn parts<R: Epochable + Viewable>(value: &R) -> (u64, u64) {
         (value.epoch().get(), value.view().get())

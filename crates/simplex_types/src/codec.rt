@@ -1,7 +1,7 @@
 //! Values as bytes: each value has one spelling, and reading stops at the first trouble from the left.
 
 ghost use Rattle.std.specs.Prelude.{◌≡◌, ◌++◌, ℕ, ◌<◌, ◌≤◌, ◌^◌, List, Result, length, IfOk, OnOk, OnErr, take, vec_len};
-ghost use Rattle.simplex_types.specs.Codec.{Gives, IsCodec, bytes_at};
+ghost use Rattle.simplex_types.specs.Codec.{Gives, IsCodec, Readable, bytes_at};
 ghost use Rattle.simplex_types.specs.declared.codec.CodecError.{CodecError};
 ghost use Rattle.simplex_types.specs.declared.codec.CodecError.TheVariants.{Memory};
 
@@ -81,16 +81,23 @@ pub trait EncodeSize: Write {
         ensures bounded { result ≤ max_size }
         ensures readable { Self.fits self.now };
 
-    /// How many bytes a spelling of the type has at most.
-    fn max_encode_size() -> usize
-        ensures { result ≡ max_size };
-
     /// Spellings are far shorter than memory is large, so that their lengths can be added.
     ghost short: { max_size < 2 ^ 48 };
 }
 
+/// Values of a type whose longest spelling is short enough to be planned with, whatever the
+/// committee's size.
+pub trait MaxEncodeSize: EncodeSize {
+    /// How many bytes a spelling of the type has at most.
+    fn max_encode_size() -> usize
+        ensures { result ≡ Self.max_size };
+}
+
 /// Values that are read from bytes.
 pub trait Read: Write + Sized {
+    /// What a bound on the committee's size asks of a value.
+    ghost within: { ℕ → Self → Type 0 };
+
     /// What reading gives, under a bound on the committee's size: the value and the bytes behind it,
     /// or the first trouble from the left.
     ghost reading: { ℕ → List ℕ → Result (Self × List ℕ) CodecError };
@@ -100,9 +107,9 @@ pub trait Read: Write + Sized {
     fn read_cfg(alloc: Global, input: &mut &[u8], bound: u32) -> Result<Self, CodecError>
         ensures { Gives (reading bound) input.old.now input.new.now result };
 
-    /// Exactly the spellings are read, and what was spelled is read again whatever follows. So each
-    /// value has one spelling, and no spelling begins another.
-    ghost one_spelling: { (n : ℕ) → n < 2 ^ 32 → IsCodec Self.fits Self.spelling (reading n) };
+    /// Exactly the spellings of values within the bound are read, and what was spelled is read again
+    /// whatever follows. So each value has one spelling, and no spelling begins another.
+    ghost one_spelling: { (n : ℕ) → n < 2 ^ 32 → IsCodec (Readable Self.fits (within n)) Self.spelling (reading n) };
 }
 
 /// Reads so many bytes as they are.

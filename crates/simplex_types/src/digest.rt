@@ -1,11 +1,11 @@
 //! Digests of one fixed length.
 
-ghost use Rattle.std.specs.Prelude.{◌≡◌, ◌≤◌, ◌<◌, ◌^◌, ℕ, Bool, ◌↔◌, List, Some, length, IsTrue};
+ghost use Rattle.std.specs.Prelude.{◌≡◌, ◌≤◌, ◌<◌, ◌^◌, ℕ, Bool, ◌↔◌, List, Some, length, IsTrue, ⊤};
 ghost use Rattle.std.proofs.Common.{rules};
 ghost use Rattle.hex.specs.Hex.{encode_lower};
-ghost use Rattle.simplex_types.specs.Codec.{bytes_at, bytes-IsCodec};
+ghost use Rattle.simplex_types.specs.Codec.{bytes_at, bytes-IsCodec, unbounded-IsCodec};
 
-use crate::codec::{CodecError, EncodeSize, Read, Write, read_bytes};
+use crate::codec::{CodecError, EncodeSize, MaxEncodeSize, Read, Write, read_bytes};
 use crate::duplicate::Duplicate;
 use std::alloc::{AllocError, Global};
 use std::fmt;
@@ -13,7 +13,7 @@ use std::hash::Hash;
 use std::marker::Model;
 
 /// A payload's name: a value that is its bytes, of one fixed length.
-pub trait Digest: Copy + Ord + Hash + Read + EncodeSize + Duplicate {
+pub trait Digest: Copy + Ord + Hash + Read + MaxEncodeSize + Duplicate {
     /// How many bytes each value has.
     ghost size: { ℕ };
 
@@ -33,6 +33,9 @@ pub trait Digest: Copy + Ord + Hash + Read + EncodeSize + Duplicate {
 
     /// A digest is short.
     ghost small: { Self.max_size ≤ 1024 };
+
+    /// No bound asks anything of a digest.
+    ghost unbounded: { (n : ℕ) (x : Self) → Self.within n x };
 }
 
 /// A SHA-256 digest (FIPS 180-4). It prints as 64 lower-case hexadecimal digits.
@@ -74,17 +77,21 @@ impl EncodeSize for Sha256Digest {
         bytes.len()
     }
 
-    fn max_encode_size() -> usize {
-        32
-    }
-
     ghost short = { Prim.search rules };
 }
 
+impl MaxEncodeSize for Sha256Digest {
+    fn max_encode_size() -> usize {
+        32
+    }
+}
+
 impl Read for Sha256Digest {
+    ghost within = { λ _ _. ⊤ };
+
     ghost reading = { λ _. bytes_at 32 };
 
-    ghost one_spelling = { λ _ _. bytes-IsCodec 32 };
+    ghost one_spelling = { λ _ _. unbounded-IsCodec (bytes-IsCodec 32) };
 
     fn read_cfg(_alloc: Global, input: &mut &[u8], _bound: u32) -> Result<Self, CodecError> {
         Ok(Sha256Digest(read_bytes(input)?))
@@ -109,6 +116,8 @@ impl Digest for Sha256Digest {
     ghost one_length = { λ x h. h };
 
     ghost identity = { λ x y e. e };
+
+    ghost unbounded = { λ n x. tt };
 
     ghost equal_is_same = { Prim.search rules };
 

@@ -14,12 +14,13 @@ pub trait Duplicate: Sized {
 #[cfg(test)]
 mod tests {
     use super::*;
+    use crate::attestation::Attestation;
     use crate::codec::Read;
     use crate::digest::Sha256Digest;
     use crate::plain::{PlainKey, PlainScheme, PlainSignature};
     use crate::position::{Epoch, Participant, Round, View};
     use crate::proposal::Proposal;
-    use crate::scheme::{Attestation, Scheme};
+    use crate::scheme::Scheme;
     use std::process::Abort;
     use std::test::Fail;
 

@@ -1,8 +1,11 @@
 //! Positions, values as bytes, proposals and signing schemes: what every layer of the node stands on.
 #![tactic(auto)]
 
+mod attestation;
+mod attestation_list;
 mod attributes;
 mod codec;
+mod committee;
 mod digest;
 mod duplicate;
 mod plain;
@@ -13,13 +16,16 @@ mod spelling;
 mod subject;
 mod varint;
 
+pub use attestation::{Attestation, Signature};
+pub use attestation_list::AttestationList;
 pub use attributes::{Attributable, Epochable, Viewable};
-pub use codec::{CodecError, EncodeSize, Read, Write};
+pub use codec::{CodecError, EncodeSize, MaxEncodeSize, Read, Write};
+pub use committee::{faults, quorum};
 pub use digest::{Digest, Sha256Digest};
 pub use duplicate::Duplicate;
 pub use plain::{PlainKey, PlainScheme, PlainSignature};
 pub use position::{Epoch, Participant, Round, TermLength, View, ViewDelta};
 pub use proposal::{Proposal, proposals_are_ordered};
-pub use scheme::{Attestation, Scheme, Signature};
+pub use scheme::{Aggregate, AssemblyError, Listing, Scheme};
 pub use subject::{Namespace, Subject, signed_bytes_name_one_subject};
 pub use varint::numbers_have_one_spelling;

@@ -1,23 +1,27 @@
 //! A scheme with no secret, for tests and tools: a signature is a hash of what is signed.
 
-ghost use Rattle.std.specs.Prelude.{◌≡◌, ◌↔◌, ◌<◌, ◌≤◌, ◌^◌, ◌++◌, ℕ, List, Option, length, IsTrue, IfOk, IfSome};
+ghost use Rattle.std.specs.Prelude.{◌≡◌, ◌↔◌, ◌<◌, ◌≤◌, ◌^◌, ◌++◌, ℕ, List, Option, length, All, IsTrue, IfOk, IfSome, ⊤};
 ghost use Rattle.std.specs.Option.{ForSome};
 ghost use Rattle.std.specs.Int.{w32, to_be_bytes};
-ghost use Rattle.std.proofs.Common.{rules};
+ghost use Rattle.std.proofs.Common.{rules, arith};
 ghost use Rattle.sha2.specs.Hashers.{Holds256};
-ghost use Rattle.simplex_types.specs.Codec.{bytes_at, bytes-IsCodec};
+ghost use Rattle.simplex_types.specs.Codec.{bytes_at, bytes-IsCodec, unbounded-IsCodec};
 ghost use Rattle.simplex_types.specs.Plain.{hashed, signature};
 ghost use Rattle.simplex_types.specs.Proposal.{proposal_spelling};
 ghost use Rattle.simplex_types.specs.Round.{round_spelling};
+ghost use Rattle.simplex_types.specs.Quorum.{IsQuorum};
 ghost use Rattle.simplex_types.specs.Subject.{statement, message, namespace};
 ghost use Rattle.simplex_types.specs.Varint.{varint};
 
-use crate::codec::{CodecError, EncodeSize, Read, Write, read_bytes};
+use crate::attestation::{Attestation, Signature};
+use crate::attestation_list::AttestationList;
+use crate::codec::{CodecError, EncodeSize, MaxEncodeSize, Read, Write, read_bytes};
+use crate::committee::quorum;
 use crate::digest::Digest;
 use crate::duplicate::Duplicate;
 use crate::position::{Participant, Round};
 use crate::proposal::Proposal;
-use crate::scheme::{Attestation, Scheme, Signature};
+use crate::scheme::{AssemblyError, Listing, Scheme};
 use crate::subject::{Namespace, Subject};
 use sha2::{Digest as _, Sha256};
 use std::alloc::{AllocError, Global};
@@ -82,17 +86,21 @@ impl EncodeSize for PlainSignature {
         bytes.len()
     }
 
-    fn max_encode_size() -> usize {
-        32
-    }
-
     ghost short = { Prim.search rules };
 }
 
+impl MaxEncodeSize for PlainSignature {
+    fn max_encode_size() -> usize {
+        32
+    }
+}
+
 impl Read for PlainSignature {
+    ghost within = { λ _ _. ⊤ };
+
     ghost reading = { λ _. bytes_at 32 };
 
-    ghost one_spelling = { λ _ _. bytes-IsCodec 32 };
+    ghost one_spelling = { λ _ _. unbounded-IsCodec (bytes-IsCodec 32) };
 
     fn read_cfg(_alloc: Global, input: &mut &[u8], _bound: u32) -> Result<Self, CodecError> {
         Ok(PlainSignature(read_bytes(input)?))
@@ -103,6 +111,10 @@ impl Signature for PlainSignature {
     ghost equal_is_same = { Prim.search rules };
 
     ghost small = { Prim.search rules };
+
+    ghost longest = { λ s h. Prim.omega (arith, h) };
+
+    ghost unbounded = { λ n x. tt };
 }
 
 impl Duplicate for PlainSignature {
@@ -187,6 +199,24 @@ impl PlainScheme {
     }
 }
 
+impl PlainScheme {
+    /// Whether each of the attestations attests the subject.
+    fn all_attest<D: Digest>(
+        &self,
+        subject: &Subject<'_, D>,
+        listed: &[Attestation<PlainSignature>],
+    ) -> bool
+        ensures { IsTrue result ↔ All (λ a. (a.signer < self.now.participants) × (a.signature ≡ signature D.spelling self.now.base a.signer (statement subject.now))) listed.now }
+    {
+        for attestation in listed {
+            if !self.verify_attestation(subject, attestation) {
+                return false;
+            }
+        }
+        true
+    }
+}
+
 /// Hashes a number as it is spelled.
 #[tactic(auto, using(crate::specs::Varint::varint_steps))]
 fn hash_number(hasher: &mut Sha256, number: u64)
@@ -222,6 +252,8 @@ impl<D: Digest> Scheme<D> for PlainScheme {
 
     type Signature = PlainSignature;
 
+    type Certificate = AttestationList<PlainSignature>;
+
     ghost size = { λ s. s.participants };
 
     ghost own = { λ s. s.me };
@@ -229,6 +261,10 @@ impl<D: Digest> Scheme<D> for PlainScheme {
     ghost key_of = { λ s i. i };
 
     ghost attests = { λ s i subject a. (i < s.participants) × (a ≡ signature D.spelling s.base i subject) };
+
+    ghost certifies = { λ s subject c. IsQuorum s.participants (λ i a. (i < s.participants) × (a ≡ signature D.spelling s.base i subject)) c };
+
+    ghost lists = { λ c. c };
 
     fn participants(&self) -> u32 {
         self.participants
@@ -261,7 +297,39 @@ impl<D: Digest> Scheme<D> for PlainScheme {
             && self.signature_of(attestation.signer, subject) == attestation.signature
     }
 
+    fn verify_certificate(
+        &self,
+        subject: &Subject<'_, D>,
+        certificate: &AttestationList<PlainSignature>,
+    ) -> bool {
+        let listed = certificate.attestations();
+        quorum(self.participants) as usize <= listed.len() && self.all_attest(subject, listed)
+    }
+
+    fn assemble(
+        &self,
+        alloc: Global,
+        attestations: &[Attestation<PlainSignature>],
+    ) -> Result<AttestationList<PlainSignature>, AssemblyError> {
+        let needed = quorum(self.participants);
+        let count = attestations.len();
+        if count < needed as usize {
+            return Err(AssemblyError::InsufficientAttestations(needed, count as u32));
+        }
+        Ok(AttestationList::new(alloc, self.participants, attestations)?)
+    }
+
     ghost attests_member = { λ s i x a h. h.0 };
+}
+
+impl<D: Digest> Listing<D> for PlainScheme {
+    fn attestations(
+        certificate: &AttestationList<PlainSignature>,
+    ) -> &[Attestation<PlainSignature>] {
+        certificate.attestations()
+    }
+
+    ghost backed = { λ s x c h. h };
 }
 
 #[cfg(test)]

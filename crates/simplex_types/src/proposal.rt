@@ -5,7 +5,7 @@ ghost use Rattle.simplex_types.specs.declared.proposal.Proposal.{Proposal};
 ghost use Rattle.simplex_types.specs.Proposal.{proposal_cmp};
 
 use crate::attributes::{Epochable, Viewable};
-use crate::codec::{CodecError, EncodeSize, Read, Write};
+use crate::codec::{CodecError, EncodeSize, MaxEncodeSize, Read, Write};
 use crate::digest::Digest;
 use crate::duplicate::Duplicate;
 use crate::position::{Epoch, Round, View};
@@ -86,19 +86,25 @@ impl<D: Digest> EncodeSize for Proposal<D> {
         self.round.encode_size() + self.parent.encode_size() + self.payload.encode_size()
     }
 
-    fn max_encode_size() -> usize {
-        Round::max_encode_size() + View::max_encode_size() + D::max_encode_size()
-    }
-
     ghost short = { Prim.omega (arith, D.small) };
 }
 
+impl<D: Digest> MaxEncodeSize for Proposal<D> {
+    fn max_encode_size() -> usize {
+        Round::max_encode_size() + View::max_encode_size() + D::max_encode_size()
+    }
+}
+
 impl<D: Digest> Read for Proposal<D> {
+    ghost use Rattle.std.specs.Prelude.{⊤};
+    ghost use Rattle.simplex_types.specs.Codec.{unbounded-IsCodec, bounded-IsCodec};
     ghost use Rattle.simplex_types.specs.Proposal.{proposal_at, proposal-IsCodec};
+
+    ghost within = { λ _ _. ⊤ };
 
     ghost reading = { λ n. proposal_at (D.reading n) };
 
-    ghost one_spelling = { λ n small. proposal-IsCodec (D.one_spelling n small) };
+    ghost one_spelling = { λ n small. unbounded-IsCodec (proposal-IsCodec (bounded-IsCodec (D.one_spelling n small) (D.unbounded n))) };
 
     fn read_cfg(alloc: Global, input: &mut &[u8], bound: u32) -> Result<Self, CodecError> {
         let mut rest = *input;

@@ -1,33 +1,57 @@
 //! Signing schemes.
 
-ghost use Rattle.std.specs.Prelude.{◌≡◌, ◌↔◌, ◌<◌, ◌≤◌, ◌^◌, ℕ, Bool, List, Option, Some, None, IsTrue, IfSome, IsSome, IsNone};
+ghost use Rattle.std.specs.Prelude.{◌≡◌, ◌↔◌, ◌<◌, ◌≤◌, ◌^◌, ℕ, Bool, List, length, All, Contains, Option, Some, None, Err, IsTrue, IfSome, IsSome, IsNone, IfOk, IfErr};
+ghost use Rattle.simplex_types.specs.declared.attestation.Attestation.{Attestation};
+ghost use Rattle.simplex_types.specs.declared.scheme.AssemblyError.TheVariants.{InsufficientAttestations, Memory};
+ghost use Rattle.simplex_types.specs.Quorum.{AreDistinct, IsQuorum, quorum};
 ghost use Rattle.simplex_types.specs.Subject.{Statement, statement};
 
-use crate::attributes::Attributable;
-use crate::codec::{CodecError, EncodeSize, Read, Write};
+use crate::attestation::{Attestation, Signature};
+use crate::codec::{EncodeSize, Read};
 use crate::digest::Digest;
 use crate::duplicate::Duplicate;
 use crate::position::Participant;
 use crate::subject::Subject;
 use std::alloc::{AllocError, Global};
 use std::hash::Hash;
+use thiserror::Error;
 
-/// Signatures: short values that are compared as they are.
-pub trait Signature: Copy + Eq + Hash + Read + EncodeSize + Duplicate {
+/// What a scheme makes of the attestations of a quorum.
+pub trait Aggregate: Eq + Hash + Read + EncodeSize + Duplicate + Drop {
+    /// No spelling of a certificate of a committee of so many has more bytes.
+    ghost most_bytes: { ℕ → ℕ };
+
+    /// How many bytes the spelling of a certificate of a committee of so many has at most.
+    fn max_encode_size(participants: u32) -> usize
+        ensures { result ≡ most_bytes participants };
+
+    /// No spelling is longer than the most.
+    ghost longest: { (n : ℕ) (x : Self) → n < 2 ^ 32 → Self.fits x → Self.within n x → length (Self.spelling x) ≤ most_bytes n };
+
     /// Equality is identity.
     ghost equal_is_same: { (x y : Self) → IsTrue (Self.PartialEq.eq x y) ↔ (x ≡ y) };
 
-    /// A signature is short.
-    ghost small: { Self.max_size ≤ 1024 };
+    /// A certificate is far shorter than memory is large.
+    ghost small: { Self.max_size ≤ 2 ^ 43 };
 }
 
-/// A member's signature on a subject.
-#[derive(Clone, Copy, Debug, PartialEq, Eq, Hash)]
-pub struct Attestation<G> {
-    /// The index of the member in whose name it stands.
-    pub signer: Participant,
-    /// The signature.
-    pub signature: G,
+/// Why attestations make no certificate.
+#[derive(Clone, Copy, Debug, PartialEq, Eq, Error)]
+pub enum AssemblyError {
+    /// They are fewer than a quorum: the quorum, and how many they are.
+    #[error("{1} attestations, where a quorum is {0}")]
+    InsufficientAttestations(u32, u32),
+    /// Memory ran out.
+    #[error("out of memory")]
+    Memory,
+}
+
+impl From<AllocError> for AssemblyError {
+    ghost from_gives = { λ _ e. e ≡ Memory };
+
+    fn from(_error: AllocError) -> AssemblyError {
+        AssemblyError::Memory
+    }
 }
 
 /// How a committee signs, and what counts as signed.
@@ -41,6 +65,9 @@ pub trait Scheme<D: Digest> {
     /// A member's signature. Signing one subject twice may give two signatures.
     type Signature: Signature;
 
+    /// What is made of the attestations of a quorum.
+    type Certificate: Aggregate;
+
     /// How many members the committee has.
     ghost size: { Self → ℕ };
 
@@ -52,6 +79,12 @@ pub trait Scheme<D: Digest> {
 
     /// The signature is one of the member with this index on this statement.
     ghost attests: { Self → ℕ → Statement D → Self.Signature → Type 0 };
+
+    /// The certificate certifies this statement.
+    ghost certifies: { Self → Statement D → Self.Certificate → Type 0 };
+
+    /// The attestations that a certificate lists: all of them for schemes that list, and else none.
+    ghost lists: { Self.Certificate → List (Attestation Self.Signature) };
 
     /// How many members the committee has.
     fn participants(&self) -> u32
@@ -81,68 +114,38 @@ pub trait Scheme<D: Digest> {
     ) -> bool
         ensures { IsTrue result ↔ attests self.now attestation.now.signer (statement subject.now) attestation.now.signature };
 
+    /// Whether the certificate certifies the subject.
+    fn verify_certificate(&self, subject: &Subject<'_, D>, certificate: &Self::Certificate) -> bool
+        ensures { IsTrue result ↔ certifies self.now (statement subject.now) certificate.now };
+
+    /// The certificate of attestations of distinct members on one subject.
+    ///
+    /// # Errors
+    ///
+    /// [`AssemblyError::InsufficientAttestations`] where they are fewer than a quorum, and
+    /// [`AssemblyError::Memory`] where memory ran out.
+    fn assemble(
+        &self,
+        alloc: Global,
+        attestations: &[Attestation<Self::Signature>],
+    ) -> Result<Self::Certificate, AssemblyError>
+        requires distinct { AreDistinct attestations.now }
+        requires members { All (λ a. a.signer < size self.now) attestations.now }
+        ensures certifies { IfOk result (λ c. (x : Statement D) → All (λ a. attests self.now a.signer x a.signature) attestations.now → certifies self.now x c) }
+        ensures only_given { IfOk result (λ c. (a : Attestation Self.Signature) → Contains (lists c) a → Contains attestations.now a) }
+        ensures too_few { length attestations.now < quorum (size self.now) → result ≡ Err (InsufficientAttestations (quorum (size self.now)) (length attestations.now)) }
+        ensures enough { quorum (size self.now) ≤ length attestations.now → IfErr result (λ e. e ≡ Memory) };
+
     /// Only members attest.
     ghost attests_member: { (s : Self) (i : ℕ) (x : Statement D) (a : Self.Signature) → attests s i x a → i < size s };
 }
 
-impl<G> Attributable for Attestation<G> {
-    ghost signer_of = { λ a. a.signer };
+/// Schemes whose certificates list their attestations.
+pub trait Listing<D: Digest>: Scheme<D> {
+    /// The attestations that the certificate lists.
+    fn attestations(certificate: &Self::Certificate) -> &[Attestation<Self::Signature>]
+        ensures { result.now ≡ Self.lists certificate.now };
 
-    fn signer(&self) -> Participant {
-        self.signer
-    }
-}
-
-impl<G: Read> Write for Attestation<G> {
-    ghost use Rattle.simplex_types.specs.Attestation.{attestation_fits, attestation_spelling};
-
-    ghost fits = { attestation_fits G.fits };
-
-    ghost spelling = { attestation_spelling G.spelling };
-
-    fn append(&self, out: &mut Vec<u8>) -> Result<(), AllocError> {
-        self.signer.append(out)?;
-        self.signature.append(out)
-    }
-}
-
-impl<G: Signature> EncodeSize for Attestation<G> {
-    ghost use Rattle.std.specs.Prelude.{◌+◌};
-    ghost use Rattle.std.proofs.Common.{arith};
-
-    ghost max_size = { 5 + G.max_size };
-
-    fn encode_size(&self) -> usize {
-        self.signer.encode_size() + self.signature.encode_size()
-    }
-
-    fn max_encode_size() -> usize {
-        Participant::max_encode_size() + G::max_encode_size()
-    }
-
-    ghost short = { Prim.omega (arith, G.small) };
-}
-
-impl<G: Read> Read for Attestation<G> {
-    ghost use Rattle.simplex_types.specs.Attestation.{attestation_at, attestation-IsCodec};
-
-    ghost reading = { λ n. attestation_at (G.reading n) };
-
-    ghost one_spelling = { λ n small. attestation-IsCodec (G.one_spelling n small) };
-
-    fn read_cfg(alloc: Global, input: &mut &[u8], bound: u32) -> Result<Self, CodecError> {
-        let mut rest = *input;
-        let signer = Participant::read_cfg(alloc, &mut rest, bound)?;
-        let signature = G::read_cfg(alloc, &mut rest, bound)?;
-        *input = rest;
-        Ok(Attestation { signer, signature })
-    }
-}
-
-impl<G: Copy> Duplicate for Attestation<G> {
-    fn duplicate(&self, _alloc: Global) -> Result<Self, AllocError>
-        ensures { result ≡ Ok self.now }
-    {
-        Ok(*self)
-    }
+    /// What certifies lists attestations of a quorum.
+    ghost backed: { (s : Self) (x : Statement D) (c : Self.Certificate) → Self.certifies s x c → IsQuorum (Self.size s) (λ i a. Self.attests s i x a) (Self.lists c) };
 }

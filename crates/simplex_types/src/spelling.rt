@@ -1,11 +1,12 @@
 //! Positions as bytes: numbers in groups of seven bits.
 
-ghost use Rattle.std.specs.Prelude.{◌≤◌};
+ghost use Rattle.std.specs.Prelude.{◌≤◌, ⊤};
 ghost use Rattle.std.proofs.Common.{rules};
+ghost use Rattle.simplex_types.specs.Codec.{unbounded-IsCodec};
 ghost use Rattle.simplex_types.specs.Varint.{varint, varint_at, varint-IsCodec, max_u32, max_u64};
 ghost use Rattle.simplex_types.specs.Round.{round_fits, round_spelling, round_at, round-IsCodec};
 
-use crate::codec::{CodecError, EncodeSize, Read, Write};
+use crate::codec::{CodecError, EncodeSize, MaxEncodeSize, Read, Write};
 use crate::position::{Epoch, Participant, Round, View};
 use crate::varint::{put_varint, read_u32, read_u64, u32_size, varint_size};
 use std::alloc::{AllocError, Global};
@@ -27,17 +28,21 @@ impl EncodeSize for Epoch {
         varint_size(self.get())
     }
 
-    fn max_encode_size() -> usize {
-        10
-    }
-
     ghost short = { Prim.search rules };
 }
 
+impl MaxEncodeSize for Epoch {
+    fn max_encode_size() -> usize {
+        10
+    }
+}
+
 impl Read for Epoch {
+    ghost within = { λ _ _. ⊤ };
+
     ghost reading = { λ _. varint_at max_u64 };
 
-    ghost one_spelling = { λ _ _. varint-IsCodec max_u64 };
+    ghost one_spelling = { λ _ _. unbounded-IsCodec (varint-IsCodec max_u64) };
 
     fn read_cfg(_alloc: Global, input: &mut &[u8], _bound: u32) -> Result<Self, CodecError> {
         Ok(Epoch::new(read_u64(input)?))
@@ -61,17 +66,21 @@ impl EncodeSize for View {
         varint_size(self.get())
     }
 
-    fn max_encode_size() -> usize {
-        10
-    }
-
     ghost short = { Prim.search rules };
 }
 
+impl MaxEncodeSize for View {
+    fn max_encode_size() -> usize {
+        10
+    }
+}
+
 impl Read for View {
+    ghost within = { λ _ _. ⊤ };
+
     ghost reading = { λ _. varint_at max_u64 };
 
-    ghost one_spelling = { λ _ _. varint-IsCodec max_u64 };
+    ghost one_spelling = { λ _ _. unbounded-IsCodec (varint-IsCodec max_u64) };
 
     fn read_cfg(_alloc: Global, input: &mut &[u8], _bound: u32) -> Result<Self, CodecError> {
         Ok(View::new(read_u64(input)?))
@@ -95,17 +104,21 @@ impl EncodeSize for Participant {
         u32_size(self.get())
     }
 
-    fn max_encode_size() -> usize {
-        5
-    }
-
     ghost short = { Prim.search rules };
 }
 
+impl MaxEncodeSize for Participant {
+    fn max_encode_size() -> usize {
+        5
+    }
+}
+
 impl Read for Participant {
+    ghost within = { λ _ _. ⊤ };
+
     ghost reading = { λ _. varint_at max_u32 };
 
-    ghost one_spelling = { λ _ _. varint-IsCodec max_u32 };
+    ghost one_spelling = { λ _ _. unbounded-IsCodec (varint-IsCodec max_u32) };
 
     fn read_cfg(_alloc: Global, input: &mut &[u8], _bound: u32) -> Result<Self, CodecError> {
         Ok(Participant::new(read_u32(input)?))
@@ -130,17 +143,21 @@ impl EncodeSize for Round {
         self.epoch.encode_size() + self.view.encode_size()
     }
 
-    fn max_encode_size() -> usize {
-        Epoch::max_encode_size() + View::max_encode_size()
-    }
-
     ghost short = { Prim.search rules };
 }
 
+impl MaxEncodeSize for Round {
+    fn max_encode_size() -> usize {
+        Epoch::max_encode_size() + View::max_encode_size()
+    }
+}
+
 impl Read for Round {
+    ghost within = { λ _ _. ⊤ };
+
     ghost reading = { λ _. round_at };
 
-    ghost one_spelling = { λ _ _. round-IsCodec };
+    ghost one_spelling = { λ _ _. unbounded-IsCodec round-IsCodec };
 
     fn read_cfg(alloc: Global, input: &mut &[u8], bound: u32) -> Result<Self, CodecError> {
         let mut rest = *input;

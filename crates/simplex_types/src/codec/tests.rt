@@ -1,10 +1,10 @@
 //! What is spelled, what is read, and what is refused.
 use super::*;
+use crate::attestation::Attestation;
 use crate::digest::Sha256Digest;
 use crate::plain::PlainSignature;
 use crate::position::{Epoch, Participant, Round, View};
 use crate::proposal::Proposal;
-use crate::scheme::Attestation;
 use crate::varint::numbers_have_one_spelling;
 use std::fmt::Debug;
 use std::process::Abort;
@@ -113,7 +113,7 @@ fn greatest_index_is_read(rt: HostRuntime) {
 }
 
 /// Writes a value and reads it again, by its bounds alone.
-fn round_trip<T: Read + EncodeSize + PartialEq + Debug + Drop>(
+fn round_trip<T: Read + MaxEncodeSize + PartialEq + Debug + Drop>(
     rt: &impl Abort,
     alloc: Global,
     value: &T,

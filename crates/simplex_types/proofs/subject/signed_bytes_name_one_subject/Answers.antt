@@ -1,4 +1,5 @@
 use Rattle.std.proofs.Common.{arith}
+use Rattle.simplex_types.specs.Codec.{bounded-IsCodec}
 use Rattle.simplex_types.proofs.Signed.{kinds-differ, one_subject}
 use Rattle.simplex_types.proofs.subject.signed_bytes_name_one_subject.Goals as goal
 
@@ -6,4 +7,4 @@ pub returns-clause-kinds : goal.returns-clause-kinds
 returns-clause-kinds g c = kinds-differ
 
 pub returns-clause-subjects : goal.returns-clause-subjects
-returns-clause-subjects g c = one_subject (g.met.D.Read.one_spelling 0 (omega arith))
+returns-clause-subjects g c = one_subject (bounded-IsCodec (g.met.D.Read.one_spelling 0 (omega arith)) (g.met.D.Digest.unbounded 0))

@@ -1,0 +1,85 @@
+-- Attestations of distinct members, sorted by index, ascend.
+use Rattle.std.proofs.Common.{◌≡◌, ◌≢◌, ℕ, zero, suc, ◌+◌, ◌≤◌, ◌<◌, ◌==◌, true, false, cond, List, [], ◌∷◌, length, get_or, refl, sym, arith, inl, inr}
+use Rattle.std.specs.List.{All, sum_by}
+use Rattle.std.specs.List.Sorted.{IsNonDecreasingBy, IsPermutation}
+use Rattle.std.proofs.lemmas.Bool.{cases_Bool, eqb-true, ne_eqb}
+use Rattle.std.proofs.lemmas.List.Elements.{All-nil, All-cons, All-tail}
+use Rattle.std.proofs.lemmas.List.Kept.{AllPairs-cons}
+use Rattle.std.proofs.lemmas.List.Sums.{sum_by-cons}
+use Rattle.std.proofs.lemmas.List.Sorted.{sum_by-IsPermutation}
+use Rattle.simplex_types.specs.declared.attestation.Attestation.{Attestation}
+use Rattle.simplex_types.specs.AttestationList.{AscendsFrom}
+use Rattle.simplex_types.specs.Quorum.{AreDistinct}
+
+module _ {G : Type 0} where
+  -- 1 for an attestation of this member, and 0 for others
+  abbrev is_by : ℕ → Attestation G → ℕ
+  is_by i a = cond (a.signer == i) 1 0
+
+  one_more : (i : ℕ) (a : Attestation G) (x : List (Attestation G)) → sum_by (is_by i) (a ∷ x) ≡ is_by i a + sum_by (is_by i) x
+  one_more i a x = sum_by-cons (is_by i) a x
+
+  none_by : (i : ℕ) (x : List (Attestation G)) → All (λ b. i ≢ b.signer) x → sum_by (is_by i) x ≡ 0
+  none_by i [] apart = refl
+  none_by i (a ∷ x) apart =
+      let other : (a.signer == i) ≡ false = ne_eqb a.signer i (λ e. apart 0 a (omega arith) (sym e)) in
+      let none = none_by i x (All-tail (λ (b : Attestation G). i ≢ b.signer) a x apart) in
+      rw (one_more i a x, other, none) refl
+
+  tail_distinct : (a : Attestation G) (x : List (Attestation G)) → AreDistinct (a ∷ x) → AreDistinct x
+  tail_distinct a x apart = λ i j d l m. apart (suc i) (suc j) d (omega arith) (omega arith)
+
+  one_by : (x : List (Attestation G)) → AreDistinct x → (i : ℕ) → sum_by (is_by i) x ≤ 1
+  one_by [] apart i = omega arith
+  one_by (a ∷ x) apart i = elim (cases_Bool (a.signer == i)) [
+    | inl own ↦
+        let same : a.signer ≡ i = eqb-true a.signer i own in
+        let none : sum_by (is_by i) x ≡ 0 = none_by i x (λ k d l e. apart 0 (suc k) d (omega arith) (omega arith) (rw same e)) in
+        rw (one_more i a x, own) (omega (arith, none))
+    | inr other ↦ rw (one_more i a x, other) (omega (arith, one_by x (tail_distinct a x apart) i))
+  ]
+
+  some_by : (i : ℕ) (x : List (Attestation G)) (k : ℕ) (d : Attestation G) → k < length x → (get_or x k d).signer ≡ i → 1 ≤ sum_by (is_by i) x
+  some_by i [] k d l e = absurd (omega arith)
+  some_by i (a ∷ x) zero d l e = let own : (a.signer == i) ≡ true = search (arith, e) in rw (one_more i a x, own) (omega arith)
+  some_by i (a ∷ x) (suc k) d l e = let later = some_by i x k d (omega arith) e in rw (one_more i a x) (omega (arith, later))
+
+  ascends_sorted : (low : ℕ) (x : List (Attestation G)) → All (λ a. low ≤ a.signer) x → IsNonDecreasingBy (λ a. a.signer) x → ((i : ℕ) → sum_by (is_by i) x ≤ 1) → AscendsFrom low x
+  ascends_sorted low [] above sorted once = tt
+  ascends_sorted low (a ∷ x) above sorted once = (above 0 a (omega arith), ascends_sorted (a.signer + 1) x later (λ i j d l m. sorted (suc i) (suc j) d (omega arith) (omega arith)) (λ i. omega (arith, once i, one_more i a x)))
+    where
+      later : All (λ b. a.signer + 1 ≤ b.signer) x
+      later k d l =
+          let up : a.signer ≤ (get_or x k d).signer = sorted 0 (suc k) d (omega arith) (omega arith) in
+          let apart : a.signer ≢ (get_or x k d).signer = λ e.
+          let again : 1 ≤ sum_by (is_by a.signer) x = some_by a.signer x k d l (sym e) in
+          let own : (a.signer == a.signer) ≡ true = search arith in
+          let both : sum_by (is_by a.signer) (a ∷ x) ≤ 1 = once a.signer in
+          let two : 1 + sum_by (is_by a.signer) x ≤ 1 = rw (one_more a.signer a x, own) at both in
+          absurd (omega (arith, again, two)) in
+          omega (arith, up, apart)
+
+  -- attestations of distinct members ascend once they are sorted by index
+  pub sorted-AscendsFrom : (given x : List (Attestation G)) → AreDistinct given → IsPermutation given x → IsNonDecreasingBy (λ a. a.signer) x → AscendsFrom 0 x
+  sorted-AscendsFrom given x apart moved sorted =
+      ascends_sorted 0 x (λ k d l. omega arith) sorted (λ i. omega (arith, one_by given apart i, sum_by-IsPermutation (is_by i) given x moved))
+
+  -- ascending indices below n are at most n
+  few : (low n : ℕ) (x : List (Attestation G)) → low ≤ n → AscendsFrom low x → All (λ a. a.signer < n) x → length x + low ≤ n
+  few low n [] room up below = omega arith
+  few low n (a ∷ x) room up below =
+      let own : a.signer < n = below 0 a (omega arith) in
+      let rest = few (a.signer + 1) n x (omega arith) up.1 (All-tail (λ (b : Attestation G). b.signer < n) a x below) in
+      omega (arith, rest, up.0)
+
+  pub AscendsFrom-few : (n : ℕ) (x : List (Attestation G)) → AscendsFrom 0 x → All (λ a. a.signer < n) x → length x ≤ n
+  AscendsFrom-few n x up below = let all = few 0 n x (omega arith) up below in omega (arith, all)
+
+  from_low : (low : ℕ) (x : List (Attestation G)) → AscendsFrom low x → All (λ a. low ≤ a.signer) x
+  from_low low [] up = All-nil _
+  from_low low (a ∷ x) up = All-cons (λ (b : Attestation G). low ≤ b.signer) a x up.0 (λ k d l. let later = from_low (a.signer + 1) x up.1 k d l in omega (arith, later, up.0))
+
+  -- ascending indices are distinct
+  pub AscendsFrom-distinct : (low : ℕ) (x : List (Attestation G)) → AscendsFrom low x → AreDistinct x
+  AscendsFrom-distinct low [] up = λ i j d l m. absurd (omega arith)
+  AscendsFrom-distinct low (a ∷ x) up = AllPairs-cons (λ (b c : Attestation G). b.signer ≢ c.signer) a x (λ k d l e. let later = from_low (a.signer + 1) x up.1 k d l in absurd (omega (arith, later, e))) (AscendsFrom-distinct (a.signer + 1) x up.1)
