@@ -1,4 +1,4 @@
-pub mod Notarize
-pub mod ConflictingNotarize
+pub mod ProposalVote
+pub mod ConflictingVotes
 pub mod Activity
 pub mod Guilt

@@ -2,9 +2,11 @@
 
 ghost use Rattle.std.specs.Prelude.{◌≡◌};
 
-use crate::conflicting_notarize::ConflictingNotarize;
-use crate::notarize::Notarize;
-use simplex_types::{CodecError, Digest, Duplicate, EncodeSize, Read, Scheme, Write};
+use crate::conflicting_votes::ConflictingNotarize;
+use crate::proposal_vote::Notarize;
+use simplex_types::{
+    CodecError, Digest, Duplicate, EncodeSize, MaxEncodeSize, Read, Scheme, Write,
+};
 use std::alloc::{AllocError, Global};
 
 /// A report: a vote that was cast, or evidence against its signer.
@@ -67,19 +69,25 @@ impl<S: Scheme<D>, D: Digest> EncodeSize for Activity<S, D> {
         }
     }
 
-    fn max_encode_size() -> usize {
-        1 + ConflictingNotarize::<S, D>::max_encode_size()
-    }
-
     ghost short = { Prim.omega (arith, D.small, S.Signature.small) };
 }
 
+impl<S: Scheme<D>, D: Digest> MaxEncodeSize for Activity<S, D> {
+    fn max_encode_size() -> usize {
+        1 + ConflictingNotarize::<S, D>::max_encode_size()
+    }
+}
+
 impl<S: Scheme<D>, D: Digest> Read for Activity<S, D> {
+    ghost use Rattle.std.specs.Prelude.{⊤};
+    ghost use Rattle.simplex_types.specs.Codec.{bounded-IsCodec, unbounded-IsCodec};
     ghost use Rattle.simplex_messages.specs.Activity.{activity_at, activity-IsCodec};
+
+    ghost within = { λ _ _. ⊤ };
 
     ghost reading = { λ n. activity_at D.PartialEq.eq (D.reading n) (S.Signature.reading n) };
 
-    ghost one_spelling = { λ n small. activity-IsCodec D.PartialEq.eq (D.one_spelling n small) (S.Signature.one_spelling n small) };
+    ghost one_spelling = { λ n small. unbounded-IsCodec (activity-IsCodec D.PartialEq.eq (bounded-IsCodec (D.one_spelling n small) (D.unbounded n)) (bounded-IsCodec (S.Signature.one_spelling n small) (S.Signature.unbounded n))) };
 
     #[tactic(auto, unfolding(crate::specs::Activity::activity_at, crate::specs::Activity::behind_tag))]
     fn read_cfg(alloc: Global, input: &mut &[u8], bound: u32) -> Result<Self, CodecError> {

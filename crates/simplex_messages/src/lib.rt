@@ -2,13 +2,15 @@
 #![tactic(auto)]
 
 mod activity;
-mod conflicting_notarize;
+mod conflicting_votes;
+mod kind;
 mod laws;
-mod notarize;
+mod proposal_vote;
 #[cfg(test)]
 mod tests;
 
 pub use activity::Activity;
-pub use conflicting_notarize::ConflictingNotarize;
+pub use conflicting_votes::{ConflictingFinalize, ConflictingNotarize, ConflictingVotes};
+pub use kind::{Finalizing, Notarizing, ProposalKind};
 pub use laws::equal_messages_are_one;
-pub use notarize::Notarize;
+pub use proposal_vote::{Finalize, Notarize, ProposalVote};

@@ -1,49 +1,64 @@
-//! Votes to certify a proposal.
+//! Votes on a proposal: to notarize it, and to finalize it.
 
 ghost use Rattle.std.specs.Prelude.{◌≡◌, ◌↔◌, ℕ, Option, Some, None, IsTrue, IsNone, IfSome};
-ghost use Rattle.simplex_types.specs.Subject.{notarize};
 
+use crate::kind::{Finalizing, Notarizing, ProposalKind};
 use simplex_types::{
     Attestation, Attributable, CodecError, Digest, Duplicate, EncodeSize, Epoch, Epochable,
-    Participant, Proposal, Read, Round, Scheme, Subject, View, Viewable, Write,
+    MaxEncodeSize, Participant, Proposal, Read, Round, Scheme, View, Viewable, Write,
 };
 use std::alloc::{AllocError, Global};
+use std::marker::PhantomData;
 
 /// A member's vote to certify a proposal for its round.
+pub type Notarize<S, D> = ProposalVote<Notarizing, S, D>;
+
+/// A member's vote to finalize a proposal.
+pub type Finalize<S, D> = ProposalVote<Finalizing, S, D>;
+
+/// A member's vote on a proposal.
 #[derive_where(Debug, PartialEq, Eq, Hash; D, S::Signature)]
 #[derive(Drop)]
-pub struct Notarize<S: Scheme<D>, D: Digest> {
+pub struct ProposalVote<K: ProposalKind<D>, S: Scheme<D>, D: Digest> {
     /// What is voted for.
     pub proposal: Proposal<D>,
     /// In whose name, and the signature.
     pub attestation: Attestation<S::Signature>,
+    kind: PhantomData<K>,
 }
 
-impl<S: Scheme<D>, D: Digest> Notarize<S, D> {
+impl<K: ProposalKind<D>, S: Scheme<D>, D: Digest> ProposalVote<K, S, D> {
     ghost use Rattle.std.specs.Prelude.{◌≡◌, ◌↔◌, ℕ, Option, Some, None, IsTrue, IsNone, IfSome};
-    ghost use Rattle.simplex_types.specs.Subject.{notarize};
-    ghost use Rattle.simplex_messages.specs.Notarize.{Contradict, contradict};
-    ghost use Rattle.simplex_messages.specs.Guilt.{Verifies};
+    ghost use Rattle.simplex_messages.specs.ProposalVote.{Contradict, IsAttested, contradict};
+
+    /// The vote on this proposal with this attestation.
+    pub const fn new(proposal: Proposal<D>, attestation: Attestation<S::Signature>) -> Self
+        ensures proposal { result.proposal ≡ proposal }
+        ensures attestation { result.attestation ≡ attestation }
+    {
+        ProposalVote {
+            proposal,
+            attestation,
+            kind: PhantomData,
+        }
+    }
 
     /// The vote of the member whose key the scheme has, or `None` without a key.
     pub fn sign(scheme: &S, proposal: Proposal<D>) -> Option<Self>
         ensures without_key { IsNone result ↔ (S.own scheme.now ≡ None) }
         ensures in_own_name { IfSome result (λ v. S.own scheme.now ≡ Some v.attestation.signer) }
         ensures proposal { IfSome result (λ v. v.proposal ≡ proposal) }
-        ensures attests { IfSome result (λ v. Verifies (S.attests scheme.now) v) }
+        ensures attests { IfSome result (λ v. IsAttested K.states (S.attests scheme.now) v) }
     {
-        let attestation = scheme.sign(&Subject::Notarize(&proposal))?;
-        Some(Notarize {
-            proposal,
-            attestation,
-        })
+        let attestation = scheme.sign(&K::subject(&proposal))?;
+        Some(ProposalVote::new(proposal, attestation))
     }
 
     /// Whether the signer's attestation attests the vote.
     pub fn verify(&self, scheme: &S) -> bool
-        ensures { IsTrue result ↔ Verifies (S.attests scheme.now) self.now }
+        ensures { IsTrue result ↔ IsAttested K.states (S.attests scheme.now) self.now }
     {
-        scheme.verify_attestation(&Subject::Notarize(&self.proposal), &self.attestation)
+        scheme.verify_attestation(&K::subject(&self.proposal), &self.attestation)
     }
 
     /// The round that the vote is of.
@@ -64,7 +79,7 @@ impl<S: Scheme<D>, D: Digest> Notarize<S, D> {
     }
 }
 
-impl<S: Scheme<D>, D: Digest> Epochable for Notarize<S, D> {
+impl<K: ProposalKind<D>, S: Scheme<D>, D: Digest> Epochable for ProposalVote<K, S, D> {
     ghost epoch_of = { λ v. v.proposal.round.epoch };
 
     fn epoch(&self) -> Epoch {
@@ -72,7 +87,7 @@ impl<S: Scheme<D>, D: Digest> Epochable for Notarize<S, D> {
     }
 }
 
-impl<S: Scheme<D>, D: Digest> Viewable for Notarize<S, D> {
+impl<K: ProposalKind<D>, S: Scheme<D>, D: Digest> Viewable for ProposalVote<K, S, D> {
     ghost view_of = { λ v. v.proposal.round.view };
 
     fn view(&self) -> View {
@@ -80,7 +95,7 @@ impl<S: Scheme<D>, D: Digest> Viewable for Notarize<S, D> {
     }
 }
 
-impl<S: Scheme<D>, D: Digest> Attributable for Notarize<S, D> {
+impl<K: ProposalKind<D>, S: Scheme<D>, D: Digest> Attributable for ProposalVote<K, S, D> {
     ghost signer_of = { λ v. v.attestation.signer };
 
     fn signer(&self) -> Participant {
@@ -88,24 +103,21 @@ impl<S: Scheme<D>, D: Digest> Attributable for Notarize<S, D> {
     }
 }
 
-impl<S: Scheme<D>, D: Digest> Duplicate for Notarize<S, D> {
+impl<K: ProposalKind<D>, S: Scheme<D>, D: Digest> Duplicate for ProposalVote<K, S, D> {
     /// Never refused: a vote owns no memory.
     fn duplicate(&self, _alloc: Global) -> Result<Self, AllocError>
         ensures { result ≡ Ok self.now }
     {
-        Ok(Notarize {
-            proposal: self.proposal,
-            attestation: self.attestation,
-        })
+        Ok(ProposalVote::new(self.proposal, self.attestation))
     }
 }
 
-impl<S: Scheme<D>, D: Digest> Write for Notarize<S, D> {
-    ghost use Rattle.simplex_messages.specs.Notarize.{notarize_fits, notarize_spelling};
+impl<K: ProposalKind<D>, S: Scheme<D>, D: Digest> Write for ProposalVote<K, S, D> {
+    ghost use Rattle.simplex_messages.specs.ProposalVote.{vote_fits, vote_spelling};
 
-    ghost fits = { notarize_fits D.fits S.Signature.fits };
+    ghost fits = { vote_fits D.fits S.Signature.fits };
 
-    ghost spelling = { notarize_spelling D.spelling S.Signature.spelling };
+    ghost spelling = { vote_spelling D.spelling S.Signature.spelling };
 
     fn append(&self, out: &mut Vec<u8>) -> Result<(), AllocError> {
         self.proposal.append(out)?;
@@ -113,7 +125,7 @@ impl<S: Scheme<D>, D: Digest> Write for Notarize<S, D> {
     }
 }
 
-impl<S: Scheme<D>, D: Digest> EncodeSize for Notarize<S, D> {
+impl<K: ProposalKind<D>, S: Scheme<D>, D: Digest> EncodeSize for ProposalVote<K, S, D> {
     ghost use Rattle.std.specs.Prelude.{◌+◌};
     ghost use Rattle.std.proofs.Common.{arith};
 
@@ -123,28 +135,31 @@ impl<S: Scheme<D>, D: Digest> EncodeSize for Notarize<S, D> {
         self.proposal.encode_size() + self.attestation.encode_size()
     }
 
-    fn max_encode_size() -> usize {
-        Proposal::<D>::max_encode_size() + Attestation::<S::Signature>::max_encode_size()
-    }
-
     ghost short = { Prim.omega (arith, D.small, S.Signature.small) };
 }
 
-impl<S: Scheme<D>, D: Digest> Read for Notarize<S, D> {
-    ghost use Rattle.simplex_messages.specs.Notarize.{notarize_at, notarize-IsCodec};
+impl<K: ProposalKind<D>, S: Scheme<D>, D: Digest> MaxEncodeSize for ProposalVote<K, S, D> {
+    fn max_encode_size() -> usize {
+        Proposal::<D>::max_encode_size() + Attestation::<S::Signature>::max_encode_size()
+    }
+}
 
-    ghost reading = { λ n. notarize_at (D.reading n) (S.Signature.reading n) };
+impl<K: ProposalKind<D>, S: Scheme<D>, D: Digest> Read for ProposalVote<K, S, D> {
+    ghost use Rattle.std.specs.Prelude.{⊤};
+    ghost use Rattle.simplex_types.specs.Codec.{bounded-IsCodec, unbounded-IsCodec};
+    ghost use Rattle.simplex_messages.specs.ProposalVote.{vote_at, vote-IsCodec};
 
-    ghost one_spelling = { λ n small. notarize-IsCodec (D.one_spelling n small) (S.Signature.one_spelling n small) };
+    ghost within = { λ _ _. ⊤ };
+
+    ghost reading = { λ n. vote_at (D.reading n) (S.Signature.reading n) };
+
+    ghost one_spelling = { λ n small. unbounded-IsCodec (vote-IsCodec (bounded-IsCodec (D.one_spelling n small) (D.unbounded n)) (bounded-IsCodec (S.Signature.one_spelling n small) (S.Signature.unbounded n))) };
 
     fn read_cfg(alloc: Global, input: &mut &[u8], bound: u32) -> Result<Self, CodecError> {
         let mut rest = *input;
         let proposal = Proposal::read_cfg(alloc, &mut rest, bound)?;
         let attestation = Attestation::read_cfg(alloc, &mut rest, bound)?;
         *input = rest;
-        Ok(Notarize {
-            proposal,
-            attestation,
-        })
+        Ok(ProposalVote::new(proposal, attestation))
     }
 }
