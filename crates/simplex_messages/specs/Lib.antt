@@ -1,4 +1,9 @@
 pub mod ProposalVote
+pub mod Nullify
+pub mod Assembly
+pub mod ProposalCertificate
+pub mod Nullification
 pub mod ConflictingVotes
+pub mod NullifyFinalize
 pub mod Activity
 pub mod Guilt

@@ -2,15 +2,25 @@
 #![tactic(auto)]
 
 mod activity;
+mod attested;
 mod conflicting_votes;
 mod kind;
 mod laws;
+mod nullification;
+mod nullify;
+mod nullify_finalize;
+mod proposal_certificate;
 mod proposal_vote;
 #[cfg(test)]
 mod tests;
 
 pub use activity::Activity;
+pub use attested::Attested;
 pub use conflicting_votes::{ConflictingFinalize, ConflictingNotarize, ConflictingVotes};
 pub use kind::{Finalizing, Notarizing, ProposalKind};
 pub use laws::equal_messages_are_one;
+pub use nullification::Nullification;
+pub use nullify::Nullify;
+pub use nullify_finalize::NullifyFinalize;
+pub use proposal_certificate::{Finalization, Notarization, ProposalCertificate};
 pub use proposal_vote::{Finalize, Notarize, ProposalVote};

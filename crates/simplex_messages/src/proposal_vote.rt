@@ -2,6 +2,7 @@
 
 ghost use Rattle.std.specs.Prelude.{◌≡◌, ◌↔◌, ℕ, Option, Some, None, IsTrue, IsNone, IfSome};
 
+use crate::attested::Attested;
 use crate::kind::{Finalizing, Notarizing, ProposalKind};
 use simplex_types::{
     Attestation, Attributable, CodecError, Digest, Duplicate, EncodeSize, Epoch, Epochable,
@@ -100,6 +101,14 @@ impl<K: ProposalKind<D>, S: Scheme<D>, D: Digest> Attributable for ProposalVote<
 
     fn signer(&self) -> Participant {
         self.attestation.signer
+    }
+}
+
+impl<K: ProposalKind<D>, S: Scheme<D>, D: Digest> Attested<S::Signature> for ProposalVote<K, S, D> {
+    ghost attestation_of = { λ v. v.attestation };
+
+    fn attestation(&self) -> Attestation<S::Signature> {
+        self.attestation
     }
 }
 

@@ -1,9 +1,11 @@
 //! Votes and evidence as another program spells and signs them, and what no contract says.
 
+mod certificates;
 mod memory;
 mod refusals;
 mod spellings;
 mod values;
+mod vectors;
 mod verdicts;
 
 ghost use Rattle.std.specs.Prelude.{◌<◌, ◌≤◌};

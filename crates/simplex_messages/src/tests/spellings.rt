@@ -3,8 +3,8 @@ use super::{
     own_vote, spelled,
 };
 use simplex_types::{
-    Attestation, EncodeSize, Epoch, Participant, PlainSignature, Proposal, Read, Round,
-    Sha256Digest, View, Write,
+    Attestation, EncodeSize, Epoch, MaxEncodeSize, Participant, PlainSignature, Proposal, Read,
+    Round, Sha256Digest, View, Write,
 };
 use std::alloc::{AllocError, Global};
 use std::process::Abort;
@@ -45,10 +45,8 @@ fn longest_vote(payload: u8, signature: PlainSignature) -> Vote {
     let round = Round::new(Epoch::new(u64::MAX), View::new(u64::MAX));
     let payload = Sha256Digest::new([payload; 32]);
     let signer = Participant::new(u32::MAX);
-    Vote {
-        proposal: Proposal::new(round, View::new(u64::MAX), payload),
-        attestation: Attestation { signer, signature },
-    }
+    let proposal = Proposal::new(round, View::new(u64::MAX), payload);
+    Vote::new(proposal, Attestation { signer, signature })
 }
 
 #[test]

@@ -1,4 +1,5 @@
 use super::{MEMBERS, Report, committee, own_evidence, own_vote, vote};
+use crate::kind::Notarizing;
 use crate::laws::equal_messages_are_one;
 use simplex_types::{
     Attributable, Duplicate, Epoch, Epochable, Participant, PlainScheme, Round, Sha256Digest, View,
@@ -38,7 +39,7 @@ fn stands_in_view_2<T: Epochable + Viewable + Attributable>(rt: &impl Abort, val
 fn a_vote_is_a_key_of_a_set(rt: HostRuntime) -> Result<(), Fail> {
     let other = own_vote(&rt, rt.alloc(), 0xbb)?;
     let vote = own_vote(&rt, rt.alloc(), 0xaa)?;
-    equal_messages_are_one::<PlainScheme, Sha256Digest>();
+    equal_messages_are_one::<Notarizing, PlainScheme, Sha256Digest>();
     is_found_by_its_copy(&rt, rt.alloc(), vote, &other)
 }
 

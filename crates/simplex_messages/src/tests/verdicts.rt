@@ -4,10 +4,7 @@ use std::test::Fail;
 
 /// A vote for 32 such bytes, under this attestation.
 fn vote_with(payload: u8, attestation: Attestation<PlainSignature>) -> Vote {
-    Vote {
-        proposal: proposal(2, payload),
-        attestation,
-    }
+    Vote::new(proposal(2, payload), attestation)
 }
 
 #[test]

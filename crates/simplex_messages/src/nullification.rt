@@ -1,0 +1,157 @@
+//! Certificates that a round is given up.
+
+ghost use Rattle.std.specs.Prelude.{◌≡◌, ◌↔◌, ◌≤◌, ◌<◌, ℕ, IsTrue};
+
+use crate::attested::attestations_of;
+use crate::nullify::Nullify;
+use simplex_types::{
+    AssemblyError, CodecError, Digest, Duplicate, EncodeSize, Epoch, Epochable, Read, Round,
+    Scheme, Subject, View, Viewable, Write, quorum,
+};
+use std::alloc::{AllocError, Global};
+
+/// A quorum's certificate that a round is given up.
+#[derive_where(Debug, PartialEq, Eq, Hash; S::Certificate)]
+#[derive(Drop)]
+pub struct Nullification<S: Scheme<D>, D: Digest> {
+    /// What is given up.
+    pub round: Round,
+    /// What certifies it.
+    pub certificate: S::Certificate,
+}
+
+impl<S: Scheme<D>, D: Digest> Nullification<S, D> {
+    ghost use Rattle.std.specs.Prelude.{◌≡◌, ◌↔◌, ◌<◌, ◌≤◌, length, Err, IfOk, IfErr, IsTrue};
+    ghost use Rattle.simplex_types.specs.Subject.{nullify};
+    ghost use Rattle.simplex_types.specs.declared.scheme.AssemblyError.TheVariants.{InsufficientAttestations, Memory};
+    ghost use Rattle.simplex_types.specs.Quorum.{quorum};
+    ghost use Rattle.simplex_messages.specs.Nullification.{CanNullify, IsNullificationOf};
+
+    /// The nullification of these votes of distinct members on one round.
+    ///
+    /// # Errors
+    ///
+    /// [`AssemblyError::InsufficientAttestations`] where they are fewer than a quorum, and
+    /// [`AssemblyError::Memory`] where memory ran out.
+    pub fn from_nullifies(
+        alloc: Global,
+        scheme: &S,
+        votes: &[Nullify<S, D>],
+    ) -> Result<Self, AssemblyError>
+        requires { CanNullify (S.size scheme.now) votes.now }
+        ensures made { IfOk result (IsNullificationOf (S.attests scheme.now) (S.certifies scheme.now) S.lists votes.now) }
+        ensures too_few { length votes.now < quorum (S.size scheme.now) → result ≡ Err (InsufficientAttestations (quorum (S.size scheme.now)) (length votes.now)) }
+        ensures enough { quorum (S.size scheme.now) ≤ length votes.now → IfErr result (λ e. e ≡ Memory) }
+    {
+        let needed = quorum(scheme.participants());
+        let count = votes.len();
+        if count < needed as usize {
+            return Err(AssemblyError::InsufficientAttestations(needed, count as u32));
+        }
+        let round = votes[0].round;
+        let attestations = attestations_of(alloc, votes)?;
+        let certificate = scheme.assemble(alloc, &attestations)?;
+        Ok(Nullification { round, certificate })
+    }
+
+    /// The same of votes that are handed over.
+    pub fn from_owned_nullifies(
+        alloc: Global,
+        scheme: &S,
+        votes: Vec<Nullify<S, D>>,
+    ) -> Result<Self, AssemblyError>
+        requires { CanNullify (S.size scheme.now) votes.items }
+        ensures made { IfOk result (IsNullificationOf (S.attests scheme.now) (S.certifies scheme.now) S.lists votes.items) }
+        ensures too_few { length votes.items < quorum (S.size scheme.now) → result ≡ Err (InsufficientAttestations (quorum (S.size scheme.now)) (length votes.items)) }
+        ensures enough { quorum (S.size scheme.now) ≤ length votes.items → IfErr result (λ e. e ≡ Memory) }
+    {
+        Self::from_nullifies(alloc, scheme, &votes)
+    }
+
+    /// Whether the certificate certifies that the round is given up.
+    pub fn verify(&self, scheme: &S) -> bool
+        ensures { IsTrue result ↔ S.certifies scheme.now (nullify self.now.round) self.now.certificate }
+    {
+        scheme.verify_certificate(&Subject::Nullify(self.round), &self.certificate)
+    }
+
+    /// The round that the certificate is of.
+    pub fn round(&self) -> Round
+        ensures { result ≡ self.now.round }
+    {
+        self.round
+    }
+}
+
+impl<S: Scheme<D>, D: Digest> Epochable for Nullification<S, D> {
+    ghost epoch_of = { λ c. c.round.epoch };
+
+    fn epoch(&self) -> Epoch {
+        self.round.epoch
+    }
+}
+
+impl<S: Scheme<D>, D: Digest> Viewable for Nullification<S, D> {
+    ghost view_of = { λ c. c.round.view };
+
+    fn view(&self) -> View {
+        self.round.view
+    }
+}
+
+impl<S: Scheme<D>, D: Digest> Duplicate for Nullification<S, D> {
+    fn duplicate(&self, alloc: Global) -> Result<Self, AllocError> {
+        let certificate = self.certificate.duplicate(alloc)?;
+        Ok(Nullification {
+            round: self.round,
+            certificate,
+        })
+    }
+}
+
+impl<S: Scheme<D>, D: Digest> Write for Nullification<S, D> {
+    ghost use Rattle.simplex_messages.specs.Nullification.{nullification_fits, nullification_spelling};
+
+    ghost fits = { nullification_fits S.Certificate.fits };
+
+    ghost spelling = { nullification_spelling S.Certificate.spelling };
+
+    #[tactic(auto, unfolding(crate::specs::Nullification::nullification_spelling, crate::specs::Nullification::nullification_fits))]
+    fn append(&self, out: &mut Vec<u8>) -> Result<(), AllocError> {
+        self.round.append(out)?;
+        self.certificate.append(out)
+    }
+}
+
+impl<S: Scheme<D>, D: Digest> EncodeSize for Nullification<S, D> {
+    ghost use Rattle.std.specs.Prelude.{◌+◌};
+    ghost use Rattle.std.proofs.Common.{arith};
+
+    ghost max_size = { 20 + S.Certificate.max_size };
+
+    #[tactic(auto, unfolding(crate::specs::Nullification::nullification_spelling, crate::specs::Nullification::nullification_fits))]
+    fn encode_size(&self) -> usize {
+        self.round.encode_size() + self.certificate.encode_size()
+    }
+
+    ghost short = { Prim.omega (arith, S.Certificate.small) };
+}
+
+impl<S: Scheme<D>, D: Digest> Read for Nullification<S, D> {
+    ghost use Rattle.simplex_messages.specs.Nullification.{nullification_at, nullification-IsCodec};
+
+    ghost within = { λ n c. S.Certificate.within n c.certificate };
+
+    ghost reading = { λ n. nullification_at (S.Certificate.reading n) };
+
+    ghost one_spelling = { λ n small. nullification-IsCodec (S.Certificate.one_spelling n small) };
+
+    #[tactic(auto, unfolding(crate::specs::Nullification::nullification_at))]
+    fn read_cfg(alloc: Global, input: &mut &[u8], bound: u32) -> Result<Self, CodecError> {
+        let mut rest = *input;
+        let round = Round::read_cfg(alloc, &mut rest, bound)?;
+        let certificate = S::Certificate::read_cfg(alloc, &mut rest, bound)?;
+        *input = rest;
+        Ok(Nullification { round, certificate })
+    }
+}
