@@ -5,7 +5,7 @@ use Rattle.std.specs.BTreeMap.{BTreeMap}
 use Rattle.std.specs.declared.cmp.Ordering.{Ordering}
 use Rattle.std.proofs.lemmas.List.{map-append}
 use Rattle.simplex_types.specs.Subject.{Statement}
-use Rattle.simplex_messages.specs.declared.notarize.Notarize.{Notarize}
+use Rattle.simplex_messages.specs.ProposalVote.{Notarize}
 use Rattle.simplex_messages.specs.Guilt.{Verifies}
 use Rattle.simplex_cli.specs.declared.cast.Cast.{Cast}
 use Rattle.simplex_cli.specs.declared.cast.Kept.{Kept}
@@ -13,21 +13,21 @@ use Rattle.simplex_cli.specs.declared.cast.Suspect.{Suspect}
 use Rattle.simplex_cli.specs.Tally.{Tallies, Holds, counted_of, suspect_of, cast_of}
 use Rattle.simplex_cli.proofs.Casts.{each_push}
 
-module _ {S D K G : Type 0} where
-  counted_of-true : (tested : List (Notarize S D K G × Bool)) (v : Notarize S D K G) → counted_of (tested ++ (v, true) ∷ []) ≡ counted_of tested ++ (suspect_of v, cast_of v) ∷ []
+module _ {S D P G C : Type 0} where
+  counted_of-true : (tested : List (Notarize S D P G C × Bool)) (v : Notarize S D P G C) → counted_of (tested ++ (v, true) ∷ []) ≡ counted_of tested ++ (suspect_of v, cast_of v) ∷ []
   counted_of-true [] v = refl
   counted_of-true ((u, true) ∷ tested) v = ap (λ (t : List (Suspect × Cast D G)). (suspect_of u, cast_of u) ∷ t) (counted_of-true tested v)
   counted_of-true ((u, false) ∷ tested) v = counted_of-true tested v
 
-  counted_of-false : (tested : List (Notarize S D K G × Bool)) (v : Notarize S D K G) → counted_of (tested ++ (v, false) ∷ []) ≡ counted_of tested
+  counted_of-false : (tested : List (Notarize S D P G C × Bool)) (v : Notarize S D P G C) → counted_of (tested ++ (v, false) ∷ []) ≡ counted_of tested
   counted_of-false [] v = refl
   counted_of-false ((u, true) ∷ tested) v = ap (λ (t : List (Suspect × Cast D G)). (suspect_of u, cast_of u) ∷ t) (counted_of-false tested v)
   counted_of-false ((u, false) ∷ tested) v = counted_of-false tested v
 
-  votes_are-push : (votes : List (Notarize S D K G)) (v : Notarize S D K G) (tested : List (Notarize S D K G × Bool)) (b : Bool) → map (λ t. t.0) tested ≡ votes → map (λ t. t.0) (tested ++ (v, b) ∷ []) ≡ votes ++ v ∷ []
-  votes_are-push votes v tested b are = map-append (λ (t : Notarize S D K G × Bool). t.0) tested ((v, b) ∷ []) ∙ ap (λ (us : List (Notarize S D K G)). us ++ v ∷ []) are
+  votes_are-push : (votes : List (Notarize S D P G C)) (v : Notarize S D P G C) (tested : List (Notarize S D P G C × Bool)) (b : Bool) → map (λ t. t.0) tested ≡ votes → map (λ t. t.0) (tested ++ (v, b) ∷ []) ≡ votes ++ v ∷ []
+  votes_are-push votes v tested b are = map-append (λ (t : Notarize S D P G C × Bool). t.0) tested ((v, b) ∷ []) ∙ ap (λ (us : List (Notarize S D P G C)). us ++ v ∷ []) are
 
-  module _ {attests : ℕ → Statement D → G → Type 0} {cmp : D → D → Ordering} (votes : List (Notarize S D K G)) (v : Notarize S D K G) where
+  module _ {attests : ℕ → Statement D → G → Type 0} {cmp : D → D → Ordering} (votes : List (Notarize S D P G C)) (v : Notarize S D P G C) where
     -- a vote that does not verify changes nothing
     pub Holds-passed_over : (kept : BTreeMap Suspect (Kept D G)) → (Verifies attests v → ⊥) → Holds attests cmp votes kept → Holds attests cmp (votes ++ v ∷ []) kept
     Holds-passed_over kept fails h = record {

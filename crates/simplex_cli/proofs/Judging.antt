@@ -23,7 +23,7 @@ use Rattle.std.proofs.lemmas.Option.{slice_get-get_or, slice_get_cases, get_or_f
 use Rattle.simplex_types.specs.declared.position.Round.{Round}
 use Rattle.simplex_types.specs.declared.proposal.Proposal.{Proposal}
 use Rattle.simplex_types.specs.Subject.{Statement}
-use Rattle.simplex_messages.specs.declared.notarize.Notarize.{Notarize}
+use Rattle.simplex_messages.specs.ProposalVote.{Notarize}
 use Rattle.simplex_messages.specs.Activity.{conflicting_report}
 use Rattle.simplex_messages.specs.Guilt.{Verifies, IsCastBy, IsGuilty, IsFirstRead, IsLeastEvidence, StandsBefore}
 use Rattle.simplex_cli.specs.declared.cast.Choice.{Choice}
@@ -99,21 +99,21 @@ suspect_from r i = record { round = r; signer = i }
 
 -- ---- a suspect's votes
 
-module _ {S D K G : Type 0} where
-  own_there : (q : Suspect) (tested : List (Notarize S D K G × Bool)) (t : Notarize S D K G × Bool) → Contains tested t → t.1 ≡ true → suspect_of t.0 ≡ q → Contains (casts_of q (counted_of tested)) (cast_of t.0)
+module _ {S D P G C : Type 0} where
+  own_there : (q : Suspect) (tested : List (Notarize S D P G C × Bool)) (t : Notarize S D P G C × Bool) → Contains tested t → t.1 ≡ true → suspect_of t.0 ≡ q → Contains (casts_of q (counted_of tested)) (cast_of t.0)
   own_there q [] t there passed is = absurd (no_element t there)
   own_there q ((v, false) ∷ tested) t there passed is = elim (element_cases (v, false) t tested there) [
-    | inl first ↦ absurd (let never : false ≡ true = ap (λ (u : Notarize S D K G × Bool). u.1) first ∙ passed in cc)
+    | inl first ↦ absurd (let never : false ≡ true = ap (λ (u : Notarize S D P G C × Bool). u.1) first ∙ passed in cc)
     | inr later ↦ own_there q tested t later passed is
   ]
   own_there q ((v, true) ∷ tested) t there passed is = elim (cases_Bool (is_eq (suspect_cmp (suspect_of v) q))) [
     | inl same ↦ rw same (elim (element_cases (v, true) t tested there) [
-      | inl first ↦ subst (λ (u : Notarize S D K G × Bool). Contains (cast_of v ∷ casts_of q (counted_of tested)) (cast_of u.0)) first (first_element (cast_of v) (casts_of q (counted_of tested)))
+      | inl first ↦ subst (λ (u : Notarize S D P G C × Bool). Contains (cast_of v ∷ casts_of q (counted_of tested)) (cast_of u.0)) first (first_element (cast_of v) (casts_of q (counted_of tested)))
       | inr later ↦ later_element (cast_of v) (cast_of t.0) (casts_of q (counted_of tested)) (own_there q tested t later passed is)
     ])
     | inr other ↦ rw other (elim (element_cases (v, true) t tested there) [
       | inl first ↦ absurd (
-          let is_q : suspect_of v ≡ q = ap (λ (u : Notarize S D K G × Bool). suspect_of u.0) first ∙ is in
+          let is_q : suspect_of v ≡ q = ap (λ (u : Notarize S D P G C × Bool). suspect_of u.0) first ∙ is in
           let tied : is_eq (suspect_cmp (suspect_of v) q) ≡ true = subst (λ (x : Suspect). is_eq (suspect_cmp (suspect_of v) x) ≡ true) is_q (ap is_eq (tied_itself suspects_total (suspect_of v))) in
           let never : false ≡ true = sym other ∙ tied in
           cc
@@ -122,36 +122,36 @@ module _ {S D K G : Type 0} where
     ])
   ]
 
-  record Split (q : Suspect) (tested : List (Notarize S D K G × Bool)) (before : List (Cast D G)) (a : Cast D G) : Type 0 where
-    pub front : List (Notarize S D K G × Bool)
-    pub back : List (Notarize S D K G × Bool)
-    pub vote : Notarize S D K G
+  record Split (q : Suspect) (tested : List (Notarize S D P G C × Bool)) (before : List (Cast D G)) (a : Cast D G) : Type 0 where
+    pub front : List (Notarize S D P G C × Bool)
+    pub back : List (Notarize S D P G C × Bool)
+    pub vote : Notarize S D P G C
     pub whole : tested ≡ front ++ (vote, true) ∷ back
     pub suspect_is : suspect_of vote ≡ q
     pub cast_is : cast_of vote ≡ a
     pub own_front : casts_of q (counted_of front) ≡ before
 
-  own_first : (q : Suspect) (v : Notarize S D K G) (tested : List (Notarize S D K G × Bool)) → is_eq (suspect_cmp (suspect_of v) q) ≡ true → casts_of q (counted_of ((v, true) ∷ tested)) ≡ cast_of v ∷ casts_of q (counted_of tested)
+  own_first : (q : Suspect) (v : Notarize S D P G C) (tested : List (Notarize S D P G C × Bool)) → is_eq (suspect_cmp (suspect_of v) q) ≡ true → casts_of q (counted_of ((v, true) ∷ tested)) ≡ cast_of v ∷ casts_of q (counted_of tested)
   own_first q v tested same = rw same refl
 
-  behind : (q : Suspect) (v : Notarize S D K G) (tested : List (Notarize S D K G × Bool)) (before : List (Cast D G)) (a : Cast D G) → is_eq (suspect_cmp (suspect_of v) q) ≡ false → Split q tested before a → Split q ((v, true) ∷ tested) before a
+  behind : (q : Suspect) (v : Notarize S D P G C) (tested : List (Notarize S D P G C × Bool)) (before : List (Cast D G)) (a : Cast D G) → is_eq (suspect_cmp (suspect_of v) q) ≡ false → Split q tested before a → Split q ((v, true) ∷ tested) before a
   behind q v tested before a other s = record {
     front = (v, true) ∷ s.front;
     back = s.back;
     vote = s.vote;
-    whole = ap (λ (ts : List (Notarize S D K G × Bool)). (v, true) ∷ ts) s.whole;
+    whole = ap (λ (ts : List (Notarize S D P G C × Bool)). (v, true) ∷ ts) s.whole;
     suspect_is = s.suspect_is;
     cast_is = s.cast_is;
     own_front = rw other s.own_front;
   }
 
   -- a place in a suspect's votes is a place in all votes
-  split : (q : Suspect) (tested : List (Notarize S D K G × Bool)) (before : List (Cast D G)) (a : Cast D G) (after : List (Cast D G)) → casts_of q (counted_of tested) ≡ before ++ a ∷ after → Split q tested before a
+  split : (q : Suspect) (tested : List (Notarize S D P G C × Bool)) (before : List (Cast D G)) (a : Cast D G) (after : List (Cast D G)) → casts_of q (counted_of tested) ≡ before ++ a ∷ after → Split q tested before a
   split q [] [] a after e = absurd cc
   split q [] (b ∷ before) a after e = absurd cc
   split q ((v, false) ∷ tested) before a after e =
       let s = split q tested before a after e in
-      record { front = (v, false) ∷ s.front; back = s.back; vote = s.vote; whole = ap (λ (ts : List (Notarize S D K G × Bool)). (v, false) ∷ ts) s.whole; suspect_is = s.suspect_is; cast_is = s.cast_is; own_front = s.own_front }
+      record { front = (v, false) ∷ s.front; back = s.back; vote = s.vote; whole = ap (λ (ts : List (Notarize S D P G C × Bool)). (v, false) ∷ ts) s.whole; suspect_is = s.suspect_is; cast_is = s.cast_is; own_front = s.own_front }
   split q ((v, true) ∷ tested) [] a after e = elim (cases_Bool (is_eq (suspect_cmp (suspect_of v) q))) [
     | inl same ↦
         let parts : cast_of v ∷ casts_of q (counted_of tested) ≡ a ∷ after = rw same at e in
@@ -168,7 +168,7 @@ module _ {S D K G : Type 0} where
           front = (v, true) ∷ s.front;
           back = s.back;
           vote = s.vote;
-          whole = ap (λ (ts : List (Notarize S D K G × Bool)). (v, true) ∷ ts) s.whole;
+          whole = ap (λ (ts : List (Notarize S D P G C × Bool)). (v, true) ∷ ts) s.whole;
           suspect_is = s.suspect_is;
           cast_is = s.cast_is;
           own_front = own_first q v s.front same ∙ ap (λ (c : Cast D G). c ∷ casts_of q (counted_of s.front)) first ∙ ap (λ (cs : List (Cast D G)). b ∷ cs) s.own_front;
@@ -177,11 +177,11 @@ module _ {S D K G : Type 0} where
   ]
 
   -- the vote of a suspect is made of the two
-  vote_of-parts : (q : Suspect) (a : Cast D G) (v : Notarize S D K G) → suspect_of v ≡ q → cast_of v ≡ a → v ≡ vote_of q a
-  vote_of-parts q a v suspect cast = ap (λ (x : Suspect). vote_of {S = S} {K = K} x (cast_of v)) suspect ∙ ap (λ (x : Cast D G). vote_of {S = S} {K = K} q x) cast
+  vote_of-parts : (q : Suspect) (a : Cast D G) (v : Notarize S D P G C) → suspect_of v ≡ q → cast_of v ≡ a → v ≡ vote_of q a
+  vote_of-parts q a v suspect cast = ap (λ (x : Suspect). vote_of {S = S} {P = P} {C = C} x (cast_of v)) suspect ∙ ap (λ (x : Cast D G). vote_of {S = S} {P = P} {C = C} q x) cast
 
   -- evidence stands in the order of suspects
-  pairs-sorted : (es : List (Suspect × Kept D G)) → IsStrictlySortedBy suspect_cmp (keys_of es) → AllPairs (λ p q. StandsBefore (culprit p) (culprit q)) (flat_map (pairs_in {S = S} {K = K}) es)
+  pairs-sorted : (es : List (Suspect × Kept D G)) → IsStrictlySortedBy suspect_cmp (keys_of es) → AllPairs (λ p q. StandsBefore (culprit p) (culprit q)) (flat_map (pairs_in {S = S} {P = P} {C = C}) es)
   pairs-sorted [] ordered = λ i j d lt small. absurd (omega arith)
   pairs-sorted ((q, One a) ∷ es) ordered = pairs-sorted es (sorted_tail suspect_cmp q (keys_of es) ordered)
   pairs-sorted ((q, Two a b) ∷ es) ordered =
@@ -189,42 +189,42 @@ module _ {S D K G : Type 0} where
       (λ k d small. before (get_or (flat_map pairs_in es) k d) (Contains-get_or (flat_map pairs_in es) k d small))
       (pairs-sorted es (sorted_tail suspect_cmp q (keys_of es) ordered))
     where
-      before : (p : Notarize S D K G × Notarize S D K G) → Contains (flat_map pairs_in es) p → StandsBefore (q.round, q.signer) (culprit p)
+      before : (p : Notarize S D P G C × Notarize S D P G C) → Contains (flat_map pairs_in es) p → StandsBefore (q.round, q.signer) (culprit p)
       before p there = let found = Contains-flat_map pairs_in es p there in from_entry found.0 found.1 found.2
         where
           from_entry : (e : Suspect × Kept D G) → Contains es e → Contains (pairs_in e) p → StandsBefore (q.round, q.signer) (culprit p)
           from_entry (r, One c) entry pair = absurd (no_element p pair)
           from_entry (r, Two c d) entry pair =
-              subst (λ (x : Notarize S D K G × Notarize S D K G). StandsBefore (q.round, q.signer) (culprit x)) (only_element (vote_of r c, vote_of r d) p pair)
+              subst (λ (x : Notarize S D P G C × Notarize S D P G C). StandsBefore (q.round, q.signer) (culprit x)) (only_element (vote_of r c, vote_of r d) p pair)
               (StandsBefore-from_less q r (each_key (λ x. suspect_cmp q x ≡ Less) es (r, Two c d) (sorted_head suspect_cmp q (keys_of es) ordered) entry))
 
-  module _ {attests : ℕ → Statement D → G → Type 0} {cmp : D → D → Ordering} (order : IsTotalOrder cmp) (votes : List (Notarize S D K G)) (kept : BTreeMap Suspect (Kept D G)) (h : Holds attests cmp votes kept) where
+  module _ {attests : ℕ → Statement D → G → Type 0} {cmp : D → D → Ordering} (order : IsTotalOrder cmp) (votes : List (Notarize S D P G C)) (kept : BTreeMap Suspect (Kept D G)) (h : Holds attests cmp votes kept) where
     -- a verifying vote is among those of its suspect
-    cast_there : (q : Suspect) (tested : List (Notarize S D K G × Bool)) → ((t : Notarize S D K G × Bool) → Contains tested t → Contains h.tested t)
-        → (v : Notarize S D K G) → Contains (map (λ t. t.0) tested) v → Verifies attests v → suspect_of v ≡ q → Contains (casts_of q (counted_of tested)) (cast_of v)
+    cast_there : (q : Suspect) (tested : List (Notarize S D P G C × Bool)) → ((t : Notarize S D P G C × Bool) → Contains tested t → Contains h.tested t)
+        → (v : Notarize S D P G C) → Contains (map (λ t. t.0) tested) v → Verifies attests v → suspect_of v ≡ q → Contains (casts_of q (counted_of tested)) (cast_of v)
     cast_there q tested within v there verifies is =
-        let found = Contains-map (λ (t : Notarize S D K G × Bool). t.0) tested v there in
-        let verifies_there : Verifies attests found.0.0 = subst (λ (u : Notarize S D K G). Verifies attests u) (sym found.2) verifies in
+        let found = Contains-map (λ (t : Notarize S D P G C × Bool). t.0) tested v there in
+        let verifies_there : Verifies attests found.0.0 = subst (λ (u : Notarize S D P G C). Verifies attests u) (sym found.2) verifies in
         let passed : found.0.1 ≡ true = (h.truly found.0 (within found.0 found.1)).1 verifies_there in
-        let is_q : suspect_of found.0.0 ≡ q = ap (λ (u : Notarize S D K G). suspect_of u) found.2 ∙ is in
-        subst (λ (u : Notarize S D K G). Contains (casts_of q (counted_of tested)) (cast_of u)) found.2 (own_there q tested found.0 found.1 passed is_q)
+        let is_q : suspect_of found.0.0 ≡ q = ap (λ (u : Notarize S D P G C). suspect_of u) found.2 ∙ is in
+        subst (λ (u : Notarize S D P G C). Contains (casts_of q (counted_of tested)) (cast_of u)) found.2 (own_there q tested found.0 found.1 passed is_q)
 
     IsFirstRead-from_first : (q : Suspect) (a : Cast D G) → IsFirst (casts_of q (counted_of h.tested)) a → IsFirstRead attests votes (vote_of q a)
     IsFirstRead-from_first q a f =
         let s = split q h.tested f.before a f.after f.whole in
         let same : s.vote ≡ vote_of q a = vote_of-parts q a s.vote s.suspect_is s.cast_is in
-        let front = map (λ (t : Notarize S D K G × Bool). t.0) s.front in
-        let back = map (λ (t : Notarize S D K G × Bool). t.0) s.back in
-        let tested_is : votes ≡ front ++ s.vote ∷ back = sym h.votes_are ∙ ap (λ (ts : List (Notarize S D K G × Bool)). map (λ t. t.0) ts) s.whole ∙ map-append (λ (t : Notarize S D K G × Bool). t.0) s.front ((s.vote, true) ∷ s.back) in
-        let there : Contains h.tested (s.vote, true) = subst (λ (ts : List (Notarize S D K G × Bool)). Contains ts (s.vote, true)) (sym s.whole) (Contains-append_right s.front ((s.vote, true) ∷ s.back) (s.vote, true) (first_element (s.vote, true) s.back)) in
+        let front = map (λ (t : Notarize S D P G C × Bool). t.0) s.front in
+        let back = map (λ (t : Notarize S D P G C × Bool). t.0) s.back in
+        let tested_is : votes ≡ front ++ s.vote ∷ back = sym h.votes_are ∙ ap (λ (ts : List (Notarize S D P G C × Bool)). map (λ t. t.0) ts) s.whole ∙ map-append (λ (t : Notarize S D P G C × Bool). t.0) s.front ((s.vote, true) ∷ s.back) in
+        let there : Contains h.tested (s.vote, true) = subst (λ (ts : List (Notarize S D P G C × Bool)). Contains ts (s.vote, true)) (sym s.whole) (Contains-append_right s.front ((s.vote, true) ∷ s.back) (s.vote, true) (first_element (s.vote, true) s.back)) in
         record {
           before = front;
           after = back;
-          whole = tested_is ∙ ap (λ (v : Notarize S D K G). front ++ v ∷ back) same;
-          verifies = subst (λ (v : Notarize S D K G). Verifies attests v) same ((h.truly (s.vote, true) there).0 refl);
+          whole = tested_is ∙ ap (λ (v : Notarize S D P G C). front ++ v ∷ back) same;
+          verifies = subst (λ (v : Notarize S D P G C). Verifies attests v) same ((h.truly (s.vote, true) there).0 refl);
           first = λ u before verifies signer proposal.
               let is_q : suspect_of u ≡ q = ap (λ (p : Proposal D). suspect_from p.round u.attestation.signer) proposal ∙ ap (λ (i : ℕ). suspect_from q.round i) signer in
-              let within : (t : Notarize S D K G × Bool) → Contains s.front t → Contains h.tested t = λ t inside. subst (λ (ts : List (Notarize S D K G × Bool)). Contains ts t) (sym s.whole) (Contains-append_left s.front ((s.vote, true) ∷ s.back) t inside) in
+              let within : (t : Notarize S D P G C × Bool) → Contains s.front t → Contains h.tested t = λ t inside. subst (λ (ts : List (Notarize S D P G C × Bool)). Contains ts t) (sym s.whole) (Contains-append_left s.front ((s.vote, true) ∷ s.back) t inside) in
               let cast : Contains f.before (cast_of u) = subst (λ (cs : List (Cast D G)). Contains cs (cast_of u)) s.own_front (cast_there q s.front within u before verifies is_q) in
               let choice : choice_of u.proposal ≡ a.choice = ap (λ (p : Proposal D). choice_of p) proposal in
               f.first (cast_of u) cast choice;
@@ -239,7 +239,7 @@ module _ {S D K G : Type 0} where
       below = s.2;
       least = λ v there verifies theirs.
           let is_q : suspect_of v ≡ q = ap (λ (r : Round). suspect_from r v.attestation.signer) theirs.round_is ∙ ap (λ (i : ℕ). suspect_from q.round i) theirs.signer_is in
-          let all_there : Contains (map (λ (t : Notarize S D K G × Bool). t.0) h.tested) v = subst (λ (vs : List (Notarize S D K G)). Contains vs v) (sym h.votes_are) there in
+          let all_there : Contains (map (λ (t : Notarize S D P G C × Bool). t.0) h.tested) v = subst (λ (vs : List (Notarize S D P G C)). Contains vs v) (sym h.votes_are) there in
           let cast : Contains (casts_of q (counted_of h.tested)) (cast_of v) = cast_there q h.tested (λ t inside. inside) v all_there verifies is_q in
           let of_round : v.proposal ≡ proposal_of q.round (choice_of v.proposal) = ap (λ (r : Round). proposal_of r (choice_of v.proposal)) theirs.round_is in
           elim (s.3 (cast_of v) cast) [
@@ -256,7 +256,7 @@ module _ {S D K G : Type 0} where
     kept_at q k found = rw found at (h.tallies q)
 
     -- the evidence against the guilty is kept
-    complete : (round : Round) (signer : ℕ) → IsGuilty attests votes round signer → (p : Notarize S D K G × Notarize S D K G) × Contains (flat_map pairs_in kept.entries) p × IsCastBy round signer p.0
+    complete : (round : Round) (signer : ℕ) → IsGuilty attests votes round signer → (p : Notarize S D P G C × Notarize S D P G C) × Contains (flat_map pairs_in kept.entries) p × IsCastBy round signer p.0
     complete round signer guilty = among (get suspect_cmp kept (suspect_from round signer)) refl
       where
         first_suspect : suspect_of guilty.first ≡ suspect_from round signer
@@ -265,8 +265,8 @@ module _ {S D K G : Type 0} where
         second_suspect : suspect_of guilty.second ≡ suspect_from round signer
         second_suspect = ap (λ (r : Round). suspect_from r guilty.second.attestation.signer) (sym guilty.contradict.one_round) ∙ ap (λ (i : ℕ). suspect_from guilty.first.proposal.round i) (sym guilty.contradict.one_signer) ∙ first_suspect
 
-        cast : (v : Notarize S D K G) → Contains votes v → Verifies attests v → suspect_of v ≡ suspect_from round signer → Contains (casts_of (suspect_from round signer) (counted_of h.tested)) (cast_of v)
-        cast v there verifies theirs = cast_there (suspect_from round signer) h.tested (λ t inside. inside) v (subst (λ (vs : List (Notarize S D K G)). Contains vs v) (sym h.votes_are) there) verifies theirs
+        cast : (v : Notarize S D P G C) → Contains votes v → Verifies attests v → suspect_of v ≡ suspect_from round signer → Contains (casts_of (suspect_from round signer) (counted_of h.tested)) (cast_of v)
+        cast v there verifies theirs = cast_there (suspect_from round signer) h.tested (λ t inside. inside) v (subst (λ (vs : List (Notarize S D P G C)). Contains vs v) (sym h.votes_are) there) verifies theirs
 
         first_cast : Contains (casts_of (suspect_from round signer) (counted_of h.tested)) (cast_of guilty.first)
         first_cast = cast guilty.first guilty.first_is_there guilty.first_verifies first_suspect
@@ -274,7 +274,7 @@ module _ {S D K G : Type 0} where
         second_cast : Contains (casts_of (suspect_from round signer) (counted_of h.tested)) (cast_of guilty.second)
         second_cast = cast guilty.second guilty.second_is_there guilty.second_verifies second_suspect
 
-        among : (k : Option (Kept D G)) → get suspect_cmp kept (suspect_from round signer) ≡ k → (p : Notarize S D K G × Notarize S D K G) × Contains (flat_map pairs_in kept.entries) p × IsCastBy round signer p.0
+        among : (k : Option (Kept D G)) → get suspect_cmp kept (suspect_from round signer) ≡ k → (p : Notarize S D P G C × Notarize S D P G C) × Contains (flat_map pairs_in kept.entries) p × IsCastBy round signer p.0
         among None found =
             let none : casts_of (suspect_from round signer) (counted_of h.tested) ≡ [] = rw found at (h.tallies (suspect_from round signer)) in
             absurd (no_element (cast_of guilty.first) (subst (λ (cs : List (Cast D G)). Contains cs (cast_of guilty.first)) none first_cast))
@@ -298,13 +298,13 @@ module _ {S D K G : Type 0} where
           lookup_from_place (eq_by_cmp_equiv suspects_total) kept.entries i e.0 e.1 (IsDistinct-from_sorted suspect_cmp (keys_of kept.entries) ordered)
           (slice_get-get_or kept.entries i e small ∙ ap (λ (x : Suspect × Kept D G). Some x) is)
 
-      sound : (p : Notarize S D K G × Notarize S D K G) → Contains (flat_map pairs_in kept.entries) p → IsLeastEvidence attests cmp votes p.0 p.1
+      sound : (p : Notarize S D P G C × Notarize S D P G C) → Contains (flat_map pairs_in kept.entries) p → IsLeastEvidence attests cmp votes p.0 p.1
       sound p there = let found = Contains-flat_map pairs_in kept.entries p there in from_entry found.0 found.1 found.2
         where
           from_entry : (e : Suspect × Kept D G) → Contains kept.entries e → Contains (pairs_in e) p → IsLeastEvidence attests cmp votes p.0 p.1
           from_entry (q, One a) entry pair = absurd (no_element p pair)
           from_entry (q, Two a b) entry pair =
-              subst (λ (r : Notarize S D K G × Notarize S D K G). IsLeastEvidence attests cmp votes r.0 r.1) (only_element (vote_of q a, vote_of q b) p pair)
+              subst (λ (r : Notarize S D P G C × Notarize S D P G C). IsLeastEvidence attests cmp votes r.0 r.1) (only_element (vote_of q a, vote_of q b) p pair)
               (IsLeastEvidence-from_two q a b (kept_at q (Two a b) (entry_found (q, Two a b) entry)))
 
       -- the evidence that is kept is the verdict
@@ -316,11 +316,11 @@ module _ {S D K G : Type 0} where
       kept_apart q a b found = IsLower-differs order a.choice b.choice (kept_at q (Two a b) found).2
 
 -- one more entry gone over
-pub reports_push : {S D K G : Type 0} (xs : List (Bor Suspect × Bor (Kept D G))) (x : Bor Suspect × Bor (Kept D G))
-    → map conflicting_report (flat_map (pairs_in {S = S} {K = K}) (map deref_pair (xs ++ x ∷ []))) ≡ map conflicting_report (flat_map (pairs_in {S = S} {K = K}) (map deref_pair xs)) ++ map conflicting_report (pairs_in {S = S} {K = K} (deref_pair x))
-reports_push {S} {D} {K} {G} xs x =
+pub reports_push : {S D P G C : Type 0} (xs : List (Bor Suspect × Bor (Kept D G))) (x : Bor Suspect × Bor (Kept D G))
+    → map conflicting_report (flat_map (pairs_in {S = S} {P = P} {C = C}) (map deref_pair (xs ++ x ∷ []))) ≡ map conflicting_report (flat_map (pairs_in {S = S} {P = P} {C = C}) (map deref_pair xs)) ++ map conflicting_report (pairs_in {S = S} {P = P} {C = C} (deref_pair x))
+reports_push {S} {D} {P} {G} {C} xs x =
     let entries : map deref_pair (xs ++ x ∷ []) ≡ map deref_pair xs ++ deref_pair x ∷ [] = map-append deref_pair xs (x ∷ []) in
-    let pairs : flat_map (pairs_in {S = S} {K = K}) (map deref_pair xs ++ deref_pair x ∷ []) ≡ flat_map pairs_in (map deref_pair xs) ++ pairs_in (deref_pair x) =
-    flat_map-append pairs_in (map deref_pair xs) (deref_pair x ∷ []) ∙ ap (λ (ps : List (Notarize S D K G × Notarize S D K G)). flat_map pairs_in (map deref_pair xs) ++ ps) (append-nil (pairs_in (deref_pair x))) in
-    ap (λ (es : List (Suspect × Kept D G)). map conflicting_report (flat_map (pairs_in {S = S} {K = K}) es)) entries ∙ ap (λ (ps : List (Notarize S D K G × Notarize S D K G)). map conflicting_report ps) pairs
+    let pairs : flat_map (pairs_in {S = S} {P = P} {C = C}) (map deref_pair xs ++ deref_pair x ∷ []) ≡ flat_map pairs_in (map deref_pair xs) ++ pairs_in (deref_pair x) =
+    flat_map-append pairs_in (map deref_pair xs) (deref_pair x ∷ []) ∙ ap (λ (ps : List (Notarize S D P G C × Notarize S D P G C)). flat_map pairs_in (map deref_pair xs) ++ ps) (append-nil (pairs_in (deref_pair x))) in
+    ap (λ (es : List (Suspect × Kept D G)). map conflicting_report (flat_map (pairs_in {S = S} {P = P} {C = C}) es)) entries ∙ ap (λ (ps : List (Notarize S D P G C × Notarize S D P G C)). map conflicting_report ps) pairs
     ∙ map-append conflicting_report (flat_map pairs_in (map deref_pair xs)) (pairs_in (deref_pair x))

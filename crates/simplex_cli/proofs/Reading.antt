@@ -10,7 +10,7 @@ use Rattle.std.proofs.lemmas.List.Elements.{All-nil, All-cons, All-append}
 use Rattle.simplex_types.specs.declared.codec.CodecError.{CodecError}
 use Rattle.simplex_types.specs.Codec.{IsCodec, Gives}
 use Rattle.simplex_types.specs.Subject.{Statement}
-use Rattle.simplex_messages.specs.declared.notarize.Notarize.{Notarize}
+use Rattle.simplex_messages.specs.ProposalVote.{Notarize}
 use Rattle.simplex_messages.specs.declared.activity.Activity.{Activity}
 use Rattle.simplex_messages.specs.Activity.{activity_spelling}
 use Rattle.simplex_messages.specs.Guilt.{votes_in, votes_of}
@@ -24,25 +24,25 @@ pub IfOk-fits : {A : Type 0} {Fits : A → Type 0} {spelling : A → List ℕ} {
 IfOk-fits codec old new (Ok x) gives = (codec.takes old x new gives).1
 IfOk-fits codec old new (Err e) gives = tt
 
-module _ {S D K G : Type 0} {attests : ℕ → Statement D → G → Type 0} {cmp : D → D → Ordering} {Fits : Activity S D K G → Type 0} (spelling : Activity S D K G → List ℕ) where
-  pub counts_none : (bytes : List ℕ) (kept : BTreeMap Suspect (Kept D G)) → Holds {S = S} {K = K} attests cmp [] kept → CountsSoFar attests cmp Fits spelling bytes bytes kept
+module _ {S D P G C : Type 0} {attests : ℕ → Statement D → G → Type 0} {cmp : D → D → Ordering} {Fits : Activity S D P G C → Type 0} (spelling : Activity S D P G C → List ℕ) where
+  pub counts_none : (bytes : List ℕ) (kept : BTreeMap Suspect (Kept D G)) → Holds {S = S} {P = P} {C = C} attests cmp [] kept → CountsSoFar attests cmp Fits spelling bytes bytes kept
   counts_none bytes kept h = record { reports = []; fitting = All-nil Fits; whole = refl; holds = h }
 
-  pub counts_more : (bytes rest after : List ℕ) (old new : BTreeMap Suspect (Kept D G)) (report : Activity S D K G) → CountsSoFar attests cmp Fits spelling bytes rest old → Fits report → rest ≡ spelling report ++ after
-      → ((votes : List (Notarize S D K G)) → Holds attests cmp votes old → Holds attests cmp (votes ++ votes_in report) new) → CountsSoFar attests cmp Fits spelling bytes after new
+  pub counts_more : (bytes rest after : List ℕ) (old new : BTreeMap Suspect (Kept D G)) (report : Activity S D P G C) → CountsSoFar attests cmp Fits spelling bytes rest old → Fits report → rest ≡ spelling report ++ after
+      → ((votes : List (Notarize S D P G C)) → Holds attests cmp votes old → Holds attests cmp (votes ++ votes_in report) new) → CountsSoFar attests cmp Fits spelling bytes after new
   counts_more bytes rest after old new report s fits spelled counted =
       let one : flat_map spelling (report ∷ []) ≡ spelling report = append-nil (spelling report) in
-      let votes : votes_of (s.reports ++ report ∷ []) ≡ votes_of s.reports ++ votes_in report = flat_map-append votes_in s.reports (report ∷ []) ∙ ap (λ (vs : List (Notarize S D K G)). votes_of s.reports ++ vs) (append-nil (votes_in report)) in
+      let votes : votes_of (s.reports ++ report ∷ []) ≡ votes_of s.reports ++ votes_in report = flat_map-append votes_in s.reports (report ∷ []) ∙ ap (λ (vs : List (Notarize S D P G C)). votes_of s.reports ++ vs) (append-nil (votes_in report)) in
       let spellings : flat_map spelling (s.reports ++ report ∷ []) ≡ flat_map spelling s.reports ++ spelling report = flat_map-append spelling s.reports (report ∷ []) ∙ ap (λ (bs : List ℕ). flat_map spelling s.reports ++ bs) one in
       record {
         reports = s.reports ++ report ∷ [];
         fitting = All-append Fits s.reports (report ∷ []) s.fitting (All-cons Fits report [] fits (All-nil Fits));
         whole = s.whole ∙ ap (λ (bs : List ℕ). flat_map spelling s.reports ++ bs) spelled ∙ sym (append_assoc (flat_map spelling s.reports) (spelling report) after) ∙ ap (λ (bs : List ℕ). bs ++ after) (sym spellings);
-        holds = subst (λ (vs : List (Notarize S D K G)). Holds attests cmp vs new) (sym votes) (counted (votes_of s.reports) s.holds);
+        holds = subst (λ (vs : List (Notarize S D P G C)). Holds attests cmp vs new) (sym votes) (counted (votes_of s.reports) s.holds);
       }
 
-module _ {S D K G : Type 0} where
+module _ {S D P G C : Type 0} where
   -- a report takes a byte at least
-  pub shorter : (p : D → List ℕ) (f : G → List ℕ) (report : Activity S D K G) (rest after : List ℕ) → rest ≡ activity_spelling p f report ++ after → length after < length rest
+  pub shorter : (p : D → List ℕ) (f : G → List ℕ) (report : Activity S D P G C) (rest after : List ℕ) → rest ≡ activity_spelling p f report ++ after → length after < length rest
   unfolding activity_spelling
   shorter p f report rest after spelled = omega (arith, ap length spelled, length-append (activity_spelling p f report) after)

@@ -5,7 +5,7 @@ use Rattle.std.specs.declared.cmp.Ordering.{Ordering}
 use Rattle.simplex_types.specs.declared.codec.CodecError.{CodecError}
 use Rattle.simplex_types.specs.declared.position.Round.{Round}
 use Rattle.simplex_types.specs.Subject.{Statement}
-use Rattle.simplex_messages.specs.declared.notarize.Notarize.{Notarize}
+use Rattle.simplex_messages.specs.ProposalVote.{Notarize}
 use Rattle.simplex_messages.specs.declared.activity.Activity.{Activity}
 use Rattle.simplex_messages.specs.Activity.{conflicting_report}
 use Rattle.simplex_messages.specs.Guilt.{votes_of, IsCastBy, IsGuilty, IsLeastEvidence, StandsBefore}
@@ -18,20 +18,20 @@ pub record IsRead {A : Type 0} (Fits : A → Type 0) (spelling : A → List ℕ)
   pub ends : MatchOption fault (rest ≡ []) (λ place. (place + length rest ≡ length bytes) × (rest ≢ []) × IsErr (reading rest))
 
 -- the round and the signer that a piece of evidence is against
-abbrev pub culprit : {S D K G : Type 0} → Notarize S D K G × Notarize S D K G → Round × ℕ
+abbrev pub culprit : {S D P G C : Type 0} → Notarize S D P G C × Notarize S D P G C → Round × ℕ
 culprit p = (p.0.proposal.round, p.0.attestation.signer)
 
-module _ {S D K G : Type 0} (attests : ℕ → Statement D → G → Type 0) (cmp : D → D → Ordering) where
+module _ {S D P G C : Type 0} (attests : ℕ → Statement D → G → Type 0) (cmp : D → D → Ordering) where
   -- evidence for exactly the guilty among these votes, once each, sorted by epoch, view and signer
-  pub record IsVerdict (votes : List (Notarize S D K G)) (evidence : List (Activity S D K G)) : Type 0 where
-    pub pairs : List (Notarize S D K G × Notarize S D K G)
+  pub record IsVerdict (votes : List (Notarize S D P G C)) (evidence : List (Activity S D P G C)) : Type 0 where
+    pub pairs : List (Notarize S D P G C × Notarize S D P G C)
     pub evidence_is : evidence ≡ map conflicting_report pairs
-    pub sound : (p : Notarize S D K G × Notarize S D K G) → Contains pairs p → IsLeastEvidence attests cmp votes p.0 p.1
-    pub complete : (round : Round) (signer : ℕ) → IsGuilty attests votes round signer → (p : Notarize S D K G × Notarize S D K G) × Contains pairs p × IsCastBy round signer p.0
+    pub sound : (p : Notarize S D P G C × Notarize S D P G C) → Contains pairs p → IsLeastEvidence attests cmp votes p.0 p.1
+    pub complete : (round : Round) (signer : ℕ) → IsGuilty attests votes round signer → (p : Notarize S D P G C × Notarize S D P G C) × Contains pairs p × IsCastBy round signer p.0
     pub sorted : AllPairs (λ p q. StandsBefore (culprit p) (culprit q)) pairs
 
   -- the evidence against the guilty of the reports that the bytes hold, up to the first place where none stands
-  pub record IsAudit (Fits : Activity S D K G → Type 0) (spelling : Activity S D K G → List ℕ) (reading : List ℕ → Result (Activity S D K G × List ℕ) CodecError) (bytes : List ℕ) (evidence : List (Activity S D K G)) (fault : Option ℕ) : Type 0 where
-    pub reports : List (Activity S D K G)
+  pub record IsAudit (Fits : Activity S D P G C → Type 0) (spelling : Activity S D P G C → List ℕ) (reading : List ℕ → Result (Activity S D P G C × List ℕ) CodecError) (bytes : List ℕ) (evidence : List (Activity S D P G C)) (fault : Option ℕ) : Type 0 where
+    pub reports : List (Activity S D P G C)
     pub read : IsRead Fits spelling reading bytes reports fault
     pub verdict : IsVerdict (votes_of reports) evidence

@@ -12,16 +12,16 @@ use Rattle.simplex_cli.specs.declared.cast.Suspect.{Suspect}
 use Rattle.simplex_cli.specs.Tally.{Holds}
 use Rattle.simplex_cli.specs.Audit.{IsRead}
 
-module _ {S D K G : Type 0} (attests : ℕ → Statement D → G → Type 0) (cmp : D → D → Ordering) (Fits : Activity S D K G → Type 0) (spelling : Activity S D K G → List ℕ) where
+module _ {S D P G C : Type 0} (attests : ℕ → Statement D → G → Type 0) (cmp : D → D → Ordering) (Fits : Activity S D P G C → Type 0) (spelling : Activity S D P G C → List ℕ) where
   -- so far these reports were read, and their votes counted
   pub record CountsSoFar (bytes : List ℕ) (rest : List ℕ) (kept : BTreeMap Suspect (Kept D G)) : Type 0 where
-    pub reports : List (Activity S D K G)
+    pub reports : List (Activity S D P G C)
     pub fitting : All Fits reports
     pub whole : bytes ≡ flat_map spelling reports ++ rest
     pub holds : Holds attests cmp (votes_of reports) kept
 
   -- the reports of the bytes up to the fault were read, and their votes counted
-  pub record Counts (reading : List ℕ → Result (Activity S D K G × List ℕ) CodecError) (bytes : List ℕ) (fault : Option ℕ) (kept : BTreeMap Suspect (Kept D G)) : Type 0 where
-    pub reports : List (Activity S D K G)
+  pub record Counts (reading : List ℕ → Result (Activity S D P G C × List ℕ) CodecError) (bytes : List ℕ) (fault : Option ℕ) (kept : BTreeMap Suspect (Kept D G)) : Type 0 where
+    pub reports : List (Activity S D P G C)
     pub read : IsRead Fits spelling reading bytes reports fault
     pub holds : Holds attests cmp (votes_of reports) kept

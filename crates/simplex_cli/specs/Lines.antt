@@ -5,7 +5,7 @@ use Rattle.std.specs.List.{concat, flat_map}
 use Rattle.std.specs.Fmt.{decimal}
 use Rattle.hex.specs.Hex.{encode_lower}
 use Rattle.simplex_types.specs.declared.proposal.Proposal.{Proposal}
-use Rattle.simplex_messages.specs.declared.notarize.Notarize.{Notarize}
+use Rattle.simplex_messages.specs.ProposalVote.{Notarize}
 use Rattle.simplex_messages.specs.declared.activity.Activity.{Activity}
 use Rattle.simplex_messages.specs.declared.activity.Activity.TheVariants as activity
 use Rattle.simplex_cli.specs.declared.trouble.Trouble.{Trouble}
@@ -19,9 +19,9 @@ newline = 10 ∷ []
 unfoldable pub proposal_words : Proposal (List ℕ) → List ℕ
 proposal_words p = codes " parent " ++ (decimal p.parent ++ (codes " payload " ++ encode_lower p.payload))
 
-module _ {S K G : Type 0} where
+module _ {S P G C : Type 0} where
   -- the line for two votes of one signer for different proposals of one round
-  unfoldable pub conflicting_notarize_line : Notarize S (List ℕ) K G → Notarize S (List ℕ) K G → List ℕ
+  unfoldable pub conflicting_notarize_line : Notarize S (List ℕ) P G C → Notarize S (List ℕ) P G C → List ℕ
   conflicting_notarize_line first second = concat (
       codes "conflicting-notarize epoch " ∷ decimal first.proposal.round.epoch ∷
       codes " view " ∷ decimal first.proposal.round.view ∷
@@ -31,7 +31,7 @@ module _ {S K G : Type 0} where
       newline ∷ [])
 
   -- the line for a piece of evidence; a vote is none and has no line
-  abbrev pub evidence_line : Activity S (List ℕ) K G → List ℕ
+  abbrev pub evidence_line : Activity S (List ℕ) P G C → List ℕ
   evidence_line (activity.Notarize v) = []
   evidence_line (activity.ConflictingNotarize c) = conflicting_notarize_line c.0 c.1
 
@@ -40,7 +40,7 @@ unfoldable pub fault_line : ℕ → List ℕ
 fault_line place = concat (codes "fault at byte " ∷ decimal place ∷ newline ∷ [])
 
 -- the lines of an audit: one for each piece of evidence, and the fault's, if there is one
-abbrev pub lines_of : {S K G : Type 0} → List (Activity S (List ℕ) K G) → Option ℕ → List ℕ
+abbrev pub lines_of : {S P G C : Type 0} → List (Activity S (List ℕ) P G C) → Option ℕ → List ℕ
 lines_of evidence fault = flat_map evidence_line evidence ++ option_map_or fault_line fault []
 
 -- the line on standard error for what kept an audit from its answer

@@ -1,10 +1,11 @@
 -- What the program writes for what it reads.
-use Rattle.std.specs.Prelude.{◌≡◌, ◌<◌, ℕ, List, ◌++◌, length, codes, Option}
+use Rattle.std.specs.Prelude.{◌≡◌, ◌<◌, ℕ, List, ◌++◌, length, codes, Option, ⊤}
 use Rattle.std.specs.Ordering.{nat_cmp}
 use Rattle.std.specs.Cmp.Lexicographic.{slice_cmp, pointwise}
 use Rattle.std.specs.Prelude.{◌==◌}
 use Rattle.std.specs.Io.KnownBytes.{Appends}
-use Rattle.simplex_types.specs.Codec.{bytes_at}
+use Rattle.simplex_types.specs.declared.attestation.Attestation.{Attestation}
+use Rattle.simplex_types.specs.Codec.{Readable, bytes_at}
 use Rattle.simplex_types.specs.Plain.{Committee, signature}
 use Rattle.simplex_types.specs.Subject.{Statement}
 use Rattle.simplex_messages.specs.declared.activity.Activity.{Activity}
@@ -18,12 +19,12 @@ plain_attests count i statement a = (i < count) × (a ≡ signature (λ d. d) (c
 
 -- reports of the plain scheme over SHA-256 digests
 abbrev pub Report : Type 0
-Report = Activity Committee (List ℕ) ℕ (List ℕ)
+Report = Activity Committee (List ℕ) ℕ (List ℕ) (List (Attestation (List ℕ)))
 
 -- the text is the lines of the audit of these bytes, which named this place
 pub record IsAnswer (count : ℕ) (bytes : List ℕ) (fault : Option ℕ) (text : List ℕ) : Type 0 where
   pub evidence : List Report
-  pub audit : IsAudit (plain_attests count) (slice_cmp nat_cmp) (activity_fits (pointwise ◌==◌) (λ d. length d ≡ 32) (λ s. length s ≡ 32)) (activity_spelling (λ d. d) (λ s. s)) (activity_at (pointwise ◌==◌) (bytes_at 32) (bytes_at 32)) bytes evidence fault
+  pub audit : IsAudit (plain_attests count) (slice_cmp nat_cmp) (Readable (activity_fits (pointwise ◌==◌) (λ d. length d ≡ 32) (λ s. length s ≡ 32)) (λ _. ⊤)) (activity_spelling (λ d. d) (λ s. s)) (activity_at (pointwise ◌==◌) (bytes_at 32) (bytes_at 32)) bytes evidence fault
   pub text_is : text ≡ lines_of evidence fault
 
 -- the lines of the audit of these bytes, which named this place, were written

@@ -4,7 +4,7 @@ use Rattle.std.specs.Ordering.{is_eq, ordering_then, nat_cmp}
 use Rattle.std.specs.BTreeMap.{BTreeMap, get}
 use Rattle.std.specs.declared.cmp.Ordering.{Ordering}
 use Rattle.simplex_types.specs.Subject.{Statement}
-use Rattle.simplex_messages.specs.declared.notarize.Notarize.{Notarize}
+use Rattle.simplex_messages.specs.ProposalVote.{Notarize}
 use Rattle.simplex_messages.specs.Guilt.{Verifies}
 use Rattle.simplex_cli.specs.declared.cast.Cast.{Cast}
 use Rattle.simplex_cli.specs.declared.cast.Kept.{Kept}
@@ -26,32 +26,32 @@ module _ {D G : Type 0} where
   abbrev pub Tallies : (D → D → Ordering) → List (Suspect × Cast D G) → BTreeMap Suspect (Kept D G) → Type 0
   Tallies cmp counted kept = (q : Suspect) → MatchOption (get suspect_cmp kept q) (casts_of q counted ≡ []) (Summarizes cmp (casts_of q counted))
 
-module _ {S D K G : Type 0} where
+module _ {S D P G C : Type 0} where
   -- in whose name a vote is
-  abbrev pub suspect_of : Notarize S D K G → Suspect
+  abbrev pub suspect_of : Notarize S D P G C → Suspect
   suspect_of v = record { round = v.proposal.round; signer = v.attestation.signer }
 
   -- what it is for, and its signature
-  abbrev pub cast_of : Notarize S D K G → Cast D G
+  abbrev pub cast_of : Notarize S D P G C → Cast D G
   cast_of v = record { choice = record { parent = v.proposal.parent; payload = v.proposal.payload }; signature = v.attestation.signature }
 
   -- the vote of a suspect that was cast so
-  abbrev pub vote_of : Suspect → Cast D G → Notarize S D K G
-  vote_of q c = record { proposal = record { round = q.round; parent = c.choice.parent; payload = c.choice.payload }; attestation = record { signer = q.signer; signature = c.signature } }
+  abbrev pub vote_of : Suspect → Cast D G → Notarize S D P G C
+  vote_of q c = record { proposal = record { round = q.round; parent = c.choice.parent; payload = c.choice.payload }; attestation = record { signer = q.signer; signature = c.signature }; kind = record {} }
 
   -- of votes and whether each verifies, those that do
-  abbrev pub counted_of : List (Notarize S D K G × Bool) → List (Suspect × Cast D G)
+  abbrev pub counted_of : List (Notarize S D P G C × Bool) → List (Suspect × Cast D G)
   counted_of [] = []
   counted_of (v ∷ vs) = if v.1 then (suspect_of v.0, cast_of v.0) ∷ counted_of vs else counted_of vs
 
   -- the map keeps what there is to keep of the verifying votes among these
-  pub record Holds (attests : ℕ → Statement D → G → Type 0) (cmp : D → D → Ordering) (votes : List (Notarize S D K G)) (kept : BTreeMap Suspect (Kept D G)) : Type 0 where
-    pub tested : List (Notarize S D K G × Bool)
+  pub record Holds (attests : ℕ → Statement D → G → Type 0) (cmp : D → D → Ordering) (votes : List (Notarize S D P G C)) (kept : BTreeMap Suspect (Kept D G)) : Type 0 where
+    pub tested : List (Notarize S D P G C × Bool)
     pub votes_are : map (λ t. t.0) tested ≡ votes
-    pub truly : (t : Notarize S D K G × Bool) → Contains tested t → IsTrue t.1 ↔ Verifies attests t.0
+    pub truly : (t : Notarize S D P G C × Bool) → Contains tested t → IsTrue t.1 ↔ Verifies attests t.0
     pub tallies : Tallies cmp (counted_of tested) kept
 
   -- the evidence that is kept against a suspect
-  abbrev pub pairs_in : Suspect × Kept D G → List (Notarize S D K G × Notarize S D K G)
+  abbrev pub pairs_in : Suspect × Kept D G → List (Notarize S D P G C × Notarize S D P G C)
   pairs_in (q, One a) = []
   pairs_in (q, Two a b) = (vote_of q a, vote_of q b) ∷ []

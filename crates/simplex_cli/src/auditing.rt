@@ -1,7 +1,7 @@
 //! The audit of reports: who signed two proposals of one round.
 
 ghost use Rattle.std.specs.Prelude.{◌≡◌, ◌++◌, [], IfOk};
-ghost use Rattle.simplex_types.specs.Codec.{Gives};
+ghost use Rattle.simplex_types.specs.Codec.{Gives, Readable};
 ghost use Rattle.simplex_cli.specs.Audit.{IsAudit};
 ghost use Rattle.simplex_cli.specs.Counted.{Counts};
 ghost use Rattle.simplex_cli.specs.Tally.{Holds};
@@ -25,7 +25,7 @@ pub fn audit<S: Scheme<D>, D: Digest>(
     scheme: &S,
     bytes: &[u8],
 ) -> Result<Audit<S, D>, AllocError>
-    ensures { IfOk result (λ a. IsAudit (S.attests scheme.now) D.cmp ⟦<Activity<S, D> as Write>⟧.fits ⟦<Activity<S, D> as Write>⟧.spelling (⟦<Activity<S, D> as Read>⟧.reading (S.size scheme.now)) bytes.now a.evidence.items a.fault) }
+    ensures { IfOk result (λ a. IsAudit (S.attests scheme.now) D.cmp (Readable ⟦<Activity<S, D> as Write>⟧.fits (⟦<Activity<S, D> as Read>⟧.within (S.size scheme.now))) ⟦<Activity<S, D> as Write>⟧.spelling (⟦<Activity<S, D> as Read>⟧.reading (S.size scheme.now)) bytes.now a.evidence.items a.fault) }
 {
     let mut tally = Tally::new(alloc);
     let fault = count_reports(alloc, scheme, bytes, &mut tally)?;
@@ -40,8 +40,8 @@ fn count_reports<S: Scheme<D>, D: Digest>(
     bytes: &[u8],
     tally: &mut Tally<S, D>,
 ) -> Result<Option<usize>, AllocError>
-    requires { Holds {S = S} {K = S.PublicKey} (S.attests scheme.now) D.cmp [] tally.old.kept }
-    ensures { IfOk result (λ fault. Counts (S.attests scheme.now) D.cmp ⟦<Activity<S, D> as Write>⟧.fits ⟦<Activity<S, D> as Write>⟧.spelling (⟦<Activity<S, D> as Read>⟧.reading (S.size scheme.now)) bytes.now fault tally.new.kept) }
+    requires { Holds {S = S} {P = S.PublicKey} {C = S.Certificate} (S.attests scheme.now) D.cmp [] tally.old.kept }
+    ensures { IfOk result (λ fault. Counts (S.attests scheme.now) D.cmp (Readable ⟦<Activity<S, D> as Write>⟧.fits (⟦<Activity<S, D> as Read>⟧.within (S.size scheme.now))) ⟦<Activity<S, D> as Write>⟧.spelling (⟦<Activity<S, D> as Read>⟧.reading (S.size scheme.now)) bytes.now fault tally.new.kept) }
 {
     let bound = scheme.participants();
     let mut rest = bytes;
@@ -59,7 +59,7 @@ fn count_reports<S: Scheme<D>, D: Digest>(
 /// Reads one message, and tells that it can be read again and that what was read is its spelling.
 fn next_message<M: Read>(alloc: Global, input: &mut &[u8], bound: u32) -> Result<M, CodecError>
     ensures exact { Gives (M.reading bound) input.old.now input.new.now result }
-    ensures fitting { IfOk result M.fits }
+    ensures fitting { IfOk result (Readable M.fits (M.within bound)) }
     ensures spelled { IfOk result (λ message. input.old.now ≡ M.spelling message ++ input.new.now) }
 {
     M::read_cfg(alloc, input, bound)

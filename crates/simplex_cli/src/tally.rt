@@ -2,7 +2,7 @@
 
 ghost use Rattle.std.specs.Prelude.{◌≡◌, ◌≢◌, ◌++◌, ◌∷◌, [], List, map, OnOk, IfOk};
 ghost use Rattle.std.specs.List.{flat_map};
-ghost use Rattle.simplex_messages.specs.declared.notarize.Notarize.{Notarize};
+ghost use Rattle.simplex_messages.specs.ProposalVote.{Notarize};
 ghost use Rattle.simplex_messages.specs.Activity.{conflicting_report};
 ghost use Rattle.simplex_messages.specs.Guilt.{votes_in};
 ghost use Rattle.simplex_cli.specs.declared.cast.Cast.{Cast};
@@ -26,7 +26,7 @@ pub(crate) struct Tally<S: Scheme<D>, D: Digest> {
 impl<S: Scheme<D>, D: Digest> Tally<S, D> {
     /// Nothing counted.
     pub(crate) fn new(alloc: Global) -> Self
-        ensures { (scheme : S) → Holds {S = S} {K = S.PublicKey} (S.attests scheme) D.cmp [] result.kept }
+        ensures { (scheme : S) → Holds {S = S} {P = S.PublicKey} {C = S.Certificate} (S.attests scheme) D.cmp [] result.kept }
     {
         Tally {
             kept: BTreeMap::new(alloc),
@@ -51,7 +51,7 @@ impl<S: Scheme<D>, D: Digest> Tally<S, D> {
 
     /// Counts a vote, if it verifies.
     fn count(&mut self, scheme: &S, vote: &Notarize<S, D>) -> Result<(), AllocError>
-        ensures { OnOk result ((votes : List (Notarize S D S.PublicKey S.Signature)) → Holds (S.attests scheme.now) D.cmp votes self.old.kept → Holds (S.attests scheme.now) D.cmp (votes ++ vote.now ∷ []) self.new.kept) }
+        ensures { OnOk result ((votes : List (Notarize S D S.PublicKey S.Signature S.Certificate)) → Holds (S.attests scheme.now) D.cmp votes self.old.kept → Holds (S.attests scheme.now) D.cmp (votes ++ vote.now ∷ []) self.new.kept) }
     {
         if !vote.verify(scheme) {
             return Ok(());
@@ -75,7 +75,7 @@ impl<S: Scheme<D>, D: Digest> Tally<S, D> {
         scheme: &S,
         report: &Activity<S, D>,
     ) -> Result<(), AllocError>
-        ensures { OnOk result ((votes : List (Notarize S D S.PublicKey S.Signature)) → Holds (S.attests scheme.now) D.cmp votes self.old.kept → Holds (S.attests scheme.now) D.cmp (votes ++ votes_in report.now) self.new.kept) }
+        ensures { OnOk result ((votes : List (Notarize S D S.PublicKey S.Signature S.Certificate)) → Holds (S.attests scheme.now) D.cmp votes self.old.kept → Holds (S.attests scheme.now) D.cmp (votes ++ votes_in report.now) self.new.kept) }
     {
         match report {
             Activity::Notarize(vote) => {
@@ -97,8 +97,8 @@ impl<S: Scheme<D>, D: Digest> Tally<S, D> {
         alloc: Global,
         scheme: &S,
     ) -> Result<Vec<Activity<S, D>>, AllocError>
-        requires { (votes : List (Notarize S D S.PublicKey S.Signature)) × Holds (S.attests scheme.now) D.cmp votes self.now.kept }
-        ensures { IfOk result (λ evidence. (votes : List (Notarize S D S.PublicKey S.Signature)) → Holds (S.attests scheme.now) D.cmp votes self.now.kept → IsVerdict (S.attests scheme.now) D.cmp votes evidence.items) }
+        requires { (votes : List (Notarize S D S.PublicKey S.Signature S.Certificate)) × Holds (S.attests scheme.now) D.cmp votes self.now.kept }
+        ensures { IfOk result (λ evidence. (votes : List (Notarize S D S.PublicKey S.Signature S.Certificate)) → Holds (S.attests scheme.now) D.cmp votes self.now.kept → IsVerdict (S.attests scheme.now) D.cmp votes evidence.items) }
     {
         let mut evidence = Vec::new(alloc);
         for (suspect, kept) in &self.kept {
@@ -122,10 +122,7 @@ fn vote_from<S: Scheme<D>, D: Digest>(
         signer: suspect.signer,
         signature: cast.signature,
     };
-    Notarize {
-        proposal,
-        attestation,
-    }
+    Notarize::new(proposal, attestation)
 }
 
 /// The evidence of two votes of the suspect.

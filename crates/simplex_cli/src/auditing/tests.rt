@@ -1,8 +1,8 @@
 use super::*;
 use simplex_messages::{ConflictingNotarize, Notarize};
 use simplex_types::{
-    Attestation, Duplicate, Epoch, Participant, PlainSignature, Proposal, Round, Sha256Digest,
-    Subject, View,
+    AssemblyError, Attestation, AttestationList, Duplicate, Epoch, Participant, PlainSignature,
+    Proposal, Round, Sha256Digest, Subject, View,
 };
 use std::test::Fail;
 
@@ -16,18 +16,21 @@ impl Duplicate for Key {
     }
 }
 
-/// A committee of four, each of whom has many signatures on a subject: all but one.
+/// A committee of four, each of whom has many signatures on a subject: all but one. It makes no
+/// certificates.
 #[derive(Drop)]
 struct Lenient {
     refused: PlainSignature,
 }
 
 impl Scheme<Sha256Digest> for Lenient {
-    ghost use Rattle.std.specs.Prelude.{◌≢◌, ◌<◌, None};
+    ghost use Rattle.std.specs.Prelude.{◌≢◌, ◌<◌, [], None};
 
     type PublicKey = Key;
 
     type Signature = PlainSignature;
+
+    type Certificate = AttestationList<PlainSignature>;
 
     ghost size = { λ _. 4 };
 
@@ -36,6 +39,10 @@ impl Scheme<Sha256Digest> for Lenient {
     ghost key_of = { λ _ i. record { 0 = i } };
 
     ghost attests = { λ s i _ signature. (i < 4) × (signature ≢ s.refused) };
+
+    ghost certifies = { λ _ _ _. ⊥ };
+
+    ghost lists = { λ _. [] };
 
     fn participants(&self) -> u32 {
         4
@@ -65,6 +72,26 @@ impl Scheme<Sha256Digest> for Lenient {
         attestation.signer.get() < 4 && attestation.signature != self.refused
     }
 
+    fn verify_certificate(
+        &self,
+        _subject: &Subject<'_, Sha256Digest>,
+        _certificate: &AttestationList<PlainSignature>,
+    ) -> bool {
+        false
+    }
+
+    fn assemble(
+        &self,
+        _alloc: Global,
+        attestations: &[Attestation<PlainSignature>],
+    ) -> Result<AttestationList<PlainSignature>, AssemblyError> {
+        let count = attestations.len();
+        if count < 3 {
+            return Err(AssemblyError::InsufficientAttestations(3, count as u32));
+        }
+        Err(AssemblyError::Memory)
+    }
+
     ghost attests_member = { λ s i x a h. h.0 };
 }
 
@@ -79,13 +106,12 @@ fn signature(alloc: Global, byte: u8) -> Result<PlainSignature, Fail> {
 fn vote(alloc: Global, payload: u8, signed: u8) -> Result<Notarize<Lenient, Sha256Digest>, Fail> {
     let round = Round::new(Epoch::new(0), View::new(2));
     let payload = Sha256Digest::new([payload; 32]);
-    Ok(Notarize {
-        proposal: Proposal::new(round, View::new(1), payload),
-        attestation: Attestation {
-            signer: Participant::new(1),
-            signature: signature(alloc, signed)?,
-        },
-    })
+    let proposal = Proposal::new(round, View::new(1), payload);
+    let attestation = Attestation {
+        signer: Participant::new(1),
+        signature: signature(alloc, signed)?,
+    };
+    Ok(Notarize::new(proposal, attestation))
 }
 
 #[test]

@@ -29,10 +29,7 @@ fn assert_audit(rt: &impl Abort, alloc: Global, input: &[u8], lines: &str) {
 
 /// The first vote's signature under the second's proposal.
 fn forged(signed: &Vote, claimed: &Vote) -> Vote {
-    Vote {
-        proposal: claimed.proposal,
-        attestation: signed.attestation,
-    }
+    Vote::new(claimed.proposal, signed.attestation)
 }
 
 #[test]
