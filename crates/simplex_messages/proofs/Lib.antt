@@ -1,0 +1,2 @@
+mod FirstItems
+mod SlotLemmas
