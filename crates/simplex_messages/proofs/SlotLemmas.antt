@@ -1,5 +1,5 @@
 -- What slots stand for.
-use Rattle.std.proofs.Common.{◌≡◌, ◌≢◌, ℕ, zero, suc, ◌+◌, ◌<◌, ◌≤◌, Bool, true, false, cond, eqb, ◌&&◌, T, List, [], ◌∷◌, length, map, get_or, set, Bor, Option, Some, None, is_some, refl, sym, ap, ◌∙◌, inl, inr, add-one, arith, IfSome, option_copied, All}
+use Rattle.std.proofs.Common.{◌≡◌, ◌≢◌, ℕ, zero, suc, ◌+◌, ◌<◌, ◌≤◌, Bool, true, false, cond, eqb, ltb, ◌&&◌, T, List, [], ◌∷◌, length, map, get_or, set, Bor, Option, Some, None, is_some, refl, sym, ap, ◌∙◌, inl, inr, add-one, arith, IfSome, option_copied, All}
 use Rattle.std.proofs.lemmas.Bool.{cases_eq, cases_lt, lt-ltb, eq-eqb}
 use Rattle.std.proofs.lemmas.Bool.Decides.{nat_tests}
 use Rattle.std.proofs.lemmas.List.{get_or-set_same, get_or-set_other, get_or_past, length-set}
@@ -8,15 +8,22 @@ use Rattle.std.specs.Cmp.{unsigned_tied}
 use Rattle.std.proofs.lemmas.Cmp.{nat_cmp_total}
 use Rattle.std.specs.FinMap as finite
 use Rattle.std.specs.FinMap.Entries.{find, below_all, is_sorted}
+use Rattle.std.specs.List as list
 use Rattle.std.specs.List.Sorted.{IsStrictlyIncreasing}
 use Rattle.std.specs.Ordering.{nat_cmp, eq_by_cmp}
-use Rattle.simplex_messages.specs.AttributableMap.{SignerMap, item_of, items_of, item_count, RisesBySigner}
+use Rattle.simplex_messages.specs.AttributableMap.{SignerMap, item_of, items_of, item_count, RisesBySigner, HoldsFirstItems}
 use Rattle.simplex_messages.proofs.FirstItems.{no_item}
 use Rattle.simplex_messages.specs.Slots.{entries_from, items_in, map_of, IsSound}
 
 both : (a b : Bool) → T a → T b → T (a && b)
 both true b p q = q
 both false b p q = absurd p
+
+apart_tests : (a b : ℕ) → a ≢ b → eqb a b ≡ false
+apart_tests a b apart = grind (arith, nat_tests)
+
+from_zero : (n : ℕ) → n ≡ 0 + n
+from_zero n = omega arith
 
 module _ {X : Type 0} where
   -- the places rise
@@ -173,6 +180,44 @@ module _ {X : Type 0} where
   pub IfSome-below : (slots : List (Option X)) (signer : ℕ) (shown : Option (Bor X)) → option_copied shown ≡ get_or slots signer None → IfSome shown (λ item. signer < length slots)
   IfSome-below slots signer None is = tt
   IfSome-below slots signer (Some item) is = filled_below slots signer item.now (sym is)
+
+  module _ (signer_of : X → ℕ) where
+    -- a signer that no slot's item has is not found
+    find-nobody : (signer : ℕ) (slots : List (Option X)) → ((at : ℕ) (x : X) → get_or slots at None ≡ Some x → signer_of x ≢ signer) → list.find (λ x. eqb (signer_of x) signer) (items_in slots) ≡ None
+    find-nobody signer [] others = refl
+    find-nobody signer (None ∷ slots) others = find-nobody signer slots (λ at x there. others (suc at) x there)
+    find-nobody signer (Some x ∷ slots) others =
+        let apart : eqb (signer_of x) signer ≡ false = apart_tests (signer_of x) signer (others 0 x refl) in
+        rw apart (find-nobody signer slots (λ at y there. others (suc at) y there))
+
+    -- where each item stands in its signer's slot, a signer's item is found among the items
+    find-items_in : (place at : ℕ) (slots : List (Option X)) → ((k : ℕ) (x : X) → get_or slots k None ≡ Some x → signer_of x ≡ place + k) → list.find (λ x. eqb (signer_of x) (place + at)) (items_in slots) ≡ get_or slots at None
+    find-items_in place at [] signed = refl
+    find-items_in place zero (None ∷ slots) signed = find-nobody (place + 0) slots (λ k x there same. absurd (omega (arith, signed (suc k) x there)))
+    find-items_in place (suc at) (None ∷ slots) signed =
+        let shift : place + suc at ≡ (place + 1) + at = omega arith in
+        ap (λ n. list.find (λ x. eqb (signer_of x) n) (items_in slots)) shift ∙ find-items_in (place + 1) at slots (λ k x there. omega (arith, signed (suc k) x there))
+    find-items_in place zero (Some x ∷ slots) signed =
+        let here : eqb (signer_of x) (place + 0) ≡ true = eq-eqb _ _ (signed 0 x refl) in
+        rw here refl
+    find-items_in place (suc at) (Some x ∷ slots) signed =
+        let first = signed 0 x refl in
+        let apart : eqb (signer_of x) (place + suc at) ≡ false = apart_tests _ _ (λ same. absurd (omega arith)) in
+        let shift : place + suc at ≡ (place + 1) + at = omega arith in
+        ap (λ b. cond b (Some x) (list.find (λ y. eqb (signer_of y) (place + suc at)) (items_in slots))) apart
+        ∙ ap (λ n. list.find (λ y. eqb (signer_of y) n) (items_in slots)) shift
+        ∙ find-items_in (place + 1) at slots (λ k y there. omega (arith, signed (suc k) y there))
+
+  -- the map holds the first of its own items
+  pub HoldsFirstItems-items_in : (signer_of : X → ℕ) (slots : List (Option X)) → ((place : ℕ) (x : X) → get_or slots place None ≡ Some x → signer_of x ≡ place) → HoldsFirstItems signer_of (map_of slots) (items_in slots)
+  HoldsFirstItems-items_in signer_of slots signed signer =
+      rw (item_of-map_of slots signer, participants-map_of slots) (elim (cases_lt signer (length slots)) [
+        | inl below ↦ rw (lt-ltb signer (length slots) below) (sym (ap (λ n. list.find (λ x. eqb (signer_of x) n) (items_in slots)) (from_zero signer) ∙ find-items_in signer_of 0 signer slots (λ k x there. omega (arith, signed k x there))))
+        | inr past ↦
+            let none : get_or slots signer None ≡ None = get_or_past slots signer None past in
+            let above : ltb signer (length slots) ≡ false = grind (arith, nat_tests) in
+            rw (none, above) refl
+      ])
 
   -- what holds of what each slot has holds of each item
   pub All-items_in : (P : X → Type 0) (slots : List (Option X)) → ((place : ℕ) (x : X) → get_or slots place None ≡ Some x → P x) → All P (items_in slots)

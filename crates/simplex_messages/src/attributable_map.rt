@@ -117,6 +117,7 @@ impl<T: Attributable> AttributableMap<T> {
     pub fn iter(&self) -> AttributableMapIter<'_, T>
         ensures items { result ≡ items_of self.now }
         ensures rises { RisesBySigner T.signer_of result }
+        ensures first_items { HoldsFirstItems T.signer_of self.now result }
         ensures found { All (λ item. item_of self.now (T.signer_of item) ≡ Some item) result }
         ensures participants { All (λ item. T.signer_of item < self.now.participants) result }
         ensures len { length result ≡ item_count self.now }

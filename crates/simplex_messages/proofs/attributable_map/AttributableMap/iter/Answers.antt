@@ -1,7 +1,7 @@
 use Rattle.std.proofs.Common.{◌≡◌, length, ap, sym, ◌∙◌, arith}
 use Rattle.simplex_messages.specs.AttributableMap.{items_of, item_count, RisesBySigner}
 use Rattle.simplex_messages.specs.Slots.{items_in}
-use Rattle.simplex_messages.proofs.SlotLemmas.{item_count-map_of, items_of-map_of, RisesBySigner-items_in, All-found, All-participants, length-items_in}
+use Rattle.simplex_messages.proofs.SlotLemmas.{item_count-map_of, items_of-map_of, RisesBySigner-items_in, HoldsFirstItems-items_in, All-found, All-participants, length-items_in}
 use Rattle.simplex_messages.proofs.attributable_map.AttributableMap.iter.Goals as goal
 
 pub returns-clause-items : goal.returns-clause-items
@@ -21,3 +21,6 @@ returns-clause-participants g c = rw c.as_slice.ensures.value (All-participants 
 
 pub returns-clause-fits : goal.returns-clause-fits
 returns-clause-fits g c = rw c.as_slice.ensures.value (omega (arith, length-items_in c.self.inside.slots.items, c.as_slice.ensures.len, c.as_slice.ensures.value))
+
+pub returns-clause-first_items : goal.returns-clause-first_items
+returns-clause-first_items g c = rw (← c.self.view_is, c.as_slice.ensures.value) (HoldsFirstItems-items_in g.T.Attributable.signer_of c.self.inside.slots.items c.self.invariant.signed)
