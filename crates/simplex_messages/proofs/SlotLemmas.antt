@@ -1,5 +1,5 @@
 -- What slots stand for.
-use Rattle.std.proofs.Common.{◌≡◌, ◌≢◌, ℕ, zero, suc, ◌+◌, ◌<◌, ◌≤◌, Bool, true, false, cond, eqb, ltb, ◌&&◌, T, List, [], ◌∷◌, length, map, get_or, set, Bor, Option, Some, None, is_some, refl, sym, ap, ◌∙◌, inl, inr, add-one, arith, IfSome, option_copied, All}
+use Rattle.std.proofs.Common.{◌≡◌, ◌≢◌, ℕ, zero, suc, ◌+◌, ◌<◌, ◌≤◌, Bool, true, false, cond, eqb, ltb, ◌&&◌, T, List, [], ◌∷◌, length, map, get_or, set, Bor, Option, Some, None, is_some, refl, sym, ap, ◌∙◌, inl, inr, arith, IfSome, option_copied, All}
 use Rattle.std.proofs.lemmas.Bool.{cases_eq, cases_lt, lt-ltb, eq-eqb}
 use Rattle.std.proofs.lemmas.Bool.Decides.{nat_tests}
 use Rattle.std.proofs.lemmas.List.{get_or-set_same, get_or-set_other, get_or_past, length-set}

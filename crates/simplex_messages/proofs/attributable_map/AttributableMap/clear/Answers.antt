@@ -1,7 +1,7 @@
-use Rattle.std.proofs.Common.{◌≡◌, ◌+◌, ◌<◌, ◌++◌, ◌∷◌, [], None, length, take, set, refl, ap, sym, ◌∙◌, arith}
+use Rattle.std.proofs.Common.{◌≡◌, ◌+◌, ◌<◌, ◌++◌, ◌∷◌, [], None, length, take, set, ap, sym, ◌∙◌, arith}
 use Rattle.std.proofs.lemmas.List.{take_all, take_more_set, with_items_is}
 use Rattle.std.proofs.lemmas.List.Elements.{filter_map-append}
-use Rattle.simplex_messages.specs.Slots.{items_in, map_of}
+use Rattle.simplex_messages.specs.Slots.{items_in}
 use Rattle.simplex_messages.proofs.SlotLemmas.{participants-map_of, items-vacant, IsSound-vacant}
 use Rattle.simplex_messages.proofs.FirstItems.{HoldsFirstItems-empty}
 use Rattle.simplex_messages.proofs.attributable_map.AttributableMap.clear.Goals as goal

@@ -1,6 +1,5 @@
-use Rattle.std.proofs.Common.{◌≡◌, ◌<◌, length, get_or, Option, None, ap, sym, ◌∙◌, arith, option_copied, IfSome}
+use Rattle.std.proofs.Common.{◌≡◌, get_or, None, arith, option_copied}
 use Rattle.std.proofs.lemmas.Grind.{common_steps}
-use Rattle.simplex_messages.specs.AttributableMap.{item_of}
 use Rattle.simplex_messages.proofs.SlotLemmas.{item_of-map_of, participants-map_of, IfSome-signed, IfSome-below}
 use Rattle.simplex_messages.proofs.attributable_map.AttributableMap.get.Goals as goal
 

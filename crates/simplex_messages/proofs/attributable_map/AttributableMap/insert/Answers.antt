@@ -1,6 +1,5 @@
-use Rattle.std.proofs.Common.{◌≡◌, ◌⊎◌, ◌<◌, ◌≤◌, None, IsSome, is_some, length, get_or, set, refl, ap, sym, ◌∙◌, inl, inr, arith}
+use Rattle.std.proofs.Common.{◌≡◌, ◌⊎◌, ◌<◌, ◌≤◌, IsSome, is_some, length, ap, sym, ◌∙◌, inl, inr, arith}
 use Rattle.simplex_messages.specs.AttributableMap.{item_of}
-use Rattle.simplex_messages.specs.Slots.{IsSound, map_of}
 use Rattle.simplex_messages.proofs.FirstItems.{HoldsFirstItems-insert, HoldsFirstItems-refused, refuses, takes, takes_changes}
 use Rattle.simplex_messages.proofs.SlotLemmas.{past-participants, below-participants, item_of-read, item_of-vacant, items-filled, participants-filled, IsSound-set, vacant_slot, room_for_one}
 use Rattle.simplex_messages.proofs.attributable_map.AttributableMap.insert.Goals as goal

@@ -1,6 +1,4 @@
-use Rattle.std.proofs.Common.{◌≡◌, length, ap, sym, ◌∙◌, arith}
-use Rattle.simplex_messages.specs.AttributableMap.{items_of, item_count, RisesBySigner}
-use Rattle.simplex_messages.specs.Slots.{items_in}
+use Rattle.std.proofs.Common.{sym, arith}
 use Rattle.simplex_messages.proofs.SlotLemmas.{item_count-map_of, items_of-map_of, RisesBySigner-items_in, HoldsFirstItems-items_in, All-found, All-participants, length-items_in}
 use Rattle.simplex_messages.proofs.attributable_map.AttributableMap.iter.Goals as goal
 

@@ -1,7 +1,5 @@
-use Rattle.std.proofs.Common.{◌≡◌, length, arith, sym, ◌∙◌}
-use Rattle.simplex_messages.specs.AttributableMap.{item_count}
-use Rattle.simplex_messages.proofs.SlotLemmas.{item_count-map_of, participants-map_of, length-items_in, RisesBySigner-items_in}
-use Rattle.simplex_messages.proofs.FirstItems.{HoldsFirstItems-refused}
+use Rattle.std.proofs.Common.{sym, ◌∙◌}
+use Rattle.simplex_messages.proofs.SlotLemmas.{item_count-map_of, participants-map_of, length-items_in}
 use Rattle.simplex_messages.proofs.attributable_map.AttributableMap.len.Goals as goal
 
 pub returns-clause-exact : goal.returns-clause-exact
