@@ -1,2 +1,4 @@
 pub mod Three
 pub mod Voters
+pub mod FirstItems
+pub mod SlotLemmas

@@ -7,3 +7,5 @@ pub mod ConflictingVotes
 pub mod NullifyFinalize
 pub mod Activity
 pub mod Guilt
+pub mod AttributableMap
+pub mod Slots

@@ -1,8 +1,9 @@
-//! Votes, evidence and reports.
+//! Votes, certificates, evidence and reports.
 #![tactic(auto)]
 
 mod activity;
 mod attested;
+mod attributable_map;
 mod conflicting_votes;
 mod kind;
 mod laws;
@@ -16,6 +17,7 @@ mod tests;
 
 pub use activity::Activity;
 pub use attested::Attested;
+pub use attributable_map::{AttributableMap, AttributableMapIter};
 pub use conflicting_votes::{ConflictingFinalize, ConflictingNotarize, ConflictingVotes};
 pub use kind::{Finalizing, Notarizing, ProposalKind};
 pub use laws::equal_messages_are_one;
