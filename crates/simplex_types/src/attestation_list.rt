@@ -226,3 +226,6 @@ impl<G: Signature> Aggregate for AttestationList<G> {
 
     ghost small = { Prim.search rules };
 }
+
+#[cfg(test)]
+mod tests;

@@ -16,3 +16,28 @@ pub const fn quorum(n: u32) -> u32
 {
     n - faults(n)
 }
+
+#[cfg(test)]
+mod tests {
+    use super::*;
+
+    #[test]
+    fn quorums_are_all_but_as_many_as_may_lie(rt: HostRuntime) {
+        for (members, lying, enough) in [
+            (1, 0, 1),
+            (2, 0, 2),
+            (3, 0, 3),
+            (4, 1, 3),
+            (5, 1, 4),
+            (6, 1, 5),
+            (7, 2, 5),
+            (8, 2, 6),
+            (9, 2, 7),
+            (10, 3, 7),
+            (65_535, 21_844, 43_691),
+        ] {
+            assert_eq!(rt; faults(members), lying, "of {members}");
+            assert_eq!(rt; quorum(members), enough, "of {members}");
+        }
+    }
+}
