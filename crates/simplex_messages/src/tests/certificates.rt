@@ -292,7 +292,7 @@ fn a_nullify_beside_a_finalize_is_evidence(rt: HostRuntime) -> Result<(), Fail> 
     // The signer of the nullify, and then its view.
     for (place, byte) in [(3usize, 2u8), (2, 3)] {
         let changed = with_byte(alloc, &REPORT_NULLIFY_FINALIZE, place, byte)?;
-        let mut rest = &changed[1..];
+        let mut rest = changed.get(1..).ok_or("a tag")?;
         let read = NullifyFinalize::<PlainScheme, Sha256Digest>::read_cfg(
             alloc, &mut rest, MEMBERS,
         );
