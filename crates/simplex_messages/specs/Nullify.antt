@@ -1,5 +1,5 @@
 -- Votes to give a round up: their bytes.
-use Rattle.std.specs.Prelude.{◌≡◌, ℕ, List, ◌++◌, Result, refl}
+use Rattle.std.specs.Prelude.{ℕ, List, ◌++◌, Result, refl}
 use Rattle.simplex_types.specs.declared.codec.CodecError.{CodecError}
 use Rattle.simplex_types.specs.declared.position.Round.{Round}
 use Rattle.simplex_types.specs.declared.attestation.Attestation.{Attestation}
