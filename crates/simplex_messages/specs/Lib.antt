@@ -5,6 +5,8 @@ pub mod ProposalCertificate
 pub mod Nullification
 pub mod ConflictingVotes
 pub mod NullifyFinalize
+pub mod VoteParts
+pub mod Vote
 pub mod Activity
 pub mod Guilt
 pub mod AttributableMap

@@ -14,6 +14,7 @@ mod proposal_certificate;
 mod proposal_vote;
 #[cfg(test)]
 mod tests;
+mod vote;
 
 pub use activity::Activity;
 pub use attested::Attested;
@@ -26,3 +27,4 @@ pub use nullify::Nullify;
 pub use nullify_finalize::NullifyFinalize;
 pub use proposal_certificate::{Finalization, Notarization, ProposalCertificate};
 pub use proposal_vote::{Finalize, Notarize, ProposalVote};
+pub use vote::Vote;

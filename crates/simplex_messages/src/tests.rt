@@ -7,6 +7,7 @@ mod spellings;
 mod values;
 mod vectors;
 mod verdicts;
+mod votes;
 
 ghost use Rattle.std.specs.Prelude.{◌<◌, ◌≤◌};
 ghost use Rattle.std.specs.Option.{ForSome};

@@ -1,0 +1,18 @@
+-- What a vote of any kind belongs to.
+use Rattle.std.specs.Prelude.{ℕ}
+use Rattle.simplex_types.specs.declared.position.Round.{Round}
+use Rattle.simplex_messages.specs.declared.vote.Vote.{Vote}
+use Rattle.simplex_messages.specs.declared.vote.Vote.TheVariants as vote
+
+module _ {S D P G C : Type 0} where
+  -- the round that the vote is of
+  abbrev pub vote_round : Vote S D P G C → Round
+  vote_round (vote.Notarize v) = v.proposal.round
+  vote_round (vote.Nullify v) = v.round
+  vote_round (vote.Finalize v) = v.proposal.round
+
+  -- the index of the member in whose name it is
+  abbrev pub vote_signer : Vote S D P G C → ℕ
+  vote_signer (vote.Notarize v) = v.attestation.signer
+  vote_signer (vote.Nullify v) = v.attestation.signer
+  vote_signer (vote.Finalize v) = v.attestation.signer

@@ -1,0 +1,172 @@
+//! Votes of the three kinds.
+
+ghost use Rattle.std.specs.Prelude.{◌≡◌};
+ghost use Rattle.simplex_types.specs.Codec.{Gives};
+ghost use Rattle.simplex_messages.specs.Vote.{any_vote_behind};
+
+use crate::nullify::Nullify;
+use crate::proposal_vote::{Finalize, Notarize};
+use simplex_types::{
+    Attributable, CodecError, Digest, Duplicate, EncodeSize, Epoch, Epochable, MaxEncodeSize,
+    Participant, Read, Scheme, View, Viewable, Write,
+};
+use std::alloc::{AllocError, Global};
+
+/// A vote of any kind.
+#[derive_where(Debug, PartialEq, Eq, Hash; D, S::Signature)]
+#[derive(Drop)]
+pub enum Vote<S: Scheme<D>, D: Digest> {
+    /// A vote to certify a proposal. Its tag is 0.
+    Notarize(Notarize<S, D>),
+    /// A vote to give a round up. Its tag is 1.
+    Nullify(Nullify<S, D>),
+    /// A vote to finalize a proposal. Its tag is 2.
+    Finalize(Finalize<S, D>),
+}
+
+impl<S: Scheme<D>, D: Digest> Epochable for Vote<S, D> {
+    ghost use Rattle.simplex_messages.specs.VoteParts.{vote_round};
+
+    ghost epoch_of = { λ v. (vote_round v).epoch };
+
+    fn epoch(&self) -> Epoch {
+        match self {
+            Vote::Notarize(vote) => vote.epoch(),
+            Vote::Nullify(vote) => vote.epoch(),
+            Vote::Finalize(vote) => vote.epoch(),
+        }
+    }
+}
+
+impl<S: Scheme<D>, D: Digest> Viewable for Vote<S, D> {
+    ghost use Rattle.simplex_messages.specs.VoteParts.{vote_round};
+
+    ghost view_of = { λ v. (vote_round v).view };
+
+    fn view(&self) -> View {
+        match self {
+            Vote::Notarize(vote) => vote.view(),
+            Vote::Nullify(vote) => vote.view(),
+            Vote::Finalize(vote) => vote.view(),
+        }
+    }
+}
+
+impl<S: Scheme<D>, D: Digest> Attributable for Vote<S, D> {
+    ghost use Rattle.simplex_messages.specs.VoteParts.{vote_signer};
+
+    ghost signer_of = { vote_signer };
+
+    fn signer(&self) -> Participant {
+        match self {
+            Vote::Notarize(vote) => vote.signer(),
+            Vote::Nullify(vote) => vote.signer(),
+            Vote::Finalize(vote) => vote.signer(),
+        }
+    }
+}
+
+impl<S: Scheme<D>, D: Digest> Duplicate for Vote<S, D> {
+    /// Never refused: a vote owns no memory.
+    fn duplicate(&self, alloc: Global) -> Result<Self, AllocError>
+        ensures { result ≡ Ok self.now }
+    {
+        match self {
+            Vote::Notarize(vote) => Ok(Vote::Notarize(vote.duplicate(alloc)?)),
+            Vote::Nullify(vote) => Ok(Vote::Nullify(vote.duplicate(alloc)?)),
+            Vote::Finalize(vote) => Ok(Vote::Finalize(vote.duplicate(alloc)?)),
+        }
+    }
+}
+
+impl<S: Scheme<D>, D: Digest> Write for Vote<S, D> {
+    ghost use Rattle.simplex_messages.specs.Vote.{any_vote_fits, any_vote_spelling};
+
+    ghost fits = { any_vote_fits D.fits S.Signature.fits };
+
+    ghost spelling = { any_vote_spelling D.spelling S.Signature.spelling };
+
+    #[tactic(auto, unfolding(crate::specs::Vote::any_vote_spelling, crate::specs::Vote::any_vote_tag, crate::specs::Vote::any_vote_body, crate::specs::Vote::any_vote_fits))]
+    fn append(&self, out: &mut Vec<u8>) -> Result<(), AllocError> {
+        match self {
+            Vote::Notarize(vote) => {
+                out.push(0)?;
+                vote.append(out)
+            }
+            Vote::Nullify(vote) => {
+                out.push(1)?;
+                vote.append(out)
+            }
+            Vote::Finalize(vote) => {
+                out.push(2)?;
+                vote.append(out)
+            }
+        }
+    }
+}
+
+impl<S: Scheme<D>, D: Digest> EncodeSize for Vote<S, D> {
+    ghost use Rattle.std.specs.Prelude.{◌+◌};
+    ghost use Rattle.std.proofs.Common.{arith};
+
+    ghost max_size = { 36 + D.max_size + S.Signature.max_size };
+
+    #[tactic(auto, unfolding(crate::specs::Vote::any_vote_spelling, crate::specs::Vote::any_vote_tag, crate::specs::Vote::any_vote_body, crate::specs::Vote::any_vote_fits))]
+    fn encode_size(&self) -> usize {
+        match self {
+            Vote::Notarize(vote) => 1 + vote.encode_size(),
+            Vote::Nullify(vote) => 1 + vote.encode_size(),
+            Vote::Finalize(vote) => 1 + vote.encode_size(),
+        }
+    }
+
+    ghost short = { Prim.omega (arith, D.small, S.Signature.small) };
+}
+
+impl<S: Scheme<D>, D: Digest> MaxEncodeSize for Vote<S, D> {
+    fn max_encode_size() -> usize {
+        1 + Notarize::<S, D>::max_encode_size()
+    }
+}
+
+impl<S: Scheme<D>, D: Digest> Read for Vote<S, D> {
+    ghost use Rattle.std.specs.Prelude.{⊤};
+    ghost use Rattle.simplex_types.specs.Codec.{bounded-IsCodec, unbounded-IsCodec};
+    ghost use Rattle.simplex_messages.specs.Vote.{any_vote_at, any_vote-IsCodec};
+
+    ghost within = { λ _ _. ⊤ };
+
+    ghost reading = { λ n. any_vote_at (D.reading n) (S.Signature.reading n) };
+
+    ghost one_spelling = { λ n small. unbounded-IsCodec (any_vote-IsCodec (bounded-IsCodec (D.one_spelling n small) (D.unbounded n)) (bounded-IsCodec (S.Signature.one_spelling n small) (S.Signature.unbounded n))) };
+
+    #[tactic(auto, unfolding(crate::specs::Vote::any_vote_at))]
+    fn read_cfg(alloc: Global, input: &mut &[u8], bound: u32) -> Result<Self, CodecError> {
+        let all: &[u8] = *input;
+        let [tag, rest @ ..] = all else {
+            return Err(CodecError::End);
+        };
+        let mut rest = rest;
+        let vote = read_behind(*tag, alloc, &mut rest, bound)?;
+        *input = rest;
+        Ok(vote)
+    }
+}
+
+/// Reads what stands behind the tag.
+#[tactic(auto, unfolding(crate::specs::Vote::any_vote_behind))]
+fn read_behind<S: Scheme<D>, D: Digest>(
+    tag: u8,
+    alloc: Global,
+    input: &mut &[u8],
+    bound: u32,
+) -> Result<Vote<S, D>, CodecError>
+    ensures { Gives (any_vote_behind (D.reading bound) (S.Signature.reading bound) tag) input.old.now input.new.now result }
+{
+    match tag {
+        0 => Ok(Vote::Notarize(Notarize::read_cfg(alloc, input, bound)?)),
+        1 => Ok(Vote::Nullify(Nullify::read_cfg(alloc, input, bound)?)),
+        2 => Ok(Vote::Finalize(Finalize::read_cfg(alloc, input, bound)?)),
+        _ => Err(CodecError::Invalid),
+    }
+}
