@@ -7,6 +7,8 @@ pub mod ConflictingVotes
 pub mod NullifyFinalize
 pub mod VoteParts
 pub mod Vote
+pub mod Certificate
+pub mod Artifact
 pub mod Activity
 pub mod Guilt
 pub mod AttributableMap

@@ -6,9 +6,19 @@ use Rattle.simplex_types.specs.declared.attestation.Attestation.{Attestation}
 use Rattle.simplex_types.specs.Codec.{IsCodec, Readable, both_at, as_at, both-IsCodec, as-IsCodec, said-IsCodec}
 use Rattle.simplex_types.specs.Proposal.{proposal_spelling, proposal_fits, proposal_at, proposal-IsCodec}
 use Rattle.simplex_types.specs.Subject.{Statement}
+use Rattle.simplex_messages.specs.declared.kind.Notarizing.{Notarizing}
+use Rattle.simplex_messages.specs.declared.kind.Finalizing.{Finalizing}
 use Rattle.simplex_messages.specs.declared.proposal_vote.ProposalVote.{ProposalVote}
 use Rattle.simplex_messages.specs.declared.proposal_certificate.ProposalCertificate.{ProposalCertificate}
 use Rattle.simplex_messages.specs.Assembly.{CanAssemble, IsMadeOf}
+
+-- a certificate that a proposal may be built on
+abbrev pub Notarization : (S D P G C : Type 0) → Type 0
+Notarization S D P G C = ProposalCertificate Notarizing S D P G C
+
+-- a certificate that a proposal is final
+abbrev pub Finalization : (S D P G C : Type 0) → Type 0
+Finalization S D P G C = ProposalCertificate Finalizing S D P G C
 
 -- a certificate of the kind K and the scheme S on payloads D, with keys P, signatures G and certificates C
 module _ {K S D P G C : Type 0} where

@@ -1,9 +1,7 @@
 -- Votes of the three kinds as bytes.
-use Rattle.std.specs.Prelude.{◌≡◌, ℕ, List, ◌∷◌, ◌++◌, Result, Ok, Err, refl}
-use Rattle.std.proofs.Common.{inl, inr, subst}
+use Rattle.std.specs.Prelude.{◌≡◌, ℕ, List, ◌∷◌, ◌++◌, Result, Ok, refl}
 use Rattle.simplex_types.specs.declared.codec.CodecError.{CodecError}
-use Rattle.simplex_types.specs.declared.codec.CodecError.TheVariants.{Invalid}
-use Rattle.simplex_types.specs.Codec.{IsCodec, IsChoice, or_at, nothing_at, tagged_at, tagged-IsCodec, or_ok, done}
+use Rattle.simplex_types.specs.Codec.{IsCodec, IsChoice, TakesBehind, or_at, nothing_at, tagged_at, tagged-IsCodec, or-taken, nothing-taken}
 use Rattle.simplex_messages.specs.declared.nullify.Nullify.{Nullify}
 use Rattle.simplex_messages.specs.declared.vote.Vote.{Vote}
 use Rattle.simplex_messages.specs.declared.vote.Vote.TheVariants as vote
@@ -56,22 +54,12 @@ module _ {S D P G C : Type 0} where
   any_vote-IsChoice : {Q : D → Type 0} {p : D → List ℕ} {q : List ℕ → Result (D × List ℕ) CodecError} {F : G → Type 0} {f : G → List ℕ} {r : List ℕ → Result (G × List ℕ) CodecError}
       → IsCodec Q p q → IsCodec F f r → IsChoice (any_vote_fits Q F) any_vote_tag (any_vote_body p f) (any_vote_behind q r)
   unfolding any_vote_fits any_vote_tag any_vote_body any_vote_behind
-  any_vote-IsChoice {Q} {p} {q} {F} {f} {r} c d = record {
-    takes = λ t bytes x rest e. elim (or_ok 0 as_notarize (vote_at q r) (or_at 1 as_nullify (nullify_at r) (or_at 2 as_finalize (vote_at q r) (λ _. nothing_at))) t bytes x rest e) [
-      | inl h ↦ let k = (vote-IsCodec c d).takes bytes h.1 rest h.3 in subst (Taken t bytes rest) h.2 (h.0, k.0, k.1)
-      | inr m ↦ elim (or_ok 1 as_nullify (nullify_at r) (or_at 2 as_finalize (vote_at q r) (λ _. nothing_at)) t bytes x rest m) [
-        | inl h ↦ let k = (nullify-IsCodec d).takes bytes h.1 rest h.3 in subst (Taken t bytes rest) h.2 (h.0, k.0, k.1)
-        | inr n ↦ elim (or_ok 2 as_finalize (vote_at q r) (λ _. nothing_at) t bytes x rest n) [
-          | inl h ↦ let k = (vote-IsCodec c d).takes bytes h.1 rest h.3 in subst (Taken t bytes rest) h.2 (h.0, k.0, k.1)
-          | inr o ↦ absurd (let o' : Err Invalid ≡ done (x, rest) = o in cc)
-        ]
-      ]
-    ];
-    again = again;
-  }
+  any_vote-IsChoice {Q} {p} {q} {F} {f} {r} c d = record { takes = forms.taken; again = again }
     where
-      Taken : ℕ → List ℕ → List ℕ → Vote S D P G C → Type 0
-      Taken t bytes rest y = (t ≡ any_vote_tag y) × (bytes ≡ any_vote_body p f y ++ rest) × any_vote_fits Q F y
+      forms : TakesBehind (any_vote_fits Q F) any_vote_tag (any_vote_body p f) (any_vote_behind q r)
+      forms = or-taken 0 as_notarize (vote-IsCodec c d) (λ v h. (refl, refl, h))
+          (or-taken 1 as_nullify (nullify-IsCodec d) (λ v h. (refl, refl, h))
+          (or-taken 2 as_finalize (vote-IsCodec c d) (λ v h. (refl, refl, h)) nothing-taken))
 
       again : (x : Vote S D P G C) (rest : List ℕ) → any_vote_fits Q F x → any_vote_behind q r (any_vote_tag x) (any_vote_body p f x ++ rest) ≡ Ok (x, rest)
       again (vote.Notarize v) rest fits = rw ((vote-IsCodec c d).again v rest fits) refl

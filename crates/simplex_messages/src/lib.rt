@@ -2,8 +2,10 @@
 #![tactic(auto)]
 
 mod activity;
+mod artifact;
 mod attested;
 mod attributable_map;
+mod certificate;
 mod conflicting_votes;
 mod kind;
 mod laws;
@@ -17,8 +19,10 @@ mod tests;
 mod vote;
 
 pub use activity::Activity;
+pub use artifact::Artifact;
 pub use attested::Attested;
 pub use attributable_map::{AttributableMap, AttributableMapIter};
+pub use certificate::Certificate;
 pub use conflicting_votes::{ConflictingFinalize, ConflictingNotarize, ConflictingVotes};
 pub use kind::{Finalizing, Notarizing, ProposalKind};
 pub use laws::equal_messages_are_one;

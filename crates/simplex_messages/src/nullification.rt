@@ -1,12 +1,12 @@
 //! Certificates that a round is given up.
 
-ghost use Rattle.std.specs.Prelude.{◌≡◌, ◌↔◌, ◌≤◌, ◌<◌, ℕ, IsTrue};
+ghost use Rattle.std.specs.Prelude.{◌≡◌, ◌↔◌, ◌≤◌, ◌<◌, ◌^◌, ℕ, length, IsTrue};
 
 use crate::attested::attestations_of;
 use crate::nullify::Nullify;
 use simplex_types::{
-    AssemblyError, CodecError, Digest, Duplicate, EncodeSize, Epoch, Epochable, Read, Round,
-    Scheme, Subject, View, Viewable, Write, quorum,
+    Aggregate, AssemblyError, CodecError, Digest, Duplicate, EncodeSize, Epoch, Epochable,
+    MaxEncodeSize, Read, Round, Scheme, Subject, View, Viewable, Write, quorum,
 };
 use std::alloc::{AllocError, Global};
 
@@ -21,7 +21,7 @@ pub struct Nullification<S: Scheme<D>, D: Digest> {
 }
 
 impl<S: Scheme<D>, D: Digest> Nullification<S, D> {
-    ghost use Rattle.std.specs.Prelude.{◌≡◌, ◌↔◌, ◌<◌, ◌≤◌, length, Err, IfOk, IfErr, IsTrue};
+    ghost use Rattle.std.specs.Prelude.{◌+◌, ◌≡◌, ◌↔◌, ◌<◌, ◌≤◌, length, Err, IfOk, IfErr, IsTrue};
     ghost use Rattle.simplex_types.specs.Subject.{nullify};
     ghost use Rattle.simplex_types.specs.declared.scheme.AssemblyError.TheVariants.{InsufficientAttestations, Memory};
     ghost use Rattle.simplex_types.specs.Quorum.{quorum};
@@ -66,6 +66,14 @@ impl<S: Scheme<D>, D: Digest> Nullification<S, D> {
         ensures enough { quorum (S.size scheme.now) ≤ length votes.items → IfErr result (λ e. e ≡ Memory) }
     {
         Self::from_nullifies(alloc, scheme, &votes)
+    }
+
+    /// How many bytes the spelling of a certificate of a committee of so many has at most. Of each
+    /// value `encode_size` says that it is no longer.
+    pub fn max_encode_size(participants: u32) -> usize
+        ensures { result ≡ 20 + S.Certificate.most_bytes participants }
+    {
+        Round::max_encode_size() + S::Certificate::max_encode_size(participants)
     }
 
     /// Whether the certificate certifies that the round is given up.
@@ -126,11 +134,17 @@ impl<S: Scheme<D>, D: Digest> Write for Nullification<S, D> {
 impl<S: Scheme<D>, D: Digest> EncodeSize for Nullification<S, D> {
     ghost use Rattle.std.specs.Prelude.{◌+◌};
     ghost use Rattle.std.proofs.Common.{arith};
+    ghost use Rattle.simplex_messages.specs.Nullification.{nullification_fits, nullification_spelling};
 
     ghost max_size = { 20 + S.Certificate.max_size };
 
     #[tactic(auto, unfolding(crate::specs::Nullification::nullification_spelling, crate::specs::Nullification::nullification_fits))]
-    fn encode_size(&self) -> usize {
+    fn encode_size(&self) -> usize
+        ensures size { result ≡ length (nullification_spelling S.Certificate.spelling self.now) }
+        ensures bounded { result ≤ 20 + S.Certificate.max_size }
+        ensures readable { nullification_fits S.Certificate.fits self.now }
+        ensures planned { (n : ℕ) → n < 2 ^ 32 → S.Certificate.within n self.now.certificate → result ≤ 20 + S.Certificate.most_bytes n }
+    {
         self.round.encode_size() + self.certificate.encode_size()
     }
 

@@ -1,6 +1,6 @@
 //! Certificates for a proposal: that it is notarized, and that it is finalized.
 
-ghost use Rattle.std.specs.Prelude.{◌≡◌, ◌↔◌, ◌≤◌, ◌<◌, ℕ, IsTrue};
+ghost use Rattle.std.specs.Prelude.{◌≡◌, ◌↔◌, ◌≤◌, ◌<◌, ◌^◌, ℕ, length, IsTrue};
 
 use crate::attested::attestations_of;
 use crate::kind::{Finalizing, Notarizing, ProposalKind};
@@ -30,7 +30,7 @@ pub struct ProposalCertificate<K: ProposalKind<D>, S: Scheme<D>, D: Digest> {
 }
 
 impl<K: ProposalKind<D>, S: Scheme<D>, D: Digest> ProposalCertificate<K, S, D> {
-    ghost use Rattle.std.specs.Prelude.{◌≡◌, ◌↔◌, ◌<◌, ◌≤◌, length, Err, IfOk, IfErr, IsTrue};
+    ghost use Rattle.std.specs.Prelude.{◌+◌, ◌≡◌, ◌↔◌, ◌<◌, ◌≤◌, length, Err, IfOk, IfErr, IsTrue};
     ghost use Rattle.simplex_types.specs.declared.scheme.AssemblyError.TheVariants.{InsufficientAttestations, Memory};
     ghost use Rattle.simplex_types.specs.Quorum.{quorum};
     ghost use Rattle.simplex_messages.specs.ProposalCertificate.{CanCertify, IsCertificateOf};
@@ -67,6 +67,14 @@ impl<K: ProposalKind<D>, S: Scheme<D>, D: Digest> ProposalCertificate<K, S, D> {
         let attestations = attestations_of(alloc, votes)?;
         let certificate = scheme.assemble(alloc, &attestations)?;
         Ok(ProposalCertificate::new(proposal, certificate))
+    }
+
+    /// How many bytes the spelling of a certificate of a committee of so many has at most. Of each
+    /// value `encode_size` says that it is no longer.
+    pub fn max_encode_size(participants: u32) -> usize
+        ensures { result ≡ 30 + D.max_size + S.Certificate.most_bytes participants }
+    {
+        Proposal::<D>::max_encode_size() + S::Certificate::max_encode_size(participants)
     }
 
     /// Whether the certificate certifies the proposal.
@@ -206,11 +214,17 @@ impl<K: ProposalKind<D>, S: Scheme<D>, D: Digest> Write for ProposalCertificate<
 impl<K: ProposalKind<D>, S: Scheme<D>, D: Digest> EncodeSize for ProposalCertificate<K, S, D> {
     ghost use Rattle.std.specs.Prelude.{◌+◌};
     ghost use Rattle.std.proofs.Common.{arith};
+    ghost use Rattle.simplex_messages.specs.ProposalCertificate.{certificate_fits, certificate_spelling};
 
     ghost max_size = { 30 + D.max_size + S.Certificate.max_size };
 
     #[tactic(auto, unfolding(crate::specs::ProposalCertificate::certificate_spelling, crate::specs::ProposalCertificate::certificate_fits))]
-    fn encode_size(&self) -> usize {
+    fn encode_size(&self) -> usize
+        ensures size { result ≡ length (certificate_spelling D.spelling S.Certificate.spelling self.now) }
+        ensures bounded { result ≤ 30 + D.max_size + S.Certificate.max_size }
+        ensures readable { certificate_fits D.fits S.Certificate.fits self.now }
+        ensures planned { (n : ℕ) → n < 2 ^ 32 → S.Certificate.within n self.now.certificate → result ≤ 30 + D.max_size + S.Certificate.most_bytes n }
+    {
         self.proposal.encode_size() + self.certificate.encode_size()
     }
 

@@ -1,5 +1,6 @@
 //! Votes and evidence as another program spells and signs them, and what no contract says.
 
+mod artifacts;
 mod certificates;
 mod memory;
 mod refusals;

@@ -202,6 +202,27 @@ unbounded-IsCodec p = said-IsCodec p (λ x h. (h, tt)) (λ x h. h.0)
 pub bounded-IsCodec : {A : Type 0} {F W : A → Type 0} {f : A → List ℕ} {r : List ℕ → Result (A × List ℕ) CodecError} → IsCodec (Readable F W) f r → ((x : A) → W x) → IsCodec F f r
 bounded-IsCodec p all_within = said-IsCodec p (λ x h. h.0) (λ x h. (h, all_within x))
 
+-- What stands behind a tag is a value's, and the tag is its own.
+pub record TakesBehind {A : Type 0} (Fits : A → Type 0) (tag : A → ℕ) (body : A → List ℕ) (behind : ℕ → List ℕ → Result (A × List ℕ) CodecError) : Type 0 where
+  pub taken : (t : ℕ) (bytes : List ℕ) (x : A) (rest : List ℕ) → behind t bytes ≡ Ok (x, rest) → (t ≡ tag x) × (bytes ≡ body x ++ rest) × Fits x
+
+-- nothing is taken where nothing can stand
+pub nothing-taken : {A : Type 0} {F : A → Type 0} {tag : A → ℕ} {body : A → List ℕ} → TakesBehind F tag body (λ _. nothing_at)
+nothing-taken = record { taken = λ t bytes x rest e. absurd (let e' : Err Invalid ≡ done (x, rest) = e in cc) }
+
+-- one form more, whose values have this tag, and their own bytes behind it
+pub or-taken : {A B : Type 0} {Fa : A → Type 0} {f : A → List ℕ} {r : List ℕ → Result (A × List ℕ) CodecError} {F : B → Type 0} {tag : B → ℕ} {body : B → List ℕ} {others : ℕ → List ℕ → Result (B × List ℕ) CodecError}
+    (own : ℕ) (made : A → B) → IsCodec Fa f r → ((y : A) → Fa y → (own ≡ tag (made y)) × (f y ≡ body (made y)) × F (made y)) → TakesBehind F tag body others → TakesBehind F tag body (or_at own made r others)
+or-taken {A} {B} {Fa} {f} {r} {F} {tag} {body} {others} own made codec own_form later = record {
+  taken = λ t bytes x rest e. elim (or_ok own made r others t bytes x rest e) [
+    | inl h ↦
+        let k = codec.takes bytes h.1 rest h.3 in
+        let form = own_form h.1 k.1 in
+        subst (λ (y : B). (t ≡ tag y) × (bytes ≡ body y ++ rest) × F y) h.2 (h.0 ∙ form.0, k.0 ∙ ap (λ (b : List ℕ). b ++ rest) form.1, form.2)
+    | inr m ↦ later.taken t bytes x rest m
+  ];
+}
+
 -- two values of one spelling are one
 pub spelling-one : {A : Type 0} {F : A → Type 0} {f : A → List ℕ} {r : List ℕ → Result (A × List ℕ) CodecError} → IsCodec F f r → (x y : A) → F x → F y → f x ≡ f y → x ≡ y
 spelling-one {A} {F} {f} {r} p x y fits_x fits_y same =

@@ -2,6 +2,7 @@ pub mod Positions
 pub mod Codec
 pub mod Varint
 pub mod Round
+pub mod Truth
 pub mod Proposal
 pub mod Attestation
 pub mod AttestationList
@@ -11,3 +12,4 @@ pub mod ListSize
 pub mod Quorum
 pub mod Subject
 pub mod Plain
+pub mod Context

@@ -4,6 +4,7 @@ use Rattle.std.specs.List.{flat_map}
 use Rattle.std.proofs.Common.{arith, ap, ◌∙◌, length-append}
 use Rattle.std.proofs.lemmas.List.Concat.{flat_map-cons}
 use Rattle.std.proofs.lemmas.List.Elements.{All-tail}
+use Rattle.std.proofs.lemmas.Nat.{mul-le}
 use Rattle.std.proofs.Math.Nat.{suc-mul, mul-le-mul_right}
 use Rattle.simplex_types.specs.Varint.{varint, length-varint}
 use Rattle.simplex_types.specs.declared.attestation.Attestation.{Attestation}
@@ -35,3 +36,9 @@ module _ {G : Type 0} (F : G → Type 0) (f : G → List ℕ) (most : ℕ) where
       let all = all_short bounds x fits.0 in
       let more : length x * (5 + most) ≤ n * (5 + most) = mul-le-mul_right (5 + most) within.1 in
       omega (arith, length-append (varint (length x)) (flat_map (attestation_spelling f) x), count, all, more)
+
+-- which is far less than what memory holds
+pub list_modest : (most : ℕ) → most ≤ 1024 → (n : ℕ) → n < 2 ^ 32 → 5 + n * (5 + most) ≤ 2 ^ 43
+list_modest most short n small =
+    let all : n * (5 + most) ≤ 4294967295 * 1029 = mul-le n (5 + most) 4294967295 1029 (omega arith) (omega (arith, short)) in
+    omega (arith, all)

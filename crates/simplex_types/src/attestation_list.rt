@@ -212,7 +212,7 @@ impl<G: Signature> Aggregate for AttestationList<G> {
     ghost use Rattle.std.specs.Prelude.{◌*◌};
     ghost use Rattle.std.proofs.Common.{rules};
     ghost use Rattle.simplex_types.specs.ListEquality.{same_list-is};
-    ghost use Rattle.simplex_types.specs.ListSize.{list_longest};
+    ghost use Rattle.simplex_types.specs.ListSize.{list_longest, list_modest};
 
     ghost most_bytes = { λ n. 5 + n * (5 + G.max_size) };
 
@@ -221,6 +221,8 @@ impl<G: Signature> Aggregate for AttestationList<G> {
     }
 
     ghost longest = { λ n x small fits within. list_longest G.fits G.spelling G.max_size G.longest n x small fits within };
+
+    ghost modest = { λ n small. list_modest G.max_size G.small n small };
 
     ghost equal_is_same = { λ x y. same_list-is G.PartialEq.eq G.equal_is_same x y };
 

@@ -6,7 +6,7 @@ ghost use Rattle.std.specs.Int.{w32, to_be_bytes};
 ghost use Rattle.std.proofs.Common.{rules, arith};
 ghost use Rattle.sha2.specs.Hashers.{Holds256};
 ghost use Rattle.simplex_types.specs.Codec.{bytes_at, bytes-IsCodec, unbounded-IsCodec};
-ghost use Rattle.simplex_types.specs.Plain.{hashed, signature};
+ghost use Rattle.simplex_types.specs.Plain.{hashed, signature, key_at, key-IsCodec};
 ghost use Rattle.simplex_types.specs.Proposal.{proposal_spelling};
 ghost use Rattle.simplex_types.specs.Round.{round_spelling};
 ghost use Rattle.simplex_types.specs.Quorum.{IsQuorum};
@@ -19,6 +19,7 @@ use crate::codec::{CodecError, EncodeSize, MaxEncodeSize, Read, Write, read_byte
 use crate::committee::quorum;
 use crate::digest::Digest;
 use crate::duplicate::Duplicate;
+use crate::key::PublicKey;
 use crate::position::{Participant, Round};
 use crate::proposal::Proposal;
 use crate::scheme::{AssemblyError, Listing, Scheme};
@@ -27,7 +28,8 @@ use sha2::{Digest as _, Sha256};
 use std::alloc::{AllocError, Global};
 use std::marker::Model;
 
-/// The public key of a member under the plain scheme: its index.
+/// The public key of a member under the plain scheme: its index, spelled in four bytes, the most
+/// significant first.
 #[derive(Clone, Copy, Debug, PartialEq, Eq, PartialOrd, Ord, Hash)]
 pub struct PlainKey(Participant);
 
@@ -46,6 +48,56 @@ impl PlainKey {
     {
         self.0
     }
+}
+
+impl Write for PlainKey {
+    ghost fits = { λ index. index < 2 ^ 32 };
+
+    ghost spelling = { to_be_bytes w32 };
+
+    fn append(&self, out: &mut Vec<u8>) -> Result<(), AllocError> {
+        out.extend_from_slice(&self.0.get().to_be_bytes())
+    }
+}
+
+impl EncodeSize for PlainKey {
+    ghost max_size = { 4 };
+
+    fn encode_size(&self) -> usize {
+        let bytes = self.0.get().to_be_bytes();
+        bytes.as_slice().len()
+    }
+
+    ghost short = { Prim.search rules };
+}
+
+impl MaxEncodeSize for PlainKey {
+    fn max_encode_size() -> usize {
+        4
+    }
+}
+
+impl Read for PlainKey {
+    ghost within = { λ _ _. ⊤ };
+
+    ghost reading = { λ _. key_at };
+
+    ghost one_spelling = { λ _ _. unbounded-IsCodec key-IsCodec };
+
+    fn read_cfg(_alloc: Global, input: &mut &[u8], _bound: u32) -> Result<Self, CodecError> {
+        let index = u32::from_be_bytes(read_bytes(input)?);
+        Ok(PlainKey(Participant::new(index)))
+    }
+}
+
+impl PublicKey for PlainKey {
+    ghost equal_is_same = { Prim.search rules };
+
+    ghost small = { Prim.search rules };
+
+    ghost longest = { λ x h. Prim.omega arith };
+
+    ghost unbounded = { λ n x. tt };
 }
 
 impl Duplicate for PlainKey {

@@ -1,6 +1,6 @@
 //! Signing schemes.
 
-ghost use Rattle.std.specs.Prelude.{◌≡◌, ◌↔◌, ◌<◌, ◌≤◌, ◌^◌, ℕ, Bool, List, length, All, Contains, Option, Some, None, Err, IsTrue, IfSome, IsSome, IsNone, IfOk, IfErr};
+ghost use Rattle.std.specs.Prelude.{[], ◌⊎◌, ◌≡◌, ◌↔◌, ◌<◌, ◌≤◌, ◌^◌, ℕ, Bool, List, length, All, Contains, Option, Some, None, Err, IsTrue, IfSome, IsSome, IsNone, IfOk, IfErr};
 ghost use Rattle.simplex_types.specs.declared.attestation.Attestation.{Attestation};
 ghost use Rattle.simplex_types.specs.declared.scheme.AssemblyError.TheVariants.{InsufficientAttestations, Memory};
 ghost use Rattle.simplex_types.specs.Quorum.{AreDistinct, IsQuorum, quorum};
@@ -10,6 +10,7 @@ use crate::attestation::{Attestation, Signature};
 use crate::codec::{EncodeSize, Read};
 use crate::digest::Digest;
 use crate::duplicate::Duplicate;
+use crate::key::PublicKey;
 use crate::position::Participant;
 use crate::subject::Subject;
 use std::alloc::{AllocError, Global};
@@ -27,6 +28,9 @@ pub trait Aggregate: Eq + Hash + Read + EncodeSize + Duplicate + Drop {
 
     /// No spelling is longer than the most.
     ghost longest: { (n : ℕ) (x : Self) → n < 2 ^ 32 → Self.fits x → Self.within n x → length (Self.spelling x) ≤ most_bytes n };
+
+    /// The most is far less than what memory holds.
+    ghost modest: { (n : ℕ) → n < 2 ^ 32 → most_bytes n ≤ 2 ^ 43 };
 
     /// Equality is identity.
     ghost equal_is_same: { (x y : Self) → IsTrue (Self.PartialEq.eq x y) ↔ (x ≡ y) };
@@ -60,7 +64,7 @@ impl From<AllocError> for AssemblyError {
 /// if it has one.
 pub trait Scheme<D: Digest> {
     /// A member's public key.
-    type PublicKey: Copy + Eq + Duplicate;
+    type PublicKey: PublicKey;
 
     /// A member's signature. Signing one subject twice may give two signatures.
     type Signature: Signature;
@@ -133,6 +137,7 @@ pub trait Scheme<D: Digest> {
         requires members { All (λ a. a.signer < size self.now) attestations.now }
         ensures certifies { IfOk result (λ c. (x : Statement D) → All (λ a. attests self.now a.signer x a.signature) attestations.now → certifies self.now x c) }
         ensures only_given { IfOk result (λ c. (a : Attestation Self.Signature) → Contains (lists c) a → Contains attestations.now a) }
+        ensures all_given { IfOk result (λ c. (lists c ≡ []) ⊎ ((a : Attestation Self.Signature) → Contains attestations.now a → Contains (lists c) a)) }
         ensures too_few { length attestations.now < quorum (size self.now) → result ≡ Err (InsufficientAttestations (quorum (size self.now)) (length attestations.now)) }
         ensures enough { quorum (size self.now) ≤ length attestations.now → IfErr result (λ e. e ≡ Memory) };
 

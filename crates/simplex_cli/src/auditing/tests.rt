@@ -1,32 +1,23 @@
 use super::*;
 use simplex_messages::{ConflictingNotarize, Notarize};
 use simplex_types::{
-    AssemblyError, Attestation, AttestationList, Duplicate, Epoch, Participant, PlainSignature,
+    AssemblyError, Attestation, AttestationList, Epoch, Participant, PlainKey, PlainSignature,
     Proposal, Round, Sha256Digest, Subject, View,
 };
 use std::test::Fail;
 
-/// The index of a member.
-#[derive(Clone, Copy, PartialEq, Eq)]
-struct Key(u32);
-
-impl Duplicate for Key {
-    fn duplicate(&self, _alloc: Global) -> Result<Self, AllocError> {
-        Ok(*self)
-    }
-}
-
-/// A committee of four, each of whom has many signatures on a subject: all but one. It makes no
-/// certificates.
+/// A committee of four with one key, each of whom has many signatures on a subject: all but one. It
+/// makes no certificates.
 #[derive(Drop)]
 struct Lenient {
     refused: PlainSignature,
+    key: PlainKey,
 }
 
 impl Scheme<Sha256Digest> for Lenient {
     ghost use Rattle.std.specs.Prelude.{◌≢◌, ◌<◌, [], None};
 
-    type PublicKey = Key;
+    type PublicKey = PlainKey;
 
     type Signature = PlainSignature;
 
@@ -36,7 +27,7 @@ impl Scheme<Sha256Digest> for Lenient {
 
     ghost own = { λ _. None };
 
-    ghost key_of = { λ _ i. record { 0 = i } };
+    ghost key_of = { λ s _. s.key };
 
     ghost attests = { λ s i _ signature. (i < 4) × (signature ≢ s.refused) };
 
@@ -52,9 +43,9 @@ impl Scheme<Sha256Digest> for Lenient {
         None
     }
 
-    fn key(&self, index: Participant) -> Option<Key> {
+    fn key(&self, index: Participant) -> Option<PlainKey> {
         if index.get() < 4 {
-            Some(Key(index.get()))
+            Some(self.key)
         } else {
             None
         }
@@ -116,8 +107,10 @@ fn vote(alloc: Global, payload: u8, signed: u8) -> Result<Notarize<Lenient, Sha2
 
 #[test]
 fn the_votes_read_first_that_verify_are_kept(rt: HostRuntime) -> Result<(), Fail> {
+    let mut bytes = b"\x00\x00\x00\x00".as_slice();
     let scheme = Lenient {
         refused: signature(rt.alloc(), 0)?,
+        key: PlainKey::read_cfg(rt.alloc(), &mut bytes, 4)?,
     };
     // Payloads and signatures, of which 0 does not verify, and the signatures that are kept of the
     // payloads 10 and 11.

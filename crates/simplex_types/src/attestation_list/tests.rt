@@ -13,7 +13,7 @@ type List = AttestationList<PlainSignature>;
 /// Members 0, 1 and 3, each with 32 times one byte.
 const THREE: [(&[u8], u32, u8); 3] = [(&[0], 0, 10), (&[1], 1, 11), (&[3], 3, 13)];
 
-/// Members 127 and 300, the first whose index takes two bytes.
+/// Members 127 and 300. The second index takes two bytes.
 const TWO: [(&[u8], u32, u8); 2] = [(&[127], 127, 20), (&[0xac, 2], 300, 21)];
 
 /// The attestation of this index whose signature is 32 times this byte.

@@ -24,4 +24,4 @@ returns-clause-made g c =
     let listed = c.deref.ensures.value ∙ c.in_ok-attestations.ensures in
     made-from (λ v. v.round) (λ v. v.attestation) nullify (g.S.Scheme.attests c.args.scheme.now) (g.S.Scheme.certifies c.args.scheme.now) g.S.Scheme.lists
     (g.S.Scheme.size c.args.scheme.now) c.args.votes.now c.requires c.index-votes-0.result (get_or c.args.votes.now 0 c.index-votes-0.result).round refl
-    c.deref.result.now listed c.in_ok-certificate.certificate c.in_ok-certificate.ensures.certifies c.in_ok-certificate.ensures.only_given
+    c.deref.result.now listed c.in_ok-certificate.certificate c.in_ok-certificate.ensures.certifies c.in_ok-certificate.ensures.only_given c.in_ok-certificate.ensures.all_given

@@ -23,4 +23,4 @@ returns-clause-made g c =
     let listed = c.deref.ensures.value ∙ c.in_ok-attestations.ensures in
     rw c.new.ensures.certificate (made-from (λ v. v.proposal) (λ v. v.attestation) g.K.ProposalKind.states (g.S.Scheme.attests c.args.scheme.now) (g.S.Scheme.certifies c.args.scheme.now) g.S.Scheme.lists
     (g.S.Scheme.size c.args.scheme.now) c.args.votes.now c.requires c.index-votes-0.result c.new.result.proposal c.new.ensures.proposal
-    c.deref.result.now listed c.in_ok-certificate.certificate c.in_ok-certificate.ensures.certifies c.in_ok-certificate.ensures.only_given)
+    c.deref.result.now listed c.in_ok-certificate.certificate c.in_ok-certificate.ensures.certifies c.in_ok-certificate.ensures.only_given c.in_ok-certificate.ensures.all_given)

@@ -1,0 +1,257 @@
+//! Artifacts of a record.
+
+ghost use Rattle.std.specs.Prelude.{◌≡◌};
+ghost use Rattle.simplex_types.specs.Codec.{Gives, as_at, both_at};
+ghost use Rattle.simplex_types.specs.Round.{round_at};
+ghost use Rattle.simplex_types.specs.Truth.{truth_at};
+ghost use Rattle.simplex_messages.specs.Artifact.{artifact_behind, certification_artifact};
+
+use crate::certificate::Certificate;
+use crate::nullification::Nullification;
+use crate::nullify::Nullify;
+use crate::proposal_certificate::{Finalization, Notarization};
+use crate::proposal_vote::{Finalize, Notarize};
+use crate::vote::Vote;
+use simplex_types::{
+    CodecError, Digest, Duplicate, EncodeSize, Epoch, Epochable, Read, Round, Scheme, View,
+    Viewable, Write,
+};
+use std::alloc::{AllocError, Global};
+
+/// What a member keeps in its record.
+#[derive_where(Debug, PartialEq, Eq, Hash; D, S::Signature, S::Certificate)]
+#[derive(Drop)]
+pub enum Artifact<S: Scheme<D>, D: Digest> {
+    /// A vote to certify a proposal. Its tag is 0.
+    Notarize(Notarize<S, D>),
+    /// A certificate that a proposal may be built on. Its tag is 1.
+    Notarization(Notarization<S, D>),
+    /// The application's verdict on the proposal of a round. Its tag is 2.
+    Certification(Round, bool),
+    /// A vote to give a round up. Its tag is 3.
+    Nullify(Nullify<S, D>),
+    /// A certificate that a round is given up. Its tag is 4.
+    Nullification(Nullification<S, D>),
+    /// A vote to finalize a proposal. Its tag is 5.
+    Finalize(Finalize<S, D>),
+    /// A certificate that a proposal is final. Its tag is 6.
+    Finalization(Finalization<S, D>),
+}
+
+impl<S: Scheme<D>, D: Digest> From<Vote<S, D>> for Artifact<S, D> {
+    ghost use Rattle.std.specs.Prelude.{◌≡◌};
+    ghost use Rattle.simplex_messages.specs.Artifact.{vote_artifact};
+
+    ghost from_gives = { λ vote artifact. artifact ≡ vote_artifact vote };
+
+    fn from(vote: Vote<S, D>) -> Self {
+        match &vote {
+            Vote::Notarize(vote) => {
+                Artifact::Notarize(Notarize::new(vote.proposal, vote.attestation))
+            }
+            Vote::Nullify(vote) => Artifact::Nullify(Nullify {
+                round: vote.round,
+                attestation: vote.attestation,
+            }),
+            Vote::Finalize(vote) => {
+                Artifact::Finalize(Finalize::new(vote.proposal, vote.attestation))
+            }
+        }
+    }
+}
+
+impl<S: Scheme<D>, D: Digest> From<Certificate<S, D>> for Artifact<S, D> {
+    ghost use Rattle.std.specs.Prelude.{◌≡◌};
+    ghost use Rattle.simplex_messages.specs.Artifact.{certificate_artifact};
+
+    ghost from_gives = { λ certificate artifact. artifact ≡ certificate_artifact certificate };
+
+    fn from(certificate: Certificate<S, D>) -> Self {
+        match certificate {
+            Certificate::Notarization(certificate) => Artifact::Notarization(certificate),
+            Certificate::Nullification(certificate) => Artifact::Nullification(certificate),
+            Certificate::Finalization(certificate) => Artifact::Finalization(certificate),
+        }
+    }
+}
+
+impl<S: Scheme<D>, D: Digest> Epochable for Artifact<S, D> {
+    ghost use Rattle.simplex_messages.specs.Artifact.{artifact_round};
+
+    ghost epoch_of = { λ a. (artifact_round a).epoch };
+
+    fn epoch(&self) -> Epoch {
+        match self {
+            Artifact::Notarize(vote) => vote.epoch(),
+            Artifact::Notarization(certificate) => certificate.epoch(),
+            Artifact::Certification(round, _) => round.epoch,
+            Artifact::Nullify(vote) => vote.epoch(),
+            Artifact::Nullification(certificate) => certificate.epoch(),
+            Artifact::Finalize(vote) => vote.epoch(),
+            Artifact::Finalization(certificate) => certificate.epoch(),
+        }
+    }
+}
+
+impl<S: Scheme<D>, D: Digest> Viewable for Artifact<S, D> {
+    ghost use Rattle.simplex_messages.specs.Artifact.{artifact_round};
+
+    ghost view_of = { λ a. (artifact_round a).view };
+
+    fn view(&self) -> View {
+        match self {
+            Artifact::Notarize(vote) => vote.view(),
+            Artifact::Notarization(certificate) => certificate.view(),
+            Artifact::Certification(round, _) => round.view,
+            Artifact::Nullify(vote) => vote.view(),
+            Artifact::Nullification(certificate) => certificate.view(),
+            Artifact::Finalize(vote) => vote.view(),
+            Artifact::Finalization(certificate) => certificate.view(),
+        }
+    }
+}
+
+impl<S: Scheme<D>, D: Digest> Duplicate for Artifact<S, D> {
+    fn duplicate(&self, alloc: Global) -> Result<Self, AllocError> {
+        match self {
+            Artifact::Notarize(vote) => Ok(Artifact::Notarize(vote.duplicate(alloc)?)),
+            Artifact::Notarization(certificate) => {
+                Ok(Artifact::Notarization(certificate.duplicate(alloc)?))
+            }
+            Artifact::Certification(round, ok) => Ok(Artifact::Certification(*round, *ok)),
+            Artifact::Nullify(vote) => Ok(Artifact::Nullify(vote.duplicate(alloc)?)),
+            Artifact::Nullification(certificate) => {
+                Ok(Artifact::Nullification(certificate.duplicate(alloc)?))
+            }
+            Artifact::Finalize(vote) => Ok(Artifact::Finalize(vote.duplicate(alloc)?)),
+            Artifact::Finalization(certificate) => {
+                Ok(Artifact::Finalization(certificate.duplicate(alloc)?))
+            }
+        }
+    }
+}
+
+impl<S: Scheme<D>, D: Digest> Write for Artifact<S, D> {
+    ghost use Rattle.simplex_messages.specs.Artifact.{artifact_fits, artifact_spelling};
+
+    ghost fits = { artifact_fits D.fits S.Signature.fits S.Certificate.fits };
+
+    ghost spelling = { artifact_spelling D.spelling S.Signature.spelling S.Certificate.spelling };
+
+    #[tactic(auto, unfolding(crate::specs::Artifact::artifact_spelling, crate::specs::Artifact::artifact_tag, crate::specs::Artifact::artifact_body, crate::specs::Artifact::artifact_fits))]
+    fn append(&self, out: &mut Vec<u8>) -> Result<(), AllocError> {
+        match self {
+            Artifact::Notarize(vote) => {
+                out.push(0)?;
+                vote.append(out)
+            }
+            Artifact::Notarization(certificate) => {
+                out.push(1)?;
+                certificate.append(out)
+            }
+            Artifact::Certification(round, ok) => {
+                out.push(2)?;
+                round.append(out)?;
+                ok.append(out)
+            }
+            Artifact::Nullify(vote) => {
+                out.push(3)?;
+                vote.append(out)
+            }
+            Artifact::Nullification(certificate) => {
+                out.push(4)?;
+                certificate.append(out)
+            }
+            Artifact::Finalize(vote) => {
+                out.push(5)?;
+                vote.append(out)
+            }
+            Artifact::Finalization(certificate) => {
+                out.push(6)?;
+                certificate.append(out)
+            }
+        }
+    }
+}
+
+impl<S: Scheme<D>, D: Digest> EncodeSize for Artifact<S, D> {
+    ghost use Rattle.std.specs.Prelude.{◌+◌};
+    ghost use Rattle.std.proofs.Common.{arith};
+
+    ghost max_size = { 36 + D.max_size + S.Signature.max_size + S.Certificate.max_size };
+
+    #[tactic(auto, unfolding(crate::specs::Artifact::artifact_spelling, crate::specs::Artifact::artifact_tag, crate::specs::Artifact::artifact_body, crate::specs::Artifact::artifact_fits))]
+    fn encode_size(&self) -> usize {
+        match self {
+            Artifact::Notarize(vote) => 1 + vote.encode_size(),
+            Artifact::Notarization(certificate) => 1 + certificate.encode_size(),
+            Artifact::Certification(round, ok) => 1 + round.encode_size() + ok.encode_size(),
+            Artifact::Nullify(vote) => 1 + vote.encode_size(),
+            Artifact::Nullification(certificate) => 1 + certificate.encode_size(),
+            Artifact::Finalize(vote) => 1 + vote.encode_size(),
+            Artifact::Finalization(certificate) => 1 + certificate.encode_size(),
+        }
+    }
+
+    ghost short = { Prim.omega (arith, D.small, S.Signature.small, S.Certificate.small) };
+}
+
+impl<S: Scheme<D>, D: Digest> Read for Artifact<S, D> {
+    ghost use Rattle.simplex_types.specs.Codec.{bounded-IsCodec};
+    ghost use Rattle.simplex_messages.specs.Artifact.{artifact_at, artifact_within, artifact-IsCodec};
+
+    ghost within = { λ n. artifact_within (S.Certificate.within n) };
+
+    ghost reading = { λ n. artifact_at (D.reading n) (S.Signature.reading n) (S.Certificate.reading n) };
+
+    ghost one_spelling = { λ n small. artifact-IsCodec (bounded-IsCodec (D.one_spelling n small) (D.unbounded n)) (bounded-IsCodec (S.Signature.one_spelling n small) (S.Signature.unbounded n)) (S.Certificate.one_spelling n small) };
+
+    #[tactic(auto, unfolding(crate::specs::Artifact::artifact_at))]
+    fn read_cfg(alloc: Global, input: &mut &[u8], bound: u32) -> Result<Self, CodecError> {
+        let all: &[u8] = *input;
+        let [tag, rest @ ..] = all else {
+            return Err(CodecError::End);
+        };
+        let mut rest = rest;
+        let artifact = read_behind(*tag, alloc, &mut rest, bound)?;
+        *input = rest;
+        Ok(artifact)
+    }
+}
+
+/// Reads what stands behind the tag.
+#[tactic(auto, unfolding(crate::specs::Artifact::artifact_behind))]
+fn read_behind<S: Scheme<D>, D: Digest>(
+    tag: u8,
+    alloc: Global,
+    input: &mut &[u8],
+    bound: u32,
+) -> Result<Artifact<S, D>, CodecError>
+    ensures { Gives (artifact_behind (D.reading bound) (S.Signature.reading bound) (S.Certificate.reading bound) tag) input.old.now input.new.now result }
+{
+    match tag {
+        0 => Ok(Artifact::Notarize(Notarize::read_cfg(alloc, input, bound)?)),
+        1 => Ok(Artifact::Notarization(Notarization::read_cfg(alloc, input, bound)?)),
+        2 => read_certification(alloc, input, bound),
+        3 => Ok(Artifact::Nullify(Nullify::read_cfg(alloc, input, bound)?)),
+        4 => Ok(Artifact::Nullification(Nullification::read_cfg(alloc, input, bound)?)),
+        5 => Ok(Artifact::Finalize(Finalize::read_cfg(alloc, input, bound)?)),
+        6 => Ok(Artifact::Finalization(Finalization::read_cfg(alloc, input, bound)?)),
+        _ => Err(CodecError::Invalid),
+    }
+}
+
+/// Reads a round and the verdict on its proposal.
+fn read_certification<S: Scheme<D>, D: Digest>(
+    alloc: Global,
+    input: &mut &[u8],
+    bound: u32,
+) -> Result<Artifact<S, D>, CodecError>
+    ensures { Gives (as_at certification_artifact (both_at round_at truth_at)) input.old.now input.new.now result }
+{
+    let mut rest = *input;
+    let round = Round::read_cfg(alloc, &mut rest, bound)?;
+    let ok = bool::read_cfg(alloc, &mut rest, bound)?;
+    *input = rest;
+    Ok(Artifact::Certification(round, ok))
+}
