@@ -1,33 +1,193 @@
 //! What a member reports.
 
 ghost use Rattle.std.specs.Prelude.{◌≡◌};
+ghost use Rattle.simplex_types.specs.Codec.{Gives};
+ghost use Rattle.simplex_messages.specs.Activity.{activity_behind};
 
-use crate::conflicting_votes::ConflictingNotarize;
-use crate::proposal_vote::Notarize;
+use crate::conflicting_votes::{ConflictingFinalize, ConflictingNotarize};
+use crate::nullification::Nullification;
+use crate::nullify::Nullify;
+use crate::nullify_finalize::NullifyFinalize;
+use crate::proposal_certificate::{Finalization, Notarization};
+use crate::proposal_vote::{Finalize, Notarize};
 use simplex_types::{
-    CodecError, Digest, Duplicate, EncodeSize, MaxEncodeSize, Read, Scheme, Write,
+    CodecError, Digest, Duplicate, EncodeSize, Epoch, Epochable, Read, Scheme, View, Viewable,
+    Write,
 };
 use std::alloc::{AllocError, Global};
 
-/// A report: a vote that was cast, or evidence against its signer.
-#[derive_where(Debug, PartialEq, Eq, Hash; D, S::Signature)]
+/// A report: what a member saw of the others, or did itself.
+#[derive_where(Debug, PartialEq, Eq, Hash; D, S::Signature, S::Certificate)]
 #[derive(Drop)]
 pub enum Activity<S: Scheme<D>, D: Digest> {
     /// A vote to certify a proposal. Its tag is 0.
     Notarize(Notarize<S, D>),
-    /// Votes of one signer for two proposals of one round. Its tag is 7.
+    /// A certificate that a proposal may be built on. Its tag is 1.
+    Notarization(Notarization<S, D>),
+    /// The certificate of a proposal that the application found good. Its tag is 2.
+    Certification(Notarization<S, D>),
+    /// A vote to give a round up. Its tag is 3.
+    Nullify(Nullify<S, D>),
+    /// A certificate that a round is given up. Its tag is 4.
+    Nullification(Nullification<S, D>),
+    /// A vote to finalize a proposal. Its tag is 5.
+    Finalize(Finalize<S, D>),
+    /// A certificate that a proposal is final. Its tag is 6.
+    Finalization(Finalization<S, D>),
+    /// Votes of one signer to certify two proposals of one round. Its tag is 7.
     ConflictingNotarize(ConflictingNotarize<S, D>),
+    /// Votes of one signer to finalize two proposals of one round. Its tag is 8.
+    ConflictingFinalize(ConflictingFinalize<S, D>),
+    /// Votes of one signer to give a round up and to finalize a proposal of it. Its tag is 9.
+    NullifyFinalize(NullifyFinalize<S, D>),
+}
+
+impl<S: Scheme<D>, D: Digest> Activity<S, D> {
+    ghost use Rattle.std.specs.Prelude.{◌≡◌, ◌↔◌, ◌++◌, IsTrue, OnOk, OnErr, take, vec_len};
+    ghost use Rattle.simplex_messages.specs.Activity.{activity_body, activity_fits, activity_tag, HoldsCertificate, IsRight};
+
+    /// Whether what the report holds is right: the attestation of a vote, both attestations of
+    /// evidence, or the certificate.
+    pub fn verify(&self, scheme: &S) -> bool
+        ensures { IsTrue result ↔ IsRight (S.attests scheme.now) (S.certifies scheme.now) self.now }
+    {
+        match self {
+            Activity::Notarize(vote) => vote.verify(scheme),
+            Activity::Notarization(certificate) => certificate.verify(scheme),
+            Activity::Certification(certificate) => certificate.verify(scheme),
+            Activity::Nullify(vote) => vote.verify(scheme),
+            Activity::Nullification(certificate) => certificate.verify(scheme),
+            Activity::Finalize(vote) => vote.verify(scheme),
+            Activity::Finalization(certificate) => certificate.verify(scheme),
+            Activity::ConflictingNotarize(evidence) => evidence.verify(scheme),
+            Activity::ConflictingFinalize(evidence) => evidence.verify(scheme),
+            Activity::NullifyFinalize(evidence) => evidence.verify(scheme),
+        }
+    }
+
+    /// Whether a member checks what the report holds before it reports it: so it is of certificates,
+    /// and of these alone.
+    pub fn verified(&self) -> bool
+        ensures { IsTrue result ↔ HoldsCertificate self.now }
+    {
+        match self {
+            Activity::Notarization(_) => true,
+            Activity::Certification(_) => true,
+            Activity::Nullification(_) => true,
+            Activity::Finalization(_) => true,
+            _ => false,
+        }
+    }
+
+    /// The byte that the spelling begins with.
+    #[tactic(auto, unfolding(crate::specs::Activity::activity_tag))]
+    fn tag(&self) -> u8
+        ensures { result ≡ activity_tag self.now }
+    {
+        match self {
+            Activity::Notarize(_) => 0,
+            Activity::Notarization(_) => 1,
+            Activity::Certification(_) => 2,
+            Activity::Nullify(_) => 3,
+            Activity::Nullification(_) => 4,
+            Activity::Finalize(_) => 5,
+            Activity::Finalization(_) => 6,
+            Activity::ConflictingNotarize(_) => 7,
+            Activity::ConflictingFinalize(_) => 8,
+            Activity::NullifyFinalize(_) => 9,
+        }
+    }
+
+    /// Appends what stands behind the tag.
+    #[tactic(auto, unfolding(crate::specs::Activity::activity_body, crate::specs::Activity::activity_fits))]
+    fn append_behind(&self, out: &mut Vec<u8>) -> Result<(), AllocError>
+        ensures ok { OnOk result (out.new.items ≡ out.old.items ++ activity_body D.spelling S.Signature.spelling S.Certificate.spelling self.now) }
+        ensures readable { OnOk result (activity_fits D.PartialEq.eq D.fits S.Signature.fits S.Certificate.fits self.now) }
+        ensures err { OnErr result (take (vec_len out.old) out.new.items ≡ out.old.items) }
+    {
+        match self {
+            Activity::Notarize(vote) => vote.append(out),
+            Activity::Notarization(certificate) => certificate.append(out),
+            Activity::Certification(certificate) => certificate.append(out),
+            Activity::Nullify(vote) => vote.append(out),
+            Activity::Nullification(certificate) => certificate.append(out),
+            Activity::Finalize(vote) => vote.append(out),
+            Activity::Finalization(certificate) => certificate.append(out),
+            Activity::ConflictingNotarize(evidence) => evidence.append(out),
+            Activity::ConflictingFinalize(evidence) => evidence.append(out),
+            Activity::NullifyFinalize(evidence) => evidence.append(out),
+        }
+    }
+}
+
+impl<S: Scheme<D>, D: Digest> Epochable for Activity<S, D> {
+    ghost use Rattle.simplex_messages.specs.Activity.{activity_round};
+
+    ghost epoch_of = { λ a. (activity_round a).epoch };
+
+    fn epoch(&self) -> Epoch {
+        match self {
+            Activity::Notarize(vote) => vote.epoch(),
+            Activity::Notarization(certificate) => certificate.epoch(),
+            Activity::Certification(certificate) => certificate.epoch(),
+            Activity::Nullify(vote) => vote.epoch(),
+            Activity::Nullification(certificate) => certificate.epoch(),
+            Activity::Finalize(vote) => vote.epoch(),
+            Activity::Finalization(certificate) => certificate.epoch(),
+            Activity::ConflictingNotarize(evidence) => evidence.epoch(),
+            Activity::ConflictingFinalize(evidence) => evidence.epoch(),
+            Activity::NullifyFinalize(evidence) => evidence.epoch(),
+        }
+    }
+}
+
+impl<S: Scheme<D>, D: Digest> Viewable for Activity<S, D> {
+    ghost use Rattle.simplex_messages.specs.Activity.{activity_round};
+
+    ghost view_of = { λ a. (activity_round a).view };
+
+    fn view(&self) -> View {
+        match self {
+            Activity::Notarize(vote) => vote.view(),
+            Activity::Notarization(certificate) => certificate.view(),
+            Activity::Certification(certificate) => certificate.view(),
+            Activity::Nullify(vote) => vote.view(),
+            Activity::Nullification(certificate) => certificate.view(),
+            Activity::Finalize(vote) => vote.view(),
+            Activity::Finalization(certificate) => certificate.view(),
+            Activity::ConflictingNotarize(evidence) => evidence.view(),
+            Activity::ConflictingFinalize(evidence) => evidence.view(),
+            Activity::NullifyFinalize(evidence) => evidence.view(),
+        }
+    }
 }
 
 impl<S: Scheme<D>, D: Digest> Duplicate for Activity<S, D> {
-    /// Never refused: a report owns no memory.
-    fn duplicate(&self, alloc: Global) -> Result<Self, AllocError>
-        ensures { result ≡ Ok self.now }
-    {
+    fn duplicate(&self, alloc: Global) -> Result<Self, AllocError> {
         match self {
             Activity::Notarize(vote) => Ok(Activity::Notarize(vote.duplicate(alloc)?)),
+            Activity::Notarization(certificate) => {
+                Ok(Activity::Notarization(certificate.duplicate(alloc)?))
+            }
+            Activity::Certification(certificate) => {
+                Ok(Activity::Certification(certificate.duplicate(alloc)?))
+            }
+            Activity::Nullify(vote) => Ok(Activity::Nullify(vote.duplicate(alloc)?)),
+            Activity::Nullification(certificate) => {
+                Ok(Activity::Nullification(certificate.duplicate(alloc)?))
+            }
+            Activity::Finalize(vote) => Ok(Activity::Finalize(vote.duplicate(alloc)?)),
+            Activity::Finalization(certificate) => {
+                Ok(Activity::Finalization(certificate.duplicate(alloc)?))
+            }
             Activity::ConflictingNotarize(evidence) => {
                 Ok(Activity::ConflictingNotarize(evidence.duplicate(alloc)?))
+            }
+            Activity::ConflictingFinalize(evidence) => {
+                Ok(Activity::ConflictingFinalize(evidence.duplicate(alloc)?))
+            }
+            Activity::NullifyFinalize(evidence) => {
+                Ok(Activity::NullifyFinalize(evidence.duplicate(alloc)?))
             }
         }
     }
@@ -36,22 +196,14 @@ impl<S: Scheme<D>, D: Digest> Duplicate for Activity<S, D> {
 impl<S: Scheme<D>, D: Digest> Write for Activity<S, D> {
     ghost use Rattle.simplex_messages.specs.Activity.{activity_fits, activity_spelling};
 
-    ghost fits = { activity_fits D.PartialEq.eq D.fits S.Signature.fits };
+    ghost fits = { activity_fits D.PartialEq.eq D.fits S.Signature.fits S.Certificate.fits };
 
-    ghost spelling = { activity_spelling D.spelling S.Signature.spelling };
+    ghost spelling = { activity_spelling D.spelling S.Signature.spelling S.Certificate.spelling };
 
-    #[tactic(auto, unfolding(crate::specs::Activity::activity_spelling, crate::specs::Activity::activity_tag, crate::specs::Activity::activity_body, crate::specs::Activity::activity_fits))]
+    #[tactic(auto, unfolding(crate::specs::Activity::activity_spelling))]
     fn append(&self, out: &mut Vec<u8>) -> Result<(), AllocError> {
-        match self {
-            Activity::Notarize(vote) => {
-                out.push(0)?;
-                vote.append(out)
-            }
-            Activity::ConflictingNotarize(evidence) => {
-                out.push(7)?;
-                evidence.append(out)
-            }
-        }
+        out.push(self.tag())?;
+        self.append_behind(out)
     }
 }
 
@@ -59,51 +211,71 @@ impl<S: Scheme<D>, D: Digest> EncodeSize for Activity<S, D> {
     ghost use Rattle.std.specs.Prelude.{◌+◌, ◌*◌};
     ghost use Rattle.std.proofs.Common.{arith};
 
-    ghost max_size = { 71 + 2 * D.max_size + 2 * S.Signature.max_size };
+    ghost max_size = { 71 + 2 * D.max_size + 2 * S.Signature.max_size + S.Certificate.max_size };
 
-    #[tactic(auto, unfolding(crate::specs::Activity::activity_spelling, crate::specs::Activity::activity_tag, crate::specs::Activity::activity_body, crate::specs::Activity::activity_fits))]
+    #[tactic(auto, unfolding(crate::specs::Activity::activity_spelling, crate::specs::Activity::activity_body, crate::specs::Activity::activity_fits))]
     fn encode_size(&self) -> usize {
         match self {
             Activity::Notarize(vote) => 1 + vote.encode_size(),
+            Activity::Notarization(certificate) => 1 + certificate.encode_size(),
+            Activity::Certification(certificate) => 1 + certificate.encode_size(),
+            Activity::Nullify(vote) => 1 + vote.encode_size(),
+            Activity::Nullification(certificate) => 1 + certificate.encode_size(),
+            Activity::Finalize(vote) => 1 + vote.encode_size(),
+            Activity::Finalization(certificate) => 1 + certificate.encode_size(),
             Activity::ConflictingNotarize(evidence) => 1 + evidence.encode_size(),
+            Activity::ConflictingFinalize(evidence) => 1 + evidence.encode_size(),
+            Activity::NullifyFinalize(evidence) => 1 + evidence.encode_size(),
         }
     }
 
-    ghost short = { Prim.omega (arith, D.small, S.Signature.small) };
-}
-
-impl<S: Scheme<D>, D: Digest> MaxEncodeSize for Activity<S, D> {
-    fn max_encode_size() -> usize {
-        1 + ConflictingNotarize::<S, D>::max_encode_size()
-    }
+    ghost short = { Prim.omega (arith, D.small, S.Signature.small, S.Certificate.small) };
 }
 
 impl<S: Scheme<D>, D: Digest> Read for Activity<S, D> {
-    ghost use Rattle.std.specs.Prelude.{⊤};
-    ghost use Rattle.simplex_types.specs.Codec.{bounded-IsCodec, unbounded-IsCodec};
-    ghost use Rattle.simplex_messages.specs.Activity.{activity_at, activity-IsCodec};
+    ghost use Rattle.simplex_types.specs.Codec.{bounded-IsCodec};
+    ghost use Rattle.simplex_messages.specs.Activity.{activity_at, activity_within, activity-IsCodec};
 
-    ghost within = { λ _ _. ⊤ };
+    ghost within = { λ n. activity_within (S.Certificate.within n) };
 
-    ghost reading = { λ n. activity_at D.PartialEq.eq (D.reading n) (S.Signature.reading n) };
+    ghost reading = { λ n. activity_at D.PartialEq.eq (D.reading n) (S.Signature.reading n) (S.Certificate.reading n) };
 
-    ghost one_spelling = { λ n small. unbounded-IsCodec (activity-IsCodec D.PartialEq.eq (bounded-IsCodec (D.one_spelling n small) (D.unbounded n)) (bounded-IsCodec (S.Signature.one_spelling n small) (S.Signature.unbounded n))) };
+    ghost one_spelling = { λ n small. activity-IsCodec D.PartialEq.eq (bounded-IsCodec (D.one_spelling n small) (D.unbounded n)) (bounded-IsCodec (S.Signature.one_spelling n small) (S.Signature.unbounded n)) (S.Certificate.one_spelling n small) };
 
-    #[tactic(auto, unfolding(crate::specs::Activity::activity_at, crate::specs::Activity::behind_tag))]
+    #[tactic(auto, unfolding(crate::specs::Activity::activity_at))]
     fn read_cfg(alloc: Global, input: &mut &[u8], bound: u32) -> Result<Self, CodecError> {
         let all: &[u8] = *input;
         let [tag, rest @ ..] = all else {
             return Err(CodecError::End);
         };
         let mut rest = rest;
-        let activity = match *tag {
-            0 => Activity::Notarize(Notarize::read_cfg(alloc, &mut rest, bound)?),
-            7 => Activity::ConflictingNotarize(ConflictingNotarize::read_cfg(
-                alloc, &mut rest, bound,
-            )?),
-            _ => return Err(CodecError::Invalid),
-        };
+        let activity = read_behind(*tag, alloc, &mut rest, bound)?;
         *input = rest;
         Ok(activity)
+    }
+}
+
+/// Reads what stands behind the tag.
+#[tactic(auto, unfolding(crate::specs::Activity::activity_behind))]
+fn read_behind<S: Scheme<D>, D: Digest>(
+    tag: u8,
+    alloc: Global,
+    input: &mut &[u8],
+    bound: u32,
+) -> Result<Activity<S, D>, CodecError>
+    ensures { Gives (activity_behind D.PartialEq.eq (D.reading bound) (S.Signature.reading bound) (S.Certificate.reading bound) tag) input.old.now input.new.now result }
+{
+    match tag {
+        0 => Ok(Activity::Notarize(Notarize::read_cfg(alloc, input, bound)?)),
+        1 => Ok(Activity::Notarization(Notarization::read_cfg(alloc, input, bound)?)),
+        2 => Ok(Activity::Certification(Notarization::read_cfg(alloc, input, bound)?)),
+        3 => Ok(Activity::Nullify(Nullify::read_cfg(alloc, input, bound)?)),
+        4 => Ok(Activity::Nullification(Nullification::read_cfg(alloc, input, bound)?)),
+        5 => Ok(Activity::Finalize(Finalize::read_cfg(alloc, input, bound)?)),
+        6 => Ok(Activity::Finalization(Finalization::read_cfg(alloc, input, bound)?)),
+        7 => Ok(Activity::ConflictingNotarize(ConflictingNotarize::read_cfg(alloc, input, bound)?)),
+        8 => Ok(Activity::ConflictingFinalize(ConflictingFinalize::read_cfg(alloc, input, bound)?)),
+        9 => Ok(Activity::NullifyFinalize(NullifyFinalize::read_cfg(alloc, input, bound)?)),
+        _ => Err(CodecError::Invalid),
     }
 }

@@ -5,22 +5,34 @@ ghost use Rattle.simplex_messages.specs.declared.proposal_vote.ProposalVote.{Pro
 ghost use Rattle.simplex_messages.specs.declared.nullify.Nullify.{Nullify};
 ghost use Rattle.simplex_messages.specs.declared.proposal_certificate.ProposalCertificate.{ProposalCertificate};
 ghost use Rattle.simplex_messages.specs.declared.nullification.Nullification.{Nullification};
+ghost use Rattle.simplex_messages.specs.ProposalVote.{Finalize};
 ghost use Rattle.simplex_messages.specs.declared.activity.Activity.{Activity};
 
 use crate::activity::Activity;
-use crate::kind::ProposalKind;
+use crate::conflicting_votes::ConflictingVotes;
+use crate::kind::{Finalizing, Notarizing, ProposalKind};
 use crate::nullification::Nullification;
 use crate::nullify::Nullify;
+use crate::nullify_finalize::NullifyFinalize;
 use crate::proposal_certificate::ProposalCertificate;
 use crate::proposal_vote::ProposalVote;
 use simplex_types::{Digest, Scheme};
 
-/// Equality of votes, certificates and reports is identity. By the laws of `Hash`, equal ones then hash
+/// Equality of votes, certificates and evidence is identity. By the laws of `Hash`, equal ones then hash
 /// alike.
 pub fn equal_messages_are_one<K: ProposalKind<D>, S: Scheme<D>, D: Digest>()
     ensures votes { (x y : ProposalVote K S D S.PublicKey S.Signature S.Certificate) → IsTrue (⟦<ProposalVote<K, S, D> as PartialEq>⟧.eq x y) ↔ (x ≡ y) }
     ensures nullifies { (x y : Nullify S D S.PublicKey S.Signature S.Certificate) → IsTrue (⟦<Nullify<S, D> as PartialEq>⟧.eq x y) ↔ (x ≡ y) }
     ensures certificates { (x y : ProposalCertificate K S D S.PublicKey S.Signature S.Certificate) → IsTrue (⟦<ProposalCertificate<K, S, D> as PartialEq>⟧.eq x y) ↔ (x ≡ y) }
     ensures nullifications { (x y : Nullification S D S.PublicKey S.Signature S.Certificate) → IsTrue (⟦<Nullification<S, D> as PartialEq>⟧.eq x y) ↔ (x ≡ y) }
-    ensures reports { (x y : Activity S D S.PublicKey S.Signature S.Certificate) → IsTrue (⟦<Activity<S, D> as PartialEq>⟧.eq x y) ↔ (x ≡ y) }
+    ensures conflicts { (x y : ProposalVote K S D S.PublicKey S.Signature S.Certificate × ProposalVote K S D S.PublicKey S.Signature S.Certificate) → IsTrue (⟦<ConflictingVotes<K, S, D> as PartialEq>⟧.eq x y) ↔ (x ≡ y) }
+    ensures nullifies_beside { (x y : Nullify S D S.PublicKey S.Signature S.Certificate × Finalize S D S.PublicKey S.Signature S.Certificate) → IsTrue (⟦<NullifyFinalize<S, D> as PartialEq>⟧.eq x y) ↔ (x ≡ y) }
 {}
+
+/// Equality of reports is identity. By the laws of `Hash`, equal ones then hash alike.
+pub fn equal_reports_are_one<S: Scheme<D>, D: Digest>()
+    ensures { (x y : Activity S D S.PublicKey S.Signature S.Certificate) → IsTrue (⟦<Activity<S, D> as PartialEq>⟧.eq x y) ↔ (x ≡ y) }
+{
+    equal_messages_are_one::<Notarizing, S, D>();
+    equal_messages_are_one::<Finalizing, S, D>();
+}

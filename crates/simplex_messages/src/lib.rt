@@ -25,7 +25,7 @@ pub use attributable_map::{AttributableMap, AttributableMapIter};
 pub use certificate::Certificate;
 pub use conflicting_votes::{ConflictingFinalize, ConflictingNotarize, ConflictingVotes};
 pub use kind::{Finalizing, Notarizing, ProposalKind};
-pub use laws::equal_messages_are_one;
+pub use laws::{equal_messages_are_one, equal_reports_are_one};
 pub use nullification::Nullification;
 pub use nullify::Nullify;
 pub use nullify_finalize::NullifyFinalize;
