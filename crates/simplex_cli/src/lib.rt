@@ -20,6 +20,6 @@ mod verdict;
 pub use auditing::audit;
 pub use command::{Command, USAGE, number_of, parse_words};
 pub use program::{run_words, words_unread};
-pub use running::{audit_over, write_audit};
+pub use running::{audit_over, report, write_audit};
 pub use trouble::Trouble;
 pub use verdict::Audit;

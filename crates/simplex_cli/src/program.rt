@@ -13,7 +13,7 @@ ghost use Rattle.simplex_cli.specs.declared.trouble.Trouble.TheVariants.{Memory,
 
 use crate::command::{Command, USAGE, parse_words};
 use crate::output::write_whole;
-use crate::running::audit_over;
+use crate::running::{audit_over, report};
 use crate::trouble::Trouble;
 use std::alloc::Global;
 use std::io;
@@ -62,8 +62,7 @@ pub fn words_unread<F: Write>(error: &io::Error, faults: &mut F) -> u8
     ensures usage_told { result ≡ 2 → AppendsFront (F.contents faults.old) (F.contents faults.new) usage_line }
 {
     if error.kind() == io::ErrorKind::OutOfMemory {
-        let _ = write_whole(faults, Trouble::Memory.line().as_bytes());
-        return 1;
+        return report(Err(Trouble::Memory), faults);
     }
     usage(faults)
 }

@@ -1,6 +1,6 @@
 //! The program over any streams.
 
-ghost use Rattle.std.specs.Prelude.{◌≡◌, ◌≢◌, ◌<◌, ◌⊎◌, None, Some, ℕ, IfSome, IfOk, IfErr, string_bytes};
+ghost use Rattle.std.specs.Prelude.{◌≡◌, ◌≢◌, ◌<◌, ◌⊎◌, None, Some, Ok, ℕ, IfSome, IfOk, IfErr, string_bytes};
 ghost use Rattle.simplex_cli.specs.Lines.{trouble_line};
 ghost use Rattle.simplex_cli.specs.Running.{AppendsFront, AuditsOver, BreaksOff, IsAnswer};
 ghost use Rattle.simplex_cli.specs.declared.trouble.Trouble.{Trouble};
@@ -25,8 +25,9 @@ const BASE: &[u8; 7] = b"simplex";
 /// Audits the reports of `input` under the plain scheme of `count` members, and writes the lines of
 /// the audit to `output`.
 ///
-/// Answers the status: 0 where the input is whole reports, 3 where a place was named at which none
-/// stands, and 1, with the line of the [`Trouble`] on `faults`, where [`write_audit`] has no answer.
+/// The status, and the line on `faults`, are [`report`] of what [`write_audit`] answers: 0 where the
+/// input is whole reports, 3 where a place was named at which none stands, and 1, with the line of
+/// the [`Trouble`], where there is no answer.
 pub fn audit_over<R: Read, W: Write, F: Write>(
     alloc: Global,
     count: u16,
@@ -45,7 +46,22 @@ pub fn audit_over<R: Read, W: Write, F: Write>(
     ensures troubled { result ≡ 1 → (trouble : Trouble) × (trouble ≢ Write → output.new ≡ output.old) × AppendsFront (F.contents faults.old) (F.contents faults.new) (trouble_line trouble) }
     ensures broken_off { result ≡ 1 → (output.new ≡ output.old) ⊎ IfSome (R.remaining input.old) (λ bytes. BreaksOff count bytes (W.contents output.old) (W.contents output.new)) }
 {
-    match write_audit(alloc, count, input, output) {
+    report(write_audit(alloc, count, input, output), faults)
+}
+
+/// Tells what came of an audit: answers the status, and writes the line of the trouble, if there is
+/// one, to `faults`.
+///
+/// The status is 0 after a whole input, 3 after one with a fault, and 1 after a trouble. It is the
+/// same where `faults` fails: then a front of the line may have been written.
+pub fn report<F: Write>(outcome: Result<Option<usize>, Trouble>, faults: &mut F) -> u8
+    ensures whole { outcome ≡ Ok None → result ≡ 0 }
+    ensures faulty { (place : ℕ) → outcome ≡ Ok (Some place) → result ≡ 3 }
+    ensures silent { IfOk outcome (λ _. faults.new ≡ faults.old) }
+    ensures troubled { IfErr outcome (λ _. result ≡ 1) }
+    ensures told { IfErr outcome (λ trouble. AppendsFront (F.contents faults.old) (F.contents faults.new) (trouble_line trouble)) }
+{
+    match outcome {
         Ok(None) => 0,
         Ok(Some(_)) => 3,
         Err(trouble) => {

@@ -297,6 +297,21 @@ fn a_slow_output_takes_all_past_an_interruption(rt: HostRuntime) {
 }
 
 #[test]
+fn each_outcome_is_reported(rt: HostRuntime) {
+    for (outcome, status, line) in [
+        (Ok(None), 0, b"".as_slice()),
+        (Ok(Some(138)), 3, b""),
+        (Err(Trouble::Memory), 1, b"error: memory\n"),
+        (Err(Trouble::Device), 1, b"error: device\n"),
+        (Err(Trouble::Write), 1, b"error: write\n"),
+    ] {
+        let mut faults = Page::new();
+        assert_eq!(rt; report(outcome, &mut faults), status, "at {outcome:?}");
+        assert_eq!(rt; faults.taken(), line, "at {outcome:?}");
+    }
+}
+
+#[test]
 fn trouble_is_answered_by_name(rt: HostRuntime) {
     let alloc = rt.alloc();
     let mut input = SlowReader {
