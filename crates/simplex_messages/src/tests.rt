@@ -4,6 +4,7 @@ mod artifacts;
 mod certificates;
 mod memory;
 mod refusals;
+mod reports;
 mod spellings;
 mod values;
 mod vectors;

@@ -1,5 +1,6 @@
-use super::{REPORT_AA, REPORT_BB, Report, evidence_bytes, own_evidence};
-use simplex_types::Write;
+use super::vectors::{REPORT_FINALIZATION, REPORT_NOTARIZATION, REPORT_NULLIFICATION};
+use super::{MEMBERS, REPORT_AA, REPORT_BB, Report, evidence_bytes, own_evidence};
+use simplex_types::{CodecError, Duplicate, Read, Write};
 use std::test::Fail;
 
 // At each N from 6 to 9 `rt try --test --fail-alloc N` refuses one of the vector's four growths.
@@ -14,6 +15,31 @@ fn a_refused_write_leaves_the_vector_as_it_was(rt: HostRuntime) -> Result<(), Fa
             assert_eq!(rt; &bytes[3..], spelling.as_slice());
         }
         Err(_) => assert_eq!(rt; bytes.as_slice(), [1, 2, 3].as_slice()),
+    }
+    Ok(())
+}
+
+// The only requests for memory are those of the lists that are read and of their copies.
+#[test]
+fn a_refused_list_leaves_the_bytes_where_they_stood(rt: HostRuntime) -> Result<(), Fail> {
+    for bytes in [
+        REPORT_NOTARIZATION.as_slice(),
+        REPORT_NULLIFICATION.as_slice(),
+        REPORT_FINALIZATION.as_slice(),
+    ] {
+        let mut rest = bytes;
+        match Report::read_cfg(rt.alloc(), &mut rest, MEMBERS) {
+            Ok(report) => {
+                assert!(rt; rest.is_empty());
+                if let Ok(copy) = report.duplicate(rt.alloc()) {
+                    assert!(rt; copy == report);
+                }
+            }
+            Err(error) => {
+                assert_eq!(rt; error, CodecError::Memory);
+                assert_eq!(rt; rest, bytes);
+            }
+        }
     }
     Ok(())
 }

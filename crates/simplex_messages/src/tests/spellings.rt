@@ -82,7 +82,6 @@ fn each_type_reads_back_through_its_bounds(rt: HostRuntime) -> Result<(), Fail> 
 fn the_longest_spellings_have_the_sizes_that_are_promised(rt: HostRuntime) -> Result<(), Fail> {
     assert_eq!(rt; Vote::max_encode_size(), 99);
     assert_eq!(rt; Evidence::max_encode_size(), 198);
-    assert_eq!(rt; Report::max_encode_size(), 199);
     let signature = own_vote(&rt, rt.alloc(), 0xaa)?.attestation.signature;
     let first = longest_vote(0xaa, signature);
     reads_back(&rt, rt.alloc(), &first, 99)?;

@@ -1,4 +1,4 @@
-use super::{MEMBERS, Report, committee, own_evidence, own_vote, vote};
+use super::{MEMBERS, committee, own_evidence, own_vote, vote};
 use crate::kind::Notarizing;
 use crate::laws::equal_messages_are_one;
 use simplex_types::{
@@ -12,7 +12,7 @@ use std::process::Abort;
 use std::test::Fail;
 
 /// The value is found in a set by a copy of it, and the other value is not.
-fn is_found_by_its_copy<T: Eq + Hash + Duplicate + Drop>(
+pub(super) fn is_found_by_its_copy<T: Eq + Hash + Duplicate + Drop>(
     rt: &impl Abort,
     alloc: Global,
     value: T,
@@ -48,15 +48,6 @@ fn evidence_in_the_other_order_is_another_key(rt: HostRuntime) -> Result<(), Fai
     let back = own_evidence(&rt, rt.alloc(), 0xbb, 0xaa)?;
     let there = own_evidence(&rt, rt.alloc(), 0xaa, 0xbb)?;
     is_found_by_its_copy(&rt, rt.alloc(), there, &back)
-}
-
-#[test]
-fn reports_of_each_kind_are_keys_of_a_set(rt: HostRuntime) -> Result<(), Fail> {
-    let evidence = Report::ConflictingNotarize(own_evidence(&rt, rt.alloc(), 0xaa, 0xbb)?);
-    let vote = Report::Notarize(own_vote(&rt, rt.alloc(), 0xaa)?);
-    is_found_by_its_copy(&rt, rt.alloc(), vote, &evidence)?;
-    let vote = Report::Notarize(own_vote(&rt, rt.alloc(), 0xaa)?);
-    is_found_by_its_copy(&rt, rt.alloc(), evidence, &vote)
 }
 
 #[test]
