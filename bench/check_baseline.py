@@ -2,12 +2,15 @@
 """Compares an audit program with a slow model of it on small random inputs, many of them broken.
 
 usage: check_baseline.py PROGRAM [CASES]
+
+Messages are read by the plain program in vectors.py. The votes that certificates list are not counted.
 """
 
-import hashlib
 import random
 import subprocess
 import sys
+
+from vectors import VOTE_OF, attests, certificate, read, tagged_parts, vote
 
 COUNT = 3
 NUMBERS = [0, 1, 2, 127, 128, 2**14, 2**32 - 1, 2**32, 2**63 - 1, 2**63, 2**64 - 1]
@@ -22,105 +25,103 @@ ODD = [
     b"\xff" * 10 + b"\x01",
     b"\x80" * 4 + b"\x10",
 ]
+VOTES = ("notarize", "nullify", "finalize")
+CERTIFICATES = ("notarization", "nullification", "finalization")
 
 
 # The model
 
 
-class Broken(Exception):
-    pass
+def votes_in(message):
+    if message[0] in VOTES:
+        return [message]
+    return [part for part in message[1:] if part[0] in VOTES]
 
 
-def spell(number):
-    return bytes([number]) if number < 128 else bytes([number % 128 + 128]) + spell(number // 128)
+def gather(votes):
+    """By round and signer, then by kind of vote, what the verifying votes are for."""
+    cast = {}
+    for kind, subject, attestation in votes:
+        if attests(COUNT, kind, subject, attestation):
+            round_ = subject if kind == "nullify" else subject[1]
+            choice = () if kind == "nullify" else subject[2:]
+            key = (round_[1], round_[2], attestation[1])
+            cast.setdefault(key, {}).setdefault(kind, set()).add(choice)
+    return cast
 
 
-def take(data, length):
-    if len(data) < length:
-        raise Broken
-    return data[:length], data[length:]
+def lines_of(cast):
+    for key in sorted(cast):
+        chosen = {kind: sorted(cast[key].get(kind, ())) for kind in VOTES}
+        for kind in ("notarize", "finalize"):
+            if len(chosen[kind]) > 1:
+                yield line(f"conflicting-{kind}", key, chosen[kind][:2])
+        if chosen["nullify"] and chosen["finalize"]:
+            yield line("nullify-finalize", key, chosen["finalize"][:1])
 
 
-def take_number(data, limit):
-    length = 1 + next((at for at, byte in enumerate(data) if byte < 128), len(data))
-    spelled, rest = take(data, length)
-    number = sum(byte % 128 * 128**at for at, byte in enumerate(spelled))
-    if number >= limit or spell(number) != spelled:
-        raise Broken
-    return number, rest
-
-
-def take_vote(data):
-    epoch, rest = take_number(data, 2**64)
-    view, rest = take_number(rest, 2**64)
-    parent, rest = take_number(rest, 2**64)
-    payload, rest = take(rest, 32)
-    proposal = data[: len(data) - len(rest)]
-    signer, rest = take_number(rest, 2**32)
-    signature, rest = take(rest, 32)
-    verifies = signer < COUNT and sign(signer, proposal) == signature
-    return ((epoch, view, signer), (parent, payload), verifies), rest
-
-
-def take_message(data):
-    tag, rest = take(data, 1)
-    if tag not in (b"\x00", b"\x07"):
-        raise Broken
-    first, rest = take_vote(rest)
-    if tag == b"\x00":
-        return [first], rest
-    second, rest = take_vote(rest)
-    if first[0] != second[0] or first[1] == second[1]:
-        raise Broken
-    return [first, second], rest
-
-
-def sign(index, proposal):
-    signed = index.to_bytes(4, "big") + (16).to_bytes(4, "big") + b"simplex_NOTARIZE" + proposal
-    return hashlib.sha256(signed).digest()
+def line(word, key, choices):
+    least = "".join(f" parent {parent} payload {payload.hex()}" for parent, payload in choices)
+    return "{} epoch {} view {} signer {}".format(word, *key) + least + "\n"
 
 
 def model(data):
-    choices, rest, last = {}, data, []
-    try:
-        while rest:
-            votes, rest = take_message(rest)
-            for key, choice, verifies in votes:
-                choices.setdefault(key, set()).update([choice] if verifies else [])
-    except Broken:
-        last = [f"fault at byte {len(data) - len(rest)}"]
-    lines = [line(key, sorted(choices[key])) for key in sorted(choices) if len(choices[key]) > 1]
-    return "".join(text + "\n" for text in lines + last), 3 if last else 0
-
-
-def line(key, choices):
-    least = "".join(f" parent {parent} payload {payload.hex()}" for parent, payload in choices[:2])
-    return "conflicting-notarize epoch {} view {} signer {}".format(*key) + least
+    votes, rest, last = [], data, ""
+    while rest and not last:
+        answer = read("Activity", rest, COUNT)
+        if isinstance(answer, str):
+            last = f"fault at byte {len(data) - len(rest)}\n"
+        else:
+            votes += votes_in(answer[0])
+            rest = answer[1]
+    return "".join(lines_of(gather(votes))) + last, 3 if last else 0
 
 
 # The inputs
 
 
-def some_spelling(number, chance):
-    return chance.choice(ODD) if chance.random() < 0.005 else spell(number)
-
-
-def some_vote(key, chance):
+def some_vote(kind, key, chance):
     epoch, view, index = key
-    numbers = [epoch, view, chance.choice(NUMBERS)]
-    spelled = b"".join(some_spelling(number, chance) for number in numbers)
-    proposal = spelled + chance.choice(PAYLOADS)
-    signature = sign(index, proposal) if chance.random() < 0.9 else bytes(32)
-    return proposal + some_spelling(index, chance) + signature
+    subject = round_ = ("round", epoch, view)
+    if kind != "nullify":
+        subject = ("proposal", round_, chance.choice(NUMBERS), chance.choice(PAYLOADS))
+    made = vote(kind, index, subject)
+    if chance.random() < 0.9:
+        return made
+    return (kind, subject, ("attestation", index, bytes(32)))
+
+
+def some_certificate(kind, key, chance):
+    subject = some_vote(VOTE_OF[kind], key, chance)[1]
+    listed = [index for index in (0, 1, 2, 3) if chance.random() < (0.8 if index < 3 else 0.02)]
+    return certificate(kind, listed, subject)
 
 
 def some_message(keys, chance):
     first, second = chance.choice(keys), chance.choice(keys)
-    if chance.random() < 0.7:
-        return b"\x00" + some_vote(first, chance)
+    dice = chance.random()
+    if dice < 0.6:
+        return some_vote(chance.choice(VOTES), first, chance)
+    if dice < 0.75:
+        made = some_certificate(chance.choice(CERTIFICATES), first, chance)
+        certified = made[0] == "notarization" and chance.random() < 0.5
+        return ("certified", made) if certified else made
     # Evidence of two rounds or signers is broken, as that of equal proposals is: both are rare.
     second = first if chance.random() < 0.98 else second
-    return b"\x07" + some_vote(first, chance) + some_vote(second, chance)
+    name, kinds = chance.choice([
+        ("conflicting-notarize", ("notarize", "notarize")),
+        ("conflicting-finalize", ("finalize", "finalize")),
+        ("nullify-finalize", ("nullify", "finalize")),
+    ])
+    return (name, some_vote(kinds[0], first, chance), some_vote(kinds[1], second, chance))
+
+
+def some_spelling(message, chance):
+    """The message's bytes, seldom with an odd spelling in place of a number or the tag."""
+    return b"".join(
+        chance.choice(ODD) if len(part) != 32 and chance.random() < 0.002 else part
+        for _, part in tagged_parts("Activity", message)
+    )
 
 
 def bent(data, chance):
@@ -135,7 +136,9 @@ def some_input(chance):
     keys = [
         (chance.choice(NUMBERS), chance.choice(NUMBERS), chance.choice(INDICES)) for _ in range(4)
     ]
-    data = b"".join(some_message(keys, chance) for _ in range(chance.randrange(30)))
+    data = b"".join(
+        some_spelling(some_message(keys, chance), chance) for _ in range(chance.randrange(30))
+    )
     return bent(data, chance) if data and chance.random() < 0.4 else data
 
 

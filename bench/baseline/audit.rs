@@ -1,16 +1,16 @@
 //! The audit in plain Rust: what `simplex audit COUNT` is measured against.
 //!
-//! Reads `Activity` messages from standard input to its end and prints the signers that signed
-//! two different proposals in one round. It is meant to be good portable code, so that the
-//! comparison is a fair one: no crates, no intrinsics, no allocation for a vote.
+//! Reads `Activity` messages from standard input to its end and prints the signers of whom two votes
+//! contradict each other. Votes in certificates are not counted. It is meant to be good portable code,
+//! so that the comparison is a fair one: no crates, no intrinsics, no allocation for a vote.
 
 use std::collections::btree_map::{BTreeMap, Entry};
+use std::collections::BTreeSet;
 use std::io::{self, BufWriter, Read, Write};
 use std::process::ExitCode;
 
 /// The status of an audit that met a place without a whole message.
 const FAULT: u8 = 3;
-const NAMESPACE: &[u8; 16] = b"simplex_NOTARIZE";
 const VARINT_BYTES: usize = 10;
 const PAYLOAD_BYTES: usize = 32;
 const DIGEST_BYTES: usize = 32;
@@ -56,17 +56,24 @@ fn run(count: u64) -> io::Result<ExitCode> {
 fn audit(input: &[u8], count: u64) -> (Ledger<'_>, Option<usize>) {
     let mut ledger = Ledger {
         count,
-        votes: BTreeMap::new(),
+        notarizes: BTreeMap::new(),
+        nullifies: BTreeSet::new(),
+        finalizes: BTreeMap::new(),
     };
-    let mut reader = Reader { input, place: 0 };
+    let mut reader = Reader {
+        input,
+        place: 0,
+        count,
+    };
     while reader.place < input.len() {
         let start = reader.place;
         match reader.activity() {
-            Some(Activity::Notarize(vote)) => ledger.record(&vote),
-            Some(Activity::ConflictingNotarize(first, second)) => {
+            Some(Activity::Vote(vote)) => ledger.record(&vote),
+            Some(Activity::Evidence(first, second)) => {
                 ledger.record(&first);
                 ledger.record(&second);
             }
+            Some(Activity::Certificate) => {}
             None => return (ledger, Some(start)),
         }
     }
@@ -89,31 +96,49 @@ struct Choice<'a> {
     payload: &'a [u8; PAYLOAD_BYTES],
 }
 
-struct Notarize<'a> {
+#[derive(Clone, Copy, PartialEq, Eq)]
+enum Statement<'a> {
+    Notarize(Choice<'a>),
+    Nullify,
+    Finalize(Choice<'a>),
+}
+
+struct Vote<'a> {
     round: Round,
-    choice: Choice<'a>,
-    /// The proposal's bytes. A proposal has but one spelling, so these are the ones signed.
-    proposal: &'a [u8],
+    statement: Statement<'a>,
+    /// The bytes of the proposal or of the round. Each has but one spelling, so these are the ones
+    /// signed.
+    message: &'a [u8],
     signer: u32,
     signature: &'a [u8; DIGEST_BYTES],
 }
 
-impl Notarize<'_> {
-    fn conflicts_with(&self, other: &Notarize) -> bool {
-        self.round == other.round && self.signer == other.signer && self.choice != other.choice
+impl Vote<'_> {
+    /// For evidence, which holds votes of one kind, or a nullify and a finalize.
+    fn conflicts_with(&self, other: &Vote) -> bool {
+        self.round == other.round
+            && self.signer == other.signer
+            && self.statement != other.statement
     }
 
     fn verifies(&self, count: u64) -> bool {
-        u64::from(self.signer) < count && signature(self.signer, self.proposal) == *self.signature
+        let namespace = match self.statement {
+            Statement::Notarize(_) => b"simplex_NOTARIZE".as_slice(),
+            Statement::Nullify => b"simplex_NULLIFY",
+            Statement::Finalize(_) => b"simplex_FINALIZE",
+        };
+        u64::from(self.signer) < count
+            && signature(self.signer, namespace, self.message) == *self.signature
     }
 }
 
 enum Activity<'a> {
-    Notarize(Notarize<'a>),
-    ConflictingNotarize(Notarize<'a>, Notarize<'a>),
+    Vote(Vote<'a>),
+    Evidence(Vote<'a>, Vote<'a>),
+    Certificate,
 }
 
-/// The two least of the proposals that one signer signed in one round.
+/// The two least of the proposals that one signer voted for in one round.
 struct Least<'a> {
     first: Choice<'a>,
     second: Option<Choice<'a>>,
@@ -130,43 +155,94 @@ impl<'a> Least<'a> {
     }
 }
 
+type Suspect = (Round, u32);
+
+type Choices<'a> = BTreeMap<Suspect, Least<'a>>;
+
 struct Ledger<'a> {
     /// How many participants there are: a signer from this index on attests nothing.
     count: u64,
-    votes: BTreeMap<(Round, u32), Least<'a>>,
+    notarizes: Choices<'a>,
+    nullifies: BTreeSet<Suspect>,
+    finalizes: Choices<'a>,
 }
 
+/// The order is the order of lines for one suspect.
+#[derive(Clone, Copy, PartialEq, Eq, PartialOrd, Ord)]
+enum Kind {
+    ConflictingNotarize,
+    ConflictingFinalize,
+    NullifyFinalize,
+}
+
+type Line<'a> = (Suspect, Kind, Choice<'a>, Option<Choice<'a>>);
+
 impl<'a> Ledger<'a> {
-    fn record(&mut self, vote: &Notarize<'a>) {
+    fn record(&mut self, vote: &Vote<'a>) {
         if !vote.verifies(self.count) {
             return;
         }
-        match self.votes.entry((vote.round, vote.signer)) {
-            Entry::Occupied(entry) => entry.into_mut().add(vote.choice),
-            Entry::Vacant(entry) => {
-                entry.insert(Least {
-                    first: vote.choice,
-                    second: None,
-                });
+        let suspect = (vote.round, vote.signer);
+        match vote.statement {
+            Statement::Notarize(choice) => add_choice(&mut self.notarizes, suspect, choice),
+            Statement::Finalize(choice) => add_choice(&mut self.finalizes, suspect, choice),
+            Statement::Nullify => {
+                self.nullifies.insert(suspect);
             }
         }
     }
 
+    fn lines(&self) -> Vec<Line<'a>> {
+        let mut lines = Vec::new();
+        lines.extend(conflicts(&self.notarizes, Kind::ConflictingNotarize));
+        lines.extend(conflicts(&self.finalizes, Kind::ConflictingFinalize));
+        lines.extend(self.nullifies.iter().filter_map(|suspect| {
+            let least = self.finalizes.get(suspect)?;
+            Some((*suspect, Kind::NullifyFinalize, least.first, None))
+        }));
+        lines.sort_unstable();
+        lines
+    }
+
     fn print(&self, output: &mut impl Write) -> io::Result<()> {
-        for ((round, signer), least) in &self.votes {
-            let Some(second) = least.second else { continue };
-            write!(
-                output,
-                "conflicting-notarize epoch {} view {}",
-                round.epoch, round.view
-            )?;
+        for ((round, signer), kind, first, second) in self.lines() {
+            let word = match kind {
+                Kind::ConflictingNotarize => "conflicting-notarize",
+                Kind::ConflictingFinalize => "conflicting-finalize",
+                Kind::NullifyFinalize => "nullify-finalize",
+            };
+            write!(output, "{word} epoch {} view {}", round.epoch, round.view)?;
             write!(output, " signer {signer}")?;
-            print_choice(output, least.first)?;
-            print_choice(output, second)?;
+            print_choice(output, first)?;
+            if let Some(second) = second {
+                print_choice(output, second)?;
+            }
             writeln!(output)?;
         }
         Ok(())
     }
+}
+
+fn add_choice<'a>(choices: &mut Choices<'a>, suspect: Suspect, choice: Choice<'a>) {
+    match choices.entry(suspect) {
+        Entry::Occupied(entry) => entry.into_mut().add(choice),
+        Entry::Vacant(entry) => {
+            entry.insert(Least {
+                first: choice,
+                second: None,
+            });
+        }
+    }
+}
+
+fn conflicts<'a, 'b>(
+    choices: &'b Choices<'a>,
+    kind: Kind,
+) -> impl Iterator<Item = Line<'a>> + use<'a, 'b> {
+    choices
+        .iter()
+        .filter(|(_, least)| least.second.is_some())
+        .map(move |(suspect, least)| (*suspect, kind, least.first, least.second))
 }
 
 fn print_choice(output: &mut impl Write, choice: Choice) -> io::Result<()> {
@@ -183,40 +259,102 @@ fn print_choice(output: &mut impl Write, choice: Choice) -> io::Result<()> {
 struct Reader<'a> {
     input: &'a [u8],
     place: usize,
+    /// How many participants there are, which bounds the lists of certificates.
+    count: u64,
 }
 
 impl<'a> Reader<'a> {
     fn activity(&mut self) -> Option<Activity<'a>> {
         match self.byte()? {
-            0 => Some(Activity::Notarize(self.notarize()?)),
+            0 => Some(Activity::Vote(self.proposal_vote(Statement::Notarize)?)),
+            1 | 2 | 6 => {
+                self.proposal()?;
+                self.list()
+            }
+            3 => Some(Activity::Vote(self.nullify()?)),
+            4 => {
+                self.round()?;
+                self.list()
+            }
+            5 => Some(Activity::Vote(self.proposal_vote(Statement::Finalize)?)),
             7 => {
-                let (first, second) = (self.notarize()?, self.notarize()?);
-                let proven = first.conflicts_with(&second);
-                proven.then_some(Activity::ConflictingNotarize(first, second))
+                let first = self.proposal_vote(Statement::Notarize)?;
+                evidence(first, self.proposal_vote(Statement::Notarize)?)
+            }
+            8 => {
+                let first = self.proposal_vote(Statement::Finalize)?;
+                evidence(first, self.proposal_vote(Statement::Finalize)?)
+            }
+            9 => {
+                let first = self.nullify()?;
+                evidence(first, self.proposal_vote(Statement::Finalize)?)
             }
             _ => None,
         }
     }
 
-    fn notarize(&mut self) -> Option<Notarize<'a>> {
+    fn proposal_vote(&mut self, statement: fn(Choice<'a>) -> Statement<'a>) -> Option<Vote<'a>> {
         let start = self.place;
-        let round = Round {
+        let (round, choice) = self.proposal()?;
+        let message = &self.input[start..self.place];
+        self.attested(round, statement(choice), message)
+    }
+
+    fn nullify(&mut self) -> Option<Vote<'a>> {
+        let start = self.place;
+        let round = self.round()?;
+        let message = &self.input[start..self.place];
+        self.attested(round, Statement::Nullify, message)
+    }
+
+    fn attested(
+        &mut self,
+        round: Round,
+        statement: Statement<'a>,
+        message: &'a [u8],
+    ) -> Option<Vote<'a>> {
+        let signer = u32::try_from(self.varint()?).ok()?;
+        Some(Vote {
+            round,
+            statement,
+            message,
+            signer,
+            signature: self.array()?,
+        })
+    }
+
+    fn round(&mut self) -> Option<Round> {
+        Some(Round {
             epoch: self.varint()?,
             view: self.varint()?,
-        };
+        })
+    }
+
+    fn proposal(&mut self) -> Option<(Round, Choice<'a>)> {
+        let round = self.round()?;
         let choice = Choice {
             parent: self.varint()?,
             payload: self.array()?,
         };
-        let proposal = &self.input[start..self.place];
-        let signer = u32::try_from(self.varint()?).ok()?;
-        Some(Notarize {
-            round,
-            choice,
-            proposal,
-            signer,
-            signature: self.array()?,
-        })
+        Some((round, choice))
+    }
+
+    /// Passes over the attestations of a certificate.
+    fn list(&mut self) -> Option<Activity<'a>> {
+        let listed = self.varint()?;
+        if listed > self.count {
+            return None;
+        }
+        let mut least = 0;
+        for _ in 0..listed {
+            let index = self.varint()?;
+            if index < least || index >= self.count {
+                return None;
+            }
+            self.array::<DIGEST_BYTES>()?;
+            least = index + 1;
+        }
+        Some(Activity::Certificate)
     }
 
     fn varint(&mut self) -> Option<u64> {
@@ -251,19 +389,26 @@ impl<'a> Reader<'a> {
     }
 }
 
+fn evidence<'a>(first: Vote<'a>, second: Vote<'a>) -> Option<Activity<'a>> {
+    let proven = first.conflicts_with(&second);
+    proven.then_some(Activity::Evidence(first, second))
+}
+
 // The signatures
 
+const LONGEST_NAMESPACE: usize = 16;
 const LONGEST_PROPOSAL: usize = 3 * VARINT_BYTES + PAYLOAD_BYTES;
-const LONGEST_SIGNED: usize = 4 + 4 + NAMESPACE.len() + LONGEST_PROPOSAL;
+const LONGEST_SIGNED: usize = 4 + 4 + LONGEST_NAMESPACE + LONGEST_PROPOSAL;
 
-/// The signature of an index on a proposal: the digest of index, namespace and proposal.
-fn signature(index: u32, proposal: &[u8]) -> [u8; DIGEST_BYTES] {
+/// The signature of an index on a proposal or a round: the digest of index, namespace and message.
+fn signature(index: u32, namespace: &[u8], message: &[u8]) -> [u8; DIGEST_BYTES] {
     let mut signed = [0; LONGEST_SIGNED];
+    let from = 8 + namespace.len();
+    let end = from + message.len();
     signed[0..4].copy_from_slice(&index.to_be_bytes());
-    signed[4..8].copy_from_slice(&(NAMESPACE.len() as u32).to_be_bytes());
-    signed[8..24].copy_from_slice(NAMESPACE);
-    let end = 24 + proposal.len();
-    signed[24..end].copy_from_slice(proposal);
+    signed[4..8].copy_from_slice(&(namespace.len() as u32).to_be_bytes());
+    signed[8..from].copy_from_slice(namespace);
+    signed[from..end].copy_from_slice(message);
     sha256(&signed[..end])
 }
 
