@@ -1,5 +1,6 @@
 //! Certificates of the three kinds.
 
+ghost use Rattle.std.specs.Prelude.{◌≡◌, ◌≤◌, ◌<◌, ◌^◌, ℕ, length};
 ghost use Rattle.simplex_types.specs.Codec.{Gives};
 ghost use Rattle.simplex_messages.specs.Certificate.{any_certificate_behind};
 
@@ -24,8 +25,16 @@ pub enum Certificate<S: Scheme<D>, D: Digest> {
 }
 
 impl<S: Scheme<D>, D: Digest> Certificate<S, D> {
-    ghost use Rattle.std.specs.Prelude.{◌↔◌, IsTrue};
+    ghost use Rattle.std.specs.Prelude.{◌≡◌, ◌↔◌, ◌+◌, IsTrue};
     ghost use Rattle.simplex_messages.specs.Certificate.{certificate_statement, certified_by};
+
+    /// How many bytes the spelling of a certificate of a committee of so many has at most, of any
+    /// kind and with its tag. Of each value `encode_size` says that it is no longer.
+    pub fn max_encode_size(participants: u32) -> usize
+        ensures { result ≡ 31 + D.max_size + S.Certificate.most_bytes participants }
+    {
+        1 + Notarization::<S, D>::max_encode_size(participants)
+    }
 
     /// Whether the certificate certifies what it is on.
     pub fn verify(&self, scheme: &S) -> bool
@@ -112,11 +121,17 @@ impl<S: Scheme<D>, D: Digest> Write for Certificate<S, D> {
 impl<S: Scheme<D>, D: Digest> EncodeSize for Certificate<S, D> {
     ghost use Rattle.std.specs.Prelude.{◌+◌};
     ghost use Rattle.std.proofs.Common.{arith};
+    ghost use Rattle.simplex_messages.specs.Certificate.{any_certificate_fits, any_certificate_spelling, certified_by};
 
     ghost max_size = { 31 + D.max_size + S.Certificate.max_size };
 
     #[tactic(auto, unfolding(crate::specs::Certificate::any_certificate_spelling, crate::specs::Certificate::any_certificate_tag, crate::specs::Certificate::any_certificate_body, crate::specs::Certificate::any_certificate_fits))]
-    fn encode_size(&self) -> usize {
+    fn encode_size(&self) -> usize
+        ensures size { result ≡ length (any_certificate_spelling D.spelling S.Certificate.spelling self.now) }
+        ensures bounded { result ≤ 31 + D.max_size + S.Certificate.max_size }
+        ensures readable { any_certificate_fits D.fits S.Certificate.fits self.now }
+        ensures planned { (n : ℕ) → n < 2 ^ 32 → S.Certificate.within n (certified_by self.now) → result ≤ 31 + D.max_size + S.Certificate.most_bytes n }
+    {
         match self {
             Certificate::Notarization(certificate) => 1 + certificate.encode_size(),
             Certificate::Nullification(certificate) => 1 + certificate.encode_size(),

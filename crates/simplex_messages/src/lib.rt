@@ -16,6 +16,7 @@ mod proposal_certificate;
 mod proposal_vote;
 #[cfg(test)]
 mod tests;
+mod verifying;
 mod vote;
 
 pub use activity::Activity;
@@ -31,4 +32,5 @@ pub use nullify::Nullify;
 pub use nullify_finalize::NullifyFinalize;
 pub use proposal_certificate::{Finalization, Notarization, ProposalCertificate};
 pub use proposal_vote::{Finalize, Notarize, ProposalVote};
+pub use verifying::verify_certificates;
 pub use vote::Vote;

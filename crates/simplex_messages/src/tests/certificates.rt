@@ -11,8 +11,8 @@ use super::vectors::{
 use super::{MEMBERS, committee, proposal, spelled, with_byte};
 use crate::kind::ProposalKind;
 use crate::{
-    Finalization, Finalize, Notarization, Notarize, Nullification, Nullify, NullifyFinalize,
-    ProposalVote,
+    Certificate, Finalization, Finalize, Notarization, Notarize, Nullification, Nullify,
+    NullifyFinalize, ProposalVote, verify_certificates,
 };
 use simplex_types::{
     AssemblyError, Attributable, CodecError, Duplicate, EncodeSize, Epoch, Epochable, Participant,
@@ -216,6 +216,30 @@ fn a_certificate_is_of_its_kind_committee_and_round(rt: HostRuntime) -> Result<(
     assert_eq!(rt;
         finalization.round(),
         Round::new(Epoch::new(0), View::new(2))
+    );
+    Ok(())
+}
+
+#[test]
+fn each_of_many_certificates_has_its_answer(rt: HostRuntime) -> Result<(), Fail> {
+    let alloc = rt.alloc();
+    let scheme = committee(alloc, MEMBERS, None)?;
+    let mut certificates: Vec<Certificate<PlainScheme, Sha256Digest>> = Vec::new(alloc);
+    for (tag, value) in [
+        (0u8, REPORT_NOTARIZATION.as_slice()),
+        (0, REPORT_FINALIZATION.as_slice()),
+        (1, REPORT_NULLIFICATION.as_slice()),
+        (2, REPORT_FINALIZATION.as_slice()),
+    ] {
+        let bytes = with_byte(alloc, value, 0, tag)?;
+        let mut rest = bytes.as_slice();
+        certificates.push(Certificate::read_cfg(alloc, &mut rest, MEMBERS)?)?;
+    }
+    let answers = verify_certificates(alloc, &scheme, &certificates)?;
+    assert_eq!(rt; answers.as_slice(), [true, false, true, true].as_slice());
+    assert_eq!(rt;
+        Certificate::<PlainScheme, Sha256Digest>::max_encode_size(MEMBERS),
+        216
     );
     Ok(())
 }
