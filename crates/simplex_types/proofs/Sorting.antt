@@ -83,3 +83,22 @@ module _ {G : Type 0} where
   pub AscendsFrom-distinct : (low : ℕ) (x : List (Attestation G)) → AscendsFrom low x → AreDistinct x
   AscendsFrom-distinct low [] up = λ i j d l m. absurd (omega arith)
   AscendsFrom-distinct low (a ∷ x) up = AllPairs-cons (λ (b c : Attestation G). b.signer ≢ c.signer) a x (λ k d l e. let later = from_low (a.signer + 1) x up.1 k d l in absurd (omega (arith, later, e))) (AscendsFrom-distinct (a.signer + 1) x up.1)
+
+  two_by : (i : ℕ) (x : List (Attestation G)) (k l : ℕ) (d : Attestation G) → k < l → l < length x → (get_or x k d).signer ≡ i → (get_or x l d).signer ≡ i → 2 ≤ sum_by (is_by i) x
+  two_by i [] k l d before below e f = absurd (omega arith)
+  two_by i (a ∷ x) k zero d before below e f = absurd (omega arith)
+  two_by i (a ∷ x) zero (suc l) d before below e f =
+      let own : (a.signer == i) ≡ true = search (arith, e) in
+      let later = some_by i x l d (omega arith) f in
+      rw (one_more i a x, own) (omega (arith, later))
+  two_by i (a ∷ x) (suc k) (suc l) d before below e f =
+      let later = two_by i x k l d (omega arith) (omega arith) e f in
+      rw (one_more i a x) (omega (arith, later))
+
+  -- attestations that ascend in some order are of distinct members
+  pub AscendsFrom-distinct_before : (given x : List (Attestation G)) → IsPermutation given x → AscendsFrom 0 x → AreDistinct given
+  AscendsFrom-distinct_before given x moved up = λ i j d l m e.
+      let signer = (get_or given i d).signer in
+      let two : 2 ≤ sum_by (is_by signer) given = two_by signer given i j d l m refl (sym e) in
+      let one : sum_by (is_by signer) x ≤ 1 = one_by x (AscendsFrom-distinct 0 x up) signer in
+      absurd (omega (arith, two, one, sum_by-IsPermutation (is_by signer) given x moved))

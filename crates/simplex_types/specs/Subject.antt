@@ -19,6 +19,12 @@ statement (code.Notarize p) = notarize p.now
 statement (code.Nullify r) = nullify r
 statement (code.Finalize p) = finalize p.now
 
+-- the round that a statement is on
+abbrev pub statement_round : {D : Type 0} → Statement D → Round
+statement_round (notarize p) = p.round
+statement_round (nullify r) = r
+statement_round (finalize p) = p.round
+
 -- the message that is signed, where these are a payload's bytes
 abbrev pub message : {D : Type 0} → (D → List ℕ) → Statement D → List ℕ
 message payload (notarize p) = proposal_spelling payload p

@@ -3,6 +3,7 @@
 ghost use Rattle.std.specs.Prelude.{[], ◌⊎◌, ◌≡◌, ◌↔◌, ◌<◌, ◌≤◌, ◌^◌, ℕ, Bool, List, length, All, Contains, Option, Some, None, Err, IsTrue, IfSome, IsSome, IsNone, IfOk, IfErr};
 ghost use Rattle.simplex_types.specs.declared.attestation.Attestation.{Attestation};
 ghost use Rattle.simplex_types.specs.declared.scheme.AssemblyError.TheVariants.{InsufficientAttestations, Memory};
+ghost use Rattle.simplex_types.specs.AttestationList.{AscendsFrom};
 ghost use Rattle.simplex_types.specs.Quorum.{AreDistinct, IsQuorum, quorum};
 ghost use Rattle.simplex_types.specs.Subject.{Statement, statement};
 
@@ -147,9 +148,10 @@ pub trait Scheme<D: Digest> {
 
 /// Schemes whose certificates list their attestations.
 pub trait Listing<D: Digest>: Scheme<D> {
-    /// The attestations that the certificate lists.
+    /// The attestations that the certificate lists, by strictly ascending index.
     fn attestations(certificate: &Self::Certificate) -> &[Attestation<Self::Signature>]
-        ensures { result.now ≡ Self.lists certificate.now };
+        ensures listed { result.now ≡ Self.lists certificate.now }
+        ensures ascending { AscendsFrom 0 (Self.lists certificate.now) };
 
     /// What certifies lists attestations of a quorum.
     ghost backed: { (s : Self) (x : Statement D) (c : Self.Certificate) → Self.certifies s x c → IsQuorum (Self.size s) (λ i a. Self.attests s i x a) (Self.lists c) };

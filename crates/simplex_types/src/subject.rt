@@ -3,9 +3,10 @@
 ghost use Rattle.std.specs.Prelude.{◌≡◌, ◌++◌, ◌≤◌, ℕ, List, IfOk, length};
 ghost use Rattle.simplex_types.specs.Subject.{Statement, statement, message, namespace, kind_name, OneSubjectEach};
 
+use crate::attributes::{Epochable, Viewable};
 use crate::codec::Write;
 use crate::digest::Digest;
-use crate::position::Round;
+use crate::position::{Epoch, Round, View};
 use crate::proposal::Proposal;
 use std::alloc::{AllocError, Global};
 use std::marker::Model;
@@ -45,6 +46,34 @@ impl<D: Digest> Subject<'_, D> {
             Subject::Finalize(proposal) => proposal.write(&mut bytes)?,
         }
         Ok(bytes)
+    }
+}
+
+impl<D: Digest> Epochable for Subject<'_, D> {
+    ghost use Rattle.simplex_types.specs.Subject.{statement_round};
+
+    ghost epoch_of = { λ s. (statement_round (statement s)).epoch };
+
+    fn epoch(&self) -> Epoch {
+        match self {
+            Subject::Notarize(proposal) => proposal.round.epoch,
+            Subject::Nullify(round) => round.epoch,
+            Subject::Finalize(proposal) => proposal.round.epoch,
+        }
+    }
+}
+
+impl<D: Digest> Viewable for Subject<'_, D> {
+    ghost use Rattle.simplex_types.specs.Subject.{statement_round};
+
+    ghost view_of = { λ s. (statement_round (statement s)).view };
+
+    fn view(&self) -> View {
+        match self {
+            Subject::Notarize(proposal) => proposal.round.view,
+            Subject::Nullify(round) => round.view,
+            Subject::Finalize(proposal) => proposal.round.view,
+        }
     }
 }
 

@@ -1,7 +1,6 @@
 //! What is signed, by hand.
 use super::*;
 use crate::digest::Sha256Digest;
-use crate::position::{Epoch, View};
 use std::process::Abort;
 use std::test::Fail;
 
@@ -52,4 +51,21 @@ fn what_is_signed_names_its_kind(rt: HostRuntime) -> Result<(), Fail> {
     )?;
     signed_bytes_name_one_subject::<Sha256Digest>();
     Ok(())
+}
+
+fn parts<R: Epochable + Viewable>(value: &R) -> (u64, u64) {
+    (value.epoch().get(), value.view().get())
+}
+
+#[test]
+fn what_is_voted_on_has_a_round(rt: HostRuntime) {
+    let round = Round::new(Epoch::new(3), View::new(7));
+    let proposal = Proposal::new(round, View::new(1), Sha256Digest::new([170; 32]));
+    assert_eq!(rt; parts(&Subject::Notarize(&proposal)), (3, 7));
+    assert_eq!(rt; parts(&Subject::Finalize(&proposal)), (3, 7));
+    let other: Subject<'_, Sha256Digest> = Subject::Nullify(Round::new(
+        Epoch::new(4),
+        View::new(8),
+    ));
+    assert_eq!(rt; parts(&other), (4, 8));
 }
