@@ -1,4 +1,3 @@
-pub mod Three
 pub mod Voters
 pub mod FirstItems
 pub mod SlotLemmas

@@ -1,5 +1,5 @@
 -- The attestations of a list of votes.
-use Rattle.std.proofs.Common.{◌≡◌, ◌≢◌, ℕ, zero, suc, refl, ◌<◌, List, [], ◌∷◌, length, get_or, map, arith, ◌∙◌, sym, ap, subst, ◌⊎◌}
+use Rattle.std.proofs.Common.{◌≡◌, ◌≢◌, ℕ, zero, suc, refl, ◌<◌, List, [], ◌∷◌, length, get_or, map, arith, ◌∙◌, sym, ap, subst, ◌⊎◌, ◌↔◌}
 use Rattle.std.specs.List.{All, AllPairs, Contains}
 use Rattle.std.proofs.lemmas.List.Elements.{All-map}
 use Rattle.std.proofs.lemmas.List.{get_or-map, length-map}
@@ -18,6 +18,35 @@ module _ {V G : Type 0} (attestation : V → Attestation G) where
       let first = get_or-map attestation (v ∷ votes) i v d (omega (arith, l, later)) in
       let second = get_or-map attestation (v ∷ votes) j v d later in
       apart i j v l later (ap (λ (a : Attestation G). a.signer) (sym first) ∙ e ∙ ap (λ (a : Attestation G). a.signer) second)
+
+  -- and attestations of distinct signers are those of votes of distinct signers
+  pub AreDistinct-map : (votes : List V) → AreDistinct (map attestation votes) → AllPairs (λ u v. (attestation u).signer ≢ (attestation v).signer) votes
+  AreDistinct-map votes apart i j d l m e =
+      let long : length (map attestation votes) ≡ length votes = length-map votes attestation in
+      let first = get_or-map attestation votes i d (attestation d) (omega (arith, l, m)) in
+      let second = get_or-map attestation votes j d (attestation d) m in
+      apart i j (attestation d) l (omega (arith, long, m)) (ap (λ (a : Attestation G). a.signer) first ∙ e ∙ ap (λ (a : Attestation G). a.signer) (sym second))
+
+  -- what holds of all attestations holds of each vote's
+  pub All-of_map : (P : Attestation G → Type 0) (votes : List V) → All P (map attestation votes) → All (λ v. P (attestation v)) votes
+  All-of_map P votes all k d l =
+      let long : length (map attestation votes) ≡ length votes = length-map votes attestation in
+      subst P (get_or-map attestation votes k d (attestation d) l) (all k (attestation d) (omega (arith, long, l)))
+
+  -- the test of the attestations tells what votes a certificate can be made of, once they are on one content
+  pub can-assemble : {X : Type 0} (content : V → X) (n : ℕ) (votes : List V) (one : (0 < length votes) × AllPairs (λ u v. content u ≡ content v) votes) (listed : List (Attestation G)) → listed ≡ map attestation votes
+      → (Answer : Type 0) → Answer ↔ (AreDistinct listed × All (λ a. a.signer < n) listed) → Answer ↔ CanAssemble content attestation n votes
+  can-assemble content n votes one listed is Answer exact =
+      let IsMember : Attestation G → Type 0 = λ a. a.signer < n in
+      let Distinct : List (Attestation G) → Type 0 = λ l. AreDistinct l in (
+        λ yes. record {
+          some = one.0;
+          one_content = one.1;
+          distinct = AreDistinct-map votes (subst Distinct is (exact.0 yes).0);
+          members = All-of_map IsMember votes (subst (All IsMember) is (exact.0 yes).1);
+        },
+        λ can. exact.1 (subst Distinct (sym is) (map-AreDistinct votes can.distinct), subst (All IsMember) (sym is) (All-map IsMember attestation votes can.members)),
+      )
 
 -- what is the same for each two of a list is the same for each and the first
 pub alike-first : {V Y : Type 0} (f : V → Y) (votes : List V) → AllPairs (λ u v. f u ≡ f v) votes → (k : ℕ) (d e : V) → k < length votes → f (get_or votes k d) ≡ f (get_or votes 0 e)

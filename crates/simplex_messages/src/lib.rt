@@ -3,6 +3,7 @@
 
 mod activity;
 mod artifact;
+mod assembly;
 mod attested;
 mod attributable_map;
 mod certificate;

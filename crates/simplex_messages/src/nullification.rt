@@ -2,6 +2,7 @@
 
 ghost use Rattle.std.specs.Prelude.{◌≡◌, ◌↔◌, ◌≤◌, ◌<◌, ◌^◌, ℕ, length, IsTrue};
 
+use crate::assembly::can_assemble;
 use crate::attested::attestations_of;
 use crate::nullify::Nullify;
 use simplex_types::{
@@ -26,6 +27,19 @@ impl<S: Scheme<D>, D: Digest> Nullification<S, D> {
     ghost use Rattle.simplex_types.specs.declared.scheme.AssemblyError.TheVariants.{InsufficientAttestations, Memory};
     ghost use Rattle.simplex_types.specs.Quorum.{quorum};
     ghost use Rattle.simplex_messages.specs.Nullification.{CanNullify, IsNullificationOf};
+
+    /// Whether a nullification can be made of the votes: one or more, on one round, by distinct
+    /// members of a committee of so many. It is the test of what the calls that make one ask.
+    /// Refused only where memory is.
+    pub fn can_nullify(
+        alloc: Global,
+        participants: u32,
+        votes: &[Nullify<S, D>],
+    ) -> Result<bool, AllocError>
+        ensures { IfOk result (λ answer. IsTrue answer ↔ CanNullify participants votes.now) }
+    {
+        can_assemble(alloc, participants, votes)
+    }
 
     /// The nullification of these votes of distinct members on one round.
     ///

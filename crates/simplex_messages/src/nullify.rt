@@ -85,10 +85,22 @@ impl<S: Scheme<D>, D: Digest> Attributable for Nullify<S, D> {
 }
 
 impl<S: Scheme<D>, D: Digest> Attested<S::Signature> for Nullify<S, D> {
+    type Content = Round;
+
+    ghost content_of = { λ v. v.round };
+
     ghost attestation_of = { λ v. v.attestation };
+
+    fn content(&self) -> Round {
+        self.round
+    }
 
     fn attestation(&self) -> Attestation<S::Signature> {
         self.attestation
+    }
+
+    fn agrees(&self, other: &Self) -> bool {
+        self.round == other.round
     }
 }
 

@@ -2,6 +2,7 @@
 
 ghost use Rattle.std.specs.Prelude.{◌≡◌, ◌↔◌, ◌≤◌, ◌<◌, ◌^◌, ℕ, length, IsTrue};
 
+use crate::assembly::can_assemble;
 use crate::attested::attestations_of;
 use crate::kind::{Finalizing, Notarizing, ProposalKind};
 use crate::proposal_vote::{Finalize, Notarize, ProposalVote};
@@ -45,6 +46,19 @@ impl<K: ProposalKind<D>, S: Scheme<D>, D: Digest> ProposalCertificate<K, S, D> {
             certificate,
             kind: PhantomData,
         }
+    }
+
+    /// Whether a certificate can be made of the votes: one or more, on one proposal, by distinct
+    /// members of a committee of so many. It is the test of what the calls that make one ask.
+    /// Refused only where memory is.
+    pub fn can_certify(
+        alloc: Global,
+        participants: u32,
+        votes: &[ProposalVote<K, S, D>],
+    ) -> Result<bool, AllocError>
+        ensures { IfOk result (λ answer. IsTrue answer ↔ CanCertify participants votes.now) }
+    {
+        can_assemble(alloc, participants, votes)
     }
 
     /// The certificate of these votes.

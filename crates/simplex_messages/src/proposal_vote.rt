@@ -105,10 +105,22 @@ impl<K: ProposalKind<D>, S: Scheme<D>, D: Digest> Attributable for ProposalVote<
 }
 
 impl<K: ProposalKind<D>, S: Scheme<D>, D: Digest> Attested<S::Signature> for ProposalVote<K, S, D> {
+    type Content = Proposal<D>;
+
+    ghost content_of = { λ v. v.proposal };
+
     ghost attestation_of = { λ v. v.attestation };
+
+    fn content(&self) -> Proposal<D> {
+        self.proposal
+    }
 
     fn attestation(&self) -> Attestation<S::Signature> {
         self.attestation
+    }
+
+    fn agrees(&self, other: &Self) -> bool {
+        self.proposal == other.proposal
     }
 }
 

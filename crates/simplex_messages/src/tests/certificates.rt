@@ -1,18 +1,16 @@
 //! Certificates as another program spells them, and what makes them.
 
-ghost use Rattle.std.specs.Prelude.{◌<◌, ◌≤◌, IsTrue};
-ghost use Rattle.simplex_messages.specs.ProposalCertificate.{CanCertify};
-ghost use Rattle.simplex_messages.specs.Nullification.{CanNullify};
+ghost use Rattle.std.specs.Prelude.{◌<◌, ◌≤◌};
 
 use super::vectors::{
     REPORT_FINALIZATION, REPORT_FINALIZE_AA, REPORT_NOTARIZATION, REPORT_NULLIFICATION,
     REPORT_NULLIFY, REPORT_NULLIFY_FINALIZE,
 };
-use super::{MEMBERS, committee, proposal, spelled, with_byte};
+use super::{MEMBERS, committee, proposal, spelled, vote, with_byte};
 use crate::kind::ProposalKind;
 use crate::{
     Certificate, Finalization, Finalize, Notarization, Notarize, Nullification, Nullify,
-    NullifyFinalize, ProposalVote, verify_certificates,
+    NullifyFinalize, ProposalCertificate, ProposalVote, verify_certificates,
 };
 use simplex_types::{
     AssemblyError, Attributable, CodecError, Duplicate, EncodeSize, Epoch, Epochable, Participant,
@@ -21,37 +19,6 @@ use simplex_types::{
 use std::alloc::Global;
 use std::process::Abort;
 use std::test::Fail;
-
-/// Whether these are three votes on one proposal by distinct members.
-fn can_certify<K: ProposalKind<Sha256Digest>>(
-    scheme: &PlainScheme,
-    votes: &[ProposalVote<K, PlainScheme, Sha256Digest>],
-) -> bool
-    ensures { IsTrue result → CanCertify scheme.now.participants votes.now }
-{
-    let [a, b, c] = votes else {
-        return false;
-    };
-    let [i, j, k] = [a, b, c].map(|vote| vote.attestation.signer.get());
-    let members = Scheme::<Sha256Digest>::participants(scheme);
-    let are_distinct = i != j && i != k && j != k;
-    let are_members = i < members && j < members && k < members;
-    a.proposal == b.proposal && b.proposal == c.proposal && are_distinct && are_members
-}
-
-/// The same of votes on one round.
-fn can_nullify(scheme: &PlainScheme, votes: &[Nullify<PlainScheme, Sha256Digest>]) -> bool
-    ensures { IsTrue result → CanNullify scheme.now.participants votes.now }
-{
-    let [a, b, c] = votes else {
-        return false;
-    };
-    let [i, j, k] = [a, b, c].map(|vote| vote.attestation.signer.get());
-    let members = Scheme::<Sha256Digest>::participants(scheme);
-    let are_distinct = i != j && i != k && j != k;
-    let are_members = i < members && j < members && k < members;
-    a.round == b.round && b.round == c.round && are_distinct && are_members
-}
 
 type Committees = [PlainScheme; 3];
 
@@ -86,6 +53,12 @@ fn view_2() -> Round {
     Round::new(Epoch::new(0), View::new(2))
 }
 
+/// The vote of a member to give a view of epoch 0 up.
+fn nullify(rt: &impl Abort, scheme: &PlainScheme, view: u64) -> Nullify<PlainScheme, Sha256Digest> {
+    let round = Round::new(Epoch::new(0), View::new(view));
+    Nullify::sign(scheme, round).expect(rt, "a member signs")
+}
+
 /// The votes of members 0, 1 and 2 to give view 2 up, in another order.
 fn three_nullifies(
     rt: &impl Abort,
@@ -95,7 +68,7 @@ fn three_nullifies(
     let mut votes = Vec::new(alloc);
     for place in [1usize, 2, 0] {
         let scheme = members.get(place).ok_or("three members")?;
-        votes.push(Nullify::sign(scheme, view_2()).expect(rt, "a member signs"))?;
+        votes.push(nullify(rt, scheme, 2))?;
     }
     Ok(votes)
 }
@@ -147,22 +120,23 @@ fn certificates_are_spelled_as_another_program_does(rt: HostRuntime) -> Result<(
     let alloc = rt.alloc();
     let members = three_members(alloc, MEMBERS)?;
     let [scheme, _, _] = &members;
+    let participants = Scheme::<Sha256Digest>::participants(scheme);
     let votes = three_votes(&rt, alloc, &members)?;
-    assert!(rt; can_certify(scheme, &votes));
+    assert!(rt; ProposalCertificate::can_certify(alloc, participants, &votes)?);
     let notarization = Notarization::from_notarizes(alloc, scheme, &votes).map_err(
         |_| "three of four are a quorum",
     )?;
     assert!(rt; notarization.verify(scheme));
     is_spelled_behind(&rt, alloc, &notarization, &REPORT_NOTARIZATION)?;
     let votes = three_votes(&rt, alloc, &members)?;
-    assert!(rt; can_certify(scheme, &votes));
+    assert!(rt; ProposalCertificate::can_certify(alloc, participants, &votes)?);
     let finalization = Finalization::from_owned_finalizes(alloc, scheme, votes).map_err(
         |_| "three of four are a quorum",
     )?;
     assert!(rt; finalization.verify(scheme));
     is_spelled_behind(&rt, alloc, &finalization, &REPORT_FINALIZATION)?;
     let votes = three_nullifies(&rt, alloc, &members)?;
-    assert!(rt; can_nullify(scheme, &votes));
+    assert!(rt; Nullification::can_nullify(alloc, participants, &votes)?);
     let nullification = Nullification::from_nullifies(alloc, scheme, &votes).map_err(
         |_| "three of four are a quorum",
     )?;
@@ -175,25 +149,67 @@ fn three_of_five_are_no_quorum(rt: HostRuntime) -> Result<(), Fail> {
     let alloc = rt.alloc();
     let members = three_members(alloc, 5)?;
     let [scheme, _, _] = &members;
+    let participants = Scheme::<Sha256Digest>::participants(scheme);
     let refused = AssemblyError::InsufficientAttestations(4, 3);
     let votes: Vec<Notarize<PlainScheme, Sha256Digest>> = three_votes(&rt, alloc, &members)?;
-    assert!(rt; can_certify(scheme, &votes));
+    assert!(rt; ProposalCertificate::can_certify(alloc, participants, &votes)?);
     assert_eq!(rt;
         Notarization::from_owned_notarizes(alloc, scheme, votes).err(),
         Some(refused)
     );
     let votes: Vec<Finalize<PlainScheme, Sha256Digest>> = three_votes(&rt, alloc, &members)?;
-    assert!(rt; can_certify(scheme, &votes));
+    assert!(rt; ProposalCertificate::can_certify(alloc, participants, &votes)?);
     assert_eq!(rt;
         Finalization::from_finalizes(alloc, scheme, &votes).err(),
         Some(refused)
     );
     let votes = three_nullifies(&rt, alloc, &members)?;
-    assert!(rt; can_nullify(scheme, &votes));
+    assert!(rt; Nullification::can_nullify(alloc, participants, &votes)?);
     assert_eq!(rt;
         Nullification::from_owned_nullifies(alloc, scheme, votes).err(),
         Some(refused)
     );
+    Ok(())
+}
+
+#[test]
+fn a_certificate_is_made_of_votes_of_distinct_members_on_one_content(
+    rt: HostRuntime,
+) -> Result<(), Fail> {
+    let alloc = rt.alloc();
+    let [zero, one, two] = three_members(alloc, MEMBERS)?;
+    for (first, second, expected) in [
+        ((&two, 0xaa), (&zero, 0xaa), true),
+        ((&one, 0xaa), (&one, 0xaa), false),
+        ((&one, 0xaa), (&two, 0xbb), false),
+    ] {
+        let votes = vec![in alloc;
+            vote(&rt, first.0, 2, first.1),
+            vote(&rt, second.0, 2, second.1),
+        ]?;
+        assert_eq!(rt;
+            Notarization::can_certify(alloc, MEMBERS, &votes)?,
+            expected
+        );
+        assert!(rt; !Notarization::can_certify(alloc, 1, &votes)?);
+    }
+    for (first, second, expected) in [
+        ((&two, 2), (&zero, 2), true),
+        ((&one, 2), (&one, 2), false),
+        ((&one, 2), (&two, 3), false),
+    ] {
+        let votes = vec![in alloc;
+            nullify(&rt, first.0, first.1),
+            nullify(&rt, second.0, second.1),
+        ]?;
+        assert_eq!(rt;
+            Nullification::can_nullify(alloc, MEMBERS, &votes)?,
+            expected
+        );
+        assert!(rt; !Nullification::can_nullify(alloc, 1, &votes)?);
+    }
+    let none: [Nullify<PlainScheme, Sha256Digest>; 0] = [];
+    assert!(rt; !Nullification::can_nullify(alloc, MEMBERS, &none)?);
     Ok(())
 }
 
