@@ -1,10 +1,13 @@
-//! What votes a certificate can be made of.
+//! What votes a certificate can be made of, and what is made of them.
 
-ghost use Rattle.std.specs.Prelude.{◌≡◌, ◌↔◌, ◌<◌, length, AllPairs, IfOk, IsTrue};
-ghost use Rattle.simplex_messages.specs.Assembly.{CanAssemble};
+ghost use Rattle.std.specs.Prelude.{◌≡◌, ◌↔◌, ◌<◌, ◌≤◌, length, AllPairs, Err, IfErr, IfOk, IsTrue};
+ghost use Rattle.simplex_types.specs.declared.scheme.AssemblyError.TheVariants.{InsufficientAttestations, Memory};
+ghost use Rattle.simplex_types.specs.Quorum.{quorum};
+ghost use Rattle.simplex_types.specs.Subject.{Statement};
+ghost use Rattle.simplex_messages.specs.Assembly.{CanAssemble, IsMadeOf};
 
 use crate::attested::{Attested, attestations_of};
-use simplex_types::{Signature, are_of_distinct_members};
+use simplex_types::{AssemblyError, Digest, Scheme, Signature, are_of_distinct_members, quorum};
 use std::alloc::{AllocError, Global};
 
 /// Whether a certificate can be made of the votes: one or more, on one content, by distinct members
@@ -36,4 +39,31 @@ fn agree<G: Signature, V: Attested<G>>(votes: &[V]) -> bool
         }
     }
     true
+}
+
+/// What the votes are on, and what the scheme makes of their attestations.
+///
+/// # Errors
+///
+/// [`AssemblyError::InsufficientAttestations`] where they are fewer than a quorum, and
+/// [`AssemblyError::Memory`] where memory ran out.
+pub(crate) fn assembled<S: Scheme<D>, D: Digest, V: Attested<S::Signature>>(
+    alloc: Global,
+    scheme: &S,
+    votes: &[V],
+) -> Result<(V::Content, S::Certificate), AssemblyError>
+    requires { CanAssemble V.content_of V.attestation_of (S.size scheme.now) votes.now }
+    ensures made { IfOk result (λ made. (states : V.Content → Statement D) → IsMadeOf V.content_of V.attestation_of states (S.attests scheme.now) (S.certifies scheme.now) S.lists votes.now made.0 made.1) }
+    ensures too_few { length votes.now < quorum (S.size scheme.now) → result ≡ Err (InsufficientAttestations (quorum (S.size scheme.now)) (length votes.now)) }
+    ensures enough { quorum (S.size scheme.now) ≤ length votes.now → IfErr result (λ e. e ≡ Memory) }
+{
+    let needed = quorum(scheme.participants());
+    let count = votes.len();
+    if count < needed as usize {
+        return Err(AssemblyError::InsufficientAttestations(needed, count as u32));
+    }
+    let content = votes[0].content();
+    let attestations = attestations_of(alloc, votes)?;
+    let certificate = scheme.assemble(alloc, &attestations)?;
+    Ok((content, certificate))
 }

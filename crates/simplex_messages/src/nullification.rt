@@ -2,12 +2,11 @@
 
 ghost use Rattle.std.specs.Prelude.{◌≡◌, ◌↔◌, ◌≤◌, ◌<◌, ◌^◌, ℕ, length, IsTrue};
 
-use crate::assembly::can_assemble;
-use crate::attested::attestations_of;
+use crate::assembly::{assembled, can_assemble};
 use crate::nullify::Nullify;
 use simplex_types::{
     Aggregate, AssemblyError, CodecError, Digest, Duplicate, EncodeSize, Epoch, Epochable,
-    MaxEncodeSize, Read, Round, Scheme, Subject, View, Viewable, Write, quorum,
+    MaxEncodeSize, Read, Round, Scheme, Subject, View, Viewable, Write,
 };
 use std::alloc::{AllocError, Global};
 
@@ -57,14 +56,7 @@ impl<S: Scheme<D>, D: Digest> Nullification<S, D> {
         ensures too_few { length votes.now < quorum (S.size scheme.now) → result ≡ Err (InsufficientAttestations (quorum (S.size scheme.now)) (length votes.now)) }
         ensures enough { quorum (S.size scheme.now) ≤ length votes.now → IfErr result (λ e. e ≡ Memory) }
     {
-        let needed = quorum(scheme.participants());
-        let count = votes.len();
-        if count < needed as usize {
-            return Err(AssemblyError::InsufficientAttestations(needed, count as u32));
-        }
-        let round = votes[0].round;
-        let attestations = attestations_of(alloc, votes)?;
-        let certificate = scheme.assemble(alloc, &attestations)?;
+        let (round, certificate) = assembled(alloc, scheme, votes)?;
         Ok(Nullification { round, certificate })
     }
 

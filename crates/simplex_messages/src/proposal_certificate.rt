@@ -2,13 +2,12 @@
 
 ghost use Rattle.std.specs.Prelude.{◌≡◌, ◌↔◌, ◌≤◌, ◌<◌, ◌^◌, ℕ, length, IsTrue};
 
-use crate::assembly::can_assemble;
-use crate::attested::attestations_of;
+use crate::assembly::{assembled, can_assemble};
 use crate::kind::{Finalizing, Notarizing, ProposalKind};
 use crate::proposal_vote::{Finalize, Notarize, ProposalVote};
 use simplex_types::{
     Aggregate, AssemblyError, CodecError, Digest, Duplicate, EncodeSize, Epoch, Epochable,
-    MaxEncodeSize, Proposal, Read, Round, Scheme, View, Viewable, Write, quorum,
+    MaxEncodeSize, Proposal, Read, Round, Scheme, View, Viewable, Write,
 };
 use std::alloc::{AllocError, Global};
 use std::marker::PhantomData;
@@ -72,14 +71,7 @@ impl<K: ProposalKind<D>, S: Scheme<D>, D: Digest> ProposalCertificate<K, S, D> {
         ensures too_few { length votes.now < quorum (S.size scheme.now) → result ≡ Err (InsufficientAttestations (quorum (S.size scheme.now)) (length votes.now)) }
         ensures enough { quorum (S.size scheme.now) ≤ length votes.now → IfErr result (λ e. e ≡ Memory) }
     {
-        let needed = quorum(scheme.participants());
-        let count = votes.len();
-        if count < needed as usize {
-            return Err(AssemblyError::InsufficientAttestations(needed, count as u32));
-        }
-        let proposal = votes[0].proposal;
-        let attestations = attestations_of(alloc, votes)?;
-        let certificate = scheme.assemble(alloc, &attestations)?;
+        let (proposal, certificate) = assembled(alloc, scheme, votes)?;
         Ok(ProposalCertificate::new(proposal, certificate))
     }
 

@@ -177,11 +177,12 @@ fn a_certificate_is_made_of_votes_of_distinct_members_on_one_content(
     rt: HostRuntime,
 ) -> Result<(), Fail> {
     let alloc = rt.alloc();
-    let [zero, one, two] = three_members(alloc, MEMBERS)?;
+    let members = three_members(alloc, MEMBERS)?;
+    let [zero, one, two] = &members;
     for (first, second, expected) in [
-        ((&two, 0xaa), (&zero, 0xaa), true),
-        ((&one, 0xaa), (&one, 0xaa), false),
-        ((&one, 0xaa), (&two, 0xbb), false),
+        ((two, 0xaa), (zero, 0xaa), true),
+        ((one, 0xaa), (one, 0xaa), false),
+        ((one, 0xaa), (two, 0xbb), false),
     ] {
         let votes = vec![in alloc;
             vote(&rt, first.0, 2, first.1),
@@ -194,9 +195,9 @@ fn a_certificate_is_made_of_votes_of_distinct_members_on_one_content(
         assert!(rt; !Notarization::can_certify(alloc, 1, &votes)?);
     }
     for (first, second, expected) in [
-        ((&two, 2), (&zero, 2), true),
-        ((&one, 2), (&one, 2), false),
-        ((&one, 2), (&two, 3), false),
+        ((two, 2), (zero, 2), true),
+        ((one, 2), (one, 2), false),
+        ((one, 2), (two, 3), false),
     ] {
         let votes = vec![in alloc;
             nullify(&rt, first.0, first.1),

@@ -1,9 +1,9 @@
 //! Signatures and certificates against hashes that another program made.
-ghost use Rattle.std.specs.Prelude.{◌≡◌, ◌<◌, ◌≤◌, All, IfOk};
-ghost use Rattle.simplex_types.specs.Quorum.{AreDistinct};
+ghost use Rattle.std.specs.Prelude.{◌≡◌, ◌<◌, ◌≤◌, IfOk};
 
 use super::*;
 use crate::digest::Sha256Digest;
+use crate::membership::are_of_distinct_members;
 use crate::position::{Epoch, View};
 use std::process::Abort;
 use std::test::Fail;
@@ -200,10 +200,8 @@ fn assembled<S: Listing<Sha256Digest>>(
     scheme: &S,
     subject: &Subject<'_, Sha256Digest>,
     given: &[Attestation<S::Signature>],
-) -> Result<S::Certificate, Fail>
-    requires distinct { AreDistinct given.now }
-    requires members { All (λ a. a.signer < S.size scheme.now) given.now }
-{
+) -> Result<S::Certificate, Fail> {
+    assert!(rt; are_of_distinct_members(alloc, scheme.participants(), given)?);
     let certificate = scheme.assemble(alloc, given)?;
     assert!(rt; scheme.verify_certificate(subject, &certificate));
     assert_eq!(rt; S::attestations(&certificate).len(), given.len());
