@@ -40,7 +40,7 @@ impl<S: Scheme<D>, D: Digest> Nullification<S, D> {
         can_assemble(alloc, participants, votes)
     }
 
-    /// The nullification of these votes of distinct members on one round.
+    /// The nullification of these votes of distinct members on one round, as `can_nullify` tells.
     ///
     /// # Errors
     ///

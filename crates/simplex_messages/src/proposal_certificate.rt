@@ -105,7 +105,7 @@ impl<S: Scheme<D>, D: Digest> ProposalCertificate<Notarizing, S, D> {
     ghost use Rattle.simplex_types.specs.Quorum.{quorum};
     ghost use Rattle.simplex_messages.specs.ProposalCertificate.{CanCertify, IsCertificateOf};
 
-    /// The notarization of these votes of distinct members on one proposal.
+    /// The notarization of these votes of distinct members on one proposal, as `can_certify` tells.
     ///
     /// # Errors
     ///
@@ -146,7 +146,7 @@ impl<S: Scheme<D>, D: Digest> ProposalCertificate<Finalizing, S, D> {
     ghost use Rattle.simplex_types.specs.Quorum.{quorum};
     ghost use Rattle.simplex_messages.specs.ProposalCertificate.{CanCertify, IsCertificateOf};
 
-    /// The finalization of these votes of distinct members on one proposal.
+    /// The finalization of these votes of distinct members on one proposal, as `can_certify` tells.
     ///
     /// # Errors
     ///

@@ -39,8 +39,8 @@ impl<G: Signature> AttestationList<G> {
     ghost use Rattle.simplex_types.specs.AttestationList.{AscendsFrom};
     ghost use Rattle.simplex_types.specs.Quorum.{AreDistinct};
 
-    /// The list of these attestations, of distinct members of a committee of so many. Refused only
-    /// where memory is.
+    /// The list of these attestations, of distinct members of a committee of so many, as
+    /// `are_of_distinct_members` tells. Refused only where memory is.
     pub fn new(
         alloc: Global,
         participants: u32,

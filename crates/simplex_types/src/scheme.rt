@@ -123,7 +123,8 @@ pub trait Scheme<D: Digest> {
     fn verify_certificate(&self, subject: &Subject<'_, D>, certificate: &Self::Certificate) -> bool
         ensures { IsTrue result ↔ certifies self.now (statement subject.now) certificate.now };
 
-    /// The certificate of attestations of distinct members on one subject.
+    /// The certificate of attestations on one subject, of distinct members, as
+    /// `are_of_distinct_members` tells.
     ///
     /// # Errors
     ///
