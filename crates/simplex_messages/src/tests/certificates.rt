@@ -23,7 +23,7 @@ use std::test::Fail;
 type Committees = [PlainScheme; 3];
 
 /// The committee of so many members, seen by members 0, 1 and 2.
-fn three_members(alloc: Global, members: u32) -> Result<Committees, Fail>
+pub(super) fn three_members(alloc: Global, members: u32) -> Result<Committees, Fail>
     requires some { 2 < members }
     requires at_most { members ≤ 65535 }
 {
@@ -35,7 +35,7 @@ fn three_members(alloc: Global, members: u32) -> Result<Committees, Fail>
 }
 
 /// The votes of members 0, 1 and 2 on the proposal of 32 bytes aa, in another order.
-fn three_votes<K: ProposalKind<Sha256Digest>>(
+pub(super) fn three_votes<K: ProposalKind<Sha256Digest>>(
     rt: &impl Abort,
     alloc: Global,
     members: &Committees,
@@ -60,7 +60,7 @@ fn nullify(rt: &impl Abort, scheme: &PlainScheme, view: u64) -> Nullify<PlainSch
 }
 
 /// The votes of members 0, 1 and 2 to give view 2 up, in another order.
-fn three_nullifies(
+pub(super) fn three_nullifies(
     rt: &impl Abort,
     alloc: Global,
     members: &Committees,

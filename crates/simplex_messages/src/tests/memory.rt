@@ -1,6 +1,8 @@
+use super::certificates::{three_members, three_nullifies, three_votes};
 use super::vectors::{REPORT_FINALIZATION, REPORT_NOTARIZATION, REPORT_NULLIFICATION};
 use super::{MEMBERS, REPORT_AA, REPORT_BB, Report, evidence_bytes, own_evidence};
-use simplex_types::{CodecError, Duplicate, Read, Write};
+use crate::{Finalization, Nullification};
+use simplex_types::{AssemblyError, CodecError, Duplicate, Read, Write};
 use std::test::Fail;
 
 // At each N from 6 to 9 `rt try --test --fail-alloc N` refuses one of the vector's four growths.
@@ -40,6 +42,28 @@ fn a_refused_list_leaves_the_bytes_where_they_stood(rt: HostRuntime) -> Result<(
                 assert_eq!(rt; rest, bytes);
             }
         }
+    }
+    Ok(())
+}
+
+// `rt try --test --fail-alloc N` refuses a list of attestations of the first at 8 and 9, of the second at
+// 12 and 13.
+#[test]
+fn a_quorum_is_refused_for_memory_alone(rt: HostRuntime) -> Result<(), Fail> {
+    let alloc = rt.alloc();
+    let members = three_members(alloc, MEMBERS)?;
+    let [scheme, _, _] = &members;
+    let finalizes = three_votes(&rt, alloc, &members)?;
+    let nullifies = three_nullifies(&rt, alloc, &members)?;
+    assert!(rt; Finalization::can_certify(alloc, MEMBERS, &finalizes)?);
+    match Finalization::from_finalizes(alloc, scheme, &finalizes) {
+        Ok(made) => assert!(rt; made.verify(scheme)),
+        Err(error) => assert_eq!(rt; error, AssemblyError::Memory),
+    }
+    assert!(rt; Nullification::can_nullify(alloc, MEMBERS, &nullifies)?);
+    match Nullification::from_nullifies(alloc, scheme, &nullifies) {
+        Ok(made) => assert!(rt; made.verify(scheme)),
+        Err(error) => assert_eq!(rt; error, AssemblyError::Memory),
     }
     Ok(())
 }
