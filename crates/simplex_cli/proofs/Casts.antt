@@ -5,23 +5,11 @@ use Rattle.std.specs.Cmp.{IsTotalOrder}
 use Rattle.std.specs.Ordering.{ordering_reverse}
 use Rattle.std.specs.declared.cmp.Ordering.{Ordering}
 use Rattle.std.specs.declared.cmp.Ordering.TheVariants.{Less, Equal, Greater}
-use Rattle.std.proofs.lemmas.List.Elements.{Contains-append_cases}
 use Rattle.simplex_cli.specs.declared.cast.Choice.{Choice}
 use Rattle.simplex_cli.specs.declared.cast.Cast.{Cast}
 use Rattle.simplex_cli.specs.declared.cast.Kept.TheVariants.{One, Two}
 use Rattle.simplex_cli.specs.Cast.{IsLower, IsFirst, Summarizes}
-
--- the one element of a list of one
-pub only_element : {X : Type 0} (x y : X) → Contains (x ∷ []) y → x ≡ y
-only_element x y (zero, small, is) = is
-only_element x y (suc k, small, is) = absurd (omega arith)
-
--- what holds of each element, and of one more
-pub each_push : {X : Type 0} (P : X → Type 0) (xs : List X) (x : X) → ((y : X) → Contains xs y → P y) → P x → (y : X) → Contains (xs ++ x ∷ []) y → P y
-each_push P xs x all here y there = elim (Contains-append_cases xs (x ∷ []) y there) [
-  | inl among ↦ all y among
-  | inr last ↦ subst P (only_element x y last) here
-]
+use Rattle.simplex_cli.proofs.Lists.{no_element, only_element, each_push}
 
 module _ {D : Type 0} {cmp : D → D → Ordering} (order : IsTotalOrder cmp) where
   pub IsLower-trans : (p q r : Choice D) → IsLower cmp p q → IsLower cmp q r → IsLower cmp p r
@@ -52,6 +40,10 @@ module _ {D G : Type 0} where
 
   pub IsFirst-last : (casts : List (Cast D G)) (c : Cast D G) → ((d : Cast D G) → Contains casts d → d.choice ≢ c.choice) → IsFirst (casts ++ c ∷ []) c
   IsFirst-last casts c none = record { before = casts; after = []; whole = refl; first = none }
+
+  -- the one vote of a signer
+  pub one_alone : (cmp : D → D → Ordering) (c : Cast D G) → Summarizes cmp (c ∷ []) (One c)
+  one_alone cmp c = (IsFirst-last [] c (λ d there same. no_element d there), λ d there. ap (λ (x : Cast D G). x.choice) (sym (only_element c d there)))
 
   module _ {cmp : D → D → Ordering} (order : IsTotalOrder cmp) (casts : List (Cast D G)) (c : Cast D G) where
     pub one_lower : (a : Cast D G) → Summarizes cmp casts (One a) → IsLower cmp c.choice a.choice → Summarizes cmp (casts ++ c ∷ []) (Two c a)

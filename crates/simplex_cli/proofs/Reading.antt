@@ -1,8 +1,7 @@
 -- One more report read.
-use Rattle.std.proofs.Common.{◌≡◌, ◌<◌, ℕ, List, [], ◌∷◌, ◌++◌, length, length-append, refl, sym, ap, ◌∙◌, subst, append_assoc, arith}
+use Rattle.std.proofs.Common.{◌≡◌, ◌<◌, ℕ, List, [], ◌∷◌, ◌++◌, length, length-append, refl, sym, ap, ◌∙◌, append_assoc, arith}
 use Rattle.std.specs.Prelude.{Result, Ok, Err, IfOk}
 use Rattle.std.specs.List.{flat_map}
-use Rattle.std.specs.BTreeMap.{BTreeMap}
 use Rattle.std.specs.declared.cmp.Ordering.{Ordering}
 use Rattle.std.proofs.lemmas.List.{append-nil}
 use Rattle.std.proofs.lemmas.List.Concat.{flat_map-append}
@@ -10,13 +9,10 @@ use Rattle.std.proofs.lemmas.List.Elements.{All-nil, All-cons, All-append}
 use Rattle.simplex_types.specs.declared.codec.CodecError.{CodecError}
 use Rattle.simplex_types.specs.Codec.{IsCodec, Gives}
 use Rattle.simplex_types.specs.Subject.{Statement}
-use Rattle.simplex_messages.specs.ProposalVote.{Notarize}
 use Rattle.simplex_messages.specs.declared.activity.Activity.{Activity}
 use Rattle.simplex_messages.specs.Activity.{activity_spelling}
-use Rattle.simplex_messages.specs.Guilt.{votes_in, votes_of}
-use Rattle.simplex_cli.specs.declared.cast.Kept.{Kept}
-use Rattle.simplex_cli.specs.declared.cast.Suspect.{Suspect}
-use Rattle.simplex_cli.specs.Tally.{Holds}
+use Rattle.simplex_cli.specs.declared.tally.Tally.{Tally}
+use Rattle.simplex_cli.specs.Tally.{HoldsReports}
 use Rattle.simplex_cli.specs.Counted.{CountsSoFar}
 
 -- what was read can be read again
@@ -25,24 +21,23 @@ IfOk-fits codec old new (Ok x) gives = (codec.takes old x new gives).1
 IfOk-fits codec old new (Err e) gives = tt
 
 module _ {S D P G C : Type 0} {attests : ℕ → Statement D → G → Type 0} {cmp : D → D → Ordering} {Fits : Activity S D P G C → Type 0} (spelling : Activity S D P G C → List ℕ) where
-  pub counts_none : (bytes : List ℕ) (kept : BTreeMap Suspect (Kept D G)) → Holds {S = S} {P = P} {C = C} attests cmp [] kept → CountsSoFar attests cmp Fits spelling bytes bytes kept
-  counts_none bytes kept h = record { reports = []; fitting = All-nil Fits; whole = refl; holds = h }
+  pub counts_none : (bytes : List ℕ) (tally : Tally S D P G C) → HoldsReports attests cmp [] tally → CountsSoFar attests cmp Fits spelling bytes bytes tally
+  counts_none bytes tally h = record { reports = []; fitting = All-nil Fits; whole = refl; holds = h }
 
-  pub counts_more : (bytes rest after : List ℕ) (old new : BTreeMap Suspect (Kept D G)) (report : Activity S D P G C) → CountsSoFar attests cmp Fits spelling bytes rest old → Fits report → rest ≡ spelling report ++ after
-      → ((votes : List (Notarize S D P G C)) → Holds attests cmp votes old → Holds attests cmp (votes ++ votes_in report) new) → CountsSoFar attests cmp Fits spelling bytes after new
+  pub counts_more : (bytes rest after : List ℕ) (old new : Tally S D P G C) (report : Activity S D P G C) → CountsSoFar attests cmp Fits spelling bytes rest old → Fits report → rest ≡ spelling report ++ after
+      → ((reports : List (Activity S D P G C)) → HoldsReports attests cmp reports old → HoldsReports attests cmp (reports ++ report ∷ []) new) → CountsSoFar attests cmp Fits spelling bytes after new
   counts_more bytes rest after old new report s fits spelled counted =
       let one : flat_map spelling (report ∷ []) ≡ spelling report = append-nil (spelling report) in
-      let votes : votes_of (s.reports ++ report ∷ []) ≡ votes_of s.reports ++ votes_in report = flat_map-append votes_in s.reports (report ∷ []) ∙ ap (λ (vs : List (Notarize S D P G C)). votes_of s.reports ++ vs) (append-nil (votes_in report)) in
       let spellings : flat_map spelling (s.reports ++ report ∷ []) ≡ flat_map spelling s.reports ++ spelling report = flat_map-append spelling s.reports (report ∷ []) ∙ ap (λ (bs : List ℕ). flat_map spelling s.reports ++ bs) one in
       record {
         reports = s.reports ++ report ∷ [];
         fitting = All-append Fits s.reports (report ∷ []) s.fitting (All-cons Fits report [] fits (All-nil Fits));
         whole = s.whole ∙ ap (λ (bs : List ℕ). flat_map spelling s.reports ++ bs) spelled ∙ sym (append_assoc (flat_map spelling s.reports) (spelling report) after) ∙ ap (λ (bs : List ℕ). bs ++ after) (sym spellings);
-        holds = subst (λ (vs : List (Notarize S D P G C)). Holds attests cmp vs new) (sym votes) (counted (votes_of s.reports) s.holds);
+        holds = counted s.reports s.holds;
       }
 
 module _ {S D P G C : Type 0} where
   -- a report takes a byte at least
-  pub shorter : (p : D → List ℕ) (f : G → List ℕ) (report : Activity S D P G C) (rest after : List ℕ) → rest ≡ activity_spelling p f report ++ after → length after < length rest
+  pub shorter : (p : D → List ℕ) (f : G → List ℕ) (g : C → List ℕ) (report : Activity S D P G C) (rest after : List ℕ) → rest ≡ activity_spelling p f g report ++ after → length after < length rest
   unfolding activity_spelling
-  shorter p f report rest after spelled = omega (arith, ap length spelled, length-append (activity_spelling p f report) after)
+  shorter p f g report rest after spelled = omega (arith, ap length spelled, length-append (activity_spelling p f g report) after)

@@ -1,4 +1,5 @@
 pub mod Cast
+pub mod Kept
 pub mod Tally
 pub mod Audit
 pub mod Counted

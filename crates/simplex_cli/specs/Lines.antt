@@ -5,7 +5,10 @@ use Rattle.std.specs.List.{concat, flat_map}
 use Rattle.std.specs.Fmt.{decimal}
 use Rattle.hex.specs.Hex.{encode_lower}
 use Rattle.simplex_types.specs.declared.proposal.Proposal.{Proposal}
-use Rattle.simplex_messages.specs.ProposalVote.{Notarize}
+use Rattle.simplex_types.specs.declared.position.Round.{Round}
+use Rattle.simplex_messages.specs.declared.nullify.Nullify.{Nullify}
+use Rattle.simplex_messages.specs.declared.proposal_vote.ProposalVote.{ProposalVote}
+use Rattle.simplex_messages.specs.ProposalVote.{Finalize}
 use Rattle.simplex_messages.specs.declared.activity.Activity.{Activity}
 use Rattle.simplex_messages.specs.declared.activity.Activity.TheVariants as activity
 use Rattle.simplex_cli.specs.declared.trouble.Trouble.{Trouble}
@@ -19,21 +22,31 @@ newline = 10 ∷ []
 unfoldable pub proposal_words : Proposal (List ℕ) → List ℕ
 proposal_words p = codes " parent " ++ (decimal p.parent ++ (codes " payload " ++ encode_lower p.payload))
 
+-- what a line begins with: its word, then the round and the signer that the evidence is against
+unfoldable pub accused_words : List ℕ → Round → ℕ → List ℕ
+accused_words word round signer = word ++ (codes " epoch " ++ (decimal round.epoch ++ (codes " view " ++ (decimal round.view ++ (codes " signer " ++ decimal signer)))))
+
 module _ {S P G C : Type 0} where
   -- the line for two votes of one signer for different proposals of one round
-  unfoldable pub conflicting_notarize_line : Notarize S (List ℕ) P G C → Notarize S (List ℕ) P G C → List ℕ
-  conflicting_notarize_line first second = concat (
-      codes "conflicting-notarize epoch " ∷ decimal first.proposal.round.epoch ∷
-      codes " view " ∷ decimal first.proposal.round.view ∷
-      codes " signer " ∷ decimal first.attestation.signer ∷
-      proposal_words first.proposal ∷
-      proposal_words second.proposal ∷
-      newline ∷ [])
+  unfoldable pub conflicting_line : {K : Type 0} → List ℕ → ProposalVote K S (List ℕ) P G C → ProposalVote K S (List ℕ) P G C → List ℕ
+  conflicting_line word first second = accused_words word first.proposal.round first.attestation.signer ++ (proposal_words first.proposal ++ (proposal_words second.proposal ++ newline))
 
-  -- the line for a piece of evidence; a vote is none and has no line
+  -- the line for a nullify of one signer and its finalize for a proposal of the round
+  unfoldable pub beside_line : Nullify S (List ℕ) P G C → Finalize S (List ℕ) P G C → List ℕ
+  beside_line given_up finalized = accused_words (codes "nullify-finalize") given_up.round given_up.attestation.signer ++ (proposal_words finalized.proposal ++ newline)
+
+  -- the line for a piece of evidence; what is none has no line
   abbrev pub evidence_line : Activity S (List ℕ) P G C → List ℕ
   evidence_line (activity.Notarize v) = []
-  evidence_line (activity.ConflictingNotarize c) = conflicting_notarize_line c.0 c.1
+  evidence_line (activity.Notarization c) = []
+  evidence_line (activity.Certification c) = []
+  evidence_line (activity.Nullify v) = []
+  evidence_line (activity.Nullification c) = []
+  evidence_line (activity.Finalize v) = []
+  evidence_line (activity.Finalization c) = []
+  evidence_line (activity.ConflictingNotarize x) = conflicting_line (codes "conflicting-notarize") x.0 x.1
+  evidence_line (activity.ConflictingFinalize x) = conflicting_line (codes "conflicting-finalize") x.0 x.1
+  evidence_line (activity.NullifyFinalize x) = beside_line x.0 x.1
 
 -- the line for an input that stops being messages at a byte, counted from 0
 unfoldable pub fault_line : ℕ → List ℕ

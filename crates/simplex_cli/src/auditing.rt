@@ -1,10 +1,10 @@
-//! The audit of reports: who signed two proposals of one round.
+//! The audit of reports: whose votes contradict each other.
 
 ghost use Rattle.std.specs.Prelude.{◌≡◌, ◌++◌, [], IfOk};
 ghost use Rattle.simplex_types.specs.Codec.{Gives, Readable};
 ghost use Rattle.simplex_cli.specs.Audit.{IsAudit};
 ghost use Rattle.simplex_cli.specs.Counted.{Counts};
-ghost use Rattle.simplex_cli.specs.Tally.{Holds};
+ghost use Rattle.simplex_cli.specs.Tally.{HoldsReports};
 
 use crate::tally::Tally;
 use crate::verdict::Audit;
@@ -16,10 +16,12 @@ use std::alloc::{AllocError, Global};
 mod tests;
 
 /// Finds the signers of which two verifying votes contradict each other, among the reports that the
-/// bytes hold up to the first place where none stands.
+/// bytes hold up to the first place where none stands. Loose votes count, and both votes of evidence.
 ///
-/// The evidence against each is of the least two proposals that it voted for in the round, and of
-/// each the vote that was read first and verifies. Refused only where memory is.
+/// Evidence of two notarizes or two finalizes is of the least two proposals that the signer voted for
+/// in the round, and of each the vote that was read first and verifies. A nullify is the first that
+/// verifies, and the finalize beside it such a vote for the least proposal. Refused only where memory
+/// is.
 pub fn audit<S: Scheme<D>, D: Digest>(
     alloc: Global,
     scheme: &S,
@@ -40,8 +42,8 @@ fn count_reports<S: Scheme<D>, D: Digest>(
     bytes: &[u8],
     tally: &mut Tally<S, D>,
 ) -> Result<Option<usize>, AllocError>
-    requires { Holds {S = S} {P = S.PublicKey} {C = S.Certificate} (S.attests scheme.now) D.cmp [] tally.old.kept }
-    ensures { IfOk result (λ fault. Counts (S.attests scheme.now) D.cmp (Readable ⟦<Activity<S, D> as Write>⟧.fits (⟦<Activity<S, D> as Read>⟧.within (S.size scheme.now))) ⟦<Activity<S, D> as Write>⟧.spelling (⟦<Activity<S, D> as Read>⟧.reading (S.size scheme.now)) bytes.now fault tally.new.kept) }
+    requires { HoldsReports (S.attests scheme.now) D.cmp [] tally.old }
+    ensures { IfOk result (λ fault. Counts (S.attests scheme.now) D.cmp (Readable ⟦<Activity<S, D> as Write>⟧.fits (⟦<Activity<S, D> as Read>⟧.within (S.size scheme.now))) ⟦<Activity<S, D> as Write>⟧.spelling (⟦<Activity<S, D> as Read>⟧.reading (S.size scheme.now)) bytes.now fault tally.new) }
 {
     let bound = scheme.participants();
     let mut rest = bytes;
@@ -52,6 +54,7 @@ fn count_reports<S: Scheme<D>, D: Digest>(
             Err(_) => return Ok(Some(bytes.len() - rest.len())),
         };
         tally.count_report(scheme, &report)?;
+        drop(report);
     }
     Ok(None)
 }

@@ -2,12 +2,14 @@
 #![tactic(auto)]
 
 mod auditing;
+mod ballots;
 mod cast;
 mod command;
 #[cfg(test)]
 mod fakes;
 mod input;
 mod lines;
+mod nullifies;
 mod output;
 mod program;
 mod running;

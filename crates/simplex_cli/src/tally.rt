@@ -1,139 +1,134 @@
 //! The count of an audit: what is kept of each signer's votes of each round.
 
-ghost use Rattle.std.specs.Prelude.{◌≡◌, ◌≢◌, ◌++◌, ◌∷◌, [], List, map, OnOk, IfOk};
-ghost use Rattle.std.specs.List.{flat_map};
-ghost use Rattle.simplex_messages.specs.ProposalVote.{Notarize};
-ghost use Rattle.simplex_messages.specs.Activity.{conflicting_report};
-ghost use Rattle.simplex_messages.specs.Guilt.{votes_in};
-ghost use Rattle.simplex_cli.specs.declared.cast.Cast.{Cast};
+ghost use Rattle.std.specs.Prelude.{◌≡◌, ◌++◌, ◌∷◌, [], List, OnOk, IfOk, IsTrue, IsSome, Some};
+ghost use Rattle.std.specs.BTreeMap.{get};
+ghost use Rattle.std.specs.BTreeSet.{IsSubset, contains};
+ghost use Rattle.simplex_messages.specs.declared.activity.Activity.{Activity};
 ghost use Rattle.simplex_cli.specs.declared.cast.Suspect.{Suspect};
-ghost use Rattle.simplex_cli.specs.Tally.{Tallies, Holds, vote_of, pairs_in};
 ghost use Rattle.simplex_cli.specs.Audit.{IsVerdict};
+ghost use Rattle.simplex_cli.specs.Kept.{suspect_cmp};
+ghost use Rattle.simplex_cli.specs.Tally.{AreApart, HoldsReports, both_of, evidence_at, least_in, nullify_in};
 
-use crate::cast::{Cast, Choice, Kept, Suspect};
-use simplex_messages::{Activity, ConflictingNotarize, Notarize};
-use simplex_types::{Attestation, Digest, Proposal, Scheme};
+use crate::ballots::Ballots;
+use crate::cast::Suspect;
+use crate::nullifies::Nullifies;
+use simplex_messages::{Activity, Finalizing, Notarizing, NullifyFinalize};
+use simplex_types::{Digest, Scheme};
 use std::alloc::{AllocError, Global};
-use std::collections::BTreeMap;
-use std::collections::btree_map::Entry;
+use std::collections::BTreeSet;
 
 /// What is kept of each suspect's verifying votes.
 #[derive(Drop)]
 pub(crate) struct Tally<S: Scheme<D>, D: Digest> {
-    kept: BTreeMap<Suspect, Kept<D, S::Signature>>,
+    notarizes: Ballots<Notarizing, S, D>,
+    nullifies: Nullifies<S, D>,
+    finalizes: Ballots<Finalizing, S, D>,
 }
 
 impl<S: Scheme<D>, D: Digest> Tally<S, D> {
     /// Nothing counted.
     pub(crate) fn new(alloc: Global) -> Self
-        ensures { (scheme : S) → Holds {S = S} {P = S.PublicKey} {C = S.Certificate} (S.attests scheme) D.cmp [] result.kept }
+        ensures { (scheme : S) → HoldsReports (S.attests scheme) D.cmp [] result }
     {
         Tally {
-            kept: BTreeMap::new(alloc),
+            notarizes: Ballots::new(alloc),
+            nullifies: Nullifies::new(alloc),
+            finalizes: Ballots::new(alloc),
         }
     }
 
-    /// Keeps what there is to keep of one more vote.
-    fn keep(&mut self, suspect: Suspect, cast: Cast<D, S::Signature>) -> Result<(), AllocError>
-        ensures { OnOk result ((counted : List (Suspect × Cast D S.Signature)) → Tallies D.cmp counted self.old.kept → Tallies D.cmp (counted ++ (suspect, cast) ∷ []) self.new.kept) }
-    {
-        match self.kept.entry(suspect)? {
-            Entry::Vacant(entry) => {
-                let _entry = entry.insert_entry(Kept::One(cast));
-            }
-            Entry::Occupied(mut entry) => {
-                let kept = entry.get().and(cast);
-                entry.insert(kept);
-            }
-        }
-        Ok(())
-    }
-
-    /// Counts a vote, if it verifies.
-    fn count(&mut self, scheme: &S, vote: &Notarize<S, D>) -> Result<(), AllocError>
-        ensures { OnOk result ((votes : List (Notarize S D S.PublicKey S.Signature S.Certificate)) → Holds (S.attests scheme.now) D.cmp votes self.old.kept → Holds (S.attests scheme.now) D.cmp (votes ++ vote.now ∷ []) self.new.kept) }
-    {
-        if !vote.verify(scheme) {
-            return Ok(());
-        }
-        let suspect = Suspect {
-            round: vote.proposal.round,
-            signer: vote.attestation.signer,
-        };
-        let choice = Choice {
-            parent: vote.proposal.parent,
-            payload: vote.proposal.payload,
-        };
-        let signature = vote.attestation.signature;
-        self.keep(suspect, Cast { choice, signature })?;
-        Ok(())
-    }
-
-    /// Counts the votes of a report that verify.
+    /// Counts the votes of a report that verify: a loose vote, and both votes of evidence.
     pub(crate) fn count_report(
         &mut self,
         scheme: &S,
         report: &Activity<S, D>,
     ) -> Result<(), AllocError>
-        ensures { OnOk result ((votes : List (Notarize S D S.PublicKey S.Signature S.Certificate)) → Holds (S.attests scheme.now) D.cmp votes self.old.kept → Holds (S.attests scheme.now) D.cmp (votes ++ votes_in report.now) self.new.kept) }
+        ensures { OnOk result ((reports : List (Activity S D S.PublicKey S.Signature S.Certificate)) → HoldsReports (S.attests scheme.now) D.cmp reports self.old → HoldsReports (S.attests scheme.now) D.cmp (reports ++ report.now ∷ []) self.new) }
     {
         match report {
-            Activity::Notarize(vote) => {
-                self.count(scheme, vote)?;
-                Ok(())
-            }
+            Activity::Notarize(vote) => self.notarizes.count(scheme, vote),
+            Activity::Nullify(vote) => self.nullifies.count(scheme, vote),
+            Activity::Finalize(vote) => self.finalizes.count(scheme, vote),
+            Activity::Notarization(_) => Ok(()),
+            Activity::Certification(_) => Ok(()),
+            Activity::Nullification(_) => Ok(()),
+            Activity::Finalization(_) => Ok(()),
             Activity::ConflictingNotarize(evidence) => {
-                self.count(scheme, evidence.first())?;
-                self.count(scheme, evidence.second())?;
-                Ok(())
+                self.notarizes.count(scheme, evidence.first())?;
+                self.notarizes.count(scheme, evidence.second())
+            }
+            Activity::ConflictingFinalize(evidence) => {
+                self.finalizes.count(scheme, evidence.first())?;
+                self.finalizes.count(scheme, evidence.second())
+            }
+            Activity::NullifyFinalize(evidence) => {
+                self.nullifies.count(scheme, evidence.nullify())?;
+                self.finalizes.count(scheme, evidence.finalize())
             }
         }
     }
 
-    /// The evidence against the guilty, sorted by epoch, view and signer.
-    #[tactic(auto, using(crate::proofs::Judging::reports_push))]
+    /// The evidence against the guilty, sorted by epoch, view, signer and kind.
     pub(crate) fn evidence(
         &self,
         alloc: Global,
         scheme: &S,
     ) -> Result<Vec<Activity<S, D>>, AllocError>
-        requires { (votes : List (Notarize S D S.PublicKey S.Signature S.Certificate)) × Holds (S.attests scheme.now) D.cmp votes self.now.kept }
-        ensures { IfOk result (λ evidence. (votes : List (Notarize S D S.PublicKey S.Signature S.Certificate)) → Holds (S.attests scheme.now) D.cmp votes self.now.kept → IsVerdict (S.attests scheme.now) D.cmp votes evidence.items) }
+        requires { (reports : List (Activity S D S.PublicKey S.Signature S.Certificate)) × HoldsReports (S.attests scheme.now) D.cmp reports self.now }
+        ensures { IfOk result (λ evidence. (reports : List (Activity S D S.PublicKey S.Signature S.Certificate)) → HoldsReports (S.attests scheme.now) D.cmp reports self.now → IsVerdict (S.attests scheme.now) D.cmp reports evidence.items) }
     {
+        let mut guilty = BTreeSet::new(alloc);
+        self.notarizes.gather(&mut guilty)?;
+        self.finalizes.gather(&mut guilty)?;
+        self.gather_beside(&mut guilty)?;
         let mut evidence = Vec::new(alloc);
-        for (suspect, kept) in &self.kept {
-            if let Kept::Two(least, next) = kept {
-                evidence.push(evidence_of(suspect, least, next))?;
-            }
+        for suspect in &guilty {
+            self.push_evidence(suspect, &mut evidence)?;
         }
         Ok(evidence)
     }
-}
 
-/// The vote of the suspect that was cast so.
-fn vote_from<S: Scheme<D>, D: Digest>(
-    suspect: &Suspect,
-    cast: &Cast<D, S::Signature>,
-) -> Notarize<S, D>
-    ensures { result ≡ vote_of suspect.now cast.now }
-{
-    let proposal = Proposal::new(suspect.round, cast.choice.parent, cast.choice.payload);
-    let attestation = Attestation {
-        signer: suspect.signer,
-        signature: cast.signature,
-    };
-    Notarize::new(proposal, attestation)
-}
+    /// Adds each suspect of which both a nullify and a finalize are kept.
+    fn gather_beside(&self, guilty: &mut BTreeSet<Suspect>) -> Result<(), AllocError>
+        ensures stay { OnOk result (IsSubset suspect_cmp guilty.old guilty.new) }
+        ensures added { OnOk result ((q : Suspect) → IsSome (get suspect_cmp self.now.nullifies.kept q) → IsSome (get suspect_cmp self.now.finalizes.kept q) → IsTrue (contains suspect_cmp guilty.new q)) }
+    {
+        for suspect in self.nullifies.kept.keys() {
+            if self.finalizes.contains(suspect) {
+                guilty.insert(*suspect)?;
+            }
+        }
+        Ok(())
+    }
 
-/// The evidence of two votes of the suspect.
-fn evidence_of<S: Scheme<D>, D: Digest>(
-    suspect: &Suspect,
-    least: &Cast<D, S::Signature>,
-    next: &Cast<D, S::Signature>,
-) -> Activity<S, D>
-    requires { least.now.choice ≢ next.now.choice }
-    ensures { result ≡ conflicting_report (vote_of suspect.now least.now, vote_of suspect.now next.now) }
-{
-    let evidence = ConflictingNotarize::new(vote_from(suspect, least), vote_from(suspect, next));
-    Activity::ConflictingNotarize(evidence)
+    /// Appends the evidence that is kept against the suspect, in the order of kinds.
+    fn push_evidence(
+        &self,
+        suspect: &Suspect,
+        evidence: &mut Vec<Activity<S, D>>,
+    ) -> Result<(), AllocError>
+        requires notarizes { AreApart self.now.notarizes.kept }
+        requires finalizes { AreApart self.now.finalizes.kept }
+        ensures { OnOk result (evidence.new.items ≡ evidence.old.items ++ evidence_at self.now suspect.now) }
+    {
+        if let Some(votes) = self.notarizes.conflict(suspect) {
+            evidence.push(Activity::ConflictingNotarize(votes))?;
+        }
+        if let Some(votes) = self.finalizes.conflict(suspect) {
+            evidence.push(Activity::ConflictingFinalize(votes))?;
+        }
+        if let Some(votes) = self.beside(suspect) {
+            evidence.push(Activity::NullifyFinalize(votes))?;
+        }
+        Ok(())
+    }
+
+    /// The suspect's nullify, and beside it its finalize for the least proposal.
+    fn beside(&self, suspect: &Suspect) -> Option<NullifyFinalize<S, D>>
+        ensures { result ≡ both_of (nullify_in suspect.now (get suspect_cmp self.now.nullifies.kept suspect.now)) (least_in suspect.now (get suspect_cmp self.now.finalizes.kept suspect.now)) }
+    {
+        let nullify = self.nullifies.first(suspect)?;
+        let finalize = self.finalizes.least(suspect)?;
+        Some(NullifyFinalize::new(nullify, finalize))
+    }
 }

@@ -6,7 +6,8 @@ use simplex_types::{Digest, Scheme};
 /// What an audit found.
 #[derive(Drop)]
 pub struct Audit<S: Scheme<D>, D: Digest> {
-    /// Evidence, once for each signer that is guilty in a round, sorted by epoch, view and signer.
+    /// Evidence against the guilty, sorted by epoch, view, signer and kind: two notarizes, two finalizes,
+    /// a nullify beside a finalize. Each is there once for a signer and a round.
     pub evidence: Vec<Activity<S, D>>,
     /// The place of the first byte at which no whole report stands, if there is one.
     pub fault: Option<usize>,

@@ -1,6 +1,6 @@
 use super::*;
-use simplex_messages::ConflictingNotarize;
-use simplex_types::{Epoch, Participant, Round, View};
+use simplex_messages::{ConflictingNotarize, Notarize};
+use simplex_types::{Epoch, View};
 use std::test::Fail;
 
 /// The vote of the highest signer in the last round, for this payload on this parent.

@@ -52,7 +52,7 @@ fn an_empty_input_is_whole(rt: HostRuntime) {
 #[test]
 fn nothing_behind_a_fault_is_looked_at(rt: HostRuntime) -> Result<(), Fail> {
     let alloc = rt.alloc();
-    let unknown_tag: &[u8] = b"\x03";
+    let unknown_tag: &[u8] = b"\x0a";
     let long_view: &[u8] = b"\x00\x00\x82\x00\x01";
     for bytes in [unknown_tag, long_view] {
         let mut input = reports(alloc, &[FOR_A])?;

@@ -2,16 +2,10 @@ use Rattle.simplex_cli.proofs.Reading.{counts_none, counts_more, shorter}
 use Rattle.simplex_cli.proofs.auditing.count_reports.Goals as goal
 
 pub loop-rest-init : goal.loop-rest-init
-loop-rest-init g c = counts_none _ c.args.bytes.now c.args.tally.now.kept c.requires
+loop-rest-init g c = counts_none _ c.args.bytes.now c.args.tally.now c.requires
 
 pub loop-rest-smaller : goal.loop-rest-smaller
-loop-rest-smaller g c = shorter g.D.Write.spelling g.S.Signature.Write.spelling c.in-Ok.report c.loop-rest.rest.now c.next_message.new.input.now c.in-Ok.ensures.spelled
+loop-rest-smaller g c = shorter g.D.Write.spelling g.S.Signature.Write.spelling g.S.Certificate.Write.spelling c.in-Ok.report c.loop-rest.rest.now c.next_message.new.input.now c.in-Ok.ensures.spelled
 
 pub loop-rest-preserved : goal.loop-rest-preserved
-loop-rest-preserved g c = counts_more _ c.args.bytes.now c.loop-rest.rest.now c.next_message.new.input.now c.loop-rest.tally.kept c.count_report.new.self.kept c.in-Ok.report c.loop-rest.invariant c.in-Ok.ensures.fitting c.in-Ok.ensures.spelled c.in_ok-count_report.ensures
-
-pub loop-rest-smaller-in_ok-count_report : goal.loop-rest-smaller-in_ok-count_report
-loop-rest-smaller-in_ok-count_report g c = shorter g.D.Write.spelling g.S.Signature.Write.spelling c.in-Ok.report c.loop-rest.rest.now c.next_message.new.input.now c.in-Ok.ensures.spelled
-
-pub loop-rest-preserved-in_ok-count_report : goal.loop-rest-preserved-in_ok-count_report
-loop-rest-preserved-in_ok-count_report g c = counts_more _ c.args.bytes.now c.loop-rest.rest.now c.next_message.new.input.now c.loop-rest.tally.kept c.count_report.new.self.kept c.in-Ok.report c.loop-rest.invariant c.in-Ok.ensures.fitting c.in-Ok.ensures.spelled c.in_ok-count_report.ensures
+loop-rest-preserved g c = counts_more _ c.args.bytes.now c.loop-rest.rest.now c.next_message.new.input.now c.loop-rest.tally c.count_report.new.self c.in-Ok.report c.loop-rest.invariant (rw c.participants-bound.ensures at c.in-Ok.ensures.fitting) c.in-Ok.ensures.spelled c.in_ok-count_report.ensures

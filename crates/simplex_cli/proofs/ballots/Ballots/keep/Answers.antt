@@ -1,9 +1,11 @@
 use Rattle.std.proofs.Common.{◌≡◌, ◌∙◌, sym, refl, Some, None}
 use Rattle.std.specs.BTreeMap.{get}
 use Rattle.simplex_cli.specs.declared.cast.Kept.TheVariants.{One}
-use Rattle.simplex_cli.specs.Tally.{suspect_cmp}
+use Rattle.simplex_cli.specs.Cast.{Summarizes}
+use Rattle.simplex_cli.specs.Kept.{suspect_cmp}
+use Rattle.simplex_cli.proofs.Casts.{one_alone}
 use Rattle.simplex_cli.proofs.Tallies.{Tallies-push}
-use Rattle.simplex_cli.proofs.tally.Tally.keep.Goals as goal
+use Rattle.simplex_cli.proofs.ballots.Ballots.keep.Goals as goal
 
 pub returns-in-Vacant : goal.returns-in-Vacant
 returns-in-Vacant g c = λ counted t.
@@ -12,7 +14,7 @@ returns-in-Vacant g c = λ counted t.
     let update = rw c.in-Vacant.is at c.in_ok-entry.ensures.update in
     let found : get suspect_cmp c.args.self.now.kept c.args.suspect ≡ None = rw c.in-Vacant.is at c.in_ok-entry.ensures.found in
     let map_is = c.self-in-Vacant-1.given.1 (sym (written.0 ∙ same_map)) ∙ written.1 in
-    Tallies-push g.D.Ord.cmp counted c.args.self.now.kept c.self-in-Vacant-1.given.0 c.args.suspect c.args.cast (One c.args.cast) t (rw found refl) (rw map_is (update.0 (One c.args.cast)).0)
+    Tallies-push (Summarizes g.D.Ord.cmp) counted c.args.self.now.kept c.self-in-Vacant-1.given.0 c.args.suspect c.args.cast (One c.args.cast) t (rw found (one_alone g.D.Ord.cmp c.args.cast)) (rw map_is (update.0 (One c.args.cast)).0)
 
 pub returns-in-Occupied : goal.returns-in-Occupied
 returns-in-Occupied g c = λ counted t.
@@ -22,4 +24,4 @@ returns-in-Occupied g c = λ counted t.
     let value = rw c.in-Occupied.is at c.in_ok-entry.ensures.value in
     let map_is = c.self-in-Occupied-1.given.1 (sym (written.0 ∙ same_map)) ∙ written.1 in
     let found : get suspect_cmp c.args.self.now.kept c.args.suspect ≡ Some c.get.result.now = sym value ∙ c.get.ensures in
-    Tallies-push g.D.Ord.cmp counted c.args.self.now.kept c.self-in-Occupied-1.given.0 c.args.suspect c.args.cast c.and-kept.result t (rw found c.and-kept.ensures) (rw map_is (update.0 c.and-kept.result).0)
+    Tallies-push (Summarizes g.D.Ord.cmp) counted c.args.self.now.kept c.self-in-Occupied-1.given.0 c.args.suspect c.args.cast c.and-kept.result t (rw found c.and-kept.ensures) (rw map_is (update.0 c.and-kept.result).0)
