@@ -1,5 +1,5 @@
 -- The suspects of a list that are put into a set.
-use Rattle.std.proofs.Common.{◌≡◌, true, List, [], ◌∷◌, ◌++◌, refl, sym, subst, ◌∙◌, inl, inr, map}
+use Rattle.std.proofs.Common.{true, List, [], ◌∷◌, ◌++◌, refl, sym, subst, ◌∙◌, inl, inr, map}
 use Rattle.std.specs.Prelude.{Contains, IsTrue}
 use Rattle.std.specs.Ordering.{is_eq}
 use Rattle.std.specs.BTreeSet.{BTreeSet, contains, IsSubset, Updates}

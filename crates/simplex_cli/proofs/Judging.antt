@@ -1,24 +1,24 @@
 -- What is kept of the votes is the verdict on them.
-use Rattle.std.proofs.Common.{◌≡◌, ◌≢◌, ◌⊎◌, ℕ, true, List, [], ◌∷◌, ◌++◌, Option, Some, None, refl, sym, ap, ◌∙◌, subst, inl, inr}
+use Rattle.std.proofs.Common.{◌≡◌, ◌⊎◌, ℕ, List, [], Option, Some, None, refl, sym, ap, ◌∙◌, subst, inl, inr}
 use Rattle.std.specs.Prelude.{Contains, IsSome}
 use Rattle.std.specs.Cmp.{IsTotalOrder}
 use Rattle.std.specs.BTreeMap.{BTreeMap, get}
 use Rattle.std.specs.declared.cmp.Ordering.{Ordering}
 use Rattle.simplex_types.specs.declared.position.Round.{Round}
 use Rattle.simplex_types.specs.declared.proposal.Proposal.{Proposal}
-use Rattle.simplex_types.specs.Subject.{Statement, finalize}
+use Rattle.simplex_types.specs.Subject.{Statement}
 use Rattle.simplex_messages.specs.declared.nullify.Nullify.{Nullify}
 use Rattle.simplex_messages.specs.declared.proposal_vote.ProposalVote.{ProposalVote}
-use Rattle.simplex_messages.specs.ProposalVote.{Finalize, IsAttested}
+use Rattle.simplex_messages.specs.ProposalVote.{IsAttested}
 use Rattle.simplex_messages.specs.Nullify.{NullifyIsAttested}
-use Rattle.simplex_messages.specs.Guilt.{IsGuilty, IsFirstRead, IsLeastEvidence, IsBelow, IsGuiltyBeside, IsFirstNullify, IsLeastBeside}
+use Rattle.simplex_messages.specs.Guilt.{IsGuilty, IsFirstRead, IsLeastEvidence, IsBelow, IsFirstNullify}
 use Rattle.simplex_cli.specs.declared.cast.Choice.{Choice}
 use Rattle.simplex_cli.specs.declared.cast.Cast.{Cast}
 use Rattle.simplex_cli.specs.declared.cast.Kept.{Kept}
 use Rattle.simplex_cli.specs.declared.cast.Kept.TheVariants.{One, Two}
 use Rattle.simplex_cli.specs.declared.cast.Suspect.{Suspect}
 use Rattle.simplex_cli.specs.Cast.{IsLower, IsFirst, Summarizes}
-use Rattle.simplex_cli.specs.Kept.{suspect_cmp, casts_of, counted_of, Holds}
+use Rattle.simplex_cli.specs.Kept.{suspect_cmp, casts_of, counted_of}
 use Rattle.simplex_cli.specs.Tally.{suspect_of, cast_of, vote_of, HoldsVotes, AreApart, IsHead, nullify_suspect, nullify_of, HoldsNullifies}
 use Rattle.simplex_cli.proofs.Casts.{IsLower-differs, IsLower-trans}
 use Rattle.simplex_cli.proofs.Lists.{no_element}

@@ -1,10 +1,10 @@
 -- The evidence that is kept is the verdict.
-use Rattle.std.proofs.Common.{◌≡◌, ◌<◌, ◌⊎◌, ℕ, true, false, List, [], ◌∷◌, ◌++◌, Option, Some, None, refl, sym, ap, ◌∙◌, subst, inl, inr, arith}
+use Rattle.std.proofs.Common.{◌≡◌, ℕ, true, false, List, [], ◌∷◌, ◌++◌, Option, Some, None, refl, sym, ap, ◌∙◌, subst, inl, inr, arith}
 use Rattle.std.specs.Prelude.{Contains, IsSome, IsTrue, AllPairs}
 use Rattle.std.specs.List.{flat_map}
 use Rattle.std.specs.List.Sorted.{IsStrictlySortedBy}
 use Rattle.std.specs.Cmp.{IsTotalOrder}
-use Rattle.std.specs.BTreeMap.{BTreeMap, get}
+use Rattle.std.specs.BTreeMap.{get}
 use Rattle.std.specs.BTreeSet.{BTreeSet, contains, IsOrdered}
 use Rattle.std.specs.declared.cmp.Ordering.{Ordering}
 use Rattle.std.specs.declared.cmp.Ordering.TheVariants.{Less}
@@ -12,14 +12,10 @@ use Rattle.std.proofs.lemmas.List.Elements.{Contains-append_left, Contains-appen
 use Rattle.std.proofs.lemmas.Map.Keys.{sorted_tail}
 use Rattle.std.proofs.lemmas.Map.Views.{All-after_first, btree_set_contains_iff}
 use Rattle.simplex_types.specs.declared.position.Round.{Round}
-use Rattle.simplex_types.specs.declared.proposal.Proposal.{Proposal}
 use Rattle.simplex_types.specs.Subject.{Statement, notarize, finalize}
 use Rattle.simplex_messages.specs.declared.activity.Activity.{Activity}
-use Rattle.simplex_messages.specs.declared.nullify.Nullify.{Nullify}
-use Rattle.simplex_messages.specs.declared.proposal_vote.ProposalVote.{ProposalVote}
-use Rattle.simplex_messages.specs.ProposalVote.{Notarize, Finalize}
 use Rattle.simplex_messages.specs.Activity.{conflicting_notarize_report, conflicting_finalize_report, nullify_finalize_report}
-use Rattle.simplex_messages.specs.Guilt.{notarizes_of, nullifies_of, finalizes_of, IsGuilty, IsLeastEvidence, IsGuiltyBeside, IsLeastBeside}
+use Rattle.simplex_messages.specs.Guilt.{notarizes_of, nullifies_of, finalizes_of, IsGuilty, IsGuiltyBeside, IsLeastBeside}
 use Rattle.simplex_cli.specs.declared.cast.Cast.{Cast}
 use Rattle.simplex_cli.specs.declared.cast.Kept.{Kept}
 use Rattle.simplex_cli.specs.declared.cast.Kept.TheVariants.{One, Two}
@@ -28,7 +24,7 @@ use Rattle.simplex_cli.specs.declared.tally.Tally.{Tally}
 use Rattle.simplex_cli.specs.Kept.{suspect_cmp}
 use Rattle.simplex_cli.specs.Audit.{Accusation, Offence, TwoNotarizes, TwoFinalizes, NullifyBeside, accused, AreInOrder, IsAccused, IsLeast, IsVerdict}
 use Rattle.simplex_cli.specs.Tally.{HoldsReports, vote_of, nullify_suspect, suspect_of, nullify_of, conflict_in, least_in, nullify_in, both_of, reported, evidence_at}
-use Rattle.simplex_cli.proofs.Lists.{no_element, only_element, first_element, later_element, element_cases, Contains-flat_map, in-flat_map, AllPairs-nil, AllPairs-append}
+use Rattle.simplex_cli.proofs.Lists.{no_element, only_element, first_element, Contains-flat_map, in-flat_map, AllPairs-nil, AllPairs-append}
 use Rattle.simplex_cli.proofs.Suspects.{suspects_total, suspects_exact, accusation_of, StandsBefore-from_less}
 use Rattle.simplex_cli.proofs.Judging.{suspect_from, IsLeastEvidence-from_two, guilty_are_kept, voters_are_kept, IsLeastVote, IsLeastVote-from_one, IsLeastVote-from_two, IsFirstNullify-from_kept, nullifiers_are_kept}
 
@@ -75,8 +71,8 @@ module _ {S D P G C : Type 0} where
       let three = beside-AreOf q (get suspect_cmp t.nullifies.kept q) (get suspect_cmp t.finalizes.kept q) in
       AllPairs-append InOrder notarized (finalized ++ nullified) (at_most_one conflicting_notarize_report (conflict_in q (get suspect_cmp t.notarizes.kept q)))
       (AllPairs-append InOrder finalized nullified (at_most_one conflicting_finalize_report (conflict_in q (get suspect_cmp t.finalizes.kept q)))
-        (at_most_one nullify_finalize_report (both_of (nullify_in q (get suspect_cmp t.nullifies.kept q)) (least_in q (get suspect_cmp t.finalizes.kept q))))
-        (λ a b first second. in_order a b (accusation_of q TwoFinalizes) (accusation_of q NullifyBeside) (two a first) (three b second) (inr (refl, inr (refl, inr (refl, omega arith))))))
+      (at_most_one nullify_finalize_report (both_of (nullify_in q (get suspect_cmp t.nullifies.kept q)) (least_in q (get suspect_cmp t.finalizes.kept q))))
+      (λ a b first second. in_order a b (accusation_of q TwoFinalizes) (accusation_of q NullifyBeside) (two a first) (three b second) (inr (refl, inr (refl, inr (refl, omega arith))))))
       (λ a b first second. elim (Contains-append_cases finalized nullified b second) [
         | inl left ↦ in_order a b (accusation_of q TwoNotarizes) (accusation_of q TwoFinalizes) (one a first) (two b left) (inr (refl, inr (refl, inr (refl, omega arith))))
         | inr right ↦ in_order a b (accusation_of q TwoNotarizes) (accusation_of q NullifyBeside) (one a first) (three b right) (inr (refl, inr (refl, inr (refl, omega arith))))
@@ -98,11 +94,11 @@ module _ {S D P G C : Type 0} where
   evidence-sorted t (q ∷ qs) ordered =
       AllPairs-append InOrder (evidence_at t q) (flat_map (evidence_at t) qs) (evidence_at-sorted t q) (evidence-sorted t qs (sorted_tail suspect_cmp q qs ordered))
       (λ a b first later.
-        let own = evidence_at-own t q a first in
-        let found = Contains-flat_map (evidence_at t) qs b later in
-        let other = evidence_at-own t found.0 b found.2 in
-        let below : suspect_cmp q found.0 ≡ Less = All-contains (λ r. suspect_cmp q r ≡ Less) qs found.0 (All-after_first suspect_cmp q qs ordered) found.1 in
-        in_order a b (accusation_of q own.0) (accusation_of found.0 other.0) own.1 other.1 (StandsBefore-from_less q found.0 own.0 other.0 below))
+      let own = evidence_at-own t q a first in
+      let found = Contains-flat_map (evidence_at t) qs b later in
+      let other = evidence_at-own t found.0 b found.2 in
+      let below : suspect_cmp q found.0 ≡ Less = All-contains (λ r. suspect_cmp q r ≡ Less) qs found.0 (All-after_first suspect_cmp q qs ordered) found.1 in
+      in_order a b (accusation_of q own.0) (accusation_of found.0 other.0) own.1 other.1 (StandsBefore-from_less q found.0 own.0 other.0 below))
 
   -- the set has each suspect of whom evidence is kept
   pub record IsGathered (t : Tally S D P G C) (guilty : BTreeSet Suspect) : Type 0 where

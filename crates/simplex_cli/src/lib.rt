@@ -17,6 +17,8 @@ mod running;
 mod samples;
 mod tally;
 mod trouble;
+#[cfg(test)]
+mod vectors;
 mod verdict;
 
 pub use auditing::audit;

@@ -1,12 +1,18 @@
 //! Words and reports for the tests.
 
-use simplex_messages::{Activity, Notarize};
+use simplex_messages::{Activity, Finalize, Notarize, Nullify};
 use simplex_types::{Epoch, Participant, PlainScheme, Proposal, Round, Sha256Digest, View, Write};
 use std::alloc::{AllocError, Global};
 use std::test::Fail;
 
 /// A vote under the plain scheme.
 pub(crate) type Vote = Notarize<PlainScheme, Sha256Digest>;
+
+/// A vote to finalize under the plain scheme.
+pub(crate) type FinalVote = Finalize<PlainScheme, Sha256Digest>;
+
+/// A vote to give a round up under the plain scheme.
+pub(crate) type NullVote = Nullify<PlainScheme, Sha256Digest>;
 
 /// A vote to be made: of whom, and for what.
 #[derive(Clone, Copy)]
@@ -77,19 +83,40 @@ pub(crate) const B: &str = "bbbbbbbbbbbbbbbbbbbbbbbbbbbbbbbbbbbbbbbbbbbbbbbbbbbb
 pub(crate) const C: &str = "cccccccccccccccccccccccccccccccccccccccccccccccccccccccccccccccc";
 
 impl Ballot {
+    /// The round that the vote is of.
+    fn round(self) -> Round {
+        Round::new(Epoch::new(self.epoch), View::new(self.view))
+    }
+
     /// What the vote is for.
     pub(crate) fn proposal(self) -> Proposal<Sha256Digest> {
-        let round = Round::new(Epoch::new(self.epoch), View::new(self.view));
         let payload = Sha256Digest::new([self.payload; 32]);
-        Proposal::new(round, View::new(self.parent), payload)
+        Proposal::new(self.round(), View::new(self.parent), payload)
+    }
+
+    /// The scheme of the signer.
+    fn scheme(self, alloc: Global) -> Result<PlainScheme, Fail> {
+        let members = u32::from(self.signer) + 4;
+        let signer = Participant::new(u32::from(self.signer));
+        Ok(PlainScheme::new(alloc, b"simplex", members, Some(signer))?)
     }
 
     /// The vote.
     pub(crate) fn vote(self, alloc: Global) -> Result<Vote, Fail> {
-        let members = u32::from(self.signer) + 4;
-        let signer = Participant::new(u32::from(self.signer));
-        let scheme = PlainScheme::new(alloc, b"simplex", members, Some(signer))?;
+        let scheme = self.scheme(alloc)?;
         Ok(Notarize::sign(&scheme, self.proposal()).ok_or("no key")?)
+    }
+
+    /// The vote to finalize.
+    pub(crate) fn finalize(self, alloc: Global) -> Result<FinalVote, Fail> {
+        let scheme = self.scheme(alloc)?;
+        Ok(Finalize::sign(&scheme, self.proposal()).ok_or("no key")?)
+    }
+
+    /// The vote to give the round up.
+    pub(crate) fn nullify(self, alloc: Global) -> Result<NullVote, Fail> {
+        let scheme = self.scheme(alloc)?;
+        Ok(Nullify::sign(&scheme, self.round()).ok_or("no key")?)
     }
 }
 
@@ -114,6 +141,18 @@ pub(crate) fn reports(alloc: Global, ballots: &[Ballot]) -> Result<Vec<u8>, Fail
         push_report(&mut bytes, ballot.vote(alloc)?)?;
     }
     Ok(bytes)
+}
+
+/// Appends the report of a vote to finalize.
+pub(crate) fn push_finalize(out: &mut Vec<u8>, vote: FinalVote) -> Result<(), Fail> {
+    Activity::Finalize(vote).write(out)?;
+    Ok(())
+}
+
+/// Appends the report of a vote to give a round up.
+pub(crate) fn push_nullify(out: &mut Vec<u8>, vote: NullVote) -> Result<(), Fail> {
+    Activity::Nullify(vote).write(out)?;
+    Ok(())
 }
 
 /// These words as strings.

@@ -1,5 +1,8 @@
 use super::*;
-use simplex_messages::{ConflictingNotarize, Notarize};
+use simplex_messages::{
+    ConflictingFinalize, ConflictingNotarize, Finalize, Notarize, Nullify, NullifyFinalize,
+    ProposalKind, ProposalVote,
+};
 use simplex_types::{
     AssemblyError, Attestation, AttestationList, Epoch, Participant, PlainKey, PlainSignature,
     Proposal, Round, Sha256Digest, Subject, View,
@@ -93,16 +96,50 @@ fn signature(alloc: Global, byte: u8) -> Result<PlainSignature, Fail> {
     Ok(PlainSignature::read_cfg(alloc, &mut rest, 4)?)
 }
 
-/// Signer 1's vote in view 2, for the payload and with the signature that are 32 times these bytes.
-fn vote(alloc: Global, payload: u8, signed: u8) -> Result<Notarize<Lenient, Sha256Digest>, Fail> {
-    let round = Round::new(Epoch::new(0), View::new(2));
-    let payload = Sha256Digest::new([payload; 32]);
-    let proposal = Proposal::new(round, View::new(1), payload);
-    let attestation = Attestation {
+/// View 2.
+fn round() -> Round {
+    Round::new(Epoch::new(0), View::new(2))
+}
+
+/// Signer 1's attestation with the signature that is 32 times this byte.
+fn attestation(alloc: Global, signed: u8) -> Result<Attestation<PlainSignature>, Fail> {
+    Ok(Attestation {
         signer: Participant::new(1),
         signature: signature(alloc, signed)?,
-    };
-    Ok(Notarize::new(proposal, attestation))
+    })
+}
+
+/// Signer 1's vote in view 2, for the payload and with the signature that are 32 times these bytes.
+fn vote_of_kind<K: ProposalKind<Sha256Digest>>(
+    alloc: Global,
+    payload: u8,
+    signed: u8,
+) -> Result<ProposalVote<K, Lenient, Sha256Digest>, Fail> {
+    let payload = Sha256Digest::new([payload; 32]);
+    let proposal = Proposal::new(round(), View::new(1), payload);
+    Ok(ProposalVote::new(proposal, attestation(alloc, signed)?))
+}
+
+/// Such a vote to certify.
+fn vote(alloc: Global, payload: u8, signed: u8) -> Result<Notarize<Lenient, Sha256Digest>, Fail> {
+    vote_of_kind(alloc, payload, signed)
+}
+
+/// Such a vote to finalize.
+fn finalize(
+    alloc: Global,
+    payload: u8,
+    signed: u8,
+) -> Result<Finalize<Lenient, Sha256Digest>, Fail> {
+    vote_of_kind(alloc, payload, signed)
+}
+
+/// Signer 1's vote to give view 2 up, with the signature that is 32 times this byte.
+fn nullify(alloc: Global, signed: u8) -> Result<Nullify<Lenient, Sha256Digest>, Fail> {
+    Ok(Nullify {
+        round: round(),
+        attestation: attestation(alloc, signed)?,
+    })
 }
 
 #[test]
@@ -153,5 +190,45 @@ fn the_votes_read_first_that_verify_are_kept(rt: HostRuntime) -> Result<(), Fail
         let wanted = [Activity::ConflictingNotarize(evidence)];
         assert_eq!(rt; found.evidence.as_slice(), wanted.as_slice());
     }
+    Ok(())
+}
+
+#[test]
+fn the_nullify_read_first_stands_beside_the_least_finalize(rt: HostRuntime) -> Result<(), Fail> {
+    let alloc = rt.alloc();
+    let mut bytes = b"\x00\x00\x00\x00".as_slice();
+    let scheme = Lenient {
+        refused: signature(alloc, 0)?,
+        key: PlainKey::read_cfg(alloc, &mut bytes, 4)?,
+    };
+    let mut bytes = Vec::new(alloc);
+    for signed in [0, 7, 8] {
+        Activity::Nullify(nullify(alloc, signed)?).write(&mut bytes)?;
+    }
+    // Payloads and signatures, of which 0 does not verify.
+    for (payload, signed) in [
+        (12, 1),
+        (10, 0),
+        (13, 2),
+        (11, 0),
+        (11, 3),
+        (11, 4),
+        (12, 5),
+    ] {
+        Activity::Finalize(finalize(alloc, payload, signed)?).write(&mut bytes)?;
+    }
+    let found = audit(alloc, &scheme, &bytes)?;
+    assert_eq!(rt; found.fault, None);
+    let (first, second) = (finalize(alloc, 11, 3)?, finalize(alloc, 12, 1)?);
+    assert!(rt; first.contradicts(&second));
+    let conflict = ConflictingFinalize::new(first, second);
+    let (first, second) = (nullify(alloc, 7)?, finalize(alloc, 11, 3)?);
+    assert!(rt; first.stands_beside(&second));
+    let beside = NullifyFinalize::new(first, second);
+    let wanted = [
+        Activity::ConflictingFinalize(conflict),
+        Activity::NullifyFinalize(beside),
+    ];
+    assert_eq!(rt; found.evidence.as_slice(), wanted.as_slice());
     Ok(())
 }

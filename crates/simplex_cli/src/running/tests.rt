@@ -7,6 +7,8 @@ use std::io;
 use std::process::Abort;
 use std::test::Fail;
 
+mod kinds;
+
 /// The line for the votes for `aa..` and `bb..`.
 const A_AND_B: &str =
     "conflicting-notarize epoch 0 view 2 signer 1 parent 1 payload aaaaaaaaaaaaaaaaaaaaaaaaaaaaaaaaaaaaaaaaaaaaaaaaaaaaaaaaaaaaaaaa parent 1 payload bbbbbbbbbbbbbbbbbbbbbbbbbbbbbbbbbbbbbbbbbbbbbbbbbbbbbbbbbbbbbbbb\n";

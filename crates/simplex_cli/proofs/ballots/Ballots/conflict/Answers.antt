@@ -1,7 +1,5 @@
 use Rattle.std.proofs.Common.{◌≡◌, ◌∙◌, sym, refl, ap, Some}
 use Rattle.std.specs.BTreeMap.{get}
-use Rattle.simplex_types.specs.declared.proposal.Proposal.{Proposal}
-use Rattle.simplex_cli.specs.declared.cast.Choice.{Choice}
 use Rattle.simplex_cli.specs.declared.cast.Kept.TheVariants.{Two}
 use Rattle.simplex_cli.specs.Kept.{suspect_cmp}
 use Rattle.simplex_cli.proofs.Places.{choice_of}

@@ -1,4 +1,4 @@
-use Rattle.std.proofs.Common.{◌≡◌, map}
+use Rattle.std.proofs.Common.{map}
 use Rattle.std.specs.BTreeSet.{IsSubset}
 use Rattle.std.specs.Map.Iter.{deref_pair}
 use Rattle.simplex_cli.specs.Kept.{suspect_cmp}

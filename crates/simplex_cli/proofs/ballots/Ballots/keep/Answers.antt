@@ -1,4 +1,4 @@
-use Rattle.std.proofs.Common.{◌≡◌, ◌∙◌, sym, refl, Some, None}
+use Rattle.std.proofs.Common.{◌≡◌, ◌∙◌, sym, Some, None}
 use Rattle.std.specs.BTreeMap.{get}
 use Rattle.simplex_cli.specs.declared.cast.Kept.TheVariants.{One}
 use Rattle.simplex_cli.specs.Cast.{Summarizes}

@@ -1,4 +1,4 @@
-use Rattle.std.proofs.Common.{◌≡◌, ◌∙◌, sym, refl, [], Some, None}
+use Rattle.std.proofs.Common.{◌≡◌, ◌∙◌, sym, refl, [], None}
 use Rattle.std.specs.BTreeMap.{get}
 use Rattle.simplex_cli.specs.Kept.{suspect_cmp}
 use Rattle.simplex_cli.specs.Tally.{IsHead}

@@ -1,4 +1,3 @@
-use Rattle.std.proofs.Common.{◌∙◌, ap, List, ◌++◌}
 use Rattle.std.specs.Map.Iter.{deref}
 use Rattle.std.proofs.lemmas.Map.Iter.{iter_end}
 use Rattle.simplex_cli.specs.Tally.{evidence_at}
