@@ -4,3 +4,4 @@ pub mod Signed
 pub mod Terms
 pub mod Sorting
 pub mod Quorums
+pub mod ShortVarints

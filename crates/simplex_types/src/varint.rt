@@ -7,9 +7,36 @@ ghost use Rattle.simplex_types.specs.Varint.{IsVarint, varint_at, varint, max_u3
 use crate::codec::CodecError;
 use std::alloc::AllocError;
 
+/// The greatest number of two bytes.
+const MOST_OF_TWO: u64 = 16_383;
+
+/// The greatest number of three bytes.
+const MOST_OF_THREE: u64 = 2_097_151;
+
 /// The number at the front, up to `most`, and the bytes behind it.
-#[tactic(auto, unfolding(crate::specs::Varint::varint_at))]
+/// Numbers of up to three bytes are taken at once, since most are so short.
+#[tactic(auto, using(crate::proofs::ShortVarints::short_varints))]
 pub(crate) fn varint_of(most: u64, bytes: &[u8]) -> Result<(u64, &[u8]), CodecError>
+    ensures exact { MatchesReading (λ x. (x.0, x.1.now)) result (varint_at most bytes.now) }
+    ensures within { IfOk result (λ x. x.0 ≤ most) }
+{
+    match bytes {
+        [a, rest @ ..] if *a < 128 && u64::from(*a) <= most => Ok((u64::from(*a), rest)),
+        [a, b, rest @ ..] if *a >= 128 && *b < 128 && *b > 0 && most >= MOST_OF_TWO => {
+            Ok((u64::from(*a) - 128 + 128 * u64::from(*b), rest))
+        }
+        [a, b, c, rest @ ..]
+            if *a >= 128 && *b >= 128 && *c < 128 && *c > 0 && most >= MOST_OF_THREE => {
+            let high = u64::from(*b) - 128 + 128 * u64::from(*c);
+            Ok((u64::from(*a) - 128 + 128 * high, rest))
+        }
+        _ => long_varint_of(most, bytes),
+    }
+}
+
+/// The same for numbers of any length, byte by byte.
+#[tactic(auto, unfolding(crate::specs::Varint::varint_at))]
+fn long_varint_of(most: u64, bytes: &[u8]) -> Result<(u64, &[u8]), CodecError>
     ensures exact { MatchesReading (λ x. (x.0, x.1.now)) result (varint_at most bytes.now) }
     ensures within { IfOk result (λ x. x.0 ≤ most) }
 {
@@ -27,7 +54,7 @@ pub(crate) fn varint_of(most: u64, bytes: &[u8]) -> Result<(u64, &[u8]), CodecEr
                 return Err(CodecError::Invalid);
             }
             let low = first - 128;
-            let (high, rest) = varint_of((most - low) / 128, rest)?;
+            let (high, rest) = long_varint_of((most - low) / 128, rest)?;
             if high == 0 {
                 return Err(CodecError::Invalid);
             }
