@@ -1,6 +1,6 @@
 //! A member's signature on a subject.
 
-ghost use Rattle.std.specs.Prelude.{◌≡◌, ◌↔◌, ◌≤◌, ◌<◌, ◌^◌, ℕ, Bool, List, length, IsTrue};
+ghost use Rattle.std.specs.Prelude.{◌≡◌, ◌↔◌, ◌≤◌, ◌<◌, ◌^◌, ℕ, Bool, List, Ok, length, IfSome, IfNone, IsErr, IsTrue};
 
 use crate::attributes::Attributable;
 use crate::codec::{CodecError, EncodeSize, MaxEncodeSize, Read, Write};
@@ -11,6 +11,12 @@ use std::hash::Hash;
 
 /// Signatures: short values that are compared as they are.
 pub trait Signature: Copy + Eq + Hash + Read + MaxEncodeSize + Duplicate {
+    /// Takes the signature that `read_cfg` reads, or nothing where that refuses. Lists are read by it,
+    /// since here no error shares a byte with the value.
+    fn take(input: &mut &[u8], bound: u32) -> Option<Self>
+        ensures some { IfSome result (λ x. Self.reading bound input.old.now ≡ Ok (x, input.new.now)) }
+        ensures none { IfNone result (IsErr (Self.reading bound input.old.now) × (input.new.now ≡ input.old.now)) };
+
     /// Equality is identity.
     ghost equal_is_same: { (x y : Self) → IsTrue (Self.PartialEq.eq x y) ↔ (x ≡ y) };
 

@@ -81,7 +81,10 @@ fn read_next<G: Signature>(
     if signer.get() < low || signer.get() >= bound {
         return Err(CodecError::Invalid);
     }
-    let signature = G::read_cfg(alloc, &mut rest, bound)?;
+    let signature = match G::take(&mut rest, bound) {
+        Some(signature) => signature,
+        None => G::read_cfg(alloc, &mut rest, bound)?,
+    };
     *input = rest;
     Ok(Attestation { signer, signature })
 }

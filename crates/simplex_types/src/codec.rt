@@ -1,9 +1,9 @@
 //! Values as bytes: each value has one spelling, and reading stops at the first trouble from the left.
 
-ghost use Rattle.std.specs.Prelude.{◌≡◌, ◌++◌, ℕ, ◌<◌, ◌≤◌, ◌^◌, List, Result, length, IfOk, OnOk, OnErr, take, vec_len};
+ghost use Rattle.std.specs.Prelude.{◌≡◌, ◌++◌, ℕ, ◌<◌, ◌≤◌, ◌^◌, List, Result, Ok, Err, length, IfOk, IfSome, IfNone, OnOk, OnErr, take, vec_len};
 ghost use Rattle.simplex_types.specs.Codec.{Gives, IsCodec, Readable, bytes_at};
 ghost use Rattle.simplex_types.specs.declared.codec.CodecError.{CodecError};
-ghost use Rattle.simplex_types.specs.declared.codec.CodecError.TheVariants.{Memory};
+ghost use Rattle.simplex_types.specs.declared.codec.CodecError.TheVariants.{End, Memory};
 
 use std::alloc::{AllocError, AllocFailed, Global};
 use thiserror::Error;
@@ -112,19 +112,27 @@ pub trait Read: Write + Sized {
     ghost one_spelling: { (n : ℕ) → n < 2 ^ 32 → IsCodec (Readable Self.fits (within n)) Self.spelling (reading n) };
 }
 
-/// Reads so many bytes as they are.
-pub(crate) fn read_bytes<const N: usize>(input: &mut &[u8]) -> Result<[u8; N], CodecError>
-    ensures { Gives (bytes_at N) input.old.now input.new.now result }
+/// Takes so many bytes as they are, or nothing where fewer are left.
+pub(crate) fn take_bytes<const N: usize>(input: &mut &[u8]) -> Option<[u8; N]>
+    ensures some { IfSome result (λ bytes. bytes_at N input.old.now ≡ Ok (bytes, input.new.now)) }
+    ensures none { IfNone result ((bytes_at N input.old.now ≡ Err End) × (input.new.now ≡ input.old.now)) }
 {
     let all: &[u8] = *input;
     if all.len() < N {
-        return Err(CodecError::End);
+        return None;
     }
     let (front, rest) = all.split_at(N);
     let mut bytes = [0; N];
     bytes.copy_from_slice(front);
     *input = rest;
-    Ok(bytes)
+    Some(bytes)
+}
+
+/// Reads so many bytes as they are.
+pub(crate) fn read_bytes<const N: usize>(input: &mut &[u8]) -> Result<[u8; N], CodecError>
+    ensures { Gives (bytes_at N) input.old.now input.new.now result }
+{
+    take_bytes(input).ok_or(CodecError::End)
 }
 
 #[cfg(test)]

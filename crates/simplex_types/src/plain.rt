@@ -15,7 +15,7 @@ ghost use Rattle.simplex_types.specs.Varint.{varint};
 
 use crate::attestation::{Attestation, Signature};
 use crate::attestation_list::AttestationList;
-use crate::codec::{CodecError, EncodeSize, MaxEncodeSize, Read, Write, read_bytes};
+use crate::codec::{CodecError, EncodeSize, MaxEncodeSize, Read, Write, read_bytes, take_bytes};
 use crate::committee::quorum;
 use crate::digest::Digest;
 use crate::duplicate::Duplicate;
@@ -160,6 +160,10 @@ impl Read for PlainSignature {
 }
 
 impl Signature for PlainSignature {
+    fn take(input: &mut &[u8], _bound: u32) -> Option<Self> {
+        Some(PlainSignature(take_bytes(input)?))
+    }
+
     ghost equal_is_same = { Prim.search rules };
 
     ghost small = { Prim.search rules };
