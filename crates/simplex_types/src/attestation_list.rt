@@ -81,9 +81,10 @@ fn read_next<G: Signature>(
     if signer.get() < low || signer.get() >= bound {
         return Err(CodecError::Invalid);
     }
-    let signature = match G::take(&mut rest, bound) {
-        Some(signature) => signature,
-        None => G::read_cfg(alloc, &mut rest, bound)?,
+    let Some(signature) = G::take(&mut rest, bound) else {
+        // This says why there is none.
+        G::read_cfg(alloc, &mut rest, bound)?;
+        unreachable!();
     };
     *input = rest;
     Ok(Attestation { signer, signature })
