@@ -2,7 +2,7 @@
 use Rattle.std.specs.Prelude.{◌≡◌, ℕ, Bool, List, ◌∷◌, ◌++◌, Result, Ok, refl, ⊤}
 use Rattle.simplex_types.specs.declared.codec.CodecError.{CodecError}
 use Rattle.simplex_types.specs.declared.position.Round.{Round}
-use Rattle.simplex_types.specs.Codec.{IsCodec, IsChoice, Readable, TakesBehind, or_at, both_at, nothing_at, tagged_at, tagged-IsCodec, both-IsCodec, unbounded-IsCodec, or-taken, nothing-taken}
+use Rattle.simplex_types.specs.Codec.{IsCodec, IsChoice, Readable, TakesBehind, or_at, both_at, nothing_at, tagged_at, tagged-IsCodec, both-IsCodec, or-taken, nothing-taken}
 use Rattle.simplex_types.specs.Round.{round_spelling, round_fits, round_at, round-IsCodec}
 use Rattle.simplex_types.specs.Truth.{truth_spelling, truth_at, truth-IsCodec}
 use Rattle.simplex_messages.specs.declared.artifact.Artifact.{Artifact}

@@ -1,4 +1,4 @@
-use Rattle.std.proofs.Common.{◌≡◌, IsTrue, true, false, ap}
+use Rattle.std.proofs.Common.{◌≡◌, true, false, ap}
 use Rattle.simplex_messages.specs.declared.activity.Activity.TheVariants as activity
 use Rattle.simplex_messages.proofs.laws.equal_reports_are_one.Goals as goal
 
