@@ -20,7 +20,11 @@ type Kept = Artifact<PlainScheme, Sha256Digest>;
 
 /// The bytes are one value of view 2, which is spelled so again, has an equal copy, and ends at each
 /// cut.
-pub(super) fn stands_for_one_value<T>(rt: &impl Abort, alloc: Global, bytes: &[u8]) -> Result<T, Fail>
+pub(super) fn stands_for_one_value<T>(
+    rt: &impl Abort,
+    alloc: Global,
+    bytes: &[u8],
+) -> Result<T, Fail>
 where
     T: Read + EncodeSize + Epochable + Viewable + Duplicate + PartialEq + Drop,
 {

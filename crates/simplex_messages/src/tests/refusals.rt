@@ -45,7 +45,10 @@ fn evidence_of_finalizes_is_judged_alike(rt: HostRuntime) -> Result<(), Fail> {
     let finalizes = with_byte(alloc, &votes, 0, 8)?;
     let beside = REPORT_NULLIFY_FINALIZE.as_slice();
     // Where the second vote has its epoch, its view and its signer.
-    for (evidence, places) in [(finalizes.as_slice(), [69, 70, 104]), (beside, [36, 37, 71])] {
+    for (evidence, places) in [
+        (finalizes.as_slice(), [69, 70, 104]),
+        (beside, [36, 37, 71]),
+    ] {
         assert_eq!(rt; refusal(alloc, evidence), None);
         for place in places {
             let bytes = with_byte(alloc, evidence, place, 3)?;

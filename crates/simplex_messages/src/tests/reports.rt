@@ -129,7 +129,11 @@ fn each_changed_byte_is_refused_or_spelled_again(rt: HostRuntime) -> Result<(), 
         (9, 24614),
     ] {
         let bytes = report_bytes(rt.alloc(), tag)?;
-        assert_eq!(rt; readable_changes(&rt, rt.alloc(), &bytes)?, expected, "tag {tag}");
+        assert_eq!(rt;
+            readable_changes(&rt, rt.alloc(), &bytes)?,
+            expected,
+            "tag {tag}"
+        );
     }
     Ok(())
 }
