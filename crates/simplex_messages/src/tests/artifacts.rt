@@ -5,7 +5,7 @@ use super::vectors::{
     REPORT_NULLIFY,
 };
 use super::{MEMBERS, REPORT_AA, committee, spelled, with_byte};
-use crate::{Artifact, Certificate};
+use crate::{Artifact, Certificate, Vote};
 use simplex_types::{
     CodecError, Duplicate, EncodeSize, Epoch, Epochable, PlainScheme, Read, Round, Sha256Digest,
     View, Viewable, Write,
@@ -85,6 +85,35 @@ fn artifacts_stand_behind_the_tags_0_to_6(rt: HostRuntime) -> Result<(), Fail> {
         REPORT_FINALIZATION.as_slice(),
     ] {
         let _artifact: Kept = stands_for_one_value(&rt, alloc, value)?;
+    }
+    Ok(())
+}
+
+// Each vote and certificate by its own tag, and the tag of the artifact that it becomes.
+#[test]
+fn votes_and_certificates_become_artifacts(rt: HostRuntime) -> Result<(), Fail> {
+    let alloc = rt.alloc();
+    for (tag, value) in [
+        (0u8, REPORT_AA.as_slice()),
+        (1, REPORT_NULLIFY.as_slice()),
+        (2, REPORT_FINALIZE_AA.as_slice()),
+    ] {
+        let bytes = with_byte(alloc, value, 0, tag)?;
+        let vote: Vote<PlainScheme, Sha256Digest> = Vote::read_cfg(
+            alloc,
+            &mut bytes.as_slice(),
+            MEMBERS,
+        )?;
+        assert_eq!(rt; spelled(alloc, &Kept::from(vote))?.as_slice(), value);
+    }
+    for (tag, value) in [
+        (0u8, REPORT_NOTARIZATION.as_slice()),
+        (1, REPORT_NULLIFICATION.as_slice()),
+        (2, REPORT_FINALIZATION.as_slice()),
+    ] {
+        let bytes = with_byte(alloc, value, 0, tag)?;
+        let certificate = AnyCertificate::read_cfg(alloc, &mut bytes.as_slice(), MEMBERS)?;
+        assert_eq!(rt; spelled(alloc, &Kept::from(certificate))?.as_slice(), value);
     }
     Ok(())
 }

@@ -14,6 +14,7 @@ fn is_signed_as(
 ) -> Result<(), Fail> {
     let names = Namespace::new(alloc, b"simplex")?;
     assert_eq!(rt; names.base(), b"simplex".as_slice());
+    assert!(rt; namespace.ends_with(subject.kind_name()));
     assert_eq!(rt; names.of(alloc, subject)?.as_slice(), namespace);
     assert_eq!(rt; subject.message(alloc)?.as_slice(), message);
     Ok(())
