@@ -2,7 +2,7 @@ use super::certificates::{three_members, three_nullifies, three_votes};
 use super::vectors::{REPORT_FINALIZATION, REPORT_NOTARIZATION, REPORT_NULLIFICATION};
 use super::{MEMBERS, REPORT_AA, REPORT_BB, Report, evidence_bytes, own_evidence};
 use crate::{Finalization, Nullification};
-use simplex_types::{AssemblyError, CodecError, Duplicate, Read, Write};
+use simplex_types::{AssemblyError, CodecError, Duplicate, Read, Scheme, Sha256Digest, Write};
 use std::test::Fail;
 
 // At each N from 6 to 9 `rt try --test --fail-alloc N` refuses one of the vector's four growths.
@@ -53,14 +53,15 @@ fn a_quorum_is_refused_for_memory_alone(rt: HostRuntime) -> Result<(), Fail> {
     let alloc = rt.alloc();
     let members = three_members(alloc, MEMBERS)?;
     let [scheme, _, _] = &members;
+    let participants = Scheme::<Sha256Digest>::participants(scheme);
     let finalizes = three_votes(&rt, alloc, &members)?;
     let nullifies = three_nullifies(&rt, alloc, &members)?;
-    assert!(rt; Finalization::can_certify(alloc, MEMBERS, &finalizes)?);
+    assert!(rt; Finalization::can_certify(alloc, participants, &finalizes)?);
     match Finalization::from_finalizes(alloc, scheme, &finalizes) {
         Ok(made) => assert!(rt; made.verify(scheme)),
         Err(error) => assert_eq!(rt; error, AssemblyError::Memory),
     }
-    assert!(rt; Nullification::can_nullify(alloc, MEMBERS, &nullifies)?);
+    assert!(rt; Nullification::can_nullify(alloc, participants, &nullifies)?);
     match Nullification::from_nullifies(alloc, scheme, &nullifies) {
         Ok(made) => assert!(rt; made.verify(scheme)),
         Err(error) => assert_eq!(rt; error, AssemblyError::Memory),
