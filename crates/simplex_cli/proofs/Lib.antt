@@ -1,14 +1,3 @@
-pub mod Lists
-pub mod Casts
-pub mod Suspects
-pub mod Tallies
-pub mod Counting
-pub mod Gathering
-pub mod Twos
-pub mod Places
-pub mod Judging
-pub mod Verdicts
-pub mod Reading
 pub mod Numerals
 pub mod Words
 pub mod Counts

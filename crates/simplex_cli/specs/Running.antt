@@ -11,7 +11,7 @@ use Rattle.simplex_types.specs.Subject.{Statement}
 use Rattle.simplex_messages.specs.declared.activity.Activity.{Activity}
 use Rattle.simplex_types.specs.AttestationList.{list_fits, list_within, list_spelling, list_at}
 use Rattle.simplex_messages.specs.Activity.{activity_fits, activity_within, activity_spelling, activity_at}
-use Rattle.simplex_cli.specs.Audit.{IsAudit}
+use Rattle.simplex_rules.specs.Audit.{IsAudit}
 use Rattle.simplex_cli.specs.Lines.{lines_of}
 
 -- a signature of the plain scheme of so many members over the base `simplex`
@@ -25,7 +25,7 @@ Report = Activity Committee (List ℕ) ℕ (List ℕ) (List (Attestation (List �
 -- the text is the lines of the audit of these bytes, which named this place
 pub record IsAnswer (count : ℕ) (bytes : List ℕ) (fault : Option ℕ) (text : List ℕ) : Type 0 where
   pub evidence : List Report
-  pub audit : IsAudit (plain_attests count) (slice_cmp nat_cmp) (Readable (activity_fits (pointwise ◌==◌) (λ d. length d ≡ 32) (λ s. length s ≡ 32) (list_fits (λ s. length s ≡ 32))) (activity_within (list_within count))) (activity_spelling (λ d. d) (λ s. s) (list_spelling (λ s. s))) (activity_at (pointwise ◌==◌) (bytes_at 32) (bytes_at 32) (list_at (bytes_at 32) count)) bytes evidence fault
+  pub audit : IsAudit (λ c. c) (plain_attests count) (slice_cmp nat_cmp) (Readable (activity_fits (pointwise ◌==◌) (λ d. length d ≡ 32) (λ s. length s ≡ 32) (list_fits (λ s. length s ≡ 32))) (activity_within (list_within count))) (activity_spelling (λ d. d) (λ s. s) (list_spelling (λ s. s))) (activity_at (pointwise ◌==◌) (bytes_at 32) (bytes_at 32) (list_at (bytes_at 32) count)) bytes evidence fault
   pub text_is : text ≡ lines_of evidence fault
 
 -- the lines of the audit of these bytes, which named this place, were written

@@ -6,12 +6,11 @@ ghost use Rattle.simplex_cli.specs.Running.{AppendsFront, AuditsOver, BreaksOff,
 ghost use Rattle.simplex_cli.specs.declared.trouble.Trouble.{Trouble};
 ghost use Rattle.simplex_cli.specs.declared.trouble.Trouble.TheVariants.{Write};
 
-use crate::auditing::audit;
 use crate::input::{InputError, read_all};
 use crate::lines::text_of;
 use crate::output::write_whole;
 use crate::trouble::Trouble;
-use crate::verdict::Audit;
+use simplex_rules::{Audit, audit};
 use simplex_types::{PlainScheme, Sha256Digest};
 use std::alloc::{AllocError, Global};
 use std::io::{Read, Write};

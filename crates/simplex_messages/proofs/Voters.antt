@@ -1,5 +1,5 @@
 -- The attestations of a list of votes.
-use Rattle.std.proofs.Common.{◌≡◌, ◌≢◌, ℕ, zero, suc, refl, ◌<◌, List, [], ◌∷◌, length, get_or, map, arith, ◌∙◌, sym, ap, subst, ◌⊎◌, ◌↔◌}
+use Rattle.std.proofs.Common.{◌≡◌, ◌≢◌, ℕ, zero, suc, refl, ◌<◌, List, [], ◌∷◌, length, get_or, map, arith, ◌∙◌, sym, ap, subst, ◌↔◌}
 use Rattle.std.specs.List.{All, AllPairs, Contains}
 use Rattle.std.proofs.lemmas.List.Elements.{All-map}
 use Rattle.std.proofs.lemmas.List.{get_or-map, length-map}
@@ -54,17 +54,17 @@ alike-first f [] alike k d e l = absurd (omega arith)
 alike-first f (v ∷ votes) alike zero d e l = refl
 alike-first f (v ∷ votes) alike (suc k) d e l = sym (alike 0 (suc k) d (omega arith) l)
 
-module _ {V X G D C : Type 0} (content : V → X) (attestation : V → Attestation G) (states : X → Statement D) (attests : ℕ → Statement D → G → Type 0) (certifies : Statement D → C → Type 0) (lists : C → List (Attestation G)) where
+module _ {V X G D C : Type 0} (content : V → X) (attestation : V → Attestation G) (states : X → Statement D) (attests : ℕ → Statement D → G → Type 0) (certifies : Statement D → C → Type 0) (lists : C → List (Attestation G)) (Enumerates : Type 0) where
   -- what a scheme assembles of the votes' attestations is made of the votes
   pub made-from : (n : ℕ) (votes : List V) → CanAssemble content attestation n votes → (first : V) (x : X) → x ≡ content (get_or votes 0 first)
       → (listed : List (Attestation G)) → listed ≡ map attestation votes → (made : C)
       → ((y : Statement D) → All (λ a. attests a.signer y a.signature) listed → certifies y made)
       → ((a : Attestation G) → Contains (lists made) a → Contains listed a)
-      → (lists made ≡ []) ⊎ ((a : Attestation G) → Contains listed a → Contains (lists made) a)
-      → IsMadeOf content attestation states attests certifies lists votes x made
+      → (Enumerates → (a : Attestation G) → Contains listed a → Contains (lists made) a)
+      → IsMadeOf content attestation states attests certifies lists Enumerates votes x made
   made-from n votes can first x x-is listed listed-is made certify given given_all =
       let same : (k : ℕ) (d : V) → k < length votes → content (get_or votes k d) ≡ x = λ k d l. alike-first content votes can.one_content k d first l ∙ sym x-is in
-      let IsAll : List (Attestation G) → Type 0 = λ attestations. (lists made ≡ []) ⊎ ((a : Attestation G) → Contains attestations a → Contains (lists made) a) in
+      let IsAll : List (Attestation G) → Type 0 = λ attestations. Enumerates → (a : Attestation G) → Contains attestations a → Contains (lists made) a in
       let Attests : Attestation G → Type 0 = λ a. attests a.signer (states x) a.signature in
       record {
         content_is = same;

@@ -1,25 +1,37 @@
 -- Who is guilty: a member in whose name two verifying votes contradict each other.
-use Rattle.std.specs.Prelude.{◌≡◌, ◌<◌, ◌⊎◌, ℕ, List, [], ◌∷◌, ◌++◌, Contains}
+use Rattle.std.specs.Prelude.{◌≡◌, ◌<◌, ◌⊎◌, ℕ, List, [], ◌∷◌, ◌++◌, map, Contains}
 use Rattle.std.specs.List.{flat_map}
 use Rattle.std.specs.declared.cmp.Ordering.{Ordering}
 use Rattle.std.specs.declared.cmp.Ordering.TheVariants.{Less}
+use Rattle.simplex_types.specs.declared.attestation.Attestation.{Attestation}
 use Rattle.simplex_types.specs.declared.position.Round.{Round}
 use Rattle.simplex_types.specs.declared.proposal.Proposal.{Proposal}
 use Rattle.simplex_types.specs.Subject.{Statement, finalize}
+use Rattle.simplex_messages.specs.declared.nullification.Nullification.{Nullification}
 use Rattle.simplex_messages.specs.declared.nullify.Nullify.{Nullify}
+use Rattle.simplex_messages.specs.declared.proposal_certificate.ProposalCertificate.{ProposalCertificate}
 use Rattle.simplex_messages.specs.declared.proposal_vote.ProposalVote.{ProposalVote}
-use Rattle.simplex_messages.specs.Nullify.{NullifyIsAttested}
+use Rattle.simplex_messages.specs.Nullify.{NullifyIsAttested, nullify_of_parts}
 use Rattle.simplex_messages.specs.NullifyFinalize.{StandsBeside}
-use Rattle.simplex_messages.specs.ProposalVote.{Notarize, Finalize, Contradict, IsAttested}
+use Rattle.simplex_messages.specs.ProposalVote.{Notarize, Finalize, Contradict, IsAttested, vote_of_parts}
 use Rattle.simplex_messages.specs.declared.activity.Activity.{Activity}
 use Rattle.simplex_messages.specs.declared.activity.Activity.TheVariants as activity
 
-module _ {S D P G C : Type 0} where
-  -- the notarizes that a report holds, loose or as evidence, in the order of its bytes
+-- votes that certificates list, which the scheme says of what certifies
+module _ {S D P G C : Type 0} (lists : C → List (Attestation G)) where
+  -- the votes that a certificate for a proposal lists, one for each attestation
+  abbrev pub votes_listed : {K : Type 0} → ProposalCertificate K S D P G C → List (ProposalVote K S D P G C)
+  votes_listed c = map (λ a. vote_of_parts (c.proposal, a)) (lists c.certificate)
+
+  -- the nullifies that a nullification lists, one for each attestation
+  abbrev pub nullifies_listed : Nullification S D P G C → List (Nullify S D P G C)
+  nullifies_listed c = map (λ a. nullify_of_parts (c.round, a)) (lists c.certificate)
+
+  -- the notarizes that a report holds, loose, in a certificate or as evidence, in the order of its bytes
   abbrev pub notarizes_in : Activity S D P G C → List (Notarize S D P G C)
   notarizes_in (activity.Notarize v) = v ∷ []
-  notarizes_in (activity.Notarization c) = []
-  notarizes_in (activity.Certification c) = []
+  notarizes_in (activity.Notarization c) = votes_listed c
+  notarizes_in (activity.Certification c) = votes_listed c
   notarizes_in (activity.Nullify v) = []
   notarizes_in (activity.Nullification c) = []
   notarizes_in (activity.Finalize v) = []
@@ -28,20 +40,20 @@ module _ {S D P G C : Type 0} where
   notarizes_in (activity.ConflictingFinalize x) = []
   notarizes_in (activity.NullifyFinalize x) = []
 
-  -- the nullifies that a report holds, loose or as evidence
+  -- the nullifies that a report holds, loose, in a certificate or as evidence
   abbrev pub nullifies_in : Activity S D P G C → List (Nullify S D P G C)
   nullifies_in (activity.Notarize v) = []
   nullifies_in (activity.Notarization c) = []
   nullifies_in (activity.Certification c) = []
   nullifies_in (activity.Nullify v) = v ∷ []
-  nullifies_in (activity.Nullification c) = []
+  nullifies_in (activity.Nullification c) = nullifies_listed c
   nullifies_in (activity.Finalize v) = []
   nullifies_in (activity.Finalization c) = []
   nullifies_in (activity.ConflictingNotarize x) = []
   nullifies_in (activity.ConflictingFinalize x) = []
   nullifies_in (activity.NullifyFinalize x) = x.0 ∷ []
 
-  -- the finalizes that a report holds, loose or as evidence, in the order of its bytes
+  -- the finalizes that a report holds, loose, in a certificate or as evidence, in the order of its bytes
   abbrev pub finalizes_in : Activity S D P G C → List (Finalize S D P G C)
   finalizes_in (activity.Notarize v) = []
   finalizes_in (activity.Notarization c) = []
@@ -49,7 +61,7 @@ module _ {S D P G C : Type 0} where
   finalizes_in (activity.Nullify v) = []
   finalizes_in (activity.Nullification c) = []
   finalizes_in (activity.Finalize v) = v ∷ []
-  finalizes_in (activity.Finalization c) = []
+  finalizes_in (activity.Finalization c) = votes_listed c
   finalizes_in (activity.ConflictingNotarize x) = []
   finalizes_in (activity.ConflictingFinalize x) = x.0 ∷ x.1 ∷ []
   finalizes_in (activity.NullifyFinalize x) = x.1 ∷ []

@@ -45,5 +45,5 @@ module _ {S D P G C : Type 0} where
   CanNullify n votes = CanAssemble (λ v. v.round) (λ v. v.attestation) n votes
 
   -- the nullification was made of these votes
-  abbrev pub IsNullificationOf : (ℕ → Statement D → G → Type 0) → (Statement D → C → Type 0) → (C → List (Attestation G)) → List (Nullify S D P G C) → Nullification S D P G C → Type 0
-  IsNullificationOf attests certifies lists votes c = IsMadeOf (λ v. v.round) (λ v. v.attestation) nullify attests certifies lists votes c.round c.certificate
+  abbrev pub IsNullificationOf : (ℕ → Statement D → G → Type 0) → (Statement D → C → Type 0) → (C → List (Attestation G)) → Type 0 → List (Nullify S D P G C) → Nullification S D P G C → Type 0
+  IsNullificationOf attests certifies lists Enumerates votes c = IsMadeOf (λ v. v.round) (λ v. v.attestation) nullify attests certifies lists Enumerates votes c.round c.certificate

@@ -55,5 +55,5 @@ module _ {K S D P G C : Type 0} where
   CanCertify n votes = CanAssemble (λ v. v.proposal) (λ v. v.attestation) n votes
 
   -- the certificate was made of these votes
-  abbrev pub IsCertificateOf : (Proposal D → Statement D) → (ℕ → Statement D → G → Type 0) → (Statement D → C → Type 0) → (C → List (Attestation G)) → List (ProposalVote K S D P G C) → ProposalCertificate K S D P G C → Type 0
-  IsCertificateOf states attests certifies lists votes c = IsMadeOf (λ v. v.proposal) (λ v. v.attestation) states attests certifies lists votes c.proposal c.certificate
+  abbrev pub IsCertificateOf : (Proposal D → Statement D) → (ℕ → Statement D → G → Type 0) → (Statement D → C → Type 0) → (C → List (Attestation G)) → Type 0 → List (ProposalVote K S D P G C) → ProposalCertificate K S D P G C → Type 0
+  IsCertificateOf states attests certifies lists Enumerates votes c = IsMadeOf (λ v. v.proposal) (λ v. v.attestation) states attests certifies lists Enumerates votes c.proposal c.certificate

@@ -52,7 +52,7 @@ impl<S: Scheme<D>, D: Digest> Nullification<S, D> {
         votes: &[Nullify<S, D>],
     ) -> Result<Self, AssemblyError>
         requires { CanNullify (S.size scheme.now) votes.now }
-        ensures made { IfOk result (IsNullificationOf (S.attests scheme.now) (S.certifies scheme.now) S.lists votes.now) }
+        ensures made { IfOk result (IsNullificationOf (S.attests scheme.now) (S.certifies scheme.now) S.lists S.enumerates votes.now) }
         ensures too_few { length votes.now < quorum (S.size scheme.now) → result ≡ Err (InsufficientAttestations (quorum (S.size scheme.now)) (length votes.now)) }
         ensures enough { quorum (S.size scheme.now) ≤ length votes.now → IfErr result (λ e. e ≡ Memory) }
     {
@@ -67,7 +67,7 @@ impl<S: Scheme<D>, D: Digest> Nullification<S, D> {
         votes: Vec<Nullify<S, D>>,
     ) -> Result<Self, AssemblyError>
         requires { CanNullify (S.size scheme.now) votes.items }
-        ensures made { IfOk result (IsNullificationOf (S.attests scheme.now) (S.certifies scheme.now) S.lists votes.items) }
+        ensures made { IfOk result (IsNullificationOf (S.attests scheme.now) (S.certifies scheme.now) S.lists S.enumerates votes.items) }
         ensures too_few { length votes.items < quorum (S.size scheme.now) → result ≡ Err (InsufficientAttestations (quorum (S.size scheme.now)) (length votes.items)) }
         ensures enough { quorum (S.size scheme.now) ≤ length votes.items → IfErr result (λ e. e ≡ Memory) }
     {

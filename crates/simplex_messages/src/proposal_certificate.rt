@@ -67,7 +67,7 @@ impl<K: ProposalKind<D>, S: Scheme<D>, D: Digest> ProposalCertificate<K, S, D> {
         votes: &[ProposalVote<K, S, D>],
     ) -> Result<Self, AssemblyError>
         requires { CanCertify (S.size scheme.now) votes.now }
-        ensures made { IfOk result (IsCertificateOf K.states (S.attests scheme.now) (S.certifies scheme.now) S.lists votes.now) }
+        ensures made { IfOk result (IsCertificateOf K.states (S.attests scheme.now) (S.certifies scheme.now) S.lists S.enumerates votes.now) }
         ensures too_few { length votes.now < quorum (S.size scheme.now) → result ≡ Err (InsufficientAttestations (quorum (S.size scheme.now)) (length votes.now)) }
         ensures enough { quorum (S.size scheme.now) ≤ length votes.now → IfErr result (λ e. e ≡ Memory) }
     {
@@ -117,7 +117,7 @@ impl<S: Scheme<D>, D: Digest> ProposalCertificate<Notarizing, S, D> {
         votes: &[Notarize<S, D>],
     ) -> Result<Self, AssemblyError>
         requires { CanCertify (S.size scheme.now) votes.now }
-        ensures made { IfOk result (IsCertificateOf notarize (S.attests scheme.now) (S.certifies scheme.now) S.lists votes.now) }
+        ensures made { IfOk result (IsCertificateOf notarize (S.attests scheme.now) (S.certifies scheme.now) S.lists S.enumerates votes.now) }
         ensures too_few { length votes.now < quorum (S.size scheme.now) → result ≡ Err (InsufficientAttestations (quorum (S.size scheme.now)) (length votes.now)) }
         ensures enough { quorum (S.size scheme.now) ≤ length votes.now → IfErr result (λ e. e ≡ Memory) }
     {
@@ -131,7 +131,7 @@ impl<S: Scheme<D>, D: Digest> ProposalCertificate<Notarizing, S, D> {
         votes: Vec<Notarize<S, D>>,
     ) -> Result<Self, AssemblyError>
         requires { CanCertify (S.size scheme.now) votes.items }
-        ensures made { IfOk result (IsCertificateOf notarize (S.attests scheme.now) (S.certifies scheme.now) S.lists votes.items) }
+        ensures made { IfOk result (IsCertificateOf notarize (S.attests scheme.now) (S.certifies scheme.now) S.lists S.enumerates votes.items) }
         ensures too_few { length votes.items < quorum (S.size scheme.now) → result ≡ Err (InsufficientAttestations (quorum (S.size scheme.now)) (length votes.items)) }
         ensures enough { quorum (S.size scheme.now) ≤ length votes.items → IfErr result (λ e. e ≡ Memory) }
     {
@@ -158,7 +158,7 @@ impl<S: Scheme<D>, D: Digest> ProposalCertificate<Finalizing, S, D> {
         votes: &[Finalize<S, D>],
     ) -> Result<Self, AssemblyError>
         requires { CanCertify (S.size scheme.now) votes.now }
-        ensures made { IfOk result (IsCertificateOf finalize (S.attests scheme.now) (S.certifies scheme.now) S.lists votes.now) }
+        ensures made { IfOk result (IsCertificateOf finalize (S.attests scheme.now) (S.certifies scheme.now) S.lists S.enumerates votes.now) }
         ensures too_few { length votes.now < quorum (S.size scheme.now) → result ≡ Err (InsufficientAttestations (quorum (S.size scheme.now)) (length votes.now)) }
         ensures enough { quorum (S.size scheme.now) ≤ length votes.now → IfErr result (λ e. e ≡ Memory) }
     {
@@ -172,7 +172,7 @@ impl<S: Scheme<D>, D: Digest> ProposalCertificate<Finalizing, S, D> {
         votes: Vec<Finalize<S, D>>,
     ) -> Result<Self, AssemblyError>
         requires { CanCertify (S.size scheme.now) votes.items }
-        ensures made { IfOk result (IsCertificateOf finalize (S.attests scheme.now) (S.certifies scheme.now) S.lists votes.items) }
+        ensures made { IfOk result (IsCertificateOf finalize (S.attests scheme.now) (S.certifies scheme.now) S.lists S.enumerates votes.items) }
         ensures too_few { length votes.items < quorum (S.size scheme.now) → result ≡ Err (InsufficientAttestations (quorum (S.size scheme.now)) (length votes.items)) }
         ensures enough { quorum (S.size scheme.now) ≤ length votes.items → IfErr result (λ e. e ≡ Memory) }
     {

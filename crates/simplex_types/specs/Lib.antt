@@ -10,6 +10,8 @@ pub mod ListCodec
 pub mod ListEquality
 pub mod ListSize
 pub mod Quorum
+pub mod Counting
+pub mod Overlap
 pub mod Subject
 pub mod Plain
 pub mod Context

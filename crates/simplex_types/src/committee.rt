@@ -1,6 +1,9 @@
 //! How many members of a committee may lie, and how many are a quorum.
 
-ghost use Rattle.std.specs.Prelude.{◌≡◌};
+ghost use Rattle.std.specs.Prelude.{◌≡◌, ◌+◌, ◌≤◌, ℕ, List, length};
+ghost use Rattle.std.specs.List.{Contains};
+ghost use Rattle.simplex_types.specs.Counting.{common};
+ghost use Rattle.simplex_types.specs.Overlap.{AreQuorum};
 ghost use Rattle.simplex_types.specs.Quorum as words;
 
 /// The most members of a committee of `n` that may be faulty: a third of all but one, rounded down.
@@ -16,6 +19,13 @@ pub const fn quorum(n: u32) -> u32
 {
     n - faults(n)
 }
+
+/// The law of quorums: two quorums of one committee share at least one member more than may be faulty,
+/// and so, whichever members are faulty, one that isn't.
+pub fn two_quorums_share_members()
+    ensures shared { (n : ℕ) (xs ys : List ℕ) → 1 ≤ n → AreQuorum n xs → AreQuorum n ys → words.faults n + 1 ≤ length (common xs ys) }
+    ensures correct { (n : ℕ) (xs ys faulty : List ℕ) → 1 ≤ n → AreQuorum n xs → AreQuorum n ys → length faulty ≤ words.faults n → (i : ℕ) × Contains xs i × Contains ys i × (Contains faulty i → ⊥) }
+{}
 
 #[cfg(test)]
 mod tests {

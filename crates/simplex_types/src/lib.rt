@@ -23,7 +23,7 @@ pub use attestation::{Attestation, Signature};
 pub use attestation_list::AttestationList;
 pub use attributes::{Attributable, Epochable, Viewable};
 pub use codec::{CodecError, EncodeSize, MaxEncodeSize, Read, Write};
-pub use committee::{faults, quorum};
+pub use committee::{faults, quorum, two_quorums_share_members};
 pub use context::{Context, equal_contexts_are_one};
 pub use digest::{Digest, Sha256Digest};
 pub use duplicate::Duplicate;

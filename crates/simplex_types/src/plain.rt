@@ -198,7 +198,7 @@ impl Model for PlainScheme {
 
     ghost view = { λ s. record { base = s.namespace; participants = s.participants; me = s.me } };
 
-    ghost invariant = { λ s. (length s.namespace ≤ 255) × ForSome s.me (λ i. i < s.participants) };
+    ghost invariant = { λ s. (length s.namespace ≤ 255) × (0 < s.participants) × ForSome s.me (λ i. i < s.participants) };
 }
 
 impl PlainScheme {
@@ -322,6 +322,8 @@ impl<D: Digest> Scheme<D> for PlainScheme {
 
     ghost lists = { λ c. c };
 
+    ghost enumerates = { ⊤ };
+
     fn participants(&self) -> u32 {
         self.participants
     }
@@ -384,6 +386,8 @@ impl<D: Digest> Listing<D> for PlainScheme {
     ) -> &[Attestation<PlainSignature>] {
         certificate.attestations()
     }
+
+    ghost enumerated = { tt };
 
     ghost backed = { λ s x c h. h };
 }

@@ -1,6 +1,6 @@
 //! Signing schemes.
 
-ghost use Rattle.std.specs.Prelude.{[], ◌⊎◌, ◌≡◌, ◌↔◌, ◌<◌, ◌≤◌, ◌^◌, ℕ, Bool, List, length, All, Contains, Option, Some, None, Err, IsTrue, IfSome, IsSome, IsNone, IfOk, IfErr};
+ghost use Rattle.std.specs.Prelude.{◌≡◌, ◌↔◌, ◌<◌, ◌≤◌, ◌^◌, ℕ, Bool, List, length, All, Contains, Option, Some, None, Err, IsTrue, IfSome, IsSome, IsNone, IfOk, IfErr};
 ghost use Rattle.simplex_types.specs.declared.attestation.Attestation.{Attestation};
 ghost use Rattle.simplex_types.specs.declared.scheme.AssemblyError.TheVariants.{InsufficientAttestations, Memory};
 ghost use Rattle.simplex_types.specs.AttestationList.{AscendsFrom};
@@ -88,12 +88,16 @@ pub trait Scheme<D: Digest> {
     /// The certificate certifies this statement.
     ghost certifies: { Self → Statement D → Self.Certificate → Type 0 };
 
-    /// The attestations that a certificate lists: all of them for schemes that list, and else none.
+    /// The attestations that a certificate lists.
     ghost lists: { Self.Certificate → List (Attestation Self.Signature) };
 
-    /// How many members the committee has.
+    /// Certificates list all that they are made of.
+    ghost enumerates: { Type 0 };
+
+    /// How many members the committee has: at least one.
     fn participants(&self) -> u32
-        ensures { result ≡ size self.now };
+        ensures value { result ≡ size self.now }
+        ensures some { 0 < size self.now };
 
     /// The index whose key this is, if it has one.
     fn me(&self) -> Option<Participant>
@@ -139,7 +143,7 @@ pub trait Scheme<D: Digest> {
         requires members { All (λ a. a.signer < size self.now) attestations.now }
         ensures certifies { IfOk result (λ c. (x : Statement D) → All (λ a. attests self.now a.signer x a.signature) attestations.now → certifies self.now x c) }
         ensures only_given { IfOk result (λ c. (a : Attestation Self.Signature) → Contains (lists c) a → Contains attestations.now a) }
-        ensures all_given { IfOk result (λ c. (lists c ≡ []) ⊎ ((a : Attestation Self.Signature) → Contains attestations.now a → Contains (lists c) a)) }
+        ensures all_given { IfOk result (λ c. enumerates → (a : Attestation Self.Signature) → Contains attestations.now a → Contains (lists c) a) }
         ensures too_few { length attestations.now < quorum (size self.now) → result ≡ Err (InsufficientAttestations (quorum (size self.now)) (length attestations.now)) }
         ensures enough { quorum (size self.now) ≤ length attestations.now → IfErr result (λ e. e ≡ Memory) };
 
@@ -153,6 +157,9 @@ pub trait Listing<D: Digest>: Scheme<D> {
     fn attestations(certificate: &Self::Certificate) -> &[Attestation<Self::Signature>]
         ensures listed { result.now ≡ Self.lists certificate.now }
         ensures ascending { AscendsFrom 0 (Self.lists certificate.now) };
+
+    /// Certificates list all that they are made of.
+    ghost enumerated: { Self.enumerates };
 
     /// What certifies lists attestations of a quorum.
     ghost backed: { (s : Self) (x : Statement D) (c : Self.Certificate) → Self.certifies s x c → IsQuorum (Self.size s) (λ i a. Self.attests s i x a) (Self.lists c) };

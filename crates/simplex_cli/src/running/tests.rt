@@ -1,3 +1,5 @@
+ghost use Rattle.std.specs.Prelude.{◌<◌};
+
 use super::*;
 use crate::fakes::{Fault, Page, SlowReader, SlowWriter};
 use crate::samples::{
@@ -7,6 +9,7 @@ use std::io;
 use std::process::Abort;
 use std::test::Fail;
 
+mod certificates;
 mod kinds;
 
 /// The line for the votes for `aa..` and `bb..`.
@@ -20,10 +23,17 @@ const STORED_LINES: &str =
 /// Audits the input for a committee of four: it writes these lines, and answers 3 if one of them is
 /// a fault's and 0 if none is.
 fn assert_audit(rt: &impl Abort, alloc: Global, input: &[u8], lines: &str) {
+    assert_audit_of(rt, alloc, 4, input, lines);
+}
+
+/// The same for a committee of so many.
+fn assert_audit_of(rt: &impl Abort, alloc: Global, count: u16, input: &[u8], lines: &str)
+    requires { 0 < count }
+{
     let mut reader = input;
     let mut output = Vec::new(alloc);
     let mut faults = Vec::new(alloc);
-    let status = audit_over(alloc, 4, &mut reader, &mut output, &mut faults);
+    let status = audit_over(alloc, count, &mut reader, &mut output, &mut faults);
     assert_eq!(rt; str::from_utf8(&output).ok(), Some(lines));
     assert_eq!(rt; status, if lines.contains("fault") { 3 } else { 0 });
     assert!(rt; faults.is_empty());

@@ -103,12 +103,45 @@ fn evidence_of_each_kind_counts(rt: HostRuntime) -> Result<(), Fail> {
 }
 
 #[test]
-fn certificates_are_read_and_count_nothing(rt: HostRuntime) -> Result<(), Fail> {
+fn votes_in_certificates_count(rt: HostRuntime) -> Result<(), Fail> {
     let alloc = rt.alloc();
     let for_b = reports(alloc, &[FOR_B])?;
+    assert_two(&rt, alloc, &REPORT_NOTARIZATION, &for_b, A_AND_B)?;
+    assert_two(&rt, alloc, &for_b, &REPORT_CERTIFICATION, A_AND_B)?;
+    assert_two(
+        &rt,
+        alloc,
+        &REPORT_NULLIFICATION,
+        &REPORT_FINALIZE_BB,
+        BESIDE_B,
+    )?;
+    assert_two(
+        &rt,
+        alloc,
+        &REPORT_FINALIZE_BB,
+        &REPORT_FINALIZATION,
+        FINALIZES,
+    )?;
+    assert_two(&rt, alloc, &REPORT_NULLIFY, &REPORT_FINALIZATION, BESIDE_A)?;
+    Ok(())
+}
+
+#[test]
+fn votes_in_certificates_of_other_kinds_do_not_conflict(rt: HostRuntime) -> Result<(), Fail> {
+    let alloc = rt.alloc();
+    let for_b = reports(alloc, &[FOR_B])?;
+    assert_two(&rt, alloc, &REPORT_NOTARIZATION, &REPORT_FINALIZE_BB, "")?;
+    assert_two(&rt, alloc, &REPORT_CERTIFICATION, &REPORT_NULLIFICATION, "")?;
+    assert_two(&rt, alloc, &REPORT_NOTARIZATION, &REPORT_CERTIFICATION, "")?;
+    assert_two(&rt, alloc, &REPORT_NULLIFICATION, &for_b, "")?;
+    assert_two(&rt, alloc, &REPORT_FINALIZATION, &for_b, "")?;
+    Ok(())
+}
+
+#[test]
+fn a_certificate_that_is_cut_is_a_fault(rt: HostRuntime) -> Result<(), Fail> {
+    let alloc = rt.alloc();
     for certificate in CERTIFICATES {
-        assert_two(&rt, alloc, certificate, &REPORT_FINALIZE_BB, "")?;
-        assert_two(&rt, alloc, certificate, &for_b, "")?;
         let cut = certificate.get(..100).ok_or("a short certificate")?;
         let line = fault_at(alloc, certificate.len())?;
         assert_two(&rt, alloc, certificate, cut, &line)?;
@@ -124,7 +157,10 @@ fn fault_at(alloc: Global, place: usize) -> Result<String, AllocError> {
 #[test]
 fn a_stream_of_every_kind(rt: HostRuntime) -> Result<(), Fail> {
     let alloc = rt.alloc();
-    let lines = format!(in alloc; "{A_AND_B}{FINALIZES}{BESIDE_A}")?;
+    // Members 0 and 2 stand in the nullification and in the finalization.
+    let lines = format!(in alloc;
+        "nullify-finalize epoch 0 view 2 signer 0 parent 1 payload {A}\n{A_AND_B}{FINALIZES}{BESIDE_A}nullify-finalize epoch 0 view 2 signer 2 parent 1 payload {A}\n"
+    )?;
     let stream: [&[u8]; 10] = [
         &REPORT_NULLIFY_FINALIZE,
         &REPORT_CONFLICTING_FINALIZE,

@@ -23,6 +23,6 @@ returns-clause-made g c = λ states.
     let content = g.V.Attested.content_of in
     let first = c.index-votes-0.result in
     let listed = c.deref.ensures.value ∙ c.in_ok-attestations.ensures in
-    made-from content g.V.Attested.attestation_of states (g.S.Scheme.attests c.args.scheme.now) (g.S.Scheme.certifies c.args.scheme.now) g.S.Scheme.lists
+    made-from content g.V.Attested.attestation_of states (g.S.Scheme.attests c.args.scheme.now) (g.S.Scheme.certifies c.args.scheme.now) g.S.Scheme.lists g.S.Scheme.enumerates
     (g.S.Scheme.size c.args.scheme.now) c.args.votes.now c.requires first c.content-content.result (c.content-content.ensures ∙ ap content c.index-votes-0.is)
     c.deref.result.now listed c.in_ok-certificate.certificate c.in_ok-certificate.ensures.certifies c.in_ok-certificate.ensures.only_given c.in_ok-certificate.ensures.all_given

@@ -1,4 +1,4 @@
-use Rattle.std.proofs.Common.{inr, ◌≡◌, ℕ, List, arith, ap, ◌≤◌, ◌<◌, length}
+use Rattle.std.proofs.Common.{◌≡◌, ℕ, List, arith, ap, ◌≤◌, ◌<◌, length}
 use Rattle.std.proofs.lemmas.List.Sorted.{All-permutation, Contains-permutation, IsPermutation-sym, length_permutation}
 use Rattle.simplex_types.specs.declared.attestation.Attestation.{Attestation}
 use Rattle.simplex_types.specs.Plain.{signature}
@@ -17,7 +17,7 @@ returns-clause-certifies g c = λ x all.
     IsQuorum-from_ascending n (λ i a. (i < n) × (a ≡ signature g.D.Write.spelling c.args.self.now.base i x)) c.in_ok-new.field-0 (λ i a h. h.0) c.in_ok-new.ensures.ascending enough attesting
 
 pub returns-clause-all_given : goal.returns-clause-all_given
-returns-clause-all_given g c = inr (λ a there. Contains-permutation c.args.attestations.now c.in_ok-new.field-0 a c.in_ok-new.ensures.same there)
+returns-clause-all_given g c = λ listing a there. Contains-permutation c.args.attestations.now c.in_ok-new.field-0 a c.in_ok-new.ensures.same there
 
 pub returns-clause-only_given : goal.returns-clause-only_given
 returns-clause-only_given g c = λ a there. Contains-permutation c.in_ok-new.field-0 c.args.attestations.now a (IsPermutation-sym c.args.attestations.now c.in_ok-new.field-0 c.in_ok-new.ensures.same) there

@@ -1,0 +1,14 @@
+pub mod Lists
+pub mod Casts
+pub mod Suspects
+pub mod Tallies
+pub mod Counting
+pub mod Listed
+pub mod Gathering
+pub mod Twos
+pub mod Places
+pub mod Judging
+pub mod Verdicts
+pub mod Reading
+pub mod Accountable
+pub mod Names

@@ -1,0 +1,27 @@
+use Rattle.std.proofs.Common.{◌≡◌, ◌∙◌, sym, Some, None}
+use Rattle.std.specs.BTreeMap.{get}
+use Rattle.simplex_rules.specs.declared.cast.Kept.TheVariants.{One}
+use Rattle.simplex_rules.specs.Cast.{Summarizes}
+use Rattle.simplex_rules.specs.Kept.{suspect_cmp}
+use Rattle.simplex_rules.proofs.Casts.{one_alone}
+use Rattle.simplex_rules.proofs.Tallies.{Tallies-push}
+use Rattle.simplex_rules.proofs.ballots.Ballots.keep.Goals as goal
+
+pub returns-in-Vacant : goal.returns-in-Vacant
+returns-in-Vacant g c = λ counted t.
+    let written = c.insert_entry-entry.ensures in
+    let same_map = rw c.in-Vacant.is at c.in_ok-entry.ensures.same_map in
+    let update = rw c.in-Vacant.is at c.in_ok-entry.ensures.update in
+    let found : get suspect_cmp c.args.self.now.kept c.args.suspect ≡ None = rw c.in-Vacant.is at c.in_ok-entry.ensures.found in
+    let map_is = c.self-in-Vacant-1.given.1 (sym (written.0 ∙ same_map)) ∙ written.1 in
+    Tallies-push (Summarizes g.D.Ord.cmp) counted c.args.self.now.kept c.self-in-Vacant-1.given.0 c.args.suspect c.args.cast (One c.args.cast) t (rw found (one_alone g.D.Ord.cmp c.args.cast)) (rw map_is (update.0 (One c.args.cast)).0)
+
+pub returns-in-Occupied : goal.returns-in-Occupied
+returns-in-Occupied g c = λ counted t.
+    let written = c.insert.ensures.written in
+    let same_map = rw c.in-Occupied.is at c.in_ok-entry.ensures.same_map in
+    let update = rw c.in-Occupied.is at c.in_ok-entry.ensures.update in
+    let value = rw c.in-Occupied.is at c.in_ok-entry.ensures.value in
+    let map_is = c.self-in-Occupied-1.given.1 (sym (written.0 ∙ same_map)) ∙ written.1 in
+    let found : get suspect_cmp c.args.self.now.kept c.args.suspect ≡ Some c.get.result.now = sym value ∙ c.get.ensures in
+    Tallies-push (Summarizes g.D.Ord.cmp) counted c.args.self.now.kept c.self-in-Occupied-1.given.0 c.args.suspect c.args.cast c.and-kept.result t (rw found c.and-kept.ensures) (rw map_is (update.0 c.and-kept.result).0)

@@ -1,0 +1,80 @@
+//! The audit of reports: whose votes contradict each other.
+
+ghost use Rattle.std.specs.Prelude.{◌≡◌, ◌+◌, ◌++◌, [], List, IfOk};
+ghost use Rattle.simplex_types.specs.Codec.{Gives, Readable};
+ghost use Rattle.simplex_types.specs.Quorum.{faults};
+ghost use Rattle.simplex_types.specs.declared.position.Round.{Round};
+ghost use Rattle.simplex_messages.specs.declared.activity.Activity.{Activity};
+ghost use Rattle.simplex_rules.specs.Accountability.{IsContradicted, NamesAtLeast};
+ghost use Rattle.simplex_rules.specs.Audit.{IsAudit, IsVerdict};
+ghost use Rattle.simplex_rules.specs.Counted.{Counts};
+ghost use Rattle.simplex_rules.specs.Tally.{HoldsReports};
+
+use crate::tally::Tally;
+use crate::verdict::Audit;
+use simplex_messages::Activity;
+use simplex_types::{CodecError, Digest, Listing, Read, Write};
+use std::alloc::{AllocError, Global};
+
+#[cfg(test)]
+mod tests;
+
+/// Finds the signers of which two verifying votes contradict each other, among the reports that the
+/// bytes hold up to the first place where none stands. Loose votes count, both votes of
+/// evidence, and one vote for each attestation that a certificate lists.
+///
+/// Evidence of two notarizes or two finalizes is of the least two proposals that the signer voted for
+/// in the round, and of each the vote that was read first and verifies. A nullify is the first that
+/// verifies, and the finalize beside it such a vote for the least proposal. Refused only where memory
+/// is.
+pub fn audit<S: Listing<D>, D: Digest>(
+    alloc: Global,
+    scheme: &S,
+    bytes: &[u8],
+) -> Result<Audit<S, D>, AllocError>
+    ensures exact { IfOk result (λ a. IsAudit S.lists (S.attests scheme.now) D.cmp (Readable ⟦<Activity<S, D> as Write>⟧.fits (⟦<Activity<S, D> as Read>⟧.within (S.size scheme.now))) ⟦<Activity<S, D> as Write>⟧.spelling (⟦<Activity<S, D> as Read>⟧.reading (S.size scheme.now)) bytes.now a.evidence.items a.fault) }
+
+    // Where certificates among the reports contradict each other, at least one member more is named than
+    // may be faulty.
+    ensures accountable { IfOk result (λ a. (reports : List (Activity S D S.PublicKey S.Signature S.Certificate)) → IsVerdict S.lists (S.attests scheme.now) D.cmp reports a.evidence.items → (round : Round) → IsContradicted (S.certifies scheme.now) reports round → NamesAtLeast (faults (S.size scheme.now) + 1) (S.size scheme.now) a.evidence.items round) }
+{
+    let participants = scheme.participants();
+    let mut tally = Tally::new(alloc);
+    let fault = count_reports(alloc, scheme, participants, bytes, &mut tally)?;
+    let evidence = tally.evidence(alloc, scheme)?;
+    Ok(Audit { evidence, fault })
+}
+
+/// Counts the votes of the reports, and tells the place of the first byte at which none stands.
+fn count_reports<S: Listing<D>, D: Digest>(
+    alloc: Global,
+    scheme: &S,
+    participants: u32,
+    bytes: &[u8],
+    tally: &mut Tally<S, D>,
+) -> Result<Option<usize>, AllocError>
+    requires bound { participants ≡ S.size scheme.now }
+    requires empty { HoldsReports S.lists (S.attests scheme.now) D.cmp [] tally.old }
+    ensures { IfOk result (λ fault. Counts S.lists (S.attests scheme.now) D.cmp (Readable ⟦<Activity<S, D> as Write>⟧.fits (⟦<Activity<S, D> as Read>⟧.within (S.size scheme.now))) ⟦<Activity<S, D> as Write>⟧.spelling (⟦<Activity<S, D> as Read>⟧.reading (S.size scheme.now)) bytes.now fault tally.new) }
+{
+    let mut rest = bytes;
+    while !rest.is_empty() {
+        let report: Activity<S, D> = match next_message(alloc, &mut rest, participants) {
+            Ok(report) => report,
+            Err(CodecError::Memory) => return Err(AllocError),
+            Err(_) => return Ok(Some(bytes.len() - rest.len())),
+        };
+        tally.count_report(scheme, &report)?;
+        drop(report);
+    }
+    Ok(None)
+}
+
+/// Reads one message, and tells that it can be read again and that what was read is its spelling.
+fn next_message<M: Read>(alloc: Global, input: &mut &[u8], bound: u32) -> Result<M, CodecError>
+    ensures exact { Gives (M.reading bound) input.old.now input.new.now result }
+    ensures fitting { IfOk result (Readable M.fits (M.within bound)) }
+    ensures spelled { IfOk result (λ message. input.old.now ≡ M.spelling message ++ input.new.now) }
+{
+    M::read_cfg(alloc, input, bound)
+}

@@ -1,0 +1,137 @@
+//! The count of an audit: what is kept of each signer's votes of each round.
+
+ghost use Rattle.std.specs.Prelude.{◌≡◌, ◌++◌, ◌∷◌, [], List, OnOk, IfOk, IsTrue, IsSome, Some};
+ghost use Rattle.std.specs.BTreeMap.{get};
+ghost use Rattle.std.specs.BTreeSet.{IsSubset, contains};
+ghost use Rattle.simplex_messages.specs.declared.activity.Activity.{Activity};
+ghost use Rattle.simplex_rules.specs.declared.cast.Suspect.{Suspect};
+ghost use Rattle.simplex_rules.specs.Audit.{IsVerdict};
+ghost use Rattle.simplex_rules.specs.Kept.{suspect_cmp};
+ghost use Rattle.simplex_rules.specs.Tally.{AreApart, HoldsReports, both_of, evidence_at, least_in, nullify_in};
+
+use crate::ballots::Ballots;
+use crate::cast::Suspect;
+use crate::nullifies::Nullifies;
+use simplex_messages::{Activity, Finalizing, Notarizing, NullifyFinalize};
+use simplex_types::{Digest, Listing, Scheme};
+use std::alloc::{AllocError, Global};
+use std::collections::BTreeSet;
+
+/// What is kept of each suspect's verifying votes.
+#[derive(Drop)]
+pub(crate) struct Tally<S: Scheme<D>, D: Digest> {
+    notarizes: Ballots<Notarizing, S, D>,
+    nullifies: Nullifies<S, D>,
+    finalizes: Ballots<Finalizing, S, D>,
+}
+
+impl<S: Scheme<D>, D: Digest> Tally<S, D> {
+    /// Nothing counted.
+    pub(crate) fn new(alloc: Global) -> Self
+        ensures { (scheme : S) → HoldsReports S.lists (S.attests scheme) D.cmp [] result }
+    {
+        Tally {
+            notarizes: Ballots::new(alloc),
+            nullifies: Nullifies::new(alloc),
+            finalizes: Ballots::new(alloc),
+        }
+    }
+
+    /// The evidence against the guilty, sorted by epoch, view, signer and kind.
+    pub(crate) fn evidence(
+        &self,
+        alloc: Global,
+        scheme: &S,
+    ) -> Result<Vec<Activity<S, D>>, AllocError>
+        requires { (reports : List (Activity S D S.PublicKey S.Signature S.Certificate)) × HoldsReports S.lists (S.attests scheme.now) D.cmp reports self.now }
+        ensures { IfOk result (λ evidence. (reports : List (Activity S D S.PublicKey S.Signature S.Certificate)) → HoldsReports S.lists (S.attests scheme.now) D.cmp reports self.now → IsVerdict S.lists (S.attests scheme.now) D.cmp reports evidence.items) }
+    {
+        let mut guilty = BTreeSet::new(alloc);
+        self.notarizes.gather(&mut guilty)?;
+        self.finalizes.gather(&mut guilty)?;
+        self.gather_beside(&mut guilty)?;
+        let mut evidence = Vec::new(alloc);
+        for suspect in &guilty {
+            self.push_evidence(suspect, &mut evidence)?;
+        }
+        Ok(evidence)
+    }
+
+    /// Adds each suspect of which both a nullify and a finalize are kept.
+    fn gather_beside(&self, guilty: &mut BTreeSet<Suspect>) -> Result<(), AllocError>
+        ensures stay { OnOk result (IsSubset suspect_cmp guilty.old guilty.new) }
+        ensures added { OnOk result ((q : Suspect) → IsSome (get suspect_cmp self.now.nullifies.kept q) → IsSome (get suspect_cmp self.now.finalizes.kept q) → IsTrue (contains suspect_cmp guilty.new q)) }
+    {
+        for suspect in self.nullifies.kept.keys() {
+            if self.finalizes.contains(suspect) {
+                guilty.insert(*suspect)?;
+            }
+        }
+        Ok(())
+    }
+
+    /// Appends the evidence that is kept against the suspect, in the order of kinds.
+    fn push_evidence(
+        &self,
+        suspect: &Suspect,
+        evidence: &mut Vec<Activity<S, D>>,
+    ) -> Result<(), AllocError>
+        requires notarizes { AreApart self.now.notarizes.kept }
+        requires finalizes { AreApart self.now.finalizes.kept }
+        ensures { OnOk result (evidence.new.items ≡ evidence.old.items ++ evidence_at self.now suspect.now) }
+    {
+        if let Some(votes) = self.notarizes.conflict(suspect) {
+            evidence.push(Activity::ConflictingNotarize(votes))?;
+        }
+        if let Some(votes) = self.finalizes.conflict(suspect) {
+            evidence.push(Activity::ConflictingFinalize(votes))?;
+        }
+        if let Some(votes) = self.beside(suspect) {
+            evidence.push(Activity::NullifyFinalize(votes))?;
+        }
+        Ok(())
+    }
+
+    /// The suspect's nullify, and beside it its finalize for the least proposal.
+    fn beside(&self, suspect: &Suspect) -> Option<NullifyFinalize<S, D>>
+        ensures { result ≡ both_of (nullify_in suspect.now (get suspect_cmp self.now.nullifies.kept suspect.now)) (least_in suspect.now (get suspect_cmp self.now.finalizes.kept suspect.now)) }
+    {
+        let nullify = self.nullifies.first(suspect)?;
+        let finalize = self.finalizes.least(suspect)?;
+        Some(NullifyFinalize::new(nullify, finalize))
+    }
+}
+
+impl<S: Listing<D>, D: Digest> Tally<S, D> {
+    /// Counts the votes of a report that verify: a loose vote, one for each attestation that a
+    /// certificate lists, and both votes of evidence.
+    pub(crate) fn count_report(
+        &mut self,
+        scheme: &S,
+        report: &Activity<S, D>,
+    ) -> Result<(), AllocError>
+        ensures { OnOk result ((reports : List (Activity S D S.PublicKey S.Signature S.Certificate)) → HoldsReports S.lists (S.attests scheme.now) D.cmp reports self.old → HoldsReports S.lists (S.attests scheme.now) D.cmp (reports ++ report.now ∷ []) self.new) }
+    {
+        match report {
+            Activity::Notarize(vote) => self.notarizes.count(scheme, vote),
+            Activity::Nullify(vote) => self.nullifies.count(scheme, vote),
+            Activity::Finalize(vote) => self.finalizes.count(scheme, vote),
+            Activity::Notarization(made) => self.notarizes.count_listed(scheme, made),
+            Activity::Certification(made) => self.notarizes.count_listed(scheme, made),
+            Activity::Nullification(made) => self.nullifies.count_listed(scheme, made),
+            Activity::Finalization(made) => self.finalizes.count_listed(scheme, made),
+            Activity::ConflictingNotarize(evidence) => {
+                self.notarizes.count(scheme, evidence.first())?;
+                self.notarizes.count(scheme, evidence.second())
+            }
+            Activity::ConflictingFinalize(evidence) => {
+                self.finalizes.count(scheme, evidence.first())?;
+                self.finalizes.count(scheme, evidence.second())
+            }
+            Activity::NullifyFinalize(evidence) => {
+                self.nullifies.count(scheme, evidence.nullify())?;
+                self.finalizes.count(scheme, evidence.finalize())
+            }
+        }
+    }
+}

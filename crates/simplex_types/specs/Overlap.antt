@@ -1,0 +1,92 @@
+-- What quorums of one committee have in common.
+use Rattle.std.specs.Prelude.{◌≡◌, ◌≢◌, ℕ, ◌+◌, ◌*◌, ◌≤◌, ◌<◌, List, [], ◌∷◌, length, map, All, AllPairs, refl}
+use Rattle.std.specs.List.{Contains}
+use Rattle.std.proofs.Common.{sym, subst, get_or, arith}
+use Rattle.std.proofs.lemmas.List.{length-map, get_or-map}
+use Rattle.std.proofs.lemmas.List.Elements.{All-contains, All-map, Contains-get_or}
+use Rattle.simplex_types.specs.declared.attestation.Attestation.{Attestation}
+use Rattle.simplex_types.specs.Counting.{NoneTwice, AllBelow, common, common-members, common-NoneTwice, common-AllBelow, common-length, escapes, Contains-head, Contains-rest}
+use Rattle.simplex_types.specs.Quorum.{faults, quorum, IsQuorum}
+
+-- numbers of a quorum of a committee of n: none twice, each below n, and enough of them
+pub record AreQuorum (n : ℕ) (xs : List ℕ) : Type 0 where
+  pub once : NoneTwice xs
+  pub below : AllBelow n xs
+  pub enough : quorum n ≤ length xs
+
+-- more than three times as many as may be faulty are a committee
+pub faults-few : (n : ℕ) → 1 ≤ n → 3 * faults n + 1 ≤ n
+faults-few n some = omega arith
+
+-- two quorums share at least one member more than may be faulty
+pub two_quorums_share : (n : ℕ) (xs ys : List ℕ) → 1 ≤ n → AreQuorum n xs → AreQuorum n ys → faults n + 1 ≤ length (common xs ys)
+two_quorums_share n xs ys some p q =
+    omega (arith, faults-few n some, common-length n xs ys p.once q.once p.below q.below, p.enough, q.enough)
+
+-- and so a member that isn't faulty
+pub two_quorums_meet : (n : ℕ) (xs ys faulty : List ℕ) → 1 ≤ n → AreQuorum n xs → AreQuorum n ys → length faulty ≤ faults n
+    → (x : ℕ) × (x < n) × Contains xs x × Contains ys x × (Contains faulty x → ⊥)
+two_quorums_meet n xs ys faulty some p q few =
+    let found = escapes (common xs ys) faulty (common-NoneTwice xs ys p.once) (omega (arith, few, two_quorums_share n xs ys some p q)) in
+    let both = (common-members xs ys found.0).0 found.1 in
+    (found.0, All-contains (λ (x : ℕ). x < n) xs found.0 p.below both.0, both.0, both.1, found.2)
+
+-- a quorum of two members or more has one beside any one that isn't faulty
+pub beyond_one_more : (n : ℕ) (xs faulty : List ℕ) (l : ℕ) → 2 ≤ n → AreQuorum n xs → length faulty ≤ faults n
+    → (x : ℕ) × (x < n) × Contains xs x × (x ≢ l) × (Contains faulty x → ⊥)
+beyond_one_more n xs faulty l two p few =
+    let found = escapes xs (l ∷ faulty) p.once (omega (arith, few, p.enough)) in (
+      found.0,
+      All-contains (λ (x : ℕ). x < n) xs found.0 p.below found.1,
+      found.1,
+      λ same. found.2 (subst (Contains (l ∷ faulty)) (sym same) (Contains-head l faulty)),
+      λ liar. found.2 (Contains-rest l faulty found.0 liar),
+    )
+
+-- ---- attestations
+
+-- what holds of each two elements by f holds of each two of the list's image
+AllPairs-map : {X Y : Type 0} (R : Y → Y → Type 0) (f : X → Y) (xs : List X) → AllPairs (λ a b. R (f a) (f b)) xs → AllPairs R (map f xs)
+AllPairs-map R f [] each = λ i j d before below. absurd (omega arith)
+AllPairs-map R f (x ∷ xs) each = λ i j d before below.
+    let low : j < length (x ∷ xs) = omega (arith, below, length-map (x ∷ xs) f) in
+    let low' : i < length (x ∷ xs) = omega (arith, before, low) in
+    rw (get_or-map f (x ∷ xs) i x d low', get_or-map f (x ∷ xs) j x d low) (each i j x before low)
+
+module _ {G : Type 0} where
+  -- the members that signed the attestations
+  abbrev pub signers : List (Attestation G) → List ℕ
+  signers listed = map (λ a. a.signer) listed
+
+  -- an attestation of the list is member i's, and attests
+  abbrev pub AttestsIn : (ℕ → G → Type 0) → List (Attestation G) → ℕ → Type 0
+  AttestsIn attests listed i = (a : Attestation G) × Contains listed a × (a.signer ≡ i) × attests i a.signature
+
+  -- the signers of a quorum's attestations are a quorum
+  pub signers-AreQuorum : (n : ℕ) (attests : ℕ → G → Type 0) (listed : List (Attestation G)) → IsQuorum n attests listed → AreQuorum n (signers listed)
+  signers-AreQuorum n attests listed p = record {
+    once = AllPairs-map (λ (i j : ℕ). i ≢ j) (λ (a : Attestation G). a.signer) listed p.distinct;
+    below = All-map (λ (i : ℕ). i < n) (λ (a : Attestation G). a.signer) listed p.members;
+    enough = omega (arith, p.enough, length-map listed (λ (a : Attestation G). a.signer));
+  }
+
+  -- and each of them attests
+  pub signers-attest : (n : ℕ) (attests : ℕ → G → Type 0) (listed : List (Attestation G)) → IsQuorum n attests listed → (i : ℕ) → Contains (signers listed) i → AttestsIn attests listed i
+  signers-attest n attests listed p i here =
+      All-contains (AttestsIn attests listed) (signers listed) i (All-map (AttestsIn attests listed) (λ (a : Attestation G). a.signer) listed (λ k d l. (get_or listed k d, Contains-get_or listed k d l, refl, p.attesting k d l))) here
+
+  -- two quorums of attestations, of two things: at least one member more than may be faulty attests both
+  pub two_quorums_attest : (n : ℕ) (this that : ℕ → G → Type 0) (xs ys : List (Attestation G)) → 1 ≤ n → IsQuorum n this xs → IsQuorum n that ys
+      → (shared : List ℕ) × NoneTwice shared × AllBelow n shared × (faults n + 1 ≤ length shared) × All (λ i. AttestsIn this xs i × AttestsIn that ys i) shared
+  two_quorums_attest n this that xs ys some p q =
+      let first = signers-AreQuorum n this xs p in
+      let second = signers-AreQuorum n that ys q in
+      let shared = common (signers xs) (signers ys) in (
+        shared,
+        common-NoneTwice (signers xs) (signers ys) first.once,
+        common-AllBelow n (signers xs) (signers ys) first.below,
+        two_quorums_share n (signers xs) (signers ys) some first second,
+        λ k d l.
+            let both = (common-members (signers xs) (signers ys) (get_or shared k d)).0 (Contains-get_or shared k d l) in
+            (signers-attest n this xs p (get_or shared k d) both.0, signers-attest n that ys q (get_or shared k d) both.1),
+      )
