@@ -14,7 +14,7 @@ pub record AreQuorum (n : ℕ) (xs : List ℕ) : Type 0 where
   pub below : AllBelow n xs
   pub enough : quorum n ≤ length xs
 
--- more than three times as many as may be faulty are a committee
+-- a committee is more than three times as many as may be faulty
 pub faults-few : (n : ℕ) → 1 ≤ n → 3 * faults n + 1 ≤ n
 faults-few n some = omega arith
 
@@ -23,7 +23,7 @@ pub two_quorums_share : (n : ℕ) (xs ys : List ℕ) → 1 ≤ n → AreQuorum n
 two_quorums_share n xs ys some p q =
     omega (arith, faults-few n some, common-length n xs ys p.once q.once p.below q.below, p.enough, q.enough)
 
--- and so a member that isn't faulty
+-- and so one that isn't faulty, whichever members are
 pub two_quorums_meet : (n : ℕ) (xs ys faulty : List ℕ) → 1 ≤ n → AreQuorum n xs → AreQuorum n ys → length faulty ≤ faults n
     → (x : ℕ) × (x < n) × Contains xs x × Contains ys x × (Contains faulty x → ⊥)
 two_quorums_meet n xs ys faulty some p q few =
@@ -31,7 +31,7 @@ two_quorums_meet n xs ys faulty some p q few =
     let both = (common-members xs ys found.0).0 found.1 in
     (found.0, All-contains (λ (x : ℕ). x < n) xs found.0 p.below both.0, both.0, both.1, found.2)
 
--- a quorum of two members or more has one beside any one that isn't faulty
+-- in a committee of two or more a quorum has a member that isn't faulty and isn't l
 pub beyond_one_more : (n : ℕ) (xs faulty : List ℕ) (l : ℕ) → 2 ≤ n → AreQuorum n xs → length faulty ≤ faults n
     → (x : ℕ) × (x < n) × Contains xs x × (x ≢ l) × (Contains faulty x → ⊥)
 beyond_one_more n xs faulty l two p few =
@@ -45,7 +45,7 @@ beyond_one_more n xs faulty l two p few =
 
 -- ---- attestations
 
--- what holds of each two elements by f holds of each two of the list's image
+-- what holds of what f gives of each two elements holds of each two of the list that it gives
 AllPairs-map : {X Y : Type 0} (R : Y → Y → Type 0) (f : X → Y) (xs : List X) → AllPairs (λ a b. R (f a) (f b)) xs → AllPairs R (map f xs)
 AllPairs-map R f [] each = λ i j d before below. absurd (omega arith)
 AllPairs-map R f (x ∷ xs) each = λ i j d before below.
@@ -58,7 +58,7 @@ module _ {G : Type 0} where
   abbrev pub signers : List (Attestation G) → List ℕ
   signers listed = map (λ a. a.signer) listed
 
-  -- an attestation of the list is member i's, and attests
+  -- some attestation of the list is member i's, and attests
   abbrev pub AttestsIn : (ℕ → G → Type 0) → List (Attestation G) → ℕ → Type 0
   AttestsIn attests listed i = (a : Attestation G) × Contains listed a × (a.signer ≡ i) × attests i a.signature
 

@@ -49,5 +49,6 @@ mod tests {
             assert_eq!(rt; faults(members), lying, "of {members}");
             assert_eq!(rt; quorum(members), enough, "of {members}");
         }
+        two_quorums_share_members();
     }
 }
