@@ -3,5 +3,4 @@ pub mod OneVarint
 pub mod Signed
 pub mod Terms
 pub mod Sorting
-pub mod Quorums
 pub mod ShortVarints

@@ -3,13 +3,12 @@ use Rattle.std.proofs.Common.{◌≡◌, ◌≢◌, ℕ, zero, suc, ◌+◌, ◌
 use Rattle.std.specs.List.{All, sum_by}
 use Rattle.std.specs.List.Sorted.{IsNonDecreasingBy, IsPermutation}
 use Rattle.std.proofs.lemmas.Bool.{cases_Bool, eqb-true, ne_eqb}
-use Rattle.std.proofs.lemmas.List.Elements.{All-nil, All-cons, All-tail}
-use Rattle.std.proofs.lemmas.List.Kept.{AllPairs-cons}
+use Rattle.std.proofs.lemmas.List.Elements.{All-tail}
 use Rattle.std.proofs.lemmas.List.Sums.{sum_by-cons}
 use Rattle.std.proofs.lemmas.List.Sorted.{sum_by-IsPermutation}
 use Rattle.simplex_types.specs.declared.attestation.Attestation.{Attestation}
 use Rattle.simplex_types.specs.AttestationList.{AscendsFrom}
-use Rattle.simplex_types.specs.Quorum.{AreDistinct}
+use Rattle.simplex_types.specs.Quorum.{AreDistinct, AscendsFrom-distinct}
 
 module _ {G : Type 0} where
   -- 1 for an attestation of this member, and 0 for others
@@ -74,15 +73,6 @@ module _ {G : Type 0} where
 
   pub AscendsFrom-few : (n : ℕ) (x : List (Attestation G)) → AscendsFrom 0 x → All (λ a. a.signer < n) x → length x ≤ n
   AscendsFrom-few n x up below = let all = few 0 n x (omega arith) up below in omega (arith, all)
-
-  from_low : (low : ℕ) (x : List (Attestation G)) → AscendsFrom low x → All (λ a. low ≤ a.signer) x
-  from_low low [] up = All-nil _
-  from_low low (a ∷ x) up = All-cons (λ (b : Attestation G). low ≤ b.signer) a x up.0 (λ k d l. let later = from_low (a.signer + 1) x up.1 k d l in omega (arith, later, up.0))
-
-  -- ascending indices are distinct
-  pub AscendsFrom-distinct : (low : ℕ) (x : List (Attestation G)) → AscendsFrom low x → AreDistinct x
-  AscendsFrom-distinct low [] up = λ i j d l m. absurd (omega arith)
-  AscendsFrom-distinct low (a ∷ x) up = AllPairs-cons (λ (b c : Attestation G). b.signer ≢ c.signer) a x (λ k d l e. let later = from_low (a.signer + 1) x up.1 k d l in absurd (omega (arith, later, e))) (AscendsFrom-distinct (a.signer + 1) x up.1)
 
   two_by : (i : ℕ) (x : List (Attestation G)) (k l : ℕ) (d : Attestation G) → k < l → l < length x → (get_or x k d).signer ≡ i → (get_or x l d).signer ≡ i → 2 ≤ sum_by (is_by i) x
   two_by i [] k l d before below e f = absurd (omega arith)

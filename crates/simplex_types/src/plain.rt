@@ -19,9 +19,9 @@ use crate::codec::{CodecError, EncodeSize, MaxEncodeSize, Read, Write, read_byte
 use crate::committee::quorum;
 use crate::digest::Digest;
 use crate::duplicate::Duplicate;
+use crate::hashing::hash_signed;
 use crate::key::PublicKey;
-use crate::position::{Participant, Round};
-use crate::proposal::Proposal;
+use crate::position::Participant;
 use crate::scheme::{AssemblyError, Listing, Scheme};
 use crate::subject::{Namespace, Subject};
 use sha2::{Digest as _, Sha256};
@@ -239,18 +239,8 @@ impl PlainScheme {
     ) -> PlainSignature
         ensures { result ≡ signature D.spelling self.now.base index (statement subject.now) }
     {
-        let base = self.namespace.base();
-        let kind = subject.kind_name();
         let mut hasher = Sha256::new();
-        hasher.update(index.get().to_be_bytes());
-        hasher.update(((base.len() + kind.len()) as u32).to_be_bytes());
-        hasher.update(base);
-        hasher.update(kind);
-        match subject {
-            Subject::Notarize(proposal) => hash_proposal(&mut hasher, proposal),
-            Subject::Nullify(round) => hash_round(&mut hasher, round),
-            Subject::Finalize(proposal) => hash_proposal(&mut hasher, proposal),
-        }
+        hash_signed(&mut hasher, self.namespace.base(), index, subject);
         PlainSignature(hasher.finalize())
     }
 }
@@ -271,36 +261,6 @@ impl PlainScheme {
         }
         true
     }
-}
-
-/// Hashes a number as it is spelled.
-#[tactic(auto, using(crate::specs::Varint::varint_steps))]
-fn hash_number(hasher: &mut Sha256, number: u64)
-    ensures { (m : List ℕ) → Holds256 hasher.old m → Holds256 hasher.new (m ++ varint number) }
-{
-    if number < 128 {
-        hasher.update([number as u8]);
-    } else {
-        hasher.update([(number % 128) as u8 + 128]);
-        hash_number(hasher, number / 128);
-    }
-}
-
-/// Hashes a round as it is spelled.
-fn hash_round(hasher: &mut Sha256, round: &Round)
-    ensures { (m : List ℕ) → Holds256 hasher.old m → Holds256 hasher.new (m ++ round_spelling round.now) }
-{
-    hash_number(hasher, round.epoch.get());
-    hash_number(hasher, round.view.get());
-}
-
-/// Hashes a proposal as it is spelled.
-fn hash_proposal<D: Digest>(hasher: &mut Sha256, proposal: &Proposal<D>)
-    ensures { (m : List ℕ) → Holds256 hasher.old m → Holds256 hasher.new (m ++ proposal_spelling D.spelling proposal.now) }
-{
-    hash_round(hasher, &proposal.round);
-    hash_number(hasher, proposal.parent.get());
-    hasher.update(proposal.payload.as_bytes());
 }
 
 impl<D: Digest> Scheme<D> for PlainScheme {

@@ -3,7 +3,7 @@ use Rattle.std.proofs.lemmas.List.Sorted.{All-permutation, Contains-permutation,
 use Rattle.simplex_types.specs.declared.attestation.Attestation.{Attestation}
 use Rattle.simplex_types.specs.Plain.{signature}
 use Rattle.simplex_types.specs.Quorum.{quorum}
-use Rattle.simplex_types.proofs.Quorums.{IsQuorum-from_ascending}
+use Rattle.simplex_types.specs.Quorum.{IsQuorum-from_ascending}
 use Rattle.simplex_types.proofs.plain.PlainSchemeScheme.assemble.Goals as goal
 
 pub returns-clause-certifies : goal.returns-clause-certifies

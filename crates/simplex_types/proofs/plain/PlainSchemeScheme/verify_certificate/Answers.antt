@@ -2,7 +2,7 @@ use Rattle.std.proofs.Common.{◌≡◌, ap, arith, ◌≤◌, ◌<◌, length}
 use Rattle.simplex_types.specs.Plain.{signature}
 use Rattle.simplex_types.specs.Subject.{statement}
 use Rattle.simplex_types.specs.Quorum.{quorum}
-use Rattle.simplex_types.proofs.Quorums.{IsQuorum-from_ascending}
+use Rattle.simplex_types.specs.Quorum.{IsQuorum-from_ascending}
 use Rattle.simplex_types.proofs.plain.PlainSchemeScheme.verify_certificate.Goals as goal
 
 pub returns-then-quorum-listed : goal.returns-then-quorum-listed

@@ -1,6 +1,6 @@
 use Rattle.std.proofs.Common.{arith, ◌≤◌, append_assoc}
 use Rattle.simplex_types.specs.Varint.{varint-step}
-use Rattle.simplex_types.proofs.plain.+hash_number.Goals as goal
+use Rattle.simplex_types.proofs.hashing.+hash_number.Goals as goal
 
 pub returns-else-number-lt128 : goal.returns-else-number-lt128
 returns-else-number-lt128 t c = λ m holds.
