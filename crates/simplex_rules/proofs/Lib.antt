@@ -12,3 +12,9 @@ pub mod Verdicts
 pub mod Reading
 pub mod Accountable
 pub mod Names
+pub mod Exactly
+pub mod Windows
+pub mod Signatures
+pub mod Orders
+pub mod Shuffles
+pub mod Turning

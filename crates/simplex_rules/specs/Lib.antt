@@ -1,4 +1,9 @@
 pub mod Terms
+pub mod Rotation
+pub mod Shuffle
+pub mod Turns
+pub mod Windows
+pub mod Salted
 pub mod Cast
 pub mod Kept
 pub mod Tally

@@ -3,6 +3,7 @@
 ghost use Rattle.std.specs.Prelude.{◌≤◌, ◌<◌};
 
 use super::*;
+use crate::salted::SaltedScheme;
 use simplex_messages::{Finalization, ProposalCertificate};
 use simplex_types::PlainScheme;
 
@@ -80,5 +81,29 @@ fn ten_thousand_messages_of_one_signer_are_one_piece(rt: HostRuntime) -> Result<
     assert!(rt; first.contradicts(&second));
     let wanted = [Activity::ConflictingFinalize(ConflictingFinalize::new(first, second))];
     assert_eq!(rt; found.evidence.as_slice(), wanted.as_slice());
+    Ok(())
+}
+
+#[test]
+fn unequal_signatures_on_one_proposal_do_not_conflict(rt: HostRuntime) -> Result<(), Fail> {
+    let alloc = rt.alloc();
+    let scheme = SaltedScheme::new(alloc, b"simplex", 4, Some(Participant::new(1)), 7)?;
+    let mut bytes = Vec::new(alloc);
+    for _ in 0..2 {
+        let vote: Finalize<SaltedScheme, Sha256Digest> = Finalize::sign(
+            &scheme,
+            proposal(10),
+        ).ok_or("no key")?;
+        Activity::Finalize(vote).write(&mut bytes)?;
+    }
+    let alike: Audit<SaltedScheme, Sha256Digest> = audit(alloc, &scheme, &bytes)?;
+    assert_eq!(rt; alike.fault, None);
+    assert!(rt; alike.evidence.is_empty());
+    let other: Finalize<SaltedScheme, Sha256Digest> = Finalize::sign(&scheme, proposal(11)).ok_or(
+        "no key",
+    )?;
+    Activity::Finalize(other).write(&mut bytes)?;
+    let named: Audit<SaltedScheme, Sha256Digest> = audit(alloc, &scheme, &bytes)?;
+    assert_eq!(rt; named.evidence.len(), 1);
     Ok(())
 }

@@ -1,0 +1,16 @@
+//! The laws of leaders in turn.
+
+ghost use Rattle.std.specs.Prelude.{◌≡◌, ◌<◌, ◌≤◌, ◌+◌, ◌^◌, ℕ, List};
+ghost use Rattle.simplex_rules.specs.Rotation.{IsOrder, LeadsOnce};
+ghost use Rattle.simplex_rules.specs.Shuffle.{IsShuffled};
+
+/// Of so many terms of an epoch in a row as there are participants, each participant leads exactly
+/// one, where their numbers with the epoch's are numbers of 64 bits.
+pub fn each_participant_leads_once()
+    ensures { (n : ℕ) (order : List ℕ) → IsOrder n order → (epoch first : ℕ) → epoch + first + n ≤ 2 ^ 64 → (member : ℕ) → member < n → LeadsOnce order epoch first member }
+{}
+
+/// A seed makes one order of so many participants.
+pub fn a_seed_makes_one_order()
+    ensures { (seed : List ℕ) (n : ℕ) (a b : List ℕ) → IsShuffled seed n a → IsShuffled seed n b → a ≡ b }
+{}

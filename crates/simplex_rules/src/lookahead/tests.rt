@@ -1,0 +1,141 @@
+//! Windows by hand, and at the end of the numbers.
+ghost use Rattle.std.specs.Prelude.{◌≡◌, ◌<◌};
+
+use super::*;
+
+/// Terms of so many views, of which so many are optimistic.
+fn lookahead(length: u32, optimistic_views: u64) -> Lookahead
+    requires { 0 < length }
+    ensures length { result.length ≡ length }
+    ensures optimistic_views { result.optimistic_views ≡ optimistic_views }
+{
+    Lookahead::new(&Terms::stable(TermLength::new(length), 1, ViewDelta::new(optimistic_views)))
+}
+
+#[test]
+fn hears_and_speaks_as_far_as_worked_by_hand(rt: HostRuntime) {
+    // Of terms' length, optimistic views and the current view: the views after it, up to 40, that
+    // are listened to, and those that may be spoken of.
+    let rows: [(u32, u64, u64, &[u64], &[u64]); 7] = [
+        (5, 1, 2, &[3, 4, 5, 6, 11, 12], &[3]),
+        (1, 0, 1, &[2, 3, 4], &[2]),
+        (5, 0, 2, &[3, 6, 11, 12], &[]),
+        (5, 1, 5, &[6, 11, 12], &[6]),
+        (5, 1, 4, &[5, 6, 11, 12], &[5, 6]),
+        (3, 7, 2, &[3, 4, 5, 6, 7, 8], &[3, 4]),
+        (5, 2, 0, &[1, 2, 6, 7], &[1]),
+    ];
+    for (length, optimistic_views, current, heard, spoken) in rows {
+        assert!(rt; length > 0);
+        let lookahead = lookahead(length, optimistic_views);
+        let current = View::new(current);
+        for number in 0..41 {
+            let view = View::new(number);
+            assert_eq!(rt;
+                lookahead.admits(current, view),
+                view <= current || heard.contains(&number),
+                "{number} heard at {current:?}, {optimistic_views} of {length}"
+            );
+            assert_eq!(rt;
+                lookahead.admits_outbound(current, view),
+                view <= current || spoken.contains(&number),
+                "{number} spoken of at {current:?}, {optimistic_views} of {length}"
+            );
+        }
+    }
+}
+
+#[test]
+fn admission_window_ends_with_the_term(rt: HostRuntime) {
+    // Of five views a term and so many optimistic ones: the window after the current view.
+    for (optimistic_views, current, first, last) in [
+        (0, 1, 2, 2),
+        (1, 1, 2, 4),
+        (2, 1, 2, 5),
+        (2, 4, 5, 5),
+    ] {
+        let lookahead = lookahead(5, optimistic_views);
+        for number in 0..20 {
+            assert_eq!(rt;
+                lookahead.in_admission_window(View::new(current), View::new(number)),
+                first <= number && number <= last,
+                "{number} at {current}, {optimistic_views} of 5"
+            );
+        }
+    }
+    assert!(rt; !lookahead(5, 2).in_admission_window(View::new(5), View::new(6)));
+    assert!(rt; !lookahead(5, 2).in_admission_window(View::zero(), View::new(1)));
+}
+
+#[test]
+fn admission_limit_is_the_last_view_heard(rt: HostRuntime) {
+    for (length, current, limit) in [(5, 2, 12), (1, 1, 4), (5, 0, 7), (3, 4, 11)] {
+        assert!(rt; length > 0 && current < 100 && length < 100);
+        let lookahead = lookahead(length, 1);
+        let current = View::new(current);
+        assert!(rt; current.has_room(lookahead.length));
+        let last = lookahead.admission_limit(current);
+        assert_eq!(rt; last, View::new(limit));
+        assert!(rt; lookahead.admits(current, last));
+        assert!(rt; !lookahead.admits(current, View::new(limit + 1)));
+    }
+}
+
+#[test]
+fn issuance_floor_stops_at_zero(rt: HostRuntime) {
+    let five = lookahead(5, 1);
+    assert_eq!(rt; five.issuance_floor(View::new(2)), Some(View::zero()));
+    assert_eq!(rt; five.issuance_floor(View::new(3)), Some(View::new(1)));
+    assert_eq!(rt;
+        lookahead(5, u64::MAX).issuance_floor(View::new(3)),
+        Some(View::zero())
+    );
+}
+
+#[test]
+fn a_term_start_has_no_issuance_floor(rt: HostRuntime) {
+    let five = lookahead(5, 1);
+    assert_eq!(rt; five.issuance_floor(View::new(6)), None);
+    assert_eq!(rt; five.issuance_floor(View::zero()), None);
+    assert_eq!(rt; lookahead(1, 1).issuance_floor(View::new(3)), None);
+    assert_eq!(rt; lookahead(5, 0).issuance_floor(View::new(3)), None);
+}
+
+#[test]
+fn windows_reach_the_end_of_the_numbers(rt: HostRuntime) {
+    let last = View::new(u64::MAX);
+    let before = View::new(u64::MAX - 1);
+    // The last number is a multiple of each of these lengths, so that it ends a term.
+    for (length, optimistic_views) in [(u32::MAX, 0), (u32::MAX, u64::MAX), (5, 1)] {
+        assert!(rt; length > 0);
+        let lookahead = lookahead(length, optimistic_views);
+        assert!(rt; lookahead.in_admission_window(before, last), "{length}");
+        assert!(rt; !lookahead.in_admission_window(last, last), "{length}");
+        assert!(rt; lookahead.admits(before, last), "{length}");
+        assert!(rt; lookahead.admits(last, before), "{length}");
+        assert!(rt; lookahead.admits_outbound(last, before), "{length}");
+        assert_eq!(rt;
+            lookahead.admits_outbound(before, last),
+            optimistic_views > 0,
+            "{length}"
+        );
+        assert!(rt; !lookahead.admits(View::new(1), last), "{length}");
+    }
+    // It starts a term of two views, which ends past the numbers.
+    let pairs = lookahead(2, 0);
+    assert!(rt; pairs.admits(before, last));
+    assert!(rt; pairs.admits_outbound(before, last));
+    assert!(rt; !pairs.in_admission_window(before, last));
+    assert!(rt; pairs.admits_outbound(last, last));
+    assert!(rt; !pairs.in_admission_window(last, View::zero()));
+}
+
+#[test]
+fn the_greatest_optimism_ends_with_the_next_term(rt: HostRuntime) {
+    let pairs = lookahead(2, u64::MAX);
+    let current = View::new(1);
+    assert!(rt; pairs.admits_outbound(current, View::new(3)));
+    assert!(rt; !pairs.admits_outbound(current, View::new(4)));
+    assert!(rt; pairs.admits(current, View::new(6)));
+    assert!(rt; !pairs.admits(current, View::new(7)));
+}
