@@ -18,7 +18,7 @@ indices n = range_with_len 0 n
 abbrev pub IsOrder : ℕ → List ℕ → Type 0
 IsOrder n order = IsPermutation (indices n) order
 
--- the place among n of the turn of a term: it moves on by one with each term, and with each epoch
+-- the place among n of the turn of a term: the sum of epoch and term, which wraps at 2 ^ 64, modulo n
 abbrev pub place : (n epoch term : ℕ) → ℕ
 place n epoch term = (epoch + term) % 2 ^ 64 % n
 

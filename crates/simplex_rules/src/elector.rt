@@ -17,7 +17,7 @@ pub use round_robin::{RoundRobin, RoundRobinElector};
 use simplex_types::{Digest, Duplicate, Participant, Round, Scheme};
 use std::alloc::{AllocError, Global};
 
-/// What the leaders of an elector hang on.
+/// What decides who leads.
 #[derive(Clone, Copy, Debug, PartialEq, Eq)]
 pub enum Mode {
     /// The round alone.
@@ -31,7 +31,7 @@ pub trait Elector<S: Scheme<D>, D: Digest>: Duplicate + Drop {
     /// It was built for so many participants.
     ghost built_for: { Self → ℕ → Type 0 };
 
-    /// What its leaders hang on.
+    /// What decides who leads.
     ghost mode_of: { Self → Mode };
 
     /// The terms that it sets.
@@ -40,7 +40,7 @@ pub trait Elector<S: Scheme<D>, D: Digest>: Duplicate + Drop {
     /// The index of the leader of a round that was entered by this certificate, if by one.
     ghost leader: { Self → Round → Option S.Certificate → ℕ };
 
-    /// What its leaders hang on.
+    /// What decides who leads.
     fn mode(&self) -> Mode
         ensures { result ≡ mode_of self.now };
 
@@ -48,8 +48,8 @@ pub trait Elector<S: Scheme<D>, D: Digest>: Duplicate + Drop {
     fn terms(&self) -> Terms
         ensures { result ≡ terms_of self.now };
 
-    /// The leader of the round. A dynamic elector must be given the certificate that the view was
-    /// entered by, above view 1.
+    /// The leader of the round. Above view 1 a dynamic elector must be given the certificate that the
+    /// view was entered by.
     fn elect(&self, round: Round, certificate: Option<&S::Certificate>) -> Participant
         requires { mode_of self.now ≡ Dynamic → 1 < round.view → IsSome certificate }
         ensures { result ≡ leader self.now round (option_copied certificate.entry) };
