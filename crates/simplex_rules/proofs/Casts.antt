@@ -7,8 +7,7 @@ use Rattle.std.specs.declared.cmp.Ordering.{Ordering}
 use Rattle.std.specs.declared.cmp.Ordering.TheVariants.{Less, Equal, Greater}
 use Rattle.simplex_rules.specs.declared.cast.Choice.{Choice}
 use Rattle.simplex_rules.specs.declared.cast.Cast.{Cast}
-use Rattle.simplex_rules.specs.declared.cast.Kept.TheVariants.{One, Two}
-use Rattle.simplex_rules.specs.Cast.{IsLower, IsFirst, Summarizes}
+use Rattle.simplex_rules.specs.Cast.{IsLower, IsFirst, HasOne, HasTwo}
 use Rattle.simplex_rules.proofs.Lists.{no_element, only_element, each_push}
 
 module _ {D : Type 0} {cmp : D → D → Ordering} (order : IsTotalOrder cmp) where
@@ -42,11 +41,11 @@ module _ {D G : Type 0} where
   IsFirst-last casts c none = record { before = casts; after = []; whole = refl; first = none }
 
   -- the one vote of a signer
-  pub one_alone : (cmp : D → D → Ordering) (c : Cast D G) → Summarizes cmp (c ∷ []) (One c)
-  one_alone cmp c = (IsFirst-last [] c (λ d there same. no_element d there), λ d there. ap (λ (x : Cast D G). x.choice) (sym (only_element c d there)))
+  pub one_alone : (c : Cast D G) → HasOne (c ∷ []) c
+  one_alone c = (IsFirst-last [] c (λ d there same. no_element d there), λ d there. ap (λ (x : Cast D G). x.choice) (sym (only_element c d there)))
 
   module _ {cmp : D → D → Ordering} (order : IsTotalOrder cmp) (casts : List (Cast D G)) (c : Cast D G) where
-    pub one_lower : (a : Cast D G) → Summarizes cmp casts (One a) → IsLower cmp c.choice a.choice → Summarizes cmp (casts ++ c ∷ []) (Two c a)
+    pub one_lower : (a : Cast D G) → HasOne casts a → IsLower cmp c.choice a.choice → HasTwo cmp (casts ++ c ∷ []) c a
     one_lower a s low = (
       IsFirst-last casts c (λ d there same. IsLower-differs order c.choice a.choice low (sym same ∙ s.1 d there)),
       IsFirst-push casts a c s.0,
@@ -54,10 +53,10 @@ module _ {D G : Type 0} where
       each_push _ casts c (λ d there. inr (inl (s.1 d there))) (inl refl),
     )
 
-    pub one_same : (a : Cast D G) → Summarizes cmp casts (One a) → c.choice ≡ a.choice → Summarizes cmp (casts ++ c ∷ []) (One a)
+    pub one_same : (a : Cast D G) → HasOne casts a → c.choice ≡ a.choice → HasOne (casts ++ c ∷ []) a
     one_same a s same = (IsFirst-push casts a c s.0, each_push (λ d. d.choice ≡ a.choice) casts c s.1 same)
 
-    pub one_higher : (a : Cast D G) → Summarizes cmp casts (One a) → IsLower cmp a.choice c.choice → Summarizes cmp (casts ++ c ∷ []) (Two a c)
+    pub one_higher : (a : Cast D G) → HasOne casts a → IsLower cmp a.choice c.choice → HasTwo cmp (casts ++ c ∷ []) a c
     one_higher a s high = (
       IsFirst-push casts a c s.0,
       IsFirst-last casts c (λ d there same. IsLower-differs order a.choice c.choice high (sym (s.1 d there) ∙ same)),
@@ -65,8 +64,8 @@ module _ {D G : Type 0} where
       each_push _ casts c (λ d there. inl (s.1 d there)) (inr (inl refl)),
     )
 
-    module _ (a b : Cast D G) (s : Summarizes cmp casts (Two a b)) where
-      pub two_lower : IsLower cmp c.choice a.choice → Summarizes cmp (casts ++ c ∷ []) (Two c a)
+    module _ (a b : Cast D G) (s : HasTwo cmp casts a b) where
+      pub two_lower : IsLower cmp c.choice a.choice → HasTwo cmp (casts ++ c ∷ []) c a
       two_lower low = (
         IsFirst-last casts c (λ d there same. elim (s.3 d there) [
           | inl is_a ↦ IsLower-differs order c.choice a.choice low (sym same ∙ is_a)
@@ -86,10 +85,10 @@ module _ {D G : Type 0} where
         ]) (inl refl),
       )
 
-      pub two_first : c.choice ≡ a.choice → Summarizes cmp (casts ++ c ∷ []) (Two a b)
+      pub two_first : c.choice ≡ a.choice → HasTwo cmp (casts ++ c ∷ []) a b
       two_first same = (IsFirst-push casts a c s.0, IsFirst-push casts b c s.1, s.2, each_push _ casts c s.3 (inl same))
 
-      pub two_between : IsLower cmp a.choice c.choice → IsLower cmp c.choice b.choice → Summarizes cmp (casts ++ c ∷ []) (Two a c)
+      pub two_between : IsLower cmp a.choice c.choice → IsLower cmp c.choice b.choice → HasTwo cmp (casts ++ c ∷ []) a c
       two_between high low = (
         IsFirst-push casts a c s.0,
         IsFirst-last casts c (λ d there same. elim (s.3 d there) [
@@ -109,8 +108,8 @@ module _ {D G : Type 0} where
         ]) (inr (inl refl)),
       )
 
-      pub two_second : c.choice ≡ b.choice → Summarizes cmp (casts ++ c ∷ []) (Two a b)
+      pub two_second : c.choice ≡ b.choice → HasTwo cmp (casts ++ c ∷ []) a b
       two_second same = (IsFirst-push casts a c s.0, IsFirst-push casts b c s.1, s.2, each_push _ casts c s.3 (inr (inl same)))
 
-      pub two_above : IsLower cmp b.choice c.choice → Summarizes cmp (casts ++ c ∷ []) (Two a b)
+      pub two_above : IsLower cmp b.choice c.choice → HasTwo cmp (casts ++ c ∷ []) a b
       two_above above = (IsFirst-push casts a c s.0, IsFirst-push casts b c s.1, s.2, each_push _ casts c s.3 (inr (inr above)))

@@ -1,8 +1,9 @@
 -- What is kept of the votes is the verdict on them.
-use Rattle.std.proofs.Common.{◌≡◌, ◌⊎◌, ℕ, List, [], Option, Some, None, refl, sym, ap, ◌∙◌, subst, inl, inr}
+use Rattle.std.proofs.Common.{◌≡◌, ◌⊎◌, ℕ, List, [], Option, Some, None, Box, refl, sym, ap, ◌∙◌, subst, inl, inr}
 use Rattle.std.specs.Prelude.{Contains, IsSome}
 use Rattle.std.specs.Cmp.{IsTotalOrder}
 use Rattle.std.specs.BTreeMap.{BTreeMap, get}
+use Rattle.std.specs.declared.alloc.Global.{Global}
 use Rattle.std.specs.declared.cmp.Ordering.{Ordering}
 use Rattle.simplex_types.specs.declared.position.Round.{Round}
 use Rattle.simplex_types.specs.declared.proposal.Proposal.{Proposal}
@@ -68,16 +69,16 @@ module _ {K S D P G C : Type 0} where
 
     -- what is kept of two proposals is of two
     pub apart : IsTotalOrder cmp → AreApart kept
-    apart order = λ q a b found. IsLower-differs order a.choice b.choice (kept_at q (Two a b) found).2
+    apart order = λ q a b found. IsLower-differs order a.choice b.value.choice (kept_at q (Two a b) found).2
 
     -- what is kept of two proposals is evidence
-    pub IsLeastEvidence-from_two : IsTotalOrder cmp → (q : Suspect) (a b : Cast D G) → get suspect_cmp kept q ≡ Some (Two a b) → IsLeastEvidence states attests cmp votes (vote_of q a) (vote_of q b)
+    pub IsLeastEvidence-from_two : IsTotalOrder cmp → (q : Suspect) (a : Cast D G) (b : Box (Cast D G) Global) → get suspect_cmp kept q ≡ Some (Two a b) → IsLeastEvidence states attests cmp votes (vote_of q a) (vote_of q b.value)
     IsLeastEvidence-from_two order q a b found =
         let s = kept_at q (Two a b) found in
         record {
-          contradict = record { one_round = refl; one_signer = refl; two_proposals = λ same. IsLower-differs order a.choice b.choice s.2 (ap (λ (p : Proposal D). choice_of p) same) };
+          contradict = record { one_round = refl; one_signer = refl; two_proposals = λ same. IsLower-differs order a.choice b.value.choice s.2 (ap (λ (p : Proposal D). choice_of p) same) };
           first = IsFirstRead-from_first q a s.0;
-          second = IsFirstRead-from_first q b s.1;
+          second = IsFirstRead-from_first q b.value s.1;
           below = s.2;
           least = λ v there verifies theirs.
               let cast : Contains (casts q) (cast_of v) = vote_there q v there verifies (suspect_is q v theirs.round_is theirs.signer_is) in
@@ -92,7 +93,7 @@ module _ {K S D P G C : Type 0} where
         }
 
     -- of the guilty two votes are kept
-    pub guilty_are_kept : (round : Round) (signer : ℕ) → IsGuilty states attests votes round signer → (a : Cast D G) × (b : Cast D G) × (get suspect_cmp kept (suspect_from round signer) ≡ Some (Two a b))
+    pub guilty_are_kept : (round : Round) (signer : ℕ) → IsGuilty states attests votes round signer → (a : Cast D G) × (b : Box (Cast D G) Global) × (get suspect_cmp kept (suspect_from round signer) ≡ Some (Two a b))
     guilty_are_kept round signer guilty = among (get suspect_cmp kept (suspect_from round signer)) refl
       where
         first_suspect : suspect_of guilty.first ≡ suspect_from round signer
@@ -107,7 +108,7 @@ module _ {K S D P G C : Type 0} where
         second_cast : Contains (casts (suspect_from round signer)) (cast_of guilty.second)
         second_cast = vote_there (suspect_from round signer) guilty.second guilty.second_is_there guilty.second_verifies second_suspect
 
-        among : (k : Option (Kept D G)) → get suspect_cmp kept (suspect_from round signer) ≡ k → (a : Cast D G) × (b : Cast D G) × (get suspect_cmp kept (suspect_from round signer) ≡ Some (Two a b))
+        among : (k : Option (Kept D G)) → get suspect_cmp kept (suspect_from round signer) ≡ k → (a : Cast D G) × (b : Box (Cast D G) Global) × (get suspect_cmp kept (suspect_from round signer) ≡ Some (Two a b))
         among None found =
             let none : casts (suspect_from round signer) ≡ [] = rw found at (h.tallies (suspect_from round signer)) in
             absurd (no_element (cast_of guilty.first) (subst (λ (cs : List (Cast D G)). Contains cs (cast_of guilty.first)) none first_cast))
@@ -144,7 +145,7 @@ module _ {K S D P G C : Type 0} where
               inl (ap (λ (r : Round). proposal_of r (choice_of v.proposal)) round ∙ ap (λ (c : Choice D). proposal_of q.round c) (s.1 (cast_of v) cast));
         }
 
-    pub IsLeastVote-from_two : IsTotalOrder cmp → (q : Suspect) (a b : Cast D G) → get suspect_cmp kept q ≡ Some (Two a b) → IsLeastVote q a
+    pub IsLeastVote-from_two : IsTotalOrder cmp → (q : Suspect) (a : Cast D G) (b : Box (Cast D G) Global) → get suspect_cmp kept q ≡ Some (Two a b) → IsLeastVote q a
     IsLeastVote-from_two order q a b found =
         let s = kept_at q (Two a b) found in
         record {
@@ -155,7 +156,7 @@ module _ {K S D P G C : Type 0} where
                 | inl is_a ↦ inl (ap (λ (r : Round). proposal_of r (choice_of v.proposal)) round ∙ ap (λ (c : Choice D). proposal_of q.round c) is_a)
                 | inr other ↦ inr (elim other [
                   | inl is_b ↦ subst (λ (c : Choice D). IsLower cmp a.choice c) (sym is_b) s.2
-                  | inr above ↦ IsLower-trans order a.choice b.choice (choice_of v.proposal) s.2 above
+                  | inr above ↦ IsLower-trans order a.choice b.value.choice (choice_of v.proposal) s.2 above
                 ])
               ];
         }

@@ -5,7 +5,6 @@ pub mod Tallies
 pub mod Counting
 pub mod Listed
 pub mod Gathering
-pub mod Twos
 pub mod Places
 pub mod Judging
 pub mod Verdicts

@@ -22,6 +22,7 @@ use Rattle.simplex_rules.specs.declared.cast.Kept.{Kept}
 use Rattle.simplex_rules.specs.declared.cast.Kept.TheVariants.{One, Two}
 use Rattle.simplex_rules.specs.declared.cast.Suspect.{Suspect}
 use Rattle.simplex_rules.specs.declared.tally.Tally.{Tally}
+use Rattle.simplex_rules.specs.Cast.{IsTwo}
 use Rattle.simplex_rules.specs.Kept.{suspect_cmp}
 use Rattle.simplex_rules.specs.Audit.{Accusation, Offence, TwoNotarizes, TwoFinalizes, NullifyBeside, accused, AreInOrder, IsAccused, IsLeast, IsVerdict}
 use Rattle.simplex_rules.specs.Tally.{HoldsReports, vote_of, nullify_suspect, suspect_of, nullify_of, conflict_in, least_in, nullify_in, both_of, reported, evidence_at}
@@ -103,8 +104,8 @@ module _ {S D P G C : Type 0} where
 
   -- the set has each suspect of whom evidence is kept
   pub record IsGathered (t : Tally S D P G C) (guilty : BTreeSet Suspect) : Type 0 where
-    pub notarized : (q : Suspect) (a b : Cast D G) → get suspect_cmp t.notarizes.kept q ≡ Some (Two a b) → IsTrue (contains suspect_cmp guilty q)
-    pub finalized : (q : Suspect) (a b : Cast D G) → get suspect_cmp t.finalizes.kept q ≡ Some (Two a b) → IsTrue (contains suspect_cmp guilty q)
+    pub notarized : (q : Suspect) (k : Kept D G) → get suspect_cmp t.notarizes.kept q ≡ Some k → IsTwo k → IsTrue (contains suspect_cmp guilty q)
+    pub finalized : (q : Suspect) (k : Kept D G) → get suspect_cmp t.finalizes.kept q ≡ Some k → IsTwo k → IsTrue (contains suspect_cmp guilty q)
     pub nullified : (q : Suspect) → IsSome (get suspect_cmp t.nullifies.kept q) → IsSome (get suspect_cmp t.finalizes.kept q) → IsTrue (contains suspect_cmp guilty q)
 
   module _ (lists : C → List (Attestation G)) (attests : ℕ → Statement D → G → Type 0) (cmp : D → D → Ordering) (order : IsTotalOrder cmp) (reports : List (Activity S D P G C)) (t : Tally S D P G C) (h : HoldsReports lists attests cmp reports t) where
@@ -153,17 +154,17 @@ module _ {S D P G C : Type 0} where
       two_notarizes-told round signer g =
           let q = suspect_from round signer in
           let kept = guilty_are_kept notarize attests cmp (notarizes_of lists reports) t.notarizes.kept h.notarizes round signer g in
-          let report = conflicting_notarize_report (vote_of q kept.0, vote_of q kept.1) in
+          let report = conflicting_notarize_report (vote_of q kept.0, vote_of q kept.1.value) in
           let own : Contains (reported conflicting_notarize_report (conflict_in q (get suspect_cmp t.notarizes.kept q))) report = rw kept.2 (first_element report []) in
-          (report, among_guilty q (gathered.notarized q kept.0 kept.1 kept.2) report (Contains-append_left (reported conflicting_notarize_report (conflict_in q (get suspect_cmp t.notarizes.kept q))) _ report own), refl)
+          (report, among_guilty q (gathered.notarized q (Two kept.0 kept.1) kept.2 tt) report (Contains-append_left (reported conflicting_notarize_report (conflict_in q (get suspect_cmp t.notarizes.kept q))) _ report own), refl)
 
       two_finalizes-told : (round : Round) (signer : ℕ) → IsGuilty finalize attests (finalizes_of lists reports) round signer → IsAccused (flat_map (evidence_at t) guilty.keys) (accusation_of (suspect_from round signer) TwoFinalizes)
       two_finalizes-told round signer g =
           let q = suspect_from round signer in
           let kept = guilty_are_kept finalize attests cmp (finalizes_of lists reports) t.finalizes.kept h.finalizes round signer g in
-          let report = conflicting_finalize_report (vote_of q kept.0, vote_of q kept.1) in
+          let report = conflicting_finalize_report (vote_of q kept.0, vote_of q kept.1.value) in
           let own : Contains (reported conflicting_finalize_report (conflict_in q (get suspect_cmp t.finalizes.kept q))) report = rw kept.2 (first_element report []) in
-          (report, among_guilty q (gathered.finalized q kept.0 kept.1 kept.2) report (Contains-append_right (reported conflicting_notarize_report (conflict_in q (get suspect_cmp t.notarizes.kept q))) _ report (Contains-append_left (reported conflicting_finalize_report (conflict_in q (get suspect_cmp t.finalizes.kept q))) _ report own)), refl)
+          (report, among_guilty q (gathered.finalized q (Two kept.0 kept.1) kept.2 tt) report (Contains-append_right (reported conflicting_notarize_report (conflict_in q (get suspect_cmp t.notarizes.kept q))) _ report (Contains-append_left (reported conflicting_finalize_report (conflict_in q (get suspect_cmp t.finalizes.kept q))) _ report own)), refl)
 
       -- where both are kept, evidence is
       both_told : (q : Suspect) (n : Option G) (k : Option (Kept D G)) → IsSome n → IsSome k → (a : Activity S D P G C) × Contains (reported nullify_finalize_report (both_of (nullify_in q n) (least_in q k))) a × (accused a ≡ Some (accusation_of q NullifyBeside))

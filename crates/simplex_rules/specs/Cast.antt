@@ -1,5 +1,5 @@
 -- What is kept of one signer's votes of one round.
-use Rattle.std.specs.Prelude.{◌≡◌, ◌≢◌, ◌<◌, ◌⊎◌, List, ◌∷◌, ◌++◌, Contains}
+use Rattle.std.specs.Prelude.{◌≡◌, ◌≢◌, ◌<◌, ◌⊎◌, ⊤, List, ◌∷◌, ◌++◌, Contains}
 use Rattle.std.specs.declared.cmp.Ordering.{Ordering}
 use Rattle.std.specs.declared.cmp.Ordering.TheVariants.{Less}
 use Rattle.simplex_rules.specs.declared.cast.Choice.{Choice}
@@ -19,8 +19,21 @@ module _ {D G : Type 0} where
     pub whole : casts ≡ before ++ a ∷ after
     pub first : (c : Cast D G) → Contains before c → c.choice ≢ a.choice
 
+  -- the votes are for one choice, and this is their first
+  abbrev pub HasOne : List (Cast D G) → Cast D G → Type 0
+  HasOne casts a = IsFirst casts a × ((c : Cast D G) → Contains casts c → c.choice ≡ a.choice)
+
+  -- these are the first of the votes for their least two choices
+  abbrev pub HasTwo : (D → D → Ordering) → List (Cast D G) → Cast D G → Cast D G → Type 0
+  HasTwo cmp casts a b = IsFirst casts a × IsFirst casts b × IsLower cmp a.choice b.choice
+      × ((c : Cast D G) → Contains casts c → (c.choice ≡ a.choice) ⊎ ((c.choice ≡ b.choice) ⊎ IsLower cmp b.choice c.choice))
+
   -- what is kept of these votes, in the order in which they were read
   abbrev pub Summarizes : (D → D → Ordering) → List (Cast D G) → Kept D G → Type 0
-  Summarizes cmp casts (One a) = IsFirst casts a × ((c : Cast D G) → Contains casts c → c.choice ≡ a.choice)
-  Summarizes cmp casts (Two a b) = IsFirst casts a × IsFirst casts b × IsLower cmp a.choice b.choice
-      × ((c : Cast D G) → Contains casts c → (c.choice ≡ a.choice) ⊎ ((c.choice ≡ b.choice) ⊎ IsLower cmp b.choice c.choice))
+  Summarizes cmp casts (One a) = HasOne casts a
+  Summarizes cmp casts (Two a b) = HasTwo cmp casts a b.value
+
+  -- two votes are kept
+  abbrev pub IsTwo : Kept D G → Type 0
+  IsTwo (One a) = ⊥
+  IsTwo (Two a b) = ⊤

@@ -1,5 +1,6 @@
 -- What the audit keeps of the reports that it has counted, and the evidence that this gives.
-use Rattle.std.specs.Prelude.{◌≡◌, ◌≢◌, ℕ, List, [], ◌∷◌, ◌++◌, Option, Some, None}
+use Rattle.std.specs.Prelude.{◌≡◌, ◌≢◌, ℕ, List, [], ◌∷◌, ◌++◌, Option, Some, None, Box}
+use Rattle.std.specs.declared.alloc.Global.{Global}
 use Rattle.std.specs.BTreeMap.{BTreeMap, get}
 use Rattle.std.specs.declared.cmp.Ordering.{Ordering}
 use Rattle.simplex_types.specs.declared.attestation.Attestation.{Attestation}
@@ -42,7 +43,7 @@ module _ {K S D P G C : Type 0} where
   abbrev pub conflict_in : Suspect → Option (Kept D G) → Option (ProposalVote K S D P G C × ProposalVote K S D P G C)
   conflict_in q None = None
   conflict_in q (Some (One a)) = None
-  conflict_in q (Some (Two a b)) = Some (vote_of q a, vote_of q b)
+  conflict_in q (Some (Two a b)) = Some (vote_of q a, vote_of q b.value)
 
   -- the vote that is kept of a suspect for the least proposal
   abbrev pub least_in : Suspect → Option (Kept D G) → Option (ProposalVote K S D P G C)
@@ -52,7 +53,7 @@ module _ {K S D P G C : Type 0} where
 
 -- the two votes that are kept of a suspect are for two proposals
 abbrev pub AreApart : {D G : Type 0} → BTreeMap Suspect (Kept D G) → Type 0
-AreApart {D} {G} kept = (q : Suspect) (a b : Cast D G) → get suspect_cmp kept q ≡ Some (Two a b) → a.choice ≢ b.choice
+AreApart {D} {G} kept = (q : Suspect) (a : Cast D G) (b : Box (Cast D G) Global) → get suspect_cmp kept q ≡ Some (Two a b) → a.choice ≢ b.value.choice
 
 -- the list begins with it
 abbrev pub IsHead : {X : Type 0} → List X → X → Type 0

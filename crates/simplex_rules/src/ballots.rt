@@ -6,9 +6,9 @@ ghost use Rattle.std.specs.BTreeSet.{IsSubset, contains};
 ghost use Rattle.simplex_messages.specs.declared.proposal_vote.ProposalVote.{ProposalVote};
 ghost use Rattle.simplex_messages.specs.Guilt.{votes_listed};
 ghost use Rattle.simplex_rules.specs.declared.cast.Cast.{Cast};
-ghost use Rattle.simplex_rules.specs.declared.cast.Kept.TheVariants.{Two};
+ghost use Rattle.simplex_rules.specs.declared.cast.Kept.{Kept};
 ghost use Rattle.simplex_rules.specs.declared.cast.Suspect.{Suspect};
-ghost use Rattle.simplex_rules.specs.Cast.{Summarizes};
+ghost use Rattle.simplex_rules.specs.Cast.{IsTwo, Summarizes};
 ghost use Rattle.simplex_rules.specs.Kept.{suspect_cmp, Tallies};
 ghost use Rattle.simplex_rules.specs.Tally.{AreApart, HoldsVotes, conflict_in, least_in, vote_of};
 
@@ -24,6 +24,7 @@ use std::marker::PhantomData;
 #[derive(Drop)]
 pub(crate) struct Ballots<K: ProposalKind<D>, S: Scheme<D>, D: Digest> {
     kept: BTreeMap<Suspect, Kept<D, S::Signature>>,
+    alloc: Global,
     kind: PhantomData<K>,
 }
 
@@ -34,6 +35,7 @@ impl<K: ProposalKind<D>, S: Scheme<D>, D: Digest> Ballots<K, S, D> {
     {
         Ballots {
             kept: BTreeMap::new(alloc),
+            alloc,
             kind: PhantomData,
         }
     }
@@ -47,8 +49,7 @@ impl<K: ProposalKind<D>, S: Scheme<D>, D: Digest> Ballots<K, S, D> {
                 let _entry = entry.insert_entry(Kept::One(cast));
             }
             Entry::Occupied(mut entry) => {
-                let kept = entry.get().and(cast);
-                entry.insert(kept);
+                entry.get_mut().add(self.alloc, cast)?;
             }
         }
         Ok(())
@@ -88,7 +89,7 @@ impl<K: ProposalKind<D>, S: Scheme<D>, D: Digest> Ballots<K, S, D> {
     /// Adds each suspect whose votes are for two proposals.
     pub(crate) fn gather(&self, guilty: &mut BTreeSet<Suspect>) -> Result<(), AllocError>
         ensures stay { OnOk result (IsSubset suspect_cmp guilty.old guilty.new) }
-        ensures added { OnOk result ((q : Suspect) (a b : Cast D S.Signature) → get suspect_cmp self.now.kept q ≡ Some (Two a b) → IsTrue (contains suspect_cmp guilty.new q)) }
+        ensures added { OnOk result ((q : Suspect) (kept : Kept D S.Signature) → get suspect_cmp self.now.kept q ≡ Some kept → IsTwo kept → IsTrue (contains suspect_cmp guilty.new q)) }
     {
         for (suspect, kept) in &self.kept {
             if let Kept::Two(_, _) = kept {

@@ -1,8 +1,9 @@
 //! What the audit keeps of one signer's votes of one round.
 
-ghost use Rattle.std.specs.Prelude.{◌≡◌, ◌++◌, ◌∷◌, [], List};
+ghost use Rattle.std.specs.Prelude.{◌≡◌, ◌++◌, ◌∷◌, [], List, OnOk};
 
 use simplex_types::{Digest, Participant, Round, View};
+use std::alloc::{AllocError, Global};
 use std::cmp::Ordering;
 
 /// A signer in a round.
@@ -48,38 +49,45 @@ impl<D: Digest, G> Cast<D, G> {
 
 /// What is kept of one signer's votes of one round: of the first that were read for the least two
 /// proposals, one or both.
-#[derive(Clone, Copy, Debug)]
+#[derive(Debug, Drop)]
 pub(crate) enum Kept<D: Digest, G> {
     /// All votes are for one proposal.
     One(Cast<D, G>),
-    /// The least two of several proposals, the lesser first.
-    Two(Cast<D, G>, Cast<D, G>),
+    /// The least two of several proposals, the lesser first. Few signers vote so, and the others take
+    /// no room for it.
+    Two(Cast<D, G>, Box<Cast<D, G>>),
 }
 
 impl<D: Digest, G: Copy> Kept<D, G> {
-    ghost use Rattle.std.specs.Prelude.{◌++◌, ◌∷◌, [], List};
+    ghost use Rattle.std.specs.Prelude.{◌++◌, ◌∷◌, [], List, OnOk};
     ghost use Rattle.simplex_rules.specs.declared.cast.Cast.{Cast};
     ghost use Rattle.simplex_rules.specs.Cast.{Summarizes};
 
-    /// What is kept of these votes and one more, which was read last.
-    pub(crate) fn and(self, cast: Cast<D, G>) -> Self
-        ensures { (casts : List (Cast D G)) → Summarizes D.cmp casts self → Summarizes D.cmp (casts ++ cast ∷ []) result }
+    /// Keeps what there is to keep of these votes and one more, which was read last.
+    pub(crate) fn add(&mut self, alloc: Global, cast: Cast<D, G>) -> Result<(), AllocError>
+        ensures { OnOk result ((casts : List (Cast D G)) → Summarizes D.cmp casts self.old → Summarizes D.cmp (casts ++ cast ∷ []) self.new) }
     {
         match self {
-            Kept::One(only) => match cast.compare(&only) {
-                Ordering::Less => Kept::Two(cast, only),
-                Ordering::Equal => Kept::One(only),
-                Ordering::Greater => Kept::Two(only, cast),
-            },
-            Kept::Two(least, next) => match cast.compare(&least) {
-                Ordering::Less => Kept::Two(cast, least),
-                Ordering::Equal => Kept::Two(least, next),
-                Ordering::Greater => match cast.compare(&next) {
-                    Ordering::Less => Kept::Two(least, cast),
-                    Ordering::Equal => Kept::Two(least, next),
-                    Ordering::Greater => Kept::Two(least, next),
+            Kept::One(only) => {
+                let only = *only;
+                match cast.compare(&only) {
+                    Ordering::Less => *self = Kept::Two(cast, Box::new(alloc, only)?),
+                    Ordering::Equal => {}
+                    Ordering::Greater => *self = Kept::Two(only, Box::new(alloc, cast)?),
+                }
+            }
+            Kept::Two(least, next) => match cast.compare(least) {
+                Ordering::Less => {
+                    **next = *least;
+                    *least = cast;
+                }
+                Ordering::Equal => {}
+                Ordering::Greater => match cast.compare(next) {
+                    Ordering::Less => **next = cast,
+                    Ordering::Equal | Ordering::Greater => {}
                 },
             },
         }
+        Ok(())
     }
 }

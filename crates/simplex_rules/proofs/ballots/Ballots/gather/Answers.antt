@@ -2,9 +2,8 @@ use Rattle.std.specs.Prelude.{Contains}
 use Rattle.std.specs.Map.Iter.{deref_pair}
 use Rattle.std.proofs.lemmas.Map.Iter.{iter_end}
 use Rattle.std.proofs.lemmas.Map.Views.{Contains-from_lookup, tells_apart}
-use Rattle.simplex_rules.specs.declared.cast.Kept.TheVariants.{Two}
+use Rattle.simplex_rules.specs.Cast.{IsTwo}
 use Rattle.simplex_rules.proofs.Suspects.{suspects_exact}
-use Rattle.simplex_rules.proofs.Twos.{IsTwo}
 use Rattle.simplex_rules.proofs.Gathering.{Gathers-turn, inserted_stay, inserted_there}
 use Rattle.simplex_rules.proofs.ballots.Ballots.gather.Goals as goal
 
@@ -24,8 +23,8 @@ loop-suspect-preserved g c = record {
 }
 
 pub returns-clause-added : goal.returns-clause-added
-returns-clause-added g c = λ q a b found.
+returns-clause-added g c = λ q kept found two.
     let gives = c.into_iter-suspect-iterator.ensures.into_iter_gives in
     let end = iter_end deref_pair c.args.self.now.kept.entries c.loop-suspect.yielded c.into_iter-suspect-iterator.result c.loop-suspect.suspect-iterator c.next.new.self c.next.result gives.0 c.loop-suspect.yielded_by c.in-None.is c.next.ensures.steps in
-    let there : Contains c.args.self.now.kept.entries (q, Two a b) = Contains-from_lookup (tells_apart suspects_exact) q (Two a b) c.args.self.now.kept.entries found in
-    c.loop-suspect.invariant.added (q, Two a b) (rw end.0 there) tt
+    let there : Contains c.args.self.now.kept.entries (q, kept) = Contains-from_lookup (tells_apart suspects_exact) q kept c.args.self.now.kept.entries found in
+    c.loop-suspect.invariant.added (q, kept) (rw end.0 there) two

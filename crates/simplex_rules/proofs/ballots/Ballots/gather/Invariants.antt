@@ -1,8 +1,8 @@
 use Rattle.std.proofs.Common.{map}
 use Rattle.std.specs.BTreeSet.{IsSubset}
 use Rattle.std.specs.Map.Iter.{deref_pair}
+use Rattle.simplex_rules.specs.Cast.{IsTwo}
 use Rattle.simplex_rules.specs.Kept.{suspect_cmp}
-use Rattle.simplex_rules.proofs.Twos.{IsTwo}
 use Rattle.simplex_rules.proofs.Gathering.{Gathers}
 use Rattle.simplex_rules.proofs.ballots.Ballots.gather.Given as goal
 

@@ -14,14 +14,14 @@ returns-in-Vacant g c = λ counted t.
     let update = rw c.in-Vacant.is at c.in_ok-entry.ensures.update in
     let found : get suspect_cmp c.args.self.now.kept c.args.suspect ≡ None = rw c.in-Vacant.is at c.in_ok-entry.ensures.found in
     let map_is = c.self-in-Vacant-1.given.1 (sym (written.0 ∙ same_map)) ∙ written.1 in
-    Tallies-push (Summarizes g.D.Ord.cmp) counted c.args.self.now.kept c.self-in-Vacant-1.given.0 c.args.suspect c.args.cast (One c.args.cast) t (rw found (one_alone g.D.Ord.cmp c.args.cast)) (rw map_is (update.0 (One c.args.cast)).0)
+    Tallies-push (Summarizes g.D.Ord.cmp) counted c.args.self.now.kept c.self-in-Vacant-1.given.0 c.args.suspect c.args.cast (One c.args.cast) t (rw found (one_alone c.args.cast)) (rw map_is (update.0 (One c.args.cast)).0)
 
-pub returns-in-Occupied : goal.returns-in-Occupied
-returns-in-Occupied g c = λ counted t.
-    let written = c.insert.ensures.written in
+pub returns-in_ok-add-in-Occupied : goal.returns-in_ok-add-in-Occupied
+returns-in_ok-add-in-Occupied g c = λ counted t.
+    let written = c.get_mut.ensures.written c.add.new.self in
     let same_map = rw c.in-Occupied.is at c.in_ok-entry.ensures.same_map in
     let update = rw c.in-Occupied.is at c.in_ok-entry.ensures.update in
     let value = rw c.in-Occupied.is at c.in_ok-entry.ensures.value in
     let map_is = c.self-in-Occupied-1.given.1 (sym (written.0 ∙ same_map)) ∙ written.1 in
-    let found : get suspect_cmp c.args.self.now.kept c.args.suspect ≡ Some c.get.result.now = sym value ∙ c.get.ensures in
-    Tallies-push (Summarizes g.D.Ord.cmp) counted c.args.self.now.kept c.self-in-Occupied-1.given.0 c.args.suspect c.args.cast c.and-kept.result t (rw found c.and-kept.ensures) (rw map_is (update.0 c.and-kept.result).0)
+    let found : get suspect_cmp c.args.self.now.kept c.args.suspect ≡ Some c.get_mut.result.now = sym value ∙ c.get_mut.ensures.value in
+    Tallies-push (Summarizes g.D.Ord.cmp) counted c.args.self.now.kept c.self-in-Occupied-1.given.0 c.args.suspect c.args.cast c.add.new.self t (rw found c.in_ok-add-in-Occupied.ensures) (rw map_is (update.0 c.add.new.self).0)

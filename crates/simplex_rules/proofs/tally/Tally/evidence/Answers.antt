@@ -14,8 +14,8 @@ returns g c = λ reports h.
     let gives = c.into_iter-suspect-iterator.ensures.into_iter_gives in
     let end = iter_end deref guilty.keys c.loop-suspect.yielded c.into_iter-suspect-iterator.result c.loop-suspect.suspect-iterator c.next.new.self c.next.result gives.0 c.loop-suspect.yielded_by c.in-None.is c.next.ensures.steps in
     let gathered : IsGathered c.args.self.now guilty = record {
-      notarized = λ q a b found. c.in_ok-gather_beside.ensures.stay q (c.in_ok-gather-2.ensures.stay q (c.in_ok-gather.ensures.added q a b found));
-      finalized = λ q a b found. c.in_ok-gather_beside.ensures.stay q (c.in_ok-gather-2.ensures.added q a b found);
+      notarized = λ q kept found two. c.in_ok-gather_beside.ensures.stay q (c.in_ok-gather-2.ensures.stay q (c.in_ok-gather.ensures.added q kept found two));
+      finalized = λ q kept found two. c.in_ok-gather_beside.ensures.stay q (c.in_ok-gather-2.ensures.added q kept found two);
       nullified = c.in_ok-gather_beside.ensures.added;
     } in
     rw (c.loop-suspect.invariant, end.0) (IsVerdict-from_gathered g.S.Scheme.lists (g.S.Scheme.attests c.args.scheme.now) g.D.Ord.cmp g.met.D.Ord.total reports c.args.self.now h guilty gathered gives.4)
