@@ -53,8 +53,8 @@ impl<D: Digest, G> Cast<D, G> {
 pub(crate) enum Kept<D: Digest, G> {
     /// All votes are for one proposal.
     One(Cast<D, G>),
-    /// The least two of several proposals, the lesser first. Few signers vote so, and the others take
-    /// no room for it.
+    /// The least two of several proposals, the lesser first. Few signers vote so, so the second is kept
+    /// apart and takes no room where there is none.
     Two(Cast<D, G>, Box<Cast<D, G>>),
 }
 
