@@ -5,7 +5,7 @@ ghost use Rattle.std.specs.Prelude.{◌≤◌, ◌<◌};
 use super::*;
 use crate::salted::SaltedScheme;
 use simplex_messages::{Finalization, ProposalCertificate};
-use simplex_types::PlainScheme;
+use simplex_types::{PlainScheme, are_of_distinct_members};
 
 /// A committee of so many, seen by this member.
 fn scheme(alloc: Global, participants: u32, me: u32) -> Result<PlainScheme, AllocError>
@@ -31,7 +31,9 @@ fn a_certificate_below_the_quorum_counts(rt: HostRuntime) -> Result<(), Fail> {
     let alloc = rt.alloc();
     let scheme = scheme(alloc, 4, 1)?;
     let (first, second) = (signed(&scheme, 10)?, signed(&scheme, 11)?);
-    let listed = AttestationList::new(alloc, 4, &[first.attestation])?;
+    let attestations = [first.attestation];
+    assert!(rt; are_of_distinct_members(alloc, 4, &attestations)?);
+    let listed = AttestationList::new(alloc, 4, &attestations)?;
     let certificate: Finalization<PlainScheme, Sha256Digest> = ProposalCertificate::new(
         first.proposal,
         listed,
