@@ -3,14 +3,14 @@
 
 usage: check_baseline.py PROGRAM [CASES]
 
-Messages are read by the plain program in vectors.py. The votes that certificates list are not counted.
+Messages are read by the plain program in vectors.py.
 """
 
 import random
 import subprocess
 import sys
 
-from vectors import VOTE_OF, attests, certificate, read, tagged_parts, vote
+from vectors import VOTE_OF, attests, read, tagged_parts, vote
 
 COUNT = 3
 NUMBERS = [0, 1, 2, 127, 128, 2**14, 2**32 - 1, 2**32, 2**63 - 1, 2**63, 2**64 - 1]
@@ -33,9 +33,14 @@ CERTIFICATES = ("notarization", "nullification", "finalization")
 
 
 def votes_in(message):
-    if message[0] in VOTES:
+    """A loose vote itself, one for each attestation that a certificate lists, both of evidence."""
+    kind, *items = message
+    if kind in VOTES:
         return [message]
-    return [part for part in message[1:] if part[0] in VOTES]
+    if kind in VOTE_OF:
+        subject, listed = items
+        return [(VOTE_OF[kind], subject, attestation) for attestation in listed[1:]]
+    return [each for item in items for each in votes_in(item)]
 
 
 def gather(votes):
@@ -85,22 +90,28 @@ def some_vote(kind, key, chance):
     subject = round_ = ("round", epoch, view)
     if kind != "nullify":
         subject = ("proposal", round_, chance.choice(NUMBERS), chance.choice(PAYLOADS))
-    made = vote(kind, index, subject)
+    return (kind, subject, some_attestation(kind, index, subject, chance))
+
+
+def some_attestation(kind, index, subject, chance):
     if chance.random() < 0.9:
-        return made
-    return (kind, subject, ("attestation", index, bytes(32)))
+        return vote(kind, index, subject)[2]
+    return ("attestation", index, bytes(32))
 
 
 def some_certificate(kind, key, chance):
-    subject = some_vote(VOTE_OF[kind], key, chance)[1]
-    listed = [index for index in (0, 1, 2, 3) if chance.random() < (0.8 if index < 3 else 0.02)]
-    return certificate(kind, listed, subject)
+    """Often below the quorum, or with attestations that do not verify."""
+    voted = VOTE_OF[kind]
+    subject = some_vote(voted, key, chance)[1]
+    signers = [index for index in (0, 1, 2, 3) if chance.random() < (0.8 if index < 3 else 0.02)]
+    listed = (some_attestation(voted, index, subject, chance) for index in signers)
+    return (kind, subject, ("list", *listed))
 
 
 def some_message(keys, chance):
     first, second = chance.choice(keys), chance.choice(keys)
     dice = chance.random()
-    if dice < 0.6:
+    if dice < 0.5:
         return some_vote(chance.choice(VOTES), first, chance)
     if dice < 0.75:
         made = some_certificate(chance.choice(CERTIFICATES), first, chance)
