@@ -1,8 +1,9 @@
 //! The audit in plain Rust: what `simplex audit COUNT` is measured against.
 //!
 //! Reads `Activity` messages from standard input to its end and prints the signers of whom two votes
-//! contradict each other. Votes in certificates are not counted. It is meant to be good portable code,
-//! so that the comparison is a fair one: no crates, no intrinsics, no allocation for a vote.
+//! contradict each other: loose votes, both votes of evidence, and those that certificates list. It is
+//! meant to be good portable code, so that the comparison is a fair one: no crates, no intrinsics, no
+//! allocation for a vote.
 
 use std::collections::btree_map::{BTreeMap, Entry};
 use std::collections::BTreeSet;
@@ -69,12 +70,12 @@ fn audit(input: &[u8], count: u64) -> (Ledger<'_>, Option<usize>) {
     while reader.place < input.len() {
         let start = reader.place;
         match reader.activity(count) {
-            Some(Activity::Vote(vote)) => ledger.record(&vote),
+            Some(Activity::Vote(vote)) => ledger.record(&vote.subject, &[vote.attestation]),
             Some(Activity::Evidence(first, second)) => {
-                ledger.record(&first);
-                ledger.record(&second);
+                ledger.record(&first.subject, &[first.attestation]);
+                ledger.record(&second.subject, &[second.attestation]);
             }
-            Some(Activity::Certificate) => {}
+            Some(Activity::Certificate(subject, listed)) => ledger.record(&subject, &listed),
             None => return (ledger, Some(start)),
         }
     }
@@ -104,39 +105,38 @@ enum Statement<'a> {
     Finalize(Choice<'a>),
 }
 
-struct Vote<'a> {
+/// What a vote or a certificate is for.
+struct Subject<'a> {
     round: Round,
     statement: Statement<'a>,
     /// The bytes of the proposal or of the round. Each has but one spelling, so these are the ones
     /// signed.
     message: &'a [u8],
+}
+
+struct Attestation<'a> {
     signer: u32,
     signature: &'a [u8; DIGEST_BYTES],
+}
+
+struct Vote<'a> {
+    subject: Subject<'a>,
+    attestation: Attestation<'a>,
 }
 
 impl Vote<'_> {
     /// For evidence, which holds votes of one kind, or a nullify and a finalize.
     fn conflicts_with(&self, other: &Vote) -> bool {
-        self.round == other.round
-            && self.signer == other.signer
-            && self.statement != other.statement
-    }
-
-    fn verifies(&self, count: u64) -> bool {
-        let namespace = match self.statement {
-            Statement::Notarize(_) => b"simplex_NOTARIZE".as_slice(),
-            Statement::Nullify => b"simplex_NULLIFY",
-            Statement::Finalize(_) => b"simplex_FINALIZE",
-        };
-        u64::from(self.signer) < count
-            && signature(self.signer, namespace, self.message) == *self.signature
+        self.subject.round == other.subject.round
+            && self.attestation.signer == other.attestation.signer
+            && self.subject.statement != other.subject.statement
     }
 }
 
 enum Activity<'a> {
     Vote(Vote<'a>),
     Evidence(Vote<'a>, Vote<'a>),
-    Certificate,
+    Certificate(Subject<'a>, Vec<Attestation<'a>>),
 }
 
 /// The two least of the proposals that one signer voted for in one round.
@@ -179,12 +179,19 @@ enum Kind {
 type Line<'a> = (Suspect, Kind, Choice<'a>, Option<Choice<'a>>);
 
 impl<'a> Ledger<'a> {
-    fn record(&mut self, vote: &Vote<'a>) {
-        if !vote.verifies(self.count) {
-            return;
+    /// Counts the verifying votes for the subject among these.
+    fn record(&mut self, subject: &Subject<'a>, attestations: &[Attestation]) {
+        let mut signed = Signed::new(subject);
+        for Attestation { signer, signature } in attestations {
+            if u64::from(*signer) < self.count && signed.signature(*signer) == **signature {
+                self.add(subject, *signer);
+            }
         }
-        let suspect = (vote.round, vote.signer);
-        match vote.statement {
+    }
+
+    fn add(&mut self, subject: &Subject<'a>, signer: u32) {
+        let suspect = (subject.round, signer);
+        match subject.statement {
             Statement::Notarize(choice) => add_choice(&mut self.notarizes, suspect, choice),
             Statement::Finalize(choice) => add_choice(&mut self.finalizes, suspect, choice),
             Statement::Nullify => {
@@ -256,64 +263,78 @@ fn print_choice(output: &mut impl Write, choice: Choice) -> io::Result<()> {
 
 // The byte formats
 
+/// An index of one byte and a signature.
+const SHORTEST_ATTESTATION: usize = 1 + DIGEST_BYTES;
+
 impl<'a> Reader<'a> {
     /// The list of a certificate is bounded by how many participants there are.
     fn activity(&mut self, count: u64) -> Option<Activity<'a>> {
         match self.byte()? {
-            0 => Some(Activity::Vote(self.proposal_vote(Statement::Notarize)?)),
-            1 | 2 | 6 => {
-                self.proposal()?;
-                self.list(count)
+            0 => Some(Activity::Vote(self.notarize()?)),
+            1 | 2 => {
+                let subject = self.proposed(Statement::Notarize)?;
+                Some(Activity::Certificate(subject, self.list(count)?))
             }
             3 => Some(Activity::Vote(self.nullify()?)),
             4 => {
-                self.round()?;
-                self.list(count)
+                let subject = self.given_up()?;
+                Some(Activity::Certificate(subject, self.list(count)?))
             }
-            5 => Some(Activity::Vote(self.proposal_vote(Statement::Finalize)?)),
-            7 => {
-                let first = self.proposal_vote(Statement::Notarize)?;
-                evidence(first, self.proposal_vote(Statement::Notarize)?)
+            5 => Some(Activity::Vote(self.finalize()?)),
+            6 => {
+                let subject = self.proposed(Statement::Finalize)?;
+                Some(Activity::Certificate(subject, self.list(count)?))
             }
-            8 => {
-                let first = self.proposal_vote(Statement::Finalize)?;
-                evidence(first, self.proposal_vote(Statement::Finalize)?)
-            }
-            9 => {
-                let first = self.nullify()?;
-                evidence(first, self.proposal_vote(Statement::Finalize)?)
-            }
+            7 => evidence(self.notarize()?, self.notarize()?),
+            8 => evidence(self.finalize()?, self.finalize()?),
+            9 => evidence(self.nullify()?, self.finalize()?),
             _ => None,
         }
     }
 
-    fn proposal_vote(&mut self, statement: fn(Choice<'a>) -> Statement<'a>) -> Option<Vote<'a>> {
-        let start = self.place;
-        let (round, choice) = self.proposal()?;
-        let message = &self.input[start..self.place];
-        self.attested(round, statement(choice), message)
+    fn notarize(&mut self) -> Option<Vote<'a>> {
+        Some(Vote {
+            subject: self.proposed(Statement::Notarize)?,
+            attestation: self.attestation()?,
+        })
     }
 
     fn nullify(&mut self) -> Option<Vote<'a>> {
-        let start = self.place;
-        let round = self.round()?;
-        let message = &self.input[start..self.place];
-        self.attested(round, Statement::Nullify, message)
+        Some(Vote {
+            subject: self.given_up()?,
+            attestation: self.attestation()?,
+        })
     }
 
-    fn attested(
-        &mut self,
-        round: Round,
-        statement: Statement<'a>,
-        message: &'a [u8],
-    ) -> Option<Vote<'a>> {
-        let signer = u32::try_from(self.varint()?).ok()?;
+    fn finalize(&mut self) -> Option<Vote<'a>> {
         Some(Vote {
+            subject: self.proposed(Statement::Finalize)?,
+            attestation: self.attestation()?,
+        })
+    }
+
+    /// A proposal and what is stated of it.
+    fn proposed(&mut self, statement: fn(Choice<'a>) -> Statement<'a>) -> Option<Subject<'a>> {
+        let start = self.place;
+        let round = self.round()?;
+        let choice = Choice {
+            parent: self.varint()?,
+            payload: self.array()?,
+        };
+        Some(Subject {
             round,
-            statement,
-            message,
-            signer,
-            signature: self.array()?,
+            statement: statement(choice),
+            message: &self.input[start..self.place],
+        })
+    }
+
+    /// A round that is given up.
+    fn given_up(&mut self) -> Option<Subject<'a>> {
+        let start = self.place;
+        Some(Subject {
+            round: self.round()?,
+            statement: Statement::Nullify,
+            message: &self.input[start..self.place],
         })
     }
 
@@ -324,31 +345,33 @@ impl<'a> Reader<'a> {
         })
     }
 
-    fn proposal(&mut self) -> Option<(Round, Choice<'a>)> {
-        let round = self.round()?;
-        let choice = Choice {
-            parent: self.varint()?,
-            payload: self.array()?,
-        };
-        Some((round, choice))
+    fn attestation(&mut self) -> Option<Attestation<'a>> {
+        Some(Attestation {
+            signer: u32::try_from(self.varint()?).ok()?,
+            signature: self.array()?,
+        })
     }
 
-    /// Passes over the attestations of a certificate.
-    fn list(&mut self, count: u64) -> Option<Activity<'a>> {
+    /// The attestations of a certificate, of ascending members.
+    fn list(&mut self, count: u64) -> Option<Vec<Attestation<'a>>> {
         let listed = self.varint()?;
         if listed > count {
             return None;
         }
+        let left = self.input.len() - self.place;
+        let mut attestations =
+            Vec::with_capacity(listed.min((left / SHORTEST_ATTESTATION) as u64) as usize);
         let mut least = 0;
         for _ in 0..listed {
-            let index = self.varint()?;
+            let attestation = self.attestation()?;
+            let index = u64::from(attestation.signer);
             if index < least || index >= count {
                 return None;
             }
-            self.array::<DIGEST_BYTES>()?;
             least = index + 1;
+            attestations.push(attestation);
         }
-        Some(Activity::Certificate)
+        Some(attestations)
     }
 }
 
@@ -363,14 +386,31 @@ const LONGEST_NAMESPACE: usize = 16;
 const LONGEST_PROPOSAL: usize = 3 * VARINT_BYTES + PAYLOAD_BYTES;
 const LONGEST_SIGNED: usize = 4 + 4 + LONGEST_NAMESPACE + LONGEST_PROPOSAL;
 
-/// The signature of an index on a proposal or a round: the digest of index, namespace and message.
-fn signature(index: u32, namespace: &[u8], message: &[u8]) -> [u8; DIGEST_BYTES] {
-    let mut signed = [0; LONGEST_SIGNED];
-    let from = 8 + namespace.len();
-    let end = from + message.len();
-    signed[0..4].copy_from_slice(&index.to_be_bytes());
-    signed[4..8].copy_from_slice(&(namespace.len() as u32).to_be_bytes());
-    signed[8..from].copy_from_slice(namespace);
-    signed[from..end].copy_from_slice(message);
-    sha256(&signed[..end])
+/// The bytes that are signed for a subject: the signer's index, the namespace and the message.
+struct Signed {
+    bytes: [u8; LONGEST_SIGNED],
+    length: usize,
+}
+
+impl Signed {
+    fn new(subject: &Subject) -> Self {
+        let namespace = match subject.statement {
+            Statement::Notarize(_) => b"simplex_NOTARIZE".as_slice(),
+            Statement::Nullify => b"simplex_NULLIFY",
+            Statement::Finalize(_) => b"simplex_FINALIZE",
+        };
+        let from = 8 + namespace.len();
+        let length = from + subject.message.len();
+        let mut bytes = [0; LONGEST_SIGNED];
+        bytes[4..8].copy_from_slice(&(namespace.len() as u32).to_be_bytes());
+        bytes[8..from].copy_from_slice(namespace);
+        bytes[from..length].copy_from_slice(subject.message);
+        Signed { bytes, length }
+    }
+
+    /// The signature of the signer of this index.
+    fn signature(&mut self, index: u32) -> [u8; DIGEST_BYTES] {
+        self.bytes[..4].copy_from_slice(&index.to_be_bytes());
+        sha256(&self.bytes[..self.length])
+    }
 }
