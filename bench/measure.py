@@ -12,11 +12,13 @@ import subprocess
 import sys
 import time
 from pathlib import Path
+from typing import NamedTuple
 
-SHAPES = ["views", "round", "signer", "shuffled"]
+from generate import MEASURED, MEMBERS
+
 SIZES = [10**4, 10**5, 10**6]
 QUICK_SIZES = SIZES[:2]
-PARTICIPANTS = 100
+MEBI = 2**20
 RUNS = 5
 GENERATE = Path(__file__).with_name("generate.py")
 GNU_TIME = "/usr/bin/time"
@@ -36,34 +38,35 @@ def arguments():
     return given
 
 
-def generate(shape, reports, path):
-    options = {"shape": shape, "reports": reports, "participants": PARTICIPANTS, "out": path}
+def generate(shape, votes, path):
+    options = {"shape": shape, "votes": votes, "out": path}
     words = [f"--{name}={value}" for name, value in options.items()]
     subprocess.run([sys.executable, str(GENERATE), *words], check=True)
 
 
 class Program:
     def __init__(self, path, folder):
-        self.command = [path, "audit", str(PARTICIPANTS)]
+        self.path = path
         self.output = folder / "output"
         self.report = folder / "report"
 
-    def run(self, path, wrapper=()):
+    def run(self, members, path, wrapper=()):
         """The answer (status and output), wall milliseconds and the usage of the child."""
+        command = [*wrapper, self.path, "audit", str(members)]
         with open(path, "rb") as source, open(self.output, "wb") as sink:
             start = time.perf_counter()
-            child = subprocess.Popen([*wrapper, *self.command], stdin=source, stdout=sink)
+            child = subprocess.Popen(command, stdin=source, stdout=sink)
             _, status, usage = os.wait4(child.pid, 0)
             elapsed = 1000 * (time.perf_counter() - start)
         child.returncode = os.waitstatus_to_exitcode(status)
         return (child.returncode, self.output.read_bytes()), elapsed, usage
 
-    def peak(self, path):
+    def peak(self, members, path):
         """The peak memory in MiB. The usage of a child of ours would count our own memory too,
         for it starts as a copy of this process; GNU time, where it is there, is smaller."""
         if not os.access(GNU_TIME, os.X_OK):
-            return self.run(path)[2].ru_maxrss / 1024
-        self.run(path, [GNU_TIME, "-v", "-o", str(self.report)])
+            return self.run(members, path)[2].ru_maxrss / 1024
+        self.run(members, path, [GNU_TIME, "-v", "-o", str(self.report)])
         lines = self.report.read_text().splitlines()
         return next(int(line.split()[-1]) for line in lines if "Maximum resident" in line) / 1024
 
@@ -80,33 +83,52 @@ def compare(answers):
         raise Disagreement("the outputs are not the same bytes")
 
 
-def measure(baseline, simplex, path, runs):
-    """The least times and the peaks of both, in this order."""
+class Cost(NamedTuple):
+    """Of the baseline and of simplex, in this order, and the size of their input."""
+
+    times: list
+    peaks: list
+    size: float
+
+
+def measure(programs, members, path, runs):
     times = [[], []]
     for _ in range(runs):
         answers = []
-        for program, taken in zip([baseline, simplex], times):
-            answer, elapsed, _ = program.run(path)
+        for program, taken in zip(programs, times):
+            answer, elapsed, _ = program.run(members, path)
             answers.append(answer)
             taken.append(elapsed)
         compare(answers)
-    return [min(taken) for taken in times], [program.peak(path) for program in [baseline, simplex]]
+    peaks = [program.peak(members, path) for program in programs]
+    return Cost([min(taken) for taken in times], peaks, path.stat().st_size / MEBI)
 
 
-def print_costs(costs):
-    print("| shape | reports | baseline ms | simplex ms | ratio | baseline MiB | simplex MiB |")
-    print("|---|---:|---:|---:|---:|---:|---:|")
-    for (shape, reports), (times, peaks) in costs.items():
-        ratio = times[1] / times[0]
-        cells = [f"{cell:.1f}" for cell in [*times, ratio, *peaks]]
-        print(f"| {shape} | {reports} | " + " | ".join(cells) + " |")
+def print_times(costs):
+    print("| Shape | Votes | Baseline ms | `simplex` ms | Ratio |")
+    print("|---|---:|---:|---:|---:|")
+    for (shape, votes), cost in costs.items():
+        baseline, simplex = cost.times
+        print(f"| {shape} | {votes:,} | {baseline:.1f} | {simplex:.1f} | {simplex / baseline:.2f} |")
+
+
+def print_peaks(costs):
+    """The bound is the input and twice the baseline's peak."""
+    print("| Shape | Votes | Input MiB | Baseline MiB | `simplex` MiB | Bound MiB | Within |")
+    print("|---|---:|---:|---:|---:|---:|---|")
+    for (shape, votes), cost in costs.items():
+        baseline, simplex = cost.peaks
+        bound = cost.size + 2 * baseline
+        cells = [f"{cell:.1f}" for cell in [cost.size, baseline, simplex, bound]]
+        within = "yes" if simplex <= bound else "no"
+        print(f"| {shape} | {votes:,} | " + " | ".join(cells) + f" | {within} |")
 
 
 def print_growths(costs, few, many):
-    print(f"| shape, {few} to {many} | baseline growth | simplex growth | quotient |")
+    print(f"| Shape, {few:,} to {many:,} | Baseline growth | `simplex` growth | Quotient |")
     print("|---|---:|---:|---:|")
-    for shape in SHAPES:
-        less, more = costs[shape, few][0], costs[shape, many][0]
+    for shape in MEASURED:
+        less, more = costs[shape, few].times, costs[shape, many].times
         baseline, simplex = (after / before for before, after in zip(less, more))
         print(f"| {shape} | {baseline:.1f} | {simplex:.1f} | {simplex / baseline:.2f} |")
 
@@ -117,18 +139,20 @@ def main():
     sizes = QUICK_SIZES if given.quick else SIZES
     path = given.folder / "input"
     costs = {}
-    for shape in SHAPES:
-        for reports in sizes:
-            print(f"measuring {shape}, {reports} reports", file=sys.stderr)
-            generate(shape, reports, path)
+    for shape in MEASURED:
+        for votes in sizes:
+            print(f"measuring {shape}, {votes} votes", file=sys.stderr)
+            generate(shape, votes, path)
             try:
-                costs[shape, reports] = measure(*programs, path, given.runs)
+                costs[shape, votes] = measure(programs, MEMBERS[shape], path, given.runs)
             except Disagreement as error:
-                sys.exit(f"disagreement on {shape}, {reports} reports: {error}")
-    print(f"Least wall time of {given.runs} runs; memory is the greatest resident set.\n")
-    print_costs(costs)
+                sys.exit(f"disagreement on {shape}, {votes} votes: {error}")
+    print(f"Least wall time of {given.runs} runs:\n")
+    print_times(costs)
     print()
     print_growths(costs, *sizes[-2:])
+    print("\nGreatest resident set; the bound is the input's size and twice the baseline's:\n")
+    print_peaks(costs)
 
 
 if __name__ == "__main__":

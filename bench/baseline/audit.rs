@@ -359,8 +359,8 @@ impl<'a> Reader<'a> {
             return None;
         }
         let left = self.input.len() - self.place;
-        let mut attestations =
-            Vec::with_capacity(listed.min((left / SHORTEST_ATTESTATION) as u64) as usize);
+        let room = (listed as usize).min(left / SHORTEST_ATTESTATION);
+        let mut attestations = Vec::with_capacity(room);
         let mut least = 0;
         for _ in 0..listed {
             let attestation = self.attestation()?;
