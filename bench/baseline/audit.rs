@@ -254,11 +254,14 @@ fn conflicts<'a, 'b>(
 }
 
 fn print_choice(output: &mut impl Write, choice: Choice) -> io::Result<()> {
+    const DIGITS: &[u8; 16] = b"0123456789abcdef";
+    let mut digits = [0; 2 * PAYLOAD_BYTES];
+    for (pair, byte) in digits.chunks_exact_mut(2).zip(choice.payload) {
+        pair[0] = DIGITS[usize::from(byte >> 4)];
+        pair[1] = DIGITS[usize::from(byte & 15)];
+    }
     write!(output, " parent {} payload ", choice.parent)?;
-    choice
-        .payload
-        .iter()
-        .try_for_each(|byte| write!(output, "{byte:02x}"))
+    output.write_all(&digits)
 }
 
 // The byte formats
