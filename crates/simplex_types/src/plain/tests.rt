@@ -4,7 +4,8 @@ ghost use Rattle.std.specs.Prelude.{◌≡◌, ◌<◌, ◌≤◌, IfOk};
 use super::*;
 use crate::digest::Sha256Digest;
 use crate::membership::are_of_distinct_members;
-use crate::position::{Epoch, View};
+use crate::position::{Epoch, Round, View};
+use crate::proposal::Proposal;
 use std::process::Abort;
 use std::test::Fail;
 
