@@ -1,0 +1,8 @@
+//! A list of artifacts that survives a crash at any moment, on any disk that keeps the stated model.
+#![tactic(auto)]
+
+mod disk;
+mod memory_disk;
+
+pub use disk::{Disk, DiskFault};
+pub use memory_disk::MemoryDisk;
