@@ -1,7 +1,7 @@
 -- What a disk in memory holds is one of what a crash may leave.
 use Rattle.std.proofs.Common.{◌≡◌, ◌⊎◌, inl, inr, ⊎_elim, ◌-◌, ℕ, zero, suc, ◌+◌, ◌<◌, ◌≤◌, min, List, [], ◌∷◌, ◌++◌, length, get_or, take, drop, refl, sym, ◌∙◌, ap, subst, arith, append_assoc, length-append, length-take, length-drop}
 use Rattle.std.proofs.lemmas.List.{get_or_past}
-use Rattle.simplex_journal.specs.Disk.{Call, Wrote, CutTo, Synced, MayLeave, overwritten}
+use Rattle.simplex_journal.specs.Disk.{Call, Wrote, CutTo, Synced, MayLeave, IsOverwritten}
 use Rattle.simplex_journal.specs.MemoryDisk.{call_of, told}
 use Rattle.simplex_journal.specs.declared.memory_disk.Made.{Made}
 
@@ -32,7 +32,7 @@ held_other (suc at) (suc m) (s ∷ seen) bytes (suc i) is le (inl lt) = held_oth
 held_other (suc at) (suc m) (s ∷ seen) bytes (suc i) is le (inr ge) = held_other at m seen bytes i (omega (arith, is)) (omega (arith, le)) (inr (omega (arith, ge)))
 
 -- what a write makes of what may be left may be left after it
-pub left_written : (calls : List Call) (seen bytes new : List ℕ) (at n : ℕ) → MayLeave calls seen → at ≤ length seen → n ≡ length bytes → new ≡ overwritten seen at bytes → MayLeave (Wrote at n ∷ calls) new
+pub left_written : (calls : List Call) (seen bytes new : List ℕ) (at n : ℕ) → MayLeave calls seen → at ≤ length seen → n ≡ length bytes → IsOverwritten seen at bytes new → MayLeave (Wrote at n ∷ calls) new
 left_written calls seen bytes new at n left le is holds =
     let whole : new ≡ take at seen ++ (bytes ++ drop (at + length bytes) seen) = holds ∙ append_assoc (take at seen) bytes (drop (at + length bytes) seen) in
     let long : length new ≡ length (take at seen) + (length bytes + length (drop (at + length bytes) seen)) = ap length whole ∙ length-append (take at seen) (bytes ++ drop (at + length bytes) seen) ∙ ap (λ (k : ℕ). length (take at seen) + k) (length-append bytes (drop (at + length bytes) seen)) in

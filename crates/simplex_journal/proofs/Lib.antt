@@ -1,1 +1,9 @@
+pub mod Lists
+pub mod Images
+pub mod Moments
+pub mod Stages
+pub mod Repairing
+pub mod Finding
+pub mod Total
+pub mod Reopened
 pub mod Held

@@ -43,9 +43,20 @@ pub record MayLeave (calls : List Call) (image : List ℕ) : Type 0 where
   pub no_longer : length image ≤ greatest calls
   pub others_stay : (i : ℕ) → i < length (fixed calls) → i < length image → IsUntouched calls i → get_or image i 0 ≡ get_or (fixed calls) i 0
 
--- these bytes with others from a place on
-abbrev pub overwritten : List ℕ → ℕ → List ℕ → List ℕ
-overwritten old at bytes = take at old ++ bytes ++ drop (at + length bytes) old
+-- new is old with these bytes from a place on
+abbrev pub IsOverwritten : List ℕ → ℕ → List ℕ → List ℕ → Type 0
+IsOverwritten old at bytes new = new ≡ take at old ++ bytes ++ drop (at + length bytes) old
+
+-- whatever a crash leaves, before these further calls or after any of them, has P
+abbrev pub AtEach : List Call → List Call → (List ℕ → Type 0) → Type 0
+AtEach [] old P = (image : List ℕ) → MayLeave old image → P image
+AtEach (call ∷ made) old P = AtEach made old P × ((image : List ℕ) → MayLeave (call ∷ made ++ old) image → P image)
+
+-- a crash at any moment since old leaves what has P
+pub record LeavesOnly (old new : List Call) (P : List ℕ → Type 0) : Type 0 where
+  pub made : List Call
+  pub is : new ≡ made ++ old
+  pub each : AtEach made old P
 
 -- how often a disk has failed, one more where a call answered a fault; at the greatest number of 64 bits it stays
 abbrev pub counted : Bool → ℕ → ℕ

@@ -1,7 +1,7 @@
 //! A disk as the journal sees it, and what a crash may leave of it.
 
 ghost use Rattle.std.specs.Prelude.{◌≡◌, ◌⊎◌, ◌≤◌, ◌+◌, List, ℕ, ◌∷◌, length, take, drop, IfOk, OnOk, OnErr, is_ok};
-ghost use Rattle.simplex_journal.specs.Disk.{Call, Wrote, CutTo, Synced, MayLeave, overwritten, counted};
+ghost use Rattle.simplex_journal.specs.Disk.{Call, Wrote, CutTo, Synced, MayLeave, IsOverwritten, counted};
 
 /// A call of a disk failed.
 #[derive(Clone, Copy, Debug, Drop, PartialEq, Eq)]
@@ -50,7 +50,7 @@ pub trait Disk: Drop {
     /// end.
     fn write_at(&mut self, at: u64, bytes: &[u8]) -> Result<(), DiskFault>
         requires { keeps → at ≤ length (seen self.old) }
-        ensures written { OnOk result (keeps → seen self.new ≡ overwritten (seen self.old) at bytes.now) }
+        ensures written { OnOk result (keeps → IsOverwritten (seen self.old) at bytes.now (seen self.new)) }
         ensures calls { OnOk result (keeps → calls self.new ≡ Wrote at (length bytes.now) ∷ calls self.old) }
         ensures tried { OnErr result (keeps → (calls self.new ≡ calls self.old) ⊎ (calls self.new ≡ Wrote at (length bytes.now) ∷ calls self.old)) }
         ensures cause { failed self.new ≡ counted (is_ok result) (failed self.old) };

@@ -2,7 +2,10 @@
 #![tactic(auto)]
 
 mod disk;
+mod entries;
+mod journal;
 mod memory_disk;
+mod opening;
 
 pub use disk::{Disk, DiskFault};
 pub use memory_disk::MemoryDisk;

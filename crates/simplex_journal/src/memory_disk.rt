@@ -1,7 +1,7 @@
 //! A disk in memory, for tests and simulations.
 
 ghost use Rattle.std.specs.Prelude.{◌≡◌, ◌≤◌, ◌∷◌, [], false, length, IfOk, OnOk, OnErr, is_ok};
-ghost use Rattle.simplex_journal.specs.Disk.{MayLeave, Synced, overwritten, counted};
+ghost use Rattle.simplex_journal.specs.Disk.{MayLeave, Synced, IsOverwritten, counted};
 ghost use Rattle.simplex_journal.specs.MemoryDisk.{told, call_of};
 
 use crate::disk::{Disk, DiskFault};
@@ -228,7 +228,7 @@ impl Disk for MemoryDisk {
 /// These bytes with others from a place on.
 fn written(alloc: Global, old: &[u8], at: usize, bytes: &[u8]) -> Result<Vec<u8>, AllocError>
     requires { at ≤ length old.now }
-    ensures { IfOk result (λ next. next.items ≡ overwritten old.now at bytes.now) }
+    ensures { IfOk result (λ next. IsOverwritten old.now at bytes.now next.items) }
 {
     let mut next = Vec::from_slice(alloc, &old[..at])?;
     next.extend_from_slice(bytes)?;

@@ -1,0 +1,89 @@
+-- The record on a disk: entries of an open gate, a length in four bytes and a body, and then a closed gate.
+use Rattle.std.specs.Prelude.{◌≡◌, ◌⊎◌, ◌+◌, ◌*◌, ◌<◌, ℕ, Vec, List, [], ◌∷◌, ◌++◌, length}
+use Rattle.std.specs.declared.alloc.Global.{Global}
+use Rattle.simplex_journal.specs.Disk.{Call, Synced, MayLeave}
+
+-- the number that four bytes spell, most significant first
+abbrev pub size : ℕ → ℕ → ℕ → ℕ → ℕ
+size a b c d = ((a * 256 + b) * 256 + c) * 256 + d
+
+-- the bytes begin with an open entry that is whole, its next gate byte included
+pub record HasEntry (bytes body after : List ℕ) : Type 0 where
+  pub a : ℕ
+  pub b : ℕ
+  pub c : ℕ
+  pub d : ℕ
+  pub split : bytes ≡ 1 ∷ a ∷ b ∷ c ∷ d ∷ body ++ after
+  pub long : length body ≡ size a b c d
+  pub gate : 0 < length after
+
+-- no whole open entry begins here
+abbrev pub IsEnd : List ℕ → Type 0
+IsEnd bytes = (body after : List ℕ) → HasEntry bytes body after → ⊥
+
+-- these bytes are the open entries of these bodies
+abbrev pub AreEntries : List ℕ → List (List ℕ) → Type 0
+AreEntries bytes [] = bytes ≡ []
+AreEntries bytes (body ∷ bodies) = (a : ℕ) × (b : ℕ) × (c : ℕ) × (d : ℕ) × (after : List ℕ) × (bytes ≡ 1 ∷ a ∷ b ∷ c ∷ d ∷ body ++ after) × (length body ≡ size a b c d) × AreEntries after bodies
+
+-- a disk reads as these bodies
+pub record Reads (disk : List ℕ) (bodies : List (List ℕ)) : Type 0 where
+  pub front : List ℕ
+  pub end : List ℕ
+  pub split : disk ≡ front ++ end
+  pub entries : AreEntries front bodies
+  pub ended : IsEnd end
+  pub gate : (bodies ≡ []) ⊎ (0 < length end)
+
+abbrev pub IsWithOrWithout : List (List ℕ) → List ℕ → List ℕ → Type 0
+IsWithOrWithout bodies body image = Reads image bodies ⊎ Reads image (bodies ++ body ∷ [])
+
+-- these bytes are a length in four bytes, that body and a closed gate
+pub record Spells (bytes body : List ℕ) : Type 0 where
+  pub a : ℕ
+  pub b : ℕ
+  pub c : ℕ
+  pub d : ℕ
+  pub split : bytes ≡ a ∷ b ∷ c ∷ d ∷ body ++ 0 ∷ []
+  pub long : length body ≡ size a b c d
+
+-- a disk holds entries of these bodies and a closed gate at this place, and a crash leaves nothing else
+pub record IsAtRest (seen : List ℕ) (calls : List Call) (gate : ℕ) (bodies : List (List ℕ)) : Type 0 where
+  pub front : List ℕ
+  pub entries : AreEntries front bodies
+  pub gate_is : gate ≡ length front
+  pub seen_is : seen ≡ front ++ 0 ∷ []
+  pub earlier : List Call
+  pub calls_is : calls ≡ Synced (front ++ 0 ∷ []) ∷ earlier
+
+-- the bytes of each
+abbrev pub contents : List (Vec ℕ Global) → List (List ℕ)
+contents [] = []
+contents (v ∷ vs) = v.items ∷ contents vs
+
+-- of these bytes the entries of these bodies have been read, and this is left
+pub record IsLeft (bytes rest : List ℕ) (bodies : List (List ℕ)) : Type 0 where
+  pub front : List ℕ
+  pub split : bytes ≡ front ++ rest
+  pub entries : AreEntries front bodies
+  pub gate : (bodies ≡ []) ⊎ (0 < length rest)
+
+-- these bytes read as these bodies, and the gate behind the last stands at this place
+pub record IsFound (bytes : List ℕ) (gate : ℕ) (bodies : List (List ℕ)) : Type 0 where
+  pub rest : List ℕ
+  pub left : IsLeft bytes rest bodies
+  pub ended : IsEnd rest
+  pub gate_is : gate ≡ length left.front
+
+-- the same of a disk on which nothing else is left by a crash
+pub record IsFixed (seen : List ℕ) (calls : List Call) : Type 0 where
+  pub earlier : List Call
+  pub is : calls ≡ Synced seen ∷ earlier
+
+-- it reads as something reads that a crash might have left after these calls
+pub record IsReopened (calls : List Call) (image : List ℕ) : Type 0 where
+  pub before : List ℕ
+  pub bodies : List (List ℕ)
+  pub left : MayLeave calls before
+  pub reads_before : Reads before bodies
+  pub reads : Reads image bodies
