@@ -1,7 +1,8 @@
 -- Reading entries.
-use Rattle.std.proofs.Common.{◌≡◌, ◌≢◌, inl, inr, ℕ, ◌+◌, ◌-◌, ◌<◌, ◌≤◌, Vec, List, [], ◌∷◌, ◌++◌, length, get_or, take, drop, refl, sym, ◌∙◌, ap, subst, arith, append_assoc, length-append, length-take, length-drop, take-append-drop}
-use Rattle.std.specs.declared.alloc.Global.{Global}
-use Rattle.simplex_journal.specs.Record.{size, HasEntry, IsEnd, contents, IsLeft, IsFound}
+use Rattle.std.proofs.Common.{◌≡◌, ◌≢◌, inl, inr, ℕ, ◌+◌, ◌-◌, ◌<◌, ◌≤◌, List, [], ◌∷◌, ◌++◌, length, get_or, take, drop, refl, sym, ◌∙◌, ap, subst, arith, append_assoc, length-append, length-take, length-drop, take-append-drop, map}
+use Rattle.std.specs.List.{All}
+use Rattle.std.proofs.lemmas.List.{map-append}
+use Rattle.simplex_journal.specs.Record.{size, HasEntry, IsEnd, IsLeft, IsFound, IsNone, IsForeign}
 use Rattle.simplex_journal.proofs.Images.{entries_push}
 
 pub end_first : (bytes : List ℕ) → get_or bytes 0 0 ≢ 1 → IsEnd bytes
@@ -36,23 +37,35 @@ entry_here bytes n is_open is within = record {
   gate = omega (arith, length-drop n (drop 5 bytes), length-drop 5 bytes, within);
 }
 
-contents_push : (vs : List (Vec ℕ Global)) (v : Vec ℕ Global) → contents (vs ++ v ∷ []) ≡ contents vs ++ v.items ∷ []
-contents_push [] v = refl
-contents_push (w ∷ vs) v = ap (λ (l : List (List ℕ)). w.items ∷ l) (contents_push vs v)
-
 pub left_first : (bytes : List ℕ) → IsLeft bytes bytes []
 left_first bytes = record { front = []; split = refl; entries = refl; gate = inl refl }
 
-pub left_next : (bytes rest body after : List ℕ) (vs : List (Vec ℕ Global)) (v : Vec ℕ Global) → IsLeft bytes rest (contents vs) → HasEntry rest body after → v.items ≡ body → IsLeft bytes after (contents (vs ++ v ∷ []))
-left_next bytes rest body after vs v left entry is =
-    let more = 1 ∷ entry.a ∷ entry.b ∷ entry.c ∷ entry.d ∷ body in
-    subst (λ (l : List (List ℕ)). IsLeft bytes after l) (ap (λ (l : List ℕ). contents vs ++ l ∷ []) (sym is) ∙ sym (contents_push vs v))
+-- one more message has been read
+pub left_next : {M : Type 0} (spelling : M → List ℕ) (bytes rest body after : List ℕ) (messages : List M) (m : M) → IsLeft bytes rest (map spelling messages) → HasEntry rest body after → body ≡ spelling m → IsLeft bytes after (map spelling (messages ++ m ∷ []))
+left_next spelling bytes rest body after messages m left entry is =
+    let pushed : map spelling messages ++ body ∷ [] ≡ map spelling (messages ++ m ∷ []) = ap (λ (l : List ℕ). map spelling messages ++ l ∷ []) is ∙ sym (map-append spelling messages (m ∷ [])) in
+    subst (λ (l : List (List ℕ)). IsLeft bytes after l) pushed
     (record {
       front = left.front ++ 1 ∷ entry.a ∷ entry.b ∷ entry.c ∷ entry.d ∷ body;
       split = left.split ∙ ap (λ (l : List ℕ). left.front ++ l) entry.split ∙ sym (append_assoc left.front (1 ∷ entry.a ∷ entry.b ∷ entry.c ∷ entry.d ∷ body) after);
-      entries = entries_push left.front (contents vs) entry.a entry.b entry.c entry.d body left.entries entry.long;
+      entries = entries_push left.front (map spelling messages) entry.a entry.b entry.c entry.d body left.entries entry.long;
       gate = inr entry.gate;
     })
+
+-- where what begins here is no message's, the place is foreign
+pub foreign_at : {M : Type 0} (Fits : M → Type 0) (spelling : M → List ℕ) (bytes rest body after : List ℕ) (place : ℕ) (messages : List M) → All Fits messages → IsLeft bytes rest (map spelling messages) → HasEntry rest body after → IsNone Fits spelling body
+    → place ≡ length bytes - length rest → IsForeign Fits spelling bytes place
+foreign_at Fits spelling bytes rest body after place messages fitting left entry none is = record {
+  messages = messages;
+  fitting = fitting;
+  rest = rest;
+  left = left;
+  body = body;
+  after = after;
+  entry = entry;
+  none = none;
+  place_is = omega (arith, is, ap length left.split, length-append left.front rest);
+}
 
 pub found_at : (bytes rest : List ℕ) (gate : ℕ) (bodies : List (List ℕ)) → IsLeft bytes rest bodies → IsEnd rest → gate ≡ length bytes - length rest → IsFound bytes gate bodies
 found_at bytes rest gate bodies left ended is = record { rest = rest; left = left; ended = ended; gate_is = omega (arith, is, ap length left.split, length-append left.front rest) }

@@ -7,3 +7,4 @@ pub mod Finding
 pub mod Total
 pub mod Reopened
 pub mod Held
+pub mod Messages

@@ -1,6 +1,5 @@
 -- The record on a disk: entries of an open gate, a length in four bytes and a body, and then a closed gate.
-use Rattle.std.specs.Prelude.{◌≡◌, ◌⊎◌, ◌+◌, ◌*◌, ◌<◌, ℕ, Vec, List, [], ◌∷◌, ◌++◌, length}
-use Rattle.std.specs.declared.alloc.Global.{Global}
+use Rattle.std.specs.Prelude.{◌≡◌, ◌⊎◌, ◌+◌, ◌*◌, ◌<◌, ℕ, List, [], ◌∷◌, ◌++◌, length, map, All}
 use Rattle.simplex_journal.specs.Disk.{Call, Synced, MayLeave}
 
 -- the number that four bytes spell, most significant first
@@ -56,11 +55,6 @@ pub record IsAtRest (seen : List ℕ) (calls : List Call) (gate : ℕ) (bodies :
   pub earlier : List Call
   pub calls_is : calls ≡ Synced (front ++ 0 ∷ []) ∷ earlier
 
--- the bytes of each
-abbrev pub contents : List (Vec ℕ Global) → List (List ℕ)
-contents [] = []
-contents (v ∷ vs) = v.items ∷ contents vs
-
 -- of these bytes the entries of these bodies have been read, and this is left
 pub record IsLeft (bytes rest : List ℕ) (bodies : List (List ℕ)) : Type 0 where
   pub front : List ℕ
@@ -87,3 +81,19 @@ pub record IsReopened (calls : List Call) (image : List ℕ) : Type 0 where
   pub left : MayLeave calls before
   pub reads_before : Reads before bodies
   pub reads : Reads image bodies
+
+-- no message that can be read is spelled by these bytes
+abbrev pub IsNone : {M : Type 0} → (M → Type 0) → (M → List ℕ) → List ℕ → Type 0
+IsNone {M} Fits spelling body = (message : M) → Fits message → body ≡ spelling message → ⊥
+
+-- the bytes have whole entries of messages, and at this place an open entry that is whole and of none
+pub record IsForeign {M : Type 0} (Fits : M → Type 0) (spelling : M → List ℕ) (bytes : List ℕ) (place : ℕ) : Type 0 where
+  pub messages : List M
+  pub fitting : All Fits messages
+  pub rest : List ℕ
+  pub left : IsLeft bytes rest (map spelling messages)
+  pub body : List ℕ
+  pub after : List ℕ
+  pub entry : HasEntry rest body after
+  pub none : IsNone Fits spelling body
+  pub place_is : place ≡ length left.front

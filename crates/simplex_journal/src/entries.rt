@@ -1,14 +1,21 @@
 //! Reading the entries of a record.
 
-ghost use Rattle.std.specs.Prelude.{◌≡◌, ◌+◌, ◌<◌, ◌≤◌, length, take, drop, IfOk, IfSome, IfNone};
-ghost use Rattle.simplex_journal.specs.Record.{HasEntry, IsEnd, IsFound, contents};
+ghost use Rattle.std.specs.Prelude.{◌≡◌, ◌⊎◌, ◌+◌, ◌<◌, ℕ, length, take, drop, map, All, IfOk, IfErr, IfSome, IfNone};
+ghost use Rattle.simplex_types.specs.Codec.{Readable};
+ghost use Rattle.simplex_journal.specs.Record.{HasEntry, IsEnd, IsFound, IsForeign, IsNone};
+ghost use Rattle.simplex_journal.specs.declared.fault.JournalFault.TheVariants.{Foreign, Memory};
 
+use crate::fault::JournalFault;
+use simplex_types::{CodecError, Read};
 use std::alloc::{AllocError, Global};
 
-/// The bodies on a disk, and the place of the gate behind the last.
+/// The bound on a committee's size under which messages are read.
+pub(crate) const BOUND: u32 = 65_535;
+
+/// The messages of a record, and the place of the gate behind the last.
 #[derive(Drop)]
-pub(crate) struct Entries {
-    pub(crate) bodies: Vec<Vec<u8>>,
+pub(crate) struct Entries<M> {
+    pub(crate) messages: Vec<M>,
     pub(crate) gate: usize,
 }
 
@@ -34,19 +41,49 @@ fn first_entry(bytes: &[u8]) -> Option<usize>
     Some(size)
 }
 
-pub(crate) fn read_entries(alloc: Global, bytes: &[u8]) -> Result<Entries, AllocError>
-    ensures found { IfOk result (λ entries. IsFound bytes.now entries.gate (contents entries.bodies.items)) }
+/// The message that the body is, if it is exactly one.
+fn message_of<M: Read + Drop>(alloc: Global, body: &[u8]) -> Result<Option<M>, AllocError>
+    ensures some { IfOk result (λ found. IfSome found (λ m. (body.now ≡ M.spelling m) × Readable M.fits (M.within 65535) m)) }
+    ensures none { IfOk result (λ found. IfNone found (IsNone (Readable M.fits (M.within 65535)) M.spelling body.now)) }
 {
-    let mut bodies = Vec::new(alloc);
+    let mut rest = body;
+    match M::read_cfg(alloc, &mut rest, BOUND) {
+        Ok(message) => {
+            if rest.is_empty() {
+                Ok(Some(message))
+            } else {
+                Ok(None)
+            }
+        }
+        Err(CodecError::Memory) => Err(AllocError),
+        Err(CodecError::End) => Ok(None),
+        Err(CodecError::Invalid) => Ok(None),
+        Err(CodecError::TooLong) => Ok(None),
+    }
+}
+
+/// Reads the entries up to where no whole open one begins.
+pub(crate) fn read_entries<M: Read + Drop>(
+    alloc: Global,
+    bytes: &[u8],
+) -> Result<Entries<M>, JournalFault>
+    ensures found { IfOk result (λ entries. IsFound bytes.now entries.gate (map M.spelling entries.messages.items)) }
+    ensures fitting { IfOk result (λ entries. All (Readable M.fits (M.within 65535)) entries.messages.items) }
+    ensures faults { IfErr result (λ fault. (fault ≡ Memory) ⊎ ((place : ℕ) × (fault ≡ Foreign place) × IsForeign (Readable M.fits (M.within 65535)) M.spelling bytes.now place)) }
+{
+    let mut messages = Vec::new(alloc);
     let mut rest = bytes;
     while let Some(size) = first_entry(rest) {
         let (_, behind) = rest.split_at(5);
         let (body, after) = behind.split_at(size);
-        bodies.push(body.to_vec(alloc)?)?;
+        let Some(message) = message_of(alloc, body)? else {
+            return Err(JournalFault::Foreign((bytes.len() - rest.len()) as u64));
+        };
+        messages.push(message)?;
         rest = after;
     }
     Ok(Entries {
         gate: bytes.len() - rest.len(),
-        bodies,
+        messages,
     })
 }

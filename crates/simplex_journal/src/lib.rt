@@ -3,9 +3,10 @@
 
 mod disk;
 mod entries;
-mod journal;
+mod fault;
 mod memory_disk;
 mod opening;
 
 pub use disk::{Disk, DiskFault};
+pub use fault::JournalFault;
 pub use memory_disk::MemoryDisk;

@@ -1,24 +1,27 @@
 //! The steps of an opening.
 
-ghost use Rattle.std.specs.Prelude.{◌≡◌, ◌≢◌, ◌+◌, ◌<◌, ◌≤◌, ◌^◌, List, ℕ, length, [], ◌∷◌, IfOk, OnOk, OnErr, is_ok, IsErrOf, true, false, ◌⊎◌};
-ghost use Rattle.simplex_journal.specs.Disk.{MayLeave, LeavesOnly, counted};
-ghost use Rattle.simplex_journal.specs.Record.{Reads, IsFound, IsFixed, IsAtRest, IsReopened, contents};
+ghost use Rattle.std.specs.Prelude.{◌≡◌, ◌≢◌, ◌+◌, ◌<◌, ◌≤◌, ◌^◌, List, ℕ, length, map, [], ◌∷◌, All, IfErr, IfOk, OnOk, OnErr, is_ok, IsErrOf, true, false, ◌⊎◌};
+ghost use Rattle.simplex_types.specs.Codec.{Readable};
+ghost use Rattle.simplex_journal.specs.declared.fault.JournalFault.TheVariants.{Device, Foreign, Memory};
+ghost use Rattle.simplex_journal.specs.Disk.{MayLeave, LeavesOnly, Synced, counted};
+ghost use Rattle.simplex_journal.specs.Record.{Reads, IsForeign, IsFound, IsFixed, IsAtRest, IsReopened};
 
-use crate::entries::{Entries, read_entries};
 use crate::disk::{Disk, DiskFault};
-use crate::journal::JournalFault;
+use crate::entries::{Entries, read_entries};
+use crate::fault::JournalFault;
+use simplex_types::Read;
 use std::alloc::Global;
 
 /// Cuts behind the last gate, and closes it.
-pub(crate) fn repair<D: Disk>(disk: &mut D, gate: u64) -> Result<(), DiskFault>
+pub(crate) fn repair<K: Disk>(disk: &mut K, gate: u64) -> Result<(), DiskFault>
     requires room { gate < 2 ^ 63 }
-    requires found { D.keeps → (bodies : List (List ℕ)) × IsFound (D.seen disk.old) gate bodies }
-    requires some { D.keeps → gate < length (D.seen disk.old) }
-    ensures ok { OnOk result ((bodies : List (List ℕ)) → D.keeps → IsFixed (D.seen disk.old) (D.calls disk.old) → IsFound (D.seen disk.old) gate bodies
-        → IsAtRest (D.seen disk.new) (D.calls disk.new) gate bodies) }
-    ensures any_moment { (bodies : List (List ℕ)) → D.keeps → IsFixed (D.seen disk.old) (D.calls disk.old) → IsFound (D.seen disk.old) gate bodies
-        → LeavesOnly (D.calls disk.old) (D.calls disk.new) (λ image. Reads image bodies) }
-    ensures cause { D.failed disk.new ≡ counted (is_ok result) (D.failed disk.old) }
+    requires found { K.keeps → (bodies : List (List ℕ)) × IsFound (K.seen disk.old) gate bodies }
+    requires some { K.keeps → gate < length (K.seen disk.old) }
+    ensures ok { OnOk result ((bodies : List (List ℕ)) → K.keeps → IsFixed (K.seen disk.old) (K.calls disk.old) → IsFound (K.seen disk.old) gate bodies
+        → IsAtRest (K.seen disk.new) (K.calls disk.new) gate bodies) }
+    ensures any_moment { (bodies : List (List ℕ)) → K.keeps → IsFixed (K.seen disk.old) (K.calls disk.old) → IsFound (K.seen disk.old) gate bodies
+        → LeavesOnly (K.calls disk.old) (K.calls disk.new) (λ image. Reads image bodies) }
+    ensures cause { K.failed disk.new ≡ counted (is_ok result) (K.failed disk.old) }
 {
     disk.cut(gate + 1)?;
     // The cut has to be on the disk first: behind a gate that is torn open, what was there would count.
@@ -29,11 +32,11 @@ pub(crate) fn repair<D: Disk>(disk: &mut D, gate: u64) -> Result<(), DiskFault>
 }
 
 /// Writes the first gate of an empty disk.
-pub(crate) fn begin<D: Disk>(disk: &mut D) -> Result<(), DiskFault>
-    requires empty { D.keeps → D.seen disk.old ≡ [] }
-    ensures ok { OnOk result (D.keeps → IsAtRest (D.seen disk.new) (D.calls disk.new) 0 []) }
-    ensures any_moment { D.keeps → IsFixed (D.seen disk.old) (D.calls disk.old) → LeavesOnly (D.calls disk.old) (D.calls disk.new) (λ image. Reads image []) }
-    ensures cause { D.failed disk.new ≡ counted (is_ok result) (D.failed disk.old) }
+pub(crate) fn begin<K: Disk>(disk: &mut K) -> Result<(), DiskFault>
+    requires empty { K.keeps → K.seen disk.old ≡ [] }
+    ensures ok { OnOk result (K.keeps → IsAtRest (K.seen disk.new) (K.calls disk.new) 0 []) }
+    ensures any_moment { K.keeps → IsFixed (K.seen disk.old) (K.calls disk.old) → LeavesOnly (K.calls disk.old) (K.calls disk.new) (λ image. Reads image []) }
+    ensures cause { K.failed disk.new ≡ counted (is_ok result) (K.failed disk.old) }
 {
     disk.write_at(0, &[0])?;
     disk.sync()?;
@@ -41,12 +44,15 @@ pub(crate) fn begin<D: Disk>(disk: &mut D) -> Result<(), DiskFault>
 }
 
 /// Fixes what a read gives, and reads it.
-fn read_disk<D: Disk>(alloc: Global, disk: &mut D) -> Result<Vec<u8>, JournalFault>
-    ensures bytes { IfOk result (λ bytes. D.keeps → bytes.items ≡ D.seen disk.new) }
-    ensures fixed { OnOk result (D.keeps → IsFixed (D.seen disk.new) (D.calls disk.new) × MayLeave (D.calls disk.old) (D.seen disk.new)) }
-    ensures any_moment { D.keeps → LeavesOnly (D.calls disk.old) (D.calls disk.new) (MayLeave (D.calls disk.old)) }
-    ensures ok { OnOk result (D.failed disk.new ≡ D.failed disk.old) }
-    ensures device { IsErrOf result JournalFault.Device → D.failed disk.new ≡ counted false (D.failed disk.old) }
+fn read_disk<K: Disk>(alloc: Global, disk: &mut K) -> Result<Vec<u8>, JournalFault>
+    ensures bytes { IfOk result (λ bytes. K.keeps → bytes.items ≡ K.seen disk.new) }
+    ensures fixed { OnOk result (K.keeps → IsFixed (K.seen disk.new) (K.calls disk.new) × MayLeave (K.calls disk.old) (K.seen disk.new)) }
+    ensures any_moment { K.keeps → LeavesOnly (K.calls disk.old) (K.calls disk.new) (MayLeave (K.calls disk.old)) }
+    ensures ok { OnOk result (K.failed disk.new ≡ K.failed disk.old) }
+    ensures device { IsErrOf result JournalFault.Device → K.failed disk.new ≡ counted false (K.failed disk.old) }
+    ensures faults { IfErr result (λ fault. (fault ≡ Device) ⊎ (fault ≡ Memory)) }
+    ensures untouched { IfErr result (λ fault. fault ≢ Device → K.keeps → K.calls disk.new ≡ Synced (K.seen disk.new) ∷ K.calls disk.old) }
+    ensures synced { OnOk result (K.keeps → K.calls disk.new ≡ Synced (K.seen disk.new) ∷ K.calls disk.old) }
 {
     match disk.sync() {
         Ok(()) => {}
@@ -68,16 +74,16 @@ fn read_disk<D: Disk>(alloc: Global, disk: &mut D) -> Result<Vec<u8>, JournalFau
 }
 
 /// Closes the last gate, or writes the first one.
-fn finish<D: Disk>(disk: &mut D, gate: u64, is_empty: bool) -> Result<(), DiskFault>
+fn finish<K: Disk>(disk: &mut K, gate: u64, is_empty: bool) -> Result<(), DiskFault>
     requires room { gate < 2 ^ 63 }
-    requires found { D.keeps → (bodies : List (List ℕ)) × IsFound (D.seen disk.old) gate bodies }
-    requires some { D.keeps → is_empty ≡ false → gate < length (D.seen disk.old) }
-    requires none { D.keeps → is_empty ≡ true → D.seen disk.old ≡ [] }
-    ensures ok { OnOk result ((bodies : List (List ℕ)) → D.keeps → IsFixed (D.seen disk.old) (D.calls disk.old) → IsFound (D.seen disk.old) gate bodies
-        → IsAtRest (D.seen disk.new) (D.calls disk.new) gate bodies) }
-    ensures any_moment { (bodies : List (List ℕ)) → D.keeps → IsFixed (D.seen disk.old) (D.calls disk.old) → IsFound (D.seen disk.old) gate bodies
-        → LeavesOnly (D.calls disk.old) (D.calls disk.new) (λ image. Reads image bodies) }
-    ensures cause { D.failed disk.new ≡ counted (is_ok result) (D.failed disk.old) }
+    requires found { K.keeps → (bodies : List (List ℕ)) × IsFound (K.seen disk.old) gate bodies }
+    requires some { K.keeps → is_empty ≡ false → gate < length (K.seen disk.old) }
+    requires none { K.keeps → is_empty ≡ true → K.seen disk.old ≡ [] }
+    ensures ok { OnOk result ((bodies : List (List ℕ)) → K.keeps → IsFixed (K.seen disk.old) (K.calls disk.old) → IsFound (K.seen disk.old) gate bodies
+        → IsAtRest (K.seen disk.new) (K.calls disk.new) gate bodies) }
+    ensures any_moment { (bodies : List (List ℕ)) → K.keeps → IsFixed (K.seen disk.old) (K.calls disk.old) → IsFound (K.seen disk.old) gate bodies
+        → LeavesOnly (K.calls disk.old) (K.calls disk.new) (λ image. Reads image bodies) }
+    ensures cause { K.failed disk.new ≡ counted (is_ok result) (K.failed disk.old) }
 {
     if is_empty {
         match begin(disk) {
@@ -92,19 +98,27 @@ fn finish<D: Disk>(disk: &mut D, gate: u64, is_empty: bool) -> Result<(), DiskFa
 }
 
 /// Opens any disk. It may fail, or a crash may come, at any point.
-pub(crate) fn open_disk<D: Disk>(alloc: Global, disk: &mut D) -> Result<Entries, JournalFault>
-    ensures ok { IfOk result (λ entries. D.keeps → IsAtRest (D.seen disk.new) (D.calls disk.new) entries.gate (contents entries.bodies.items)) }
-    ensures found { IfOk result (λ entries. D.keeps → (before : List ℕ) × MayLeave (D.calls disk.old) before × Reads before (contents entries.bodies.items)) }
+pub(crate) fn open_disk<M: Read + Drop, K: Disk>(
+    alloc: Global,
+    disk: &mut K,
+) -> Result<Entries<M>, JournalFault>
+    ensures ok { IfOk result (λ entries. K.keeps → IsAtRest (K.seen disk.new) (K.calls disk.new) entries.gate (map M.spelling entries.messages.items)) }
+    ensures fitting { IfOk result (λ entries. All (Readable M.fits (M.within 65535)) entries.messages.items) }
+    ensures found { IfOk result (λ entries. K.keeps → (before : List ℕ) × MayLeave (K.calls disk.old) before × Reads before (map M.spelling entries.messages.items)) }
     // A crash at any moment leaves what reads as something that a crash might have left before.
-    ensures any_moment { D.keeps → LeavesOnly (D.calls disk.old) (D.calls disk.new) (IsReopened (D.calls disk.old)) }
-    ensures device { IsErrOf result JournalFault.Device → D.failed disk.new ≡ counted false (D.failed disk.old) }
+    ensures any_moment { K.keeps → LeavesOnly (K.calls disk.old) (K.calls disk.new) (IsReopened (K.calls disk.old)) }
+    ensures device { IsErrOf result JournalFault.Device → K.failed disk.new ≡ counted false (K.failed disk.old) }
+    ensures foreign { IfErr result (λ fault. (place : ℕ) → fault ≡ Foreign place → K.keeps → IsForeign (Readable M.fits (M.within 65535)) M.spelling (K.seen disk.new) place) }
+    // After any other fault than the disk's own nothing was written or cut.
+    ensures untouched { IfErr result (λ fault. fault ≢ Device → K.keeps → K.calls disk.new ≡ Synced (K.seen disk.new) ∷ K.calls disk.old) }
 {
     let bytes = match read_disk(alloc, disk) {
         Ok(bytes) => bytes,
         Err(fault) => return Err(fault),
     };
-    let Ok(entries) = read_entries(alloc, &bytes) else {
-        return Err(JournalFault::Memory);
+    let entries = match read_entries(alloc, &bytes) {
+        Ok(entries) => entries,
+        Err(fault) => return Err(fault),
     };
     match finish(disk, entries.gate as u64, bytes.is_empty()) {
         Ok(()) => Ok(entries),

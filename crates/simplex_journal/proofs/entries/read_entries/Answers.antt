@@ -1,19 +1,34 @@
-use Rattle.std.proofs.Common.{◌≡◌, ◌++◌, [], ◌∷◌, take, drop, sym, ◌∙◌, ap, subst, rules}
-use Rattle.simplex_journal.specs.Record.{IsLeft, contents}
-use Rattle.simplex_journal.proofs.Finding.{left_next, found_at}
+use Rattle.std.proofs.Common.{rules, ◌≡◌, ◌++◌, [], ◌∷◌, take, drop, sym, ◌∙◌, ap, subst, refl, inr, map, List, ℕ}
+use Rattle.std.specs.List.{All}
+use Rattle.std.proofs.lemmas.List.Elements.{All-nil, All-cons, All-append}
+use Rattle.simplex_types.specs.Codec.{Readable}
+use Rattle.simplex_journal.specs.Record.{IsLeft, IsNone}
+use Rattle.simplex_journal.proofs.Finding.{left_first, left_next, found_at, foreign_at}
 use Rattle.simplex_journal.proofs.entries.read_entries.Goals as goal
 
-pub loop-size-preserved : goal.loop-size-preserved
-loop-size-preserved c =
+pub returns-in_default-2-clause-faults : goal.returns-in_default-2-clause-faults
+returns-in_default-2-clause-faults g c =
+    let Fits = Readable g.M.Write.fits (g.M.Read.within 65535) in
     let behind_is = c.split_at.ensures.back in
-    let size = c.in-Some.size in
-    let rest = c.loop-size.rest.now in
-    let same : c.in_ok-to_vec.field-0.items ≡ c.split_at-in-Some.result.0.now = search rules in
-    let body_is = same ∙ c.split_at-in-Some.ensures.front ∙ ap (λ l. take c.in-Some.size l) behind_is in
-    let after_is = c.split_at-in-Some.ensures.back ∙ ap (λ l. drop c.in-Some.size l) behind_is in
-    subst (λ l. IsLeft c.args.bytes.now c.split_at-in-Some.result.1.now (contents l)) (sym c.in_ok-push.ensures.items)
-    (subst (λ l. IsLeft c.args.bytes.now l (contents (c.loop-size.bodies.items ++ c.in_ok-to_vec.field-0 ∷ []))) (sym after_is)
-    (left_next c.args.bytes.now c.loop-size.rest.now _ _ c.loop-size.bodies.items c.in_ok-to_vec.field-0 c.loop-size.invariant c.in-Some.ensures.some body_is))
+    let body_is = c.split_at-in-Some.ensures.front ∙ ap (λ (l : List ℕ). take c.in-Some.size l) behind_is in
+    let none : IsNone Fits g.M.Write.spelling c.split_at-in-Some.result.0.now = rw c.in_default-2.is at c.in_ok-message.ensures.none in
+    inr (_, refl, foreign_at Fits g.M.Write.spelling c.args.bytes.now c.loop-size.rest.now _ _ _ c.loop-size.messages.items c.loop-size.invariant.1 c.loop-size.invariant.0 c.in-Some.ensures.some
+      (subst (λ (l : List ℕ). IsNone Fits g.M.Write.spelling l) body_is none) refl)
 
-pub returns : goal.returns
-returns c = record { found = found_at c.args.bytes.now c.loop-size.rest.now _ _ c.loop-size.invariant (search rules) (search rules) }
+pub loop-size-preserved : goal.loop-size-preserved
+loop-size-preserved g c =
+    let Fits = Readable g.M.Write.fits (g.M.Read.within 65535) in
+    let behind_is = c.split_at.ensures.back in
+    let body_is = c.split_at-in-Some.ensures.front ∙ ap (λ (l : List ℕ). take c.in-Some.size l) behind_is in
+    let after_is = c.split_at-in-Some.ensures.back ∙ ap (λ (l : List ℕ). drop c.in-Some.size l) behind_is in
+    let one = rw c.in-Some-2.is at c.in_ok-message.ensures.some in
+    let pushed = c.in_ok-push.ensures.items in
+    let left = left_next g.M.Write.spelling c.args.bytes.now c.loop-size.rest.now _ _ c.loop-size.messages.items c.in-Some-2.message c.loop-size.invariant.0 c.in-Some.ensures.some (sym body_is ∙ one.0) in
+    (
+      subst (λ (ms : List _). IsLeft c.args.bytes.now c.split_at-in-Some.result.1.now (map g.M.Write.spelling ms)) (sym pushed)
+        (subst (λ (l : List ℕ). IsLeft c.args.bytes.now l (map g.M.Write.spelling (c.loop-size.messages.items ++ c.in-Some-2.message ∷ []))) (sym after_is) left),
+      subst (All Fits) (sym pushed) (All-append Fits c.loop-size.messages.items (c.in-Some-2.message ∷ []) c.loop-size.invariant.1 (All-cons Fits c.in-Some-2.message [] one.1 (All-nil Fits))),
+    )
+
+pub returns-clause-found : goal.returns-clause-found
+returns-clause-found g c = found_at c.args.bytes.now c.loop-size.rest.now _ _ c.loop-size.invariant.0 c.in_default.ensures.none refl

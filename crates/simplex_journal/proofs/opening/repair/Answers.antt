@@ -25,10 +25,10 @@ returns-in_err-sync-2-clause-any_moment g c = λ bodies k x f.
 
 pub returns-clause-any_moment : goal.returns-clause-any_moment
 returns-clause-any_moment g c = λ bodies k x f.
-    let holds3 = subst (λ l. IsOverwritten l c.args.gate (0 ∷ []) (g.D.Disk.seen c.write_at.new.self)) (c.in_ok-sync.ensures.seen k) (c.in_ok-write_at.ensures.written k) in
+    let holds3 = subst (λ l. IsOverwritten l c.args.gate (0 ∷ []) (g.K.Disk.seen c.write_at.new.self)) (c.in_ok-sync.ensures.seen k) (c.in_ok-write_at.ensures.written k) in
     closed x f (c.requires.some k) _ _ _ (c.in_ok-cut.ensures.cut k) (c.in_ok-cut.ensures.calls k) (c.in_ok-sync.ensures.fixed k) _ _ _ holds3 (c.in_ok-write_at.ensures.calls k) (c.in_ok-sync-2.ensures.fixed k)
 
 pub returns-clause-ok : goal.returns-clause-ok
 returns-clause-ok g c = λ bodies k x f.
-    let holds3 = subst (λ l. IsOverwritten l c.args.gate (0 ∷ []) (g.D.Disk.seen c.write_at.new.self)) (c.in_ok-sync.ensures.seen k) (c.in_ok-write_at.ensures.written k) in
+    let holds3 = subst (λ l. IsOverwritten l c.args.gate (0 ∷ []) (g.K.Disk.seen c.write_at.new.self)) (c.in_ok-sync.ensures.seen k) (c.in_ok-write_at.ensures.written k) in
     rests x f (c.requires.some k) _ _ _ (c.in_ok-cut.ensures.cut k) (c.in_ok-cut.ensures.calls k) (c.in_ok-sync.ensures.fixed k) _ _ _ holds3 (c.in_ok-write_at.ensures.calls k) (c.in_ok-sync-2.ensures.fixed k) _ (c.in_ok-sync-2.ensures.seen k)
