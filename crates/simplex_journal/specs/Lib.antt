@@ -1,3 +1,4 @@
 pub mod Disk
 pub mod MemoryDisk
 pub mod Record
+pub mod Journal

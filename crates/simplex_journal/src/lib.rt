@@ -4,9 +4,11 @@
 mod disk;
 mod entries;
 mod fault;
+mod journal;
 mod memory_disk;
 mod opening;
 
 pub use disk::{Disk, DiskFault};
 pub use fault::JournalFault;
+pub use journal::Journal;
 pub use memory_disk::MemoryDisk;

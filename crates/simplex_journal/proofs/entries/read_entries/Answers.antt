@@ -1,9 +1,9 @@
-use Rattle.std.proofs.Common.{rules, ◌≡◌, ◌++◌, [], ◌∷◌, take, drop, sym, ◌∙◌, ap, subst, refl, inr, map, List, ℕ}
+use Rattle.std.proofs.Common.{◌++◌, [], ◌∷◌, take, drop, sym, ◌∙◌, ap, subst, refl, inr, map, List, ℕ}
 use Rattle.std.specs.List.{All}
 use Rattle.std.proofs.lemmas.List.Elements.{All-nil, All-cons, All-append}
 use Rattle.simplex_types.specs.Codec.{Readable}
 use Rattle.simplex_journal.specs.Record.{IsLeft, IsNone}
-use Rattle.simplex_journal.proofs.Finding.{left_first, left_next, found_at, foreign_at}
+use Rattle.simplex_journal.proofs.Finding.{left_next, found_at, foreign_at}
 use Rattle.simplex_journal.proofs.entries.read_entries.Goals as goal
 
 pub returns-in_default-2-clause-faults : goal.returns-in_default-2-clause-faults

@@ -1,7 +1,6 @@
-use Rattle.std.proofs.Common.{◌≡◌, ◌∙◌, ℕ, List, map, subst, sym, ap, inl, inr}
-use Rattle.simplex_types.specs.Codec.{Readable}
+use Rattle.std.proofs.Common.{◌≡◌, ◌∙◌, ℕ, List, map, subst, sym, inl, inr}
 use Rattle.simplex_journal.specs.declared.fault.JournalFault.TheVariants.{Device, Foreign, Memory}
-use Rattle.simplex_journal.specs.Record.{IsFound, IsForeign}
+use Rattle.simplex_journal.specs.Record.{IsFound}
 use Rattle.simplex_journal.proofs.Repairing.{reads_found}
 use Rattle.simplex_journal.proofs.Reopened.{reopened_first, reopened_then}
 use Rattle.simplex_journal.proofs.opening.open_disk.Goals as goal
