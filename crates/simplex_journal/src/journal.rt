@@ -14,6 +14,9 @@ use simplex_types::{EncodeSize, Read, Write};
 use std::alloc::{AllocError, Global};
 use std::marker::{Model, PhantomData};
 
+#[cfg(test)]
+mod tests;
+
 /// The first length of a body that is too long.
 const TOO_LONG: usize = 0x1_0000_0000;
 
