@@ -4,11 +4,13 @@
 mod disk;
 mod entries;
 mod fault;
+mod file_disk;
 mod journal;
 mod memory_disk;
 mod opening;
 
 pub use disk::{Disk, DiskFault};
 pub use fault::JournalFault;
+pub use file_disk::FileDisk;
 pub use journal::Journal;
 pub use memory_disk::MemoryDisk;

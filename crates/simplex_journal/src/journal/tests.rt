@@ -124,8 +124,8 @@ fn open_and_append(alloc: Global, disk: MemoryDisk) -> Outcome {
     match Kept::open(alloc, disk) {
         Ok((mut journal, _)) => {
             let answered = journal.append(&certified(3)).is_ok();
-            let failed_after =
-                !answered && journal.append(&certified(4)) == Err(JournalFault::Failed);
+            let failed_after = !answered
+                && journal.append(&certified(4)) == Err(JournalFault::Failed);
             Outcome {
                 opened: true,
                 answered,
@@ -157,8 +157,16 @@ fn each_call_fails_in_turn(rt: HostRuntime) -> Result<(), Fail> {
             let outcome = open_and_append(alloc, disk);
             assert_eq!(rt; outcome.opened, good >= 5, "after {good}");
             assert_eq!(rt; outcome.answered, good >= 9, "after {good}");
-            assert_eq!(rt; outcome.failed_after, (5..9).contains(&good), "after {good}");
-            assert_eq!(rt; outcome.left.failures(), if good < 9 { 1 } else { 0 }, "after {good}");
+            assert_eq!(rt;
+                outcome.failed_after,
+                (5..9).contains(&good),
+                "after {good}"
+            );
+            assert_eq!(rt;
+                outcome.left.failures(),
+                if good < 9 { 1 } else { 0 },
+                "after {good}"
+            );
             let left = MemoryDisk::with(alloc, outcome.left.bytes())?;
             let Ok((_, artifacts)) = Kept::open(alloc, left) else {
                 return Err(Fail::from("not opened again"));

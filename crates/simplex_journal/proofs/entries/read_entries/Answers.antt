@@ -12,8 +12,12 @@ returns-in_default-2-clause-faults g c =
     let behind_is = c.split_at.ensures.back in
     let body_is = c.split_at-in-Some.ensures.front ∙ ap (λ (l : List ℕ). take c.in-Some.size l) behind_is in
     let none : IsNone Fits g.M.Write.spelling c.split_at-in-Some.result.0.now = rw c.in_default-2.is at c.in_ok-message.ensures.none in
-    inr (_, refl, foreign_at Fits g.M.Write.spelling c.args.bytes.now c.loop-size.rest.now _ _ _ c.loop-size.messages.items c.loop-size.invariant.1 c.loop-size.invariant.0 c.in-Some.ensures.some
-      (subst (λ (l : List ℕ). IsNone Fits g.M.Write.spelling l) body_is none) refl)
+    inr (
+      _,
+      refl,
+      foreign_at Fits g.M.Write.spelling c.args.bytes.now c.loop-size.rest.now _ _ _ c.loop-size.messages.items c.loop-size.invariant.1 c.loop-size.invariant.0 c.in-Some.ensures.some
+          (subst (λ (l : List ℕ). IsNone Fits g.M.Write.spelling l) body_is none) refl,
+    )
 
 pub loop-size-preserved : goal.loop-size-preserved
 loop-size-preserved g c =
@@ -23,10 +27,9 @@ loop-size-preserved g c =
     let after_is = c.split_at-in-Some.ensures.back ∙ ap (λ (l : List ℕ). drop c.in-Some.size l) behind_is in
     let one = rw c.in-Some-2.is at c.in_ok-message.ensures.some in
     let pushed = c.in_ok-push.ensures.items in
-    let left = left_next g.M.Write.spelling c.args.bytes.now c.loop-size.rest.now _ _ c.loop-size.messages.items c.in-Some-2.message c.loop-size.invariant.0 c.in-Some.ensures.some (sym body_is ∙ one.0) in
-    (
+    let left = left_next g.M.Write.spelling c.args.bytes.now c.loop-size.rest.now _ _ c.loop-size.messages.items c.in-Some-2.message c.loop-size.invariant.0 c.in-Some.ensures.some (sym body_is ∙ one.0) in (
       subst (λ (ms : List _). IsLeft c.args.bytes.now c.split_at-in-Some.result.1.now (map g.M.Write.spelling ms)) (sym pushed)
-        (subst (λ (l : List ℕ). IsLeft c.args.bytes.now l (map g.M.Write.spelling (c.loop-size.messages.items ++ c.in-Some-2.message ∷ []))) (sym after_is) left),
+          (subst (λ (l : List ℕ). IsLeft c.args.bytes.now l (map g.M.Write.spelling (c.loop-size.messages.items ++ c.in-Some-2.message ∷ []))) (sym after_is) left),
       subst (All Fits) (sym pushed) (All-append Fits c.loop-size.messages.items (c.in-Some-2.message ∷ []) c.loop-size.invariant.1 (All-cons Fits c.in-Some-2.message [] one.1 (All-nil Fits))),
     )
 
