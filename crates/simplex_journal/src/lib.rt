@@ -8,6 +8,8 @@ mod file_disk;
 mod journal;
 mod memory_disk;
 mod opening;
+#[cfg(test)]
+mod samples;
 
 pub use disk::{Disk, DiskFault};
 pub use fault::JournalFault;

@@ -2,13 +2,12 @@
 
 use super::*;
 use crate::journal::Journal;
-use simplex_messages::Artifact;
-use simplex_types::{Epoch, PlainScheme, Round, Sha256Digest, View};
+use crate::samples::{Item, certified};
 use std::fs;
 use std::test::Fail;
 
 /// A journal in a file.
-type Kept = Journal<Artifact<PlainScheme, Sha256Digest>, FileDisk>;
+type Kept = Journal<Item, FileDisk>;
 
 #[test]
 fn a_file_keeps_what_was_appended(rt: HostRuntime) -> Result<(), Fail> {
@@ -19,8 +18,7 @@ fn a_file_keeps_what_was_appended(rt: HostRuntime) -> Result<(), Fail> {
         return Err(Fail::from("not opened"));
     };
     assert!(rt; found.is_empty());
-    let verdict = Artifact::Certification(Round::new(Epoch::new(0), View::new(3)), true);
-    assert_eq!(rt; journal.append(&verdict), Ok(()));
+    assert_eq!(rt; journal.append(&certified(3)), Ok(()));
     drop(journal.close());
     let bytes = fs::read(&rt, path)?;
     assert_eq!(rt; bytes.as_slice(), [1, 0, 0, 0, 4, 2, 0, 3, 1, 0].as_slice());

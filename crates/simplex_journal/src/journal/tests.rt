@@ -2,13 +2,9 @@
 
 use super::*;
 use crate::memory_disk::MemoryDisk;
-use simplex_messages::Artifact;
-use simplex_types::{Epoch, PlainScheme, Round, Sha256Digest, View};
+use crate::samples::{Item, certified};
 use std::process::Abort;
 use std::test::Fail;
-
-/// What the tests keep in a journal.
-type Item = Artifact<PlainScheme, Sha256Digest>;
 
 /// A journal of these on a disk in memory.
 type Kept = Journal<Item, MemoryDisk>;
@@ -16,13 +12,6 @@ type Kept = Journal<Item, MemoryDisk>;
 /// The entry, from gate to body, of the verdict that view 1 of epoch 0 is certified; views 2 and 3 have
 /// their number in place of the 1 before the last byte.
 const ENTRY: [u8; 9] = [1, 0, 0, 0, 4, 2, 0, 1, 1];
-
-/// The verdict that this view of epoch 0 is certified.
-fn certified(view: u64) -> Item
-    ensures { ⟦<Artifact<PlainScheme, Sha256Digest> as Read>⟧.within 65535 result }
-{
-    Artifact::Certification(Round::new(Epoch::new(0), View::new(view)), true)
-}
 
 /// Opens a disk that holds these bytes: it finds so many artifacts, and leaves those bytes.
 fn assert_opens(
