@@ -1,6 +1,6 @@
 //! Reading the entries of a record.
 
-ghost use Rattle.std.specs.Prelude.{◌≡◌, ◌⊎◌, ◌+◌, ◌<◌, ℕ, length, take, drop, map, All, IfOk, IfErr, IfSome, IfNone};
+ghost use Rattle.std.specs.Prelude.{◌≡◌, ◌⊎◌, ◌↔◌, ◌+◌, ◌<◌, ℕ, length, take, drop, map, All, IfOk, IfErr, IfSome, IfNone, IsTrue};
 ghost use Rattle.simplex_types.specs.Codec.{Readable};
 ghost use Rattle.simplex_journal.specs.Record.{HasEntry, IsEnd, IsFound, IsForeign, IsNone};
 ghost use Rattle.simplex_journal.specs.declared.fault.JournalFault.TheVariants.{Foreign, Memory};
@@ -19,6 +19,13 @@ pub(crate) struct Entries<M> {
     pub(crate) gate: usize,
 }
 
+/// Whether a gate is open: an entry counts only then.
+fn is_open(gate: u8) -> bool
+    ensures { IsTrue result ↔ (gate ≡ 1) }
+{
+    gate == 1
+}
+
 /// The size of the body, where a whole open entry begins here.
 fn first_entry(bytes: &[u8]) -> Option<usize>
     ensures some { IfSome result (λ n. HasEntry bytes.now (take n (drop 5 bytes.now)) (drop n (drop 5 bytes.now))) }
@@ -28,7 +35,7 @@ fn first_entry(bytes: &[u8]) -> Option<usize>
     if bytes.len() < 6 {
         return None;
     }
-    if bytes[0] != 1 {
+    if !is_open(bytes[0]) {
         return None;
     }
     let size = bytes[1] as usize * 0x100_0000
