@@ -166,3 +166,20 @@ fn each_call_fails_in_turn(rt: HostRuntime) -> Result<(), Fail> {
     }
     Ok(())
 }
+
+#[test]
+fn a_refused_allocation_is_answered_by_name(rt: HostRuntime) {
+    let alloc = rt.alloc();
+    match Kept::open(alloc, MemoryDisk::new(alloc)) {
+        Ok((mut journal, _)) => match journal.append(&certified(3)) {
+            Ok(()) => assert_eq!(rt; journal.close().bytes().len(), 10),
+            Err(fault) => {
+                assert!(rt; fault == JournalFault::Memory || fault == JournalFault::Device);
+            }
+        },
+        Err((fault, disk)) => {
+            assert!(rt; fault == JournalFault::Memory || fault == JournalFault::Device);
+            assert!(rt; disk.bytes().len() <= 1);
+        }
+    }
+}
