@@ -2,7 +2,7 @@
 
 ghost use Rattle.std.specs.Prelude.{◌≡◌, ◌≢◌, ◌⊎◌, ◌+◌, ◌<◌, ◌≤◌, ◌^◌, ◌++◌, [], ◌∷◌, List, ℕ, length, map, All, true, false, IfOk, IfErr, OnOk, IsErrOf, is_ok};
 ghost use Rattle.simplex_types.specs.Codec.{Readable};
-ghost use Rattle.simplex_journal.specs.declared.fault.JournalFault.TheVariants.{Device, Foreign};
+ghost use Rattle.simplex_journal.specs.declared.fault.JournalFault.TheVariants.{Device, Failed, Foreign, Memory, TooLong};
 ghost use Rattle.simplex_journal.specs.Disk.{MayLeave, LeavesOnly, Synced, counted};
 ghost use Rattle.simplex_journal.specs.Journal.{IsRecord, IsTooLong};
 ghost use Rattle.simplex_journal.specs.Record.{Spells, Reads, IsAtRest, IsForeign, IsWithOrWithout, IsReopened};
@@ -54,6 +54,7 @@ impl<M: Read + EncodeSize + Drop, K: Disk> Journal<M, K> {
     /// two nothing was written or cut.
     pub fn open(alloc: Global, disk: K) -> Result<(Self, Vec<M>), (JournalFault, K)>
         ensures record { IfOk result (λ opened. K.keeps → IsRecord M.spelling K.seen K.calls opened.0 opened.1.items) }
+        ensures fresh { IfOk result (λ opened. opened.0.failed ≡ false) }
         ensures readable { IfOk result (λ opened. All (Readable M.fits (M.within 65535)) opened.1.items) }
         ensures found { IfOk result (λ opened. K.keeps → (before : List ℕ) × MayLeave (K.calls disk) before × Reads before (map M.spelling opened.1.items)) }
 
@@ -63,6 +64,7 @@ impl<M: Read + EncodeSize + Drop, K: Disk> Journal<M, K> {
 
         ensures device { IfErr result (λ refused. refused.0 ≡ Device → K.failed refused.1 ≡ counted false (K.failed disk)) }
         ensures foreign { IfErr result (λ refused. (place : ℕ) → refused.0 ≡ Foreign place → K.keeps → IsForeign (Readable M.fits (M.within 65535)) M.spelling (K.seen refused.1) place) }
+        ensures faults { IfErr result (λ refused. (refused.0 ≡ Device) ⊎ ((refused.0 ≡ Memory) ⊎ ((place : ℕ) × (refused.0 ≡ Foreign place)))) }
         ensures untouched { IfErr result (λ refused. refused.0 ≢ Device → K.keeps → K.calls refused.1 ≡ Synced (K.seen refused.1) ∷ K.calls disk) }
     {
         let mut disk = disk;
@@ -104,6 +106,8 @@ impl<M: Read + EncodeSize + Drop, K: Disk> Journal<M, K> {
         // A crash at any moment of the call leaves the record from before it, with the message or without.
         ensures any_moment { (messages : List M) → K.keeps → IsRecord M.spelling K.seen K.calls self.old messages → LeavesOnly (K.calls self.old.disk) (K.calls self.new.disk) (IsWithOrWithout (map M.spelling messages) (M.spelling message.now)) }
 
+        ensures stays_open { OnOk result (self.new.failed ≡ false) }
+        ensures faults { IfErr result (λ fault. (fault ≡ Device) ⊎ ((fault ≡ Memory) ⊎ ((fault ≡ TooLong) ⊎ (fault ≡ Failed)))) }
         ensures device { IsErrOf result JournalFault.Device → (self.new.failed ≡ true) × (K.failed self.new.disk ≡ counted false (K.failed self.old.disk)) }
         ensures memory { IsErrOf result JournalFault.Memory → self.new ≡ self.old }
         ensures too_long { IsErrOf result JournalFault.TooLong → (self.new ≡ self.old) × IsTooLong self.old.gate (length (M.spelling message.now)) }

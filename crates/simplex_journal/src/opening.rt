@@ -109,6 +109,7 @@ pub(crate) fn open_disk<M: Read + Drop, K: Disk>(
     ensures any_moment { K.keeps → LeavesOnly (K.calls disk.old) (K.calls disk.new) (IsReopened (K.calls disk.old)) }
     ensures device { IsErrOf result JournalFault.Device → K.failed disk.new ≡ counted false (K.failed disk.old) }
     ensures foreign { IfErr result (λ fault. (place : ℕ) → fault ≡ Foreign place → K.keeps → IsForeign (Readable M.fits (M.within 65535)) M.spelling (K.seen disk.new) place) }
+    ensures faults { IfErr result (λ fault. (fault ≡ Device) ⊎ ((fault ≡ Memory) ⊎ ((place : ℕ) × (fault ≡ Foreign place)))) }
     // After any other fault than the disk's own nothing was written or cut.
     ensures untouched { IfErr result (λ fault. fault ≢ Device → K.keeps → K.calls disk.new ≡ Synced (K.seen disk.new) ∷ K.calls disk.old) }
 {
