@@ -1,0 +1,4 @@
+mod Places
+mod Figures
+mod Member
+mod Worlds

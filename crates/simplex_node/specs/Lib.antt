@@ -1,0 +1,5 @@
+pub mod Record
+pub mod Rules
+pub mod Lawful
+pub mod World
+pub mod Agreement

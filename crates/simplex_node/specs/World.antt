@@ -1,0 +1,44 @@
+-- A world: a committee of which some may lie, and what each of the others recorded.
+use Rattle.std.specs.Prelude.{◌≡◌, ℕ, ◌≤◌, ◌<◌, List, length, Contains}
+use Rattle.simplex_types.specs.declared.attestation.Attestation.{Attestation}
+use Rattle.simplex_types.specs.Quorum.{faults}
+use Rattle.simplex_types.specs.Subject.{Statement}
+use Rattle.simplex_messages.specs.declared.artifact.Artifact.{Artifact}
+use Rattle.simplex_messages.specs.declared.certificate.Certificate.{Certificate}
+use Rattle.simplex_messages.specs.Artifact.{certificate_artifact}
+use Rattle.simplex_messages.specs.Certificate.{certificate_statement, certified_by}
+use Rattle.simplex_node.specs.Record.{entries, HasVoted}
+use Rattle.simplex_node.specs.Lawful.{IsLawful}
+
+-- how many members the committee has, its epoch and how many views a term has, which members are excused from all
+-- rules, and for each other member the list of all artifacts that it ever recorded
+pub record World (S D P G C : Type 0) : Type 0 where
+  pub size : ℕ
+  pub epoch : ℕ
+  pub views : ℕ
+  pub excused : List ℕ
+  pub recorded : ℕ → List (Artifact S D P G C)
+
+-- a member of the committee that isn't excused
+abbrev pub IsCorrect : {S D P G C : Type 0} → World S D P G C → ℕ → Type 0
+IsCorrect world i = (i < world.size) × (Contains world.excused i → ⊥)
+
+module _ {S D P G C : Type 0} (attests : ℕ → Statement D → G → Type 0) (certifies : Statement D → C → Type 0) (lists : C → List (Attestation G)) (world : World S D P G C) where
+  -- each verifying vote that the certificate lists in a correct member's name is on a statement for which that member
+  -- recorded a vote
+  abbrev pub IsHonest : Certificate S D P G C → Type 0
+  IsHonest c = (a : Attestation G) → Contains (lists (certified_by c)) a → IsCorrect world a.signer
+      → attests a.signer (certificate_statement c) a.signature → HasVoted (entries (world.recorded a.signer)) (certificate_statement c)
+
+  -- the certificate certifies what it states, and is honest
+  pub record IsSound (c : Certificate S D P G C) : Type 0 where
+    pub verifies : certifies (certificate_statement c) (certified_by c)
+    pub honest : IsHonest c
+
+  -- at most as many are excused as may be faulty, the record of each correct member is lawful, and the certificates in
+  -- it are honest
+  pub record IsWorld : Type 0 where
+    pub some : 0 < world.size
+    pub few : length world.excused ≤ faults world.size
+    pub lawful : (i : ℕ) → IsCorrect world i → IsLawful attests certifies (record { epoch = world.epoch; views = world.views; index = i }) (world.recorded i)
+    pub honest : (i : ℕ) → IsCorrect world i → (c : Certificate S D P G C) → Contains (world.recorded i) (certificate_artifact c) → IsHonest c
