@@ -1,14 +1,11 @@
 -- What a disk in memory holds is one of what a crash may leave.
-use Rattle.std.proofs.Common.{◌≡◌, ◌⊎◌, inl, inr, ⊎_elim, ◌-◌, ℕ, zero, suc, ◌+◌, ◌<◌, ◌≤◌, min, List, [], ◌∷◌, ◌++◌, length, get_or, take, drop, refl, sym, ◌∙◌, ap, subst, arith, append_assoc, length-append, length-take, length-drop}
+use Rattle.std.proofs.Common.{Bool, true, false, cond, ◌≡◌, ◌⊎◌, inl, inr, ⊎_elim, ◌-◌, ℕ, zero, suc, ◌+◌, ◌<◌, ◌≤◌, min, List, [], ◌∷◌, ◌++◌, length, get_or, take, drop, refl, sym, ◌∙◌, ap, subst, arith, append_assoc, length-append, length-take, length-drop}
 use Rattle.std.proofs.lemmas.List.{get_or_past}
 use Rattle.simplex_journal.specs.Disk.{Call, Wrote, CutTo, Synced, MayLeave, IsOverwritten}
-use Rattle.simplex_journal.specs.MemoryDisk.{call_of, told}
+use Rattle.std.proofs.lemmas.List.Sums.{fold-append}
+use Rattle.simplex_journal.specs.MemoryDisk.{Contents, empty, written, made_by, told}
+use Rattle.simplex_journal.specs.declared.memory_disk.Held.{Held}
 use Rattle.simplex_journal.specs.declared.memory_disk.Made.{Made}
-
--- one more call was kept
-pub told-push : (ms : List Made) (m : Made) → told (ms ++ m ∷ []) ≡ call_of m ∷ told ms
-told-push [] m = refl
-told-push (n ∷ ms) m = ap (λ (l : List Call). l ++ call_of n ∷ []) (told-push ms m)
 
 -- what was synced is left
 pub left_synced : (calls : List Call) (bytes : List ℕ) → MayLeave (Synced bytes ∷ calls) bytes
@@ -63,3 +60,59 @@ left_cut calls seen new n left le is =
     taken (suc n) [] i lt = refl
     taken (suc n) (x ∷ xs) zero lt = refl
     taken (suc n) (x ∷ xs) (suc i) lt = taken n xs i (omega (arith, lt))
+
+-- what is told of a disk is what it holds, and a crash may leave it
+pub record IsHeld (was : Contents) (bytes : List ℕ) : Type 0 where
+  pub is_told : was.bytes ≡ bytes
+  pub is_left : MayLeave was.calls bytes
+
+-- so it is of every disk
+pub is_held : (held : Held) → IsHeld (told held.calls.items) held.bytes.items
+is_held held = record { is_told = held.is_told; is_left = held.is_left }
+
+-- a write is told
+pub held_written : (was : Contents) (old kept bytes new : List ℕ) (at : ℕ) → IsHeld was old → at ≤ length old → kept ≡ bytes → IsOverwritten old at bytes new → IsHeld (written was at kept) new
+held_written was old kept bytes new at held le is holds =
+    let over : IsOverwritten old at kept new = subst (λ (l : List ℕ). IsOverwritten old at l new) (sym is) holds in
+    record {
+      is_told = ap (λ (l : List ℕ). take at l ++ kept ++ drop (at + length kept) l) held.is_told ∙ sym over;
+      is_left = left_written was.calls old kept new at (length kept) held.is_left le refl over;
+    }
+
+-- a cut is told
+pub held_cut : (was : Contents) (old new : List ℕ) (n : ℕ) → IsHeld was old → n ≤ length old → new ≡ take n old → IsHeld (record { bytes = take n was.bytes; calls = CutTo n ∷ was.calls }) new
+held_cut was old new n held le is = record {
+  is_told = ap (take n) held.is_told ∙ sym is;
+  is_left = left_cut was.calls old new n held.is_left le is;
+}
+
+-- a sync is told
+pub held_synced : (was : Contents) (bytes : List ℕ) → IsHeld was bytes → IsHeld (record { bytes = was.bytes; calls = Synced was.bytes ∷ was.calls }) bytes
+held_synced was bytes held = record {
+  is_told = held.is_told;
+  is_left = subst (λ (l : List ℕ). MayLeave (Synced l ∷ was.calls) bytes) (sym held.is_told) (left_synced was.calls bytes);
+}
+
+-- what a disk began with is told
+pub held_begun : (first bytes : List ℕ) → first ≡ bytes → IsHeld (record { bytes = first; calls = Synced first ∷ [] }) bytes
+held_begun first bytes is = record {
+  is_told = is;
+  is_left = subst (λ (l : List ℕ). MayLeave (Synced l ∷ []) bytes) (sym is) (left_synced [] bytes);
+}
+
+-- one more call was kept
+told-push : (kept more : List Made) (m : Made) → more ≡ kept ++ m ∷ [] → told more ≡ made_by (told kept) m
+told-push kept more m is = ap told is ∙ fold-append made_by empty kept (m ∷ [])
+
+-- what is held after one more call
+pub held-push : (kept more : List Made) (m : Made) (bytes : List ℕ) → more ≡ kept ++ m ∷ [] → IsHeld (made_by (told kept) m) bytes → IsHeld (told more) bytes
+held-push kept more m bytes is held = subst (λ (t : Contents). IsHeld t bytes) (sym (told-push kept more m is)) held
+
+-- the calls after one more
+pub calls-push : (kept more : List Made) (m : Made) → more ≡ kept ++ m ∷ [] → (told more).calls ≡ (made_by (told kept) m).calls
+calls-push kept more m is = ap (λ (t : Contents). t.calls) (told-push kept more m is)
+
+-- what is held whether or not one more call was kept
+pub held_either : (ok : Bool) (kept more : List Made) (m : Made) (bytes : List ℕ) → more ≡ cond ok (kept ++ m ∷ []) kept → IsHeld (made_by (told kept) m) bytes → IsHeld (told kept) bytes → IsHeld (told more) bytes
+held_either true kept more m bytes is after before = held-push kept more m bytes is after
+held_either false kept more m bytes is after before = subst (λ (l : List Made). IsHeld (told l) bytes) (sym is) before
