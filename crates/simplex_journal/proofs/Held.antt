@@ -1,8 +1,8 @@
--- What a disk in memory holds is one of what a crash may leave.
+-- What a disk in memory holds is what its calls tell, and one of what a crash may leave.
 use Rattle.std.proofs.Common.{Bool, true, false, cond, ◌≡◌, ◌⊎◌, inl, inr, ⊎_elim, ◌-◌, ℕ, zero, suc, ◌+◌, ◌<◌, ◌≤◌, min, List, [], ◌∷◌, ◌++◌, length, get_or, take, drop, refl, sym, ◌∙◌, ap, subst, arith, append_assoc, length-append, length-take, length-drop}
 use Rattle.std.proofs.lemmas.List.{get_or_past}
-use Rattle.simplex_journal.specs.Disk.{Call, Wrote, CutTo, Synced, MayLeave, IsOverwritten}
 use Rattle.std.proofs.lemmas.List.Sums.{fold-append}
+use Rattle.simplex_journal.specs.Disk.{Call, Wrote, CutTo, Synced, MayLeave, IsOverwritten}
 use Rattle.simplex_journal.specs.MemoryDisk.{Contents, empty, written, made_by, told}
 use Rattle.simplex_journal.specs.declared.memory_disk.Held.{Held}
 use Rattle.simplex_journal.specs.declared.memory_disk.Made.{Made}

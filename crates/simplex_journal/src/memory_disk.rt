@@ -39,6 +39,7 @@ impl Held {
         ensures same_bytes { OnErr result (self.new.bytes.items ≡ self.old.bytes.items) }
         ensures same_calls { OnErr result ((told self.new.calls.items).calls ≡ (told self.old.calls.items).calls) }
     {
+        // Whatever memory may refuse comes before the first byte that is written.
         let kept = Vec::from_slice(alloc, bytes)?;
         self.calls.reserve(1)?;
         overwrite(&mut self.bytes, at as usize, bytes)?;
@@ -274,6 +275,7 @@ impl Disk for MemoryDisk {
     fn read(&mut self, at: u64, buffer: &mut [u8]) -> Result<(), DiskFault>
         requires { at + length buffer.old ≤ length self.old.bytes }
         ensures bytes { OnOk result (buffer.new ≡ take (length buffer.old) (drop at self.old.bytes)) }
+        ensures unread { OnErr result (buffer.new ≡ buffer.old) }
         ensures seen { self.new.bytes ≡ self.old.bytes }
         ensures calls { self.new.calls ≡ self.old.calls }
         ensures cause { self.new.failures ≡ counted (is_ok result) self.old.failures }
