@@ -30,6 +30,10 @@ made_by was made.Synced = record { bytes = was.bytes; calls = calls.Synced was.b
 abbrev pub told : List Made → Contents
 told kept = fold made_by empty kept
 
+-- what was asked of the disk, as they tell it
+abbrev pub calls_told : List Made → List Call
+calls_told kept = (told kept).calls
+
 -- the call behind so many others is to fail
 abbrev pub Fails : Plan → ℕ → Type 0
 Fails plan others = IsSomeAnd plan.fuse (λ let_through. let_through ≤ others) ⊎ (plan.fail_at ≡ Some others)

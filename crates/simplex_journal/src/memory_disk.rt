@@ -2,7 +2,7 @@
 
 ghost use Rattle.std.specs.Prelude.{ℕ, ◌≡◌, ◌≤◌, ◌↔◌, ◌∷◌, [], length, take, drop, ◌+◌, IfOk, OnOk, OnErr, IsErr, None, Some, is_ok, false};
 ghost use Rattle.simplex_journal.specs.Disk.{MayLeave, Wrote, CutTo, Synced, IsOverwritten, counted};
-ghost use Rattle.simplex_journal.specs.MemoryDisk.{told, Fails, one_call_on};
+ghost use Rattle.simplex_journal.specs.MemoryDisk.{told, calls_told, Fails, one_call_on};
 
 use crate::disk::{Disk, DiskFault};
 use std::alloc::{AllocError, Global};
@@ -27,7 +27,7 @@ struct Held {
     bytes: Vec<u8>,
     calls: Vec<Made>,
     ghost is_told: { (told calls.items).bytes ≡ bytes.items },
-    ghost is_left: { MayLeave (told calls.items).calls bytes.items },
+    ghost is_left: { MayLeave (calls_told calls.items) bytes.items },
 }
 
 impl Held {
@@ -35,9 +35,10 @@ impl Held {
     fn write(&mut self, alloc: Global, at: u64, bytes: &[u8]) -> Result<(), AllocError>
         requires { at ≤ length self.old.bytes.items }
         ensures bytes { OnOk result (IsOverwritten self.old.bytes.items at bytes.now self.new.bytes.items) }
-        ensures calls { OnOk result ((told self.new.calls.items).calls ≡ Wrote at (length bytes.now) ∷ (told self.old.calls.items).calls) }
+        ensures calls { OnOk result
+            (calls_told self.new.calls.items ≡ Wrote at (length bytes.now) ∷ calls_told self.old.calls.items) }
         ensures same_bytes { OnErr result (self.new.bytes.items ≡ self.old.bytes.items) }
-        ensures same_calls { OnErr result ((told self.new.calls.items).calls ≡ (told self.old.calls.items).calls) }
+        ensures same_calls { OnErr result (calls_told self.new.calls.items ≡ calls_told self.old.calls.items) }
     {
         // Whatever memory may refuse comes before the first byte that is written.
         let kept = Vec::from_slice(alloc, bytes)?;
@@ -51,9 +52,10 @@ impl Held {
     fn cut(&mut self, len: u64) -> Result<(), AllocError>
         requires { len ≤ length self.old.bytes.items }
         ensures bytes { OnOk result (self.new.bytes.items ≡ take len self.old.bytes.items) }
-        ensures calls { OnOk result ((told self.new.calls.items).calls ≡ CutTo len ∷ (told self.old.calls.items).calls) }
+        ensures calls { OnOk result
+            (calls_told self.new.calls.items ≡ CutTo len ∷ calls_told self.old.calls.items) }
         ensures same_bytes { OnErr result (self.new.bytes.items ≡ self.old.bytes.items) }
-        ensures same_calls { OnErr result ((told self.new.calls.items).calls ≡ (told self.old.calls.items).calls) }
+        ensures same_calls { OnErr result (calls_told self.new.calls.items ≡ calls_told self.old.calls.items) }
     {
         self.calls.push(Made::CutTo(len))?;
         self.bytes.truncate(len as usize);
@@ -63,8 +65,9 @@ impl Held {
     /// Fixes what a read gives, or changes nothing.
     fn sync(&mut self) -> Result<(), AllocError>
         ensures bytes { self.new.bytes.items ≡ self.old.bytes.items }
-        ensures calls { OnOk result ((told self.new.calls.items).calls ≡ Synced self.old.bytes.items ∷ (told self.old.calls.items).calls) }
-        ensures same_calls { OnErr result ((told self.new.calls.items).calls ≡ (told self.old.calls.items).calls) }
+        ensures calls { OnOk result
+            (calls_told self.new.calls.items ≡ Synced self.old.bytes.items ∷ calls_told self.old.calls.items) }
+        ensures same_calls { OnErr result (calls_told self.new.calls.items ≡ calls_told self.old.calls.items) }
     {
         self.calls.push(Made::Synced)?;
         Ok(())
@@ -174,11 +177,17 @@ pub struct MemoryDisk {
 }
 
 impl Model for MemoryDisk {
-    ghost use Rattle.simplex_journal.specs.MemoryDisk.{DiskState, told};
+    ghost use Rattle.simplex_journal.specs.MemoryDisk.{DiskState, calls_told};
 
     ghost Value = { DiskState };
 
-    ghost view = { λ disk. record { bytes = disk.held.bytes.items; calls = (told disk.held.calls.items).calls; failures = disk.faults.failures; plan = disk.faults.plan; is_left = disk.held.is_left } };
+    ghost view = { λ disk. record {
+      bytes = disk.held.bytes.items;
+      calls = calls_told disk.held.calls.items;
+      failures = disk.faults.failures;
+      plan = disk.faults.plan;
+      is_left = disk.held.is_left;
+    } };
 }
 
 impl MemoryDisk {
