@@ -8,3 +8,4 @@ pub mod Total
 pub mod Reopened
 pub mod Held
 pub mod Messages
+pub mod Histories

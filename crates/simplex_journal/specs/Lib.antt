@@ -2,3 +2,4 @@ pub mod Disk
 pub mod MemoryDisk
 pub mod Record
 pub mod Journal
+pub mod History

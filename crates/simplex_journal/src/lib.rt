@@ -5,6 +5,7 @@ mod disk;
 mod entries;
 mod fault;
 mod file_disk;
+mod history;
 mod journal;
 mod memory_disk;
 mod opening;

@@ -1,0 +1,261 @@
+-- Where histories lead.
+use Rattle.std.proofs.Common.{◌≡◌, ◌≢◌, ◌⊎◌, inl, inr, ⊎_elim, ℕ, Bool, true, false, List, [], ◌∷◌, ◌++◌, map, refl, sym, ◌∙◌, ap, subst, append_assoc, arith, take_at, length}
+use Rattle.std.specs.Prelude.{All, Contains, Option, None, Some, MatchOption, Result, unwrap_or}
+use Rattle.std.proofs.lemmas.List.{append-nil, map-append}
+use Rattle.std.proofs.lemmas.List.Elements.{All-nil, All-cons, All-head, All-tail, All-push, All-append, All-same, All-take, All-contains, All-weaker, Contains-append_left, Contains-push}
+use Rattle.std.specs.declared.alloc.Global.{Global}
+use Rattle.std.specs.declared.vec.Vec.{Vec}
+use Rattle.simplex_types.specs.declared.codec.CodecError.{CodecError}
+use Rattle.simplex_types.specs.Codec.{IsCodec, spelling-one}
+use Rattle.simplex_journal.specs.declared.fault.JournalFault.{JournalFault}
+use Rattle.simplex_journal.specs.declared.fault.JournalFault.TheVariants.{Device, Memory, Foreign, TooLong, Failed}
+use Rattle.simplex_journal.specs.declared.history.Event.{Event}
+use Rattle.simplex_journal.specs.declared.history.Event.TheVariants.{Opened, OpenFailed, Appended, AppendFailed, NotOpen, Crashed}
+use Rattle.simplex_journal.specs.declared.history.Stage.{Stage}
+use Rattle.simplex_journal.specs.declared.history.Stage.TheVariants as stage
+use Rattle.simplex_journal.specs.Disk.{Call, MayLeave, LeavesOnly}
+use Rattle.simplex_journal.specs.Journal.{Standing, IsRecord}
+use Rattle.simplex_journal.specs.Record.{Reads, IsWithOrWithout, IsAtRest, IsReopened}
+use Rattle.simplex_journal.specs.History.{Begun, message_of, last_found, begun, IsFollowed, MayFind, MayRead, AtEachEvent, Finds, Passes, Recalls, Remembers, IsAnswer, is_open, has_failed, all_begun, disk_of, Stands}
+use Rattle.simplex_journal.proofs.Moments.{started, weaker, at_last}
+use Rattle.simplex_journal.proofs.Images.{end_short, only_synced, reads_front}
+use Rattle.simplex_journal.proofs.Total.{unique}
+
+-- ---- lists
+
+-- messages of the same spellings are the same
+pub spellings-one : {M : Type 0} {Fits : M → Type 0} {spelling : M → List ℕ} {reading : List ℕ → Result (M × List ℕ) CodecError} → IsCodec Fits spelling reading
+    → (xs ys : List M) → All Fits xs → All Fits ys → map spelling xs ≡ map spelling ys → xs ≡ ys
+spellings-one codec [] [] fits_xs fits_ys same = refl
+spellings-one codec [] (y ∷ ys) fits_xs fits_ys same = absurd cc
+spellings-one codec (x ∷ xs) [] fits_xs fits_ys same = absurd cc
+spellings-one {M} {Fits} {spelling} codec (x ∷ xs) (y ∷ ys) fits_xs fits_ys same =
+    let heads : spelling x ≡ spelling y = cc in
+    let tails : map spelling xs ≡ map spelling ys = cc in
+    let head : x ≡ y = spelling-one codec x y (All-head Fits x xs fits_xs) (All-head Fits y ys fits_ys) heads in
+    let tail : xs ≡ ys = spellings-one codec xs ys (All-tail Fits x xs fits_xs) (All-tail Fits y ys fits_ys) tails in
+    cc
+
+-- what holds of all holds of all in front
+pub all_in_front : {X : Type 0} (P : X → Type 0) (xs ys : List X) → All P (xs ++ ys) → All P xs
+all_in_front P xs ys all = subst (All P) (take_at xs ys (length xs) refl) (All-take P (length xs) (xs ++ ys) all)
+
+-- where a list with one more at its end is cut in two, that one is in the second part or there is no second part
+record IsCut {X : Type 0} (xs kept lost : List X) (x : X) : Type 0 where
+  pub shorter : List X
+  pub lost_is : lost ≡ shorter ++ x ∷ []
+  pub split : xs ≡ kept ++ shorter
+
+last_cut : {X : Type 0} (xs kept lost : List X) (x : X) → xs ++ x ∷ [] ≡ kept ++ lost → (kept ≡ xs ++ x ∷ []) ⊎ IsCut xs kept lost x
+last_cut xs [] lost x is = inr (record { shorter = xs; lost_is = sym is; split = refl })
+last_cut [] (k ∷ []) lost x is = inl (let head : x ≡ k = cc in cc)
+last_cut [] (k ∷ j ∷ kept) lost x is = absurd cc
+last_cut (y ∷ xs) (k ∷ kept) lost x is =
+    let head : y ≡ k = cc in
+    let tail : xs ++ x ∷ [] ≡ kept ++ lost = cc in
+    elim (last_cut xs kept lost x tail) [
+      | inl whole ↦ inl cc
+      | inr cut ↦ inr (record { shorter = cut.shorter; lost_is = cut.lost_is; split = let more = cut.split in cc })
+    ]
+
+-- ---- what may be found
+
+module _ {M : Type 0} where
+  -- an open journal was opened
+  pub opened_found : (history : List (Event M)) → is_open history ≡ true → (found : List M) × (last_found history ≡ Some found)
+  opened_found [] is = absurd cc
+  opened_found (Opened messages ∷ history) is = (messages.items, refl)
+  opened_found (OpenFailed fault ∷ history) is = absurd cc
+  opened_found (Appended message ∷ history) is = opened_found history is
+  opened_found (AppendFailed message fault ∷ history) is = opened_found history is
+  opened_found (NotOpen message ∷ history) is = opened_found history is
+  opened_found (Crashed ∷ history) is = absurd cc
+
+  -- one append more
+  pub message_of-push : (front : List M) (appends : List (Begun M)) (append : Begun M) → front ++ map message_of (appends ++ append ∷ []) ≡ (front ++ map message_of appends) ++ append.message ∷ []
+  message_of-push front appends append = ap (λ (l : List M). front ++ l) (map-append message_of appends (append ∷ [])) ∙ sym (append_assoc front (map message_of appends) (append.message ∷ []))
+
+  begun_is : (history : List (Event M)) (found : List M) → last_found history ≡ Some found → all_begun history ≡ found ++ map message_of (begun history)
+  begun_is history found last = ap (λ (l : Option (List M)). unwrap_or l [] ++ map message_of (begun history)) last
+
+  -- an append may be found
+  pub followed_with : (history : List (Event M)) (append : Begun M) (found : List M) → last_found history ≡ Some found → IsFollowed found (begun history ++ append ∷ []) (all_begun history ++ append.message ∷ [])
+  followed_with history append found last = record {
+    kept = begun history ++ append ∷ [];
+    lost = [];
+    split = sym (append-nil (begun history ++ append ∷ []));
+    none_acknowledged = All-nil _;
+    is = ap (λ (l : List M). l ++ append.message ∷ []) (begun_is history found last) ∙ sym (message_of-push found (begun history) append);
+  }
+
+  -- one that was not acknowledged may be lost
+  pub followed_without : (history : List (Event M)) (append : Begun M) → append.acknowledged ≡ false → (found : List M) → last_found history ≡ Some found → IsFollowed found (begun history ++ append ∷ []) (all_begun history)
+  followed_without history append unacknowledged found last = record {
+    kept = begun history;
+    lost = append ∷ [];
+    split = refl;
+    none_acknowledged = All-cons (λ (append : Begun M). append.acknowledged ≡ false) append [] unacknowledged (All-nil _);
+    is = begun_is history found last;
+  }
+
+module _ {M : Type 0} (spelling : M → List ℕ) (given : List Call) where
+  -- the same as MayRead, by what was found last
+  abbrev MayReadAs : Option (List M) → List (Begun M) → List ℕ → Type 0
+  MayReadAs last appends image = MatchOption last (IsReopened given image) (λ found. (messages : List M) × IsFollowed found appends messages × Reads image (map spelling messages))
+
+  reopened_as : (last : Option (List M)) (appends : List (Begun M)) (calls : List Call) → ((image : List ℕ) → MayLeave calls image → MayReadAs last appends image)
+      → (image : List ℕ) → IsReopened calls image → MayReadAs last appends image
+  reopened_as None appends calls left image again =
+      let first = left again.before again.left in
+      record {
+        before = first.before;
+        bodies = again.bodies;
+        left = first.left;
+        reads_before = subst (Reads first.before) (unique first.bodies again.bodies again.before first.reads again.reads_before) first.reads_before;
+        reads = again.reads;
+      }
+  reopened_as (Some found) appends calls left image again =
+      let first = left again.before again.left in
+      (first.0, first.1, subst (Reads image) (unique again.bodies (map spelling first.0) again.before again.reads_before first.2) again.reads)
+
+  -- what reads as a crash might have left it reads as the next opening may find
+  pub reopened : (history : List (Event M)) (calls : List Call) → ((image : List ℕ) → MayLeave calls image → MayRead spelling given history image)
+      → (image : List ℕ) → IsReopened calls image → MayRead spelling given history image
+  reopened history calls = reopened_as (last_found history) (begun history) calls
+
+  -- where a journal is open, an image that reads as this may be left
+  pub reads_followed : (history : List (Event M)) (appends : List (Begun M)) (messages : List M) → is_open history ≡ true → ((found : List M) → last_found history ≡ Some found → IsFollowed found appends messages)
+      → (image : List ℕ) → Reads image (map spelling messages) → MayReadAs (last_found history) appends image
+  reads_followed history appends messages is_opened followed image reads =
+      let last = opened_found history is_opened in
+      subst (λ (l : Option (List M)). MayReadAs l appends image) (sym last.1) (messages, followed last.0 last.1, reads)
+
+  -- the record with one append more
+  pub reads_with : (history : List (Event M)) (append : Begun M) → is_open history ≡ true → (image : List ℕ) → Reads image (map spelling (all_begun history ++ append.message ∷ []))
+      → MayReadAs (last_found history) (begun history ++ append ∷ []) image
+  reads_with history append is_opened = reads_followed history (begun history ++ append ∷ []) (all_begun history ++ append.message ∷ []) is_opened (followed_with history append)
+
+  -- the record with or without an append that a crash cut off
+  pub reads_either : (history : List (Event M)) (message : M) → is_open history ≡ true → (image : List ℕ) → IsWithOrWithout (map spelling (all_begun history)) (spelling message) image
+      → MayRead spelling given (AppendFailed message Device ∷ history) image
+  reads_either history message is_opened image either =
+      let append : Begun M = record { message = message; acknowledged = false } in
+      ⊎_elim
+      (λ without. reads_followed history (begun history ++ append ∷ []) (all_begun history) is_opened (followed_without history append refl) image without)
+      (λ with_it. reads_with history append is_opened image (subst (Reads image) (sym (map-append spelling (all_begun history) (message ∷ []))) with_it)) either
+
+  -- what an opening reads of such an image it may find
+  found_as : {Fits : M → Type 0} {reading : List ℕ → Result (M × List ℕ) CodecError} → IsCodec Fits spelling reading → (last : Option (List M)) (appends : List (Begun M)) → All Fits (unwrap_or last [] ++ map message_of appends)
+      → (before : List ℕ) → MayReadAs last appends before → (messages : List M) → All Fits messages → Reads before (map spelling messages)
+      → MatchOption last ((before : List ℕ) × MayLeave given before × Reads before (map spelling messages)) (λ found. IsFollowed found appends messages)
+  found_as codec None appends fitting before may messages fit reads =
+      (may.before, may.left, subst (Reads may.before) (unique may.bodies (map spelling messages) before may.reads reads) may.reads_before)
+  found_as {Fits} codec (Some found) appends fitting before may messages fit reads =
+      let followed = may.1 in
+      let all_there : found ++ map message_of appends ≡ may.0 ++ map message_of followed.lost =
+      ap (λ (l : List (Begun M)). found ++ map message_of l) followed.split ∙ ap (λ (l : List M). found ++ l) (map-append message_of followed.kept followed.lost)
+      ∙ sym (append_assoc found (map message_of followed.kept) (map message_of followed.lost)) ∙ ap (λ (l : List M). l ++ map message_of followed.lost) (sym followed.is) in
+      let fit_there : All Fits may.0 = all_in_front Fits may.0 (map message_of followed.lost) (subst (All Fits) all_there fitting) in
+      let same : may.0 ≡ messages = spellings-one codec may.0 messages fit_there fit (unique (map spelling may.0) (map spelling messages) before may.2 reads) in
+      subst (λ (l : List M). IsFollowed found appends l) same followed
+
+  pub found : {Fits : M → Type 0} {reading : List ℕ → Result (M × List ℕ) CodecError} → IsCodec Fits spelling reading → (history : List (Event M)) → All Fits (all_begun history)
+      → (before : List ℕ) → MayRead spelling given history before → (messages : List M) → All Fits messages → Reads before (map spelling messages) → MayFind spelling given history messages
+  found codec history = found_as codec (last_found history) (begun history)
+
+-- ---- where a disk stands
+
+module _ {M K : Type 0} (Fits : M → Type 0) (spelling : M → List ℕ) (seen : K → List ℕ) (calls : K → List Call) (given : List Call) where
+  abbrev At : Stage M K → List (Event M) → Type 0
+  At now history = Stands Fits spelling seen calls given now history
+
+  abbrev RecordIs : Standing K → List M → Type 0
+  RecordIs journal messages = IsRecord spelling seen calls journal messages
+
+  -- a crash leaves nothing but the record
+  pub record_reads : (journal : Standing K) (messages : List M) → RecordIs journal messages → (image : List ℕ) → MayLeave (calls journal.disk) image → Reads image (map spelling messages)
+  record_reads journal messages is image left =
+      let rest = is.1 in
+      let whole : image ≡ rest.front ++ 0 ∷ [] = only_synced (rest.front ++ 0 ∷ []) rest.earlier image (subst (λ (l : List Call). MayLeave l image) rest.calls_is left) in
+      subst (λ (l : List ℕ). Reads l (map spelling messages)) (sym whole) (reads_front rest.front (0 ∷ []) (map spelling messages) rest.entries (end_short (0 ∷ []) (omega arith)) (omega arith))
+
+  -- an opening that answers Ok
+  pub opened_stands : {reading : List ℕ → Result (M × List ℕ) CodecError} → IsCodec Fits spelling reading → (old : Stage M K) (history : List (Event M)) (disk : K) (new : Standing K) (messages : Vec M Global)
+      → disk ≡ disk_of old → All Fits messages.items → RecordIs new messages.items → (before : List ℕ) × MayLeave (calls disk) before × Reads before (map spelling messages.items)
+      → LeavesOnly (calls disk) (calls new.disk) (IsReopened (calls disk)) → At old history → At (stage.Open new) (Opened messages ∷ history)
+  opened_stands codec old history disk new messages disk_is fit is read moments at =
+      let left : (image : List ℕ) → MayLeave (calls disk) image → MayRead spelling given history image = subst (λ (d : K). (image : List ℕ) → MayLeave (calls d) image → MayRead spelling given history image) (sym disk_is) at.left in
+      record {
+        finds = (found spelling given codec history at.fitting read.0 (left read.0 read.1) messages.items fit read.2, at.finds);
+        passes = (calls disk, subst (λ (d : K). Passes spelling given history (calls d)) (sym disk_is) at.passes, weaker _ moments (reopened spelling given history (calls disk) left));
+        left = λ image may. (
+          messages.items,
+          record { kept = []; lost = []; split = refl; none_acknowledged = All-nil _; is = sym (append-nil messages.items) },
+          record_reads new messages.items is image may,
+        );
+        fitting = subst (All Fits) (sym (append-nil messages.items)) fit;
+        stage = (refl, is.0);
+        has_record = λ fresh. subst (RecordIs new) (sym (append-nil messages.items)) is;
+      }
+
+  -- an opening that fails
+  pub open_failed_stands : (old : Stage M K) (history : List (Event M)) (disk new : K) (fault : JournalFault) → disk ≡ disk_of old
+      → LeavesOnly (calls disk) (calls new) (IsReopened (calls disk)) → At old history → At (stage.Closed new) (OpenFailed fault ∷ history)
+  open_failed_stands old history disk new fault disk_is moments at =
+      let left : (image : List ℕ) → MayLeave (calls disk) image → MayRead spelling given history image = subst (λ (d : K). (image : List ℕ) → MayLeave (calls d) image → MayRead spelling given history image) (sym disk_is) at.left in
+      let only = weaker (MayRead spelling given history) moments (reopened spelling given history (calls disk) left) in
+      record {
+        finds = (tt, at.finds);
+        passes = (calls disk, subst (λ (d : K). Passes spelling given history (calls d)) (sym disk_is) at.passes, only);
+        left = at_last only;
+        fitting = at.fitting;
+        stage = refl;
+        has_record = tt;
+      }
+
+  -- an append that answers Ok
+  pub appended_stands : (old new : Standing K) (message : M) (history : List (Event M)) → Fits message → old.failed ≡ false → new.failed ≡ false
+      → ((messages : List M) → RecordIs old messages → RecordIs new (messages ++ message ∷ []))
+      → ((messages : List M) → RecordIs old messages → LeavesOnly (calls old.disk) (calls new.disk) (IsWithOrWithout (map spelling messages) (spelling message)))
+      → At (stage.Open old) history → At (stage.Open new) (Appended message ∷ history)
+  appended_stands old new message history fit fresh stays grows moments at =
+      let append : Begun M = record { message = message; acknowledged = true } in
+      let before : RecordIs old (all_begun history) = at.has_record fresh in
+      let after : RecordIs new (all_begun history ++ message ∷ []) = grows (all_begun history) before in
+      let more : all_begun history ++ message ∷ [] ≡ all_begun (Appended message ∷ history) = sym (message_of-push (unwrap_or (last_found history) []) (begun history) append) in
+      record {
+        finds = (tt, at.finds);
+        passes = (calls old.disk, at.passes, weaker _ (moments (all_begun history) before) (reads_either spelling given history message at.stage.0));
+        left = λ image may. reads_with spelling given history append at.stage.0 image (record_reads new (all_begun history ++ message ∷ []) after image may);
+        fitting = subst (All Fits) more (All-push Fits (all_begun history) message at.fitting fit);
+        stage = (at.stage.0, stays ∙ sym fresh ∙ at.stage.1);
+        has_record = λ _. subst (RecordIs new) more after;
+      }
+
+  -- one that fails for the disk
+  pub cut_stands : (old new : Standing K) (message : M) (history : List (Event M)) → Fits message → old.failed ≡ false → new.failed ≡ true
+      → ((messages : List M) → RecordIs old messages → LeavesOnly (calls old.disk) (calls new.disk) (IsWithOrWithout (map spelling messages) (spelling message)))
+      → At (stage.Open old) history → At (stage.Open new) (AppendFailed message Device ∷ history)
+  cut_stands old new message history fit fresh fails moments at =
+      let append : Begun M = record { message = message; acknowledged = false } in
+      let only = weaker (MayRead spelling given (AppendFailed message Device ∷ history)) (moments (all_begun history) (at.has_record fresh)) (reads_either spelling given history message at.stage.0) in
+      record {
+        finds = (tt, at.finds);
+        passes = (calls old.disk, at.passes, only);
+        left = at_last only;
+        fitting = subst (All Fits) (sym (message_of-push (unwrap_or (last_found history) []) (begun history) append)) (All-push Fits (all_begun history) message at.fitting fit);
+        stage = (at.stage.0, fails);
+        has_record = λ never. absurd (let both : true ≡ false = sym fails ∙ never in cc);
+      }
+
+  -- one that is refused
+  pub refused_stands : (fault : JournalFault) (old : Standing K) (message : M) (history : List (Event M)) → fault ≢ Device → At (stage.Open old) history → At (stage.Open old) (AppendFailed message fault ∷ history)
+  refused_stands Device old message history refused at = absurd (refused refl)
+  refused_stands fault old message history refused at = record {
+    finds = (tt, at.finds);
+    passes = (calls old.disk, at.passes, started (calls old.disk) _ at.left);
+    left = at.left;
+    fitting = at.fitting;
+    stage = at.stage;
+    has_record = at.has_record;
+  }

@@ -1,0 +1,175 @@
+-- What openings find over a whole history of a disk. Histories have the newest event first.
+use Rattle.std.specs.Prelude.{◌≡◌, ℕ, Bool, true, false, List, [], ◌∷◌, ◌++◌, map, All, Contains, Option, None, Some, MatchOption, IsSome, unwrap_or, ⊤}
+use Rattle.simplex_journal.specs.declared.fault.JournalFault.TheVariants.{Device, Memory, Foreign, TooLong, Failed}
+use Rattle.simplex_journal.specs.declared.history.Event.{Event}
+use Rattle.simplex_journal.specs.declared.history.Event.TheVariants.{Opened, OpenFailed, Appended, AppendFailed, NotOpen, Crashed}
+use Rattle.simplex_journal.specs.declared.history.Request.{Request}
+use Rattle.simplex_journal.specs.declared.history.Request.TheVariants.{Open, Append, Crash}
+use Rattle.simplex_journal.specs.declared.history.Stage.{Stage}
+use Rattle.simplex_journal.specs.declared.history.Stage.TheVariants as stage
+use Rattle.simplex_journal.specs.Disk.{Call, MayLeave, LeavesOnly}
+use Rattle.simplex_journal.specs.Journal.{IsRecord}
+use Rattle.simplex_journal.specs.Record.{Reads, IsReopened}
+
+-- an append that was begun and not refused, and whether it answered Ok
+pub record Begun (M : Type 0) : Type 0 where
+  pub message : M
+  pub acknowledged : Bool
+
+-- the message of an append
+abbrev pub message_of : {M : Type 0} → Begun M → M
+message_of append = append.message
+
+-- what is asked to be appended has P
+abbrev pub OfMessage : {M : Type 0} → (M → Type 0) → Request M → Type 0
+OfMessage P (Append message) = P message
+OfMessage P request = ⊤
+
+module _ {M : Type 0} where
+  -- what was asked where this came of it
+  abbrev pub request_of : Event M → Request M
+  request_of (Opened messages) = Open
+  request_of (OpenFailed fault) = Open
+  request_of (Appended message) = Append message
+  request_of (AppendFailed message fault) = Append message
+  request_of (NotOpen message) = Append message
+  request_of Crashed = Crash
+
+  -- what the last opening that answered Ok found
+  abbrev pub last_found : List (Event M) → Option (List M)
+  last_found [] = None
+  last_found (Opened messages ∷ history) = Some messages.items
+  last_found (event ∷ history) = last_found history
+
+  -- the appends that were begun since then and not refused, the oldest first
+  abbrev pub begun : List (Event M) → List (Begun M)
+  begun [] = []
+  begun (Opened messages ∷ history) = []
+  begun (Appended message ∷ history) = begun history ++ record { message = message; acknowledged = true } ∷ []
+  begun (AppendFailed message Device ∷ history) = begun history ++ record { message = message; acknowledged = false } ∷ []
+  begun (event ∷ history) = begun history
+
+  -- these messages are what was found, followed by a prefix of the appends that were begun, with all that answered Ok
+  pub record IsFollowed (found : List M) (appends : List (Begun M)) (messages : List M) : Type 0 where
+    pub kept : List (Begun M)
+    pub lost : List (Begun M)
+    pub split : appends ≡ kept ++ lost
+    pub none_acknowledged : All (λ (append : Begun M). append.acknowledged ≡ false) lost
+    pub is : messages ≡ found ++ map message_of kept
+
+  -- The next opening may find these messages. The first finds what some content reads as that a crash might have left
+  -- of the disk as it was given.
+  abbrev pub MayFind : (M → List ℕ) → List Call → List (Event M) → List M → Type 0
+  MayFind spelling given history messages = MatchOption (last_found history)
+      ((before : List ℕ) × MayLeave given before × Reads before (map spelling messages))
+      (λ found. IsFollowed found (begun history) messages)
+
+  -- this image reads as what the next opening may find
+  abbrev pub MayRead : (M → List ℕ) → List Call → List (Event M) → List ℕ → Type 0
+  MayRead spelling given history image = MatchOption (last_found history)
+      (IsReopened given image)
+      (λ found. (messages : List M) × IsFollowed found (begun history) messages × Reads image (map spelling messages))
+
+  -- P of each event and the history before it
+  abbrev pub AtEachEvent : (List (Event M) → Event M → Type 0) → List (Event M) → Type 0
+  AtEachEvent P [] = ⊤
+  AtEachEvent P (event ∷ history) = P history event × AtEachEvent P history
+
+  -- an opening finds what it may
+  abbrev pub Finds : (M → List ℕ) → List Call → List (Event M) → Event M → Type 0
+  Finds spelling given history (Opened messages) = MayFind spelling given history messages.items
+  Finds spelling given history event = ⊤
+
+  -- these messages have what an earlier event found or acknowledged
+  abbrev pub Recalls : List M → Event M → Type 0
+  Recalls messages (Opened found) = (more : List M) × (messages ≡ found.items ++ more)
+  Recalls messages (Appended message) = Contains messages message
+  Recalls messages event = ⊤
+
+  -- an opening finds all that earlier ones found, and all that was acknowledged before it
+  abbrev pub Remembers : List (Event M) → Event M → Type 0
+  Remembers history (Opened messages) = All (Recalls messages.items) history
+  Remembers history event = ⊤
+
+  -- What came of a call that a crash cut off: as if it had failed for the disk, since what such a call may have done is
+  -- among what a call may have done that fails.
+  abbrev pub cut_off : Event M → Event M
+  cut_off (Opened messages) = OpenFailed Device
+  cut_off (Appended message) = AppendFailed message Device
+  cut_off event = event
+
+  -- What an event leaves of a disk, by the calls asked of it before and after: a crash at any moment leaves what reads as
+  -- the next opening may find, and after a crash nothing is left that it might not have left.
+  abbrev pub Leaves : (M → List ℕ) → List Call → List (Event M) → Event M → List Call → List Call → Type 0
+  Leaves spelling given history Crashed before after = (image : List ℕ) → MayLeave after image → MayLeave before image
+  Leaves spelling given history event before after = LeavesOnly before after (MayRead spelling given (cut_off event ∷ history))
+
+  -- the calls asked of a disk from event to event, from those asked before the history to those asked now
+  abbrev pub Passes : (M → List ℕ) → List Call → List (Event M) → List Call → Type 0
+  Passes spelling given [] now = now ≡ given
+  Passes spelling given (event ∷ history) now = (before : List Call) × Passes spelling given history before × Leaves spelling given history event before now
+
+  -- whether a journal is open
+  abbrev pub is_open : List (Event M) → Bool
+  is_open [] = false
+  is_open (Opened messages ∷ history) = true
+  is_open (OpenFailed fault ∷ history) = false
+  is_open (Crashed ∷ history) = false
+  is_open (event ∷ history) = is_open history
+
+  -- whether an append has failed for the disk since the last opening that answered Ok
+  abbrev pub has_failed : List (Event M) → Bool
+  has_failed [] = false
+  has_failed (Opened messages ∷ history) = false
+  has_failed (AppendFailed message Device ∷ history) = true
+  has_failed (event ∷ history) = has_failed history
+
+  -- what may be answered where this came before
+  abbrev pub IsAnswer : List (Event M) → Event M → Type 0
+  IsAnswer history (Opened messages) = ⊤
+  IsAnswer history (OpenFailed Device) = ⊤
+  IsAnswer history (OpenFailed Memory) = ⊤
+  IsAnswer history (OpenFailed (Foreign place)) = ⊤
+  IsAnswer history (OpenFailed TooLong) = ⊥
+  IsAnswer history (OpenFailed Failed) = ⊥
+  IsAnswer history (Appended message) = (is_open history ≡ true) × (has_failed history ≡ false)
+  IsAnswer history (AppendFailed message Device) = (is_open history ≡ true) × (has_failed history ≡ false)
+  IsAnswer history (AppendFailed message Memory) = (is_open history ≡ true) × (has_failed history ≡ false)
+  IsAnswer history (AppendFailed message TooLong) = (is_open history ≡ true) × (has_failed history ≡ false)
+  IsAnswer history (AppendFailed message Failed) = (is_open history ≡ true) × (has_failed history ≡ true)
+  IsAnswer history (AppendFailed message (Foreign place)) = ⊥
+  IsAnswer history (NotOpen message) = is_open history ≡ false
+  IsAnswer history Crashed = ⊤
+
+  module _ {K : Type 0} where
+    -- the disk
+    abbrev pub disk_of : Stage M K → K
+    disk_of (stage.Open journal) = journal.disk
+    disk_of (stage.Closed disk) = disk
+
+    -- a journal is open where the history says so, and has failed where it says so
+    abbrev pub IsStage : Stage M K → List (Event M) → Type 0
+    IsStage (stage.Open journal) history = (is_open history ≡ true) × (journal.failed ≡ has_failed history)
+    IsStage (stage.Closed disk) history = is_open history ≡ false
+
+    -- a journal that is open and has not failed has this record
+    abbrev pub HasRecord : (M → List ℕ) → (K → List ℕ) → (K → List Call) → Stage M K → List M → Type 0
+    HasRecord spelling seen calls (stage.Open journal) messages = journal.failed ≡ false → IsRecord spelling seen calls journal messages
+    HasRecord spelling seen calls (stage.Closed disk) messages = ⊤
+
+  -- what was found last, followed by all appends that were begun since
+  abbrev pub all_begun : List (Event M) → List M
+  all_begun history = unwrap_or (last_found history) [] ++ map message_of (begun history)
+
+  -- a disk stands where this history leads
+  pub record Stands {K : Type 0} (Fits : M → Type 0) (spelling : M → List ℕ) (seen : K → List ℕ) (calls : K → List Call) (given : List Call) (now : Stage M K) (history : List (Event M)) : Type 0 where
+    pub finds : AtEachEvent (Finds spelling given) history
+    pub passes : Passes spelling given history (calls (disk_of now))
+    pub left : (image : List ℕ) → MayLeave (calls (disk_of now)) image → MayRead spelling given history image
+    pub fitting : All Fits (all_begun history)
+    pub stage : IsStage now history
+    pub has_record : HasRecord spelling seen calls now (all_begun history)
+
+  -- wherever a history leads to the one, with this event it leads to the other
+  abbrev pub GoesOn : {K : Type 0} → (M → Type 0) → (M → List ℕ) → (K → List ℕ) → (K → List Call) → Stage M K → Stage M K → Event M → Type 0
+  GoesOn Fits spelling seen calls old new event = (given : List Call) (history : List (Event M)) → Stands Fits spelling seen calls given old history → Stands Fits spelling seen calls given new (event ∷ history)

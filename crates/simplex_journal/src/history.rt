@@ -1,0 +1,181 @@
+//! Whole histories of a journal: openings, appends and crashes, one after the other.
+
+ghost use Rattle.std.specs.Prelude.{◌≡◌, ℕ, List, [], ◌∷◌, map, reverse, All, IfOk, IfErr};
+ghost use Rattle.simplex_types.specs.Codec.{Readable};
+ghost use Rattle.simplex_journal.specs.Disk.{Call, MayLeave};
+ghost use Rattle.simplex_journal.specs.declared.history.Event.{Event};
+ghost use Rattle.simplex_journal.specs.declared.history.Request.TheVariants.{Open, Append, Crash};
+ghost use Rattle.simplex_journal.specs.History.{OfMessage, request_of, disk_of, MayRead, AtEachEvent, Finds, Remembers, Passes, IsAnswer, IsStage, GoesOn};
+
+use crate::disk::Disk;
+use crate::fault::JournalFault;
+use crate::journal::Journal;
+use crate::memory_disk::MemoryDisk;
+use simplex_types::{EncodeSize, Read};
+use std::alloc::{AllocError, Global};
+
+/// A disk that a crash may come to.
+pub trait Crash: Disk {
+    /// A crash, and a restart: what stands on the disk then is one of the contents that the crash may
+    /// leave, and so is what a further crash may leave of it.
+    fn crash(&mut self)
+        ensures { Self.keeps → (image : List ℕ) → MayLeave (Self.calls self.new) image → MayLeave (Self.calls self.old) image };
+}
+
+/// A crash of the process alone: all that was written is there, as much in doubt as before.
+impl Crash for MemoryDisk {
+    fn crash(&mut self) {}
+}
+
+/// What is asked in a history of a disk.
+#[derive(Drop)]
+pub enum Request<M> {
+    /// To open the disk, after closing the journal that is open.
+    Open,
+    /// To append a message to the journal that is open.
+    Append(M),
+    /// A crash, after which no journal is open.
+    Crash,
+}
+
+/// What came of a request.
+#[derive(Drop)]
+pub enum Event<M> {
+    /// The disk was opened, and holds these messages.
+    Opened(Vec<M>),
+    /// The opening was refused, and no journal is open.
+    OpenFailed(JournalFault),
+    /// The message was appended: its append answered `Ok`.
+    Appended(M),
+    /// The append of the message was refused.
+    AppendFailed(M, JournalFault),
+    /// No journal was open to which the message could be appended, and the disk was asked nothing.
+    NotOpen(M),
+    /// The crash came.
+    Crashed,
+}
+
+/// What came of all requests, the oldest first, and the disk then.
+#[derive(Drop)]
+pub struct History<M, K: Disk> {
+    /// One event for each request.
+    pub events: Vec<Event<M>>,
+    /// The disk, with no journal open.
+    pub disk: K,
+}
+
+/// A disk between two requests.
+#[derive(Drop)]
+enum Stage<M: Read + EncodeSize, K: Disk> {
+    Open(Journal<M, K>),
+    Closed(K),
+}
+
+impl<M: Read + EncodeSize + Drop, K: Disk> Stage<M, K> {
+    /// The disk, after closing the journal that is open.
+    fn into_disk(self) -> K
+        ensures { result ≡ disk_of self }
+    {
+        match self {
+            Stage::Open(journal) => journal.close(),
+            Stage::Closed(disk) => disk,
+        }
+    }
+
+    /// Opens the disk, after closing the journal that is open.
+    fn open(self, alloc: Global) -> (Self, Event<M>)
+        ensures asked { request_of result.1 ≡ Open }
+        ensures answer { (history : List (Event M)) → IsStage self history → IsAnswer history result.1 × IsStage result.0 (result.1 ∷ history) }
+        ensures stands { K.keeps → GoesOn (Readable M.fits (M.within 65535)) M.spelling K.seen K.calls self result.0 result.1 }
+    {
+        match Journal::open(alloc, self.into_disk()) {
+            Ok((journal, messages)) => (Stage::Open(journal), Event::Opened(messages)),
+            Err((fault, disk)) => (Stage::Closed(disk), Event::OpenFailed(fault)),
+        }
+    }
+
+    /// Appends a message to the journal that is open.
+    fn append(self, message: M) -> (Self, Event<M>)
+        requires { M.within 65535 message }
+        ensures asked { request_of result.1 ≡ Append message }
+        ensures answer { (history : List (Event M)) → IsStage self history → IsAnswer history result.1 × IsStage result.0 (result.1 ∷ history) }
+        ensures stands { K.keeps → GoesOn (Readable M.fits (M.within 65535)) M.spelling K.seen K.calls self result.0 result.1 }
+    {
+        let mut journal = match self {
+            Stage::Open(journal) => journal,
+            Stage::Closed(disk) => return (Stage::Closed(disk), Event::NotOpen(message)),
+        };
+        // What has a size can be read again.
+        let _size = message.encode_size();
+        match journal.append(&message) {
+            Ok(()) => (Stage::Open(journal), Event::Appended(message)),
+            Err(fault) => (Stage::Open(journal), Event::AppendFailed(message, fault)),
+        }
+    }
+}
+
+impl<M: Read + EncodeSize + Drop, K: Crash> Stage<M, K> {
+    /// Crashes.
+    fn crash(self) -> (Self, Event<M>)
+        ensures asked { request_of result.1 ≡ Crash }
+        ensures answer { (history : List (Event M)) → IsStage self history → IsAnswer history result.1 × IsStage result.0 (result.1 ∷ history) }
+        ensures stands { K.keeps → GoesOn (Readable M.fits (M.within 65535)) M.spelling K.seen K.calls self result.0 result.1 }
+    {
+        let mut disk = self.into_disk();
+        disk.crash();
+        (Stage::Closed(disk), Event::Crashed)
+    }
+
+    /// Does what is asked.
+    fn step(self, alloc: Global, request: Request<M>) -> (Self, Event<M>)
+        requires { OfMessage (M.within 65535) request }
+        ensures asked { request_of result.1 ≡ request }
+        ensures answer { (history : List (Event M)) → IsStage self history → IsAnswer history result.1 × IsStage result.0 (result.1 ∷ history) }
+        ensures stands { K.keeps → GoesOn (Readable M.fits (M.within 65535)) M.spelling K.seen K.calls self result.0 result.1 }
+    {
+        match request {
+            Request::Open => self.open(alloc),
+            Request::Append(message) => self.append(message),
+            Request::Crash => self.crash(),
+        }
+    }
+}
+
+/// Does what is asked of a disk, one after the other, and tells what came of each request.
+///
+/// Whatever a crash leaves at any moment reads as what the last opening found, followed by a prefix of
+/// the messages whose append was begun since then and not refused, with all that were acknowledged.
+///
+/// # Errors
+///
+/// Memory for the events is refused, before the disk is asked anything. It comes back.
+pub fn run<M: Read + EncodeSize + Drop, K: Crash>(
+    alloc: Global,
+    disk: K,
+    requests: Vec<Request<M>>,
+) -> Result<History<M, K>, (AllocError, K)>
+    requires { All (OfMessage (M.within 65535)) requests.items }
+    ensures asked { IfOk result (λ history. map request_of history.events.items ≡ requests.items) }
+    ensures answers { IfOk result (λ history. AtEachEvent IsAnswer (reverse history.events.items)) }
+    ensures finds { IfOk result (λ history. K.keeps → AtEachEvent (Finds M.spelling (K.calls disk)) (reverse history.events.items)) }
+    ensures remembers { IfOk result (λ history. K.keeps → AtEachEvent Remembers (reverse history.events.items)) }
+    ensures any_moment { IfOk result (λ history. K.keeps → Passes M.spelling (K.calls disk) (reverse history.events.items) (K.calls history.disk)) }
+    ensures next { IfOk result (λ history. K.keeps → (image : List ℕ) → MayLeave (K.calls history.disk) image → MayRead M.spelling (K.calls disk) (reverse history.events.items) image) }
+    ensures untouched { IfErr result (λ refused. refused.1 ≡ disk) }
+{
+    let Ok(mut events) = Vec::with_capacity(alloc, requests.len()) else {
+        return Err((AllocError, disk));
+    };
+    let mut stage = Stage::Closed(disk);
+    for request in requests {
+        let (next, event) = stage.step(alloc, request);
+        stage = next;
+        let Ok(()) = events.push(event) else {
+            unreachable!()
+        };
+    }
+    Ok(History {
+        events,
+        disk: stage.into_disk(),
+    })
+}
