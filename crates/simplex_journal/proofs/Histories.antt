@@ -16,9 +16,10 @@ use Rattle.simplex_journal.specs.declared.history.Stage.TheVariants as stage
 use Rattle.simplex_journal.specs.Disk.{Call, MayLeave, LeavesOnly}
 use Rattle.simplex_journal.specs.Journal.{Standing, IsRecord}
 use Rattle.simplex_journal.specs.Record.{Reads, IsWithOrWithout, IsAtRest, IsReopened}
-use Rattle.simplex_journal.specs.History.{Begun, message_of, last_found, begun, IsFollowed, MayFind, MayRead, AtEachEvent, Finds, Passes, Recalls, Remembers, IsAnswer, is_open, has_failed, all_begun, disk_of, Stands}
+use Rattle.simplex_journal.specs.History.{Begun, message_of, IsUnacknowledged, last_found, begun, IsFollowed, MayFind, MayRead, AtEachEvent, Finds, Passes, Recalls, Remembers, IsAnswer, is_open, has_failed, all_begun, disk_of, Stands}
 use Rattle.simplex_journal.proofs.Moments.{started, weaker, at_last}
 use Rattle.simplex_journal.proofs.Images.{end_short, only_synced, reads_front}
+use Rattle.simplex_journal.proofs.Reopened.{reopened_here}
 use Rattle.simplex_journal.proofs.Total.{unique}
 
 -- ---- lists
@@ -94,7 +95,7 @@ module _ {M : Type 0} where
     kept = begun history;
     lost = append ∷ [];
     split = refl;
-    none_acknowledged = All-cons (λ (append : Begun M). append.acknowledged ≡ false) append [] unacknowledged (All-nil _);
+    none_acknowledged = All-cons IsUnacknowledged append [] unacknowledged (All-nil _);
     is = begun_is history found last;
   }
 
@@ -179,6 +180,17 @@ module _ {M K : Type 0} (Fits : M → Type 0) (spelling : M → List ℕ) (seen 
       let whole : image ≡ rest.front ++ 0 ∷ [] = only_synced (rest.front ++ 0 ∷ []) rest.earlier image (subst (λ (l : List Call). MayLeave l image) rest.calls_is left) in
       subst (λ (l : List ℕ). Reads l (map spelling messages)) (sym whole) (reads_front rest.front (0 ∷ []) (map spelling messages) rest.entries (end_short (0 ∷ []) (omega arith)) (omega arith))
 
+  -- a disk that was given
+  pub given_stands : (disk : K) → calls disk ≡ given → At (stage.Closed disk) []
+  given_stands disk is = record {
+    finds = tt;
+    passes = is;
+    left = λ image may. reopened_here given image (subst (λ (l : List Call). MayLeave l image) is may);
+    fitting = All-nil Fits;
+    stage = refl;
+    has_record = tt;
+  }
+
   -- an opening that answers Ok
   pub opened_stands : {reading : List ℕ → Result (M × List ℕ) CodecError} → IsCodec Fits spelling reading → (old : Stage M K) (history : List (Event M)) (disk : K) (new : Standing K) (messages : Vec M Global)
       → disk ≡ disk_of old → All Fits messages.items → RecordIs new messages.items → (before : List ℕ) × MayLeave (calls disk) before × Reads before (map spelling messages.items)
@@ -259,3 +271,78 @@ module _ {M K : Type 0} (Fits : M → Type 0) (spelling : M → List ℕ) (seen 
     stage = at.stage;
     has_record = at.has_record;
   }
+
+-- ---- nothing is lost
+
+module _ {M : Type 0} (spelling : M → List ℕ) (given : List Call) where
+  -- what is recalled is recalled where more was found
+  recalls_more : (messages more : List M) (event : Event M) → Recalls messages event → Recalls (messages ++ more) event
+  recalls_more messages more (Opened found) recalled = (recalled.0 ++ more, ap (λ (l : List M). l ++ more) recalled.1 ∙ append_assoc found.items recalled.0 more)
+  recalls_more messages more (Appended message) recalled = Contains-append_left messages more message recalled
+  recalls_more messages more event recalled = tt
+
+  recalls_all_more : (messages longer more : List M) (history : List (Event M)) → longer ≡ messages ++ more → All (Recalls messages) history → All (Recalls longer) history
+  recalls_all_more messages longer more history is all = subst (λ (l : List M). All (Recalls l) history) (sym is) (All-weaker (Recalls messages) (Recalls (messages ++ more)) (recalls_more messages more) history all)
+
+  -- where this was found last, it says what may be found
+  may_find : (history : List (Event M)) (found messages : List M) → last_found history ≡ Some found → IsFollowed found (begun history) messages → MayFind spelling given history messages
+  may_find history found messages last followed =
+      subst (λ (l : Option (List M)). MatchOption l ((before : List ℕ) × MayLeave given before × Reads before (map spelling messages)) (λ found. IsFollowed found (begun history) messages)) (sym last) followed
+
+  followed_of : (last : Option (List M)) (A : Type 0) (P : List M → Type 0) (found : List M) → last ≡ Some found → MatchOption last A P → P found
+  followed_of last A P found is may = subst (λ (l : Option (List M)). MatchOption l A P) is may
+
+  -- all that was begun before, and this append too
+  record IsWhole (history : List (Event M)) (append : Begun M) (messages : List M) : Type 0 where
+    pub shorter : List M
+    pub may_find : MayFind spelling given history shorter
+    pub is : messages ≡ shorter ++ append.message ∷ []
+
+  -- an append may be found, or what may be found was to be found before it
+  with_or_without : (history : List (Event M)) (append : Begun M) (found messages : List M) → last_found history ≡ Some found → IsFollowed found (begun history ++ append ∷ []) messages
+      → IsWhole history append messages ⊎ ((append.acknowledged ≡ false) × MayFind spelling given history messages)
+  with_or_without history append found messages last followed = elim (last_cut (begun history) followed.kept followed.lost append followed.split) [
+    | inl whole ↦ inl (record {
+        shorter = found ++ map message_of (begun history);
+        may_find = may_find history found _ last (record { kept = begun history; lost = []; split = sym (append-nil (begun history)); none_acknowledged = All-nil _; is = refl });
+        is = followed.is ∙ ap (λ (l : List (Begun M)). found ++ map message_of l) whole ∙ message_of-push found (begun history) append;
+      })
+    | inr cut ↦
+        let none = subst (All IsUnacknowledged) cut.lost_is followed.none_acknowledged in
+        inr (
+          All-contains IsUnacknowledged _ append none (Contains-push cut.shorter append),
+          may_find history found messages last
+              (record { kept = followed.kept; lost = cut.shorter; split = cut.split; none_acknowledged = all_in_front IsUnacknowledged cut.shorter (append ∷ []) none; is = followed.is }),
+        )
+  ]
+
+  -- what may be found has all that was found or acknowledged before
+  recalled : (history : List (Event M)) (messages : List M) → AtEachEvent IsAnswer history → AtEachEvent (Finds spelling given) history → MayFind spelling given history messages → All (Recalls messages) history
+  recalled [] messages answers finds may = All-nil _
+  recalled (Opened found ∷ history) messages answers finds may =
+      All-cons (Recalls messages) (Opened found) history (map message_of may.kept, may.is)
+      (recalls_all_more found.items messages (map message_of may.kept) history may.is (recalled history found.items answers.1 finds.1 finds.0))
+  recalled (Appended message ∷ history) messages answers finds may =
+      let append : Begun M = record { message = message; acknowledged = true } in
+      let last = opened_found history answers.0.0 in
+      elim (with_or_without history append last.0 messages last.1 (followed_of (last_found history) _ (λ found. IsFollowed found (begun history ++ append ∷ []) messages) last.0 last.1 may)) [
+        | inl whole ↦
+            All-cons (Recalls messages) (Appended message) history (subst (λ (l : List M). Contains l message) (sym whole.is) (Contains-push whole.shorter message))
+            (recalls_all_more whole.shorter messages (message ∷ []) history whole.is (recalled history whole.shorter answers.1 finds.1 whole.may_find))
+        | inr without ↦ absurd (let never : true ≡ false = without.0 in cc)
+      ]
+  recalled (AppendFailed message Device ∷ history) messages answers finds may =
+      let append : Begun M = record { message = message; acknowledged = false } in
+      let last = opened_found history answers.0.0 in
+      All-cons (Recalls messages) (AppendFailed message Device) history tt
+      (elim (with_or_without history append last.0 messages last.1 (followed_of (last_found history) _ (λ found. IsFollowed found (begun history ++ append ∷ []) messages) last.0 last.1 may)) [
+        | inl whole ↦ recalls_all_more whole.shorter messages (message ∷ []) history whole.is (recalled history whole.shorter answers.1 finds.1 whole.may_find)
+        | inr without ↦ recalled history messages answers.1 finds.1 without.1
+      ])
+  recalled (event ∷ history) messages answers finds may = All-cons (Recalls messages) event history tt (recalled history messages answers.1 finds.1 may)
+
+  -- each opening finds all that was found or acknowledged before it
+  pub remembers : (history : List (Event M)) → AtEachEvent IsAnswer history → AtEachEvent (Finds spelling given) history → AtEachEvent Remembers history
+  remembers [] answers finds = tt
+  remembers (Opened messages ∷ history) answers finds = (recalled history messages.items answers.1 finds.1 finds.0, remembers history answers.1 finds.1)
+  remembers (event ∷ history) answers finds = (tt, remembers history answers.1 finds.1)

@@ -20,6 +20,10 @@ pub record Begun (M : Type 0) : Type 0 where
 abbrev pub message_of : {M : Type 0} → Begun M → M
 message_of append = append.message
 
+-- it did not answer Ok
+abbrev pub IsUnacknowledged : {M : Type 0} → Begun M → Type 0
+IsUnacknowledged append = append.acknowledged ≡ false
+
 -- what is asked to be appended has P
 abbrev pub OfMessage : {M : Type 0} → (M → Type 0) → Request M → Type 0
 OfMessage P (Append message) = P message
@@ -54,7 +58,7 @@ module _ {M : Type 0} where
     pub kept : List (Begun M)
     pub lost : List (Begun M)
     pub split : appends ≡ kept ++ lost
-    pub none_acknowledged : All (λ (append : Begun M). append.acknowledged ≡ false) lost
+    pub none_acknowledged : All IsUnacknowledged lost
     pub is : messages ≡ found ++ map message_of kept
 
   -- The next opening may find these messages. The first finds what some content reads as that a crash might have left

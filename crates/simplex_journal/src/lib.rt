@@ -15,5 +15,6 @@ mod samples;
 pub use disk::{Disk, DiskFault};
 pub use fault::JournalFault;
 pub use file_disk::FileDisk;
+pub use history::{Crash, Event, History, Request, run};
 pub use journal::Journal;
 pub use memory_disk::MemoryDisk;
