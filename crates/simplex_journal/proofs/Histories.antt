@@ -1,22 +1,22 @@
 -- Where histories lead.
-use Rattle.std.proofs.Common.{◌≡◌, ◌≢◌, ◌⊎◌, inl, inr, ⊎_elim, ℕ, Bool, true, false, List, [], ◌∷◌, ◌++◌, map, refl, sym, ◌∙◌, ap, subst, append_assoc, arith, take_at, length}
+use Rattle.std.proofs.Common.{◌≡◌, ◌≢◌, ◌⊎◌, inl, inr, ⊎_elim, ℕ, true, false, List, [], ◌∷◌, ◌++◌, map, refl, sym, ◌∙◌, ap, subst, append_assoc, arith, take_at, length}
 use Rattle.std.specs.Prelude.{All, Contains, Option, None, Some, MatchOption, Result, unwrap_or}
 use Rattle.std.proofs.lemmas.List.{append-nil, map-append}
-use Rattle.std.proofs.lemmas.List.Elements.{All-nil, All-cons, All-head, All-tail, All-push, All-append, All-same, All-take, All-contains, All-weaker, Contains-append_left, Contains-push}
+use Rattle.std.proofs.lemmas.List.Elements.{All-nil, All-cons, All-head, All-tail, All-push, All-take, All-contains, All-weaker, Contains-append_left, Contains-push}
 use Rattle.std.specs.declared.alloc.Global.{Global}
 use Rattle.std.specs.declared.vec.Vec.{Vec}
 use Rattle.simplex_types.specs.declared.codec.CodecError.{CodecError}
 use Rattle.simplex_types.specs.Codec.{IsCodec, spelling-one}
 use Rattle.simplex_journal.specs.declared.fault.JournalFault.{JournalFault}
-use Rattle.simplex_journal.specs.declared.fault.JournalFault.TheVariants.{Device, Memory, Foreign, TooLong, Failed}
+use Rattle.simplex_journal.specs.declared.fault.JournalFault.TheVariants.{Device}
 use Rattle.simplex_journal.specs.declared.history.Event.{Event}
 use Rattle.simplex_journal.specs.declared.history.Event.TheVariants.{Opened, OpenFailed, Appended, AppendFailed, NotOpen, Crashed}
 use Rattle.simplex_journal.specs.declared.history.Stage.{Stage}
 use Rattle.simplex_journal.specs.declared.history.Stage.TheVariants as stage
 use Rattle.simplex_journal.specs.Disk.{Call, MayLeave, LeavesOnly}
 use Rattle.simplex_journal.specs.Journal.{Standing, IsRecord}
-use Rattle.simplex_journal.specs.Record.{Reads, IsWithOrWithout, IsAtRest, IsReopened}
-use Rattle.simplex_journal.specs.History.{Begun, message_of, IsUnacknowledged, last_found, begun, IsFollowed, MayFind, MayRead, AtEachEvent, Finds, Passes, Recalls, Remembers, IsAnswer, is_open, has_failed, all_begun, disk_of, Stands}
+use Rattle.simplex_journal.specs.Record.{Reads, IsWithOrWithout, IsReopened}
+use Rattle.simplex_journal.specs.History.{Begun, message_of, IsUnacknowledged, last_found, begun, IsFollowed, MayFind, MayRead, AtEachEvent, Finds, Passes, Recalls, Remembers, IsAnswer, is_open, all_begun, disk_of, Stands}
 use Rattle.simplex_journal.proofs.Moments.{started, weaker, at_last}
 use Rattle.simplex_journal.proofs.Images.{end_short, only_synced, reads_front}
 use Rattle.simplex_journal.proofs.Reopened.{reopened_here}
@@ -303,10 +303,10 @@ module _ {M : Type 0} (spelling : M → List ℕ) (given : List Call) where
       → IsWhole history append messages ⊎ ((append.acknowledged ≡ false) × MayFind spelling given history messages)
   with_or_without history append found messages last followed = elim (last_cut (begun history) followed.kept followed.lost append followed.split) [
     | inl whole ↦ inl (record {
-        shorter = found ++ map message_of (begun history);
-        may_find = may_find history found _ last (record { kept = begun history; lost = []; split = sym (append-nil (begun history)); none_acknowledged = All-nil _; is = refl });
-        is = followed.is ∙ ap (λ (l : List (Begun M)). found ++ map message_of l) whole ∙ message_of-push found (begun history) append;
-      })
+      shorter = found ++ map message_of (begun history);
+      may_find = may_find history found _ last (record { kept = begun history; lost = []; split = sym (append-nil (begun history)); none_acknowledged = All-nil _; is = refl });
+      is = followed.is ∙ ap (λ (l : List (Begun M)). found ++ map message_of l) whole ∙ message_of-push found (begun history) append;
+    })
     | inr cut ↦
         let none = subst (All IsUnacknowledged) cut.lost_is followed.none_acknowledged in
         inr (

@@ -14,6 +14,9 @@ use crate::memory_disk::MemoryDisk;
 use simplex_types::{EncodeSize, Read};
 use std::alloc::{AllocError, Global};
 
+#[cfg(test)]
+mod tests;
+
 /// A disk that a crash may come to.
 pub trait Crash: Disk {
     /// A crash, and a restart: what stands on the disk then is one of the contents that the crash may
@@ -28,7 +31,7 @@ impl Crash for MemoryDisk {
 }
 
 /// What is asked in a history of a disk.
-#[derive(Drop)]
+#[derive(Debug, Drop, PartialEq, Eq)]
 pub enum Request<M> {
     /// To open the disk, after closing the journal that is open.
     Open,
@@ -39,7 +42,7 @@ pub enum Request<M> {
 }
 
 /// What came of a request.
-#[derive(Drop)]
+#[derive(Debug, Drop, PartialEq, Eq)]
 pub enum Event<M> {
     /// The disk was opened, and holds these messages.
     Opened(Vec<M>),

@@ -1,10 +1,7 @@
-use Rattle.std.proofs.Common.{◌≡◌, ◌≢◌, ◌⊎◌, inl, inr, sym, subst, true, false}
+use Rattle.std.proofs.Common.{◌≡◌, ◌≢◌, ◌⊎◌, inl, inr, false}
 use Rattle.std.proofs.lemmas.Bool.{cases_Bool}
 use Rattle.simplex_journal.specs.declared.fault.JournalFault.{JournalFault}
 use Rattle.simplex_journal.specs.declared.fault.JournalFault.TheVariants.{Device, Memory, TooLong, Failed}
-use Rattle.simplex_journal.specs.declared.history.Event.TheVariants.{AppendFailed}
-use Rattle.simplex_journal.specs.declared.history.Stage.TheVariants as stage
-use Rattle.simplex_journal.specs.History.{Stands}
 use Rattle.simplex_journal.proofs.Histories.{appended_stands, cut_stands, refused_stands}
 use Rattle.simplex_journal.proofs.history.Stage.append.Goals as goal
 
