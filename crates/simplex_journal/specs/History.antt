@@ -96,16 +96,17 @@ module _ {M : Type 0} where
   Remembers history event = ⊤
 
   -- What came of a call that a crash cut off: as if it had failed for the disk, since what such a call may have done is
-  -- among what a call may have done that fails.
+  -- among what a call may have done that fails. So a crash inside a call is told as such a call and then a crash.
   abbrev pub cut_off : Event M → Event M
   cut_off (Opened messages) = OpenFailed Device
   cut_off (Appended message) = AppendFailed message Device
   cut_off event = event
 
-  -- What an event leaves of a disk, by the calls asked of it before and after: a crash at any moment leaves what reads as
-  -- the next opening may find, and after a crash nothing is left that it might not have left.
+  -- What an event leaves of a disk, by the calls asked of it before and after: a crash at any moment of it leaves what
+  -- reads as the next opening may find, and after a crash nothing is left that it might not have left.
   abbrev pub Leaves : (M → List ℕ) → List Call → List (Event M) → Event M → List Call → List Call → Type 0
   Leaves spelling given history Crashed before after = (image : List ℕ) → MayLeave after image → MayLeave before image
+  Leaves spelling given history (NotOpen message) before after = after ≡ before
   Leaves spelling given history event before after = LeavesOnly before after (MayRead spelling given (cut_off event ∷ history))
 
   -- the calls asked of a disk from event to event, from those asked before the history to those asked now

@@ -146,12 +146,14 @@ impl<M: Read + EncodeSize + Drop, K: Crash> Stage<M, K> {
 
 /// Does what is asked of a disk, one after the other, and tells what came of each request.
 ///
-/// Whatever a crash leaves at any moment reads as what the last opening found, followed by a prefix of
-/// the messages whose append was begun since then and not refused, with all that were acknowledged.
+/// Whatever a crash leaves at any moment, inside a call too, reads as what the last opening found,
+/// followed by a prefix of the messages whose append was begun since then and not refused, with all
+/// that were acknowledged. What an opening has found every later one finds, also where openings between
+/// were refused. A crash inside a call is told as that call, failed for the disk, and then a crash.
 ///
 /// # Errors
 ///
-/// Memory for the events is refused, before the disk is asked anything. It comes back.
+/// Memory for the events is refused, before the disk is asked anything. The disk comes back.
 pub fn run<M: Read + EncodeSize + Drop, K: Crash>(
     alloc: Global,
     disk: K,
