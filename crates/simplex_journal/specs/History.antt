@@ -1,6 +1,6 @@
 -- What openings find over a whole history of a disk. Histories have the newest event first.
 use Rattle.std.specs.Prelude.{◌≡◌, ℕ, Bool, true, false, List, [], ◌∷◌, ◌++◌, map, All, Contains, Option, None, Some, MatchOption, unwrap_or, ⊤}
-use Rattle.simplex_journal.specs.declared.fault.JournalFault.TheVariants.{Device, Memory, Foreign, TooLong, Failed}
+use Rattle.simplex_journal.specs.declared.fault.JournalFault.TheVariants.{Device, Foreign, TooLong, Failed}
 use Rattle.simplex_journal.specs.declared.history.Event.{Event}
 use Rattle.simplex_journal.specs.declared.history.Event.TheVariants.{Opened, OpenFailed, Appended, AppendFailed, NotOpen, Crashed}
 use Rattle.simplex_journal.specs.declared.history.Request.{Request}
@@ -129,25 +129,23 @@ module _ {M : Type 0} where
   has_failed (AppendFailed message Device ∷ history) = true
   has_failed (event ∷ history) = has_failed history
 
+  -- a journal is open, and none of its appends has failed for the disk
+  abbrev pub IsReady : List (Event M) → Type 0
+  IsReady history = (is_open history ≡ true) × (has_failed history ≡ false)
+
   -- what may be answered where this came before
   abbrev pub IsAnswer : List (Event M) → Event M → Type 0
-  IsAnswer history (Opened messages) = ⊤
-  IsAnswer history (OpenFailed Device) = ⊤
-  IsAnswer history (OpenFailed Memory) = ⊤
-  IsAnswer history (OpenFailed (Foreign place)) = ⊤
   IsAnswer history (OpenFailed TooLong) = ⊥
   IsAnswer history (OpenFailed Failed) = ⊥
-  IsAnswer history (Appended message) = (is_open history ≡ true) × (has_failed history ≡ false)
-  IsAnswer history (AppendFailed message Device) = (is_open history ≡ true) × (has_failed history ≡ false)
-  IsAnswer history (AppendFailed message Memory) = (is_open history ≡ true) × (has_failed history ≡ false)
-  IsAnswer history (AppendFailed message TooLong) = (is_open history ≡ true) × (has_failed history ≡ false)
+  IsAnswer history (Appended message) = IsReady history
   IsAnswer history (AppendFailed message Failed) = (is_open history ≡ true) × (has_failed history ≡ true)
   IsAnswer history (AppendFailed message (Foreign place)) = ⊥
+  IsAnswer history (AppendFailed message fault) = IsReady history
   IsAnswer history (NotOpen message) = is_open history ≡ false
-  IsAnswer history Crashed = ⊤
+  IsAnswer history event = ⊤
 
   module _ {K : Type 0} where
-    -- the disk
+    -- the disk, whether a journal is open on it or not
     abbrev pub disk_of : Stage M K → K
     disk_of (stage.Open journal) = journal.disk
     disk_of (stage.Closed disk) = disk

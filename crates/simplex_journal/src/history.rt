@@ -118,7 +118,7 @@ impl<M: Read + EncodeSize + Drop, K: Disk> Stage<M, K> {
 }
 
 impl<M: Read + EncodeSize + Drop, K: Crash> Stage<M, K> {
-    /// Crashes.
+    /// A crash, which takes the journal that is open.
     fn crash(self) -> (Self, Event<M>)
         ensures asked { request_of result.1 ≡ Crash }
         ensures answer { (history : List (Event M)) → IsStage self history → IsAnswer history result.1 × IsStage result.0 (result.1 ∷ history) }
@@ -165,7 +165,7 @@ pub fn run<M: Read + EncodeSize + Drop, K: Crash>(
     ensures finds { IfOk result (λ history. K.keeps → AtEachEvent (Finds M.spelling (K.calls disk)) (reverse history.events.items)) }
     ensures remembers { IfOk result (λ history. K.keeps → AtEachEvent Remembers (reverse history.events.items)) }
     ensures any_moment { IfOk result (λ history. K.keeps → Passes M.spelling (K.calls disk) (reverse history.events.items) (K.calls history.disk)) }
-    ensures next { IfOk result (λ history. K.keeps → (image : List ℕ) → MayLeave (K.calls history.disk) image → MayRead M.spelling (K.calls disk) (reverse history.events.items) image) }
+    ensures next_opening { IfOk result (λ history. K.keeps → (image : List ℕ) → MayLeave (K.calls history.disk) image → MayRead M.spelling (K.calls disk) (reverse history.events.items) image) }
     ensures untouched { IfErr result (λ refused. refused.1 ≡ disk) }
 {
     let Ok(mut events) = Vec::with_capacity(alloc, requests.len()) else {
