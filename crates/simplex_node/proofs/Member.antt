@@ -15,7 +15,8 @@ use Rattle.simplex_messages.specs.Artifact.{certificate_artifact}
 use Rattle.simplex_messages.specs.Certificate.{certificate_statement, certified_by}
 use Rattle.simplex_node.specs.Record.{Entry, voted, taken, judged, entry, entries, HasVoted, HasTaken, HasJudged, finalizes, last_finalized, enters, current_view, IsCovered}
 use Rattle.simplex_node.specs.Rules.{MayNotarize, MayNullify, MayFinalize, MayFollow}
-use Rattle.simplex_node.specs.Lawful.{Owner, Fits, IsLawful}
+use Rattle.simplex_node.specs.declared.owner.Owner.{Owner}
+use Rattle.simplex_node.specs.Lawful.{Fits, IsLawful}
 use Rattle.simplex_node.proofs.Places.{two_places, Stands, stands, Contains-earlier, Contains-mapped, Contains-place}
 use Rattle.simplex_node.proofs.Figures.{greatest-at, greatest-found, term_start-some}
 
@@ -50,7 +51,7 @@ module _ {D : Type 0} where
   pub notarize-once : (p q : Proposal D) → notarize p ≡ notarize q → p ≡ q
   notarize-once p q same = ap (proposal_or p) same
 
-  abbrev IsVote : Entry D → Type 0
+  abbrev pub IsVote : Entry D → Type 0
   IsVote (voted s) = ⊤
   IsVote (taken s) = ⊥
   IsVote (judged r verdict) = ⊥
@@ -71,8 +72,8 @@ module _ {D : Type 0} where
 
 module _ {S D P G C : Type 0} {attests : ℕ → Statement D → G → Type 0} {certifies : Statement D → C → Type 0} {owner : Owner} where
   -- what may follow at the place of an entry
-  pub follows : (record_ : List (Artifact S D P G C)) (e : Entry D) → IsLawful attests certifies owner record_ → (s : Stands entry record_ e) → MayFollow owner.views (entries s.before) e
-  follows record_ e lawful s = subst (λ (z : Entry D). MayFollow owner.views (entries s.before) z) s.gives (lawful s.before s.after s.x s.is).follows
+  pub follows : (record_ : List (Artifact S D P G C)) (e : Entry D) → IsLawful attests certifies owner record_ → (s : Stands entry record_ e) → MayFollow owner.term_length (entries s.before) e
+  follows record_ e lawful s = subst (λ (z : Entry D). MayFollow owner.term_length (entries s.before) z) s.gives (lawful s.before s.after s.x s.is).follows
 
   -- what stood before a place is lawful too
   pub lawful_before : (record_ : List (Artifact S D P G C)) (e : Entry D) → IsLawful attests certifies owner record_ → (s : Stands entry record_ e) → IsLawful attests certifies owner s.before
@@ -100,8 +101,8 @@ module _ {S D P G C : Type 0} {attests : ℕ → Statement D → G → Type 0} {
   one_notarize p q same here there =
       let s = stands entry record_ (voted (notarize p)) here in
       let t = stands entry record_ (voted (notarize q)) there in
-      let at_p : MayNotarize owner.views (entries s.before) p = follows record_ (voted (notarize p)) lawful s in
-      let at_q : MayNotarize owner.views (entries t.before) q = follows record_ (voted (notarize q)) lawful t in
+      let at_p : MayNotarize owner.term_length (entries s.before) p = follows record_ (voted (notarize p)) lawful s in
+      let at_q : MayNotarize owner.term_length (entries t.before) q = follows record_ (voted (notarize q)) lawful t in
       ⊎_elim (λ one. notarize-once p q (voted-once (notarize p) (notarize q) one))
       (λ apart. ⊎_elim (λ before. absurd (at_p.first (notarize q) same before)) (λ before. absurd (at_q.first (notarize p) (sym same) before)) apart)
       (two_entries record_ (voted (notarize p)) (voted (notarize q)) s t)
@@ -110,18 +111,18 @@ module _ {S D P G C : Type 0} {attests : ℕ → Statement D → G → Type 0} {
   pub finalize_is_notarized : (p : Proposal D) → HasVoted (entries record_) (finalize p) → HasTaken (entries record_) (notarize p)
   finalize_is_notarized p here =
       let s = stands entry record_ (voted (finalize p)) here in
-      let at_p : MayFinalize owner.views (entries s.before) p = follows record_ (voted (finalize p)) lawful s in
+      let at_p : MayFinalize owner.term_length (entries s.before) p = follows record_ (voted (finalize p)) lawful s in
       within record_ (voted (finalize p)) (taken (notarize p)) s at_p.notarized
 
   -- what it votes to finalize lies behind the floor
   pub finalize_is_above : (p : Proposal D) → HasVoted (entries record_) (finalize p) → 0 < p.round.view
   finalize_is_above p here =
       let s = stands entry record_ (voted (finalize p)) here in
-      let at_p : MayFinalize owner.views (entries s.before) p = follows record_ (voted (finalize p)) lawful s in
+      let at_p : MayFinalize owner.term_length (entries s.before) p = follows record_ (voted (finalize p)) lawful s in
       omega (arith, at_p.above)
 
   -- behind a vote to finalize and one to nullify an earlier view of the term stands a finalization between them
-  pub finalize_is_healed : (p : Proposal D) (r : Round) → InCoveringRange owner.views p.round.view r.view → HasVoted (entries record_) (finalize p) → HasVoted (entries record_) (nullify r)
+  pub finalize_is_healed : (p : Proposal D) (r : Round) → InCoveringRange owner.term_length p.round.view r.view → HasVoted (entries record_) (finalize p) → HasVoted (entries record_) (nullify r)
       → (q : Proposal D) × (r.view ≤ q.round.view) × (q.round.view < p.round.view) × HasTaken (entries record_) (finalize q)
   finalize_is_healed p r range here there = ⊎_elim
       (λ one. absurd (finalize-nullify p r (voted-once (finalize p) (nullify r) one)))
@@ -136,28 +137,28 @@ module _ {S D P G C : Type 0} {attests : ℕ → Statement D → G → Type 0} {
 
       nullified_first : HasVoted (entries s.before) (nullify r) → (q : Proposal D) × (r.view ≤ q.round.view) × (q.round.view < p.round.view) × HasTaken (entries record_) (finalize q)
       nullified_first before =
-          let at_p : MayFinalize owner.views (entries s.before) p = follows record_ (voted (finalize p)) lawful s in
-          let apart : r.view ≢ p.round.view = λ same. at_p.not_given_up r same before in
+          let at_p : MayFinalize owner.term_length (entries s.before) p = follows record_ (voted (finalize p)) lawful s in
+          let apart : r.view ≢ p.round.view = λ same. at_p.not_given_up (nullify r) (sym same) before in
           let below : r.view < p.round.view = grind (arith, apart, range.1) in
           let low : r.view ≤ last_finalized (entries s.before) = at_p.healed r range.0 below before in
-          let found = last_finalized-taken (entries s.before) (omega (arith, low, range.0, term_start-some owner.views p.round.view (omega (arith, at_p.above)))) in
+          let found = last_finalized-taken (entries s.before) (omega (arith, low, range.0, term_start-some owner.term_length p.round.view (omega (arith, at_p.above)))) in
           (found.0, omega (arith, low, found.1), omega (arith, at_p.above, found.1), within record_ (voted (finalize p)) (taken (finalize found.0)) s found.2)
 
       finalized_first : HasVoted (entries t.before) (finalize p) → (q : Proposal D) × (r.view ≤ q.round.view) × (q.round.view < p.round.view) × HasTaken (entries record_) (finalize q)
       finalized_first before =
-          let at_r : MayNullify owner.views (entries t.before) r = follows record_ (voted (nullify r)) lawful t in
+          let at_r : MayNullify owner.term_length (entries t.before) r = follows record_ (voted (nullify r)) lawful t in
           let u = stands entry t.before (voted (finalize p)) before in
-          let at_p : MayFinalize owner.views (entries u.before) p = follows t.before (voted (finalize p)) (lawful_before record_ (voted (nullify r)) lawful t) u in
+          let at_p : MayFinalize owner.term_length (entries u.before) p = follows t.before (voted (finalize p)) (lawful_before record_ (voted (nullify r)) lawful t) u in
           let verdict = at_p.certified in
           let judged_before : HasJudged (entries t.before) verdict.0 true = within t.before (voted (finalize p)) (judged verdict.0 true) u verdict.2 in
-          let passed : p.round.view + 1 ≤ current_view owner.views (entries t.before) = omega (arith, verdict.1, greatest-at 1 (enters owner.views) (entries t.before) (judged verdict.0 true) judged_before) in
+          let passed : p.round.view + 1 ≤ current_view owner.term_length (entries t.before) = omega (arith, verdict.1, greatest-at 1 (enters owner.term_length) (entries t.before) (judged verdict.0 true) judged_before) in
           absurd (omega (arith, passed, at_r.current, range.1))
 
   -- each view that it votes to skip is covered
-  pub skipped_is_covered : (p : Proposal D) (view : ℕ) → HasVoted (entries record_) (notarize p) → p.parent < view → view < p.round.view → 0 < view → IsCovered owner.views (entries record_) view
+  pub skipped_is_covered : (p : Proposal D) (view : ℕ) → HasVoted (entries record_) (notarize p) → p.parent < view → view < p.round.view → 0 < view → IsCovered owner.term_length (entries record_) view
   skipped_is_covered p view here above below some =
       let s = stands entry record_ (voted (notarize p)) here in
-      let at_p : MayNotarize owner.views (entries s.before) p = follows record_ (voted (notarize p)) lawful s in
+      let at_p : MayNotarize owner.term_length (entries s.before) p = follows record_ (voted (notarize p)) lawful s in
       let covered = at_p.covered view above below some in
       (covered.0, covered.1, within record_ (voted (notarize p)) (taken (nullify covered.0)) s covered.2)
 

@@ -13,7 +13,8 @@ use Rattle.simplex_messages.specs.declared.certificate.Certificate.{Certificate}
 use Rattle.simplex_messages.specs.declared.certificate.Certificate.TheVariants as certificate
 use Rattle.simplex_messages.specs.Certificate.{certificate_statement, certified_by}
 use Rattle.simplex_node.specs.Record.{entries, HasVoted, HasTaken}
-use Rattle.simplex_node.specs.Lawful.{Owner, IsLawful}
+use Rattle.simplex_node.specs.declared.owner.Owner.{Owner}
+use Rattle.simplex_node.specs.Lawful.{IsLawful}
 use Rattle.simplex_node.specs.World.{World, IsCorrect, IsHonest, IsSound, IsWorld}
 use Rattle.simplex_node.specs.Agreement.{IsFor, OneProposalAView, NoFinalizedViewNullified, NoFinalizedViewSkipped}
 use Rattle.simplex_node.proofs.Figures.{term_start-up}
@@ -24,7 +25,7 @@ module _ {S D P G C : Type 0} (attests : ℕ → Statement D → G → Type 0) (
     (holds : IsWorld attests certifies lists world) where
   -- whose a member's record is
   abbrev owner_of : ℕ → Owner
-  owner_of i = record { epoch = world.epoch; views = world.views; index = i }
+  owner_of i = record { epoch = world.epoch; term_length = world.term_length; signer = i }
 
   -- a certificate for the statement, which certifies and is honest
   record Sound (s : Statement D) : Type 0 where
@@ -84,12 +85,12 @@ module _ {S D P G C : Type 0} (attests : ℕ → Statement D → G → Type 0) (
       one_notarize (owner_of v.member) (world.recorded v.member) (holds.lawful v.member v.correct) p q same v.first v.second
 
   -- nothing that is finalized is nullified: by induction on its view
-  not_nullified : (k : ℕ) (p : Proposal D) (r : Round) → p.round.view < k → InCoveringRange world.views p.round.view r.view → Sound (finalize p) → Sound (nullify r) → ⊥
+  not_nullified : (k : ℕ) (p : Proposal D) (r : Round) → p.round.view < k → InCoveringRange world.term_length p.round.view r.view → Sound (finalize p) → Sound (nullify r) → ⊥
   not_nullified zero p r low range c d = absurd (omega (arith, low))
   not_nullified (suc k) p r low range c d =
       let v = common_voter (finalize p) (nullify r) c d in
       let earlier = finalize_is_healed (owner_of v.member) (world.recorded v.member) (holds.lawful v.member v.correct) p r range v.first v.second in
-      let first : term_start world.views earlier.0.round.view ≤ r.view = omega (arith, range.0, term_start-up world.views earlier.0.round.view p.round.view (omega (arith, earlier.2))) in
+      let first : term_start world.term_length earlier.0.round.view ≤ r.view = omega (arith, range.0, term_start-up world.term_length earlier.0.round.view p.round.view (omega (arith, earlier.2))) in
       not_nullified k earlier.0 r (omega (arith, low, earlier.2)) (first, earlier.1) (recorded_is_sound v.member v.correct (finalize earlier.0) earlier.3) d
 
   -- nothing that is finalized is skipped

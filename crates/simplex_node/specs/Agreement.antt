@@ -26,7 +26,7 @@ module _ {S D P G C : Type 0} where
     -- no finalized view is nullified, nor is an earlier view of its term
     abbrev pub NoFinalizedViewNullified : Type 0
     NoFinalizedViewNullified = (c : Finalization S D P G C) (d : Nullification S D P G C) → IsSound attests certifies lists world (certificate.Finalization c) → IsSound attests certifies lists world (certificate.Nullification d)
-        → InCoveringRange world.views c.proposal.round.view d.round.view → ⊥
+        → InCoveringRange world.term_length c.proposal.round.view d.round.view → ⊥
 
     -- no finalized view is skipped: no notarized proposal stands above it with a parent below it
     abbrev pub NoFinalizedViewSkipped : Type 0

@@ -1,21 +1,16 @@
 -- Lawful records.
-use Rattle.std.specs.Prelude.{◌≡◌, ℕ, List, ◌∷◌, ◌++◌, ⊤}
+use Rattle.std.specs.Prelude.{◌≡◌, ℕ, List, ◌∷◌, ◌++◌, length, ⊤}
 use Rattle.simplex_types.specs.declared.attestation.Attestation.{Attestation}
 use Rattle.simplex_types.specs.Subject.{Statement, notarize, nullify, finalize, statement_round}
 use Rattle.simplex_messages.specs.declared.artifact.Artifact.{Artifact}
 use Rattle.simplex_messages.specs.declared.artifact.Artifact.TheVariants as artifact
+use Rattle.simplex_node.specs.declared.owner.Owner.{Owner}
 use Rattle.simplex_node.specs.Record.{entry, entries}
 use Rattle.simplex_node.specs.Rules.{MayFollow}
 
--- whose record it is: the epoch, how many views a term has, and the member's index
-pub record Owner : Type 0 where
-  pub epoch : ℕ
-  pub views : ℕ
-  pub index : ℕ
-
 -- a vote on the statement is the owner's, of the epoch, and verifies
 pub record IsOwnVote {D G : Type 0} (attests : ℕ → Statement D → G → Type 0) (owner : Owner) (s : Statement D) (a : Attestation G) : Type 0 where
-  pub own : a.signer ≡ owner.index
+  pub own : a.signer ≡ owner.signer
   pub epoch : (statement_round s).epoch ≡ owner.epoch
   pub verifies : attests a.signer s a.signature
 
@@ -38,8 +33,18 @@ module _ {S D P G C : Type 0} (attests : ℕ → Statement D → G → Type 0) (
   -- the artifact may stand behind these: it verifies, and the rules allow it
   pub record Fits (before : List (Artifact S D P G C)) (x : Artifact S D P G C) : Type 0 where
     pub verifies : Verifies x
-    pub follows : MayFollow owner.views (entries before) (entry x)
+    pub follows : MayFollow owner.term_length (entries before) (entry x)
 
   -- a record is lawful: each artifact may stand behind the ones before it
   abbrev pub IsLawful : List (Artifact S D P G C) → Type 0
   IsLawful artifacts = (before after : List (Artifact S D P G C)) (x : Artifact S D P G C) → artifacts ≡ before ++ x ∷ after → Fits before x
+
+  -- a record's artifact at a position may not stand there, and those before it are a lawful record
+  pub record IsRefusedAt (artifacts : List (Artifact S D P G C)) (position : ℕ) : Type 0 where
+    pub before : List (Artifact S D P G C)
+    pub x : Artifact S D P G C
+    pub after : List (Artifact S D P G C)
+    pub is : artifacts ≡ before ++ x ∷ after
+    pub position_is : position ≡ length before
+    pub lawful : IsLawful before
+    pub refused : Fits before x → ⊥

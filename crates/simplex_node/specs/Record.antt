@@ -5,6 +5,7 @@ use Rattle.simplex_types.specs.Positions.{next_term_start, InCoveringRange}
 use Rattle.simplex_types.specs.Subject.{Statement, notarize, nullify, finalize}
 use Rattle.simplex_messages.specs.declared.artifact.Artifact.{Artifact}
 use Rattle.simplex_messages.specs.declared.artifact.Artifact.TheVariants as artifact
+use Rattle.simplex_rules.specs.Windows.{Retains}
 
 -- what an artifact says: that the record's member voted for a statement, that it took a certificate for one, or what the
 -- application judged of a round's proposal
@@ -80,3 +81,6 @@ module _ {D : Type 0} where
   abbrev pub floor : List (Entry D) → ℕ
   floor record_ = 0
 
+  -- a view is kept, where so many views below the last finalized one are retained
+  abbrev pub IsKept : ℕ → List (Entry D) → ℕ → Type 0
+  IsKept retention record_ view = Retains (last_finalized record_) retention view

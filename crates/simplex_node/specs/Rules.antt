@@ -26,35 +26,35 @@ module _ {D : Type 0} where
   HasParentBelow (finalize p) = p.parent < p.round.view
 
   -- no vote of the statement's kind and view is recorded
-  abbrev pub IsFirstVote : List (Entry D) → Statement D → Type 0
-  IsFirstVote before s = (t : Statement D) → AreAlike s t → HasVoted before t → ⊥
+  abbrev pub HasNoVoteLike : List (Entry D) → Statement D → Type 0
+  HasNoVoteLike before s = (t : Statement D) → AreAlike s t → HasVoted before t → ⊥
 
-  -- no nullify of the view is recorded
-  abbrev pub IsNotGivenUp : List (Entry D) → ℕ → Type 0
-  IsNotGivenUp before view = (r : Round) → r.view ≡ view → HasVoted before (nullify r) → ⊥
+  -- each recorded nullify of an earlier view of the term lies at or below the last finalized view
+  abbrev pub IsHealed : ℕ → List (Entry D) → ℕ → Type 0
+  IsHealed views before view = (r : Round) → term_start views view ≤ r.view → r.view < view → HasVoted before (nullify r) → r.view ≤ last_finalized before
 
   -- the member may vote to notarize the proposal
   pub record MayNotarize (views : ℕ) (before : List (Entry D)) (p : Proposal D) : Type 0 where
-    pub first : IsFirstVote before (notarize p)
-    pub not_given_up : IsNotGivenUp before p.round.view
+    pub first : HasNoVoteLike before (notarize p)
+    pub not_given_up : HasNoVoteLike before (nullify p.round)
     pub parent_below : p.parent < p.round.view
     pub covered : (view : ℕ) → p.parent < view → view < p.round.view → floor before < view → IsCovered views before view
 
   -- it may vote to nullify the round
   pub record MayNullify (views : ℕ) (before : List (Entry D)) (r : Round) : Type 0 where
     pub current : r.view ≡ current_view views before
-    pub first : IsFirstVote before (nullify r)
+    pub first : HasNoVoteLike before (nullify r)
     pub not_finalized : (p : Proposal D) → p.round.view ≡ r.view → HasVoted before (finalize p) → ⊥
 
   -- it may vote to finalize the proposal
   pub record MayFinalize (views : ℕ) (before : List (Entry D)) (p : Proposal D) : Type 0 where
     pub above : last_finalized before < p.round.view
-    pub not_given_up : IsNotGivenUp before p.round.view
-    pub first : IsFirstVote before (finalize p)
+    pub not_given_up : HasNoVoteLike before (nullify p.round)
+    pub first : HasNoVoteLike before (finalize p)
     pub notarized : HasTaken before (notarize p)
     pub certified : (r : Round) × (r.view ≡ p.round.view) × HasJudged before r true
     pub no_other : (q : Proposal D) → q.round.view ≡ p.round.view → HasTaken before (notarize q) ⊎ HasTaken before (finalize q) → q ≡ p
-    pub healed : (r : Round) → term_start views p.round.view ≤ r.view → r.view < p.round.view → HasVoted before (nullify r) → r.view ≤ last_finalized before
+    pub healed : IsHealed views before p.round.view
 
   -- it may take a certificate for the statement
   pub record MayTake (views : ℕ) (before : List (Entry D)) (s : Statement D) : Type 0 where

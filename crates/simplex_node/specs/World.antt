@@ -15,7 +15,7 @@ use Rattle.simplex_node.specs.Lawful.{IsLawful}
 pub record World (S D P G C : Type 0) : Type 0 where
   pub size : ℕ
   pub epoch : ℕ
-  pub views : ℕ
+  pub term_length : ℕ
   pub excused : List ℕ
   pub recorded : ℕ → List (Artifact S D P G C)
 
@@ -40,5 +40,5 @@ module _ {S D P G C : Type 0} (attests : ℕ → Statement D → G → Type 0) (
   pub record IsWorld : Type 0 where
     pub some : 0 < world.size
     pub few : length world.excused ≤ faults world.size
-    pub lawful : (i : ℕ) → IsCorrect world i → IsLawful attests certifies (record { epoch = world.epoch; views = world.views; index = i }) (world.recorded i)
+    pub lawful : (i : ℕ) → IsCorrect world i → IsLawful attests certifies (record { epoch = world.epoch; term_length = world.term_length; signer = i }) (world.recorded i)
     pub honest : (i : ℕ) → IsCorrect world i → (c : Certificate S D P G C) → Contains (world.recorded i) (certificate_artifact c) → IsHonest c
