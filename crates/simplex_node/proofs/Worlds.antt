@@ -46,7 +46,7 @@ module _ {S D P G C : Type 0} (attests : ℕ → Statement D → G → Type 0) (
       let own : IsCorrect world a.0.signer = subst (IsCorrect world) (sym a.2) correct in
       let attested : attests a.0.signer s a.0.signature = subst (λ (j : ℕ). attests j s a.0.signature) (sym a.2) a.3 in
       let told : HasVoted (entries (world.recorded a.0.signer)) (certificate_statement c.certificate) =
-          c.sound.honest a.0 a.1 own (subst (λ (t : Statement D). attests a.0.signer t a.0.signature) (sym c.states) attested) in
+      c.sound.honest a.0 a.1 own (subst (λ (t : Statement D). attests a.0.signer t a.0.signature) (sym c.states) attested) in
       subst (λ (j : ℕ). HasVoted (entries (world.recorded j)) s) a.2 (subst (λ (t : Statement D). HasVoted (entries (world.recorded a.0.signer)) t) c.states told)
 
   -- behind two sound certificates stands a correct member that voted for both
@@ -57,7 +57,7 @@ module _ {S D P G C : Type 0} (attests : ℕ → Statement D → G → Type 0) (
       let these = lists (certified_by c.certificate) in
       let those = lists (certified_by d.certificate) in
       let both = two_quorums_meet world.size (signers these) (signers those) world.excused holds.some
-          (signers-AreQuorum world.size (λ i a. attests i s a) these of_c) (signers-AreQuorum world.size (λ i a. attests i t a) those of_d) holds.few in
+      (signers-AreQuorum world.size (λ i a. attests i s a) these of_c) (signers-AreQuorum world.size (λ i a. attests i t a) those of_d) holds.few in
       let correct : IsCorrect world both.0 = (both.1, both.4) in
       record {
         member = both.0;

@@ -9,7 +9,7 @@ ghost use Rattle.simplex_node.specs.Standing.{Keeps};
 use crate::owner::Owner;
 use crate::standing::Standing;
 use simplex_messages::Artifact;
-use simplex_types::{Digest, Epochable, Scheme, TermLength};
+use simplex_types::{Digest, Epoch, Epochable, Participant, Scheme, TermLength};
 use std::alloc::{AllocError, Global};
 
 /// The position of the first artifact that a lawful record of this owner refuses, or `None` where the
@@ -46,31 +46,32 @@ fn verifies<S: Scheme<D>, D: Digest>(scheme: &S, owner: &Owner, artifact: &Artif
 {
     match artifact {
         Artifact::Certification(_, _) => true,
-        Artifact::Notarize(vote) => {
-            vote.epoch() == owner.epoch
-                && vote.attestation.signer == owner.signer
-                && vote.verify(scheme)
+        Artifact::Notarize(notarize) => {
+            is_own(owner, notarize.epoch(), notarize.attestation.signer) && notarize.verify(scheme)
         }
-        Artifact::Nullify(vote) => {
-            vote.epoch() == owner.epoch
-                && vote.attestation.signer == owner.signer
-                && vote.verify(scheme)
+        Artifact::Nullify(nullify) => {
+            is_own(owner, nullify.epoch(), nullify.attestation.signer) && nullify.verify(scheme)
         }
-        Artifact::Finalize(vote) => {
-            vote.epoch() == owner.epoch
-                && vote.attestation.signer == owner.signer
-                && vote.verify(scheme)
+        Artifact::Finalize(finalize) => {
+            is_own(owner, finalize.epoch(), finalize.attestation.signer) && finalize.verify(scheme)
         }
-        Artifact::Notarization(certificate) => {
-            certificate.epoch() == owner.epoch && certificate.verify(scheme)
+        Artifact::Notarization(notarization) => {
+            notarization.epoch() == owner.epoch && notarization.verify(scheme)
         }
-        Artifact::Nullification(certificate) => {
-            certificate.epoch() == owner.epoch && certificate.verify(scheme)
+        Artifact::Nullification(nullification) => {
+            nullification.epoch() == owner.epoch && nullification.verify(scheme)
         }
-        Artifact::Finalization(certificate) => {
-            certificate.epoch() == owner.epoch && certificate.verify(scheme)
+        Artifact::Finalization(finalization) => {
+            finalization.epoch() == owner.epoch && finalization.verify(scheme)
         }
     }
+}
+
+/// Whether a vote of this epoch and signer is the owner's.
+fn is_own(owner: &Owner, epoch: Epoch, signer: Participant) -> bool
+    ensures { IsTrue result ↔ ((epoch ≡ owner.now.epoch) × (signer ≡ owner.now.signer)) }
+{
+    epoch == owner.epoch && signer == owner.signer
 }
 
 impl<D: Digest> Standing<D> {

@@ -4,6 +4,7 @@
 ghost use Rattle.std.specs.Prelude.{◌≡◌, ◌↔◌, ◌<◌, [], List, Some, IsTrue, true};
 ghost use Rattle.std.specs.BTreeMap.{get};
 ghost use Rattle.std.specs.Ordering.{nat_cmp};
+ghost use Rattle.simplex_types.specs.Positions.{HasRoom};
 ghost use Rattle.simplex_types.specs.Subject.{notarize, nullify, finalize};
 ghost use Rattle.simplex_node.specs.Record.{Entry};
 ghost use Rattle.simplex_node.specs.Rules.{MayNotarize, MayNullify, MayFinalize, MayTake, MayJudge, IsHealed};
@@ -80,33 +81,30 @@ impl<D: Digest> Standing<D> {
     pub(crate) fn may_finalize(&self, length: TermLength, proposal: &Proposal<D>) -> bool
         ensures { (before : List (Entry D)) → Keeps length self.now before → IsTrue result ↔ MayFinalize length before proposal.now }
     {
-        let view = proposal.round.view;
-        if self.last_finalized >= view {
+        let finalized = proposal.round.view;
+        if self.last_finalized >= finalized {
             return false;
         }
-        if self.votes.nullifies.contains(&view) {
+        if self.votes.nullifies.contains(&finalized) {
             return false;
         }
-        if self.votes.finalizes.contains(&view) {
+        if self.votes.finalizes.contains(&finalized) {
             return false;
         }
         if !self.certificates.has_notarized(proposal) {
             return false;
         }
-        if !self.is_certified(view) {
+        if !self.is_certified(finalized) {
             return false;
         }
-        self.is_healed(length, view)
+        self.is_healed(length, finalized)
     }
 
     /// Whether the verdict on the view is true.
     fn is_certified(&self, view: View) -> bool
         ensures { IsTrue result ↔ (get nat_cmp self.now.verdicts view ≡ Some true) }
     {
-        match self.verdicts.get(&view) {
-            Some(verdict) => *verdict,
-            None => false,
-        }
+        matches!(self.verdicts.get(&view), Some(true))
     }
 
     /// Whether each own nullify of an earlier view of the term lies at or below the last finalized view.
@@ -123,14 +121,13 @@ impl<D: Digest> Standing<D> {
     pub(crate) fn may_take_notarization(&self, length: TermLength, proposal: &Proposal<D>) -> bool
         ensures { (before : List (Entry D)) → Keeps length self.now before → IsTrue result ↔ MayTake length before (notarize proposal.now) }
     {
-        let view = proposal.round.view;
-        if proposal.parent >= view {
+        if !can_be_certified(length, proposal) {
             return false;
         }
-        if !view.has_room(length) {
-            return false;
-        }
-        !self.certificates.notarizations.contains_key(&view)
+        !self
+            .certificates
+            .notarizations
+            .contains_key(&proposal.round.view)
     }
 
     /// Whether it may take a nullification of the round.
@@ -150,14 +147,13 @@ impl<D: Digest> Standing<D> {
     pub(crate) fn may_take_finalization(&self, length: TermLength, proposal: &Proposal<D>) -> bool
         ensures { (before : List (Entry D)) → Keeps length self.now before → IsTrue result ↔ MayTake length before (finalize proposal.now) }
     {
-        let view = proposal.round.view;
-        if proposal.parent >= view {
+        if !can_be_certified(length, proposal) {
             return false;
         }
-        if !view.has_room(length) {
-            return false;
-        }
-        !self.certificates.finalizations.contains(&view)
+        !self
+            .certificates
+            .finalizations
+            .contains(&proposal.round.view)
     }
 
     /// Whether it may record a verdict on the round.
@@ -172,4 +168,11 @@ impl<D: Digest> Standing<D> {
             None => false,
         }
     }
+}
+
+/// Whether a certificate may be for the proposal: its view has room, and its parent lies below.
+fn can_be_certified<D: Digest>(length: TermLength, proposal: &Proposal<D>) -> bool
+    ensures { IsTrue result ↔ (HasRoom length proposal.now.round.view × (proposal.now.parent < proposal.now.round.view)) }
+{
+    proposal.round.view.has_room(length) && proposal.parent < proposal.round.view
 }

@@ -14,7 +14,7 @@ returns g c = λ before k.
       λ none.
           let empty = (rw (is_some-false c.next-2.result (c.is_none.ensures ∙ ap not none)) at c.next-2.ensures.steps).0 in
           healed-none c.args.self.now.votes before k.votes c.args.length c.args.view (λ view above past below.
-              none_between c.args.self.now.votes.nullifies c.max-low.result c.args.view c.range.result range empty view (omega (arith, low_is, above, past, k.last_finalized)) below),
+          none_between c.args.self.now.votes.nullifies c.max-low.result c.args.view c.range.result range empty view (omega (arith, low_is, above, past, k.last_finalized)) below),
       λ healed. elim (cases_option c.next-2.result) [
         | inl none ↦ false_not c.is_none.result (sym c.is_none.ensures ∙ ap is_some none)
         | inr some ↦

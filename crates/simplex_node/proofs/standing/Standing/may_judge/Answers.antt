@@ -8,8 +8,7 @@ returns-then-contains_key g c = λ length before k. unlike (λ may. sym (c.if-co
 pub returns-in-Some : goal.returns-in-Some
 returns-in-Some g c = λ length before k.
     let kept = sym c.notarized.ensures ∙ c.in-Some.is in
-    let of_round = notarized_of length c.args.self.now.certificates before k.certificates c.args.round c.in-Some.proposal kept in
-    (
+    let of_round = notarized_of length c.args.self.now.certificates before k.certificates c.args.round c.in-Some.proposal kept in (
       λ same. record {
         notarized = of_round.0 (rounds_eq c.in-Some.proposal.round c.args.round (sym c.eq.ensures ∙ same));
         first = (no_verdict c.args.self.now.verdicts before k.verdicts c.args.round).0 (sym c.contains_key.ensures ∙ c.if-contains_key.false);
