@@ -31,7 +31,7 @@ module _ {S D P G C : Type 0} (attests : ℕ → Statement D → G → Type 0) (
   record Sound (s : Statement D) : Type 0 where
     pub certificate : Certificate S D P G C
     pub states : certificate_statement certificate ≡ s
-    pub sound : IsSound attests certifies lists world certificate
+    pub sound : IsSound attests lists world certificate
 
   -- a correct member voted for both statements
   record BothVoted (s t : Statement D) : Type 0 where
@@ -49,11 +49,16 @@ module _ {S D P G C : Type 0} (attests : ℕ → Statement D → G → Type 0) (
       c.sound.honest a.0 a.1 own (subst (λ (t : Statement D). attests a.0.signer t a.0.signature) (sym c.states) attested) in
       subst (λ (j : ℕ). HasVoted (entries (world.recorded j)) s) a.2 (subst (λ (t : Statement D). HasVoted (entries (world.recorded a.0.signer)) t) c.states told)
 
+  -- what a sound certificate lists is of a quorum
+  quorum_of : (s : Statement D) (c : Sound s) → IsQuorum world.size (λ i a. attests i s a) (lists (certified_by c.certificate))
+  quorum_of s c = subst (λ (x : Statement D). IsQuorum world.size (λ i a. attests i x a) (lists (certified_by c.certificate))) c.states
+      (record { distinct = c.sound.distinct; members = c.sound.members; enough = c.sound.enough; attesting = c.sound.attesting })
+
   -- behind two sound certificates stands a correct member that voted for both
   common_voter : (s t : Statement D) → Sound s → Sound t → BothVoted s t
   common_voter s t c d =
-      let of_c = backed s (certified_by c.certificate) (subst (λ (x : Statement D). certifies x (certified_by c.certificate)) c.states c.sound.verifies) in
-      let of_d = backed t (certified_by d.certificate) (subst (λ (x : Statement D). certifies x (certified_by d.certificate)) d.states d.sound.verifies) in
+      let of_c = quorum_of s c in
+      let of_d = quorum_of t d in
       let these = lists (certified_by c.certificate) in
       let those = lists (certified_by d.certificate) in
       let both = two_quorums_meet world.size (signers these) (signers those) world.excused holds.some
@@ -70,7 +75,8 @@ module _ {S D P G C : Type 0} (attests : ℕ → Statement D → G → Type 0) (
   recorded_is_sound : (i : ℕ) → IsCorrect world i → (s : Statement D) → HasTaken (entries (world.recorded i)) s → Sound s
   recorded_is_sound i correct s here =
       let c = taken_certifies (owner_of i) (world.recorded i) (holds.lawful i correct) s here in
-      record { certificate = c.0; states = c.1; sound = record { verifies = c.3; honest = holds.honest i correct c.0 c.2 } }
+      let q = backed (certificate_statement c.0) (certified_by c.0) c.3 in
+      record { certificate = c.0; states = c.1; sound = record { distinct = q.distinct; members = q.members; enough = q.enough; attesting = q.attesting; honest = holds.honest i correct c.0 c.2 } }
 
   -- what is finalized is notarized
   finalized_is_notarized : (p : Proposal D) → Sound (finalize p) → Sound (notarize p)
@@ -103,18 +109,18 @@ module _ {S D P G C : Type 0} (attests : ℕ → Statement D → G → Type 0) (
       not_nullified (p.round.view + 1) p covered.0 (omega arith) covered.1 c (recorded_is_sound v.member v.correct (nullify covered.0) covered.2)
 
   -- a sound certificate for a proposal makes a sound notarization of it
-  notarized : (c : Certificate S D P G C) (p : Proposal D) → IsSound attests certifies lists world c → IsFor c p → Sound (notarize p)
+  notarized : (c : Certificate S D P G C) (p : Proposal D) → IsSound attests lists world c → IsFor c p → Sound (notarize p)
   notarized (certificate.Notarization c) p sound is = record { certificate = certificate.Notarization c; states = ap (λ (q : Proposal D). notarize q) is; sound = sound }
   notarized (certificate.Nullification c) p sound is = absurd is
   notarized (certificate.Finalization c) p sound is = finalized_is_notarized p (record { certificate = certificate.Finalization c; states = ap (λ (q : Proposal D). finalize q) is; sound = sound })
 
-  pub one_proposal : OneProposalAView attests certifies lists world
+  pub one_proposal : OneProposalAView attests lists world
   one_proposal c d p q sound_c sound_d for_p for_q same = one_notarized p q same (notarized c p sound_c for_p) (notarized d q sound_d for_q)
 
-  pub none_nullified : NoFinalizedViewNullified attests certifies lists world
+  pub none_nullified : NoFinalizedViewNullified attests lists world
   none_nullified c d sound_c sound_d range = not_nullified (c.proposal.round.view + 1) c.proposal d.round (omega arith) range
       (record { certificate = certificate.Finalization c; states = refl; sound = sound_c }) (record { certificate = certificate.Nullification d; states = refl; sound = sound_d })
 
-  pub none_skipped : NoFinalizedViewSkipped attests certifies lists world
+  pub none_skipped : NoFinalizedViewSkipped attests lists world
   none_skipped c d sound_c sound_d above below = not_skipped c.proposal d.proposal above below
       (record { certificate = certificate.Finalization c; states = refl; sound = sound_c }) (record { certificate = certificate.Notarization d; states = refl; sound = sound_d })

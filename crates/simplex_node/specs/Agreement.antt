@@ -17,18 +17,18 @@ module _ {S D P G C : Type 0} where
   IsFor (certificate.Nullification c) p = ⊥
   IsFor (certificate.Finalization c) p = c.proposal ≡ p
 
-  module _ (attests : ℕ → Statement D → G → Type 0) (certifies : Statement D → C → Type 0) (lists : C → List (Attestation G)) (world : World S D P G C) where
+  module _ (attests : ℕ → Statement D → G → Type 0) (lists : C → List (Attestation G)) (world : World S D P G C) where
     -- one proposal a view: no view has notarizations or finalizations, in any mixture, for two proposals
     abbrev pub OneProposalAView : Type 0
-    OneProposalAView = (c d : Certificate S D P G C) (p q : Proposal D) → IsSound attests certifies lists world c → IsSound attests certifies lists world d
+    OneProposalAView = (c d : Certificate S D P G C) (p q : Proposal D) → IsSound attests lists world c → IsSound attests lists world d
         → IsFor c p → IsFor d q → p.round.view ≡ q.round.view → p ≡ q
 
     -- no finalized view is nullified, nor is an earlier view of its term
     abbrev pub NoFinalizedViewNullified : Type 0
-    NoFinalizedViewNullified = (c : Finalization S D P G C) (d : Nullification S D P G C) → IsSound attests certifies lists world (certificate.Finalization c) → IsSound attests certifies lists world (certificate.Nullification d)
+    NoFinalizedViewNullified = (c : Finalization S D P G C) (d : Nullification S D P G C) → IsSound attests lists world (certificate.Finalization c) → IsSound attests lists world (certificate.Nullification d)
         → InCoveringRange world.term_length c.proposal.round.view d.round.view → ⊥
 
     -- no finalized view is skipped: no notarized proposal stands above it with a parent below it
     abbrev pub NoFinalizedViewSkipped : Type 0
-    NoFinalizedViewSkipped = (c : Finalization S D P G C) (d : Notarization S D P G C) → IsSound attests certifies lists world (certificate.Finalization c) → IsSound attests certifies lists world (certificate.Notarization d)
+    NoFinalizedViewSkipped = (c : Finalization S D P G C) (d : Notarization S D P G C) → IsSound attests lists world (certificate.Finalization c) → IsSound attests lists world (certificate.Notarization d)
         → d.proposal.parent < c.proposal.round.view → c.proposal.round.view < d.proposal.round.view → ⊥

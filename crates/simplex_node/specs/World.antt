@@ -1,7 +1,7 @@
 -- A world: a committee of which some may lie, and what each of the others recorded.
-use Rattle.std.specs.Prelude.{◌≡◌, ℕ, ◌≤◌, ◌<◌, List, length, Contains}
+use Rattle.std.specs.Prelude.{◌≡◌, ℕ, ◌≤◌, ◌<◌, List, length, Contains, All}
 use Rattle.simplex_types.specs.declared.attestation.Attestation.{Attestation}
-use Rattle.simplex_types.specs.Quorum.{faults}
+use Rattle.simplex_types.specs.Quorum.{faults, quorum, AreDistinct}
 use Rattle.simplex_types.specs.Subject.{Statement}
 use Rattle.simplex_messages.specs.declared.artifact.Artifact.{Artifact}
 use Rattle.simplex_messages.specs.declared.certificate.Certificate.{Certificate}
@@ -23,22 +23,30 @@ pub record World (S D P G C : Type 0) : Type 0 where
 abbrev pub IsCorrect : {S D P G C : Type 0} → World S D P G C → ℕ → Type 0
 IsCorrect world i = (i < world.size) × (Contains world.excused i → ⊥)
 
-module _ {S D P G C : Type 0} (attests : ℕ → Statement D → G → Type 0) (certifies : Statement D → C → Type 0) (lists : C → List (Attestation G)) (world : World S D P G C) where
+module _ {S D P G C : Type 0} (attests : ℕ → Statement D → G → Type 0) (lists : C → List (Attestation G)) (world : World S D P G C) where
+  -- the attestations that the certificate lists
+  abbrev pub listed : Certificate S D P G C → List (Attestation G)
+  listed c = lists (certified_by c)
+
   -- each verifying vote that the certificate lists in a correct member's name is on a statement for which that member
   -- recorded a vote
   abbrev pub IsHonest : Certificate S D P G C → Type 0
-  IsHonest c = (a : Attestation G) → Contains (lists (certified_by c)) a → IsCorrect world a.signer
+  IsHonest c = (a : Attestation G) → Contains (listed c) a → IsCorrect world a.signer
       → attests a.signer (certificate_statement c) a.signature → HasVoted (entries (world.recorded a.signer)) (certificate_statement c)
 
-  -- the certificate certifies what it states, and is honest
+  -- the certificate certifies: it lists attestations of distinct members, of a quorum, and each attests; and it is honest
   pub record IsSound (c : Certificate S D P G C) : Type 0 where
-    pub verifies : certifies (certificate_statement c) (certified_by c)
+    pub distinct : AreDistinct (listed c)
+    pub members : All (λ a. a.signer < world.size) (listed c)
+    pub enough : quorum world.size ≤ length (listed c)
+    pub attesting : All (λ a. attests a.signer (certificate_statement c) a.signature) (listed c)
     pub honest : IsHonest c
 
+module _ {S D P G C : Type 0} (attests : ℕ → Statement D → G → Type 0) (certifies : Statement D → C → Type 0) (lists : C → List (Attestation G)) (world : World S D P G C) where
   -- at most as many are excused as may be faulty, the record of each correct member is lawful, and the certificates in
   -- it are honest
   pub record IsWorld : Type 0 where
     pub some : 0 < world.size
     pub few : length world.excused ≤ faults world.size
     pub lawful : (i : ℕ) → IsCorrect world i → IsLawful attests certifies (record { epoch = world.epoch; term_length = world.term_length; signer = i }) (world.recorded i)
-    pub honest : (i : ℕ) → IsCorrect world i → (c : Certificate S D P G C) → Contains (world.recorded i) (certificate_artifact c) → IsHonest c
+    pub honest : (i : ℕ) → IsCorrect world i → (c : Certificate S D P G C) → Contains (world.recorded i) (certificate_artifact c) → IsHonest attests lists world c
