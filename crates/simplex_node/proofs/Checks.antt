@@ -9,8 +9,8 @@ use Rattle.simplex_node.specs.declared.certificates.Certificates.{Certificates}
 use Rattle.simplex_node.specs.declared.owner.Owner.{Owner}
 use Rattle.simplex_node.specs.declared.standing.Standing.{Standing}
 use Rattle.simplex_node.specs.Record.{Entry, entry, entries}
-use Rattle.simplex_node.specs.Rules.{MayFollow, MayJudge}
-use Rattle.simplex_node.specs.Lawful.{Verifies, Fits, IsLawful, IsRefusedAt}
+use Rattle.simplex_node.specs.Rules.{MayJudge}
+use Rattle.simplex_node.specs.Lawful.{Fits, IsLawful, IsRefusedAt}
 use Rattle.simplex_node.specs.Standing.{Keeps, KeepsCertificates}
 use Rattle.simplex_node.proofs.AddingTerms.{term_end-le}
 

@@ -1,9 +1,8 @@
 -- Which recorded nullifies lie between two views.
-use Rattle.std.specs.Prelude.{is_some, IsTrue}
 use Rattle.std.specs.BTreeSet.{BTreeSet, IsKeyRangeOf, contains}
 use Rattle.std.specs.Ordering.{nat_cmp}
 use Rattle.std.specs.declared.ops.Bound.TheVariants.{Included, Excluded}
-use Rattle.std.proofs.Common.{◌≡◌, inl, inr, ◌≤◌, ◌<◌, ◌+◌, ℕ, Bool, true, false, List, [], ◌∷◌, Option, Some, None, refl, sym, ◌∙◌, ap, arith}
+use Rattle.std.proofs.Common.{◌≡◌, inl, inr, ◌≤◌, ◌<◌, ℕ, true, false, List, [], ◌∷◌, Some, refl, sym, ◌∙◌, arith}
 use Rattle.std.proofs.lemmas.Bool.{cases_lt}
 use Rattle.std.proofs.lemmas.Bool.Decides.{nat_tests}
 use Rattle.std.proofs.lemmas.Option.{none-some}
@@ -11,11 +10,11 @@ use Rattle.simplex_types.specs.declared.position.Round.{Round}
 use Rattle.simplex_types.specs.Positions.{term_start}
 use Rattle.simplex_types.specs.Subject.{Statement, notarize, nullify, finalize}
 use Rattle.simplex_node.specs.declared.votes.Votes.{Votes}
-use Rattle.simplex_node.specs.Record.{Entry, voted, taken, judged, HasVoted, last_finalized}
+use Rattle.simplex_node.specs.Record.{Entry, HasVoted, last_finalized}
 use Rattle.simplex_node.specs.Rules.{IsHealed}
 use Rattle.simplex_node.specs.Standing.{KeepsVotes}
 use Rattle.simplex_node.specs.Told.{told, nullified_at, vote_in}
-use Rattle.simplex_node.proofs.Ruling.{absent, true-false}
+use Rattle.simplex_node.proofs.Ruling.{absent}
 use Rattle.simplex_node.proofs.Telling.{is_some-true, votes-none, votes-some, at_same, of_view}
 
 module _ (set : BTreeSet ℕ) (low high : ℕ) (range : List ℕ) (is_range : IsKeyRangeOf nat_cmp (Included low) (Excluded high) set range) where

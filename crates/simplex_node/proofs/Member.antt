@@ -1,11 +1,10 @@
 -- What the lawful record of one member says.
-use Rattle.std.proofs.Common.{◌≡◌, ◌≢◌, ◌⊎◌, inl, inr, ⊎_elim, ℕ, ◌+◌, ◌<◌, ◌≤◌, Bool, true, List, ◌∷◌, ◌++◌, refl, sym, ◌∙◌, ap, subst, arith, append_assoc}
+use Rattle.std.proofs.Common.{◌≡◌, ◌≢◌, ◌⊎◌, inl, inr, ⊎_elim, ℕ, ◌+◌, ◌<◌, ◌≤◌, true, List, ◌∷◌, ◌++◌, sym, ◌∙◌, ap, subst, arith, append_assoc}
 use Rattle.std.specs.Prelude.{⊤}
 use Rattle.std.specs.List.{Contains}
-use Rattle.std.proofs.lemmas.Bool.{cases_eq}
 use Rattle.simplex_types.specs.declared.position.Round.{Round}
 use Rattle.simplex_types.specs.declared.proposal.Proposal.{Proposal}
-use Rattle.simplex_types.specs.Positions.{term_start, InCoveringRange}
+use Rattle.simplex_types.specs.Positions.{InCoveringRange}
 use Rattle.simplex_types.specs.Subject.{Statement, notarize, nullify, finalize}
 use Rattle.simplex_messages.specs.declared.artifact.Artifact.{Artifact}
 use Rattle.simplex_messages.specs.declared.artifact.Artifact.TheVariants as artifact

@@ -1,7 +1,6 @@
 -- Where elements stand in a list.
-use Rattle.std.proofs.Common.{◌≡◌, ◌⊎◌, inl, inr, ⊎_elim, ℕ, zero, suc, ◌+◌, ◌<◌, List, [], ◌∷◌, ◌++◌, length, get_or, drop, map, refl, sym, ◌∙◌, ap, subst, arith}
+use Rattle.std.proofs.Common.{◌≡◌, ◌⊎◌, inl, inr, ⊎_elim, zero, suc, List, [], ◌∷◌, ◌++◌, get_or, drop, map, refl, sym, ap, subst, arith}
 use Rattle.std.specs.List.{Contains}
-use Rattle.simplex_types.specs.Counting.{Contains-rest}
 
 module _ {X : Type 0} where
   -- an element is the first, or in the rest

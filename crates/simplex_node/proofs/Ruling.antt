@@ -3,8 +3,8 @@ use Rattle.std.specs.Prelude.{is_some, ◌↔◌, IsTrue, not, ◌&&◌, Contain
 use Rattle.std.specs.BTreeMap.{BTreeMap, get}
 use Rattle.std.specs.BTreeSet.{contains}
 use Rattle.std.specs.Ordering.{nat_cmp}
-use Rattle.std.proofs.Common.{◌≡◌, ◌⊎◌, inl, inr, ⊎_elim, ℕ, ◌+◌, ◌<◌, ◌≤◌, nat_eq, Bool, true, false, List, Option, Some, None, refl, sym, ◌∙◌, ap, subst, arith}
-use Rattle.std.proofs.lemmas.Bool.{and_parts, eqb-true}
+use Rattle.std.proofs.Common.{◌≡◌, inl, inr, ℕ, ◌<◌, nat_eq, Bool, true, false, List, Option, Some, None, refl, sym, ◌∙◌, ap, subst, arith}
+use Rattle.std.proofs.lemmas.Bool.{and_parts}
 use Rattle.std.proofs.lemmas.Bool.Decides.{nat_tests}
 use Rattle.std.proofs.lemmas.Option.{none-some}
 use Rattle.simplex_types.specs.declared.position.Round.{Round}
@@ -14,8 +14,8 @@ use Rattle.simplex_node.specs.declared.certificates.Certificates.{Certificates}
 use Rattle.simplex_node.specs.declared.votes.Votes.{Votes}
 use Rattle.simplex_node.specs.Record.{Entry, voted, taken, judged, HasVoted, HasTaken, HasJudged, finalizes, last_finalized}
 use Rattle.simplex_node.specs.Rules.{AreAlike, HasNoVoteLike}
-use Rattle.simplex_node.specs.Standing.{KeepsSet, KeepsMap, KeepsVotes, KeepsCertificates, KeepsVerdicts}
-use Rattle.simplex_node.specs.Told.{told, notarized_at, nullified_at, finalized_at, vote_in, certificate_in, verdict_at}
+use Rattle.simplex_node.specs.Standing.{KeepsVotes, KeepsCertificates, KeepsVerdicts}
+use Rattle.simplex_node.specs.Told.{notarized_at, nullified_at, finalized_at, verdict_at}
 use Rattle.simplex_node.proofs.Figures.{greatest-at}
 use Rattle.simplex_node.proofs.Telling.{is_some-false, some-once, cases_option, told-none, told-some, told-nothing, votes-none, votes-nothing, certificates-none, certificates-nothing, certificates-some, notarize-alike, notarize-none, nullify-alike, nullify-none, finalize-alike, finalize-none, at_same, at_other, of_view}
 

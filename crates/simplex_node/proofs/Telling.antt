@@ -1,7 +1,7 @@
 -- What the first of a list that something is given of says of the whole list.
-use Rattle.std.specs.Prelude.{is_some, IsSome, ◌↔◌}
+use Rattle.std.specs.Prelude.{is_some}
 use Rattle.std.specs.Option.{option_or, unwrap_or}
-use Rattle.std.proofs.Common.{◌≡◌, ◌⊎◌, inl, inr, ⊎_elim, ℕ, ◌==◌, Bool, true, false, List, [], ◌∷◌, ◌++◌, Option, Some, None, refl, sym, ◌∙◌, ap, subst, arith, if◌then◌else◌}
+use Rattle.std.proofs.Common.{◌≡◌, ◌⊎◌, inl, inr, ⊎_elim, ℕ, ◌==◌, true, false, List, [], ◌∷◌, ◌++◌, Option, Some, None, refl, sym, ◌∙◌, ap, arith, if◌then◌else◌}
 use Rattle.std.specs.List.{Contains}
 use Rattle.std.proofs.lemmas.Bool.{cases_eq}
 use Rattle.std.proofs.lemmas.Bool.Decides.{nat_tests}
@@ -9,9 +9,9 @@ use Rattle.std.proofs.lemmas.Option.{none-some}
 use Rattle.simplex_types.specs.declared.position.Round.{Round}
 use Rattle.simplex_types.specs.declared.proposal.Proposal.{Proposal}
 use Rattle.simplex_types.specs.Subject.{Statement, notarize, nullify, finalize}
-use Rattle.simplex_node.specs.Record.{Entry, voted, taken, judged, HasVoted, HasTaken, HasJudged}
+use Rattle.simplex_node.specs.Record.{Entry, voted, taken, judged, HasVoted, HasTaken}
 use Rattle.simplex_node.specs.Rules.{AreAlike}
-use Rattle.simplex_node.specs.Told.{told, notarized_at, nullified_at, finalized_at, vote_in, certificate_in, verdict_at}
+use Rattle.simplex_node.specs.Told.{told, notarized_at, nullified_at, finalized_at, vote_in, certificate_in}
 use Rattle.simplex_node.proofs.Places.{Contains-cons, Contains-here, Contains-later}
 
 module _ {Y : Type 0} where

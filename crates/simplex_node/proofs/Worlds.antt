@@ -1,7 +1,5 @@
 -- What certificates of a world have in common.
-use Rattle.std.specs.Prelude.{⊤}
-use Rattle.std.proofs.Common.{◌≡◌, ◌⊎◌, inl, inr, ⊎_elim, ℕ, zero, suc, ◌+◌, ◌<◌, ◌≤◌, List, length, refl, sym, ◌∙◌, ap, subst, arith}
-use Rattle.std.specs.List.{Contains}
+use Rattle.std.proofs.Common.{◌≡◌, ℕ, zero, suc, ◌+◌, ◌<◌, ◌≤◌, List, refl, sym, ap, subst, arith}
 use Rattle.simplex_types.specs.declared.attestation.Attestation.{Attestation}
 use Rattle.simplex_types.specs.declared.position.Round.{Round}
 use Rattle.simplex_types.specs.declared.proposal.Proposal.{Proposal}
@@ -14,8 +12,7 @@ use Rattle.simplex_messages.specs.declared.certificate.Certificate.TheVariants a
 use Rattle.simplex_messages.specs.Certificate.{certificate_statement, certified_by}
 use Rattle.simplex_node.specs.Record.{entries, HasVoted, HasTaken}
 use Rattle.simplex_node.specs.declared.owner.Owner.{Owner}
-use Rattle.simplex_node.specs.Lawful.{IsLawful}
-use Rattle.simplex_node.specs.World.{World, IsCorrect, IsHonest, IsSound, IsWorld}
+use Rattle.simplex_node.specs.World.{World, IsCorrect, IsSound, IsWorld}
 use Rattle.simplex_node.specs.Agreement.{IsFor, OneProposalAView, NoFinalizedViewNullified, NoFinalizedViewSkipped}
 use Rattle.simplex_node.proofs.Figures.{term_start-up}
 use Rattle.simplex_node.proofs.Member.{one_notarize, finalize_is_notarized, finalize_is_above, finalize_is_healed, skipped_is_covered, taken_certifies}

@@ -1,5 +1,5 @@
 -- A world: a committee of which some may lie, and what each of the others recorded.
-use Rattle.std.specs.Prelude.{◌≡◌, ℕ, ◌≤◌, ◌<◌, List, length, Contains, All}
+use Rattle.std.specs.Prelude.{ℕ, ◌≤◌, ◌<◌, List, length, Contains, All}
 use Rattle.simplex_types.specs.declared.attestation.Attestation.{Attestation}
 use Rattle.simplex_types.specs.Quorum.{faults, quorum, AreDistinct}
 use Rattle.simplex_types.specs.Subject.{Statement}

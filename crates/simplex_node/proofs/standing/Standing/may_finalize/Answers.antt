@@ -1,4 +1,4 @@
-use Rattle.std.proofs.Common.{◌≡◌, ◌<◌, ⊎_elim, Some, true, false, sym, ◌∙◌, ap, arith}
+use Rattle.std.proofs.Common.{◌<◌, ⊎_elim, sym, ◌∙◌, arith}
 use Rattle.std.proofs.lemmas.Bool.Decides.{nat_tests}
 use Rattle.simplex_node.proofs.Ruling.{no_nullify, no_finalize, none_above, notarized_is, notarized_kept, true_verdict, unlike}
 use Rattle.simplex_node.proofs.standing.Standing.may_finalize.Goals as goal

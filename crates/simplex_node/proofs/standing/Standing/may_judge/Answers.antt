@@ -1,4 +1,4 @@
-use Rattle.std.proofs.Common.{◌≡◌, ◌<◌, ◌≤◌, false, true, sym, ◌∙◌, ap, arith}
+use Rattle.std.proofs.Common.{sym, ◌∙◌}
 use Rattle.simplex_node.proofs.Ruling.{no_verdict, notarized_of, none_notarized, unlike, rounds_eq, eq_rounds}
 use Rattle.simplex_node.proofs.standing.Standing.may_judge.Goals as goal
 

@@ -1,4 +1,4 @@
-use Rattle.std.proofs.Common.{◌≡◌, ◌<◌, ◌≤◌, false, true, sym, ◌∙◌, ap, arith}
+use Rattle.std.proofs.Common.{◌≡◌, sym, ◌∙◌, arith}
 use Rattle.std.proofs.lemmas.Bool.Decides.{nat_tests}
 use Rattle.simplex_node.proofs.Ruling.{no_nullify, no_finalize_of, unlike, true_not}
 use Rattle.simplex_node.proofs.standing.Standing.may_nullify.Goals as goal

@@ -1,4 +1,4 @@
-use Rattle.std.proofs.Common.{◌≡◌, false, true, sym, ◌∙◌, arith}
+use Rattle.std.proofs.Common.{sym, ◌∙◌, arith}
 use Rattle.simplex_node.proofs.Ruling.{no_notarization, true_not, unlike}
 use Rattle.simplex_node.proofs.standing.Standing.may_take_notarization.Goals as goal
 

@@ -1,4 +1,4 @@
-use Rattle.std.proofs.Common.{◌≡◌, ◌≢◌, ◌≤◌, false, true, sym, ◌∙◌, arith}
+use Rattle.std.proofs.Common.{◌≢◌, sym, ◌∙◌, arith}
 use Rattle.simplex_node.proofs.Ruling.{no_nullification, true_not, true-false}
 use Rattle.simplex_node.proofs.standing.Standing.may_take_nullification.Goals as goal
 
