@@ -2,16 +2,14 @@
 
 use super::*;
 use crate::memory_disk::MemoryDisk;
-use crate::samples::{Item, certified};
+use crate::samples::{ENTRY, Item, certified, three};
 use std::process::Abort;
 use std::test::Fail;
 
+mod any_bytes;
+
 /// A journal of these on a disk in memory.
 type Kept = Journal<Item, MemoryDisk>;
-
-/// The entry, from gate to body, of the verdict that view 1 of epoch 0 is certified; views 2 and 3 have
-/// their number in place of the 1 before the last byte.
-const ENTRY: [u8; 9] = [1, 0, 0, 0, 4, 2, 0, 1, 1];
 
 /// Opens a disk that holds these bytes: it finds so many artifacts, and leaves those bytes.
 fn assert_opens(
@@ -52,18 +50,6 @@ fn an_open_gate_without_an_entry_is_closed(rt: HostRuntime) -> Result<(), Fail> 
     assert_opens(&rt, rt.alloc(), &[1], 0, &[0])
 }
 
-/// Three entries, and what stands behind them.
-fn three(alloc: Global, behind: &[u8]) -> Result<Vec<u8>, AllocError> {
-    let mut bytes = Vec::new(alloc);
-    for view in 1..=3u8 {
-        let mut entry = ENTRY;
-        entry[7] = view;
-        bytes.extend_from_slice(&entry)?;
-    }
-    bytes.extend_from_slice(behind)?;
-    Ok(bytes)
-}
-
 #[test]
 fn what_stands_behind_the_closed_gate_is_cut(rt: HostRuntime) -> Result<(), Fail> {
     let alloc = rt.alloc();
@@ -81,90 +67,22 @@ fn an_entry_behind_a_closed_gate_is_not_read(rt: HostRuntime) -> Result<(), Fail
     assert_opens(&rt, alloc, &bytes, 0, &[0])
 }
 
-#[test]
-fn a_whole_entry_of_no_artifact_is_foreign(rt: HostRuntime) -> Result<(), Fail> {
-    let alloc = rt.alloc();
-    let bytes = [1, 0, 0, 0, 1, 9, 0].as_slice();
+/// Opens a disk that holds these bytes: it is refused for the entry at this place, and left as it was.
+fn assert_foreign(rt: &impl Abort, alloc: Global, bytes: &[u8], place: u64) -> Result<(), Fail> {
     let Err((fault, disk)) = Kept::open(alloc, MemoryDisk::with(alloc, bytes)?) else {
         return Err(Fail::from("opened"));
     };
-    assert_eq!(rt; fault, JournalFault::Foreign(0));
+    assert_eq!(rt; fault, JournalFault::Foreign(place));
     assert_eq!(rt; disk.bytes(), bytes);
-    assert_opens(&rt, alloc, &bytes[..6], 0, &[0])?;
-    let bytes = three(alloc, &[1, 0, 0, 0, 0, 0])?;
-    let Err((fault, _)) = Kept::open(alloc, MemoryDisk::with(alloc, &bytes)?) else {
-        return Err(Fail::from("opened"));
-    };
-    assert_eq!(rt; fault, JournalFault::Foreign(27));
+    assert_eq!(rt; disk.failures(), 0);
     Ok(())
-}
-
-/// What came of an opening and an append on a disk of which some calls fail.
-#[derive(Drop)]
-struct Outcome {
-    opened: bool,
-    answered: bool,
-    failed_after: bool,
-    left: MemoryDisk,
-}
-
-/// Opens the disk and appends an artifact.
-fn open_and_append(alloc: Global, disk: MemoryDisk) -> Outcome {
-    match Kept::open(alloc, disk) {
-        Ok((mut journal, _)) => {
-            let answered = journal.append(&certified(3)).is_ok();
-            let failed_after = !answered
-                && journal.append(&certified(4)) == Err(JournalFault::Failed);
-            Outcome {
-                opened: true,
-                answered,
-                failed_after,
-                left: journal.close(),
-            }
-        }
-        Err((_, left)) => Outcome {
-            opened: false,
-            answered: false,
-            failed_after: false,
-            left,
-        },
-    }
 }
 
 #[test]
-fn each_call_fails_in_turn(rt: HostRuntime) -> Result<(), Fail> {
+fn a_whole_entry_of_no_artifact_is_foreign(rt: HostRuntime) -> Result<(), Fail> {
     let alloc = rt.alloc();
-    // Opening an empty disk makes five calls, and an append four.
-    for good in 0..12u64 {
-        for alone in [false, true] {
-            let mut disk = MemoryDisk::new(alloc);
-            if alone {
-                disk.fail_at(good);
-            } else {
-                disk.fuse(good);
-            }
-            let outcome = open_and_append(alloc, disk);
-            assert_eq!(rt; outcome.opened, good >= 5, "after {good}");
-            assert_eq!(rt; outcome.answered, good >= 9, "after {good}");
-            assert_eq!(rt;
-                outcome.failed_after,
-                (5..9).contains(&good),
-                "after {good}"
-            );
-            assert_eq!(rt;
-                outcome.left.failures(),
-                if good < 9 { 1 } else { 0 },
-                "after {good}"
-            );
-            let left = MemoryDisk::with(alloc, outcome.left.bytes())?;
-            let Ok((_, artifacts)) = Kept::open(alloc, left) else {
-                return Err(Fail::from("not opened again"));
-            };
-            let wanted = if outcome.answered { 1..=1 } else { 0..=1 };
-            assert!(rt; wanted.contains(&artifacts.len()), "after {good}");
-        }
-    }
-    Ok(())
+    assert_foreign(&rt, alloc, &[1, 0, 0, 0, 1, 9, 0], 0)?;
+    assert_opens(&rt, alloc, &[1, 0, 0, 0, 1, 9], 0, &[0])
 }
 
 #[test]
