@@ -7,6 +7,7 @@ use std::process::Abort;
 use std::test::Fail;
 
 mod any_bytes;
+mod failing_calls;
 
 /// A journal of these on a disk in memory.
 type Kept = Journal<Item, MemoryDisk>;
