@@ -7,7 +7,9 @@ use std::process::Abort;
 use std::test::Fail;
 
 mod any_bytes;
+mod crashes;
 mod failing_calls;
+mod torn_disk;
 
 /// A journal of these on a disk in memory.
 type Kept = Journal<Item, MemoryDisk>;
