@@ -118,3 +118,6 @@ impl<D: Digest> Standing<D> {
         }
     }
 }
+
+#[cfg(test)]
+mod tests;
