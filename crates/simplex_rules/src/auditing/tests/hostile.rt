@@ -65,7 +65,7 @@ fn members_past_the_committee_are_not_named(rt: HostRuntime) -> Result<(), Fail>
 }
 
 #[test]
-fn ten_thousand_messages_of_one_signer_are_one_piece(rt: HostRuntime) -> Result<(), Fail> {
+fn a_million_messages_of_one_signer_are_one_piece(rt: HostRuntime) -> Result<(), Fail> {
     let alloc = rt.alloc();
     let scheme = scheme(alloc, 4, 1)?;
     let mut one = Vec::new(alloc);
@@ -74,7 +74,7 @@ fn ten_thousand_messages_of_one_signer_are_one_piece(rt: HostRuntime) -> Result<
         Activity::Finalize(vote).write(&mut one)?;
     }
     let mut bytes = Vec::new(alloc);
-    for _ in 0..5_000 {
+    for _ in 0..500_000 {
         bytes.extend_from_slice(&one)?;
     }
     let found: Audit<PlainScheme, Sha256Digest> = audit(alloc, &scheme, &bytes)?;
