@@ -64,6 +64,7 @@ fn the_current_view_is_nullified(rt: HostRuntime) -> Result<(), Fail> {
     Ok(())
 }
 
+// A view with an own finalize also lies behind the current one, so two rules refuse its nullify.
 #[test]
 fn a_finalized_view_is_not_nullified(rt: HostRuntime) -> Result<(), Fail> {
     let alloc = rt.alloc();

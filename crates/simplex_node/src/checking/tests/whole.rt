@@ -89,6 +89,8 @@ fn a_record_in_terms_of_five_views_is_lawful(rt: HostRuntime) -> Result<(), Fail
     Ok(())
 }
 
+// `rt try --test --fail-alloc N` refuses one of the first check's eight requests for memory at each N from
+// 15 to 22.
 #[test]
 fn a_refused_allocation_is_answered(rt: HostRuntime) -> Result<(), Fail> {
     let alloc = rt.alloc();
