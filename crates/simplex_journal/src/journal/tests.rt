@@ -88,19 +88,46 @@ fn a_whole_entry_of_no_artifact_is_foreign(rt: HostRuntime) -> Result<(), Fail> 
     assert_opens(&rt, alloc, &[1, 0, 0, 0, 1, 9], 0, &[0])
 }
 
+/// Whether memory was wanting, in the journal or in its disk.
+fn is_want_of_memory(fault: JournalFault) -> bool {
+    fault == JournalFault::Memory || fault == JournalFault::Device
+}
+
+/// Appends two verdicts, each once more where it was refused. Answers whether none was.
+fn append_two(rt: &impl Abort, journal: &mut Kept) -> bool {
+    let mut whole = true;
+    for view in [2, 3] {
+        if let Err(fault) = journal.append(&certified(view)) {
+            whole = false;
+            assert!(rt; fault == JournalFault::Failed || is_want_of_memory(fault));
+            // Where the journal's own memory was wanting it goes on.
+            let refused = journal.append(&certified(view)) == Err(JournalFault::Failed);
+            assert_eq!(rt; refused, fault != JournalFault::Memory);
+        }
+    }
+    whole
+}
+
+// Run with each allocation refused in turn.
 #[test]
 fn a_refused_allocation_is_answered_by_name(rt: HostRuntime) {
     let alloc = rt.alloc();
-    match Kept::open(alloc, MemoryDisk::new(alloc)) {
-        Ok((mut journal, _)) => match journal.append(&certified(3)) {
-            Ok(()) => assert_eq!(rt; journal.close().bytes().len(), 10),
-            Err(fault) => {
-                assert!(rt; fault == JournalFault::Memory || fault == JournalFault::Device);
-            }
-        },
+    let bytes = [1, 0, 0, 0, 4, 2, 0, 1, 1, 0x37, 0xff].as_slice();
+    let Ok(disk) = MemoryDisk::with(alloc, bytes) else {
+        return;
+    };
+    match Kept::open(alloc, disk) {
+        Ok((mut journal, found)) => {
+            assert_eq!(rt; found.len(), 1);
+            let whole = append_two(&rt, &mut journal);
+            let disk = journal.close();
+            // What was kept before an append that failed is there in any case.
+            assert!(rt; disk.bytes().len() >= 10);
+            assert!(rt; !whole || disk.bytes().len() == 28);
+        }
         Err((fault, disk)) => {
-            assert!(rt; fault == JournalFault::Memory || fault == JournalFault::Device);
-            assert!(rt; disk.bytes().len() <= 1);
+            assert!(rt; is_want_of_memory(fault));
+            assert!(rt; fault == JournalFault::Device || disk.bytes() == bytes);
         }
     }
 }
