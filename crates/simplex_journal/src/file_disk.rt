@@ -1,6 +1,6 @@
 //! A disk in a file.
 
-ghost use Rattle.std.specs.Prelude.{◌≡◌, [], is_ok};
+ghost use Rattle.std.specs.Prelude.{◌≡◌, [], is_ok, IfOk};
 ghost use Rattle.simplex_journal.specs.Disk.{counted};
 
 use crate::disk::{Disk, DiskFault};
@@ -20,8 +20,14 @@ pub struct FileDisk {
 }
 
 impl FileDisk {
-    /// Opens the file at this path, and makes an empty one where there is none.
-    pub fn open<R: Files<File = File>>(files: &R, path: &str) -> io::Result<FileDisk> {
+    /// Opens the file at this path, and makes an empty one where there is none. No call has failed yet.
+    ///
+    /// # Errors
+    ///
+    /// The system's, where the file can't be opened to read and write, or be made.
+    pub fn open<R: Files<File = File>>(files: &R, path: &str) -> io::Result<FileDisk>
+        ensures failures { IfOk result (λ disk. ⟦<FileDisk as Disk>⟧.failed disk ≡ 0) }
+    {
         let file = OpenOptions::new()
             .read(true)
             .write(true)
