@@ -79,10 +79,12 @@ pub(crate) fn session<K: Disk>(
     appends: u64,
     owed: &mut Owed,
 ) -> Result<K, Fail> {
+    let failures = disk.failures();
     let (mut journal, found) = match Journal::<Item, K>::open(alloc, disk) {
         Ok(opened) => opened,
         Err((fault, disk)) => {
             assert_eq!(rt; fault, JournalFault::Device);
+            assert!(rt; disk.failures() > failures);
             return Ok(disk);
         }
     };

@@ -40,7 +40,8 @@ fn each_call_of_three_appends_fails_in_turn(rt: HostRuntime) -> Result<(), Fail>
                 let failures = if good < opening + 12 { 1 } else { 0 };
                 assert_eq!(rt; disk.failures(), failures, "after {good}");
                 let left = MemoryDisk::with(alloc, disk.bytes())?;
-                session(&rt, alloc, left, 0, &mut owed)?;
+                let left = session(&rt, alloc, left, 0, &mut owed)?;
+                assert_eq!(rt; left.failures(), 0, "after {good}");
                 // The third of the four opens the gate.
                 let kept = ((good + 1).saturating_sub(opening) / 4).min(3);
                 assert_eq!(rt; owed.views.len() as u64, before + kept, "after {good}");
