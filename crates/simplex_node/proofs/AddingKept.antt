@@ -23,17 +23,12 @@ use Rattle.simplex_node.specs.Standing.{KeepsVotes, KeepsCertificates, KeepsVerd
 use Rattle.simplex_node.specs.Told.{told, notarized_at, nullified_at, finalized_at, vote_in, certificate_in, verdict_at}
 use Rattle.simplex_node.proofs.AddingTerms.{InCoveringRange-LiesIn}
 use Rattle.simplex_node.proofs.AddingTold.{Contains-pushed, Contains-still, Contains-new, greatest-push, greatest-same, KeepsSet-same, KeepsSet-push, KeepsMap-same, KeepsMap-push}
+use Rattle.simplex_node.proofs.Member.{IsVote}
 use Rattle.simplex_node.proofs.Telling.{told-nothing, of_view, certificates-nothing, notarize-none}
 
 -- ---- votes
 
 module _ {D : Type 0} where
-  -- an entry is a vote
-  abbrev pub IsVote : Entry D → Type 0
-  IsVote (voted s) = ⊤
-  IsVote (taken s) = ⊥
-  IsVote (judged r verdict) = ⊥
-
   -- of an entry that is no vote nothing is given
   vote_in-none : {Y : Type 0} (f : Statement D → Option Y) (x : Entry D) → (IsVote x → ⊥) → vote_in f x ≡ None
   vote_in-none f (voted s) never = absurd (never tt)
