@@ -8,19 +8,20 @@ use Rattle.std.specs.declared.vec.Vec.{Vec}
 use Rattle.simplex_types.specs.declared.codec.CodecError.{CodecError}
 use Rattle.simplex_types.specs.Codec.{IsCodec, spelling-one}
 use Rattle.simplex_journal.specs.declared.fault.JournalFault.{JournalFault}
-use Rattle.simplex_journal.specs.declared.fault.JournalFault.TheVariants.{Device}
+use Rattle.simplex_journal.specs.declared.fault.JournalFault.TheVariants.{Device, Memory, Foreign, TooLong, Failed}
 use Rattle.simplex_journal.specs.declared.history.Event.{Event}
 use Rattle.simplex_journal.specs.declared.history.Event.TheVariants.{Opened, OpenFailed, Appended, AppendFailed, NotOpen, Crashed}
 use Rattle.simplex_journal.specs.declared.history.Stage.{Stage}
 use Rattle.simplex_journal.specs.declared.history.Stage.TheVariants as stage
 use Rattle.simplex_journal.specs.Disk.{Call, MayLeave, LeavesOnly}
-use Rattle.simplex_journal.specs.Journal.{Standing, IsRecord}
-use Rattle.simplex_journal.specs.Record.{Reads, IsWithOrWithout, IsReopened}
-use Rattle.simplex_journal.specs.History.{Begun, message_of, IsUnacknowledged, last_found, begun, IsFollowed, MayFind, MayRead, AtEachEvent, Finds, Passes, Recalls, Remembers, IsAnswer, is_open, all_begun, disk_of, Stands}
+use Rattle.simplex_journal.specs.Journal.{Standing, IsRecord, IsTooLong}
+use Rattle.simplex_journal.specs.Record.{Reads, IsWithOrWithout, IsReopened, IsForeign, end_of}
+use Rattle.simplex_journal.specs.History.{Begun, message_of, IsUnacknowledged, last_found, begun, IsFollowed, MayFind, MayRead, AtEachEvent, IsPastTheEnd, IsTrueOf, Finds, Passes, Recalls, Remembers, IsAnswer, is_open, all_begun, disk_of, Stands}
 use Rattle.simplex_journal.proofs.Moments.{started, weaker, at_last}
 use Rattle.simplex_journal.proofs.Images.{end_short, only_synced, reads_front}
 use Rattle.simplex_journal.proofs.Reopened.{reopened_here}
 use Rattle.simplex_journal.proofs.Total.{unique}
+use Rattle.simplex_journal.proofs.Refusals.{entries_long, foreign_again, never_foreign}
 
 -- ---- lists
 
@@ -180,10 +181,35 @@ module _ {M K : Type 0} (Fits : M → Type 0) (spelling : M → List ℕ) (seen 
       let whole : image ≡ rest.front ++ 0 ∷ [] = only_synced (rest.front ++ 0 ∷ []) rest.earlier image (subst (λ (l : List Call). MayLeave l image) rest.calls_is left) in
       subst (λ (l : List ℕ). Reads l (map spelling messages)) (sym whole) (reads_front rest.front (0 ∷ []) (map spelling messages) rest.entries (end_short (0 ∷ []) (omega arith)) (omega arith))
 
+  -- the record's gate stands where its entries end
+  gate_is : (journal : Standing K) (messages : List M) → RecordIs journal messages → journal.gate ≡ end_of (map spelling messages)
+  gate_is journal messages is = is.1.gate_is ∙ entries_long is.1.front (map spelling messages) is.1.entries
+
+  -- a message past the record's end is too long for the journal
+  past_the_end : (journal : Standing K) (message : M) (history : List (Event M)) → journal.failed ≡ false → At (stage.Open journal) history → IsPastTheEnd spelling history message → IsTooLong journal.gate (length (spelling message))
+  past_the_end journal message history fresh at past = subst (λ (gate : ℕ). IsTooLong gate (length (spelling message))) (sym (gate_is journal (all_begun history) (at.has_record fresh))) past
+
+  -- and the other way round
+  too_long : (journal : Standing K) (message : M) (history : List (Event M)) → journal.failed ≡ false → At (stage.Open journal) history → IsTooLong journal.gate (length (spelling message)) → IsPastTheEnd spelling history message
+  too_long journal message history fresh at long = subst (λ (gate : ℕ). IsTooLong gate (length (spelling message))) (gate_is journal (all_begun history) (at.has_record fresh)) long
+
+  -- an opening may be refused for an entry only where nothing was ever found
+  foreign_given : (history : List (Event M)) (last : Option (List M)) → last_found history ≡ last → All Fits (all_begun history) → (image : List ℕ) → MayReadAs spelling given last (begun history) image
+      → (place : ℕ) → IsForeign Fits spelling image place → IsTrueOf Fits spelling given history (OpenFailed (Foreign place))
+  foreign_given history None is fitting image may place foreign = (is, may.before, may.left, foreign_again image may.before may.bodies place may.reads may.reads_before foreign)
+  foreign_given history (Some found) is fitting image may place foreign =
+      let followed = may.1 in
+      let all_there : all_begun history ≡ may.0 ++ map message_of followed.lost =
+      begun_is history found is ∙ ap (λ (l : List (Begun M)). found ++ map message_of l) followed.split ∙ ap (λ (l : List M). found ++ l) (map-append message_of followed.kept followed.lost)
+      ∙ sym (append_assoc found (map message_of followed.kept) (map message_of followed.lost)) ∙ ap (λ (l : List M). l ++ map message_of followed.lost) (sym followed.is) in
+      let fit : All Fits may.0 = all_in_front Fits may.0 (map message_of followed.lost) (subst (All Fits) all_there fitting) in
+      absurd (never_foreign image may.0 place fit may.2 foreign)
+
   -- a disk that was given
   pub given_stands : (disk : K) → calls disk ≡ given → At (stage.Closed disk) []
   given_stands disk is = record {
     finds = tt;
+    true_of = tt;
     passes = is;
     left = λ image may. reopened_here given image (subst (λ (l : List Call). MayLeave l image) is may);
     fitting = All-nil Fits;
@@ -199,6 +225,7 @@ module _ {M K : Type 0} (Fits : M → Type 0) (spelling : M → List ℕ) (seen 
       let left : (image : List ℕ) → MayLeave (calls disk) image → MayRead spelling given history image = subst (λ (d : K). (image : List ℕ) → MayLeave (calls d) image → MayRead spelling given history image) (sym disk_is) at.left in
       record {
         finds = (found spelling given codec history at.fitting read.0 (left read.0 read.1) messages.items fit read.2, at.finds);
+        true_of = (tt, at.true_of);
         passes = (calls disk, subst (λ (d : K). Passes spelling given history (calls d)) (sym disk_is) at.passes, weaker _ moments (reopened spelling given history (calls disk) left));
         left = λ image may. (
           messages.items,
@@ -210,14 +237,25 @@ module _ {M K : Type 0} (Fits : M → Type 0) (spelling : M → List ℕ) (seen 
         has_record = λ fresh. subst (RecordIs new) (sym (append-nil messages.items)) is;
       }
 
+  -- what an opening that fails says
+  open_failed_true : (fault : JournalFault) (history : List (Event M)) → All Fits (all_begun history) → (image : List ℕ) → MayRead spelling given history image
+      → ((place : ℕ) → fault ≡ Foreign place → IsForeign Fits spelling image place) → IsTrueOf Fits spelling given history (OpenFailed fault)
+  open_failed_true Device history fitting image may foreign = tt
+  open_failed_true Memory history fitting image may foreign = tt
+  open_failed_true (Foreign place) history fitting image may foreign = foreign_given history (last_found history) refl fitting image may place (foreign place refl)
+  open_failed_true TooLong history fitting image may foreign = tt
+  open_failed_true Failed history fitting image may foreign = tt
+
   -- an opening that fails
   pub open_failed_stands : (old : Stage M K) (history : List (Event M)) (disk new : K) (fault : JournalFault) → disk ≡ disk_of old
-      → LeavesOnly (calls disk) (calls new) (IsReopened (calls disk)) → At old history → At (stage.Closed new) (OpenFailed fault ∷ history)
-  open_failed_stands old history disk new fault disk_is moments at =
+      → LeavesOnly (calls disk) (calls new) (IsReopened (calls disk)) → MayLeave (calls new) (seen new) → ((place : ℕ) → fault ≡ Foreign place → IsForeign Fits spelling (seen new) place)
+      → At old history → At (stage.Closed new) (OpenFailed fault ∷ history)
+  open_failed_stands old history disk new fault disk_is moments here foreign at =
       let left : (image : List ℕ) → MayLeave (calls disk) image → MayRead spelling given history image = subst (λ (d : K). (image : List ℕ) → MayLeave (calls d) image → MayRead spelling given history image) (sym disk_is) at.left in
       let only = weaker (MayRead spelling given history) moments (reopened spelling given history (calls disk) left) in
       record {
         finds = (tt, at.finds);
+        true_of = (open_failed_true fault history at.fitting (seen new) (at_last only (seen new) here) foreign, at.true_of);
         passes = (calls disk, subst (λ (d : K). Passes spelling given history (calls d)) (sym disk_is) at.passes, only);
         left = at_last only;
         fitting = at.fitting;
@@ -226,17 +264,18 @@ module _ {M K : Type 0} (Fits : M → Type 0) (spelling : M → List ℕ) (seen 
       }
 
   -- an append that answers Ok
-  pub appended_stands : (old new : Standing K) (message : M) (history : List (Event M)) → Fits message → old.failed ≡ false → new.failed ≡ false
+  pub appended_stands : (old new : Standing K) (message : M) (history : List (Event M)) → Fits message → old.failed ≡ false → new.failed ≡ false → (IsTooLong old.gate (length (spelling message)) → ⊥)
       → ((messages : List M) → RecordIs old messages → RecordIs new (messages ++ message ∷ []))
       → ((messages : List M) → RecordIs old messages → LeavesOnly (calls old.disk) (calls new.disk) (IsWithOrWithout (map spelling messages) (spelling message)))
       → At (stage.Open old) history → At (stage.Open new) (Appended message ∷ history)
-  appended_stands old new message history fit fresh stays grows moments at =
+  appended_stands old new message history fit fresh stays short grows moments at =
       let append : Begun M = record { message = message; acknowledged = true } in
       let before : RecordIs old (all_begun history) = at.has_record fresh in
       let after : RecordIs new (all_begun history ++ message ∷ []) = grows (all_begun history) before in
       let more : all_begun history ++ message ∷ [] ≡ all_begun (Appended message ∷ history) = sym (message_of-push (unwrap_or (last_found history) []) (begun history) append) in
       record {
         finds = (tt, at.finds);
+        true_of = (λ past. short (past_the_end old message history fresh at past), at.true_of);
         passes = (calls old.disk, at.passes, weaker _ (moments (all_begun history) before) (reads_either spelling given history message at.stage.0));
         left = λ image may. reads_with spelling given history append at.stage.0 image (record_reads new (all_begun history ++ message ∷ []) after image may);
         fitting = subst (All Fits) more (All-push Fits (all_begun history) message at.fitting fit);
@@ -245,14 +284,15 @@ module _ {M K : Type 0} (Fits : M → Type 0) (spelling : M → List ℕ) (seen 
       }
 
   -- one that fails for the disk
-  pub cut_stands : (old new : Standing K) (message : M) (history : List (Event M)) → Fits message → old.failed ≡ false → new.failed ≡ true
+  pub cut_stands : (old new : Standing K) (message : M) (history : List (Event M)) → Fits message → old.failed ≡ false → new.failed ≡ true → (IsTooLong old.gate (length (spelling message)) → ⊥)
       → ((messages : List M) → RecordIs old messages → LeavesOnly (calls old.disk) (calls new.disk) (IsWithOrWithout (map spelling messages) (spelling message)))
       → At (stage.Open old) history → At (stage.Open new) (AppendFailed message Device ∷ history)
-  cut_stands old new message history fit fresh fails moments at =
+  cut_stands old new message history fit fresh fails short moments at =
       let append : Begun M = record { message = message; acknowledged = false } in
       let only = weaker (MayRead spelling given (AppendFailed message Device ∷ history)) (moments (all_begun history) (at.has_record fresh)) (reads_either spelling given history message at.stage.0) in
       record {
         finds = (tt, at.finds);
+        true_of = (λ past. short (past_the_end old message history fresh at past), at.true_of);
         passes = (calls old.disk, at.passes, only);
         left = at_last only;
         fitting = subst (All Fits) (sym (message_of-push (unwrap_or (last_found history) []) (begun history) append)) (All-push Fits (all_begun history) message at.fitting fit);
@@ -260,11 +300,24 @@ module _ {M K : Type 0} (Fits : M → Type 0) (spelling : M → List ℕ) (seen 
         has_record = λ never. absurd (let both : true ≡ false = sym fails ∙ never in cc);
       }
 
+  -- what an append that is refused says
+  refused_true : (fault : JournalFault) (old : Standing K) (message : M) (history : List (Event M)) → fault ≢ Device → (fault ≢ Failed → old.failed ≡ false)
+      → (fault ≡ Memory → IsTooLong old.gate (length (spelling message)) → ⊥) → (fault ≡ TooLong → IsTooLong old.gate (length (spelling message)))
+      → At (stage.Open old) history → IsTrueOf Fits spelling given history (AppendFailed message fault)
+  refused_true Device old message history refused fresh short long at = absurd (refused refl)
+  refused_true Memory old message history refused fresh short long at = λ past. short refl (past_the_end old message history (fresh (λ never. absurd cc)) at past)
+  refused_true (Foreign place) old message history refused fresh short long at = tt
+  refused_true TooLong old message history refused fresh short long at = too_long old message history (fresh (λ never. absurd cc)) at (long refl)
+  refused_true Failed old message history refused fresh short long at = tt
+
   -- one that is refused
-  pub refused_stands : (fault : JournalFault) (old : Standing K) (message : M) (history : List (Event M)) → fault ≢ Device → At (stage.Open old) history → At (stage.Open old) (AppendFailed message fault ∷ history)
-  refused_stands Device old message history refused at = absurd (refused refl)
-  refused_stands fault old message history refused at = record {
+  pub refused_stands : (fault : JournalFault) (old : Standing K) (message : M) (history : List (Event M)) → fault ≢ Device → (fault ≢ Failed → old.failed ≡ false)
+      → (fault ≡ Memory → IsTooLong old.gate (length (spelling message)) → ⊥) → (fault ≡ TooLong → IsTooLong old.gate (length (spelling message)))
+      → At (stage.Open old) history → At (stage.Open old) (AppendFailed message fault ∷ history)
+  refused_stands Device old message history refused fresh short long at = absurd (refused refl)
+  refused_stands fault old message history refused fresh short long at = record {
     finds = (tt, at.finds);
+    true_of = (refused_true fault old message history refused fresh short long at, at.true_of);
     passes = (calls old.disk, at.passes, started (calls old.disk) _ at.left);
     left = at.left;
     fitting = at.fitting;

@@ -8,4 +8,5 @@ pub mod Total
 pub mod Reopened
 pub mod Held
 pub mod Messages
+pub mod Refusals
 pub mod Histories

@@ -42,12 +42,12 @@ pub reads_any : (bytes : List ℕ) → (bodies : List (List ℕ)) × Reads bytes
 reads_any bytes = total (length bytes) bytes (omega arith)
 
 -- the other way round
-record Next (bytes body : List ℕ) (bodies : List (List ℕ)) : Type 0 where
+pub record Next (bytes body : List ℕ) (bodies : List (List ℕ)) : Type 0 where
   pub after : List ℕ
   pub entry : HasEntry bytes body after
   pub more : Reads after bodies
 
-next_of : (bytes body : List ℕ) (bodies : List (List ℕ)) → Reads bytes (body ∷ bodies) → Next bytes body bodies
+pub next_of : (bytes body : List ℕ) (bodies : List (List ℕ)) → Reads bytes (body ∷ bodies) → Next bytes body bodies
 next_of bytes body bodies r =
     let e = r.entries in
     let some : 0 < length r.end = ⊎_elim (λ none. absurd (omega (arith, ap length none))) (λ some. some) r.gate in

@@ -1,15 +1,15 @@
 -- What openings find over a whole history of a disk. Histories have the newest event first.
-use Rattle.std.specs.Prelude.{◌≡◌, ℕ, Bool, true, false, List, [], ◌∷◌, ◌++◌, map, All, Contains, Option, None, Some, MatchOption, unwrap_or, ⊤}
-use Rattle.simplex_journal.specs.declared.fault.JournalFault.TheVariants.{Device, Foreign, TooLong, Failed}
+use Rattle.std.specs.Prelude.{◌≡◌, ℕ, Bool, true, false, List, [], ◌∷◌, ◌++◌, length, map, All, Contains, Option, None, Some, MatchOption, unwrap_or, ⊤}
+use Rattle.simplex_journal.specs.declared.fault.JournalFault.TheVariants.{Device, Memory, Foreign, TooLong, Failed}
 use Rattle.simplex_journal.specs.declared.history.Event.{Event}
 use Rattle.simplex_journal.specs.declared.history.Event.TheVariants.{Opened, OpenFailed, Appended, AppendFailed, NotOpen, Crashed}
 use Rattle.simplex_journal.specs.declared.history.Request.{Request}
 use Rattle.simplex_journal.specs.declared.history.Request.TheVariants.{Open, Append, Crash}
 use Rattle.simplex_journal.specs.declared.history.Stage.{Stage}
 use Rattle.simplex_journal.specs.declared.history.Stage.TheVariants as stage
-use Rattle.simplex_journal.specs.Disk.{Call, MayLeave, LeavesOnly}
-use Rattle.simplex_journal.specs.Journal.{IsRecord}
-use Rattle.simplex_journal.specs.Record.{Reads, IsReopened}
+use Rattle.simplex_journal.specs.Disk.{Call, MayLeave, LeavesOnly, counted}
+use Rattle.simplex_journal.specs.Journal.{IsRecord, IsTooLong}
+use Rattle.simplex_journal.specs.Record.{Reads, IsReopened, IsForeign, end_of}
 
 -- an append that was begun and not refused, and whether it answered Ok
 pub record Begun (M : Type 0) : Type 0 where
@@ -114,6 +114,35 @@ module _ {M : Type 0} where
   Passes spelling given [] now = now ≡ given
   Passes spelling given (event ∷ history) now = (before : List Call) × Passes spelling given history before × Leaves spelling given history event before now
 
+  -- how often a disk has failed after an event: once more where a call failed for the disk
+  abbrev pub failures_after : Event M → ℕ → ℕ
+  failures_after (OpenFailed Device) failures = counted false failures
+  failures_after (AppendFailed message Device) failures = counted false failures
+  failures_after event failures = failures
+
+  -- how often a disk has failed after a history, from how often it had before
+  abbrev pub failures_told : ℕ → List (Event M) → ℕ
+  failures_told given [] = given
+  failures_told given (event ∷ history) = failures_after event (failures_told given history)
+
+  -- what was found last, followed by all appends that were begun since
+  abbrev pub all_begun : List (Event M) → List M
+  all_begun history = unwrap_or (last_found history) [] ++ map message_of (begun history)
+
+  -- the message is too long behind all that was found or begun
+  abbrev pub IsPastTheEnd : (M → List ℕ) → List (Event M) → M → Type 0
+  IsPastTheEnd spelling history message = IsTooLong (end_of (map spelling (all_begun history))) (length (spelling message))
+
+  -- A refusal says what is: a foreign entry stands in some content that a crash might have left of the disk as it was
+  -- given, of which nothing was ever found, and an append is too long just where its body or its place is.
+  abbrev pub IsTrueOf : (M → Type 0) → (M → List ℕ) → List Call → List (Event M) → Event M → Type 0
+  IsTrueOf Fits spelling given history (OpenFailed (Foreign place)) = (last_found history ≡ None) × (before : List ℕ) × MayLeave given before × IsForeign Fits spelling before place
+  IsTrueOf Fits spelling given history (Appended message) = IsPastTheEnd spelling history message → ⊥
+  IsTrueOf Fits spelling given history (AppendFailed message TooLong) = IsPastTheEnd spelling history message
+  IsTrueOf Fits spelling given history (AppendFailed message Device) = IsPastTheEnd spelling history message → ⊥
+  IsTrueOf Fits spelling given history (AppendFailed message Memory) = IsPastTheEnd spelling history message → ⊥
+  IsTrueOf Fits spelling given history event = ⊤
+
   -- whether a journal is open
   abbrev pub is_open : List (Event M) → Bool
   is_open [] = false
@@ -160,13 +189,10 @@ module _ {M : Type 0} where
     HasRecord spelling seen calls (stage.Open journal) messages = journal.failed ≡ false → IsRecord spelling seen calls journal messages
     HasRecord spelling seen calls (stage.Closed disk) messages = ⊤
 
-  -- what was found last, followed by all appends that were begun since
-  abbrev pub all_begun : List (Event M) → List M
-  all_begun history = unwrap_or (last_found history) [] ++ map message_of (begun history)
-
   -- a disk stands where this history leads
   pub record Stands {K : Type 0} (Fits : M → Type 0) (spelling : M → List ℕ) (seen : K → List ℕ) (calls : K → List Call) (given : List Call) (now : Stage M K) (history : List (Event M)) : Type 0 where
     pub finds : AtEachEvent (Finds spelling given) history
+    pub true_of : AtEachEvent (IsTrueOf Fits spelling given) history
     pub passes : Passes spelling given history (calls (disk_of now))
     pub left : (image : List ℕ) → MayLeave (calls (disk_of now)) image → MayRead spelling given history image
     pub fitting : All Fits (all_begun history)

@@ -25,6 +25,11 @@ abbrev pub AreEntries : List ℕ → List (List ℕ) → Type 0
 AreEntries bytes [] = bytes ≡ []
 AreEntries bytes (body ∷ bodies) = (a : ℕ) × (b : ℕ) × (c : ℕ) × (d : ℕ) × (after : List ℕ) × (bytes ≡ 1 ∷ a ∷ b ∷ c ∷ d ∷ body ++ after) × (length body ≡ size a b c d) × AreEntries after bodies
 
+-- how many bytes the entries of these bodies take, the place of the gate behind them
+abbrev pub end_of : List (List ℕ) → ℕ
+end_of [] = 0
+end_of (body ∷ bodies) = 5 + length body + end_of bodies
+
 -- a disk reads as these bodies
 pub record Reads (disk : List ℕ) (bodies : List (List ℕ)) : Type 0 where
   pub front : List ℕ

@@ -5,7 +5,7 @@ ghost use Rattle.simplex_types.specs.Codec.{Readable};
 ghost use Rattle.simplex_journal.specs.Disk.{Call, MayLeave};
 ghost use Rattle.simplex_journal.specs.declared.history.Event.{Event};
 ghost use Rattle.simplex_journal.specs.declared.history.Request.TheVariants.{Open, Append, Crash};
-ghost use Rattle.simplex_journal.specs.History.{OfMessage, request_of, disk_of, MayRead, AtEachEvent, Finds, Remembers, Passes, IsAnswer, IsStage, GoesOn};
+ghost use Rattle.simplex_journal.specs.History.{OfMessage, request_of, disk_of, MayRead, AtEachEvent, IsTrueOf, Finds, Remembers, Passes, IsAnswer, IsStage, GoesOn, failures_after, failures_told};
 
 use crate::disk::Disk;
 use crate::fault::JournalFault;
@@ -22,7 +22,8 @@ pub trait Crash: Disk {
     /// A crash, and a restart: what stands on the disk then is one of the contents that the crash may
     /// leave, and so is what a further crash may leave of it.
     fn crash(&mut self)
-        ensures { Self.keeps → (image : List ℕ) → MayLeave (Self.calls self.new) image → MayLeave (Self.calls self.old) image };
+        ensures left { Self.keeps → (image : List ℕ) → MayLeave (Self.calls self.new) image → MayLeave (Self.calls self.old) image }
+        ensures no_fault { Self.failed self.new ≡ Self.failed self.old };
 }
 
 /// A crash of the process alone: all that was written is there, as much in doubt as before.
@@ -89,6 +90,7 @@ impl<M: Read + EncodeSize + Drop, K: Disk> Stage<M, K> {
     fn open(self, alloc: Global) -> (Self, Event<M>)
         ensures asked { request_of result.1 ≡ Open }
         ensures answer { (history : List (Event M)) → IsStage self history → IsAnswer history result.1 × IsStage result.0 (result.1 ∷ history) }
+        ensures cause { K.failed (disk_of result.0) ≡ failures_after result.1 (K.failed (disk_of self)) }
         ensures stands { K.keeps → GoesOn (Readable M.fits (M.within 65535)) M.spelling K.seen K.calls self result.0 result.1 }
     {
         match Journal::open(alloc, self.into_disk()) {
@@ -102,14 +104,13 @@ impl<M: Read + EncodeSize + Drop, K: Disk> Stage<M, K> {
         requires { M.within 65535 message }
         ensures asked { request_of result.1 ≡ Append message }
         ensures answer { (history : List (Event M)) → IsStage self history → IsAnswer history result.1 × IsStage result.0 (result.1 ∷ history) }
+        ensures cause { K.failed (disk_of result.0) ≡ failures_after result.1 (K.failed (disk_of self)) }
         ensures stands { K.keeps → GoesOn (Readable M.fits (M.within 65535)) M.spelling K.seen K.calls self result.0 result.1 }
     {
         let mut journal = match self {
             Stage::Open(journal) => journal,
             Stage::Closed(disk) => return (Stage::Closed(disk), Event::NotOpen(message)),
         };
-        // What has a size can be read again.
-        let _size = message.encode_size();
         match journal.append(&message) {
             Ok(()) => (Stage::Open(journal), Event::Appended(message)),
             Err(fault) => (Stage::Open(journal), Event::AppendFailed(message, fault)),
@@ -122,6 +123,7 @@ impl<M: Read + EncodeSize + Drop, K: Crash> Stage<M, K> {
     fn crash(self) -> (Self, Event<M>)
         ensures asked { request_of result.1 ≡ Crash }
         ensures answer { (history : List (Event M)) → IsStage self history → IsAnswer history result.1 × IsStage result.0 (result.1 ∷ history) }
+        ensures cause { K.failed (disk_of result.0) ≡ failures_after result.1 (K.failed (disk_of self)) }
         ensures stands { K.keeps → GoesOn (Readable M.fits (M.within 65535)) M.spelling K.seen K.calls self result.0 result.1 }
     {
         let mut disk = self.into_disk();
@@ -134,6 +136,7 @@ impl<M: Read + EncodeSize + Drop, K: Crash> Stage<M, K> {
         requires { OfMessage (M.within 65535) request }
         ensures asked { request_of result.1 ≡ request }
         ensures answer { (history : List (Event M)) → IsStage self history → IsAnswer history result.1 × IsStage result.0 (result.1 ∷ history) }
+        ensures cause { K.failed (disk_of result.0) ≡ failures_after result.1 (K.failed (disk_of self)) }
         ensures stands { K.keeps → GoesOn (Readable M.fits (M.within 65535)) M.spelling K.seen K.calls self result.0 result.1 }
     {
         match request {
@@ -149,7 +152,8 @@ impl<M: Read + EncodeSize + Drop, K: Crash> Stage<M, K> {
 /// Whatever a crash leaves at any moment, inside a call too, reads as what the last opening found,
 /// followed by a prefix of the messages whose append was begun since then and not refused, with all
 /// that were acknowledged. What an opening has found every later one finds, also where openings between
-/// were refused. A crash inside a call is told as that call, failed for the disk, and then a crash.
+/// were refused. A crash inside a call is told as that call, failed for the disk, and then a crash. Each
+/// message has to be one that can be read again, as for [`Journal::append`].
 ///
 /// # Errors
 ///
@@ -162,6 +166,8 @@ pub fn run<M: Read + EncodeSize + Drop, K: Crash>(
     requires { All (OfMessage (M.within 65535)) requests.items }
     ensures asked { IfOk result (λ history. map request_of history.events.items ≡ requests.items) }
     ensures answers { IfOk result (λ history. AtEachEvent IsAnswer (reverse history.events.items)) }
+    ensures cause { IfOk result (λ history. K.failed history.disk ≡ failures_told (K.failed disk) (reverse history.events.items)) }
+    ensures refusals { IfOk result (λ history. K.keeps → AtEachEvent (IsTrueOf (Readable M.fits (M.within 65535)) M.spelling (K.calls disk)) (reverse history.events.items)) }
     ensures finds { IfOk result (λ history. K.keeps → AtEachEvent (Finds M.spelling (K.calls disk)) (reverse history.events.items)) }
     ensures remembers { IfOk result (λ history. K.keeps → AtEachEvent Remembers (reverse history.events.items)) }
     ensures any_moment { IfOk result (λ history. K.keeps → Passes M.spelling (K.calls disk) (reverse history.events.items) (K.calls history.disk)) }

@@ -63,6 +63,8 @@ impl<M: Read + EncodeSize + Drop, K: Disk> Journal<M, K> {
         ensures any_moment_of_a_fault { IfErr result (λ refused. K.keeps → LeavesOnly (K.calls disk) (K.calls refused.1) (IsReopened (K.calls disk))) }
 
         ensures device { IfErr result (λ refused. refused.0 ≡ Device → K.failed refused.1 ≡ counted false (K.failed disk)) }
+        ensures no_fault { IfOk result (λ opened. K.failed opened.0.disk ≡ K.failed disk) }
+        ensures no_fault_of_others { IfErr result (λ refused. refused.0 ≢ Device → K.failed refused.1 ≡ K.failed disk) }
         ensures foreign { IfErr result (λ refused. (place : ℕ) → refused.0 ≡ Foreign place → K.keeps → IsForeign (Readable M.fits (M.within 65535)) M.spelling (K.seen refused.1) place) }
         ensures faults { IfErr result (λ refused. (refused.0 ≡ Device) ⊎ ((refused.0 ≡ Memory) ⊎ ((place : ℕ) × (refused.0 ≡ Foreign place)))) }
         ensures untouched { IfErr result (λ refused. refused.0 ≢ Device → K.keeps → K.calls refused.1 ≡ Synced (K.seen refused.1) ∷ K.calls disk) }
@@ -91,7 +93,9 @@ impl<M: Read + EncodeSize + Drop, K: Disk> Journal<M, K> {
         self.disk
     }
 
-    /// Adds a message to the record. After `Ok` a crash leaves the record with it.
+    /// Adds a message to the record. After `Ok` a crash leaves the record with it. It has to be one that
+    /// can be read again under a bound of 65,535 members: `Artifact::is_within` of `simplex_messages`
+    /// tells it of artifacts.
     ///
     /// # Errors
     ///
@@ -106,9 +110,11 @@ impl<M: Read + EncodeSize + Drop, K: Disk> Journal<M, K> {
         // A crash at any moment of the call leaves the record from before it, with the message or without.
         ensures any_moment { (messages : List M) → K.keeps → IsRecord M.spelling K.seen K.calls self.old messages → LeavesOnly (K.calls self.old.disk) (K.calls self.new.disk) (IsWithOrWithout (map M.spelling messages) (M.spelling message.now)) }
 
+        ensures readable { self.old.failed ≡ false → M.fits message.now }
         ensures stays_open { OnOk result (self.new.failed ≡ false) }
         ensures faults { IfErr result (λ fault. (fault ≡ Device) ⊎ ((fault ≡ Memory) ⊎ ((fault ≡ TooLong) ⊎ (fault ≡ Failed)))) }
         ensures device { IsErrOf result JournalFault.Device → (self.new.failed ≡ true) × (K.failed self.new.disk ≡ counted false (K.failed self.old.disk)) }
+        ensures no_fault { OnOk result (K.failed self.new.disk ≡ K.failed self.old.disk) }
         ensures memory { IsErrOf result JournalFault.Memory → self.new ≡ self.old }
         ensures too_long { IsErrOf result JournalFault.TooLong → (self.new ≡ self.old) × IsTooLong self.old.gate (length (M.spelling message.now)) }
         ensures refused_if_long { self.old.failed ≡ false → IsTooLong self.old.gate (length (M.spelling message.now)) → IsErrOf result JournalFault.TooLong }

@@ -48,8 +48,9 @@ fn read_disk<K: Disk>(alloc: Global, disk: &mut K) -> Result<Vec<u8>, JournalFau
     ensures bytes { IfOk result (λ bytes. K.keeps → bytes.items ≡ K.seen disk.new) }
     ensures fixed { OnOk result (K.keeps → IsFixed (K.seen disk.new) (K.calls disk.new) × MayLeave (K.calls disk.old) (K.seen disk.new)) }
     ensures any_moment { K.keeps → LeavesOnly (K.calls disk.old) (K.calls disk.new) (MayLeave (K.calls disk.old)) }
-    ensures ok { OnOk result (K.failed disk.new ≡ K.failed disk.old) }
     ensures device { IsErrOf result JournalFault.Device → K.failed disk.new ≡ counted false (K.failed disk.old) }
+    ensures no_fault { OnOk result (K.failed disk.new ≡ K.failed disk.old) }
+    ensures no_fault_of_others { IfErr result (λ fault. fault ≢ Device → K.failed disk.new ≡ K.failed disk.old) }
     ensures faults { IfErr result (λ fault. (fault ≡ Device) ⊎ (fault ≡ Memory)) }
     ensures untouched { IfErr result (λ fault. fault ≢ Device → K.keeps → K.calls disk.new ≡ Synced (K.seen disk.new) ∷ K.calls disk.old) }
     ensures synced { OnOk result (K.keeps → K.calls disk.new ≡ Synced (K.seen disk.new) ∷ K.calls disk.old) }
@@ -108,6 +109,8 @@ pub(crate) fn open_disk<M: Read + Drop, K: Disk>(
     // A crash at any moment leaves what reads as something that a crash might have left before.
     ensures any_moment { K.keeps → LeavesOnly (K.calls disk.old) (K.calls disk.new) (IsReopened (K.calls disk.old)) }
     ensures device { IsErrOf result JournalFault.Device → K.failed disk.new ≡ counted false (K.failed disk.old) }
+    ensures no_fault { OnOk result (K.failed disk.new ≡ K.failed disk.old) }
+    ensures no_fault_of_others { IfErr result (λ fault. fault ≢ Device → K.failed disk.new ≡ K.failed disk.old) }
     ensures foreign { IfErr result (λ fault. (place : ℕ) → fault ≡ Foreign place → K.keeps → IsForeign (Readable M.fits (M.within 65535)) M.spelling (K.seen disk.new) place) }
     ensures faults { IfErr result (λ fault. (fault ≡ Device) ⊎ ((fault ≡ Memory) ⊎ ((place : ℕ) × (fault ≡ Foreign place)))) }
     // After any other fault than the disk's own nothing was written or cut.

@@ -13,8 +13,8 @@ use crate::proposal_certificate::{Finalization, Notarization};
 use crate::proposal_vote::{Finalize, Notarize};
 use crate::vote::Vote;
 use simplex_types::{
-    CodecError, Digest, Duplicate, EncodeSize, Epoch, Epochable, Read, Round, Scheme, View,
-    Viewable, Write,
+    Aggregate, CodecError, Digest, Duplicate, EncodeSize, Epoch, Epochable, Read, Round, Scheme,
+    View, Viewable, Write,
 };
 use std::alloc::{AllocError, Global};
 
@@ -36,6 +36,28 @@ pub enum Artifact<S: Scheme<D>, D: Digest> {
     Finalize(Finalize<S, D>),
     /// A certificate that a proposal is final. Its tag is 6.
     Finalization(Finalization<S, D>),
+}
+
+impl<S: Scheme<D>, D: Digest> Artifact<S, D> {
+    ghost use Rattle.std.specs.Prelude.{◌↔◌, IsTrue};
+    ghost use Rattle.simplex_messages.specs.Artifact.{artifact_within};
+
+    /// Whether the artifact can be read again under this bound on the committee's size: whether its
+    /// certificate, where it has one, is within it.
+    #[tactic(auto, unfolding(crate::specs::Artifact::artifact_within))]
+    pub fn is_within(&self, bound: u32) -> bool
+        ensures { IsTrue result ↔ artifact_within (S.Certificate.within bound) self.now }
+    {
+        match self {
+            Artifact::Notarization(notarization) => notarization.certificate.is_within(bound),
+            Artifact::Nullification(nullification) => nullification.certificate.is_within(bound),
+            Artifact::Finalization(finalization) => finalization.certificate.is_within(bound),
+            Artifact::Notarize(_)
+            | Artifact::Certification(..)
+            | Artifact::Nullify(_)
+            | Artifact::Finalize(_) => true,
+        }
+    }
 }
 
 impl<S: Scheme<D>, D: Digest> From<Vote<S, D>> for Artifact<S, D> {

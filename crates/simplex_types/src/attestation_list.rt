@@ -7,6 +7,7 @@ ghost use Rattle.simplex_types.specs.AttestationList.{next_at, ascending_at};
 use crate::attestation::{Attestation, Signature};
 use crate::codec::{CodecError, EncodeSize, MaxEncodeSize, Read, Write};
 use crate::duplicate::Duplicate;
+use crate::membership::ascend_below;
 use crate::position::Participant;
 use crate::scheme::Aggregate;
 use crate::varint::{put_varint, read_u64, varint_size};
@@ -222,6 +223,12 @@ impl<G: Signature> Aggregate for AttestationList<G> {
 
     fn max_encode_size(participants: u32) -> usize {
         5 + participants as usize * Attestation::<G>::max_encode_size()
+    }
+
+    #[tactic(auto, unfolding(crate::specs::AttestationList::list_within))]
+    fn is_within(&self, participants: u32) -> bool {
+        self.attestations.len() <= participants as usize
+            && ascend_below(participants, &self.attestations)
     }
 
     ghost longest = { λ n x small fits within. list_longest G.fits G.spelling G.max_size G.longest n x small fits within };

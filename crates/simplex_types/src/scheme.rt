@@ -27,6 +27,11 @@ pub trait Aggregate: Eq + Hash + Read + EncodeSize + Duplicate + Drop {
     fn max_encode_size(participants: u32) -> usize
         ensures { result ≡ most_bytes participants };
 
+    /// Whether the certificate is within the bound of a committee of so many, under which it can be read
+    /// again.
+    fn is_within(&self, participants: u32) -> bool
+        ensures { IsTrue result ↔ Self.within participants self.now };
+
     /// No spelling is longer than the most.
     ghost longest: { (n : ℕ) (x : Self) → n < 2 ^ 32 → Self.fits x → Self.within n x → length (Self.spelling x) ≤ most_bytes n };
 

@@ -5,7 +5,7 @@ ghost use Rattle.simplex_journal.specs.History.{OfMessage};
 
 use super::*;
 use crate::memory_disk::MemoryDisk;
-use crate::samples::{Item, certified};
+use crate::samples::{Item, certified, three};
 use std::process::Abort;
 use std::test::Fail;
 
@@ -52,6 +52,23 @@ fn what_was_acknowledged_is_found(rt: HostRuntime) -> Result<(), Fail> {
         Event::Opened(found),
     ]?;
     assert_comes(&rt, alloc, MemoryDisk::new(alloc), wanted)
+}
+
+// Behind three entries, at place 27, stands one whose body begins with a tag that no artifact has.
+#[test]
+fn a_foreign_entry_is_named_by_each_opening(rt: HostRuntime) -> Result<(), Fail> {
+    let alloc = rt.alloc();
+    let bytes = three(alloc, &[1, 0, 0, 0, 1, 9, 0])?;
+    let wanted = vec![in alloc;
+        Event::OpenFailed(JournalFault::Foreign(27)),
+        Event::NotOpen(certified(1)),
+        Event::NotOpen(certified(2)),
+        Event::NotOpen(certified(3)),
+        Event::Crashed,
+        Event::NotOpen(certified(4)),
+        Event::OpenFailed(JournalFault::Foreign(27)),
+    ]?;
+    assert_comes(&rt, alloc, MemoryDisk::with(alloc, &bytes)?, wanted)
 }
 
 /// Where this call of the disk fails, in the second append, the last opening finds these. The first

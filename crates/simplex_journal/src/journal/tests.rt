@@ -48,6 +48,25 @@ fn an_entry_is_a_gate_a_length_and_a_body(rt: HostRuntime) -> Result<(), Fail> {
     Ok(())
 }
 
+// A nullification of view 2, which lists no attestation, is read, tested and appended.
+#[test]
+fn an_artifact_that_is_within_the_bound_is_appended(rt: HostRuntime) -> Result<(), Fail> {
+    let alloc = rt.alloc();
+    let artifact = Item::read_cfg(alloc, &mut [4u8, 0, 2, 0].as_slice(), 4)
+        .ok()
+        .ok_or("read")?;
+    let Ok((mut journal, _)) = Kept::open(alloc, MemoryDisk::new(alloc)) else {
+        return Err(Fail::from("not opened"));
+    };
+    if !artifact.is_within(65_535) {
+        return Err(Fail::from("not within the bound"));
+    }
+    assert_eq!(rt; journal.append(&artifact), Ok(()));
+    let wanted = [1, 0, 0, 0, 4, 4, 0, 2, 0, 0].as_slice();
+    assert_eq!(rt; journal.close().bytes(), wanted);
+    Ok(())
+}
+
 #[test]
 fn an_open_gate_without_an_entry_is_closed(rt: HostRuntime) -> Result<(), Fail> {
     assert_opens(&rt, rt.alloc(), &[1], 0, &[0])

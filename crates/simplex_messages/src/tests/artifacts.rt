@@ -89,6 +89,27 @@ fn artifacts_stand_behind_the_tags_0_to_6(rt: HostRuntime) -> Result<(), Fail> {
     Ok(())
 }
 
+#[test]
+fn an_artifact_is_within_a_bound_where_its_certificate_is(rt: HostRuntime) -> Result<(), Fail> {
+    let alloc = rt.alloc();
+    // A certificate of three members isn't within a bound of two; what has none is within each.
+    for (value, listed) in [
+        (REPORT_AA.as_slice(), false),
+        (REPORT_NOTARIZATION.as_slice(), true),
+        (b"\x02\x00\x02\x01".as_slice(), false),
+        (REPORT_NULLIFY.as_slice(), false),
+        (REPORT_NULLIFICATION.as_slice(), true),
+        (REPORT_FINALIZE_AA.as_slice(), false),
+        (REPORT_FINALIZATION.as_slice(), true),
+    ] {
+        let mut rest = value;
+        let artifact = Kept::read_cfg(alloc, &mut rest, MEMBERS)?;
+        assert!(rt; artifact.is_within(MEMBERS));
+        assert_eq!(rt; artifact.is_within(2), !listed);
+    }
+    Ok(())
+}
+
 // Each vote and certificate by its own tag, and the tag of the artifact that it becomes.
 #[test]
 fn votes_and_certificates_become_artifacts(rt: HostRuntime) -> Result<(), Fail> {

@@ -97,6 +97,27 @@ fn new_list_ascends(rt: HostRuntime) -> Result<(), Fail> {
 }
 
 #[test]
+fn a_list_is_within_the_bounds_under_which_it_is_read(rt: HostRuntime) -> Result<(), Fail> {
+    let alloc = rt.alloc();
+    let empty = List::new(alloc, 0, &[])?;
+    assert!(rt; empty.is_within(0));
+    let bytes = spelled(alloc, 3, &THREE)?;
+    let list = read(alloc, &bytes, 4).0?;
+    // Three members, the last of them member 3.
+    for (bound, within) in [
+        (0, false),
+        (2, false),
+        (3, false),
+        (4, true),
+        (u32::MAX, true),
+    ] {
+        assert_eq!(rt; list.is_within(bound), within, "{bound}");
+        assert_eq!(rt; read(alloc, &bytes, bound).0.is_ok(), within, "{bound}");
+    }
+    Ok(())
+}
+
+#[test]
 fn cut_lists_end_too_early(rt: HostRuntime) -> Result<(), Fail> {
     let bytes = spelled(rt.alloc(), 3, &THREE)?;
     assert_eq!(rt; bytes.len(), 100);

@@ -4,7 +4,7 @@ use Rattle.std.proofs.lemmas.List.{map-append, reverse-append}
 use Rattle.std.proofs.lemmas.List.Elements.{All-rest}
 use Rattle.simplex_journal.specs.declared.history.Event.{Event}
 use Rattle.simplex_journal.specs.declared.history.Request.{Request}
-use Rattle.simplex_journal.specs.History.{OfMessage, request_of, AtEachEvent, IsAnswer, IsStage, is_open}
+use Rattle.simplex_journal.specs.History.{OfMessage, request_of, AtEachEvent, IsAnswer, IsStage, is_open, failures_after}
 use Rattle.simplex_journal.proofs.Histories.{given_stands, remembers}
 use Rattle.simplex_journal.proofs.history.run.Goals as goal
 
@@ -27,6 +27,7 @@ loop-request-preserved g c =
       room = omega (arith, so_far.room, c.in-Ok-push.ensures.capacity);
       fitting = All-rest (OfMessage (g.M.Read.within 65535)) c.in-Some.request _ _ c.in-Some.ensures.steps.0 so_far.fitting;
       answers = subst (AtEachEvent IsAnswer) (sym told) (answer.0, so_far.answers);
+      failures = rw told (c.step-next.ensures.cause ∙ ap (failures_after event) so_far.failures);
       stage = subst (IsStage c.step-next.result.0) (sym told) answer.1;
       stands = λ k. rw told (c.step-next.ensures.stands k _ _ (so_far.stands k));
     }
@@ -45,6 +46,7 @@ loop-request-init g c =
       room = search rules;
       fitting = subst (All (OfMessage (g.M.Read.within 65535))) (sym all) c.requires;
       answers = subst (AtEachEvent IsAnswer) (sym none) tt;
+      failures = rw none refl;
       stage = ap is_open none;
       stands = λ k. rw none (given_stands _ _ _ _ _ c.args.disk refl);
     }

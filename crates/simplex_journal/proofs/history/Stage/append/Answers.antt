@@ -1,4 +1,4 @@
-use Rattle.std.proofs.Common.{◌≡◌, ◌≢◌, ◌⊎◌, inl, inr, false}
+use Rattle.std.proofs.Common.{◌≡◌, ◌≢◌, ◌⊎◌, ◌∙◌, inl, inr, sym, false}
 use Rattle.std.proofs.lemmas.Bool.{cases_Bool}
 use Rattle.simplex_journal.specs.declared.fault.JournalFault.{JournalFault}
 use Rattle.simplex_journal.specs.declared.fault.JournalFault.TheVariants.{Device, Memory, TooLong, Failed}
@@ -17,7 +17,8 @@ returns-in-Ok-clause-stands g c = λ k given history at.
       | inl failed ↦ absurd (let never = done.refused_if_failed failed in cc)
       | inr fresh ↦ fresh
     ] in
-    appended_stands _ _ _ _ _ c.in-Open.journal c.append.new.self c.args.message history (c.encode_size-size.ensures.readable, c.requires) fresh done.stays_open
+    appended_stands _ _ _ _ _ c.in-Open.journal c.append.new.self c.args.message history (done.readable fresh, c.requires) fresh done.stays_open
+    (λ long. absurd (let refused = done.refused_if_long fresh long in cc))
     (λ messages. done.record messages k) (λ messages. done.any_moment messages k) (rw c.in-Open.is at at)
 
 pub returns-in-Err-clause-stands : goal.returns-in-Err-clause-stands
@@ -31,12 +32,18 @@ returns-in-Err-clause-stands g c = λ k given history at.
             | inr fresh ↦ fresh
           ] in
           let fails = done.device (cc) in
-          rw device (cut_stands _ _ _ _ _ c.in-Open.journal c.append.new.self c.args.message history (c.encode_size-size.ensures.readable, c.requires) fresh fails.0 (λ messages. done.any_moment messages k) here)
+          rw device (cut_stands _ _ _ _ _ c.in-Open.journal c.append.new.self c.args.message history (done.readable fresh, c.requires) fresh fails.0 (λ long. absurd (let refused = done.refused_if_long fresh long in cc)) (λ messages. done.any_moment messages k) here)
       | inr refused ↦
           let same : c.append.new.self ≡ c.in-Open.journal = elim refused [
             | inl memory ↦ done.memory (cc)
             | inr (inl too_long) ↦ (done.too_long (cc)).0
             | inr (inr failed) ↦ (done.failed (cc)).0
           ] in
-          rw same (refused_stands _ _ _ _ _ c.in-Err.fault c.in-Open.journal c.args.message history (never_device c.in-Err.fault refused) here)
+          let fresh : c.in-Err.fault ≢ Failed → c.in-Open.journal.failed ≡ false = λ other. elim (cases_Bool c.in-Open.journal.failed) [
+            | inl failed ↦ absurd (other (let is = done.refused_if_failed failed in cc))
+            | inr fresh ↦ fresh
+          ] in
+          rw same (refused_stands _ _ _ _ _ c.in-Err.fault c.in-Open.journal c.args.message history (never_device c.in-Err.fault refused) fresh
+          (λ memory long. absurd (let is = done.refused_if_long (fresh (λ failed. absurd (let never : Memory ≡ Failed = sym memory ∙ failed in cc))) long in cc))
+          (λ long. (done.too_long (cc)).1) here)
     ]

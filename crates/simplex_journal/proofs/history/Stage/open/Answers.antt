@@ -9,4 +9,5 @@ returns-in-Ok-clause-stands g c = λ k given history at.
 
 pub returns-in-Err-clause-stands : goal.returns-in-Err-clause-stands
 returns-in-Err-clause-stands g c = λ k given history at.
-    open_failed_stands _ _ _ _ _ c.args.self history c.into_disk.result c.in-Err.disk c.in-Err.fault c.into_disk.ensures (c.in-Err.ensures.any_moment_of_a_fault k) at
+    open_failed_stands _ _ _ _ _ c.args.self history c.into_disk.result c.in-Err.disk c.in-Err.fault c.into_disk.ensures (c.in-Err.ensures.any_moment_of_a_fault k)
+    (g.met.K.Disk.seen_is_left c.in-Err.disk k) (λ place is. c.in-Err.ensures.foreign place is k) at
