@@ -15,7 +15,7 @@ use Rattle.simplex_record.specs.Standing.{Keeps, KeepsCertificates}
 use Rattle.simplex_record.proofs.AddingTerms.{term_end-le}
 
 -- a view with room isn't the last
-room-next : (views view : ℕ) → 0 < views → HasRoom views view → view + 1 < 2 ^ 64
+pub room-next : (views view : ℕ) → 0 < views → HasRoom views view → view + 1 < 2 ^ 64
 room-next views zero some room = omega arith
 room-next views (suc v) some room = omega (arith, room, (term_end-le views v v some).1 (omega arith))
 
@@ -37,12 +37,11 @@ module _ {X : Type 0} where
       (last_or_earlier xs x before after y (ap (λ (l : List X). drop 1 l) same))
 
 module _ {D : Type 0} where
-  -- a round that may be judged is not of the last view
-  pub judged_room : (views : ℕ) (some : 0 < views) (certificates : Certificates D) (before : List (Entry D)) → KeepsCertificates views certificates before → (r : Round) → MayJudge before r → r.view + 1 < 2 ^ 64
-  judged_room views some certificates before keeps r may =
+  -- a round that may be judged has room
+  pub judged_room : (views : ℕ) (certificates : Certificates D) (before : List (Entry D)) → KeepsCertificates views certificates before → (r : Round) → MayJudge before r → HasRoom views r.view
+  judged_room views certificates before keeps r may =
       let p = may.notarized in
-      let room : HasRoom views p.0.round.view = keeps.room (notarize p.0) p.2 in
-      omega (arith, room-next views p.0.round.view some room, ap (λ (t : Round). t.view) p.1)
+      subst (λ (t : Round). HasRoom views t.view) p.1 (keeps.room (notarize p.0) p.2)
 
 module _ {S D P G C : Type 0} {attests : ℕ → Statement D → G → Type 0} {certifies : Statement D → C → Type 0} {owner : Owner} where
   -- an empty record is lawful

@@ -76,6 +76,12 @@ module _ {D : Type 0} where
   MayFollow views before (taken s) = MayTake views before s
   MayFollow views before (judged r verdict) = MayJudge before r
 
+  -- the view of a certificate or a verdict has room; of a vote's nothing is asked
+  abbrev pub LeavesRoom : ℕ → Entry D → Type 0
+  LeavesRoom views (voted s) = ⊤
+  LeavesRoom views (taken s) = HasRoom views (statement_round s).view
+  LeavesRoom views (judged r verdict) = HasRoom views r.view
+
   -- an entry may stand behind all these that were ever recorded, where so much is kept: the rules on votes ask all that was
   -- ever recorded, those on certificates and verdicts what is kept
   abbrev pub MayEverFollow : ℕ → List (Entry D) → List (Entry D) → Entry D → Type 0

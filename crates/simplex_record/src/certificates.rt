@@ -3,6 +3,7 @@
 ghost use Rattle.std.specs.Prelude.{◌≡◌, ◌↔◌, ℕ, Some, None, IsTrue, false};
 ghost use Rattle.std.specs.BTreeMap.{get};
 ghost use Rattle.std.specs.BTreeSet.{contains};
+ghost use Rattle.std.specs.Option.{option_copied};
 ghost use Rattle.std.specs.Ordering.{nat_cmp};
 ghost use Rattle.simplex_record.specs.Coverage.{IsCovered};
 
@@ -41,13 +42,10 @@ impl<D: Digest> Certificates<D> {
     }
 
     /// The proposal of a view that is notarized.
-    pub(crate) fn notarized(&self, view: View) -> Option<Proposal<D>>
-        ensures { result ≡ get nat_cmp self.now.notarizations view }
+    pub(crate) fn notarized(&self, view: View) -> Option<&Proposal<D>>
+        ensures { option_copied result ≡ get nat_cmp self.now.notarizations view }
     {
-        match self.notarizations.get(&view) {
-            Some(proposal) => Some(*proposal),
-            None => None,
-        }
+        self.notarizations.get(&view)
     }
 
     /// Whether this proposal is.
@@ -55,7 +53,7 @@ impl<D: Digest> Certificates<D> {
         ensures { IsTrue result ↔ (get nat_cmp self.now.notarizations proposal.now.round.view ≡ Some proposal.now) }
     {
         match self.notarized(proposal.round.view) {
-            Some(notarized) => notarized == *proposal,
+            Some(notarized) => notarized == proposal,
             None => false,
         }
     }

@@ -2,7 +2,7 @@
 
 ghost use Rattle.std.specs.Prelude.{◌≡◌, ◌↔◌, ◌++◌, ◌∷◌, [], List, IsTrue, IfOk, IfSome, IfNone, OnOk};
 ghost use Rattle.simplex_record.specs.Record.{Entry, entry};
-ghost use Rattle.simplex_record.specs.Rules.{MayFollow};
+ghost use Rattle.simplex_record.specs.Rules.{MayFollow, LeavesRoom};
 ghost use Rattle.simplex_record.specs.Lawful.{Verifies, IsLawful, IsRefusedAt};
 ghost use Rattle.simplex_record.specs.Standing.{Keeps};
 
@@ -76,15 +76,16 @@ fn is_own(owner: &Owner, epoch: Epoch, signer: Participant) -> bool
 
 impl<D: Digest> Standing<D> {
     /// Whether the rules allow the artifact.
-    fn allows<S: Scheme<D>>(&self, length: TermLength, artifact: &Artifact<S, D>) -> bool
-        ensures { (before : List (Entry D)) → Keeps length self.now before → IsTrue result ↔ MayFollow length before (entry artifact.now) }
+    pub fn allows<S: Scheme<D>>(&self, length: TermLength, artifact: &Artifact<S, D>) -> bool
+        ensures lawful { (before : List (Entry D)) → Keeps length self.now before → IsTrue result ↔ MayFollow length before (entry artifact.now) }
+        ensures room { IsTrue result → LeavesRoom length (entry artifact.now) }
     {
         match artifact {
             Artifact::Notarize(vote) => self.may_notarize(length, &vote.proposal),
             Artifact::Notarization(certificate) => {
                 self.may_take_notarization(length, &certificate.proposal)
             }
-            Artifact::Certification(round, _) => self.may_judge(*round),
+            Artifact::Certification(round, _) => self.may_judge(length, *round),
             Artifact::Nullify(vote) => self.may_nullify(length, vote.round),
             Artifact::Nullification(certificate) => {
                 self.may_take_nullification(length, certificate.round)
@@ -96,13 +97,14 @@ impl<D: Digest> Standing<D> {
         }
     }
 
-    /// Adds an artifact that the rules allow.
-    fn add<S: Scheme<D>>(
+    /// Adds an artifact. What is kept is what the record tells with it, where the rules allow it there.
+    /// Refused only where memory is: then what is kept tells nothing any more.
+    pub fn add<S: Scheme<D>>(
         &mut self,
         length: TermLength,
         artifact: &Artifact<S, D>,
     ) -> Result<(), AllocError>
-        requires { (before : List (Entry D)) × Keeps length self.old before × MayFollow length before (entry artifact.now) }
+        requires { LeavesRoom length (entry artifact.now) }
         ensures { OnOk result ((before : List (Entry D)) → Keeps length self.old before → MayFollow length before (entry artifact.now) → Keeps length self.new (before ++ entry artifact.now ∷ [])) }
     {
         match artifact {

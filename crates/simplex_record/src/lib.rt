@@ -14,3 +14,4 @@ pub use checking::first_refused;
 pub use coverage::Coverage;
 pub use laws::{agreement, whole_records_are_ever_lawful};
 pub use owner::Owner;
+pub use standing::Standing;

@@ -1,7 +1,7 @@
-//! What is kept of a record while it is checked: of each view and kind of artifact, whether the record has
-//! one. Every question and every addition takes a logarithmic time.
+//! What is kept of a record: of each view and kind of artifact, whether the record has one. Every question
+//! and every addition takes a logarithmic time.
 
-ghost use Rattle.std.specs.Prelude.{◌≡◌, ◌↔◌, ◌<◌, [], List, Some, IsTrue, true};
+ghost use Rattle.std.specs.Prelude.{◌≡◌, ◌↔◌, ◌<◌, ◌≤◌, [], List, Some, IsTrue, true};
 ghost use Rattle.std.specs.BTreeMap.{get};
 ghost use Rattle.std.specs.Ordering.{nat_cmp};
 ghost use Rattle.simplex_types.specs.Positions.{HasRoom};
@@ -16,9 +16,9 @@ use simplex_types::{Digest, Proposal, Round, TermLength, View};
 use std::alloc::Global;
 use std::collections::BTreeMap;
 
-/// What is kept of a record while it is checked.
+/// What is kept of a record: all that the rules ask of it.
 #[derive(Drop)]
-pub(crate) struct Standing<D: Digest> {
+pub struct Standing<D: Digest> {
     /// The views that the member voted in.
     pub(crate) votes: Votes,
     /// What it has certificates for.
@@ -33,7 +33,7 @@ pub(crate) struct Standing<D: Digest> {
 
 impl<D: Digest> Standing<D> {
     /// What is kept of an empty record.
-    pub(crate) fn new(alloc: Global) -> Self
+    pub fn new(alloc: Global) -> Self
         ensures { (length : TermLength) → Keeps length result [] }
     {
         Standing {
@@ -46,8 +46,9 @@ impl<D: Digest> Standing<D> {
     }
 
     /// Whether the member may vote to notarize the proposal.
-    pub(crate) fn may_notarize(&self, length: TermLength, proposal: &Proposal<D>) -> bool
-        ensures { (before : List (Entry D)) → Keeps length self.now before → IsTrue result ↔ MayNotarize length before proposal.now }
+    pub fn may_notarize(&self, length: TermLength, proposal: &Proposal<D>) -> bool
+        ensures lawful { (before : List (Entry D)) → Keeps length self.now before → IsTrue result ↔ MayNotarize length before proposal.now }
+        ensures parent_below { IsTrue result → proposal.now.parent < proposal.now.round.view }
     {
         let view = proposal.round.view;
         if self.votes.notarizes.contains(&view) {
@@ -65,7 +66,7 @@ impl<D: Digest> Standing<D> {
     }
 
     /// Whether it may vote to nullify the round.
-    pub(crate) fn may_nullify(&self, length: TermLength, round: Round) -> bool
+    pub fn may_nullify(&self, length: TermLength, round: Round) -> bool
         ensures { (before : List (Entry D)) → Keeps length self.now before → IsTrue result ↔ MayNullify length before round }
     {
         if round.view != self.current_view {
@@ -78,8 +79,9 @@ impl<D: Digest> Standing<D> {
     }
 
     /// Whether it may vote to finalize the proposal.
-    pub(crate) fn may_finalize(&self, length: TermLength, proposal: &Proposal<D>) -> bool
-        ensures { (before : List (Entry D)) → Keeps length self.now before → IsTrue result ↔ MayFinalize length before proposal.now }
+    pub fn may_finalize(&self, length: TermLength, proposal: &Proposal<D>) -> bool
+        ensures lawful { (before : List (Entry D)) → Keeps length self.now before → IsTrue result ↔ MayFinalize length before proposal.now }
+        ensures from_one { IsTrue result → 1 ≤ proposal.now.round.view }
     {
         let finalized = proposal.round.view;
         if self.last_finalized >= finalized {
@@ -118,8 +120,10 @@ impl<D: Digest> Standing<D> {
     }
 
     /// Whether it may take a notarization of the proposal.
-    pub(crate) fn may_take_notarization(&self, length: TermLength, proposal: &Proposal<D>) -> bool
-        ensures { (before : List (Entry D)) → Keeps length self.now before → IsTrue result ↔ MayTake length before (notarize proposal.now) }
+    pub fn may_take_notarization(&self, length: TermLength, proposal: &Proposal<D>) -> bool
+        ensures lawful { (before : List (Entry D)) → Keeps length self.now before → IsTrue result ↔ MayTake length before (notarize proposal.now) }
+        ensures room { IsTrue result → HasRoom length proposal.now.round.view }
+        ensures parent_below { IsTrue result → proposal.now.parent < proposal.now.round.view }
     {
         if !can_be_certified(length, proposal) {
             return false;
@@ -131,8 +135,10 @@ impl<D: Digest> Standing<D> {
     }
 
     /// Whether it may take a nullification of the round.
-    pub(crate) fn may_take_nullification(&self, length: TermLength, round: Round) -> bool
-        ensures { (before : List (Entry D)) → Keeps length self.now before → IsTrue result ↔ MayTake length before (nullify round) }
+    pub fn may_take_nullification(&self, length: TermLength, round: Round) -> bool
+        ensures lawful { (before : List (Entry D)) → Keeps length self.now before → IsTrue result ↔ MayTake length before (nullify round) }
+        ensures from_one { IsTrue result → 1 ≤ round.view }
+        ensures room { IsTrue result → HasRoom length round.view }
     {
         if round.view.is_zero() {
             return false;
@@ -144,8 +150,10 @@ impl<D: Digest> Standing<D> {
     }
 
     /// Whether it may take a finalization of the proposal.
-    pub(crate) fn may_take_finalization(&self, length: TermLength, proposal: &Proposal<D>) -> bool
-        ensures { (before : List (Entry D)) → Keeps length self.now before → IsTrue result ↔ MayTake length before (finalize proposal.now) }
+    pub fn may_take_finalization(&self, length: TermLength, proposal: &Proposal<D>) -> bool
+        ensures lawful { (before : List (Entry D)) → Keeps length self.now before → IsTrue result ↔ MayTake length before (finalize proposal.now) }
+        ensures room { IsTrue result → HasRoom length proposal.now.round.view }
+        ensures parent_below { IsTrue result → proposal.now.parent < proposal.now.round.view }
     {
         if !can_be_certified(length, proposal) {
             return false;
@@ -157,9 +165,13 @@ impl<D: Digest> Standing<D> {
     }
 
     /// Whether it may record a verdict on the round.
-    pub(crate) fn may_judge(&self, round: Round) -> bool
-        ensures { (length : TermLength) (before : List (Entry D)) → Keeps length self.now before → IsTrue result ↔ MayJudge before round }
+    pub fn may_judge(&self, length: TermLength, round: Round) -> bool
+        ensures lawful { (before : List (Entry D)) → Keeps length self.now before → IsTrue result ↔ MayJudge before round }
+        ensures room { IsTrue result → HasRoom length round.view }
     {
+        if !round.view.has_room(length) {
+            return false;
+        }
         if self.verdicts.contains_key(&round.view) {
             return false;
         }

@@ -12,7 +12,7 @@ pub returns-then-not-allows-clause-refused : goal.returns-then-not-allows-clause
 returns-then-not-allows-clause-refused g c =
     let here = subst (λ (l : List _). IsChecked (g.S.Scheme.attests c.args.scheme.now) (g.S.Scheme.certifies c.args.scheme.now) c.args.owner c.args.artifacts.now l c.loop-artifact.standing) c.in-Some.ensures.cases.0 c.loop-artifact.invariant in
     refused_here c.args.artifacts.now c.in-Some.artifact.now c.in-Some.behind.now c.loop-artifact.standing here _ (omega (arith, ap length c.in-Some.ensures.cases.0))
-    (λ fits. true-false (sym ((c.allows.ensures (entries here.before) here.keeps).1 fits.follows) ∙ c.if-not-allows.true))
+    (λ fits. true-false (sym ((c.allows.ensures.lawful (entries here.before) here.keeps).1 fits.follows) ∙ c.if-not-allows.true))
 
 pub returns-then-not-verifies-clause-refused : goal.returns-then-not-verifies-clause-refused
 returns-then-not-verifies-clause-refused g c =
@@ -22,13 +22,12 @@ returns-then-not-verifies-clause-refused g c =
 
 pub add-requires : goal.add-requires
 add-requires g c =
-    let here = subst (λ (l : List _). IsChecked (g.S.Scheme.attests c.args.scheme.now) (g.S.Scheme.certifies c.args.scheme.now) c.args.owner c.args.artifacts.now l c.loop-artifact.standing) c.in-Some.ensures.cases.0 c.loop-artifact.invariant in
-    (entries here.before, here.keeps, (c.allows.ensures (entries here.before) here.keeps).0 c.if-not-allows.false)
+    c.allows.ensures.room c.if-not-allows.false
 
 pub loop-artifact-preserved : goal.loop-artifact-preserved
 loop-artifact-preserved g c =
     let here = subst (λ (l : List _). IsChecked (g.S.Scheme.attests c.args.scheme.now) (g.S.Scheme.certifies c.args.scheme.now) c.args.owner c.args.artifacts.now l c.loop-artifact.standing) c.in-Some.ensures.cases.0 c.loop-artifact.invariant in
-    let follows = (c.allows.ensures (entries here.before) here.keeps).0 c.if-not-allows.false in
+    let follows = (c.allows.ensures.lawful (entries here.before) here.keeps).0 c.if-not-allows.false in
     checked_next c.args.artifacts.now c.in-Some.artifact.now c.in-Some.behind.now c.loop-artifact.standing c.add.new.self here
     (record { verifies = c.verifies.ensures.0 c.if-not-verifies.false; follows = follows })
     (c.in_ok-add.ensures (entries here.before) here.keeps follows)

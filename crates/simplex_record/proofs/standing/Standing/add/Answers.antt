@@ -1,12 +1,12 @@
 use Rattle.std.proofs.Common.{arith}
 use Rattle.std.proofs.lemmas.Result.{on_ok_weaker}
-use Rattle.simplex_record.proofs.Checks.{judged_room}
+use Rattle.simplex_record.proofs.Checks.{room-next}
 use Rattle.simplex_record.proofs.standing.Standing.add.Goals as goal
 
 pub add_verdict-requires : goal.add_verdict-requires
 add_verdict-requires g c =
-    let may = rw c.in-Certification.is at c.requires.2 in
-    judged_room c.args.length (omega arith) c.args.self.now.certificates c.requires.0 c.requires.1.certificates c.in-Certification.round may
+    let room = rw c.in-Certification.is at c.requires in
+    room-next c.args.length c.in-Certification.round.view (omega arith) room
 
 pub returns-in-Notarize : goal.returns-in-Notarize
 returns-in-Notarize g c = rw c.in-Notarize.is (on_ok_weaker c.add_notarize.result (λ adds before k may. adds c.args.length before k) c.add_notarize.ensures)

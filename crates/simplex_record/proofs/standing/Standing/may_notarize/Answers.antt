@@ -3,14 +3,14 @@ use Rattle.std.proofs.lemmas.Bool.Decides.{nat_tests}
 use Rattle.simplex_record.proofs.Ruling.{no_notarize, no_nullify, unlike}
 use Rattle.simplex_record.proofs.standing.Standing.may_notarize.Goals as goal
 
-pub returns-then-contains : goal.returns-then-contains
-returns-then-contains g c = λ before k. unlike (λ may. sym (c.if-contains.true) ∙ c.contains.ensures ∙ (no_notarize c.args.self.now.votes before k.votes c.args.proposal.now).1 may.first)
+pub returns-then-contains-clause-lawful : goal.returns-then-contains-clause-lawful
+returns-then-contains-clause-lawful g c = λ before k. unlike (λ may. sym (c.if-contains.true) ∙ c.contains.ensures ∙ (no_notarize c.args.self.now.votes before k.votes c.args.proposal.now).1 may.first)
 
-pub returns-then-contains-2 : goal.returns-then-contains-2
-returns-then-contains-2 g c = λ before k. unlike (λ may. sym (c.if-contains-2.true) ∙ c.contains-2.ensures ∙ (no_nullify c.args.self.now.votes before k.votes c.args.proposal.now.round).1 may.not_given_up)
+pub returns-then-contains-2-clause-lawful : goal.returns-then-contains-2-clause-lawful
+returns-then-contains-2-clause-lawful g c = λ before k. unlike (λ may. sym (c.if-contains-2.true) ∙ c.contains-2.ensures ∙ (no_nullify c.args.self.now.votes before k.votes c.args.proposal.now.round).1 may.not_given_up)
 
-pub returns : goal.returns
-returns g c = λ before k.
+pub returns-clause-lawful : goal.returns-clause-lawful
+returns-clause-lawful g c = λ before k.
     let below : c.args.proposal.now.parent < c.args.proposal.now.round.view = grind (arith, nat_tests, c.ge.ensures, c.if-ge.false) in (
       λ covers. record {
         first = (no_notarize c.args.self.now.votes before k.votes c.args.proposal.now).0 (sym c.contains.ensures ∙ c.if-contains.false);

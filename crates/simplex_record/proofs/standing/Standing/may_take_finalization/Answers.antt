@@ -2,11 +2,11 @@ use Rattle.std.proofs.Common.{sym, ◌∙◌, arith}
 use Rattle.simplex_record.proofs.Ruling.{no_finalization, true_not, unlike}
 use Rattle.simplex_record.proofs.standing.Standing.may_take_finalization.Goals as goal
 
-pub returns-then-not-can_be_certified : goal.returns-then-not-can_be_certified
-returns-then-not-can_be_certified g c = λ before k. unlike (λ may. sym (c.can_be_certified.ensures.1 (may.room, may.parent_below)) ∙ c.if-not-can_be_certified.true)
+pub returns-then-not-can_be_certified-clause-lawful : goal.returns-then-not-can_be_certified-clause-lawful
+returns-then-not-can_be_certified-clause-lawful g c = λ before k. unlike (λ may. sym (c.can_be_certified.ensures.1 (may.room, may.parent_below)) ∙ c.if-not-can_be_certified.true)
 
-pub returns : goal.returns
-returns g c = λ before k.
+pub returns-clause-lawful : goal.returns-clause-lawful
+returns-clause-lawful g c = λ before k.
     let can = c.can_be_certified.ensures.0 c.if-not-can_be_certified.false in
     let never = no_finalization c.args.length c.args.self.now.certificates before k.certificates c.args.proposal.now in (
       λ none. record {

@@ -2,8 +2,8 @@ use Rattle.std.proofs.Common.{◌≢◌, sym, ◌∙◌, arith}
 use Rattle.simplex_record.proofs.Ruling.{no_nullification, true_not, true-false}
 use Rattle.simplex_record.proofs.standing.Standing.may_take_nullification.Goals as goal
 
-pub returns : goal.returns
-returns g c = λ before k.
+pub returns-clause-lawful : goal.returns-clause-lawful
+returns-clause-lawful g c = λ before k.
     let some : c.args.round.view ≢ 0 = λ zero. true-false (sym (c.is_zero.ensures.1 zero) ∙ c.if-is_zero.false) in
     let never = no_nullification c.args.length c.args.self.now.certificates before k.certificates c.args.round in (
       λ none. record {
