@@ -13,7 +13,7 @@ use Rattle.simplex_messages.specs.declared.certificate.Certificate.TheVariants a
 use Rattle.simplex_messages.specs.Artifact.{certificate_artifact}
 use Rattle.simplex_messages.specs.Certificate.{certificate_statement, certified_by}
 use Rattle.simplex_record.specs.Record.{Entry, voted, taken, judged, entry, entries, HasVoted, HasTaken, HasJudged, finalizes, last_finalized, enters, current_view, IsCovered}
-use Rattle.simplex_record.specs.Rules.{MayNotarize, MayNullify, MayFinalize, MayFollow, MayEverFollow}
+use Rattle.simplex_record.specs.Rules.{MayNotarize, MayNullify, MayFinalize, MayTake, MayFollow, MayEverFollow}
 use Rattle.simplex_record.specs.declared.owner.Owner.{Owner}
 use Rattle.simplex_record.specs.Lawful.{EverFits, IsLawful, IsEverLawful}
 use Rattle.simplex_record.proofs.Places.{two_places, Stands, stands, Contains-earlier, Contains-mapped, Contains-place}
@@ -114,6 +114,22 @@ module _ {S D P G C : Type 0} {attests : ℕ → Statement D → G → Type 0} {
       let s = stands entry record_ (voted (finalize p)) here in
       let at_p : MayFinalize owner.term_length (entries s.before) p = (follows record_ (voted (finalize p)) lawful s).1 in
       within record_ (voted (finalize p)) (taken (notarize p)) s at_p.notarized
+
+  -- and what it has judged true
+  pub finalize_is_judged : (p : Proposal D) → HasVoted (entries record_) (finalize p) → (r : Round) × (r.view ≡ p.round.view) × HasJudged (entries record_) r true
+  finalize_is_judged p here =
+      let s = stands entry record_ (voted (finalize p)) here in
+      let at_p : MayFinalize owner.term_length (entries s.before) p = (follows record_ (voted (finalize p)) lawful s).1 in
+      let verdict = at_p.certified in
+      (verdict.0, verdict.1, within record_ (voted (finalize p)) (judged verdict.0 true) s verdict.2)
+
+  -- what it has seen notarized lies above its parent
+  pub notarized_is_above : (p : Proposal D) → HasTaken (entries record_) (notarize p) → p.parent < p.round.view
+  notarized_is_above p here =
+      let s = stands entry record_ (taken (notarize p)) here in
+      let met = follows record_ (taken (notarize p)) lawful s in
+      let at_p : MayTake owner.term_length (entries met.0) (notarize p) = met.1 in
+      at_p.parent_below
 
   -- what it votes to finalize lies behind the floor
   pub finalize_is_above : (p : Proposal D) → HasVoted (entries record_) (finalize p) → 0 < p.round.view

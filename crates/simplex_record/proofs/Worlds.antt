@@ -1,22 +1,26 @@
 -- What certificates of a world have in common.
-use Rattle.std.specs.Prelude.{All, length}
-use Rattle.std.proofs.Common.{◌≡◌, ℕ, zero, suc, ◌+◌, ◌<◌, ◌≤◌, List, refl, sym, ap, subst, arith}
+use Rattle.std.proofs.Common.{◌≡◌, ◌≢◌, ◌⊎◌, inl, inr, ⊎_elim, ℕ, zero, suc, ◌+◌, ◌<◌, ◌≤◌, true, List, [], ◌∷◌, Option, refl, sym, ◌∙◌, ap, subst, arith}
+use Rattle.std.specs.Prelude.{⊤, unwrap_or, All, length}
+use Rattle.std.specs.List.{Contains}
+use Rattle.std.proofs.lemmas.Bool.{cases_eq, cases_lt}
 use Rattle.simplex_types.specs.declared.attestation.Attestation.{Attestation}
 use Rattle.simplex_types.specs.declared.position.Round.{Round}
 use Rattle.simplex_types.specs.declared.proposal.Proposal.{Proposal}
-use Rattle.simplex_types.specs.Positions.{term_start, InCoveringRange}
+use Rattle.simplex_types.specs.Positions.{term_start, IsTermStart, InCoveringRange}
 use Rattle.simplex_types.specs.Quorum.{IsQuorum, quorum}
-use Rattle.simplex_types.specs.Overlap.{signers, AttestsIn, two_quorums_meet, signers-AreQuorum, signers-attest}
+use Rattle.simplex_types.specs.Overlap.{signers, AttestsIn, two_quorums_meet, beyond_one_more, signers-AreQuorum, signers-attest}
 use Rattle.simplex_types.specs.Subject.{Statement, notarize, nullify, finalize}
 use Rattle.simplex_messages.specs.declared.certificate.Certificate.{Certificate}
 use Rattle.simplex_messages.specs.declared.certificate.Certificate.TheVariants as certificate
 use Rattle.simplex_messages.specs.Certificate.{certificate_statement, certified_by}
-use Rattle.simplex_record.specs.Record.{entries, HasVoted, HasTaken}
+use Rattle.simplex_messages.specs.Artifact.{certificate_artifact}
+use Rattle.simplex_record.specs.Record.{entries, HasVoted, HasTaken, HasJudged}
 use Rattle.simplex_record.specs.declared.owner.Owner.{Owner}
 use Rattle.simplex_record.specs.World.{World, IsCorrect, IsSound, IsAlike, IsWorld}
 use Rattle.simplex_record.specs.Agreement.{IsFor, OneProposalAView, NoFinalizedViewNullified, NoFinalizedViewSkipped}
+use Rattle.simplex_record.specs.Chain.{IsExplicit, IsGround, AllStandOnGround, IsNotarized, LeadDown, OneChain}
 use Rattle.simplex_record.proofs.Figures.{term_start-up}
-use Rattle.simplex_record.proofs.Member.{one_notarize, finalize_is_notarized, finalize_is_above, finalize_is_healed, skipped_is_covered, taken_certifies}
+use Rattle.simplex_record.proofs.Member.{one_notarize, finalize_is_notarized, finalize_is_above, finalize_is_healed, skipped_is_covered, taken_certifies, finalize_is_judged, notarized_is_above}
 
 -- a quorum by a member's own scheme is one by the committee's
 quorum_alike : {D G : Type 0} (size own_size : ℕ) (attests own_attests : ℕ → Statement D → G → Type 0) (s : Statement D) (listed : List (Attestation G))
@@ -80,12 +84,18 @@ module _ {S D P G C : Type 0} (attests : ℕ → Statement D → G → Type 0) (
       }
 
   -- a certificate that a correct member recorded is sound
-  recorded_is_sound : (i : ℕ) → IsCorrect world i → (s : Statement D) → HasTaken (entries (world.recorded i)) s → Sound s
-  recorded_is_sound i correct s here =
+  recorded : (i : ℕ) → IsCorrect world i → (s : Statement D) → HasTaken (entries (world.recorded i)) s
+      → (c : Certificate S D P G C) × (certificate_statement c ≡ s) × Contains (world.recorded i) (certificate_artifact c) × IsSound attests lists world c
+  recorded i correct s here =
       let c = taken_certifies (owner_of i) (world.recorded i) (holds.lawful i correct) s here in
       let by_own = backed i (certificate_statement c.0) (certified_by c.0) c.3 in
       let q = quorum_alike world.size (size_by i) attests (attests_by i) (certificate_statement c.0) (lists (certified_by c.0)) (holds.alike i correct) by_own in
-      record { certificate = c.0; states = c.1; sound = record { distinct = q.distinct; members = q.members; enough = q.enough; attesting = q.attesting; honest = holds.honest i correct c.0 c.2 } }
+      (c.0, c.1, c.2, record { distinct = q.distinct; members = q.members; enough = q.enough; attesting = q.attesting; honest = holds.honest i correct c.0 c.2 })
+
+  recorded_is_sound : (i : ℕ) → IsCorrect world i → (s : Statement D) → HasTaken (entries (world.recorded i)) s → Sound s
+  recorded_is_sound i correct s here =
+      let c = recorded i correct s here in
+      record { certificate = c.0; states = c.1; sound = c.3 }
 
   -- what is finalized is notarized
   finalized_is_notarized : (p : Proposal D) → Sound (finalize p) → Sound (notarize p)
@@ -133,3 +143,159 @@ module _ {S D P G C : Type 0} (attests : ℕ → Statement D → G → Type 0) (
   pub none_skipped : NoFinalizedViewSkipped attests lists world
   none_skipped c d sound_c sound_d above below = not_skipped c.proposal d.proposal above below
       (record { certificate = certificate.Finalization c; states = refl; sound = sound_c }) (record { certificate = certificate.Notarization d; states = refl; sound = sound_d })
+
+  -- ---- one chain
+
+  -- behind a sound certificate of two members or more stands a correct member other than l that voted for it
+  another_voter : (s : Statement D) → Sound s → (l : ℕ) → 2 ≤ world.size → (i : ℕ) × IsCorrect world i × (i ≢ l) × HasVoted (entries (world.recorded i)) s
+  another_voter s c l two =
+      let of_c = quorum_of s c in
+      let these = lists (certified_by c.certificate) in
+      let found = beyond_one_more world.size (signers these) world.excused l two (signers-AreQuorum world.size (λ i a. attests i s a) these of_c) holds.few in
+      let correct : IsCorrect world found.0 = (found.1, found.4) in
+      (found.0, correct, found.3, voted_for s c found.0 correct (signers-attest world.size (λ i a. attests i s a) these of_c found.0 found.2))
+
+  abbrev IsNotarize : Statement D → Type 0
+  IsNotarize (notarize p) = ⊤
+  IsNotarize (nullify r) = ⊥
+  IsNotarize (finalize p) = ⊥
+
+  abbrev proposal_of : Proposal D → Statement D → Proposal D
+  proposal_of other (notarize p) = p
+  proposal_of other (nullify r) = other
+  proposal_of other (finalize p) = other
+
+  -- what a correct member has seen notarized is
+  recorded_is_notarized : (i : ℕ) → IsCorrect world i → (p : Proposal D) → HasTaken (entries (world.recorded i)) (notarize p) → IsNotarized attests lists world p
+  recorded_is_notarized i correct p here =
+      let c = recorded i correct (notarize p) here in
+      of_certificate c.0 c.1 c.2 c.3
+    where
+      of_certificate : (c : Certificate S D P G C) → certificate_statement c ≡ notarize p → Contains (world.recorded i) (certificate_artifact c) → IsSound attests lists world c → IsNotarized attests lists world p
+      of_certificate (certificate.Notarization c) states in_it sound = record { member = i; correct = correct; notarization = c; of_it = ap (proposal_of p) states; recorded = in_it; sound = sound }
+      of_certificate (certificate.Nullification c) states in_it sound = absurd (subst IsNotarize (sym states) tt)
+      of_certificate (certificate.Finalization c) states in_it sound = absurd (subst IsNotarize (sym states) tt)
+
+  -- what is notarized has a sound certificate
+  notarized_is_sound : (p : Proposal D) → IsNotarized attests lists world p → Sound (notarize p)
+  notarized_is_sound p is = record { certificate = certificate.Notarization is.notarization; states = ap (λ (q : Proposal D). notarize q) is.of_it; sound = is.sound }
+
+  -- a view is explicit at a correct member
+  abbrev IsExplicitSomewhere : ℕ → Type 0
+  IsExplicitSomewhere view = (i : ℕ) × IsCorrect world i × IsExplicit (entries (world.recorded i)) view
+
+  -- a correct member judged a view true
+  abbrev IsJudgedSomewhere : ℕ → Type 0
+  IsJudgedSomewhere view = (i : ℕ) × IsCorrect world i × ((r : Round) × (r.view ≡ view) × HasJudged (entries (world.recorded i)) r true)
+
+  -- one did where a proposal of it is finalized
+  finalized_is_judged : (p : Proposal D) → Sound (finalize p) → IsJudgedSomewhere p.round.view
+  finalized_is_judged p c =
+      let v = common_voter (finalize p) (finalize p) c c in
+      (v.member, v.correct, finalize_is_judged (owner_of v.member) (world.recorded v.member) (holds.lawful v.member v.correct) p v.first)
+
+  -- and where it is explicit
+  explicit_is_judged : (view : ℕ) → IsExplicitSomewhere view → IsJudgedSomewhere view
+  explicit_is_judged view e = ⊎_elim
+      (λ finalized. subst IsJudgedSomewhere finalized.1 (finalized_is_judged finalized.0 (recorded_is_sound e.0 e.1 (finalize finalized.0) finalized.2)))
+      (λ verdict. (e.0, e.1, verdict))
+      e.2
+
+  module _ (leader : ℕ → Option ℕ) (ground : AllStandOnGround leader world) where
+    -- a proposal of a view is notarized, and its parent is the genesis, or explicit in turn
+    record StepDown (view : ℕ) : Type 0 where
+      pub proposal : Proposal D
+      pub at : proposal.round.view ≡ view
+      pub notarized : IsNotarized attests lists world proposal
+      pub below : proposal.parent < view
+      pub onto : (proposal.parent ≡ 0) ⊎ IsExplicitSomewhere proposal.parent
+
+    -- what is ground at a correct member
+    ground_at : (i : ℕ) → IsCorrect world i → (view : ℕ) → IsGround (entries (world.recorded i)) view → (view ≡ 0) ⊎ IsExplicitSomewhere view
+    ground_at i correct view is = ⊎_elim (λ genesis. inl genesis) (λ explicit. inr (i, correct, explicit)) is
+
+    -- what is notarized at the start of a term, by two members or more, has a parent that is ground at one of them: of two
+    -- that voted for it one at most leads the view
+    starts_on_ground : (p : Proposal D) → IsTermStart world.term_length p.round.view → 2 ≤ world.size → Sound (notarize p) → (p.parent ≡ 0) ⊎ IsExplicitSomewhere p.parent
+    starts_on_ground p starts two c =
+        let v = common_voter (notarize p) (notarize p) c c in
+        let w = another_voter (notarize p) c v.member two in
+        ⊎_elim
+        (λ is. ground_at v.member v.correct p.parent is)
+        (λ leads. ⊎_elim
+        (λ is. ground_at w.0 w.1 p.parent is)
+        (λ leads_too. absurd (w.2 (ap (λ (o : Option ℕ). unwrap_or o 0) (sym leads_too ∙ leads))))
+        ((ground w.0 w.1).voted p w.3 starts))
+        ((ground v.member v.correct).voted p v.first starts)
+
+    -- one step down
+    step_down : (view : ℕ) → IsExplicitSomewhere view → StepDown view
+    step_down view e =
+        let j = explicit_is_judged view e in
+        let found = (ground j.0 j.1).judged j.2.0 j.2.2 in
+        let p = found.0 in
+        let is = recorded_is_notarized j.0 j.1 p found.2 in
+        let same : p.round.view ≡ view = found.1 ∙ j.2.1 in
+        record {
+          proposal = p;
+          at = same;
+          notarized = is;
+          below = omega (arith, same, notarized_is_above (owner_of j.0) (world.recorded j.0) (holds.lawful j.0 j.1) p found.2);
+          onto = elim (cases_eq p.round.view (term_start world.term_length p.round.view)) [
+            | inl starts ↦ elim (cases_lt 1 world.size) [
+              | inl two ↦ starts_on_ground p starts (omega (arith, two)) (notarized_is_sound p is)
+              | inr alone ↦ ground_at j.0 j.1 p.parent (found.3 (inr (omega (arith, alone, holds.some))))
+            ]
+            | inr inside ↦ ground_at j.0 j.1 p.parent (found.3 (inl inside))
+          ];
+        }
+
+    -- from a view parents lead down to the proposal q
+    record Down (view : ℕ) (q : Proposal D) : Type 0 where
+      pub first : Proposal D
+      pub at : first.round.view ≡ view
+      pub notarized : IsNotarized attests lists world first
+      pub path : List (Proposal D)
+      pub leads : LeadDown attests lists world first path q
+
+    -- they do from each explicit view at or above one that is finalized: by induction on the view
+    descend : (k view : ℕ) (q : Proposal D) → view < k → q.round.view ≤ view → Sound (finalize q) → IsExplicitSomewhere view → Down view q
+    descend zero view q low above d e = absurd (omega (arith, low))
+    descend (suc k) view q low above d e =
+        let s = step_down view e in
+        elim (cases_lt q.round.view view) [
+          | inl higher ↦ elim (cases_lt s.proposal.parent q.round.view) [
+            | inl skips ↦ absurd (not_skipped q s.proposal skips (omega (arith, higher, s.at)) d (notarized_is_sound s.proposal s.notarized))
+            | inr kept ↦
+                let v = common_voter (finalize q) (finalize q) d d in
+                let some = finalize_is_above (owner_of v.member) (world.recorded v.member) (holds.lawful v.member v.correct) q v.first in
+                ⊎_elim
+                (λ genesis. absurd (omega (arith, genesis, kept, some)))
+                (λ further.
+                let rest = descend k s.proposal.parent q (omega (arith, low, s.below)) kept d further in
+                record {
+                  first = s.proposal;
+                  at = s.at;
+                  notarized = s.notarized;
+                  path = rest.first ∷ rest.path;
+                  leads = (s.notarized, rest.at, omega (arith, rest.at, s.at, s.below), rest.leads);
+                })
+                s.onto
+          ]
+          | inr there ↦ record {
+            first = s.proposal;
+            at = s.at;
+            notarized = s.notarized;
+            path = [];
+            leads = (s.notarized, one_notarized s.proposal q (omega (arith, s.at, above, there)) (notarized_is_sound s.proposal s.notarized) (finalized_is_notarized q d));
+          }
+        ]
+
+    pub one_chain : OneChain attests lists world
+    one_chain c d sound_c sound_d above =
+        let of_c : Sound (finalize c.proposal) = record { certificate = certificate.Finalization c; states = refl; sound = sound_c } in
+        let of_d : Sound (finalize d.proposal) = record { certificate = certificate.Finalization d; states = refl; sound = sound_d } in
+        let j = finalized_is_judged c.proposal of_c in
+        let down = descend (c.proposal.round.view + 1) c.proposal.round.view d.proposal (omega arith) above of_d (j.0, j.1, inr j.2) in
+        let same : down.first ≡ c.proposal = one_notarized down.first c.proposal down.at (notarized_is_sound down.first down.notarized) (finalized_is_notarized c.proposal of_c) in
+        (down.path, subst (λ (p : Proposal D). LeadDown attests lists world p down.path d.proposal) same down.leads)

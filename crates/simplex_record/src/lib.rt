@@ -12,6 +12,6 @@ mod votes;
 
 pub use checking::first_refused;
 pub use coverage::Coverage;
-pub use laws::{agreement, whole_records_are_ever_lawful};
+pub use laws::{agreement, chain, records_stand_on_ground, whole_records_are_ever_lawful};
 pub use owner::Owner;
 pub use standing::Standing;
