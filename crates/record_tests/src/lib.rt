@@ -1,0 +1,7 @@
+//! Tests of records, of what makes them lawful, and of the views that they cover.
+#![tactic(auto)]
+
+#[cfg(test)]
+mod coverage;
+#[cfg(test)]
+mod records;

@@ -1,0 +1,101 @@
+-- What a list says when one more element stands behind it.
+use Rattle.std.specs.Prelude.{is_some}
+use Rattle.std.specs.BTreeMap.{BTreeMap, get}
+use Rattle.std.specs.BTreeMap as maps
+use Rattle.std.specs.BTreeSet.{BTreeSet, contains}
+use Rattle.std.specs.BTreeSet as sets
+use Rattle.std.specs.List.{Contains}
+use Rattle.std.specs.Option.{option_or}
+use Rattle.std.specs.Ordering.{nat_cmp}
+use Rattle.std.proofs.Common.{◌≡◌, ◌⊎◌, inl, inr, ⊎_elim, ℕ, ◌≤◌, ◌==◌, max, true, List, [], ◌∷◌, ◌++◌, Option, Some, None, sym, ◌∙◌, ap, subst, arith, if◌then◌else◌}
+use Rattle.std.proofs.lemmas.Bool.{cases_eq}
+use Rattle.std.proofs.lemmas.Bool.Decides.{nat_tests}
+use Rattle.std.proofs.lemmas.List.Elements.{Contains-append_cases, Contains-append_left, Contains-append_right}
+use Rattle.simplex_record.specs.Record.{Entry, greatest}
+use Rattle.simplex_record.specs.Standing.{KeepsSet, KeepsMap}
+use Rattle.simplex_record.specs.Told.{told}
+use Rattle.simplex_record.proofs.Figures.{greatest-least}
+use Rattle.simplex_record.proofs.Places.{Contains-cons, Contains-here}
+use Rattle.simplex_record.proofs.Telling.{cases_option, or-first, told-push, at_same, at_other}
+
+module _ {X : Type 0} (xs : List X) (x : X) where
+  -- an element of the longer list is one of the shorter, or the new one
+  pub Contains-pushed : (y : X) → Contains (xs ++ x ∷ []) y → Contains xs y ⊎ (x ≡ y)
+  Contains-pushed y here = elim (Contains-append_cases xs (x ∷ []) y here) [
+    | inl earlier ↦ inl earlier
+    | inr last ↦ ⊎_elim inr (λ none. absurd (omega (arith, none.1))) (Contains-cons x [] y last)
+  ]
+
+  -- an element of the shorter list is one of the longer
+  pub Contains-still : (y : X) → Contains xs y → Contains (xs ++ x ∷ []) y
+  Contains-still y here = Contains-append_left xs (x ∷ []) y here
+
+  -- and so is the new one
+  pub Contains-new : Contains (xs ++ x ∷ []) x
+  Contains-new = Contains-append_right xs (x ∷ []) x (Contains-here x [])
+
+-- the greatest is the greater of what it was and what the new element gives
+pub greatest-push : {X : Type 0} (least : ℕ) (f : X → ℕ) (xs : List X) (x : X) → greatest least f (xs ++ x ∷ []) ≡ max (greatest least f xs) (f x)
+greatest-push least f [] x = omega arith
+greatest-push least f (z ∷ xs) x = omega (arith, greatest-push least f xs x)
+
+-- it stays where the new element gives no more than the least
+pub greatest-same : {X : Type 0} (least : ℕ) (f : X → ℕ) (xs : List X) (x : X) → f x ≤ least → greatest least f (xs ++ x ∷ []) ≡ greatest least f xs
+greatest-same least f xs x low = omega (arith, greatest-push least f xs x, greatest-least least f xs, low)
+
+module _ {X Y : Type 0} (f : X → Option Y) (xs : List X) (x : X) where
+  -- where nothing was told, what is given of the new element is
+  pub told-first : told f xs ≡ None → told f (xs ++ x ∷ []) ≡ f x
+  told-first nothing = told-push f xs x ∙ ap (λ (o : Option Y). option_or o (f x)) nothing
+
+  -- where something was, that stays
+  told-still : (y : Y) → told f xs ≡ Some y → told f (xs ++ x ∷ []) ≡ Some y
+  told-still y some = told-push f xs x ∙ or-first (told f xs) (f x) y some
+
+  -- a new element of which nothing is given tells nothing
+  pub told-same : f x ≡ None → told f (xs ++ x ∷ []) ≡ told f xs
+  told-same none = elim (cases_option (told f xs)) [
+    | inl nothing ↦ told-first nothing ∙ none ∙ sym nothing
+    | inr some ↦ told-still some.0 some.1 ∙ sym some.1
+  ]
+
+  -- something is told where something is given of the new element
+  pub told-some_new : (y : Y) → f x ≡ Some y → is_some (told f (xs ++ x ∷ [])) ≡ true
+  told-some_new y gives = elim (cases_option (told f xs)) [
+    | inl nothing ↦ ap is_some (told-first nothing ∙ gives)
+    | inr some ↦ ap is_some (told-still some.0 some.1)
+  ]
+
+module _ {D Y : Type 0} (f : ℕ → Entry D → Option Y) (before : List (Entry D)) (x : Entry D) where
+  -- a set stays right where nothing is given of the new entry
+  pub KeepsSet-same : (set : BTreeSet ℕ) → ((view : ℕ) → f view x ≡ None) → KeepsSet f set before → KeepsSet f set (before ++ x ∷ [])
+  KeepsSet-same set none keeps = λ view. keeps view ∙ sym (ap is_some (told-same (f view) before x (none view)))
+
+  -- and so does a map
+  pub KeepsMap-same : (map : BTreeMap ℕ Y) → ((view : ℕ) → f view x ≡ None) → KeepsMap f map before → KeepsMap f map (before ++ x ∷ [])
+  KeepsMap-same map none keeps = λ view. keeps view ∙ sym (told-same (f view) before x (none view))
+
+  -- where something is given of the new entry at one view
+  module _ (at : ℕ) (y : Y) (gives : (view : ℕ) → f view x ≡ (if at == view then Some y else None)) where
+    -- a set stays right once it has the view
+    pub KeepsSet-push : (set new : BTreeSet ℕ) → sets.Updates nat_cmp set new at true → KeepsSet f set before → KeepsSet f new (before ++ x ∷ [])
+    KeepsSet-push set new inserts keeps = λ view. elim (cases_eq at view) [
+      | inl same ↦
+          let has : contains nat_cmp new view ≡ true = grind (arith, nat_tests, inserts.0 view) in
+          has ∙ sym (told-some_new (f view) before x y (gives view ∙ at_same view at y same))
+      | inr other ↦
+          let kept : contains nat_cmp new view ≡ contains nat_cmp set view = grind (arith, nat_tests, inserts.0 view) in
+          kept ∙ keeps view ∙ sym (ap is_some (told-same (f view) before x (gives view ∙ at_other view at y other)))
+    ]
+
+    -- and a map once it has the value at the view, of which nothing was told
+    pub KeepsMap-push : (map new : BTreeMap ℕ Y) → told (f at) before ≡ None → maps.Updates nat_cmp map new at (Some y) → KeepsMap f map before → KeepsMap f new (before ++ x ∷ [])
+    KeepsMap-push map new nothing inserts keeps = λ view. elim (cases_eq at view) [
+      | inl same ↦
+          let has : get nat_cmp new view ≡ Some y = grind (arith, nat_tests, inserts.0 view) in
+          let untold : told (f view) before ≡ None = subst (λ (v : ℕ). told (f v) before ≡ None) same nothing in
+          has ∙ sym (told-first (f view) before x untold ∙ gives view ∙ at_same view at y same)
+      | inr other ↦
+          let kept : get nat_cmp new view ≡ get nat_cmp map view = grind (arith, nat_tests, inserts.0 view) in
+          kept ∙ keeps view ∙ sym (told-same (f view) before x (gives view ∙ at_other view at y other))
+    ]

@@ -1,0 +1,19 @@
+use Rattle.std.proofs.Common.{◌≡◌, sym, ◌∙◌, arith}
+use Rattle.std.proofs.lemmas.Bool.Decides.{nat_tests}
+use Rattle.simplex_record.proofs.Ruling.{no_nullify, no_finalize_of, unlike, true_not}
+use Rattle.simplex_record.proofs.standing.Standing.may_nullify.Goals as goal
+
+pub returns-then-contains : goal.returns-then-contains
+returns-then-contains g c = λ before k. unlike (λ may. sym (c.if-contains.true) ∙ c.contains.ensures ∙ (no_nullify c.args.self.now.votes before k.votes c.args.round).1 may.first)
+
+pub returns : goal.returns
+returns g c = λ before k.
+    let same : c.args.round.view ≡ c.args.self.now.current_view = grind (arith, nat_tests, c.ne.ensures, c.if-ne.false) in
+    let never = no_finalize_of c.args.self.now.votes before k.votes c.args.round.view in (
+      λ none. record {
+        current = same ∙ k.current_view;
+        first = (no_nullify c.args.self.now.votes before k.votes c.args.round).0 (sym c.contains.ensures ∙ c.if-contains.false);
+        not_finalized = never.0 (sym c.contains-2.ensures ∙ (true_not c.contains-2.result).0 none);
+      },
+      λ may. (true_not c.contains-2.result).1 (c.contains-2.ensures ∙ never.1 may.not_finalized),
+    )

@@ -1,0 +1,53 @@
+-- What is kept of a record while it is checked.
+use Rattle.std.specs.Prelude.{◌≡◌, ◌↔◌, ◌≤◌, ℕ, Bool, List, Option, is_some}
+use Rattle.std.specs.BTreeMap.{BTreeMap, get}
+use Rattle.std.specs.BTreeSet.{BTreeSet, contains}
+use Rattle.std.specs.Ordering.{nat_cmp}
+use Rattle.simplex_types.specs.declared.position.Round.{Round}
+use Rattle.simplex_types.specs.declared.proposal.Proposal.{Proposal}
+use Rattle.simplex_types.specs.Positions.{HasRoom}
+use Rattle.simplex_types.specs.Subject.{Statement, notarize, statement_round}
+use Rattle.simplex_record.specs.declared.certificates.Certificates.{Certificates}
+use Rattle.simplex_record.specs.declared.standing.Standing.{Standing}
+use Rattle.simplex_record.specs.declared.votes.Votes.{Votes}
+use Rattle.simplex_record.specs.Coverage as coverage
+use Rattle.simplex_record.specs.Record.{Entry, HasTaken, HasJudged, IsCovered, last_finalized, current_view}
+use Rattle.simplex_record.specs.Told.{told, notarized_at, nullified_at, finalized_at, vote_in, certificate_in, verdict_at}
+
+module _ {D Y : Type 0} where
+  -- the set has just the views of which f gives something in the entries
+  abbrev pub KeepsSet : (ℕ → Entry D → Option Y) → BTreeSet ℕ → List (Entry D) → Type 0
+  KeepsSet f set before = (view : ℕ) → contains nat_cmp set view ≡ is_some (told (f view) before)
+
+  -- the map has of each view what f first gives in the entries
+  abbrev pub KeepsMap : (ℕ → Entry D → Option Y) → BTreeMap ℕ Y → List (Entry D) → Type 0
+  KeepsMap f map before = (view : ℕ) → get nat_cmp map view ≡ told (f view) before
+
+module _ {D : Type 0} where
+  -- the views of the member's votes are kept
+  pub record KeepsVotes (votes : Votes) (before : List (Entry D)) : Type 0 where
+    pub notarizes : KeepsSet (λ view. vote_in (notarized_at view)) votes.notarizes before
+    pub nullifies : KeepsSet (λ view. vote_in (nullified_at view)) votes.nullifies before
+    pub finalizes : KeepsSet (λ view. vote_in (finalized_at view)) votes.finalizes before
+
+  -- what it has certificates for is kept: of each kind and view one, and each with room
+  pub record KeepsCertificates (views : ℕ) (certificates : Certificates D) (before : List (Entry D)) : Type 0 where
+    pub notarizations : KeepsMap (λ view. certificate_in (notarized_at view)) certificates.notarizations before
+    pub nullifications : KeepsSet (λ view. certificate_in (nullified_at view)) certificates.nullifications before
+    pub finalizations : KeepsSet (λ view. certificate_in (finalized_at view)) certificates.finalizations before
+    pub covered : (view : ℕ) → 1 ≤ view → coverage.IsCovered certificates.covered view ↔ IsCovered views before view
+    pub one_notarized : (p q : Proposal D) → p.round.view ≡ q.round.view → HasTaken before (notarize p) → HasTaken before (notarize q) → p ≡ q
+    pub room : (s : Statement D) → HasTaken before s → HasRoom views (statement_round s).view
+
+  -- the verdicts are kept, one of each view
+  pub record KeepsVerdicts (map : BTreeMap ℕ Bool) (before : List (Entry D)) : Type 0 where
+    pub verdicts : KeepsMap verdict_at map before
+    pub one_verdict : (r t : Round) (this that : Bool) → r.view ≡ t.view → HasJudged before r this → HasJudged before t that → this ≡ that
+
+  -- what is kept of a record is what its entries tell
+  pub record Keeps (views : ℕ) (standing : Standing D) (before : List (Entry D)) : Type 0 where
+    pub votes : KeepsVotes standing.votes before
+    pub certificates : KeepsCertificates views standing.certificates before
+    pub verdicts : KeepsVerdicts standing.verdicts before
+    pub last_finalized : standing.last_finalized ≡ last_finalized before
+    pub current_view : standing.current_view ≡ current_view views before

@@ -1,0 +1,122 @@
+//! Checking a record by its rules.
+
+ghost use Rattle.std.specs.Prelude.{◌≡◌, ◌↔◌, ◌++◌, ◌∷◌, [], List, IsTrue, IfOk, IfSome, IfNone, OnOk};
+ghost use Rattle.simplex_record.specs.Record.{Entry, entry};
+ghost use Rattle.simplex_record.specs.Rules.{MayFollow, LeavesRoom};
+ghost use Rattle.simplex_record.specs.Lawful.{Verifies, IsLawful, IsRefusedAt};
+ghost use Rattle.simplex_record.specs.Standing.{Keeps};
+
+use crate::owner::Owner;
+use crate::standing::Standing;
+use simplex_messages::Artifact;
+use simplex_types::{Digest, Epoch, Epochable, Participant, Scheme, TermLength};
+use std::alloc::{AllocError, Global};
+
+/// The position of the first artifact that a lawful record of this owner refuses, or `None` where the
+/// record is lawful. It takes a logarithmic time for each artifact beside what the scheme takes to verify
+/// it. Refused only where memory is.
+pub fn first_refused<S: Scheme<D>, D: Digest>(
+    alloc: Global,
+    scheme: &S,
+    owner: Owner,
+    artifacts: &[Artifact<S, D>],
+) -> Result<Option<usize>, AllocError>
+    ensures lawful { IfOk result (λ found. IfNone found (IsLawful (S.attests scheme.now) (S.certifies scheme.now) owner artifacts.now)) }
+    ensures refused { IfOk result (λ found. IfSome found (IsRefusedAt (S.attests scheme.now) (S.certifies scheme.now) owner artifacts.now)) }
+{
+    let mut standing = Standing::new(alloc);
+    let mut rest = artifacts;
+    while let Some((artifact, behind)) = rest.split_first() {
+        let position = artifacts.len() - rest.len();
+        if !standing.allows(owner.term_length, artifact) {
+            return Ok(Some(position));
+        }
+        if !verifies(scheme, &owner, artifact) {
+            return Ok(Some(position));
+        }
+        standing.add(owner.term_length, artifact)?;
+        rest = behind;
+    }
+    Ok(None)
+}
+
+/// Whether the artifact verifies: an own vote by its attestation, a certificate by what it is made of.
+fn verifies<S: Scheme<D>, D: Digest>(scheme: &S, owner: &Owner, artifact: &Artifact<S, D>) -> bool
+    ensures { IsTrue result ↔ Verifies (S.attests scheme.now) (S.certifies scheme.now) owner.now artifact.now }
+{
+    match artifact {
+        Artifact::Certification(_, _) => true,
+        Artifact::Notarize(notarize) => {
+            is_own(owner, notarize.epoch(), notarize.attestation.signer) && notarize.verify(scheme)
+        }
+        Artifact::Nullify(nullify) => {
+            is_own(owner, nullify.epoch(), nullify.attestation.signer) && nullify.verify(scheme)
+        }
+        Artifact::Finalize(finalize) => {
+            is_own(owner, finalize.epoch(), finalize.attestation.signer) && finalize.verify(scheme)
+        }
+        Artifact::Notarization(notarization) => {
+            notarization.epoch() == owner.epoch && notarization.verify(scheme)
+        }
+        Artifact::Nullification(nullification) => {
+            nullification.epoch() == owner.epoch && nullification.verify(scheme)
+        }
+        Artifact::Finalization(finalization) => {
+            finalization.epoch() == owner.epoch && finalization.verify(scheme)
+        }
+    }
+}
+
+/// Whether a vote of this epoch and signer is the owner's.
+fn is_own(owner: &Owner, epoch: Epoch, signer: Participant) -> bool
+    ensures { IsTrue result ↔ ((epoch ≡ owner.now.epoch) × (signer ≡ owner.now.signer)) }
+{
+    epoch == owner.epoch && signer == owner.signer
+}
+
+impl<D: Digest> Standing<D> {
+    /// Whether the rules allow the artifact.
+    pub fn allows<S: Scheme<D>>(&self, length: TermLength, artifact: &Artifact<S, D>) -> bool
+        ensures lawful { (before : List (Entry D)) → Keeps length self.now before → IsTrue result ↔ MayFollow length before (entry artifact.now) }
+        ensures room { IsTrue result → LeavesRoom length (entry artifact.now) }
+    {
+        match artifact {
+            Artifact::Notarize(vote) => self.may_notarize(length, &vote.proposal),
+            Artifact::Notarization(certificate) => {
+                self.may_take_notarization(length, &certificate.proposal)
+            }
+            Artifact::Certification(round, _) => self.may_judge(length, *round),
+            Artifact::Nullify(vote) => self.may_nullify(length, vote.round),
+            Artifact::Nullification(certificate) => {
+                self.may_take_nullification(length, certificate.round)
+            }
+            Artifact::Finalize(vote) => self.may_finalize(length, &vote.proposal),
+            Artifact::Finalization(certificate) => {
+                self.may_take_finalization(length, &certificate.proposal)
+            }
+        }
+    }
+
+    /// Adds an artifact. What is kept is what the record tells with it, where the rules allow it there.
+    /// Refused only where memory is: then what is kept tells nothing any more.
+    pub fn add<S: Scheme<D>>(
+        &mut self,
+        length: TermLength,
+        artifact: &Artifact<S, D>,
+    ) -> Result<(), AllocError>
+        requires { LeavesRoom length (entry artifact.now) }
+        ensures { OnOk result ((before : List (Entry D)) → Keeps length self.old before → MayFollow length before (entry artifact.now) → Keeps length self.new (before ++ entry artifact.now ∷ [])) }
+    {
+        match artifact {
+            Artifact::Notarize(vote) => self.add_notarize(&vote.proposal),
+            Artifact::Notarization(certificate) => self.add_notarization(&certificate.proposal),
+            Artifact::Certification(round, verdict) => self.add_verdict(*round, *verdict),
+            Artifact::Nullify(vote) => self.add_nullify(vote.round),
+            Artifact::Nullification(certificate) => {
+                self.add_nullification(length, certificate.round)
+            }
+            Artifact::Finalize(vote) => self.add_finalize(&vote.proposal),
+            Artifact::Finalization(certificate) => self.add_finalization(&certificate.proposal),
+        }
+    }
+}

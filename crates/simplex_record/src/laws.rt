@@ -1,0 +1,47 @@
+//! Agreement of members whose records are lawful, and the chain that what they finalize is.
+
+ghost use Rattle.std.specs.Prelude.{ℕ, List, [], ◌∷◌, ◌++◌, Option};
+ghost use Rattle.simplex_messages.specs.declared.artifact.Artifact.{Artifact};
+ghost use Rattle.simplex_record.specs.declared.owner.Owner.{Owner};
+ghost use Rattle.simplex_record.specs.Chain.{StandsOnGround, MayFollowOnGround, AllStandOnGround, OneChain};
+ghost use Rattle.simplex_record.specs.Record.{Entry};
+ghost use Rattle.simplex_record.specs.Lawful.{IsLawful, IsEverLawful};
+ghost use Rattle.simplex_record.specs.World.{World, IsWorld};
+ghost use Rattle.simplex_record.specs.Agreement.{OneProposalAView, NoFinalizedViewNullified, NoFinalizedViewSkipped};
+
+use simplex_types::{Digest, Listing, Scheme};
+
+/// The law of agreement. In a committee of any size, with terms of any length, let no more members be
+/// excused from all rules than may be faulty. Of each other member let the scheme be of the committee's
+/// size, and what attests by it attest by the committee's; let all that it ever recorded be lawful by its
+/// own scheme; and let each verifying vote that a certificate lists in its name be on a statement for
+/// which it recorded a vote. Then over all certificates that list attestations of a quorum, recorded or
+/// not: no view has notarizations or finalizations for two proposals, no finalized view is nullified, and
+/// no notarized proposal skips a finalized view. Whatever verifies under a scheme of this kind lists such
+/// attestations.
+pub fn agreement<S: Listing<D>, D: Digest>()
+    ensures one_proposal_a_view { (scheme : S) (schemes : ℕ → S) (world : World S D S.PublicKey S.Signature S.Certificate) → IsWorld (S.attests scheme) (λ i. S.size (schemes i)) (λ i. S.attests (schemes i)) (λ i. S.certifies (schemes i)) S.lists world → OneProposalAView (S.attests scheme) S.lists world }
+    ensures no_finalized_view_nullified { (scheme : S) (schemes : ℕ → S) (world : World S D S.PublicKey S.Signature S.Certificate) → IsWorld (S.attests scheme) (λ i. S.size (schemes i)) (λ i. S.attests (schemes i)) (λ i. S.certifies (schemes i)) S.lists world → NoFinalizedViewNullified (S.attests scheme) S.lists world }
+    ensures no_finalized_view_skipped { (scheme : S) (schemes : ℕ → S) (world : World S D S.PublicKey S.Signature S.Certificate) → IsWorld (S.attests scheme) (λ i. S.size (schemes i)) (λ i. S.attests (schemes i)) (λ i. S.certifies (schemes i)) S.lists world → NoFinalizedViewSkipped (S.attests scheme) S.lists world }
+{}
+
+/// The law of the chain. Let also each correct member's record stand on ground, by one schedule of leaders:
+/// of each view that it judged true it took a notarization, whose parent it knew to be finalized or judged
+/// true, unless the view starts a term; and where it voted to notarize a view that starts a term, it knew
+/// that of the parent, or leads the view by the schedule. (A member that is alone knows it of each view
+/// that it judged true.) Then from each finalized proposal the parents lead down to each that is finalized
+/// of a view no higher, through proposals that are notarized.
+pub fn chain<S: Listing<D>, D: Digest>()
+    ensures { (scheme : S) (schemes : ℕ → S) (world : World S D S.PublicKey S.Signature S.Certificate) (leader : ℕ → Option ℕ) → IsWorld (S.attests scheme) (λ i. S.size (schemes i)) (λ i. S.attests (schemes i)) (λ i. S.certifies (schemes i)) S.lists world → AllStandOnGround leader world → OneChain (S.attests scheme) S.lists world }
+{}
+
+/// An empty record stands on ground, and so does one that did with an entry more that may follow on ground.
+pub fn records_stand_on_ground<D: Digest>()
+    ensures first { (size views : ℕ) (leader : ℕ → Option ℕ) (member : ℕ) → StandsOnGround {D = D} size views leader member [] }
+    ensures further { (size views : ℕ) (leader : ℕ → Option ℕ) (member : ℕ) (before : List (Entry D)) (e : Entry D) → StandsOnGround size views leader member before → MayFollowOnGround size views leader member before e → StandsOnGround size views leader member (before ++ e ∷ []) }
+{}
+
+/// A lawful record of which nothing was ever dropped is lawful as the list of all that was ever recorded.
+pub fn whole_records_are_ever_lawful<S: Scheme<D>, D: Digest>()
+    ensures { (scheme : S) (owner : Owner) (artifacts : List (Artifact S D S.PublicKey S.Signature S.Certificate)) → IsLawful (S.attests scheme) (S.certifies scheme) owner artifacts → IsEverLawful (S.attests scheme) (S.certifies scheme) owner artifacts }
+{}

@@ -1,0 +1,190 @@
+//! What is kept of a record: of each view and kind of artifact, whether the record has one. Every question
+//! and every addition takes a logarithmic time.
+
+ghost use Rattle.std.specs.Prelude.{◌≡◌, ◌↔◌, ◌<◌, ◌≤◌, [], List, Some, IsTrue, true};
+ghost use Rattle.std.specs.BTreeMap.{get};
+ghost use Rattle.std.specs.Ordering.{nat_cmp};
+ghost use Rattle.simplex_types.specs.Positions.{HasRoom};
+ghost use Rattle.simplex_types.specs.Subject.{notarize, nullify, finalize};
+ghost use Rattle.simplex_record.specs.Record.{Entry};
+ghost use Rattle.simplex_record.specs.Rules.{MayNotarize, MayNullify, MayFinalize, MayTake, MayJudge, IsHealed};
+ghost use Rattle.simplex_record.specs.Standing.{Keeps};
+
+use crate::certificates::Certificates;
+use crate::votes::Votes;
+use simplex_types::{Digest, Proposal, Round, TermLength, View};
+use std::alloc::Global;
+use std::collections::BTreeMap;
+
+/// What is kept of a record: all that the rules ask of it.
+#[derive(Drop)]
+pub struct Standing<D: Digest> {
+    /// The views that the member voted in.
+    pub(crate) votes: Votes,
+    /// What it has certificates for.
+    pub(crate) certificates: Certificates<D>,
+    /// The verdicts, by their views.
+    pub(crate) verdicts: BTreeMap<View, bool>,
+    /// The highest finalized view, or 0.
+    pub(crate) last_finalized: View,
+    /// The highest view that was entered, from 1 on.
+    pub(crate) current_view: View,
+}
+
+impl<D: Digest> Standing<D> {
+    /// What is kept of an empty record.
+    pub fn new(alloc: Global) -> Self
+        ensures { (length : TermLength) → Keeps length result [] }
+    {
+        Standing {
+            votes: Votes::new(alloc),
+            certificates: Certificates::new(alloc),
+            verdicts: BTreeMap::new(alloc),
+            last_finalized: View::zero(),
+            current_view: View::new(1),
+        }
+    }
+
+    /// Whether the member may vote to notarize the proposal.
+    pub fn may_notarize(&self, length: TermLength, proposal: &Proposal<D>) -> bool
+        ensures lawful { (before : List (Entry D)) → Keeps length self.now before → IsTrue result ↔ MayNotarize length before proposal.now }
+        ensures parent_below { IsTrue result → proposal.now.parent < proposal.now.round.view }
+    {
+        let view = proposal.round.view;
+        if self.votes.notarizes.contains(&view) {
+            return false;
+        }
+        if self.votes.nullifies.contains(&view) {
+            return false;
+        }
+        if proposal.parent >= view {
+            return false;
+        }
+        self.certificates
+            .covered
+            .covers_between(proposal.parent, view)
+    }
+
+    /// Whether it may vote to nullify the round.
+    pub fn may_nullify(&self, length: TermLength, round: Round) -> bool
+        ensures { (before : List (Entry D)) → Keeps length self.now before → IsTrue result ↔ MayNullify length before round }
+    {
+        if round.view != self.current_view {
+            return false;
+        }
+        if self.votes.nullifies.contains(&round.view) {
+            return false;
+        }
+        !self.votes.finalizes.contains(&round.view)
+    }
+
+    /// Whether it may vote to finalize the proposal.
+    pub fn may_finalize(&self, length: TermLength, proposal: &Proposal<D>) -> bool
+        ensures lawful { (before : List (Entry D)) → Keeps length self.now before → IsTrue result ↔ MayFinalize length before proposal.now }
+        ensures from_one { IsTrue result → 1 ≤ proposal.now.round.view }
+    {
+        let finalized = proposal.round.view;
+        if self.last_finalized >= finalized {
+            return false;
+        }
+        if self.votes.nullifies.contains(&finalized) {
+            return false;
+        }
+        if self.votes.finalizes.contains(&finalized) {
+            return false;
+        }
+        if !self.certificates.has_notarized(proposal) {
+            return false;
+        }
+        if !self.is_certified(finalized) {
+            return false;
+        }
+        self.is_healed(length, finalized)
+    }
+
+    /// Whether the verdict on the view is true.
+    fn is_certified(&self, view: View) -> bool
+        ensures { IsTrue result ↔ (get nat_cmp self.now.verdicts view ≡ Some true) }
+    {
+        matches!(self.verdicts.get(&view), Some(true))
+    }
+
+    /// Whether each own nullify of an earlier view of the term lies at or below the last finalized view.
+    fn is_healed(&self, length: TermLength, view: View) -> bool
+        requires { self.now.last_finalized < view }
+        ensures { (before : List (Entry D)) → Keeps length self.now before → IsTrue result ↔ IsHealed length before view }
+    {
+        let start = view.term_start(length);
+        let low = start.max(self.last_finalized.next());
+        self.votes.nullifies.range(low..view).next().is_none()
+    }
+
+    /// Whether it may take a notarization of the proposal.
+    pub fn may_take_notarization(&self, length: TermLength, proposal: &Proposal<D>) -> bool
+        ensures lawful { (before : List (Entry D)) → Keeps length self.now before → IsTrue result ↔ MayTake length before (notarize proposal.now) }
+        ensures room { IsTrue result → HasRoom length proposal.now.round.view }
+        ensures parent_below { IsTrue result → proposal.now.parent < proposal.now.round.view }
+    {
+        if !can_be_certified(length, proposal) {
+            return false;
+        }
+        !self
+            .certificates
+            .notarizations
+            .contains_key(&proposal.round.view)
+    }
+
+    /// Whether it may take a nullification of the round.
+    pub fn may_take_nullification(&self, length: TermLength, round: Round) -> bool
+        ensures lawful { (before : List (Entry D)) → Keeps length self.now before → IsTrue result ↔ MayTake length before (nullify round) }
+        ensures from_one { IsTrue result → 1 ≤ round.view }
+        ensures room { IsTrue result → HasRoom length round.view }
+    {
+        if round.view.is_zero() {
+            return false;
+        }
+        if !round.view.has_room(length) {
+            return false;
+        }
+        !self.certificates.nullifications.contains(&round.view)
+    }
+
+    /// Whether it may take a finalization of the proposal.
+    pub fn may_take_finalization(&self, length: TermLength, proposal: &Proposal<D>) -> bool
+        ensures lawful { (before : List (Entry D)) → Keeps length self.now before → IsTrue result ↔ MayTake length before (finalize proposal.now) }
+        ensures room { IsTrue result → HasRoom length proposal.now.round.view }
+        ensures parent_below { IsTrue result → proposal.now.parent < proposal.now.round.view }
+    {
+        if !can_be_certified(length, proposal) {
+            return false;
+        }
+        !self
+            .certificates
+            .finalizations
+            .contains(&proposal.round.view)
+    }
+
+    /// Whether it may record a verdict on the round.
+    pub fn may_judge(&self, length: TermLength, round: Round) -> bool
+        ensures lawful { (before : List (Entry D)) → Keeps length self.now before → IsTrue result ↔ MayJudge before round }
+        ensures room { IsTrue result → HasRoom length round.view }
+    {
+        if !round.view.has_room(length) {
+            return false;
+        }
+        if self.verdicts.contains_key(&round.view) {
+            return false;
+        }
+        match self.certificates.notarized(round.view) {
+            Some(proposal) => proposal.round == round,
+            None => false,
+        }
+    }
+}
+
+/// Whether a certificate may be for the proposal: its view has room, and its parent lies below.
+fn can_be_certified<D: Digest>(length: TermLength, proposal: &Proposal<D>) -> bool
+    ensures { IsTrue result ↔ (HasRoom length proposal.now.round.view × (proposal.now.parent < proposal.now.round.view)) }
+{
+    proposal.round.view.has_room(length) && proposal.parent < proposal.round.view
+}
