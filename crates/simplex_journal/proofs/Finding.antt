@@ -37,14 +37,14 @@ entry_here bytes n is_open is within = record {
   gate = omega (arith, length-drop n (drop 5 bytes), length-drop 5 bytes, within);
 }
 
-pub left_first : (bytes : List ℕ) → IsLeft bytes bytes []
+pub left_first : (bytes : List ℕ) → IsLeft [] bytes bytes []
 left_first bytes = record { front = []; split = refl; entries = refl; gate = inl refl }
 
 -- one more message has been read
-pub left_next : {M : Type 0} (spelling : M → List ℕ) (bytes rest body after : List ℕ) (messages : List M) (m : M) → IsLeft bytes rest (map spelling messages) → HasEntry rest body after → body ≡ spelling m → IsLeft bytes after (map spelling (messages ++ m ∷ []))
+pub left_next : {M : Type 0} (spelling : M → List ℕ) (bytes rest body after : List ℕ) (messages : List M) (m : M) → IsLeft [] bytes rest (map spelling messages) → HasEntry rest body after → body ≡ spelling m → IsLeft [] bytes after (map spelling (messages ++ m ∷ []))
 left_next spelling bytes rest body after messages m left entry is =
     let pushed : map spelling messages ++ body ∷ [] ≡ map spelling (messages ++ m ∷ []) = ap (λ (l : List ℕ). map spelling messages ++ l ∷ []) is ∙ sym (map-append spelling messages (m ∷ [])) in
-    subst (λ (l : List (List ℕ)). IsLeft bytes after l) pushed
+    subst (λ (l : List (List ℕ)). IsLeft [] bytes after l) pushed
     (record {
       front = left.front ++ 1 ∷ entry.a ∷ entry.b ∷ entry.c ∷ entry.d ∷ body;
       split = left.split ∙ ap (λ (l : List ℕ). left.front ++ l) entry.split ∙ sym (append_assoc left.front (1 ∷ entry.a ∷ entry.b ∷ entry.c ∷ entry.d ∷ body) after);
@@ -53,8 +53,8 @@ left_next spelling bytes rest body after messages m left entry is =
     })
 
 -- where what begins here is no message's, the place is foreign
-pub foreign_at : {M : Type 0} (Fits : M → Type 0) (spelling : M → List ℕ) (bytes rest body after : List ℕ) (place : ℕ) (messages : List M) → All Fits messages → IsLeft bytes rest (map spelling messages) → HasEntry rest body after → IsNone Fits spelling body
-    → place ≡ length bytes - length rest → IsForeign Fits spelling bytes place
+pub foreign_at : {M : Type 0} (Fits : M → Type 0) (spelling : M → List ℕ) (bytes rest body after : List ℕ) (place : ℕ) (messages : List M) → All Fits messages → IsLeft [] bytes rest (map spelling messages) → HasEntry rest body after → IsNone Fits spelling body
+    → place ≡ length bytes - length rest → IsForeign [] Fits spelling bytes place
 foreign_at Fits spelling bytes rest body after place messages fitting left entry none is = record {
   messages = messages;
   fitting = fitting;
@@ -67,5 +67,5 @@ foreign_at Fits spelling bytes rest body after place messages fitting left entry
   place_is = omega (arith, is, ap length left.split, length-append left.front rest);
 }
 
-pub found_at : (bytes rest : List ℕ) (gate : ℕ) (bodies : List (List ℕ)) → IsLeft bytes rest bodies → IsEnd rest → gate ≡ length bytes - length rest → IsFound bytes gate bodies
+pub found_at : (bytes rest : List ℕ) (gate : ℕ) (bodies : List (List ℕ)) → IsLeft [] bytes rest bodies → IsEnd rest → gate ≡ length bytes - length rest → IsFound [] bytes gate bodies
 found_at bytes rest gate bodies left ended is = record { rest = rest; left = left; ended = ended; gate_is = omega (arith, is, ap length left.split, length-append left.front rest) }

@@ -1,5 +1,5 @@
 -- Where histories lead.
-use Rattle.std.proofs.Common.{◌≡◌, ◌≢◌, ◌⊎◌, inl, inr, ⊎_elim, ℕ, true, false, List, [], ◌∷◌, ◌++◌, map, refl, sym, ◌∙◌, ap, subst, append_assoc, arith, take_at, length}
+use Rattle.std.proofs.Common.{◌^◌, ◌≡◌, ◌≢◌, ◌⊎◌, inl, inr, ⊎_elim, ℕ, true, false, List, [], ◌∷◌, ◌++◌, map, refl, sym, ◌∙◌, ap, subst, append_assoc, arith, take_at, length}
 use Rattle.std.specs.Prelude.{All, Contains, Option, None, Some, MatchOption, Result, unwrap_or}
 use Rattle.std.proofs.lemmas.List.{append-nil, map-append}
 use Rattle.std.proofs.lemmas.List.Elements.{All-nil, All-cons, All-head, All-tail, All-push, All-take, All-contains, All-weaker, Contains-append_left, Contains-push}
@@ -16,7 +16,7 @@ use Rattle.simplex_journal.specs.declared.history.Stage.TheVariants as stage
 use Rattle.simplex_journal.specs.Disk.{Call, MayLeave, LeavesOnly}
 use Rattle.simplex_journal.specs.Journal.{Standing, IsRecord, IsTooLong}
 use Rattle.simplex_journal.specs.Record.{Reads, IsWithOrWithout, IsReopened, IsForeign, end_of}
-use Rattle.simplex_journal.specs.History.{Begun, message_of, IsUnacknowledged, last_found, begun, IsFollowed, MayFind, MayRead, AtEachEvent, IsPastTheEnd, IsTrueOf, Finds, Passes, Recalls, Remembers, IsAnswer, is_open, all_begun, disk_of, Stands}
+use Rattle.simplex_journal.specs.History.{Begun, message_of, IsUnacknowledged, last_found, begun, IsFollowed, MayFind, MayRead, AtEachEvent, IsPastTheEnd, IsTrueOf, Finds, Leaves, Recalls, Remembers, IsAnswer, is_open, all_begun, disk_of, Stands}
 use Rattle.simplex_journal.proofs.Moments.{started, weaker, at_last}
 use Rattle.simplex_journal.proofs.Images.{end_short, only_synced, reads_front}
 use Rattle.simplex_journal.proofs.Reopened.{reopened_here}
@@ -100,6 +100,14 @@ module _ {M : Type 0} where
     is = begun_is history found last;
   }
 
+  -- what follows has only what was found or begun
+  followed_fits : (Fits : M → Type 0) (found : List M) (appends : List (Begun M)) (messages : List M) → All Fits (found ++ map message_of appends) → IsFollowed found appends messages → All Fits messages
+  followed_fits Fits found appends messages fitting followed =
+      let all_there : found ++ map message_of appends ≡ messages ++ map message_of followed.lost =
+      ap (λ (l : List (Begun M)). found ++ map message_of l) followed.split ∙ ap (λ (l : List M). found ++ l) (map-append message_of followed.kept followed.lost)
+      ∙ sym (append_assoc found (map message_of followed.kept) (map message_of followed.lost)) ∙ ap (λ (l : List M). l ++ map message_of followed.lost) (sym followed.is) in
+      all_in_front Fits messages (map message_of followed.lost) (subst (All Fits) all_there fitting)
+
 module _ {M : Type 0} (spelling : M → List ℕ) (given : List Call) where
   -- the same as MayRead, by what was found last
   abbrev MayReadAs : Option (List M) → List (Begun M) → List ℕ → Type 0
@@ -153,13 +161,8 @@ module _ {M : Type 0} (spelling : M → List ℕ) (given : List Call) where
   found_as codec None appends fitting before may messages fit reads =
       (may.before, may.left, subst (Reads may.before) (unique may.bodies (map spelling messages) before may.reads reads) may.reads_before)
   found_as {Fits} codec (Some found) appends fitting before may messages fit reads =
-      let followed = may.1 in
-      let all_there : found ++ map message_of appends ≡ may.0 ++ map message_of followed.lost =
-      ap (λ (l : List (Begun M)). found ++ map message_of l) followed.split ∙ ap (λ (l : List M). found ++ l) (map-append message_of followed.kept followed.lost)
-      ∙ sym (append_assoc found (map message_of followed.kept) (map message_of followed.lost)) ∙ ap (λ (l : List M). l ++ map message_of followed.lost) (sym followed.is) in
-      let fit_there : All Fits may.0 = all_in_front Fits may.0 (map message_of followed.lost) (subst (All Fits) all_there fitting) in
-      let same : may.0 ≡ messages = spellings-one codec may.0 messages fit_there fit (unique (map spelling may.0) (map spelling messages) before may.2 reads) in
-      subst (λ (l : List M). IsFollowed found appends l) same followed
+      let same : may.0 ≡ messages = spellings-one codec may.0 messages (followed_fits Fits found appends may.0 fitting may.1) fit (unique (map spelling may.0) (map spelling messages) before may.2 reads) in
+      subst (λ (l : List M). IsFollowed found appends l) same may.1
 
   pub found : {Fits : M → Type 0} {reading : List ℕ → Result (M × List ℕ) CodecError} → IsCodec Fits spelling reading → (history : List (Event M)) → All Fits (all_begun history)
       → (before : List ℕ) → MayRead spelling given history before → (messages : List M) → All Fits messages → Reads before (map spelling messages) → MayFind spelling given history messages
@@ -170,6 +173,9 @@ module _ {M : Type 0} (spelling : M → List ℕ) (given : List Call) where
 module _ {M K : Type 0} (Fits : M → Type 0) (spelling : M → List ℕ) (seen : K → List ℕ) (calls : K → List Call) (given : List Call) where
   abbrev At : Stage M K → List (Event M) → Type 0
   At now history = Stands Fits spelling seen calls given now history
+
+  abbrev Left : List (Event M) → Event M → K → K → Type 0
+  Left history event before after = Leaves spelling given history event (calls before) (calls after)
 
   abbrev RecordIs : Standing K → List M → Type 0
   RecordIs journal messages = IsRecord spelling seen calls journal messages
@@ -186,23 +192,19 @@ module _ {M K : Type 0} (Fits : M → Type 0) (spelling : M → List ℕ) (seen 
   gate_is journal messages is = is.1.gate_is ∙ entries_long is.1.front (map spelling messages) is.1.entries
 
   -- a message past the record's end is too long for the journal
-  past_the_end : (journal : Standing K) (message : M) (history : List (Event M)) → journal.failed ≡ false → At (stage.Open journal) history → IsPastTheEnd spelling history message → IsTooLong journal.gate (length (spelling message))
-  past_the_end journal message history fresh at past = subst (λ (gate : ℕ). IsTooLong gate (length (spelling message))) (sym (gate_is journal (all_begun history) (at.has_record fresh))) past
+  past_the_end : (journal : Standing K) (message : M) (history : List (Event M)) → journal.failed ≡ false → At (stage.Open journal) history → IsPastTheEnd spelling history message → IsTooLong (2 ^ 32) journal.gate (length (spelling message))
+  past_the_end journal message history fresh at past = subst (λ (gate : ℕ). IsTooLong (2 ^ 32) gate (length (spelling message))) (sym (gate_is journal (all_begun history) (at.has_record fresh))) past
 
   -- and the other way round
-  too_long : (journal : Standing K) (message : M) (history : List (Event M)) → journal.failed ≡ false → At (stage.Open journal) history → IsTooLong journal.gate (length (spelling message)) → IsPastTheEnd spelling history message
-  too_long journal message history fresh at long = subst (λ (gate : ℕ). IsTooLong gate (length (spelling message))) (gate_is journal (all_begun history) (at.has_record fresh)) long
+  too_long : (journal : Standing K) (message : M) (history : List (Event M)) → journal.failed ≡ false → At (stage.Open journal) history → IsTooLong (2 ^ 32) journal.gate (length (spelling message)) → IsPastTheEnd spelling history message
+  too_long journal message history fresh at long = subst (λ (gate : ℕ). IsTooLong (2 ^ 32) gate (length (spelling message))) (gate_is journal (all_begun history) (at.has_record fresh)) long
 
   -- an opening may be refused for an entry only where nothing was ever found
   foreign_given : (history : List (Event M)) (last : Option (List M)) → last_found history ≡ last → All Fits (all_begun history) → (image : List ℕ) → MayReadAs spelling given last (begun history) image
-      → (place : ℕ) → IsForeign Fits spelling image place → IsTrueOf Fits spelling given history (OpenFailed (Foreign place))
+      → (place : ℕ) → IsForeign [] Fits spelling image place → IsTrueOf Fits spelling given history (OpenFailed (Foreign place))
   foreign_given history None is fitting image may place foreign = (is, may.before, may.left, foreign_again image may.before may.bodies place may.reads may.reads_before foreign)
   foreign_given history (Some found) is fitting image may place foreign =
-      let followed = may.1 in
-      let all_there : all_begun history ≡ may.0 ++ map message_of followed.lost =
-      begun_is history found is ∙ ap (λ (l : List (Begun M)). found ++ map message_of l) followed.split ∙ ap (λ (l : List M). found ++ l) (map-append message_of followed.kept followed.lost)
-      ∙ sym (append_assoc found (map message_of followed.kept) (map message_of followed.lost)) ∙ ap (λ (l : List M). l ++ map message_of followed.lost) (sym followed.is) in
-      let fit : All Fits may.0 = all_in_front Fits may.0 (map message_of followed.lost) (subst (All Fits) all_there fitting) in
+      let fit = followed_fits Fits found (begun history) may.0 (subst (All Fits) (begun_is history found is) fitting) may.1 in
       absurd (never_foreign image may.0 place fit may.2 foreign)
 
   -- a disk that was given
@@ -210,7 +212,6 @@ module _ {M K : Type 0} (Fits : M → Type 0) (spelling : M → List ℕ) (seen 
   given_stands disk is = record {
     finds = tt;
     true_of = tt;
-    passes = is;
     left = λ image may. reopened_here given image (subst (λ (l : List Call). MayLeave l image) is may);
     fitting = All-nil Fits;
     stage = refl;
@@ -220,26 +221,27 @@ module _ {M K : Type 0} (Fits : M → Type 0) (spelling : M → List ℕ) (seen 
   -- an opening that answers Ok
   pub opened_stands : {reading : List ℕ → Result (M × List ℕ) CodecError} → IsCodec Fits spelling reading → (old : Stage M K) (history : List (Event M)) (disk : K) (new : Standing K) (messages : Vec M Global)
       → disk ≡ disk_of old → All Fits messages.items → RecordIs new messages.items → (before : List ℕ) × MayLeave (calls disk) before × Reads before (map spelling messages.items)
-      → LeavesOnly (calls disk) (calls new.disk) (IsReopened (calls disk)) → At old history → At (stage.Open new) (Opened messages ∷ history)
+      → LeavesOnly (calls disk) (calls new.disk) (IsReopened (calls disk)) → At old history → At (stage.Open new) (Opened messages ∷ history) × Left history (Opened messages) (disk_of old) new.disk
   opened_stands codec old history disk new messages disk_is fit is read moments at =
-      let left : (image : List ℕ) → MayLeave (calls disk) image → MayRead spelling given history image = subst (λ (d : K). (image : List ℕ) → MayLeave (calls d) image → MayRead spelling given history image) (sym disk_is) at.left in
-      record {
-        finds = (found spelling given codec history at.fitting read.0 (left read.0 read.1) messages.items fit read.2, at.finds);
-        true_of = (tt, at.true_of);
-        passes = (calls disk, subst (λ (d : K). Passes spelling given history (calls d)) (sym disk_is) at.passes, weaker _ moments (reopened spelling given history (calls disk) left));
-        left = λ image may. (
-          messages.items,
-          record { kept = []; lost = []; split = refl; none_acknowledged = All-nil _; is = sym (append-nil messages.items) },
-          record_reads new messages.items is image may,
-        );
-        fitting = subst (All Fits) (sym (append-nil messages.items)) fit;
-        stage = (refl, is.0);
-        has_record = λ fresh. subst (RecordIs new) (sym (append-nil messages.items)) is;
-      }
+      let left : (image : List ℕ) → MayLeave (calls disk) image → MayRead spelling given history image = subst (λ (d : K). (image : List ℕ) → MayLeave (calls d) image → MayRead spelling given history image) (sym disk_is) at.left in (
+        record {
+          finds = (found spelling given codec history at.fitting read.0 (left read.0 read.1) messages.items fit read.2, at.finds);
+          true_of = (tt, at.true_of);
+          left = λ image may. (
+            messages.items,
+            record { kept = []; lost = []; split = refl; none_acknowledged = All-nil _; is = sym (append-nil messages.items) },
+            record_reads new messages.items is image may,
+          );
+          fitting = subst (All Fits) (sym (append-nil messages.items)) fit;
+          stage = (refl, is.0);
+          has_record = λ fresh. subst (RecordIs new) (sym (append-nil messages.items)) is;
+        },
+        subst (λ (d : K). Left history (Opened messages) d new.disk) disk_is (weaker _ moments (reopened spelling given history (calls disk) left)),
+      )
 
   -- what an opening that fails says
   open_failed_true : (fault : JournalFault) (history : List (Event M)) → All Fits (all_begun history) → (image : List ℕ) → MayRead spelling given history image
-      → ((place : ℕ) → fault ≡ Foreign place → IsForeign Fits spelling image place) → IsTrueOf Fits spelling given history (OpenFailed fault)
+      → ((place : ℕ) → fault ≡ Foreign place → IsForeign [] Fits spelling image place) → IsTrueOf Fits spelling given history (OpenFailed fault)
   open_failed_true Device history fitting image may foreign = tt
   open_failed_true Memory history fitting image may foreign = tt
   open_failed_true (Foreign place) history fitting image may foreign = foreign_given history (last_found history) refl fitting image may place (foreign place refl)
@@ -248,61 +250,64 @@ module _ {M K : Type 0} (Fits : M → Type 0) (spelling : M → List ℕ) (seen 
 
   -- an opening that fails
   pub open_failed_stands : (old : Stage M K) (history : List (Event M)) (disk new : K) (fault : JournalFault) → disk ≡ disk_of old
-      → LeavesOnly (calls disk) (calls new) (IsReopened (calls disk)) → MayLeave (calls new) (seen new) → ((place : ℕ) → fault ≡ Foreign place → IsForeign Fits spelling (seen new) place)
-      → At old history → At (stage.Closed new) (OpenFailed fault ∷ history)
+      → LeavesOnly (calls disk) (calls new) (IsReopened (calls disk)) → MayLeave (calls new) (seen new) → ((place : ℕ) → fault ≡ Foreign place → IsForeign [] Fits spelling (seen new) place)
+      → At old history → At (stage.Closed new) (OpenFailed fault ∷ history) × Left history (OpenFailed fault) (disk_of old) new
   open_failed_stands old history disk new fault disk_is moments here foreign at =
       let left : (image : List ℕ) → MayLeave (calls disk) image → MayRead spelling given history image = subst (λ (d : K). (image : List ℕ) → MayLeave (calls d) image → MayRead spelling given history image) (sym disk_is) at.left in
-      let only = weaker (MayRead spelling given history) moments (reopened spelling given history (calls disk) left) in
-      record {
-        finds = (tt, at.finds);
-        true_of = (open_failed_true fault history at.fitting (seen new) (at_last only (seen new) here) foreign, at.true_of);
-        passes = (calls disk, subst (λ (d : K). Passes spelling given history (calls d)) (sym disk_is) at.passes, only);
-        left = at_last only;
-        fitting = at.fitting;
-        stage = refl;
-        has_record = tt;
-      }
+      let only = weaker (MayRead spelling given history) moments (reopened spelling given history (calls disk) left) in (
+        record {
+          finds = (tt, at.finds);
+          true_of = (open_failed_true fault history at.fitting (seen new) (at_last only (seen new) here) foreign, at.true_of);
+          left = at_last only;
+          fitting = at.fitting;
+          stage = refl;
+          has_record = tt;
+        },
+        subst (λ (d : K). Left history (OpenFailed fault) d new) disk_is only,
+      )
 
   -- an append that answers Ok
-  pub appended_stands : (old new : Standing K) (message : M) (history : List (Event M)) → Fits message → old.failed ≡ false → new.failed ≡ false → (IsTooLong old.gate (length (spelling message)) → ⊥)
+  pub appended_stands : (old new : Standing K) (message : M) (history : List (Event M)) → Fits message → old.failed ≡ false → new.failed ≡ false → (IsTooLong (2 ^ 32) old.gate (length (spelling message)) → ⊥)
       → ((messages : List M) → RecordIs old messages → RecordIs new (messages ++ message ∷ []))
       → ((messages : List M) → RecordIs old messages → LeavesOnly (calls old.disk) (calls new.disk) (IsWithOrWithout (map spelling messages) (spelling message)))
-      → At (stage.Open old) history → At (stage.Open new) (Appended message ∷ history)
+      → At (stage.Open old) history → At (stage.Open new) (Appended message ∷ history) × Left history (Appended message) old.disk new.disk
   appended_stands old new message history fit fresh stays short grows moments at =
       let append : Begun M = record { message = message; acknowledged = true } in
       let before : RecordIs old (all_begun history) = at.has_record fresh in
       let after : RecordIs new (all_begun history ++ message ∷ []) = grows (all_begun history) before in
-      let more : all_begun history ++ message ∷ [] ≡ all_begun (Appended message ∷ history) = sym (message_of-push (unwrap_or (last_found history) []) (begun history) append) in
-      record {
-        finds = (tt, at.finds);
-        true_of = (λ past. short (past_the_end old message history fresh at past), at.true_of);
-        passes = (calls old.disk, at.passes, weaker _ (moments (all_begun history) before) (reads_either spelling given history message at.stage.0));
-        left = λ image may. reads_with spelling given history append at.stage.0 image (record_reads new (all_begun history ++ message ∷ []) after image may);
-        fitting = subst (All Fits) more (All-push Fits (all_begun history) message at.fitting fit);
-        stage = (at.stage.0, stays ∙ sym fresh ∙ at.stage.1);
-        has_record = λ _. subst (RecordIs new) more after;
-      }
+      let more : all_begun history ++ message ∷ [] ≡ all_begun (Appended message ∷ history) = sym (message_of-push (unwrap_or (last_found history) []) (begun history) append) in (
+        record {
+          finds = (tt, at.finds);
+          true_of = (λ past. short (past_the_end old message history fresh at past), at.true_of);
+          left = λ image may. reads_with spelling given history append at.stage.0 image (record_reads new (all_begun history ++ message ∷ []) after image may);
+          fitting = subst (All Fits) more (All-push Fits (all_begun history) message at.fitting fit);
+          stage = (at.stage.0, stays ∙ sym fresh ∙ at.stage.1);
+          has_record = λ _. subst (RecordIs new) more after;
+        },
+        weaker _ (moments (all_begun history) before) (reads_either spelling given history message at.stage.0),
+      )
 
   -- one that fails for the disk
-  pub cut_stands : (old new : Standing K) (message : M) (history : List (Event M)) → Fits message → old.failed ≡ false → new.failed ≡ true → (IsTooLong old.gate (length (spelling message)) → ⊥)
+  pub cut_stands : (old new : Standing K) (message : M) (history : List (Event M)) → Fits message → old.failed ≡ false → new.failed ≡ true → (IsTooLong (2 ^ 32) old.gate (length (spelling message)) → ⊥)
       → ((messages : List M) → RecordIs old messages → LeavesOnly (calls old.disk) (calls new.disk) (IsWithOrWithout (map spelling messages) (spelling message)))
-      → At (stage.Open old) history → At (stage.Open new) (AppendFailed message Device ∷ history)
+      → At (stage.Open old) history → At (stage.Open new) (AppendFailed message Device ∷ history) × Left history (AppendFailed message Device) old.disk new.disk
   cut_stands old new message history fit fresh fails short moments at =
       let append : Begun M = record { message = message; acknowledged = false } in
-      let only = weaker (MayRead spelling given (AppendFailed message Device ∷ history)) (moments (all_begun history) (at.has_record fresh)) (reads_either spelling given history message at.stage.0) in
-      record {
-        finds = (tt, at.finds);
-        true_of = (λ past. short (past_the_end old message history fresh at past), at.true_of);
-        passes = (calls old.disk, at.passes, only);
-        left = at_last only;
-        fitting = subst (All Fits) (sym (message_of-push (unwrap_or (last_found history) []) (begun history) append)) (All-push Fits (all_begun history) message at.fitting fit);
-        stage = (at.stage.0, fails);
-        has_record = λ never. absurd (let both : true ≡ false = sym fails ∙ never in cc);
-      }
+      let only = weaker (MayRead spelling given (AppendFailed message Device ∷ history)) (moments (all_begun history) (at.has_record fresh)) (reads_either spelling given history message at.stage.0) in (
+        record {
+          finds = (tt, at.finds);
+          true_of = (λ past. short (past_the_end old message history fresh at past), at.true_of);
+          left = at_last only;
+          fitting = subst (All Fits) (sym (message_of-push (unwrap_or (last_found history) []) (begun history) append)) (All-push Fits (all_begun history) message at.fitting fit);
+          stage = (at.stage.0, fails);
+          has_record = λ never. absurd (let both : true ≡ false = sym fails ∙ never in cc);
+        },
+        only,
+      )
 
   -- what an append that is refused says
   refused_true : (fault : JournalFault) (old : Standing K) (message : M) (history : List (Event M)) → fault ≢ Device → (fault ≢ Failed → old.failed ≡ false)
-      → (fault ≡ Memory → IsTooLong old.gate (length (spelling message)) → ⊥) → (fault ≡ TooLong → IsTooLong old.gate (length (spelling message)))
+      → (fault ≡ Memory → IsTooLong (2 ^ 32) old.gate (length (spelling message)) → ⊥) → (fault ≡ TooLong → IsTooLong (2 ^ 32) old.gate (length (spelling message)))
       → At (stage.Open old) history → IsTrueOf Fits spelling given history (AppendFailed message fault)
   refused_true Device old message history refused fresh short long at = absurd (refused refl)
   refused_true Memory old message history refused fresh short long at = λ past. short refl (past_the_end old message history (fresh (λ never. absurd cc)) at past)
@@ -312,18 +317,20 @@ module _ {M K : Type 0} (Fits : M → Type 0) (spelling : M → List ℕ) (seen 
 
   -- one that is refused
   pub refused_stands : (fault : JournalFault) (old : Standing K) (message : M) (history : List (Event M)) → fault ≢ Device → (fault ≢ Failed → old.failed ≡ false)
-      → (fault ≡ Memory → IsTooLong old.gate (length (spelling message)) → ⊥) → (fault ≡ TooLong → IsTooLong old.gate (length (spelling message)))
-      → At (stage.Open old) history → At (stage.Open old) (AppendFailed message fault ∷ history)
+      → (fault ≡ Memory → IsTooLong (2 ^ 32) old.gate (length (spelling message)) → ⊥) → (fault ≡ TooLong → IsTooLong (2 ^ 32) old.gate (length (spelling message)))
+      → At (stage.Open old) history → At (stage.Open old) (AppendFailed message fault ∷ history) × Left history (AppendFailed message fault) old.disk old.disk
   refused_stands Device old message history refused fresh short long at = absurd (refused refl)
-  refused_stands fault old message history refused fresh short long at = record {
-    finds = (tt, at.finds);
-    true_of = (refused_true fault old message history refused fresh short long at, at.true_of);
-    passes = (calls old.disk, at.passes, started (calls old.disk) _ at.left);
-    left = at.left;
-    fitting = at.fitting;
-    stage = at.stage;
-    has_record = at.has_record;
-  }
+  refused_stands fault old message history refused fresh short long at = (
+    record {
+      finds = (tt, at.finds);
+      true_of = (refused_true fault old message history refused fresh short long at, at.true_of);
+      left = at.left;
+      fitting = at.fitting;
+      stage = at.stage;
+      has_record = at.has_record;
+    },
+    started (calls old.disk) _ at.left,
+  )
 
 -- ---- nothing is lost
 

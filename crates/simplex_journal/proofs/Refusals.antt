@@ -30,7 +30,7 @@ reads_behind bytes front rest (body ∷ first) bodies is entries some reads =
 -- the entries in front of others
 record IsCut (bytes : List ℕ) (first : List (List ℕ)) (body : List ℕ) : Type 0 where
   pub rest : List ℕ
-  pub left : IsLeft bytes rest first
+  pub left : IsLeft [] bytes rest first
   pub after : List ℕ
   pub entry : HasEntry rest body after
 
@@ -56,14 +56,14 @@ cut_at bytes (ahead ∷ first) body more reads =
 
 module _ {M : Type 0} {Fits : M → Type 0} {spelling : M → List ℕ} where
   -- what a disk with a foreign entry reads as: messages, that entry's body, and more
-  foreign_reads : (bytes : List ℕ) (place : ℕ) (f : IsForeign Fits spelling bytes place) → (more : List (List ℕ)) × Reads bytes (map spelling f.messages ++ f.body ∷ more)
+  foreign_reads : (bytes : List ℕ) (place : ℕ) (f : IsForeign [] Fits spelling bytes place) → (more : List (List ℕ)) × Reads bytes (map spelling f.messages ++ f.body ∷ more)
   foreign_reads bytes place f =
       let behind = reads_any f.after in
       let some : 0 < length f.rest = omega (arith, ap length f.entry.split) in
       (behind.0, reads_behind bytes f.left.front f.rest (map spelling f.messages) (f.body ∷ behind.0) f.left.split f.left.entries some (reads_next f.rest f.body f.after behind.0 f.entry behind.1))
 
   -- a foreign entry is there in all that reads the same
-  pub foreign_again : (image before : List ℕ) (bodies : List (List ℕ)) (place : ℕ) → Reads image bodies → Reads before bodies → IsForeign Fits spelling image place → IsForeign Fits spelling before place
+  pub foreign_again : (image before : List ℕ) (bodies : List (List ℕ)) (place : ℕ) → Reads image bodies → Reads before bodies → IsForeign [] Fits spelling image place → IsForeign [] Fits spelling before place
   foreign_again image before bodies place reads reads_before f =
       let told = foreign_reads image place f in
       let same : bodies ≡ map spelling f.messages ++ f.body ∷ told.0 = unique bodies _ image reads told.1 in
@@ -89,7 +89,7 @@ module _ {M : Type 0} {Fits : M → Type 0} {spelling : M → List ℕ} where
       none_among messages first body more (All-tail Fits m messages fit) tails none
 
   -- what reads as messages has no foreign entry
-  pub never_foreign : (image : List ℕ) (messages : List M) (place : ℕ) → All Fits messages → Reads image (map spelling messages) → IsForeign Fits spelling image place → ⊥
+  pub never_foreign : (image : List ℕ) (messages : List M) (place : ℕ) → All Fits messages → Reads image (map spelling messages) → IsForeign [] Fits spelling image place → ⊥
   never_foreign image messages place fit reads f =
       let told = foreign_reads image place f in
       none_among messages f.messages f.body told.0 fit (unique (map spelling messages) _ image reads told.1) f.none

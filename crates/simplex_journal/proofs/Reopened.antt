@@ -1,7 +1,7 @@
 -- What an opening finds.
 use Rattle.std.proofs.Common.{◌≡◌, inl, inr, ⊎_elim, ℕ, ◌+◌, ◌<◌, List, [], ◌∷◌, ◌++◌, length, sym, ◌∙◌, ap, subst, arith, length-append}
 use Rattle.simplex_journal.specs.Disk.{Call, Synced, MayLeave, LeavesOnly}
-use Rattle.simplex_journal.specs.Record.{AreEntries, Reads, IsWithOrWithout, IsFound, IsReopened}
+use Rattle.simplex_journal.specs.Record.{AreEntries, Reads, IsWithOrWithout, IsFound, IsFixed, IsReopened}
 use Rattle.simplex_journal.proofs.Moments.{started, goes_on, weaker, and_then}
 use Rattle.simplex_journal.proofs.Images.{only_synced, end_short}
 use Rattle.simplex_journal.proofs.Repairing.{reads_found}
@@ -15,14 +15,14 @@ fixes calls0 calls1 seen0 here is = goes_on (started calls0 (MayLeave calls0) (�
 no_front : (front : List ℕ) (bodies : List (List ℕ)) → AreEntries front bodies → bodies ≡ [] → front ≡ []
 no_front front bodies entries none = subst (λ (l : List (List ℕ)). AreEntries front l) none entries
 
-pub found_within : {bytes : List ℕ} {gate : ℕ} {bodies : List (List ℕ)} → IsFound bytes gate bodies → 0 < length bytes → gate < length bytes
+pub found_within : {bytes : List ℕ} {gate : ℕ} {bodies : List (List ℕ)} → IsFound [] bytes gate bodies → 0 < length bytes → gate < length bytes
 found_within {bytes} {gate} {bodies} f some =
     let whole : length bytes ≡ length f.left.front + length f.rest = ap length f.left.split ∙ length-append f.left.front f.rest in
     ⊎_elim
     (λ none. omega (arith, f.gate_is, some, ap length (no_front f.left.front bodies f.left.entries none)))
     (λ more. omega (arith, f.gate_is, whole, more)) f.left.gate
 
-pub found_none : {bytes : List ℕ} {gate : ℕ} {bodies : List (List ℕ)} → IsFound bytes gate bodies → bytes ≡ [] → (gate ≡ 0) × (bodies ≡ [])
+pub found_none : {bytes : List ℕ} {gate : ℕ} {bodies : List (List ℕ)} → IsFound [] bytes gate bodies → bytes ≡ [] → (gate ≡ 0) × (bodies ≡ [])
 found_none {bytes} {gate} {bodies} f none = (
   omega (arith, f.gate_is, ap length f.left.split, length-append f.left.front f.rest, ap length none),
   unique bodies [] bytes (reads_found f) (reads_end bytes (end_short bytes (omega (arith, ap length none)))),
@@ -38,6 +38,13 @@ pub reopened_then : {calls0 calls1 calls2 : List Call} {seen1 : List ℕ} {bodie
     → LeavesOnly calls1 calls2 (λ image. Reads image bodies) → LeavesOnly calls0 calls2 (IsReopened calls0)
 reopened_then {calls0} {calls1} {calls2} {seen1} {bodies} first here reads second =
     and_then (reopened_first first) (weaker (IsReopened calls0) second (λ image same. record { before = seen1; bodies = bodies; left = here; reads_before = reads; reads = same }))
+
+-- the same where what a read gave was fixed and read first
+pub reopened_fixed : {calls0 calls1 calls2 : List Call} {seen0 seen1 : List ℕ} {bodies : List (List ℕ)} → MayLeave calls0 seen0 → calls1 ≡ Synced seen0 ∷ calls0 → seen1 ≡ seen0 → Reads seen1 bodies
+    → (IsFixed seen1 calls1 → LeavesOnly calls1 calls2 (λ image. Reads image bodies)) → LeavesOnly calls0 calls2 (IsReopened calls0)
+reopened_fixed {calls0} {calls1} {calls2} {seen0} {seen1} {bodies} here is same reads second =
+    reopened_then (fixes calls0 calls1 seen0 here is) (subst (MayLeave calls0) (sym same) here) reads
+    (second (record { earlier = calls0; is = is ∙ ap (λ (bytes : List ℕ). Synced bytes ∷ calls0) (sym same) }))
 
 -- What an opening has found every later one finds, also where openings between have failed.
 pub stays_found : (calls : List Call) (bodies : List (List ℕ)) → ((image : List ℕ) → MayLeave calls image → Reads image bodies) → (image : List ℕ) → IsReopened calls image → Reads image bodies

@@ -7,7 +7,7 @@ use Rattle.simplex_journal.proofs.Moments.{started, goes_on}
 use Rattle.simplex_journal.proofs.Images.{end_short, reads_front, cut_behind, gate_closes, first_gate, only_synced}
 use Rattle.simplex_journal.proofs.Stages.{held_byte, reads_rest}
 
-pub reads_found : {bytes : List ℕ} {gate : ℕ} {bodies : List (List ℕ)} → IsFound bytes gate bodies → Reads bytes bodies
+pub reads_found : {bytes : List ℕ} {gate : ℕ} {bodies : List (List ℕ)} → IsFound [] bytes gate bodies → Reads bytes bodies
 reads_found f = record { front = f.left.front; end = f.rest; split = f.left.split; entries = f.left.entries; ended = f.ended; gate = f.left.gate }
 
 pub fixed_only : {seen : List ℕ} {calls : List Call} → IsFixed seen calls → (image : List ℕ) → MayLeave calls image → image ≡ seen
@@ -17,15 +17,15 @@ first_byte : (xs : List ℕ) → 0 < length xs → take 1 xs ≡ get_or xs 0 0 �
 first_byte [] some = absurd (omega (arith, some))
 first_byte (x ∷ xs) some = refl
 
-pub cut_found : {seen0 : List ℕ} (seen1 : List ℕ) {gate : ℕ} {bodies : List (List ℕ)} (f : IsFound seen0 gate bodies) → gate < length seen0 → seen1 ≡ take (gate + 1) seen0 → seen1 ≡ f.left.front ++ get_or f.rest 0 0 ∷ []
+pub cut_found : {seen0 : List ℕ} (seen1 : List ℕ) {gate : ℕ} {bodies : List (List ℕ)} (f : IsFound [] seen0 gate bodies) → gate < length seen0 → seen1 ≡ take (gate + 1) seen0 → seen1 ≡ f.left.front ++ get_or f.rest 0 0 ∷ []
 cut_found {seen0} seen1 {gate} {bodies} f some is =
     is ∙ ap (λ (l : List ℕ). take (gate + 1) l) f.left.split ∙ take_past f.left.front f.rest (gate + 1) 1 (omega (arith, f.gate_is))
     ∙ ap (λ (l : List ℕ). f.left.front ++ l) (first_byte f.rest (omega (arith, some, f.gate_is, ap length f.left.split, length-append f.left.front f.rest)))
 
-pub gate_within : {seen0 : List ℕ} (seen1 : List ℕ) {gate : ℕ} {bodies : List (List ℕ)} (f : IsFound seen0 gate bodies) → gate < length seen0 → seen1 ≡ take (gate + 1) seen0 → gate ≤ length seen1
+pub gate_within : {seen0 : List ℕ} (seen1 : List ℕ) {gate : ℕ} {bodies : List (List ℕ)} (f : IsFound [] seen0 gate bodies) → gate < length seen0 → seen1 ≡ take (gate + 1) seen0 → gate ≤ length seen1
 gate_within {seen0} seen1 {gate} {bodies} f some is = omega (arith, f.gate_is, ap length (cut_found seen1 f some is), length-append f.left.front (get_or f.rest 0 0 ∷ []))
 
-module _ {seen0 : List ℕ} {calls0 : List Call} {gate : ℕ} {bodies : List (List ℕ)} (x : IsFixed seen0 calls0) (f : IsFound seen0 gate bodies) (some : gate < length seen0) where
+module _ {seen0 : List ℕ} {calls0 : List Call} {gate : ℕ} {bodies : List (List ℕ)} (x : IsFixed seen0 calls0) (f : IsFound [] seen0 gate bodies) (some : gate < length seen0) where
   abbrev Same : List ℕ → Type 0
   Same image = Reads image bodies
 
@@ -70,7 +70,7 @@ module _ {seen0 : List ℕ} {calls0 : List Call} {gate : ℕ} {bodies : List (Li
       closed = goes_on (closing calls3 is3) (Synced seen3) is4 (λ image left.
           subst Same (sym (only_synced seen3 calls3 image left ∙ is_shut)) (reads_rest f.left.front [] bodies f.left.entries))
 
-      pub rests : (seen4 : List ℕ) → seen4 ≡ seen3 → IsAtRest seen4 calls4 gate bodies
+      pub rests : (seen4 : List ℕ) → seen4 ≡ seen3 → IsAtRest [] seen4 calls4 gate bodies
       rests seen4 same = record {
         front = f.left.front;
         entries = f.left.entries;
@@ -87,7 +87,7 @@ reads_nothing image short = record { front = []; end = image; split = refl; entr
 first_shut : (seen0 seen1 : List ℕ) → seen0 ≡ [] → IsOverwritten seen0 0 (0 ∷ []) seen1 → seen1 ≡ 0 ∷ []
 first_shut seen0 seen1 none holds = subst (λ (l : List ℕ). IsOverwritten l 0 (0 ∷ []) seen1) none holds
 
-pub first_rests : (seen0 seen1 seen2 : List ℕ) (calls1 calls2 : List Call) → seen0 ≡ [] → IsOverwritten seen0 0 (0 ∷ []) seen1 → calls2 ≡ Synced seen1 ∷ calls1 → seen2 ≡ seen1 → IsAtRest seen2 calls2 0 []
+pub first_rests : (seen0 seen1 seen2 : List ℕ) (calls1 calls2 : List Call) → seen0 ≡ [] → IsOverwritten seen0 0 (0 ∷ []) seen1 → calls2 ≡ Synced seen1 ∷ calls1 → seen2 ≡ seen1 → IsAtRest [] seen2 calls2 0 []
 first_rests seen0 seen1 seen2 calls1 calls2 none holds is same = record {
   front = [];
   entries = refl;

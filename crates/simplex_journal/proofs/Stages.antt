@@ -28,13 +28,13 @@ pub reads_rest : (front tail : List ℕ) (bodies : List (List ℕ)) → AreEntri
 reads_rest front tail bodies entries = reads_front front (0 ∷ tail) bodies entries (end_shut 0 tail (λ e. absurd (omega (arith, e)))) (omega arith)
 
 -- the closed gate is still within, whatever was written behind it
-pub within : {seen0 : List ℕ} (seen1 entry : List ℕ) {calls0 : List Call} {gate : ℕ} {bodies : List (List ℕ)} (r : IsAtRest seen0 calls0 gate bodies) → IsOverwritten seen0 (gate + 1) entry seen1 → gate ≤ length seen1
+pub within : {seen0 : List ℕ} (seen1 entry : List ℕ) {calls0 : List Call} {gate : ℕ} {bodies : List (List ℕ)} (r : IsAtRest [] seen0 calls0 gate bodies) → IsOverwritten seen0 (gate + 1) entry seen1 → gate ≤ length seen1
 within {seen0} seen1 entry {calls0} {gate} {bodies} r holds =
     let whole = held_behind (r.front ++ 0 ∷ []) entry seen1 (gate + 1) (omega (arith, r.gate_is, length-append r.front (0 ∷ [])))
     (subst (λ (l : List ℕ). IsOverwritten l (gate + 1) entry seen1) r.seen_is holds) in
     omega (arith, r.gate_is, ap length whole, length-append r.front (0 ∷ []), length-append (r.front ++ 0 ∷ []) entry)
 
-module _ {seen0 : List ℕ} {calls0 : List Call} {gate : ℕ} {bodies : List (List ℕ)} {entry body : List ℕ} (r : IsAtRest seen0 calls0 gate bodies) (s : Spells entry body) where
+module _ {seen0 : List ℕ} {calls0 : List Call} {gate : ℕ} {bodies : List (List ℕ)} {entry body : List ℕ} (r : IsAtRest [] seen0 calls0 gate bodies) (s : Spells entry body) where
   abbrev Old : List ℕ → Type 0
   Old image = Reads image bodies
 
@@ -90,7 +90,7 @@ module _ {seen0 : List ℕ} {calls0 : List Call} {gate : ℕ} {bodies : List (Li
       entries4 : AreEntries (r.front ++ 1 ∷ s.a ∷ s.b ∷ s.c ∷ s.d ∷ body) (bodies ++ body ∷ [])
       entries4 = entries_push r.front bodies s.a s.b s.c s.d body r.entries s.long
 
-      pub rests : (seen4 : List ℕ) → seen4 ≡ seen3 → IsAtRest seen4 calls4 (gate + 5 + length body) (bodies ++ body ∷ [])
+      pub rests : (seen4 : List ℕ) → seen4 ≡ seen3 → IsAtRest [] seen4 calls4 (gate + 5 + length body) (bodies ++ body ∷ [])
       rests seen4 same = record {
         front = r.front ++ 1 ∷ s.a ∷ s.b ∷ s.c ∷ s.d ∷ body;
         entries = entries4;

@@ -1,5 +1,5 @@
 -- What openings find over a whole history of a disk. Histories have the newest event first.
-use Rattle.std.specs.Prelude.{◌≡◌, ℕ, Bool, true, false, List, [], ◌∷◌, ◌++◌, length, map, All, Contains, Option, None, Some, MatchOption, unwrap_or, ⊤}
+use Rattle.std.specs.Prelude.{◌≡◌, ◌^◌, ℕ, Bool, true, false, List, [], ◌∷◌, ◌++◌, length, map, All, Contains, Option, None, Some, MatchOption, unwrap_or, ⊤}
 use Rattle.simplex_journal.specs.declared.fault.JournalFault.TheVariants.{Device, Memory, Foreign, TooLong, Failed}
 use Rattle.simplex_journal.specs.declared.history.Event.{Event}
 use Rattle.simplex_journal.specs.declared.history.Event.TheVariants.{Opened, OpenFailed, Appended, AppendFailed, NotOpen, Crashed}
@@ -7,7 +7,7 @@ use Rattle.simplex_journal.specs.declared.history.Request.{Request}
 use Rattle.simplex_journal.specs.declared.history.Request.TheVariants.{Open, Append, Crash}
 use Rattle.simplex_journal.specs.declared.history.Stage.{Stage}
 use Rattle.simplex_journal.specs.declared.history.Stage.TheVariants as stage
-use Rattle.simplex_journal.specs.Disk.{Call, MayLeave, LeavesOnly, counted}
+use Rattle.simplex_journal.specs.Disk.{Call, Synced, MayLeave, LeavesOnly, counted}
 use Rattle.simplex_journal.specs.Journal.{IsRecord, IsTooLong}
 use Rattle.simplex_journal.specs.Record.{Reads, IsReopened, IsForeign, end_of}
 
@@ -109,11 +109,6 @@ module _ {M : Type 0} where
   Leaves spelling given history (NotOpen message) before after = after ≡ before
   Leaves spelling given history event before after = LeavesOnly before after (MayRead spelling given (cut_off event ∷ history))
 
-  -- the calls asked of a disk from event to event, from those asked before the history to those asked now
-  abbrev pub Passes : (M → List ℕ) → List Call → List (Event M) → List Call → Type 0
-  Passes spelling given [] now = now ≡ given
-  Passes spelling given (event ∷ history) now = (before : List Call) × Passes spelling given history before × Leaves spelling given history event before now
-
   -- how often a disk has failed after an event: once more where a call failed for the disk
   abbrev pub failures_after : Event M → ℕ → ℕ
   failures_after (OpenFailed Device) failures = counted false failures
@@ -131,12 +126,12 @@ module _ {M : Type 0} where
 
   -- the message is too long behind all that was found or begun
   abbrev pub IsPastTheEnd : (M → List ℕ) → List (Event M) → M → Type 0
-  IsPastTheEnd spelling history message = IsTooLong (end_of (map spelling (all_begun history))) (length (spelling message))
+  IsPastTheEnd spelling history message = IsTooLong (2 ^ 32) (end_of (map spelling (all_begun history))) (length (spelling message))
 
   -- A refusal says what is: a foreign entry stands in some content that a crash might have left of the disk as it was
   -- given, of which nothing was ever found, and an append is too long just where its body or its place is.
   abbrev pub IsTrueOf : (M → Type 0) → (M → List ℕ) → List Call → List (Event M) → Event M → Type 0
-  IsTrueOf Fits spelling given history (OpenFailed (Foreign place)) = (last_found history ≡ None) × (before : List ℕ) × MayLeave given before × IsForeign Fits spelling before place
+  IsTrueOf Fits spelling given history (OpenFailed (Foreign place)) = (last_found history ≡ None) × (before : List ℕ) × MayLeave given before × IsForeign [] Fits spelling before place
   IsTrueOf Fits spelling given history (Appended message) = IsPastTheEnd spelling history message → ⊥
   IsTrueOf Fits spelling given history (AppendFailed message TooLong) = IsPastTheEnd spelling history message
   IsTrueOf Fits spelling given history (AppendFailed message Device) = IsPastTheEnd spelling history message → ⊥
@@ -193,12 +188,31 @@ module _ {M : Type 0} where
   pub record Stands {K : Type 0} (Fits : M → Type 0) (spelling : M → List ℕ) (seen : K → List ℕ) (calls : K → List Call) (given : List Call) (now : Stage M K) (history : List (Event M)) : Type 0 where
     pub finds : AtEachEvent (Finds spelling given) history
     pub true_of : AtEachEvent (IsTrueOf Fits spelling given) history
-    pub passes : Passes spelling given history (calls (disk_of now))
     pub left : (image : List ℕ) → MayLeave (calls (disk_of now)) image → MayRead spelling given history image
     pub fitting : All Fits (all_begun history)
     pub stage : IsStage now history
     pub has_record : HasRecord spelling seen calls now (all_begun history)
 
-  -- wherever a history leads to the one, with this event it leads to the other
+  -- How a disk came from before an event to after it. A crash came to it. It is the very same where nothing was asked of
+  -- it, and where an append was refused for anything else than its fault. An opening that was refused for anything else
+  -- synced it and no more. Its faults are counted with the event that tells them.
+  abbrev pub Comes : {K : Type 0} → Type 0 → (K → List Call) → (K → K → Type 0) → (K → ℕ) → Event M → K → K → Type 0
+  Comes keeps calls crashed failed Crashed before after = crashed before after
+  Comes keeps calls crashed failed (NotOpen message) before after = after ≡ before
+  Comes keeps calls crashed failed (AppendFailed message Device) before after = failed after ≡ counted false (failed before)
+  Comes keeps calls crashed failed (AppendFailed message fault) before after = after ≡ before
+  Comes keeps calls crashed failed (OpenFailed Device) before after = failed after ≡ counted false (failed before)
+  Comes keeps calls crashed failed (OpenFailed fault) before after = (failed after ≡ failed before) × (keeps → (bytes : List ℕ) × (calls after ≡ Synced bytes ∷ calls before))
+  Comes keeps calls crashed failed event before after = failed after ≡ failed before
+
+  -- A disk came by these events to what it is now: as it was given at the start, then what each event makes of the disk
+  -- before it, and leaves of it where a crash comes.
+  abbrev pub CameBy : {K : Type 0} → (M → List ℕ) → Type 0 → (K → List Call) → (K → K → Type 0) → (K → ℕ) → K → List (Event M) → K → Type 0
+  CameBy spelling keeps calls crashed failed given [] now = now ≡ given
+  CameBy {K} spelling keeps calls crashed failed given (event ∷ history) now =
+      (before : K) × CameBy spelling keeps calls crashed failed given history before × Comes keeps calls crashed failed event before now × (keeps → Leaves spelling (calls given) history event (calls before) (calls now))
+
+  -- wherever a history leads to the one, with this event it leads to the other, and leaves what it may
   abbrev pub GoesOn : {K : Type 0} → (M → Type 0) → (M → List ℕ) → (K → List ℕ) → (K → List Call) → Stage M K → Stage M K → Event M → Type 0
-  GoesOn Fits spelling seen calls old new event = (given : List Call) (history : List (Event M)) → Stands Fits spelling seen calls given old history → Stands Fits spelling seen calls given new (event ∷ history)
+  GoesOn Fits spelling seen calls old new event = (given : List Call) (history : List (Event M)) → Stands Fits spelling seen calls given old history
+      → Stands Fits spelling seen calls given new (event ∷ history) × Leaves spelling given history event (calls (disk_of old)) (calls (disk_of new))

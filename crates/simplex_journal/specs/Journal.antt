@@ -1,5 +1,5 @@
 -- What a journal holds.
-use Rattle.std.specs.Prelude.{◌≡◌, ◌⊎◌, ◌+◌, ◌≤◌, ◌^◌, ℕ, Bool, false, List, map}
+use Rattle.std.specs.Prelude.{◌≡◌, ◌⊎◌, ◌+◌, ◌≤◌, ◌^◌, ℕ, Bool, false, List, [], map}
 use Rattle.simplex_journal.specs.Disk.{Call}
 use Rattle.simplex_journal.specs.Record.{IsAtRest}
 
@@ -11,8 +11,8 @@ pub record Standing (K : Type 0) : Type 0 where
 
 -- the journal's record is these messages: the disk holds their entries, and a crash leaves nothing else
 abbrev pub IsRecord : {M K : Type 0} → (M → List ℕ) → (K → List ℕ) → (K → List Call) → Standing K → List M → Type 0
-IsRecord spelling seen calls journal messages = (journal.failed ≡ false) × IsAtRest (seen journal.disk) (calls journal.disk) journal.gate (map spelling messages)
+IsRecord spelling seen calls journal messages = (journal.failed ≡ false) × IsAtRest [] (seen journal.disk) (calls journal.disk) journal.gate (map spelling messages)
 
 -- a body of so many bytes is too long behind this gate
-abbrev pub IsTooLong : ℕ → ℕ → Type 0
-IsTooLong gate size = (2 ^ 32 ≤ size) ⊎ (2 ^ 63 ≤ gate + 5 + size)
+abbrev pub IsTooLong : ℕ → ℕ → ℕ → Type 0
+IsTooLong limit gate size = (limit ≤ size) ⊎ (2 ^ 63 ≤ gate + 5 + size)

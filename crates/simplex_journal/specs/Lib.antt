@@ -1,5 +1,6 @@
 pub mod Disk
 pub mod MemoryDisk
+pub mod FileDisk
 pub mod Record
 pub mod Journal
 pub mod History

@@ -52,27 +52,27 @@ pub record Spells (bytes body : List ℕ) : Type 0 where
   pub long : length body ≡ size a b c d
 
 -- a disk holds entries of these bodies and a closed gate at this place, and a crash leaves nothing else
-pub record IsAtRest (seen : List ℕ) (calls : List Call) (gate : ℕ) (bodies : List (List ℕ)) : Type 0 where
+pub record IsAtRest (head seen : List ℕ) (calls : List Call) (gate : ℕ) (bodies : List (List ℕ)) : Type 0 where
   pub front : List ℕ
   pub entries : AreEntries front bodies
-  pub gate_is : gate ≡ length front
-  pub seen_is : seen ≡ front ++ 0 ∷ []
+  pub gate_is : gate ≡ length (head ++ front)
+  pub seen_is : seen ≡ head ++ front ++ 0 ∷ []
   pub earlier : List Call
-  pub calls_is : calls ≡ Synced (front ++ 0 ∷ []) ∷ earlier
+  pub calls_is : calls ≡ Synced (head ++ front ++ 0 ∷ []) ∷ earlier
 
 -- of these bytes the entries of these bodies have been read, and this is left
-pub record IsLeft (bytes rest : List ℕ) (bodies : List (List ℕ)) : Type 0 where
+pub record IsLeft (head bytes rest : List ℕ) (bodies : List (List ℕ)) : Type 0 where
   pub front : List ℕ
-  pub split : bytes ≡ front ++ rest
+  pub split : bytes ≡ head ++ front ++ rest
   pub entries : AreEntries front bodies
   pub gate : (bodies ≡ []) ⊎ (0 < length rest)
 
 -- these bytes read as these bodies, and the gate behind the last stands at this place
-pub record IsFound (bytes : List ℕ) (gate : ℕ) (bodies : List (List ℕ)) : Type 0 where
+pub record IsFound (head bytes : List ℕ) (gate : ℕ) (bodies : List (List ℕ)) : Type 0 where
   pub rest : List ℕ
-  pub left : IsLeft bytes rest bodies
+  pub left : IsLeft head bytes rest bodies
   pub ended : IsEnd rest
-  pub gate_is : gate ≡ length left.front
+  pub gate_is : gate ≡ length (head ++ left.front)
 
 -- the same of a disk on which nothing else is left by a crash
 pub record IsFixed (seen : List ℕ) (calls : List Call) : Type 0 where
@@ -92,13 +92,13 @@ abbrev pub IsNone : {M : Type 0} → (M → Type 0) → (M → List ℕ) → Lis
 IsNone {M} Fits spelling body = (message : M) → Fits message → body ≡ spelling message → ⊥
 
 -- the bytes have whole entries of messages, and at this place an open entry that is whole and of none
-pub record IsForeign {M : Type 0} (Fits : M → Type 0) (spelling : M → List ℕ) (bytes : List ℕ) (place : ℕ) : Type 0 where
+pub record IsForeign (head : List ℕ) {M : Type 0} (Fits : M → Type 0) (spelling : M → List ℕ) (bytes : List ℕ) (place : ℕ) : Type 0 where
   pub messages : List M
   pub fitting : All Fits messages
   pub rest : List ℕ
-  pub left : IsLeft bytes rest (map spelling messages)
+  pub left : IsLeft head bytes rest (map spelling messages)
   pub body : List ℕ
   pub after : List ℕ
   pub entry : HasEntry rest body after
   pub none : IsNone Fits spelling body
-  pub place_is : place ≡ length left.front
+  pub place_is : place ≡ length (head ++ left.front)

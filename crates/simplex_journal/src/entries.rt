@@ -1,6 +1,6 @@
 //! Reading the entries of a record.
 
-ghost use Rattle.std.specs.Prelude.{◌≡◌, ◌⊎◌, ◌↔◌, ◌+◌, ◌<◌, ℕ, length, take, drop, map, All, IfOk, IfErr, IfSome, IfNone, IsTrue};
+ghost use Rattle.std.specs.Prelude.{◌≡◌, ◌⊎◌, ◌↔◌, ◌+◌, ◌<◌, [], ℕ, length, take, drop, map, All, IfOk, IfErr, IfSome, IfNone, IsTrue};
 ghost use Rattle.simplex_types.specs.Codec.{Readable};
 ghost use Rattle.simplex_journal.specs.Record.{HasEntry, IsEnd, IsFound, IsForeign, IsNone};
 ghost use Rattle.simplex_journal.specs.declared.fault.JournalFault.TheVariants.{Foreign, Memory};
@@ -74,9 +74,9 @@ pub(crate) fn read_entries<M: Read + Drop>(
     alloc: Global,
     bytes: &[u8],
 ) -> Result<Entries<M>, JournalFault>
-    ensures found { IfOk result (λ entries. IsFound bytes.now entries.gate (map M.spelling entries.messages.items)) }
+    ensures found { IfOk result (λ entries. IsFound [] bytes.now entries.gate (map M.spelling entries.messages.items)) }
     ensures fitting { IfOk result (λ entries. All (Readable M.fits (M.within 65535)) entries.messages.items) }
-    ensures faults { IfErr result (λ fault. (fault ≡ Memory) ⊎ ((place : ℕ) × (fault ≡ Foreign place) × IsForeign (Readable M.fits (M.within 65535)) M.spelling bytes.now place)) }
+    ensures faults { IfErr result (λ fault. (fault ≡ Memory) ⊎ ((place : ℕ) × (fault ≡ Foreign place) × IsForeign [] (Readable M.fits (M.within 65535)) M.spelling bytes.now place)) }
 {
     let mut messages = Vec::new(alloc);
     let mut rest = bytes;

@@ -5,7 +5,7 @@ ghost use Rattle.simplex_types.specs.Codec.{Readable};
 ghost use Rattle.simplex_journal.specs.Disk.{Call, MayLeave};
 ghost use Rattle.simplex_journal.specs.declared.history.Event.{Event};
 ghost use Rattle.simplex_journal.specs.declared.history.Request.TheVariants.{Open, Append, Crash};
-ghost use Rattle.simplex_journal.specs.History.{OfMessage, request_of, disk_of, MayRead, AtEachEvent, IsTrueOf, Finds, Remembers, Passes, IsAnswer, IsStage, GoesOn, failures_after, failures_told};
+ghost use Rattle.simplex_journal.specs.History.{OfMessage, request_of, disk_of, MayRead, AtEachEvent, IsTrueOf, Finds, Remembers, IsAnswer, IsStage, GoesOn, failures_after, failures_told, Comes, CameBy};
 
 use crate::disk::Disk;
 use crate::fault::JournalFault;
@@ -14,21 +14,30 @@ use crate::memory_disk::MemoryDisk;
 use simplex_types::{EncodeSize, Read};
 use std::alloc::{AllocError, Global};
 
-#[cfg(test)]
-mod tests;
-
 /// A disk that a crash may come to.
 pub trait Crash: Disk {
+    /// The first became the second by a crash.
+    ghost crashed: { Self → Self → Type 0 };
+
     /// A crash, and a restart: what stands on the disk then is one of the contents that the crash may
     /// leave, and so is what a further crash may leave of it.
     fn crash(&mut self)
         ensures left { Self.keeps → (image : List ℕ) → MayLeave (Self.calls self.new) image → MayLeave (Self.calls self.old) image }
-        ensures no_fault { Self.failed self.new ≡ Self.failed self.old };
+        ensures no_fault { Self.failed self.new ≡ Self.failed self.old }
+        ensures came { crashed self.old self.new };
 }
 
 /// A crash of the process alone: all that was written is there, as much in doubt as before.
 impl Crash for MemoryDisk {
-    fn crash(&mut self) {}
+    ghost crashed = { λ old new. new ≡ old };
+
+    fn crash(&mut self)
+        ensures left { (image : List ℕ) → MayLeave self.new.calls image → MayLeave self.old.calls image }
+        ensures no_fault { self.new.failures ≡ self.old.failures }
+        ensures came { self.new ≡ self.old }
+    {
+        // All that was written is there.
+    }
 }
 
 /// What is asked in a history of a disk.
@@ -75,7 +84,7 @@ enum Stage<M: Read + EncodeSize, K: Disk> {
     Closed(K),
 }
 
-impl<M: Read + EncodeSize + Drop, K: Disk> Stage<M, K> {
+impl<M: Read + EncodeSize + Drop, K: Crash> Stage<M, K> {
     /// The disk, after closing the journal that is open.
     fn into_disk(self) -> K
         ensures { result ≡ disk_of self }
@@ -91,6 +100,7 @@ impl<M: Read + EncodeSize + Drop, K: Disk> Stage<M, K> {
         ensures asked { request_of result.1 ≡ Open }
         ensures answer { (history : List (Event M)) → IsStage self history → IsAnswer history result.1 × IsStage result.0 (result.1 ∷ history) }
         ensures cause { K.failed (disk_of result.0) ≡ failures_after result.1 (K.failed (disk_of self)) }
+        ensures comes { Comes K.keeps K.calls K.crashed K.failed result.1 (disk_of self) (disk_of result.0) }
         ensures stands { K.keeps → GoesOn (Readable M.fits (M.within 65535)) M.spelling K.seen K.calls self result.0 result.1 }
     {
         match Journal::open(alloc, self.into_disk()) {
@@ -105,6 +115,7 @@ impl<M: Read + EncodeSize + Drop, K: Disk> Stage<M, K> {
         ensures asked { request_of result.1 ≡ Append message }
         ensures answer { (history : List (Event M)) → IsStage self history → IsAnswer history result.1 × IsStage result.0 (result.1 ∷ history) }
         ensures cause { K.failed (disk_of result.0) ≡ failures_after result.1 (K.failed (disk_of self)) }
+        ensures comes { Comes K.keeps K.calls K.crashed K.failed result.1 (disk_of self) (disk_of result.0) }
         ensures stands { K.keeps → GoesOn (Readable M.fits (M.within 65535)) M.spelling K.seen K.calls self result.0 result.1 }
     {
         let mut journal = match self {
@@ -116,14 +127,13 @@ impl<M: Read + EncodeSize + Drop, K: Disk> Stage<M, K> {
             Err(fault) => (Stage::Open(journal), Event::AppendFailed(message, fault)),
         }
     }
-}
 
-impl<M: Read + EncodeSize + Drop, K: Crash> Stage<M, K> {
     /// A crash, which takes the journal that is open.
     fn crash(self) -> (Self, Event<M>)
         ensures asked { request_of result.1 ≡ Crash }
         ensures answer { (history : List (Event M)) → IsStage self history → IsAnswer history result.1 × IsStage result.0 (result.1 ∷ history) }
         ensures cause { K.failed (disk_of result.0) ≡ failures_after result.1 (K.failed (disk_of self)) }
+        ensures comes { Comes K.keeps K.calls K.crashed K.failed result.1 (disk_of self) (disk_of result.0) }
         ensures stands { K.keeps → GoesOn (Readable M.fits (M.within 65535)) M.spelling K.seen K.calls self result.0 result.1 }
     {
         let mut disk = self.into_disk();
@@ -137,6 +147,7 @@ impl<M: Read + EncodeSize + Drop, K: Crash> Stage<M, K> {
         ensures asked { request_of result.1 ≡ request }
         ensures answer { (history : List (Event M)) → IsStage self history → IsAnswer history result.1 × IsStage result.0 (result.1 ∷ history) }
         ensures cause { K.failed (disk_of result.0) ≡ failures_after result.1 (K.failed (disk_of self)) }
+        ensures comes { Comes K.keeps K.calls K.crashed K.failed result.1 (disk_of self) (disk_of result.0) }
         ensures stands { K.keeps → GoesOn (Readable M.fits (M.within 65535)) M.spelling K.seen K.calls self result.0 result.1 }
     {
         match request {
@@ -152,8 +163,9 @@ impl<M: Read + EncodeSize + Drop, K: Crash> Stage<M, K> {
 /// Whatever a crash leaves at any moment, inside a call too, reads as what the last opening found,
 /// followed by a prefix of the messages whose append was begun since then and not refused, with all
 /// that were acknowledged. What an opening has found every later one finds, also where openings between
-/// were refused. A crash inside a call is told as that call, failed for the disk, and then a crash. Each
-/// message has to be one that can be read again, as for [`Journal::append`].
+/// were refused. A crash inside a call is told as that call, failed for the disk, and then a crash. The disk
+/// came from the one that was given by these events alone, one after the other. Each message has to be one
+/// that can be read again, as for [`Journal::append`].
 ///
 /// # Errors
 ///
@@ -167,10 +179,10 @@ pub fn run<M: Read + EncodeSize + Drop, K: Crash>(
     ensures asked { IfOk result (λ history. map request_of history.events.items ≡ requests.items) }
     ensures answers { IfOk result (λ history. AtEachEvent IsAnswer (reverse history.events.items)) }
     ensures cause { IfOk result (λ history. K.failed history.disk ≡ failures_told (K.failed disk) (reverse history.events.items)) }
+    ensures came { IfOk result (λ history. CameBy M.spelling K.keeps K.calls K.crashed K.failed disk (reverse history.events.items) history.disk) }
     ensures refusals { IfOk result (λ history. K.keeps → AtEachEvent (IsTrueOf (Readable M.fits (M.within 65535)) M.spelling (K.calls disk)) (reverse history.events.items)) }
     ensures finds { IfOk result (λ history. K.keeps → AtEachEvent (Finds M.spelling (K.calls disk)) (reverse history.events.items)) }
     ensures remembers { IfOk result (λ history. K.keeps → AtEachEvent Remembers (reverse history.events.items)) }
-    ensures any_moment { IfOk result (λ history. K.keeps → Passes M.spelling (K.calls disk) (reverse history.events.items) (K.calls history.disk)) }
     ensures next_opening { IfOk result (λ history. K.keeps → (image : List ℕ) → MayLeave (K.calls history.disk) image → MayRead M.spelling (K.calls disk) (reverse history.events.items) image) }
     ensures untouched { IfErr result (λ refused. refused.1 ≡ disk) }
 {

@@ -14,9 +14,6 @@ use simplex_types::{EncodeSize, Read, Write};
 use std::alloc::{AllocError, Global};
 use std::marker::{Model, PhantomData};
 
-#[cfg(test)]
-mod tests;
-
 /// The first length of a body that is too long.
 const TOO_LONG: usize = 0x1_0000_0000;
 
@@ -57,6 +54,7 @@ impl<M: Read + EncodeSize + Drop, K: Disk> Journal<M, K> {
         ensures fresh { IfOk result (λ opened. opened.0.failed ≡ false) }
         ensures readable { IfOk result (λ opened. All (Readable M.fits (M.within 65535)) opened.1.items) }
         ensures found { IfOk result (λ opened. K.keeps → (before : List ℕ) × MayLeave (K.calls disk) before × Reads before (map M.spelling opened.1.items)) }
+        ensures reading { IfOk result (λ opened. K.keeps → Reads (K.seen disk) (map M.spelling opened.1.items)) }
 
         // A crash at any moment leaves what reads as something that a crash might have left before.
         ensures any_moment { IfOk result (λ opened. K.keeps → LeavesOnly (K.calls disk) (K.calls opened.0.disk) (IsReopened (K.calls disk))) }
@@ -65,7 +63,8 @@ impl<M: Read + EncodeSize + Drop, K: Disk> Journal<M, K> {
         ensures device { IfErr result (λ refused. refused.0 ≡ Device → K.failed refused.1 ≡ counted false (K.failed disk)) }
         ensures no_fault { IfOk result (λ opened. K.failed opened.0.disk ≡ K.failed disk) }
         ensures no_fault_of_others { IfErr result (λ refused. refused.0 ≢ Device → K.failed refused.1 ≡ K.failed disk) }
-        ensures foreign { IfErr result (λ refused. (place : ℕ) → refused.0 ≡ Foreign place → K.keeps → IsForeign (Readable M.fits (M.within 65535)) M.spelling (K.seen refused.1) place) }
+        ensures foreign { IfErr result (λ refused. (place : ℕ) → refused.0 ≡ Foreign place → K.keeps → IsForeign [] (Readable M.fits (M.within 65535)) M.spelling (K.seen refused.1) place) }
+        ensures foreign_reading { IfErr result (λ refused. (place : ℕ) → refused.0 ≡ Foreign place → K.keeps → IsForeign [] (Readable M.fits (M.within 65535)) M.spelling (K.seen disk) place) }
         ensures faults { IfErr result (λ refused. (refused.0 ≡ Device) ⊎ ((refused.0 ≡ Memory) ⊎ ((place : ℕ) × (refused.0 ≡ Foreign place)))) }
         ensures untouched { IfErr result (λ refused. refused.0 ≢ Device → K.keeps → K.calls refused.1 ≡ Synced (K.seen refused.1) ∷ K.calls disk) }
     {
@@ -84,6 +83,21 @@ impl<M: Read + EncodeSize + Drop, K: Disk> Journal<M, K> {
             }
             Err(fault) => Err((fault, disk)),
         }
+    }
+
+    /// How often a call of the disk has failed, up to 2^64-1, where it stays.
+    pub fn failures(&self) -> u64
+        ensures { result ≡ K.failed self.now.disk }
+    {
+        self.disk.failures()
+    }
+
+    /// Whether an append has failed for the disk, so that each further one answers
+    /// [`JournalFault::Failed`].
+    pub fn is_failed(&self) -> bool
+        ensures { result ≡ self.now.failed }
+    {
+        self.failed
     }
 
     /// Gives the disk back.
@@ -116,8 +130,8 @@ impl<M: Read + EncodeSize + Drop, K: Disk> Journal<M, K> {
         ensures device { IsErrOf result JournalFault.Device → (self.new.failed ≡ true) × (K.failed self.new.disk ≡ counted false (K.failed self.old.disk)) }
         ensures no_fault { OnOk result (K.failed self.new.disk ≡ K.failed self.old.disk) }
         ensures memory { IsErrOf result JournalFault.Memory → self.new ≡ self.old }
-        ensures too_long { IsErrOf result JournalFault.TooLong → (self.new ≡ self.old) × IsTooLong self.old.gate (length (M.spelling message.now)) }
-        ensures refused_if_long { self.old.failed ≡ false → IsTooLong self.old.gate (length (M.spelling message.now)) → IsErrOf result JournalFault.TooLong }
+        ensures too_long { IsErrOf result JournalFault.TooLong → (self.new ≡ self.old) × IsTooLong (2 ^ 32) self.old.gate (length (M.spelling message.now)) }
+        ensures refused_if_long { self.old.failed ≡ false → IsTooLong (2 ^ 32) self.old.gate (length (M.spelling message.now)) → IsErrOf result JournalFault.TooLong }
         ensures failed { IsErrOf result JournalFault.Failed → (self.new ≡ self.old) × (self.old.failed ≡ true) }
         ensures refused_if_failed { self.old.failed ≡ true → IsErrOf result JournalFault.Failed }
     {
@@ -164,10 +178,10 @@ fn spelled<M: Write>(alloc: Global, message: &M, size: usize) -> Result<Vec<u8>,
 /// Writes an entry behind the closed gate, and opens the gate.
 fn add_entry<K: Disk>(disk: &mut K, gate: u64, entry: &[u8]) -> Result<(), DiskFault>
     requires room { gate < 2 ^ 63 }
-    requires at_rest { K.keeps → (bodies : List (List ℕ)) × IsAtRest (K.seen disk.old) (K.calls disk.old) gate bodies }
-    ensures ok { OnOk result ((bodies : List (List ℕ)) (body : List ℕ) → K.keeps → IsAtRest (K.seen disk.old) (K.calls disk.old) gate bodies → Spells entry.now body
-        → IsAtRest (K.seen disk.new) (K.calls disk.new) (gate + 5 + length body) (bodies ++ body ∷ [])) }
-    ensures any_moment { (bodies : List (List ℕ)) (body : List ℕ) → K.keeps → IsAtRest (K.seen disk.old) (K.calls disk.old) gate bodies → Spells entry.now body
+    requires at_rest { K.keeps → (bodies : List (List ℕ)) × IsAtRest [] (K.seen disk.old) (K.calls disk.old) gate bodies }
+    ensures ok { OnOk result ((bodies : List (List ℕ)) (body : List ℕ) → K.keeps → IsAtRest [] (K.seen disk.old) (K.calls disk.old) gate bodies → Spells entry.now body
+        → IsAtRest [] (K.seen disk.new) (K.calls disk.new) (gate + 5 + length body) (bodies ++ body ∷ [])) }
+    ensures any_moment { (bodies : List (List ℕ)) (body : List ℕ) → K.keeps → IsAtRest [] (K.seen disk.old) (K.calls disk.old) gate bodies → Spells entry.now body
         → LeavesOnly (K.calls disk.old) (K.calls disk.new) (IsWithOrWithout bodies body) }
     ensures cause { K.failed disk.new ≡ counted (is_ok result) (K.failed disk.old) }
 {

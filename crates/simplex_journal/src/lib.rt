@@ -9,8 +9,6 @@ mod history;
 mod journal;
 mod memory_disk;
 mod opening;
-#[cfg(test)]
-mod samples;
 
 pub use disk::{Disk, DiskFault};
 pub use fault::JournalFault;

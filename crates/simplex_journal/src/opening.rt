@@ -15,11 +15,11 @@ use std::alloc::Global;
 /// Cuts behind the last gate, and closes it.
 pub(crate) fn repair<K: Disk>(disk: &mut K, gate: u64) -> Result<(), DiskFault>
     requires room { gate < 2 ^ 63 }
-    requires found { K.keeps → (bodies : List (List ℕ)) × IsFound (K.seen disk.old) gate bodies }
+    requires found { K.keeps → (bodies : List (List ℕ)) × IsFound [] (K.seen disk.old) gate bodies }
     requires some { K.keeps → gate < length (K.seen disk.old) }
-    ensures ok { OnOk result ((bodies : List (List ℕ)) → K.keeps → IsFixed (K.seen disk.old) (K.calls disk.old) → IsFound (K.seen disk.old) gate bodies
-        → IsAtRest (K.seen disk.new) (K.calls disk.new) gate bodies) }
-    ensures any_moment { (bodies : List (List ℕ)) → K.keeps → IsFixed (K.seen disk.old) (K.calls disk.old) → IsFound (K.seen disk.old) gate bodies
+    ensures ok { OnOk result ((bodies : List (List ℕ)) → K.keeps → IsFixed (K.seen disk.old) (K.calls disk.old) → IsFound [] (K.seen disk.old) gate bodies
+        → IsAtRest [] (K.seen disk.new) (K.calls disk.new) gate bodies) }
+    ensures any_moment { (bodies : List (List ℕ)) → K.keeps → IsFixed (K.seen disk.old) (K.calls disk.old) → IsFound [] (K.seen disk.old) gate bodies
         → LeavesOnly (K.calls disk.old) (K.calls disk.new) (λ image. Reads image bodies) }
     ensures cause { K.failed disk.new ≡ counted (is_ok result) (K.failed disk.old) }
 {
@@ -34,7 +34,7 @@ pub(crate) fn repair<K: Disk>(disk: &mut K, gate: u64) -> Result<(), DiskFault>
 /// Writes the first gate of an empty disk.
 pub(crate) fn begin<K: Disk>(disk: &mut K) -> Result<(), DiskFault>
     requires empty { K.keeps → K.seen disk.old ≡ [] }
-    ensures ok { OnOk result (K.keeps → IsAtRest (K.seen disk.new) (K.calls disk.new) 0 []) }
+    ensures ok { OnOk result (K.keeps → IsAtRest [] (K.seen disk.new) (K.calls disk.new) 0 []) }
     ensures any_moment { K.keeps → IsFixed (K.seen disk.old) (K.calls disk.old) → LeavesOnly (K.calls disk.old) (K.calls disk.new) (λ image. Reads image []) }
     ensures cause { K.failed disk.new ≡ counted (is_ok result) (K.failed disk.old) }
 {
@@ -43,22 +43,17 @@ pub(crate) fn begin<K: Disk>(disk: &mut K) -> Result<(), DiskFault>
     Ok(())
 }
 
-/// Fixes what a read gives, and reads it.
+/// Reads all that a disk holds.
 fn read_disk<K: Disk>(alloc: Global, disk: &mut K) -> Result<Vec<u8>, JournalFault>
-    ensures bytes { IfOk result (λ bytes. K.keeps → bytes.items ≡ K.seen disk.new) }
-    ensures fixed { OnOk result (K.keeps → IsFixed (K.seen disk.new) (K.calls disk.new) × MayLeave (K.calls disk.old) (K.seen disk.new)) }
-    ensures any_moment { K.keeps → LeavesOnly (K.calls disk.old) (K.calls disk.new) (MayLeave (K.calls disk.old)) }
+    ensures bytes { IfOk result (λ bytes. K.keeps → bytes.items ≡ K.seen disk.old) }
+    ensures seen { OnOk result (K.keeps → K.seen disk.new ≡ K.seen disk.old) }
+    ensures seen_of_others { IfErr result (λ fault. fault ≢ Device → K.keeps → K.seen disk.new ≡ K.seen disk.old) }
+    ensures calls { K.keeps → K.calls disk.new ≡ K.calls disk.old }
     ensures device { IsErrOf result JournalFault.Device → K.failed disk.new ≡ counted false (K.failed disk.old) }
     ensures no_fault { OnOk result (K.failed disk.new ≡ K.failed disk.old) }
     ensures no_fault_of_others { IfErr result (λ fault. fault ≢ Device → K.failed disk.new ≡ K.failed disk.old) }
     ensures faults { IfErr result (λ fault. (fault ≡ Device) ⊎ (fault ≡ Memory)) }
-    ensures untouched { IfErr result (λ fault. fault ≢ Device → K.keeps → K.calls disk.new ≡ Synced (K.seen disk.new) ∷ K.calls disk.old) }
-    ensures synced { OnOk result (K.keeps → K.calls disk.new ≡ Synced (K.seen disk.new) ∷ K.calls disk.old) }
 {
-    match disk.sync() {
-        Ok(()) => {}
-        Err(_) => return Err(JournalFault::Device),
-    }
     let Ok(len) = disk.len() else {
         return Err(JournalFault::Device);
     };
@@ -77,12 +72,12 @@ fn read_disk<K: Disk>(alloc: Global, disk: &mut K) -> Result<Vec<u8>, JournalFau
 /// Closes the last gate, or writes the first one.
 fn finish<K: Disk>(disk: &mut K, gate: u64, is_empty: bool) -> Result<(), DiskFault>
     requires room { gate < 2 ^ 63 }
-    requires found { K.keeps → (bodies : List (List ℕ)) × IsFound (K.seen disk.old) gate bodies }
+    requires found { K.keeps → (bodies : List (List ℕ)) × IsFound [] (K.seen disk.old) gate bodies }
     requires some { K.keeps → is_empty ≡ false → gate < length (K.seen disk.old) }
     requires none { K.keeps → is_empty ≡ true → K.seen disk.old ≡ [] }
-    ensures ok { OnOk result ((bodies : List (List ℕ)) → K.keeps → IsFixed (K.seen disk.old) (K.calls disk.old) → IsFound (K.seen disk.old) gate bodies
-        → IsAtRest (K.seen disk.new) (K.calls disk.new) gate bodies) }
-    ensures any_moment { (bodies : List (List ℕ)) → K.keeps → IsFixed (K.seen disk.old) (K.calls disk.old) → IsFound (K.seen disk.old) gate bodies
+    ensures ok { OnOk result ((bodies : List (List ℕ)) → K.keeps → IsFixed (K.seen disk.old) (K.calls disk.old) → IsFound [] (K.seen disk.old) gate bodies
+        → IsAtRest [] (K.seen disk.new) (K.calls disk.new) gate bodies) }
+    ensures any_moment { (bodies : List (List ℕ)) → K.keeps → IsFixed (K.seen disk.old) (K.calls disk.old) → IsFound [] (K.seen disk.old) gate bodies
         → LeavesOnly (K.calls disk.old) (K.calls disk.new) (λ image. Reads image bodies) }
     ensures cause { K.failed disk.new ≡ counted (is_ok result) (K.failed disk.old) }
 {
@@ -103,19 +98,26 @@ pub(crate) fn open_disk<M: Read + Drop, K: Disk>(
     alloc: Global,
     disk: &mut K,
 ) -> Result<Entries<M>, JournalFault>
-    ensures ok { IfOk result (λ entries. K.keeps → IsAtRest (K.seen disk.new) (K.calls disk.new) entries.gate (map M.spelling entries.messages.items)) }
+    ensures ok { IfOk result (λ entries. K.keeps → IsAtRest [] (K.seen disk.new) (K.calls disk.new) entries.gate (map M.spelling entries.messages.items)) }
     ensures fitting { IfOk result (λ entries. All (Readable M.fits (M.within 65535)) entries.messages.items) }
     ensures found { IfOk result (λ entries. K.keeps → (before : List ℕ) × MayLeave (K.calls disk.old) before × Reads before (map M.spelling entries.messages.items)) }
+    ensures reading { IfOk result (λ entries. K.keeps → Reads (K.seen disk.old) (map M.spelling entries.messages.items)) }
     // A crash at any moment leaves what reads as something that a crash might have left before.
     ensures any_moment { K.keeps → LeavesOnly (K.calls disk.old) (K.calls disk.new) (IsReopened (K.calls disk.old)) }
     ensures device { IsErrOf result JournalFault.Device → K.failed disk.new ≡ counted false (K.failed disk.old) }
     ensures no_fault { OnOk result (K.failed disk.new ≡ K.failed disk.old) }
     ensures no_fault_of_others { IfErr result (λ fault. fault ≢ Device → K.failed disk.new ≡ K.failed disk.old) }
-    ensures foreign { IfErr result (λ fault. (place : ℕ) → fault ≡ Foreign place → K.keeps → IsForeign (Readable M.fits (M.within 65535)) M.spelling (K.seen disk.new) place) }
+    ensures foreign { IfErr result (λ fault. (place : ℕ) → fault ≡ Foreign place → K.keeps → IsForeign [] (Readable M.fits (M.within 65535)) M.spelling (K.seen disk.new) place) }
+    ensures foreign_reading { IfErr result (λ fault. (place : ℕ) → fault ≡ Foreign place → K.keeps → IsForeign [] (Readable M.fits (M.within 65535)) M.spelling (K.seen disk.old) place) }
     ensures faults { IfErr result (λ fault. (fault ≡ Device) ⊎ ((fault ≡ Memory) ⊎ ((place : ℕ) × (fault ≡ Foreign place)))) }
     // After any other fault than the disk's own nothing was written or cut.
     ensures untouched { IfErr result (λ fault. fault ≢ Device → K.keeps → K.calls disk.new ≡ Synced (K.seen disk.new) ∷ K.calls disk.old) }
 {
+    // What was found may go on only once it is fixed, or a crash could still take it back.
+    match disk.sync() {
+        Ok(()) => {}
+        Err(_) => return Err(JournalFault::Device),
+    }
     let bytes = match read_disk(alloc, disk) {
         Ok(bytes) => bytes,
         Err(fault) => return Err(fault),

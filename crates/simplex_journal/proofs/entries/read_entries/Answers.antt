@@ -28,8 +28,8 @@ loop-size-preserved g c =
     let one = rw c.in-Some-2.is at c.in_ok-message.ensures.some in
     let pushed = c.in_ok-push.ensures.items in
     let left = left_next g.M.Write.spelling c.args.bytes.now c.loop-size.rest.now _ _ c.loop-size.messages.items c.in-Some-2.message c.loop-size.invariant.0 c.in-Some.ensures.some (sym body_is ∙ one.0) in (
-      subst (λ (ms : List _). IsLeft c.args.bytes.now c.split_at-in-Some.result.1.now (map g.M.Write.spelling ms)) (sym pushed)
-          (subst (λ (l : List ℕ). IsLeft c.args.bytes.now l (map g.M.Write.spelling (c.loop-size.messages.items ++ c.in-Some-2.message ∷ []))) (sym after_is) left),
+      subst (λ (ms : List _). IsLeft [] c.args.bytes.now c.split_at-in-Some.result.1.now (map g.M.Write.spelling ms)) (sym pushed)
+          (subst (λ (l : List ℕ). IsLeft [] c.args.bytes.now l (map g.M.Write.spelling (c.loop-size.messages.items ++ c.in-Some-2.message ∷ []))) (sym after_is) left),
       subst (All Fits) (sym pushed) (All-append Fits c.loop-size.messages.items (c.in-Some-2.message ∷ []) c.loop-size.invariant.1 (All-cons Fits c.in-Some-2.message [] one.1 (All-nil Fits))),
     )
 

@@ -1,4 +1,4 @@
-use Rattle.std.proofs.Common.{length, map}
+use Rattle.std.proofs.Common.{[], length, map}
 use Rattle.std.specs.List.{All}
 use Rattle.simplex_types.specs.Codec.{Readable}
 use Rattle.simplex_journal.specs.Record.{IsLeft}
@@ -6,7 +6,7 @@ use Rattle.simplex_journal.proofs.entries.read_entries.Given as goal
 
 -- what was read so far are messages, and the entries of these
 abbrev pub invariant-loop-size : goal.invariant-loop-size
-invariant-loop-size g l = IsLeft l.bytes l.rest (map g.M.Write.spelling l.messages.items) × All (Readable g.M.Write.fits (g.M.Read.within 65535)) l.messages.items
+invariant-loop-size g l = IsLeft [] l.bytes l.rest (map g.M.Write.spelling l.messages.items) × All (Readable g.M.Write.fits (g.M.Read.within 65535)) l.messages.items
 
 abbrev pub decreases-loop-size : goal.decreases-loop-size
 decreases-loop-size g l = length l.rest

@@ -4,7 +4,7 @@ use Rattle.std.proofs.lemmas.List.{map-append, reverse-append}
 use Rattle.std.proofs.lemmas.List.Elements.{All-rest}
 use Rattle.simplex_journal.specs.declared.history.Event.{Event}
 use Rattle.simplex_journal.specs.declared.history.Request.{Request}
-use Rattle.simplex_journal.specs.History.{OfMessage, request_of, AtEachEvent, IsAnswer, IsStage, is_open, failures_after}
+use Rattle.simplex_journal.specs.History.{OfMessage, request_of, AtEachEvent, IsAnswer, IsStage, is_open, failures_after, disk_of}
 use Rattle.simplex_journal.proofs.Histories.{given_stands, remembers}
 use Rattle.simplex_journal.proofs.history.run.Goals as goal
 
@@ -28,8 +28,9 @@ loop-request-preserved g c =
       fitting = All-rest (OfMessage (g.M.Read.within 65535)) c.in-Some.request _ _ c.in-Some.ensures.steps.0 so_far.fitting;
       answers = subst (AtEachEvent IsAnswer) (sym told) (answer.0, so_far.answers);
       failures = rw told (c.step-next.ensures.cause ∙ ap (failures_after event) so_far.failures);
+      came = rw told (disk_of c.loop-request.stage, so_far.came, c.step-next.ensures.comes, λ k. (c.step-next.ensures.stands k _ _ (so_far.stands k)).1);
       stage = subst (IsStage c.step-next.result.0) (sym told) answer.1;
-      stands = λ k. rw told (c.step-next.ensures.stands k _ _ (so_far.stands k));
+      stands = λ k. rw told (c.step-next.ensures.stands k _ _ (so_far.stands k)).0;
     }
 
 pub returns-clause-remembers : goal.returns-clause-remembers
@@ -47,6 +48,7 @@ loop-request-init g c =
       fitting = subst (All (OfMessage (g.M.Read.within 65535))) (sym all) c.requires;
       answers = subst (AtEachEvent IsAnswer) (sym none) tt;
       failures = rw none refl;
+      came = rw none refl;
       stage = ap is_open none;
       stands = λ k. rw none (given_stands _ _ _ _ _ c.args.disk refl);
     }

@@ -1,7 +1,7 @@
 use Rattle.std.proofs.Common.{◌≡◌, ◌≤◌, ◌++◌, length, map}
 use Rattle.std.specs.Prelude.{All, reverse, vec_capacity}
 use Rattle.simplex_types.specs.Codec.{Readable}
-use Rattle.simplex_journal.specs.History.{OfMessage, request_of, AtEachEvent, IsAnswer, IsStage, disk_of, failures_told, Stands}
+use Rattle.simplex_journal.specs.History.{OfMessage, request_of, AtEachEvent, IsAnswer, IsStage, disk_of, failures_told, Stands, CameBy}
 use Rattle.simplex_journal.proofs.history.run.Given as goal
 
 -- what was asked so far has led here
@@ -12,6 +12,7 @@ invariant-loop-request g l = record {
   fitting : All (OfMessage (g.M.Read.within 65535)) l.request-iterator.rest.items;
   answers : AtEachEvent IsAnswer (reverse l.events.items);
   failures : g.K.Disk.failed (disk_of l.stage) ≡ failures_told (g.K.Disk.failed l.fn.disk) (reverse l.events.items);
+  came : CameBy g.M.Write.spelling g.K.Disk.keeps g.K.Disk.calls g.K.Crash.crashed g.K.Disk.failed l.fn.disk (reverse l.events.items) (disk_of l.stage);
   stage : IsStage l.stage (reverse l.events.items);
   stands : g.K.Disk.keeps → Stands (Readable g.M.Write.fits (g.M.Read.within 65535)) g.M.Write.spelling g.K.Disk.seen g.K.Disk.calls (g.K.Disk.calls l.fn.disk) l.stage (reverse l.events.items);
 }

@@ -13,5 +13,5 @@ invariant_of-self g c = λ k fine.
     let calls = g.K.Disk.calls c.add_entry.new.disk in
     let gate = c.self.inside.gate in
     let more = before.0 ++ message ∷ [] in
-    let bodies = subst (λ (bs : List (List ℕ)). IsAtRest seen calls (gate + 5 + length (g.M.Write.spelling message)) bs) (sym (map-append g.M.Write.spelling before.0 (message ∷ []))) after in
-    (more, (fine, subst (λ (n : ℕ). IsAtRest seen calls (gate + 5 + n) (map g.M.Write.spelling more)) (sym c.encode_size-size.ensures.size) bodies))
+    let bodies = subst (λ (bs : List (List ℕ)). IsAtRest [] seen calls (gate + 5 + length (g.M.Write.spelling message)) bs) (sym (map-append g.M.Write.spelling before.0 (message ∷ []))) after in
+    (more, (fine, subst (λ (n : ℕ). IsAtRest [] seen calls (gate + 5 + n) (map g.M.Write.spelling more)) (sym c.encode_size-size.ensures.size) bodies))

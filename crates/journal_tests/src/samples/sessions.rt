@@ -3,12 +3,10 @@
 ghost use Rattle.std.specs.Prelude.{◌<◌};
 
 use super::{Item, certified};
-use crate::disk::Disk;
-use crate::fault::JournalFault;
-use crate::journal::Journal;
+use crate::assertions::holds;
+use simplex_journal::{Disk, Journal, JournalFault};
 use std::alloc::{AllocError, Global};
 use std::process::Abort;
-use std::test::Fail;
 
 /// What the next opening has to find.
 #[derive(Drop)]
@@ -49,7 +47,7 @@ impl Owed {
                 self.lost = self.lost.wrapping_add(1);
             }
         }
-        assert_eq!(rt; found, self.views);
+        holds(rt, found == self.views);
         Ok(())
     }
 
@@ -57,6 +55,27 @@ impl Owed {
     fn next_view(&mut self) -> u64 {
         self.tried = self.tried.wrapping_add(1);
         self.tried << (7 * (self.tried % 5))
+    }
+
+    /// Appends a verdict. Answers whether the journal goes on: a fault is the disk's, and refuses each
+    /// further append.
+    fn append<K: Disk>(
+        &mut self,
+        rt: &impl Abort,
+        journal: &mut Journal<Item, K>,
+    ) -> Result<bool, AllocError> {
+        let view = self.next_view();
+        let Err(fault) = journal.append(&certified(view)) else {
+            self.views.push(view)?;
+            return Ok(true);
+        };
+        let again = journal.append(&certified(view));
+        holds(
+            rt,
+            fault == JournalFault::Device && again == Err(JournalFault::Failed),
+        );
+        self.in_doubt = Some(view);
+        Ok(false)
     }
 }
 
@@ -78,27 +97,27 @@ pub(crate) fn session<K: Disk>(
     disk: K,
     appends: u64,
     owed: &mut Owed,
-) -> Result<K, Fail> {
+) -> Result<K, AllocError> {
     let failures = disk.failures();
     let (mut journal, found) = match Journal::<Item, K>::open(alloc, disk) {
         Ok(opened) => opened,
         Err((fault, disk)) => {
-            assert_eq!(rt; fault, JournalFault::Device);
-            assert!(rt; disk.failures() > failures);
+            holds(
+                rt,
+                fault == JournalFault::Device && disk.failures() > failures,
+            );
             return Ok(disk);
         }
     };
     owed.settle(rt, alloc, &found)?;
     for _ in 0..appends {
-        let view = owed.next_view();
-        match journal.append(&certified(view)) {
-            Ok(()) => owed.views.push(view)?,
-            Err(fault) => {
-                assert_eq!(rt; fault, JournalFault::Device);
-                assert_eq!(rt; journal.append(&certified(view)), Err(JournalFault::Failed));
-                owed.in_doubt = Some(view);
-                break;
-            }
+        let goes_on = owed.append(rt, &mut journal)?;
+        holds(
+            rt,
+            journal.is_failed() != goes_on && (journal.failures() == failures) == goes_on,
+        );
+        if !goes_on {
+            break;
         }
     }
     Ok(journal.close())

@@ -1,15 +1,15 @@
 //! What an opening makes of any bytes. Where a record ends is worked out by hand.
 
 use super::*;
-use crate::samples::whole_of_three;
+use crate::samples::{ENTRY, whole_of_three};
 
 /// The closed record of one verdict.
 const ONE: [u8; 10] = [1, 0, 0, 0, 4, 2, 0, 1, 1, 0];
 
 /// Whole open entries, each with the next gate, whose bodies are no artifact: an empty body, an unknown
 /// tag, a verdict that breaks off, one that is neither true nor false, a view that is spelled too long,
-/// an artifact with a byte behind it, and two artifacts.
-const STRANGERS: [&[u8]; 7] = [
+/// an artifact with a byte behind it, two artifacts, and a certificate that counts 65,536 signers.
+const STRANGERS: [&[u8]; 8] = [
     &[1, 0, 0, 0, 0, 0],
     &[1, 0, 0, 0, 1, 7, 0],
     &[1, 0, 0, 0, 3, 2, 0, 1, 0],
@@ -17,6 +17,7 @@ const STRANGERS: [&[u8]; 7] = [
     &[1, 0, 0, 0, 5, 2, 0, 0x81, 0, 1, 0],
     &[1, 0, 0, 0, 5, 2, 0, 1, 1, 0, 0],
     &[1, 0, 0, 0, 8, 2, 0, 1, 1, 2, 0, 2, 1, 0],
+    &[1, 0, 0, 0, 6, 4, 0, 1, 0x80, 0x80, 0x04, 0],
 ];
 
 /// These bytes behind an entry.
@@ -26,21 +27,30 @@ fn behind_an_entry(alloc: Global, bytes: &[u8]) -> Result<Vec<u8>, AllocError> {
     Ok(all)
 }
 
+/// No entry begins with these bytes, on an empty disk and behind an entry.
+fn assert_no_entry(rt: &impl Abort, alloc: Global, bytes: &[u8]) -> Result<(), Fail> {
+    assert_opens(rt, alloc, bytes, 0, &[0])?;
+    assert_opens(rt, alloc, &behind_an_entry(alloc, bytes)?, 1, &ONE)
+}
+
+/// A foreign entry begins with these bytes, on an empty disk and behind an entry.
+fn assert_stranger(rt: &impl Abort, alloc: Global, bytes: &[u8]) -> Result<(), Fail> {
+    assert_foreign(rt, alloc, bytes, 0)?;
+    assert_foreign(rt, alloc, &behind_an_entry(alloc, bytes)?, 9)
+}
+
 #[test]
 fn one_gate_of_all_is_open(rt: HostRuntime) -> Result<(), Fail> {
     let alloc = rt.alloc();
     for gate in 0..=255u8 {
-        assert_opens(&rt, alloc, &[gate], 0, &[0])?;
-        assert_opens(&rt, alloc, &behind_an_entry(alloc, &[gate])?, 1, &ONE)?;
+        assert_no_entry(&rt, alloc, &[gate])?;
         let mut entry = ONE;
         entry[0] = gate;
-        if gate == 1 {
-            assert_opens(&rt, alloc, &entry, 1, &ONE)?;
-        } else {
-            assert_opens(&rt, alloc, &entry, 0, &[0])?;
+        if gate != 1 {
+            assert_no_entry(&rt, alloc, &entry)?;
         }
     }
-    Ok(())
+    assert_opens(&rt, alloc, &ONE, 1, &ONE)
 }
 
 #[test]
@@ -61,12 +71,9 @@ fn an_entry_counts_once_the_next_gate_is_there(rt: HostRuntime) -> Result<(), Fa
 fn a_body_is_exactly_one_artifact(rt: HostRuntime) -> Result<(), Fail> {
     let alloc = rt.alloc();
     for entry in STRANGERS {
-        assert_foreign(&rt, alloc, entry, 0)?;
-        assert_foreign(&rt, alloc, &behind_an_entry(alloc, entry)?, 9)?;
+        assert_stranger(&rt, alloc, entry)?;
         // Without its last byte, the next gate, it is no entry.
-        let cut = &entry[..entry.len() - 1];
-        assert_opens(&rt, alloc, cut, 0, &[0])?;
-        assert_opens(&rt, alloc, &behind_an_entry(alloc, cut)?, 1, &ONE)?;
+        assert_no_entry(&rt, alloc, &entry[..entry.len() - 1])?;
     }
     Ok(())
 }
@@ -86,9 +93,7 @@ fn a_length_past_the_disk_is_no_entry(rt: HostRuntime) -> Result<(), Fail> {
     assert_opens(&rt, alloc, &with_length(4), 1, &ONE)?;
     for bit in 3..32u32 {
         for length in [1 << bit, u32::MAX >> (31 - bit)] {
-            assert_opens(&rt, alloc, &with_length(length), 0, &[0])?;
-            let bytes = behind_an_entry(alloc, &with_length(length))?;
-            assert_opens(&rt, alloc, &bytes, 1, &ONE)?;
+            assert_no_entry(&rt, alloc, &with_length(length))?;
         }
     }
     Ok(())
@@ -113,6 +118,6 @@ fn a_length_has_its_most_significant_byte_first(rt: HostRuntime) -> Result<(), F
     bytes.extend_from_slice(&body)?;
     assert_opens(&rt, alloc, &bytes, 0, &[0])?;
     bytes.push(0)?;
-    assert_eq!(rt; bytes.len(), 274);
+    holds(&rt, bytes.len() == 274);
     assert_opens(&rt, alloc, &bytes, 1, &bytes)
 }

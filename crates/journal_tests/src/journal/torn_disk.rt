@@ -4,8 +4,8 @@ ghost use Rattle.std.specs.Prelude.{◌≡◌, [], is_ok};
 ghost use Rattle.simplex_journal.specs.Disk.{counted};
 
 use super::*;
-use crate::disk::{Disk, DiskFault};
 use crate::samples::chance::Chance;
+use simplex_journal::DiskFault;
 
 /// A write since the last sync that succeeded.
 #[derive(Clone, Copy)]
