@@ -1,5 +1,6 @@
 //! Records that are lawful, and records that break a rule. Each position is worked out by hand.
 
+mod chains;
 mod premises;
 mod rules;
 mod signatures;
@@ -18,7 +19,39 @@ use std::test::Fail;
 
 type Item = Artifact<PlainScheme, Sha256Digest>;
 
-type Block = Proposal<Sha256Digest>;
+/// A round, by its epoch and its view.
+#[derive(Clone, Copy)]
+struct At {
+    epoch: u64,
+    view: u64,
+}
+
+impl At {
+    /// The round itself.
+    fn round(self) -> Round {
+        Round::new(Epoch::new(self.epoch), View::new(self.view))
+    }
+}
+
+/// A proposal, by its epoch, its view, its parent's view, and the byte that its payload is made of.
+#[derive(Clone, Copy)]
+struct Block {
+    epoch: u64,
+    view: u64,
+    parent: u64,
+    payload: u8,
+}
+
+impl Block {
+    /// The proposal itself.
+    fn proposal(self) -> Proposal<Sha256Digest> {
+        Proposal::new(
+            Round::new(Epoch::new(self.epoch), View::new(self.view)),
+            View::new(self.parent),
+            Sha256Digest::new([self.payload; 32]),
+        )
+    }
+}
 
 /// What an artifact of a record says.
 #[derive(Clone, Copy)]
@@ -28,11 +61,11 @@ enum Entry {
     /// A certificate that the proposal is notarized.
     Notarization(Block),
     /// The application's verdict.
-    Certification(Round, bool),
+    Certification(At, bool),
     /// An own vote to nullify.
-    Nullify(Round),
+    Nullify(At),
     /// A certificate that the round is nullified.
-    Nullification(Round),
+    Nullification(At),
     /// An own vote to finalize.
     Finalize(Block),
     /// A certificate that the proposal is finalized.
@@ -55,17 +88,18 @@ const B: u8 = 0xbb;
 const C: u8 = 0xcc;
 
 /// The round of a view of epoch 0.
-fn round(view: u64) -> Round {
-    Round::new(Epoch::new(0), View::new(view))
+fn round(view: u64) -> At {
+    At { epoch: 0, view }
 }
 
 /// The proposal of 32 such bytes for a view of epoch 0, on a parent's view.
 fn proposal(view: u64, parent: u64, payload: u8) -> Block {
-    Proposal::new(
-        round(view),
-        View::new(parent),
-        Sha256Digest::new([payload; 32]),
-    )
+    Block {
+        epoch: 0,
+        view,
+        parent,
+        payload,
+    }
 }
 
 /// The members with these indices of a committee of so many.
@@ -115,24 +149,26 @@ fn artifact(alloc: Global, members: &[PlainScheme], entry: Entry) -> Result<Item
     let voter = members.first().ok_or("no member")?;
     Ok(match entry {
         Entry::Notarize(block) => {
-            Artifact::Notarize(Notarize::sign(voter, block).ok_or("no key")?)
+            Artifact::Notarize(Notarize::sign(voter, block.proposal()).ok_or("no key")?)
         }
         Entry::Notarization(block) => {
-            let attestations = attested(alloc, members, &Subject::Notarize(&block))?;
-            Artifact::Notarization(ProposalCertificate::new(block, attestations))
+            let attestations = attested(alloc, members, &Subject::Notarize(&block.proposal()))?;
+            Artifact::Notarization(ProposalCertificate::new(block.proposal(), attestations))
         }
-        Entry::Certification(round, verdict) => Artifact::Certification(round, verdict),
-        Entry::Nullify(round) => Artifact::Nullify(Nullify::sign(voter, round).ok_or("no key")?),
-        Entry::Nullification(round) => Artifact::Nullification(Nullification {
-            round,
-            certificate: attested(alloc, members, &Subject::Nullify(round))?,
+        Entry::Certification(at, verdict) => Artifact::Certification(at.round(), verdict),
+        Entry::Nullify(at) => {
+            Artifact::Nullify(Nullify::sign(voter, at.round()).ok_or("no key")?)
+        }
+        Entry::Nullification(at) => Artifact::Nullification(Nullification {
+            round: at.round(),
+            certificate: attested(alloc, members, &Subject::Nullify(at.round()))?,
         }),
         Entry::Finalize(block) => {
-            Artifact::Finalize(Finalize::sign(voter, block).ok_or("no key")?)
+            Artifact::Finalize(Finalize::sign(voter, block.proposal()).ok_or("no key")?)
         }
         Entry::Finalization(block) => {
-            let attestations = attested(alloc, members, &Subject::Finalize(&block))?;
-            Artifact::Finalization(ProposalCertificate::new(block, attestations))
+            let attestations = attested(alloc, members, &Subject::Finalize(&block.proposal()))?;
+            Artifact::Finalization(ProposalCertificate::new(block.proposal(), attestations))
         }
     })
 }

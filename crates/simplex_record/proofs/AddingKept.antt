@@ -8,6 +8,7 @@ use Rattle.std.specs.List.{Contains}
 use Rattle.std.specs.Ordering.{nat_cmp, ord_max}
 use Rattle.std.proofs.Common.{◌≡◌, ◌⊎◌, inl, inr, ⊎_elim, ℕ, ◌≤◌, ◌<◌, max, Bool, true, List, [], ◌∷◌, ◌++◌, Option, None, Some, refl, sym, ◌∙◌, ap, subst, arith}
 use Rattle.std.proofs.lemmas.Bool.Decides.{nat_tests}
+use Rattle.std.proofs.lemmas.List.Elements.{Contains-append_left, Contains-push, Contains-push_cases}
 use Rattle.std.proofs.lemmas.Option.{none-some}
 use Rattle.simplex_types.specs.declared.position.Round.{Round}
 use Rattle.simplex_types.specs.declared.proposal.Proposal.{Proposal}
@@ -22,7 +23,7 @@ use Rattle.simplex_record.specs.Rules.{AreAlike, MayTake, MayJudge}
 use Rattle.simplex_record.specs.Standing.{KeepsVotes, KeepsCertificates, KeepsVerdicts, Keeps}
 use Rattle.simplex_record.specs.Told.{told, notarized_at, nullified_at, finalized_at, vote_in, certificate_in, verdict_at}
 use Rattle.simplex_record.proofs.AddingTerms.{InCoveringRange-LiesIn}
-use Rattle.simplex_record.proofs.AddingTold.{Contains-pushed, Contains-still, Contains-new, greatest-push, greatest-same, KeepsSet-same, KeepsSet-push, KeepsMap-same, KeepsMap-push}
+use Rattle.simplex_record.proofs.AddingTold.{greatest-push, greatest-same, KeepsSet-same, KeepsSet-push, KeepsMap-same, KeepsMap-push}
 use Rattle.simplex_record.proofs.Member.{IsVote}
 use Rattle.simplex_record.proofs.Telling.{told-nothing, of_view, certificates-nothing, notarize-none}
 
@@ -93,12 +94,12 @@ module _ {D : Type 0} where
 module _ {D : Type 0} (before : List (Entry D)) (x : Entry D) where
   -- a certificate that isn't the new entry was taken before
   HasTaken-before : (s : Statement D) → (x ≡ taken s → ⊥) → HasTaken (before ++ x ∷ []) s → HasTaken before s
-  HasTaken-before s never here = ⊎_elim (λ earlier. earlier) (λ new. absurd (never new)) (Contains-pushed before x (taken s) here)
+  HasTaken-before s never here = ⊎_elim (λ earlier. earlier) (λ new. absurd (never new)) (Contains-push_cases before x (taken s) here)
 
   -- the covered views stay where the new entry is no nullification
   IsCovered-same : (views : ℕ) → ((r : Round) → x ≡ taken (nullify r) → ⊥) → (view : ℕ) → IsCovered views before view ↔ IsCovered views (before ++ x ∷ []) view
   IsCovered-same views never view = (
-    λ (r, range, here). (r, range, Contains-still before x (taken (nullify r)) here),
+    λ (r, range, here). (r, range, Contains-append_left before (x ∷ []) (taken (nullify r)) here),
     λ (r, range, here). (r, range, HasTaken-before (nullify r) (never r) here),
   )
 
@@ -108,7 +109,7 @@ module _ {D : Type 0} (before : List (Entry D)) (x : Entry D) where
 
   -- each view has room where that of the new entry has
   room-push : (views : ℕ) → ((s : Statement D) → x ≡ taken s → HasRoom views (statement_round s).view) → HaveRoom views before → HaveRoom views (before ++ x ∷ [])
-  room-push views of_new room s here = ⊎_elim (room s) (of_new s) (Contains-pushed before x (taken s) here)
+  room-push views of_new room s here = ⊎_elim (room s) (of_new s) (Contains-push_cases before x (taken s) here)
 
 module _ {D : Type 0} (views : ℕ) (before : List (Entry D)) where
   -- a nullification covers the views from its own to the end of its term
@@ -116,13 +117,13 @@ module _ {D : Type 0} (views : ℕ) (before : List (Entry D)) where
   IsCovered-push r some from_one view view_from_one =
       let spans = InCoveringRange-LiesIn views view r.view some view_from_one from_one in (
         λ covered. ⊎_elim
-            (λ (was : IsCovered views before view). (was.0, was.1, Contains-still before (taken (nullify r)) (taken (nullify was.0)) was.2))
-            (λ lies. (r, spans.1 lies, Contains-new before (taken (nullify r))))
+            (λ (was : IsCovered views before view). (was.0, was.1, Contains-append_left before (taken (nullify r) ∷ []) (taken (nullify was.0)) was.2))
+            (λ lies. (r, spans.1 lies, Contains-push before (taken (nullify r))))
             covered,
         λ (t, range, here). ⊎_elim
             (λ earlier. inl (t, range, earlier))
             (λ new. inr (spans.0 (subst (λ (u : Round). InCoveringRange views view u.view) (sym (nullify-once t new)) range)))
-            (Contains-pushed before (taken (nullify r)) (taken (nullify t)) here),
+            (Contains-push_cases before (taken (nullify r)) (taken (nullify t)) here),
       )
     where
       nullify-once : (t : Round) → ◌≡◌ {A = Entry D} (taken (nullify r)) (taken (nullify t)) → r ≡ t
@@ -145,7 +146,7 @@ module _ {D : Type 0} (views : ℕ) (before : List (Entry D)) where
       notarize-once q new = cc
 
       pushed : (q : Proposal D) → HasTaken (before ++ taken (notarize p) ∷ []) (notarize q) → HasTaken before (notarize q) ⊎ (p ≡ q)
-      pushed q here = ⊎_elim inl (λ new. inr (notarize-once q new)) (Contains-pushed before (taken (notarize p)) (taken (notarize q)) here)
+      pushed q here = ⊎_elim inl (λ new. inr (notarize-once q new)) (Contains-push_cases before (taken (notarize p)) (taken (notarize q)) here)
 
   -- what may be taken has room
   room-new : (s : Statement D) → MayTake views before s → (t : Statement D) → taken s ≡ taken t → HasRoom views (statement_round t).view
@@ -248,7 +249,7 @@ module _ {D : Type 0} (map : BTreeMap ℕ Bool) (before : List (Entry D)) (keeps
   }
     where
       was_before : (r : Round) (verdict : Bool) → HasJudged (before ++ x ∷ []) r verdict → HasJudged before r verdict
-      was_before r verdict here = ⊎_elim (λ earlier. earlier) (λ new. absurd (never (subst IsJudged (sym new) tt))) (Contains-pushed before x (judged r verdict) here)
+      was_before r verdict here = ⊎_elim (λ earlier. earlier) (λ new. absurd (never (subst IsJudged (sym new) tt))) (Contains-push_cases before x (judged r verdict) here)
 
   -- a verdict on a view that has none yet is added
   pub KeepsVerdicts-judge : (r : Round) (verdict : Bool) → MayJudge before r → (new : BTreeMap ℕ Bool) → maps.Updates nat_cmp map new r.view (Some verdict) → KeepsVerdicts new (before ++ judged r verdict ∷ [])
@@ -273,7 +274,7 @@ module _ {D : Type 0} (map : BTreeMap ℕ Bool) (before : List (Entry D)) (keeps
           (ap (λ (z : Round). z.view) round, one)
 
       pushed : (t : Round) (this : Bool) → HasJudged (before ++ judged r verdict ∷ []) t this → HasJudged before t this ⊎ ((t.view ≡ r.view) × (this ≡ verdict))
-      pushed t this here = ⊎_elim inl (λ new. inr (judged-once t this new)) (Contains-pushed before (judged r verdict) (judged t this) here)
+      pushed t this here = ⊎_elim inl (λ new. inr (judged-once t this new)) (Contains-push_cases before (judged r verdict) (judged t this) here)
 
       none_given : (y : Bool) (x : Entry D) → Contains before x → verdict_at r.view x ≡ Some y → ⊥
       none_given y (voted s) here gives = none-some y gives

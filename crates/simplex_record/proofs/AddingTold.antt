@@ -4,35 +4,16 @@ use Rattle.std.specs.BTreeMap.{BTreeMap, get}
 use Rattle.std.specs.BTreeMap as maps
 use Rattle.std.specs.BTreeSet.{BTreeSet, contains}
 use Rattle.std.specs.BTreeSet as sets
-use Rattle.std.specs.List.{Contains}
 use Rattle.std.specs.Option.{option_or}
 use Rattle.std.specs.Ordering.{nat_cmp}
-use Rattle.std.proofs.Common.{◌≡◌, ◌⊎◌, inl, inr, ⊎_elim, ℕ, ◌≤◌, ◌==◌, max, true, List, [], ◌∷◌, ◌++◌, Option, Some, None, sym, ◌∙◌, ap, subst, arith, if◌then◌else◌}
+use Rattle.std.proofs.Common.{◌≡◌, inl, inr, ℕ, ◌≤◌, ◌==◌, max, true, List, [], ◌∷◌, ◌++◌, Option, Some, None, sym, ◌∙◌, ap, subst, arith, if◌then◌else◌}
 use Rattle.std.proofs.lemmas.Bool.{cases_eq}
 use Rattle.std.proofs.lemmas.Bool.Decides.{nat_tests}
-use Rattle.std.proofs.lemmas.List.Elements.{Contains-append_cases, Contains-append_left, Contains-append_right}
 use Rattle.simplex_record.specs.Record.{Entry, greatest}
 use Rattle.simplex_record.specs.Standing.{KeepsSet, KeepsMap}
 use Rattle.simplex_record.specs.Told.{told}
 use Rattle.simplex_record.proofs.Figures.{greatest-least}
-use Rattle.simplex_record.proofs.Places.{Contains-cons, Contains-here}
 use Rattle.simplex_record.proofs.Telling.{cases_option, or-first, told-push, at_same, at_other}
-
-module _ {X : Type 0} (xs : List X) (x : X) where
-  -- an element of the longer list is one of the shorter, or the new one
-  pub Contains-pushed : (y : X) → Contains (xs ++ x ∷ []) y → Contains xs y ⊎ (x ≡ y)
-  Contains-pushed y here = elim (Contains-append_cases xs (x ∷ []) y here) [
-    | inl earlier ↦ inl earlier
-    | inr last ↦ ⊎_elim inr (λ none. absurd (omega (arith, none.1))) (Contains-cons x [] y last)
-  ]
-
-  -- an element of the shorter list is one of the longer
-  pub Contains-still : (y : X) → Contains xs y → Contains (xs ++ x ∷ []) y
-  Contains-still y here = Contains-append_left xs (x ∷ []) y here
-
-  -- and so is the new one
-  pub Contains-new : Contains (xs ++ x ∷ []) x
-  Contains-new = Contains-append_right xs (x ∷ []) x (Contains-here x [])
 
 -- the greatest is the greater of what it was and what the new element gives
 pub greatest-push : {X : Type 0} (least : ℕ) (f : X → ℕ) (xs : List X) (x : X) → greatest least f (xs ++ x ∷ []) ≡ max (greatest least f xs) (f x)

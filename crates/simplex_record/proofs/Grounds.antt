@@ -1,12 +1,11 @@
 -- A record stands on ground as long as what is recorded behind it may follow on ground.
 use Rattle.std.proofs.Common.{◌≡◌, inl, inr, ⊎_elim, ℕ, true, List, [], ◌∷◌, ◌++◌, Option, subst, arith}
-use Rattle.std.proofs.lemmas.List.Elements.{Contains-append_left}
+use Rattle.std.proofs.lemmas.List.Elements.{Contains-append_left, Contains-push_cases}
 use Rattle.simplex_types.specs.declared.position.Round.{Round}
 use Rattle.simplex_types.specs.declared.proposal.Proposal.{Proposal}
 use Rattle.simplex_types.specs.Subject.{notarize, finalize}
 use Rattle.simplex_record.specs.Record.{Entry, voted, taken, judged}
 use Rattle.simplex_record.specs.Chain.{IsGround, JudgesOnGround, VotesOnGround, StandsOnGround, MayFollowOnGround}
-use Rattle.simplex_record.proofs.AddingTold.{Contains-pushed, Contains-still}
 
 module _ {D : Type 0} where
   -- ground stays ground
@@ -30,8 +29,8 @@ module _ {D : Type 0} where
     -- and so does one with an entry more that may follow on ground
     pub stands_further : (before : List (Entry D)) (e : Entry D) → StandsOnGround size views leader member before → MayFollowOnGround size views leader member before e → StandsOnGround size views leader member (before ++ e ∷ [])
     stands_further before e stands may = record {
-      judged = λ r here. judges_still r (⊎_elim (λ old. stands.judged r old) (λ new. new_judges r new) (Contains-pushed before e (judged r true) here));
-      voted = λ p here. votes_still p (⊎_elim (λ old. stands.voted p old) (λ new. new_votes p new) (Contains-pushed before e (voted (notarize p)) here));
+      judged = λ r here. judges_still r (⊎_elim (λ old. stands.judged r old) (λ new. new_judges r new) (Contains-push_cases before e (judged r true) here));
+      voted = λ p here. votes_still p (⊎_elim (λ old. stands.voted p old) (λ new. new_votes p new) (Contains-push_cases before e (voted (notarize p)) here));
     }
       where
         new_judges : (r : Round) → e ≡ judged r true → JudgesOnGround size views before r
@@ -41,7 +40,7 @@ module _ {D : Type 0} where
         new_votes p new = subst (λ (x : Entry D). MayFollowOnGround size views leader member before x) new may
 
         judges_still : (r : Round) → JudgesOnGround size views before r → JudgesOnGround size views (before ++ e ∷ []) r
-        judges_still r was = (was.0, was.1, Contains-still before e (taken (notarize was.0)) was.2, λ asked. ground_stays before (e ∷ []) was.0.parent (was.3 asked))
+        judges_still r was = (was.0, was.1, Contains-append_left before (e ∷ []) (taken (notarize was.0)) was.2, λ asked. ground_stays before (e ∷ []) was.0.parent (was.3 asked))
 
         votes_still : (p : Proposal D) → VotesOnGround views leader member before p → VotesOnGround views leader member (before ++ e ∷ []) p
         votes_still p was = λ starts. ⊎_elim (λ is. inl (ground_stays before (e ∷ []) p.parent is)) (λ leads. inr leads) (was starts)

@@ -64,7 +64,7 @@ module _ {S D P G C : Type 0} (attests : ℕ → Statement D → G → Type 0) (
   -- what a sound certificate lists is of a quorum
   quorum_of : (s : Statement D) (c : Sound s) → IsQuorum world.size (λ i a. attests i s a) (lists (certified_by c.certificate))
   quorum_of s c = subst (λ (x : Statement D). IsQuorum world.size (λ i a. attests i x a) (lists (certified_by c.certificate))) c.states
-      (record { distinct = c.sound.distinct; members = c.sound.members; enough = c.sound.enough; attesting = c.sound.attesting })
+      c.sound.backed
 
   -- behind two sound certificates stands a correct member that voted for both
   common_voter : (s t : Statement D) → Sound s → Sound t → BothVoted s t
@@ -90,7 +90,7 @@ module _ {S D P G C : Type 0} (attests : ℕ → Statement D → G → Type 0) (
       let c = taken_certifies (owner_of i) (world.recorded i) (holds.lawful i correct) s here in
       let by_own = backed i (certificate_statement c.0) (certified_by c.0) c.3 in
       let q = quorum_alike world.size (size_by i) attests (attests_by i) (certificate_statement c.0) (lists (certified_by c.0)) (holds.alike i correct) by_own in
-      (c.0, c.1, c.2, record { distinct = q.distinct; members = q.members; enough = q.enough; attesting = q.attesting; honest = holds.honest i correct c.0 c.2 })
+      (c.0, c.1, c.2, record { backed = q; honest = holds.honest i correct c.0 c.2 })
 
   recorded_is_sound : (i : ℕ) → IsCorrect world i → (s : Statement D) → HasTaken (entries (world.recorded i)) s → Sound s
   recorded_is_sound i correct s here =

@@ -1,7 +1,7 @@
 -- A world: a committee of which some may lie, and what each of the others recorded.
-use Rattle.std.specs.Prelude.{◌≡◌, ℕ, ◌≤◌, ◌<◌, List, length, Contains, All}
+use Rattle.std.specs.Prelude.{◌≡◌, ℕ, ◌≤◌, ◌<◌, List, length, Contains}
 use Rattle.simplex_types.specs.declared.attestation.Attestation.{Attestation}
-use Rattle.simplex_types.specs.Quorum.{faults, quorum, AreDistinct}
+use Rattle.simplex_types.specs.Quorum.{faults, IsQuorum}
 use Rattle.simplex_types.specs.Subject.{Statement}
 use Rattle.simplex_messages.specs.declared.artifact.Artifact.{Artifact}
 use Rattle.simplex_messages.specs.declared.certificate.Certificate.{Certificate}
@@ -34,12 +34,9 @@ module _ {S D P G C : Type 0} (attests : ℕ → Statement D → G → Type 0) (
   IsHonest c = (a : Attestation G) → Contains (listed c) a → IsCorrect world a.signer
       → attests a.signer (certificate_statement c) a.signature → HasVoted (entries (world.recorded a.signer)) (certificate_statement c)
 
-  -- the certificate certifies: it lists attestations of distinct members, of a quorum, and each attests; and it is honest
+  -- the certificate certifies: it lists attestations of a quorum, and each attests; and it is honest
   pub record IsSound (c : Certificate S D P G C) : Type 0 where
-    pub distinct : AreDistinct (listed c)
-    pub members : All (λ a. a.signer < world.size) (listed c)
-    pub enough : quorum world.size ≤ length (listed c)
-    pub attesting : All (λ a. attests a.signer (certificate_statement c) a.signature) (listed c)
+    pub backed : IsQuorum world.size (λ i a. attests i (certificate_statement c) a) (listed c)
     pub honest : IsHonest c
 
 -- a member's own scheme has the committee's size, and what attests by it attests by the committee's

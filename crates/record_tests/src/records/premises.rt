@@ -69,26 +69,33 @@ fn is_for(vote: &Item, certificate: &Item) -> bool {
     }
 }
 
-/// The record is lawful as this member's, by a scheme value of its own.
-fn expect_lawful(rt: &impl Abort, alloc: Global, index: u32, record: &[Item]) -> Result<(), Fail> {
-    let members = members_of(alloc, BASE, MEMBERS, &[index])?;
+/// The record is lawful as this member's, in a committee of so many, by a scheme value of its own.
+pub(super) fn expect_lawful(
+    rt: &impl Abort,
+    alloc: Global,
+    size: u32,
+    term_length: TermLength,
+    index: u32,
+    record: &[Item],
+) -> Result<(), Fail> {
+    let members = members_of(alloc, BASE, size, &[index])?;
     let scheme = members.first().ok_or("no member")?;
-    let owner = owner(TermLength::new(2), index);
+    let owner = owner(term_length, index);
     assert_eq!(rt; first_refused(alloc, scheme, owner, record)?, None);
     Ok(())
 }
 
 /// How many of the attestations that the record's certificates list are of correct members. Each of these
 /// recorded that vote.
-fn honest_votes(rt: &impl Abort, records: &[Vec<Item>], record: &[Item]) -> usize {
-    let mut votes = 0;
+pub(super) fn honest_votes(rt: &impl Abort, records: &[Vec<Item>], record: &[Item]) -> usize {
+    let mut votes: usize = 0;
     for item in record {
         for attestation in listed(item).unwrap_or(&[]) {
             let Some(own) = records.get(attestation.signer.get() as usize) else {
                 continue;
             };
             assert!(rt; own.iter().any(|vote| is_for(vote, item)));
-            votes += 1;
+            votes = votes.saturating_add(1);
         }
     }
     votes
@@ -102,7 +109,8 @@ fn what_agreement_asks_is_met_by_a_world(rt: HostRuntime) -> Result<(), Fail> {
         records.push(record_of(rt.alloc(), index)?)?;
     }
     for (index, record) in (0..CORRECT).zip(&records) {
-        expect_lawful(&rt, rt.alloc(), index, record)?;
+        let length = TermLength::new(2);
+        expect_lawful(&rt, rt.alloc(), MEMBERS, length, index, record)?;
         assert_eq!(rt; honest_votes(&rt, &records, record), 15);
     }
     Ok(())

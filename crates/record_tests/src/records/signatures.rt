@@ -4,10 +4,10 @@ use super::Entry::{
     Certification, Finalization, Finalize, Notarization, Notarize, Nullification, Nullify,
 };
 use super::{
-    A, B, BASE, Block, Entry, MEMBERS, artifact, artifacts, expect_of, members_of, proposal, round,
-    three_members,
+    A, At, B, BASE, Block, Entry, MEMBERS, artifact, artifacts, expect_of, members_of, proposal,
+    round, three_members,
 };
-use simplex_types::{Epoch, Proposal, Round, Sha256Digest, TermLength, View};
+use simplex_types::TermLength;
 use std::alloc::Global;
 use std::process::Abort;
 use std::test::Fail;
@@ -112,14 +112,16 @@ fn votes_of_each_kind_are_signed_by_the_member(rt: HostRuntime) -> Result<(), Fa
 }
 
 /// The round of a view of an epoch.
-fn round_in(epoch: u64, view: u64) -> Round {
-    Round::new(Epoch::new(epoch), View::new(view))
+fn round_in(epoch: u64, view: u64) -> At {
+    At { epoch, view }
 }
 
 /// The proposal of the payload `aa..` for a view of an epoch, on a parent's view.
 fn proposal_in(epoch: u64, view: u64, parent: u64) -> Block {
-    let payload = Sha256Digest::new([A; 32]);
-    Proposal::new(round_in(epoch, view), View::new(parent), payload)
+    Block {
+        epoch,
+        ..proposal(view, parent, A)
+    }
 }
 
 #[test]

@@ -3,7 +3,7 @@
 use super::Entry::{
     Certification, Finalization, Finalize, Notarization, Notarize, Nullification, Nullify,
 };
-use super::{A, B, C, artifacts, expect, expect_of, owner, proposal, round, three_members};
+use super::{A, B, C, Entry, artifacts, expect, expect_of, owner, proposal, round, three_members};
 use simplex_record::first_refused;
 use simplex_types::TermLength;
 use std::test::Fail;
@@ -24,12 +24,10 @@ fn an_empty_record_is_lawful(rt: HostRuntime) -> Result<(), Fail> {
     Ok(())
 }
 
-// View 2 is given up, view 3 fails and is given up, and view 4 is built on view 1.
-#[test]
-fn a_record_in_terms_of_one_view_is_lawful(rt: HostRuntime) -> Result<(), Fail> {
-    let alloc = rt.alloc();
+/// View 2 is given up, view 3 fails and is given up, and view 4 is built on view 1.
+pub(super) fn in_terms_of_one_view() -> [Entry; 18] {
     let (first, third, fourth) = (proposal(1, 0, A), proposal(3, 1, B), proposal(4, 1, C));
-    let record = [
+    [
         Notarize(first),
         Notarization(first),
         Certification(round(1), true),
@@ -48,9 +46,13 @@ fn a_record_in_terms_of_one_view_is_lawful(rt: HostRuntime) -> Result<(), Fail> 
         Finalize(fourth),
         Finalization(fourth),
         Nullify(round(5)),
-    ];
-    expect(&rt, alloc, TermLength::ONE, &record, None)?;
-    Ok(())
+    ]
+}
+
+#[test]
+fn a_record_in_terms_of_one_view_is_lawful(rt: HostRuntime) -> Result<(), Fail> {
+    let record = in_terms_of_one_view();
+    expect(&rt, rt.alloc(), TermLength::ONE, &record, None)
 }
 
 // View 2 fails, and with it the rest of its term is given up. So is the next term, from its start. View 11
