@@ -239,6 +239,3 @@ impl<G: Signature> Aggregate for AttestationList<G> {
 
     ghost small = { Prim.search rules };
 }
-
-#[cfg(test)]
-mod tests;

@@ -49,28 +49,3 @@ impl Viewable for Round {
         self.view
     }
 }
-
-#[cfg(test)]
-mod tests {
-    use super::*;
-    use crate::attestation::Attestation;
-
-    fn parts<R: Epochable + Viewable>(value: &R) -> (u64, u64) {
-        (value.epoch().get(), value.view().get())
-    }
-
-    fn signer_index<S: Attributable>(value: &S) -> u32 {
-        value.signer().get()
-    }
-
-    #[test]
-    fn names_the_parts(rt: HostRuntime) {
-        let round = Round::new(Epoch::new(2), View::new(7));
-        assert_eq!(rt; parts(&round), (2, 7));
-        let attestation = Attestation {
-            signer: Participant::new(3),
-            signature: (),
-        };
-        assert_eq!(rt; signer_index(&attestation), 3);
-    }
-}

@@ -134,6 +134,3 @@ pub(crate) fn read_bytes<const N: usize>(input: &mut &[u8]) -> Result<[u8; N], C
 {
     take_bytes(input).ok_or(CodecError::End)
 }
-
-#[cfg(test)]
-mod tests;

@@ -26,29 +26,3 @@ pub fn two_quorums_share_members()
     ensures shared { (n : ℕ) (xs ys : List ℕ) → 1 ≤ n → AreQuorum n xs → AreQuorum n ys → words.faults n + 1 ≤ length (common xs ys) }
     ensures correct { (n : ℕ) (xs ys faulty : List ℕ) → 1 ≤ n → AreQuorum n xs → AreQuorum n ys → length faulty ≤ words.faults n → (i : ℕ) × Contains xs i × Contains ys i × (Contains faulty i → ⊥) }
 {}
-
-#[cfg(test)]
-mod tests {
-    use super::*;
-
-    #[test]
-    fn quorums_are_all_but_as_many_as_may_lie(rt: HostRuntime) {
-        for (members, lying, enough) in [
-            (1, 0, 1),
-            (2, 0, 2),
-            (3, 0, 3),
-            (4, 1, 3),
-            (5, 1, 4),
-            (6, 1, 5),
-            (7, 2, 5),
-            (8, 2, 6),
-            (9, 2, 7),
-            (10, 3, 7),
-            (65_535, 21_844, 43_691),
-        ] {
-            assert_eq!(rt; faults(members), lying, "of {members}");
-            assert_eq!(rt; quorum(members), enough, "of {members}");
-        }
-        two_quorums_share_members();
-    }
-}

@@ -116,6 +116,3 @@ impl<D: Digest, P: PublicKey> Duplicate for Context<D, P> {
         Ok(*self)
     }
 }
-
-#[cfg(test)]
-mod tests;

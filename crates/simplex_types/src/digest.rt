@@ -134,24 +134,3 @@ impl fmt::Display for Sha256Digest {
         f.write_str(str::from_utf8(&digits).unwrap())
     }
 }
-
-#[cfg(test)]
-mod tests {
-    use super::*;
-    use std::test::Fail;
-
-    #[test]
-    fn digest_prints_as_lower_case_digits(rt: HostRuntime) -> Result<(), Fail> {
-        let mut bytes = [0; 32];
-        bytes[0] = 0x01;
-        bytes[31] = 0xef;
-        let digest = Sha256Digest::new(bytes);
-        let text = format!(in rt.alloc(); "{digest}")?;
-        assert_eq!(rt;
-            text.as_str(),
-            "01000000000000000000000000000000000000000000000000000000000000ef"
-        );
-        assert_eq!(rt; digest.as_bytes(), bytes.as_slice());
-        Ok(())
-    }
-}

@@ -35,6 +35,3 @@ pub(crate) fn ascend_below<G: Signature>(bound: u32, attestations: &[Attestation
     }
     true
 }
-
-#[cfg(test)]
-mod tests;

@@ -351,6 +351,3 @@ impl<D: Digest> Listing<D> for PlainScheme {
 
     ghost backed = { λ s x c h. h };
 }
-
-#[cfg(test)]
-mod tests;

@@ -335,6 +335,3 @@ impl Duplicate for Round {
         Ok(*self)
     }
 }
-
-#[cfg(test)]
-mod tests;

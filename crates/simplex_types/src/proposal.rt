@@ -127,6 +127,3 @@ impl<D: Digest> Duplicate for Proposal<D> {
         Ok(*self)
     }
 }
-
-#[cfg(test)]
-mod tests;

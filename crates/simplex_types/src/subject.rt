@@ -125,6 +125,3 @@ pub fn signed_bytes_name_one_subject<D: Digest>()
     ensures kinds { (b c : List ℕ) (x y : Statement D) → namespace b x ≡ namespace c y → kind_name x ≡ kind_name y }
     ensures subjects { OneSubjectEach D.fits D.spelling }
 {}
-
-#[cfg(test)]
-mod tests;
