@@ -1,5 +1,5 @@
 use Rattle.simplex_messages.specs.AttributableMap.{HoldsFirstItems}
-use Rattle.simplex_messages.proofs.attributable_map.tests.offered.Given as goal
+use Rattle.messages_tests.proofs.attributable_map.offered.Given as goal
 
 -- the map holds the first of the items so far
 abbrev pub invariant-loop-item : goal.invariant-loop-item

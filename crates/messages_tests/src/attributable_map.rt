@@ -3,8 +3,9 @@
 ghost use Rattle.std.specs.Prelude.{◌≡◌, IfOk, map as list_map};
 ghost use Rattle.simplex_messages.specs.AttributableMap.{items_of, HoldsFirstItems};
 
-use super::*;
-use simplex_types::Attestation;
+use simplex_messages::AttributableMap;
+use simplex_types::{Attestation, Attributable, Participant};
+use std::alloc::{AllocError, Global};
 use std::test::Fail;
 
 /// The map of so many participants to which these items were offered, by the bound alone.
