@@ -1,0 +1,5 @@
+pub mod Held
+pub mod Past
+pub mod Reasons
+pub mod Round
+pub mod Slot

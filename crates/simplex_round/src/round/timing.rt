@@ -1,0 +1,135 @@
+//! Moments, deadlines, and when the view is given up.
+
+ghost use Rattle.std.specs.Prelude.{◌≡◌, ◌+◌, ◌^◌, ◌<◌, ◌∷◌};
+ghost use Rattle.std.specs.Option.{option_or};
+ghost use Rattle.simplex_round.specs.Past.{entered, armed, latched, polled, entered_at, proposed_at, elapsed, stall_deadline, first_timeout, next_timeout};
+ghost use Rattle.simplex_round.specs.Round.{AtEach, Becomes};
+
+use crate::round::Round;
+use crate::timeout_reason::TimeoutReason;
+use simplex_types::{Digest, Scheme};
+
+impl<S: Scheme<D>, D: Digest> Round<S, D> {
+    /// Takes in when the view was entered. The first entry counts.
+    pub fn mark_entered(&mut self, now: u64)
+        ensures { Becomes S.key_of self.old self.new (λ h. entered now ∷ h) }
+    {
+        if self.entered_at.is_none() {
+            self.entered_at = Some(now);
+        }
+    }
+
+    /// How long ago this member recorded its own proposal, or else entered the view.
+    pub fn elapsed_since_start(&self, now: u64) -> Option<u64>
+        ensures { AtEach S.key_of self.now (λ s l h. result ≡ elapsed now (option_or (proposed_at h) (entered_at h))) }
+    {
+        match self.proposed_at {
+            Some(moment) => Some(now.saturating_sub(moment)),
+            None => self.elapsed_since_entry(now),
+        }
+    }
+
+    /// How long ago the view was entered.
+    pub fn elapsed_since_entry(&self, now: u64) -> Option<u64>
+        ensures { AtEach S.key_of self.now (λ s l h. result ≡ elapsed now (entered_at h)) }
+    {
+        match self.entered_at {
+            Some(moment) => Some(now.saturating_sub(moment)),
+            None => None,
+        }
+    }
+
+    /// Sets the deadlines. Once a nullify or finalize is voted, only that against a standstill.
+    pub fn set_deadlines(&mut self, leader: u64, certification: u64, stall: Option<u64>)
+        ensures { Becomes S.key_of self.old self.new (λ h. armed leader certification stall ∷ h) }
+    {
+        if !self.votes.nullify && !self.votes.finalize {
+            self.deadlines.leader = Some(leader);
+            self.deadlines.certification = Some(certification);
+        }
+        self.deadlines.stall = stall;
+    }
+
+    /// The deadline against a standstill, while the view is not finalized.
+    pub fn stall_deadline(&self) -> Option<u64>
+        ensures { AtEach S.key_of self.now (λ s l h. result ≡ stall_deadline h) }
+    {
+        if self.finalization.is_some() {
+            return None;
+        }
+        self.deadlines.stall
+    }
+
+    /// Takes a reason to give the view up at this moment. The first counts, and none once a nullify or finalize
+    /// is voted.
+    pub fn latch_timeout(&mut self, now: u64, reason: TimeoutReason)
+        ensures { Becomes S.key_of self.old self.new (λ h. latched now reason ∷ h) }
+    {
+        if !self.votes.nullify && !self.votes.finalize && self.deadlines.latch.is_none() {
+            self.deadlines.latch = Some((now, reason));
+        }
+    }
+
+    /// When the view is to be given up next, and why: at a reason that was taken only where it is allowed. A
+    /// nullify that was voted is due again an interval after the first call that follows it.
+    pub fn next_timeout(
+        &mut self,
+        now: u64,
+        retry_interval: u64,
+        allow_latched_timeout: bool,
+    ) -> Option<(u64, TimeoutReason)>
+        requires { now + retry_interval < 2 ^ 64 }
+        ensures keeps { Becomes S.key_of self.old self.new (λ h. polled (now + retry_interval) ∷ h) }
+        ensures answer { AtEach S.key_of self.old (λ s l h. result ≡ next_timeout (polled (now + retry_interval) ∷ h) allow_latched_timeout) }
+    {
+        self.poll(now + retry_interval);
+        self.due_timeout(allow_latched_timeout)
+    }
+
+    /// A nullify that was voted is due again at this moment, where it isn't already at another.
+    fn poll(&mut self, moment: u64)
+        ensures { Becomes S.key_of self.old self.new (λ h. polled moment ∷ h) }
+    {
+        if self.votes.nullify && self.deadlines.retry.is_none() {
+            self.deadlines.retry = Some(moment);
+        }
+    }
+
+    /// When the view is to be given up next, and why.
+    fn due_timeout(&self, allow_latched: bool) -> Option<(u64, TimeoutReason)>
+        ensures { AtEach S.key_of self.now (λ s l h. result ≡ next_timeout h allow_latched) }
+    {
+        if self.finalization.is_some() || self.votes.finalize {
+            return None;
+        }
+        if !self.votes.nullify {
+            return self.first_timeout(allow_latched);
+        }
+        match self.deadlines.retry {
+            Some(moment) => Some((moment, TimeoutReason::Retry)),
+            None => None,
+        }
+    }
+
+    /// When the view is given up first, and why.
+    fn first_timeout(&self, allow_latched: bool) -> Option<(u64, TimeoutReason)>
+        ensures { AtEach S.key_of self.now (λ s l h. result ≡ first_timeout h allow_latched) }
+    {
+        if allow_latched && self.deadlines.latch.is_some() {
+            return self.deadlines.latch;
+        }
+        if self.proposal.proposal().is_none() && self.deadlines.leader.is_some() {
+            return match self.deadlines.leader {
+                Some(moment) => Some((moment, TimeoutReason::LeaderTimeout)),
+                None => None,
+            };
+        }
+        if self.verdict == Some(true) {
+            return None;
+        }
+        match self.deadlines.certification {
+            Some(moment) => Some((moment, TimeoutReason::CertificationTimeout)),
+            None => None,
+        }
+    }
+}
