@@ -13,6 +13,10 @@ use Rattle.simplex_types.specs.AttestationList.{list_fits, list_within, list_spe
 use Rattle.simplex_messages.specs.Activity.{activity_fits, activity_within, activity_spelling, activity_at}
 use Rattle.simplex_rules.specs.Audit.{IsAudit}
 use Rattle.simplex_cli.specs.Lines.{lines_of}
+use Rattle.simplex_cli.specs.declared.input.InputError.{InputError}
+use Rattle.simplex_cli.specs.declared.input.InputError.TheVariants as unread
+use Rattle.simplex_cli.specs.declared.trouble.Trouble.{Trouble}
+use Rattle.simplex_cli.specs.declared.trouble.Trouble.TheVariants as trouble
 
 -- a signature of the plain scheme of so many members over the base `simplex`
 abbrev pub plain_attests : ℕ → ℕ → Statement (List ℕ) → List ℕ → Type 0
@@ -39,3 +43,8 @@ AppendsFront old new text = (front : List ℕ) × (rest : List ℕ) × (text ≡
 -- a front of the lines of the audit of these bytes was written
 abbrev pub BreaksOff : ℕ → List ℕ → Option (List ℕ) → Option (List ℕ) → Type 0
 BreaksOff count bytes old new = (fault : Option ℕ) × (text : List ℕ) × IsAnswer count bytes fault text × AppendsFront old new text
+
+-- the trouble by whose name a caller is told why the input was not read to its end
+abbrev pub trouble_of : InputError → Trouble
+trouble_of unread.Memory = trouble.Memory
+trouble_of unread.Device = trouble.Device

@@ -3,9 +3,6 @@ ghost use Rattle.std.specs.Prelude.{ℕ, ◌<◌, [], ◌∷◌, codes, IsNone, 
 ghost use Rattle.simplex_cli.specs.Command.{SpellsCommand, SpellsNumber};
 ghost use Rattle.simplex_cli.specs.declared.command.Command.{Command};
 
-#[cfg(test)]
-mod tests;
-
 /// What the program is asked to do.
 #[derive(Clone, Copy, Debug, PartialEq, Eq)]
 pub enum Command<'a> {

@@ -7,9 +7,6 @@ use std::alloc::{AllocError, Global};
 use std::io;
 use std::io::Read;
 
-#[cfg(test)]
-mod tests;
-
 /// Why an input was not read to its end.
 #[derive(Clone, Copy, Debug, PartialEq, Eq)]
 pub enum InputError {

@@ -2,20 +2,12 @@
 #![tactic(auto)]
 
 mod command;
-#[cfg(test)]
-mod contradictions;
-#[cfg(test)]
-mod fakes;
 mod input;
 mod lines;
 mod output;
 mod program;
 mod running;
-#[cfg(test)]
-mod samples;
 mod trouble;
-#[cfg(test)]
-mod vectors;
 
 pub use command::{Command, USAGE, number_of, parse_words};
 pub use program::{run_words, words_unread};

@@ -8,9 +8,6 @@ use simplex_rules::Audit;
 use simplex_types::{Participant, PlainScheme, Proposal, Round, Sha256Digest};
 use std::alloc::{AllocError, Global};
 
-#[cfg(test)]
-mod tests;
-
 /// The lines of an audit: one for each piece of evidence, then the fault's, if there is one.
 pub(crate) fn text_of(
     alloc: Global,

@@ -19,9 +19,6 @@ use std::alloc::Global;
 use std::io;
 use std::io::{Read, Write};
 
-#[cfg(test)]
-mod tests;
-
 /// Runs the command that the words after the program's name spell, and answers the status: 2, with
 /// the usage on `faults`, where they spell none.
 ///

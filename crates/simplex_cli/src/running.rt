@@ -6,7 +6,7 @@ ghost use Rattle.simplex_cli.specs.Running.{AppendsFront, AuditsOver, BreaksOff,
 ghost use Rattle.simplex_cli.specs.declared.trouble.Trouble.{Trouble};
 ghost use Rattle.simplex_cli.specs.declared.trouble.Trouble.TheVariants.{Write};
 
-use crate::input::{InputError, read_all};
+use crate::input::read_all;
 use crate::lines::text_of;
 use crate::output::write_whole;
 use crate::trouble::Trouble;
@@ -14,9 +14,6 @@ use simplex_rules::{Audit, audit};
 use simplex_types::{PlainScheme, Sha256Digest};
 use std::alloc::{AllocError, Global};
 use std::io::{Read, Write};
-
-#[cfg(test)]
-mod tests;
 
 /// The base of the namespaces that the program's committees sign in.
 const BASE: &[u8; 7] = b"simplex";
@@ -90,11 +87,7 @@ pub fn write_audit<R: Read, W: Write>(
     ensures unwritten { IfErr result (λ trouble. trouble ≢ Write → output.new ≡ output.old) }
     ensures broken_off { IfErr result (λ trouble. trouble ≡ Write → IfSome (R.remaining input.old) (λ bytes. BreaksOff count bytes (W.contents output.old) (W.contents output.new))) }
 {
-    let bytes = match read_all(alloc, input) {
-        Ok(bytes) => bytes,
-        Err(InputError::Memory) => return Err(Trouble::Memory),
-        Err(InputError::Device) => return Err(Trouble::Device),
-    };
+    let bytes = read_all(alloc, input)?;
     let (text, fault) = answer_to(alloc, count, &bytes)?;
     if write_whole(output, text.as_bytes()).is_err() {
         return Err(Trouble::Write);

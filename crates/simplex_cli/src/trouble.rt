@@ -2,8 +2,10 @@
 
 ghost use Rattle.std.specs.Prelude.{◌≡◌};
 ghost use Rattle.simplex_cli.specs.Lines.{trouble_line};
+ghost use Rattle.simplex_cli.specs.Running.{trouble_of};
 ghost use Rattle.simplex_cli.specs.declared.trouble.Trouble.TheVariants.{Memory};
 
+use crate::input::InputError;
 use std::alloc::AllocError;
 
 /// Why an audit has no answer.
@@ -22,6 +24,17 @@ impl From<AllocError> for Trouble {
 
     fn from(_error: AllocError) -> Trouble {
         Trouble::Memory
+    }
+}
+
+impl From<InputError> for Trouble {
+    ghost from_gives = { λ error trouble. trouble ≡ trouble_of error };
+
+    fn from(error: InputError) -> Trouble {
+        match error {
+            InputError::Memory => Trouble::Memory,
+            InputError::Device => Trouble::Device,
+        }
     }
 }
 
