@@ -92,8 +92,8 @@ fn a_record_in_terms_of_five_views_is_lawful(rt: HostRuntime) -> Result<(), Fail
     Ok(())
 }
 
-// `rt try --test --fail-alloc N` refuses one of the first check's eight requests for memory at each N from
-// 15 to 22.
+// `rt try --test --fail-alloc N` refuses one of the first check's eight requests for memory at eight N in a
+// row, and nothing then tells of it: the second check answers as ever.
 #[test]
 fn a_refused_allocation_is_answered(rt: HostRuntime) -> Result<(), Fail> {
     let alloc = rt.alloc();
