@@ -1,21 +1,24 @@
 -- Certificates that contradict each other have signers in common, and these are named.
 use Rattle.std.proofs.Common.{◌≡◌, ℕ, ◌+◌, ◌≤◌, List, map, refl, sym, ap, ◌∙◌, subst, inl, inr, arith}
-use Rattle.std.specs.Prelude.{Contains}
+use Rattle.std.specs.Prelude.{◌≢◌, Contains}
 use Rattle.std.specs.declared.cmp.Ordering.{Ordering}
 use Rattle.std.proofs.lemmas.List.{length-map, get_or-map}
 use Rattle.std.proofs.lemmas.List.Elements.{All-contains}
 use Rattle.simplex_types.specs.declared.attestation.Attestation.{Attestation}
 use Rattle.simplex_types.specs.declared.position.Round.{Round}
+use Rattle.simplex_types.specs.declared.proposal.Proposal.{Proposal}
 use Rattle.simplex_types.specs.Overlap.{AttestsIn, two_quorums_attest}
 use Rattle.simplex_types.specs.Quorum.{IsQuorum, faults}
 use Rattle.simplex_types.specs.Subject.{Statement, notarize, nullify, finalize}
 use Rattle.simplex_messages.specs.declared.activity.Activity.{Activity}
 use Rattle.simplex_messages.specs.declared.activity.Activity.TheVariants as activity
 use Rattle.simplex_messages.specs.declared.nullification.Nullification.{Nullification}
-use Rattle.simplex_messages.specs.Guilt.{notarizes_in, nullifies_in, finalizes_in, notarizes_of, nullifies_of, finalizes_of}
+use Rattle.simplex_messages.specs.Guilt.{IsGuilty, notarizes_in, nullifies_in, finalizes_in, notarizes_of, nullifies_of, finalizes_of}
 use Rattle.simplex_messages.specs.Nullify.{nullify_of_parts}
 use Rattle.simplex_messages.specs.ProposalCertificate.{Notarization, Finalization}
 use Rattle.simplex_messages.specs.ProposalVote.{vote_of_parts}
+use Rattle.simplex_messages.specs.declared.proposal_certificate.ProposalCertificate.{ProposalCertificate}
+use Rattle.simplex_messages.specs.declared.proposal_vote.ProposalVote.{ProposalVote}
 use Rattle.simplex_rules.specs.Accountability.{HoldNotarization, AreTwoNotarized, AreTwoFinalized, IsNullifiedFinalized, IsContradicted, NamesAtLeast}
 use Rattle.simplex_rules.specs.Audit.{IsAccused, IsVerdict, Offence, TwoNotarizes, TwoFinalizes, NullifyBeside}
 use Rattle.simplex_rules.proofs.Lists.{in-flat_map}
@@ -59,37 +62,37 @@ module _ {S D P G C : Type 0} (lists : C → List (Attestation G)) (attests : �
             subst (λ (j : ℕ). (o : Offence) × IsAccused evidence (record { round = round; signer = j; offence = o })) both.0.2 told;
       }
 
+  -- two certificates of one kind for two proposals of the round, whose votes are among these, name whoever signed both
+  module _ {K : Type 0} (states : Proposal D → Statement D) (votes : List (ProposalVote K S D P G C)) (offence : Offence)
+      (told : (signer : ℕ) → IsGuilty states attests votes round signer → IsAccused evidence (record { round = round; signer = signer; offence = offence })) where
+    -- the votes that a certificate lists are among these
+    abbrev AreHeld : ProposalCertificate K S D P G C → Type 0
+    AreHeld c = (a : Attestation G) → Contains (lists c.certificate) a → Contains votes (vote_of_parts (c.proposal, a))
+
+    names-of_two : (c d : ProposalCertificate K S D P G C) → AreHeld c → AreHeld d → certifies (states c.proposal) c.certificate → certifies (states d.proposal) d.certificate
+        → c.proposal.round ≡ round → d.proposal.round ≡ round → c.proposal ≢ d.proposal → NamesAtLeast (faults n + 1) n evidence round
+    names-of_two c d c_held d_held c_certifies d_certifies c_round d_round two_proposals = names-from_shared (states c.proposal) (states d.proposal) c.certificate d.certificate c_certifies d_certifies
+        (λ a b first second same this that. (
+          offence,
+          told a.signer (record {
+            first = vote_of_parts (c.proposal, a);
+            second = vote_of_parts (d.proposal, b);
+            first_is_there = c_held a first;
+            second_is_there = d_held b second;
+            first_verifies = this;
+            second_verifies = that;
+            first_is_theirs = record { round_is = c_round; signer_is = refl };
+            contradict = record { one_round = c_round ∙ sym d_round; one_signer = same; two_proposals = two_proposals };
+          }),
+        ))
+
   names-notarized : AreTwoNotarized certifies reports round → NamesAtLeast (faults n + 1) n evidence round
-  names-notarized two = names-from_shared (notarize two.first.proposal) (notarize two.second.proposal) two.first.certificate two.second.certificate two.first_certifies two.second_certifies
-      (λ a b first second same this that. (
-        TwoNotarizes,
-        verdict.two_notarizes round a.signer (record {
-          first = vote_of_parts (two.first.proposal, a);
-          second = vote_of_parts (two.second.proposal, b);
-          first_is_there = notarizes-held two.first two.first_is_held a first;
-          second_is_there = notarizes-held two.second two.second_is_held b second;
-          first_verifies = this;
-          second_verifies = that;
-          first_is_theirs = record { round_is = two.first_round; signer_is = refl };
-          contradict = record { one_round = two.first_round ∙ sym two.second_round; one_signer = same; two_proposals = two.two_proposals };
-        }),
-      ))
+  names-notarized two = names-of_two notarize (notarizes_of lists reports) TwoNotarizes (verdict.two_notarizes round) two.first two.second
+      (notarizes-held two.first two.first_is_held) (notarizes-held two.second two.second_is_held) two.first_certifies two.second_certifies two.first_round two.second_round two.two_proposals
 
   names-finalized : AreTwoFinalized certifies reports round → NamesAtLeast (faults n + 1) n evidence round
-  names-finalized two = names-from_shared (finalize two.first.proposal) (finalize two.second.proposal) two.first.certificate two.second.certificate two.first_certifies two.second_certifies
-      (λ a b first second same this that. (
-        TwoFinalizes,
-        verdict.two_finalizes round a.signer (record {
-          first = vote_of_parts (two.first.proposal, a);
-          second = vote_of_parts (two.second.proposal, b);
-          first_is_there = finalizes-held two.first two.first_is_held a first;
-          second_is_there = finalizes-held two.second two.second_is_held b second;
-          first_verifies = this;
-          second_verifies = that;
-          first_is_theirs = record { round_is = two.first_round; signer_is = refl };
-          contradict = record { one_round = two.first_round ∙ sym two.second_round; one_signer = same; two_proposals = two.two_proposals };
-        }),
-      ))
+  names-finalized two = names-of_two finalize (finalizes_of lists reports) TwoFinalizes (verdict.two_finalizes round) two.first two.second
+      (finalizes-held two.first two.first_is_held) (finalizes-held two.second two.second_is_held) two.first_certifies two.second_certifies two.first_round two.second_round two.two_proposals
 
   names-nullified : IsNullifiedFinalized certifies reports round → NamesAtLeast (faults n + 1) n evidence round
   names-nullified two = names-from_shared (nullify two.first.round) (finalize two.second.proposal) two.first.certificate two.second.certificate two.first_certifies two.second_certifies

@@ -22,10 +22,9 @@ use Rattle.simplex_rules.specs.declared.cast.Kept.{Kept}
 use Rattle.simplex_rules.specs.declared.cast.Kept.TheVariants.{One, Two}
 use Rattle.simplex_rules.specs.declared.cast.Suspect.{Suspect}
 use Rattle.simplex_rules.specs.declared.tally.Tally.{Tally}
-use Rattle.simplex_rules.specs.Cast.{IsTwo}
 use Rattle.simplex_rules.specs.Kept.{suspect_cmp}
 use Rattle.simplex_rules.specs.Audit.{Accusation, Offence, TwoNotarizes, TwoFinalizes, NullifyBeside, accused, AreInOrder, IsAccused, IsLeast, IsVerdict}
-use Rattle.simplex_rules.specs.Tally.{HoldsReports, vote_of, nullify_suspect, suspect_of, nullify_of, conflict_in, least_in, nullify_in, both_of, reported, evidence_at}
+use Rattle.simplex_rules.specs.Tally.{HoldsReports, IsGathered, vote_of, nullify_suspect, suspect_of, nullify_of, conflict_in, least_in, nullify_in, both_of, reported, evidence_at}
 use Rattle.simplex_rules.proofs.Lists.{no_element, only_element, first_element, Contains-flat_map, in-flat_map, AllPairs-nil, AllPairs-append}
 use Rattle.simplex_rules.proofs.Suspects.{suspects_total, suspects_exact, accusation_of, StandsBefore-from_less}
 use Rattle.simplex_rules.proofs.Judging.{suspect_from, IsLeastEvidence-from_two, guilty_are_kept, voters_are_kept, IsLeastVote, IsLeastVote-from_one, IsLeastVote-from_two, IsFirstNullify-from_kept, nullifiers_are_kept}
@@ -101,12 +100,6 @@ module _ {S D P G C : Type 0} where
       let other = evidence_at-own t found.0 b found.2 in
       let below : suspect_cmp q found.0 ≡ Less = All-contains (λ r. suspect_cmp q r ≡ Less) qs found.0 (All-after_first suspect_cmp q qs ordered) found.1 in
       in_order a b (accusation_of q own.0) (accusation_of found.0 other.0) own.1 other.1 (StandsBefore-from_less q found.0 own.0 other.0 below))
-
-  -- the set has each suspect of whom evidence is kept
-  pub record IsGathered (t : Tally S D P G C) (guilty : BTreeSet Suspect) : Type 0 where
-    pub notarized : (q : Suspect) (k : Kept D G) → get suspect_cmp t.notarizes.kept q ≡ Some k → IsTwo k → IsTrue (contains suspect_cmp guilty q)
-    pub finalized : (q : Suspect) (k : Kept D G) → get suspect_cmp t.finalizes.kept q ≡ Some k → IsTwo k → IsTrue (contains suspect_cmp guilty q)
-    pub nullified : (q : Suspect) → IsSome (get suspect_cmp t.nullifies.kept q) → IsSome (get suspect_cmp t.finalizes.kept q) → IsTrue (contains suspect_cmp guilty q)
 
   module _ (lists : C → List (Attestation G)) (attests : ℕ → Statement D → G → Type 0) (cmp : D → D → Ordering) (order : IsTotalOrder cmp) (reports : List (Activity S D P G C)) (t : Tally S D P G C) (h : HoldsReports lists attests cmp reports t) where
     two_notarizes-least : (q : Suspect) (k : Option (Kept D G)) → get suspect_cmp t.notarizes.kept q ≡ k → (a : Activity S D P G C) → Contains (reported conflicting_notarize_report (conflict_in q k)) a → IsLeast lists attests cmp reports a

@@ -1,4 +1,5 @@
 pub mod Terms
+pub mod Kind
 pub mod Rotation
 pub mod Shuffle
 pub mod Turns

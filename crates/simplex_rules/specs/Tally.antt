@@ -1,7 +1,8 @@
 -- What the audit keeps of the reports that it has counted, and the evidence that this gives.
-use Rattle.std.specs.Prelude.{◌≡◌, ◌≢◌, ℕ, List, [], ◌∷◌, ◌++◌, Option, Some, None, Box}
+use Rattle.std.specs.Prelude.{◌≡◌, ◌≢◌, ℕ, List, [], ◌∷◌, ◌++◌, Option, Some, None, Box, IsSome, IsTrue}
 use Rattle.std.specs.declared.alloc.Global.{Global}
 use Rattle.std.specs.BTreeMap.{BTreeMap, get}
+use Rattle.std.specs.BTreeSet.{BTreeSet, contains}
 use Rattle.std.specs.declared.cmp.Ordering.{Ordering}
 use Rattle.simplex_types.specs.declared.attestation.Attestation.{Attestation}
 use Rattle.simplex_types.specs.declared.proposal.Proposal.{Proposal}
@@ -18,7 +19,7 @@ use Rattle.simplex_rules.specs.declared.cast.Kept.{Kept}
 use Rattle.simplex_rules.specs.declared.cast.Kept.TheVariants.{One, Two}
 use Rattle.simplex_rules.specs.declared.cast.Suspect.{Suspect}
 use Rattle.simplex_rules.specs.declared.tally.Tally.{Tally}
-use Rattle.simplex_rules.specs.Cast.{Summarizes}
+use Rattle.simplex_rules.specs.Cast.{Summarizes, IsTwo}
 use Rattle.simplex_rules.specs.Kept.{suspect_cmp, Holds}
 
 -- votes of the kind K on a proposal
@@ -100,3 +101,9 @@ module _ {S D P G C : Type 0} where
       reported conflicting_notarize_report (conflict_in q (get suspect_cmp t.notarizes.kept q))
       ++ (reported conflicting_finalize_report (conflict_in q (get suspect_cmp t.finalizes.kept q))
       ++ reported nullify_finalize_report (both_of (nullify_in q (get suspect_cmp t.nullifies.kept q)) (least_in q (get suspect_cmp t.finalizes.kept q))))
+
+  -- the set has each suspect of whom evidence is kept
+  pub record IsGathered (t : Tally S D P G C) (guilty : BTreeSet Suspect) : Type 0 where
+    pub notarized : (q : Suspect) (k : Kept D G) → get suspect_cmp t.notarizes.kept q ≡ Some k → IsTwo k → IsTrue (contains suspect_cmp guilty q)
+    pub finalized : (q : Suspect) (k : Kept D G) → get suspect_cmp t.finalizes.kept q ≡ Some k → IsTwo k → IsTrue (contains suspect_cmp guilty q)
+    pub nullified : (q : Suspect) → IsSome (get suspect_cmp t.nullifies.kept q) → IsSome (get suspect_cmp t.finalizes.kept q) → IsTrue (contains suspect_cmp guilty q)

@@ -1,10 +1,10 @@
 -- What follows for leaders who take turns.
 use Rattle.std.specs.Prelude.{◌≡◌, ℕ, ◌<◌, List, length, All, Option, Some, None}
-use Rattle.std.proofs.Common.{arith, ap, sym, subst, ◌∙◌}
+use Rattle.std.proofs.Common.{arith, sym, subst, ◌∙◌}
 use Rattle.std.proofs.lemmas.List.FromFn.{length-range_with_len, get_or-range_with_len}
 use Rattle.std.proofs.lemmas.List.Sorted.{length_permutation, All-permutation, IsPermutation-refl}
 use Rattle.simplex_types.specs.Positions.{term_index}
-use Rattle.simplex_rules.specs.Rotation.{Rotation, indices, IsOrder, place, view_leader, term_leader}
+use Rattle.simplex_rules.specs.Rotation.{Rotation, indices, IsOrder, place, view_leader}
 use Rattle.simplex_rules.specs.Shuffle.{IsOrderOf}
 
 -- an order of n members is as long
@@ -21,11 +21,6 @@ leader_within n r some o epoch view =
     let long = length-IsOrder n r.order o in
     let within : place (length r.order) epoch (term_index r.terms.length view) < length r.order = omega (arith, long, some) in
     All-permutation (λ i. i < n) (indices n) r.order o (indices_below n) _ 0 within
-
--- views of one term have one leader
-pub one_leader : (r : Rotation) (epoch other view later : ℕ) → epoch ≡ other → term_index r.terms.length view ≡ term_index r.terms.length later → view_leader r epoch view ≡ view_leader r other later
-one_leader r epoch other view later same term =
-    ap (λ (e : ℕ). term_leader r.order e (term_index r.terms.length view)) same ∙ ap (λ (t : ℕ). term_leader r.order other t) term
 
 -- the order that a seed makes, and the ascending one, are orders
 pub IsOrder-from_IsOrderOf : (seed : Option (List ℕ)) (n : ℕ) (order : List ℕ) → IsOrderOf seed n order → IsOrder n order

@@ -1,13 +1,13 @@
 //! The audit of reports: whose votes contradict each other.
 
-ghost use Rattle.std.specs.Prelude.{◌≡◌, ◌+◌, ◌++◌, [], List, IfOk};
+ghost use Rattle.std.specs.Prelude.{◌≡◌, ◌+◌, ◌++◌, [], List, IfOk, IsErr, MatchBool};
 ghost use Rattle.simplex_types.specs.Codec.{Gives, Readable};
 ghost use Rattle.simplex_types.specs.Quorum.{faults};
 ghost use Rattle.simplex_types.specs.declared.position.Round.{Round};
 ghost use Rattle.simplex_messages.specs.declared.activity.Activity.{Activity};
 ghost use Rattle.simplex_rules.specs.Accountability.{IsContradicted, NamesAtLeast};
 ghost use Rattle.simplex_rules.specs.Audit.{IsAudit, IsVerdict};
-ghost use Rattle.simplex_rules.specs.Counted.{Counts};
+ghost use Rattle.simplex_rules.specs.Counted.{Counts, CountsOne, CountsRead};
 ghost use Rattle.simplex_rules.specs.Tally.{HoldsReports};
 
 use crate::tally::Tally;
@@ -15,9 +15,6 @@ use crate::verdict::Audit;
 use simplex_messages::Activity;
 use simplex_types::{CodecError, Digest, Listing, Read, Write};
 use std::alloc::{AllocError, Global};
-
-#[cfg(test)]
-mod tests;
 
 /// Finds the signers of which two verifying votes contradict each other, among the reports that the
 /// bytes hold up to the first place where none stands. Loose votes count, both votes of
@@ -59,15 +56,48 @@ fn count_reports<S: Listing<D>, D: Digest>(
 {
     let mut rest = bytes;
     while !rest.is_empty() {
-        let report: Activity<S, D> = match next_message(alloc, &mut rest, participants) {
-            Ok(report) => report,
-            Err(CodecError::Memory) => return Err(AllocError),
-            Err(_) => return Ok(Some(bytes.len() - rest.len())),
-        };
-        tally.count_report(scheme, &report)?;
-        drop(report);
+        if !count_next(alloc, scheme, participants, &mut rest, tally)? {
+            return Ok(Some(bytes.len() - rest.len()));
+        }
     }
     Ok(None)
+}
+
+/// Counts the votes of the next report, or tells that none stands there.
+fn count_next<S: Listing<D>, D: Digest>(
+    alloc: Global,
+    scheme: &S,
+    participants: u32,
+    rest: &mut &[u8],
+    tally: &mut Tally<S, D>,
+) -> Result<bool, AllocError>
+    requires bound { participants ≡ S.size scheme.now }
+    ensures { IfOk result (λ counted. MatchBool counted
+        (CountsOne S.lists (S.attests scheme.now) D.cmp (Readable ⟦<Activity<S, D> as Write>⟧.fits (⟦<Activity<S, D> as Read>⟧.within (S.size scheme.now))) ⟦<Activity<S, D> as Write>⟧.spelling rest.old.now rest.new.now tally.old tally.new)
+        (IsErr (⟦<Activity<S, D> as Read>⟧.reading (S.size scheme.now) rest.old.now) × (rest.new.now ≡ rest.old.now) × (tally.new ≡ tally.old))) }
+{
+    let read = next_message(alloc, rest, participants);
+    let counted = count_read(scheme, &read, tally);
+    drop(read);
+    counted
+}
+
+/// Counts the votes of the report that was read, or tells that none was.
+fn count_read<S: Listing<D>, D: Digest>(
+    scheme: &S,
+    read: &Result<Activity<S, D>, CodecError>,
+    tally: &mut Tally<S, D>,
+) -> Result<bool, AllocError>
+    ensures { IfOk result (CountsRead S.lists (S.attests scheme.now) D.cmp read.now tally.old tally.new) }
+{
+    match read {
+        Ok(report) => {
+            tally.count_report(scheme, report)?;
+            Ok(true)
+        }
+        Err(CodecError::Memory) => Err(AllocError),
+        Err(_) => Ok(false),
+    }
 }
 
 /// Reads one message, and tells that it can be read again and that what was read is its spelling.

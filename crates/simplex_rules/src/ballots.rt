@@ -79,6 +79,18 @@ impl<K: ProposalKind<D>, S: Scheme<D>, D: Digest> Ballots<K, S, D> {
         Ok(())
     }
 
+    /// Counts both votes of evidence, those that verify.
+    pub(crate) fn count_both(
+        &mut self,
+        scheme: &S,
+        both: &ConflictingVotes<K, S, D>,
+    ) -> Result<(), AllocError>
+        ensures { OnOk result ((votes : List (ProposalVote K S D S.PublicKey S.Signature S.Certificate)) → HoldsVotes K.states (S.attests scheme.now) D.cmp votes self.old.kept → HoldsVotes K.states (S.attests scheme.now) D.cmp (votes ++ both.now.0 ∷ both.now.1 ∷ []) self.new.kept) }
+    {
+        self.count(scheme, both.first())?;
+        self.count(scheme, both.second())
+    }
+
     /// Whether votes of the suspect are kept.
     pub(crate) fn contains(&self, suspect: &Suspect) -> bool
         ensures { IsTrue result ↔ IsSome (get suspect_cmp self.now.kept suspect.now) }

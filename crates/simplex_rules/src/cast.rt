@@ -7,7 +7,7 @@ use std::alloc::{AllocError, Global};
 use std::cmp::Ordering;
 
 /// A signer in a round.
-#[derive(Clone, Copy, Debug, PartialEq, Eq, PartialOrd, Ord)]
+#[derive(Clone, Copy, PartialEq, Eq, PartialOrd, Ord)]
 pub(crate) struct Suspect {
     /// The round.
     pub(crate) round: Round,
@@ -16,7 +16,7 @@ pub(crate) struct Suspect {
 }
 
 /// What a vote of a round is for.
-#[derive(Clone, Copy, Debug, PartialEq, Eq, PartialOrd, Ord)]
+#[derive(Clone, Copy, PartialEq, Eq, PartialOrd, Ord)]
 pub(crate) struct Choice<D: Digest> {
     /// The view of the proposal's parent.
     pub(crate) parent: View,
@@ -25,7 +25,7 @@ pub(crate) struct Choice<D: Digest> {
 }
 
 /// A vote of a round, by a signer that is known.
-#[derive(Clone, Copy, Debug)]
+#[derive(Clone, Copy)]
 pub(crate) struct Cast<D: Digest, G> {
     /// What it is for.
     pub(crate) choice: Choice<D>,
@@ -49,7 +49,7 @@ impl<D: Digest, G> Cast<D, G> {
 
 /// What is kept of one signer's votes of one round: of the first that were read for the least two
 /// proposals, one or both.
-#[derive(Debug, Drop)]
+#[derive(Drop)]
 pub(crate) enum Kept<D: Digest, G> {
     /// All votes are for one proposal.
     One(Cast<D, G>),

@@ -1,7 +1,6 @@
 //! Who leads a round.
 
 ghost use Rattle.std.specs.Prelude.{◌≡◌, ◌<◌, ℕ, Option, IsSome, IfOk, option_copied};
-ghost use Rattle.simplex_types.specs.Positions.{term_index};
 ghost use Rattle.simplex_types.specs.declared.position.Round.{Round};
 ghost use Rattle.simplex_rules.specs.Terms.{Timing};
 ghost use Rattle.simplex_rules.specs.declared.elector.Mode.{Mode};
@@ -12,7 +11,7 @@ mod round_robin;
 mod shuffle;
 
 pub use crate::terms::Terms;
-pub use laws::{a_seed_makes_one_order, each_participant_leads_once};
+pub use laws::{a_seed_makes_one_order, a_term_has_one_leader, each_participant_leads_once};
 pub use round_robin::{RoundRobin, RoundRobinElector};
 use simplex_types::{Digest, Duplicate, Participant, Round, Scheme};
 use std::alloc::{AllocError, Global};
@@ -59,10 +58,6 @@ pub trait Elector<S: Scheme<D>, D: Digest>: Duplicate + Drop {
 
     /// Where it is scheduled, no certificate matters.
     ghost schedule: { (e : Self) (r : Round) (c d : Option S.Certificate) → mode_of e ≡ Scheduled → leader e r c ≡ leader e r d };
-
-    /// A term of an epoch has one leader.
-    ghost one_in_term: { (e : Self) (r s : Round) (c : Option S.Certificate) → r.epoch ≡ s.epoch → 0 < r.view → 0 < s.view
-        → term_index (terms_of e).length r.view ≡ term_index (terms_of e).length s.view → leader e r c ≡ leader e s c };
 }
 
 /// How an elector is built.
@@ -75,6 +70,3 @@ pub trait Config<S: Scheme<D>, D: Digest> {
         requires { 0 < participants }
         ensures { IfOk result (λ e. Self.Elector.built_for e participants) };
 }
-
-#[cfg(test)]
-mod tests;

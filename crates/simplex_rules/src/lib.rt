@@ -5,6 +5,7 @@ mod auditing;
 mod ballots;
 mod cast;
 pub mod elector;
+mod kind;
 mod laws;
 mod lookahead;
 mod nullifies;
@@ -16,9 +17,10 @@ mod viewport;
 
 pub use auditing::audit;
 pub use elector::{
-    Elector, Mode, RoundRobin, RoundRobinElector, a_seed_makes_one_order,
+    Elector, Mode, RoundRobin, RoundRobinElector, a_seed_makes_one_order, a_term_has_one_leader,
     each_participant_leads_once,
 };
+pub use kind::Kind;
 pub use laws::names_rest_on_the_reports;
 pub use lookahead::{
     Lookahead, admission_limit_is_the_last_view_listened_to, few_views_ahead_are_listened_to,

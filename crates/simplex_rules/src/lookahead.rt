@@ -134,6 +134,3 @@ pub fn admission_limit_is_the_last_view_listened_to()
 pub fn issuance_floor_leaves_the_optimistic_views_between()
     ensures { (optimistic earlier view : ℕ) → earlier < view → (between : ℕ) → HasExactly (λ v. (earlier < v) × (v < view)) between → (issuance_floor optimistic view ≤ earlier) ↔ (between ≤ optimistic) }
 {}
-
-#[cfg(test)]
-mod tests;

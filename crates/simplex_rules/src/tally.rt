@@ -3,11 +3,12 @@
 ghost use Rattle.std.specs.Prelude.{◌≡◌, ◌++◌, ◌∷◌, [], List, OnOk, IfOk, IsTrue, IsSome, Some};
 ghost use Rattle.std.specs.BTreeMap.{get};
 ghost use Rattle.std.specs.BTreeSet.{IsSubset, contains};
+ghost use Rattle.simplex_messages.specs.Activity.{conflicting_finalize_report, conflicting_notarize_report, nullify_finalize_report};
 ghost use Rattle.simplex_messages.specs.declared.activity.Activity.{Activity};
 ghost use Rattle.simplex_rules.specs.declared.cast.Suspect.{Suspect};
 ghost use Rattle.simplex_rules.specs.Audit.{IsVerdict};
 ghost use Rattle.simplex_rules.specs.Kept.{suspect_cmp};
-ghost use Rattle.simplex_rules.specs.Tally.{AreApart, HoldsReports, both_of, evidence_at, least_in, nullify_in};
+ghost use Rattle.simplex_rules.specs.Tally.{AreApart, HoldsReports, IsGathered, both_of, conflict_in, evidence_at, least_in, nullify_in, reported};
 
 use crate::ballots::Ballots;
 use crate::cast::Suspect;
@@ -46,15 +47,23 @@ impl<S: Scheme<D>, D: Digest> Tally<S, D> {
         requires { (reports : List (Activity S D S.PublicKey S.Signature S.Certificate)) × HoldsReports S.lists (S.attests scheme.now) D.cmp reports self.now }
         ensures { IfOk result (λ evidence. (reports : List (Activity S D S.PublicKey S.Signature S.Certificate)) → HoldsReports S.lists (S.attests scheme.now) D.cmp reports self.now → IsVerdict S.lists (S.attests scheme.now) D.cmp reports evidence.items) }
     {
-        let mut guilty = BTreeSet::new(alloc);
-        self.notarizes.gather(&mut guilty)?;
-        self.finalizes.gather(&mut guilty)?;
-        self.gather_beside(&mut guilty)?;
+        let guilty = self.guilty(alloc)?;
         let mut evidence = Vec::new(alloc);
         for suspect in &guilty {
             self.push_evidence(suspect, &mut evidence)?;
         }
         Ok(evidence)
+    }
+
+    /// Each suspect of which evidence is kept.
+    fn guilty(&self, alloc: Global) -> Result<BTreeSet<Suspect>, AllocError>
+        ensures { IfOk result (λ guilty. IsGathered self.now guilty) }
+    {
+        let mut guilty = BTreeSet::new(alloc);
+        self.notarizes.gather(&mut guilty)?;
+        self.finalizes.gather(&mut guilty)?;
+        self.gather_beside(&mut guilty)?;
+        Ok(guilty)
     }
 
     /// Adds each suspect of which both a nullify and a finalize are kept.
@@ -80,16 +89,53 @@ impl<S: Scheme<D>, D: Digest> Tally<S, D> {
         requires finalizes { AreApart self.now.finalizes.kept }
         ensures { OnOk result (evidence.new.items ≡ evidence.old.items ++ evidence_at self.now suspect.now) }
     {
-        if let Some(votes) = self.notarizes.conflict(suspect) {
-            evidence.push(Activity::ConflictingNotarize(votes))?;
+        self.push_notarizes(suspect, evidence)?;
+        self.push_finalizes(suspect, evidence)?;
+        self.push_beside(suspect, evidence)
+    }
+
+    /// Appends the suspect's two notarizes, if they are kept.
+    fn push_notarizes(
+        &self,
+        suspect: &Suspect,
+        evidence: &mut Vec<Activity<S, D>>,
+    ) -> Result<(), AllocError>
+        requires { AreApart self.now.notarizes.kept }
+        ensures { OnOk result (evidence.new.items ≡ evidence.old.items ++ reported conflicting_notarize_report (conflict_in suspect.now (get suspect_cmp self.now.notarizes.kept suspect.now))) }
+    {
+        match self.notarizes.conflict(suspect) {
+            None => Ok(()),
+            Some(votes) => push(evidence, Activity::ConflictingNotarize(votes)),
         }
-        if let Some(votes) = self.finalizes.conflict(suspect) {
-            evidence.push(Activity::ConflictingFinalize(votes))?;
+    }
+
+    /// Appends the suspect's two finalizes, if they are kept.
+    fn push_finalizes(
+        &self,
+        suspect: &Suspect,
+        evidence: &mut Vec<Activity<S, D>>,
+    ) -> Result<(), AllocError>
+        requires { AreApart self.now.finalizes.kept }
+        ensures { OnOk result (evidence.new.items ≡ evidence.old.items ++ reported conflicting_finalize_report (conflict_in suspect.now (get suspect_cmp self.now.finalizes.kept suspect.now))) }
+    {
+        match self.finalizes.conflict(suspect) {
+            None => Ok(()),
+            Some(votes) => push(evidence, Activity::ConflictingFinalize(votes)),
         }
-        if let Some(votes) = self.beside(suspect) {
-            evidence.push(Activity::NullifyFinalize(votes))?;
+    }
+
+    /// Appends the suspect's nullify beside its finalize, if both are kept.
+    fn push_beside(
+        &self,
+        suspect: &Suspect,
+        evidence: &mut Vec<Activity<S, D>>,
+    ) -> Result<(), AllocError>
+        ensures { OnOk result (evidence.new.items ≡ evidence.old.items ++ reported nullify_finalize_report (both_of (nullify_in suspect.now (get suspect_cmp self.now.nullifies.kept suspect.now)) (least_in suspect.now (get suspect_cmp self.now.finalizes.kept suspect.now)))) }
+    {
+        match self.beside(suspect) {
+            None => Ok(()),
+            Some(votes) => push(evidence, Activity::NullifyFinalize(votes)),
         }
-        Ok(())
     }
 
     /// The suspect's nullify, and beside it its finalize for the least proposal.
@@ -120,18 +166,29 @@ impl<S: Listing<D>, D: Digest> Tally<S, D> {
             Activity::Certification(made) => self.notarizes.count_listed(scheme, made),
             Activity::Nullification(made) => self.nullifies.count_listed(scheme, made),
             Activity::Finalization(made) => self.finalizes.count_listed(scheme, made),
-            Activity::ConflictingNotarize(evidence) => {
-                self.notarizes.count(scheme, evidence.first())?;
-                self.notarizes.count(scheme, evidence.second())
-            }
-            Activity::ConflictingFinalize(evidence) => {
-                self.finalizes.count(scheme, evidence.first())?;
-                self.finalizes.count(scheme, evidence.second())
-            }
-            Activity::NullifyFinalize(evidence) => {
-                self.nullifies.count(scheme, evidence.nullify())?;
-                self.finalizes.count(scheme, evidence.finalize())
-            }
+            Activity::ConflictingNotarize(both) => self.notarizes.count_both(scheme, both),
+            Activity::ConflictingFinalize(both) => self.finalizes.count_both(scheme, both),
+            Activity::NullifyFinalize(both) => self.count_beside(scheme, both),
         }
     }
+
+    /// Counts both votes of evidence of a nullify beside a finalize, those that verify.
+    fn count_beside(
+        &mut self,
+        scheme: &S,
+        both: &NullifyFinalize<S, D>,
+    ) -> Result<(), AllocError>
+        ensures { OnOk result ((reports : List (Activity S D S.PublicKey S.Signature S.Certificate)) → HoldsReports S.lists (S.attests scheme.now) D.cmp reports self.old → HoldsReports S.lists (S.attests scheme.now) D.cmp (reports ++ nullify_finalize_report both.now ∷ []) self.new) }
+    {
+        self.nullifies.count(scheme, both.nullify())?;
+        self.finalizes.count(scheme, both.finalize())
+    }
+}
+
+/// Appends the item.
+fn push<T: Drop>(items: &mut Vec<T>, item: T) -> Result<(), AllocError>
+    ensures { OnOk result (items.new.items ≡ items.old.items ++ item ∷ []) }
+{
+    items.push(item)?;
+    Ok(())
 }

@@ -52,6 +52,3 @@ impl Viewport {
         self.retains(view)
     }
 }
-
-#[cfg(test)]
-mod tests;

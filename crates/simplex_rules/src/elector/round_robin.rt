@@ -143,7 +143,7 @@ impl<S: Scheme<D>, D: Digest> Elector<S, D> for RoundRobinElector {
     ghost use Rattle.std.specs.Prelude.{◌<◌, refl};
     ghost use Rattle.simplex_rules.specs.declared.elector.Mode.TheVariants.{Scheduled};
     ghost use Rattle.simplex_rules.specs.Rotation.{IsOrder, view_leader};
-    ghost use Rattle.simplex_rules.specs.Turns.{leader_within, one_leader};
+    ghost use Rattle.simplex_rules.specs.Turns.{leader_within};
 
     ghost built_for = { λ e n. (0 < n) × IsOrder n e.order };
 
@@ -170,6 +170,4 @@ impl<S: Scheme<D>, D: Digest> Elector<S, D> for RoundRobinElector {
     ghost participants_lead = { λ e n r c built. leader_within n e built.0 built.1 r.epoch r.view };
 
     ghost schedule = { λ e r c d mode. refl };
-
-    ghost one_in_term = { λ e r s c epoch _ _ term. one_leader e r.epoch s.epoch r.view s.view epoch term };
 }

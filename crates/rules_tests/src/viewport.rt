@@ -1,6 +1,6 @@
 //! What is kept, by hand.
-use super::*;
-use simplex_types::TermLength;
+use simplex_rules::{Lookahead, Viewport};
+use simplex_types::{TermLength, View, ViewDelta};
 
 /// A member in view 12 that has finalized this view and keeps so many before it, with terms of five
 /// views, of which one is optimistic.

@@ -1,7 +1,9 @@
 //! Windows by hand, and at the end of the numbers.
 ghost use Rattle.std.specs.Prelude.{◌≡◌, ◌<◌};
 
-use super::*;
+use crate::holds::holds;
+use simplex_rules::{Lookahead, Terms};
+use simplex_types::{TermLength, View, ViewDelta};
 
 /// Terms of so many views, of which so many are optimistic.
 fn lookahead(length: u32, optimistic_views: u64) -> Lookahead
@@ -31,16 +33,10 @@ fn hears_and_speaks_as_far_as_worked_by_hand(rt: HostRuntime) {
         let current = View::new(current);
         for number in 0..41 {
             let view = View::new(number);
-            assert_eq!(rt;
-                lookahead.admits(current, view),
-                view <= current || heard.contains(&number),
-                "{number} heard at {current:?}, {optimistic_views} of {length}"
-            );
-            assert_eq!(rt;
-                lookahead.admits_outbound(current, view),
-                view <= current || spoken.contains(&number),
-                "{number} spoken of at {current:?}, {optimistic_views} of {length}"
-            );
+            let is_heard = view <= current || heard.contains(&number);
+            holds(&rt, lookahead.admits(current, view) == is_heard);
+            let is_spoken = view <= current || spoken.contains(&number);
+            holds(&rt, lookahead.admits_outbound(current, view) == is_spoken);
         }
     }
 }
@@ -56,15 +52,13 @@ fn admission_window_ends_with_the_term(rt: HostRuntime) {
     ] {
         let lookahead = lookahead(5, optimistic_views);
         for number in 0..20 {
-            assert_eq!(rt;
-                lookahead.in_admission_window(View::new(current), View::new(number)),
-                first <= number && number <= last,
-                "{number} at {current}, {optimistic_views} of 5"
-            );
+            let is_within = first <= number && number <= last;
+            let is_taken = lookahead.in_admission_window(View::new(current), View::new(number));
+            holds(&rt, is_taken == is_within);
         }
     }
-    assert!(rt; !lookahead(5, 2).in_admission_window(View::new(5), View::new(6)));
-    assert!(rt; !lookahead(5, 2).in_admission_window(View::zero(), View::new(1)));
+    holds(&rt, !lookahead(5, 2).in_admission_window(View::new(5), View::new(6)));
+    holds(&rt, !lookahead(5, 2).in_admission_window(View::zero(), View::new(1)));
 }
 
 #[test]
@@ -75,30 +69,28 @@ fn admission_limit_is_the_last_view_heard(rt: HostRuntime) {
         let current = View::new(current);
         assert!(rt; current.has_room(lookahead.length));
         let last = lookahead.admission_limit(current);
-        assert_eq!(rt; last, View::new(limit));
-        assert!(rt; lookahead.admits(current, last));
-        assert!(rt; !lookahead.admits(current, View::new(limit + 1)));
+        holds(&rt, last == View::new(limit));
+        holds(&rt, lookahead.admits(current, last));
+        holds(&rt, !lookahead.admits(current, View::new(limit + 1)));
     }
 }
 
 #[test]
 fn issuance_floor_stops_at_zero(rt: HostRuntime) {
     let five = lookahead(5, 1);
-    assert_eq!(rt; five.issuance_floor(View::new(2)), Some(View::zero()));
-    assert_eq!(rt; five.issuance_floor(View::new(3)), Some(View::new(1)));
-    assert_eq!(rt;
-        lookahead(5, u64::MAX).issuance_floor(View::new(3)),
-        Some(View::zero())
-    );
+    holds(&rt, five.issuance_floor(View::new(2)) == Some(View::zero()));
+    holds(&rt, five.issuance_floor(View::new(3)) == Some(View::new(1)));
+    let most = lookahead(5, u64::MAX);
+    holds(&rt, most.issuance_floor(View::new(3)) == Some(View::zero()));
 }
 
 #[test]
 fn a_term_start_has_no_issuance_floor(rt: HostRuntime) {
     let five = lookahead(5, 1);
-    assert_eq!(rt; five.issuance_floor(View::new(6)), None);
-    assert_eq!(rt; five.issuance_floor(View::zero()), None);
-    assert_eq!(rt; lookahead(1, 1).issuance_floor(View::new(3)), None);
-    assert_eq!(rt; lookahead(5, 0).issuance_floor(View::new(3)), None);
+    holds(&rt, five.issuance_floor(View::new(6)).is_none());
+    holds(&rt, five.issuance_floor(View::zero()).is_none());
+    holds(&rt, lookahead(1, 1).issuance_floor(View::new(3)).is_none());
+    holds(&rt, lookahead(5, 0).issuance_floor(View::new(3)).is_none());
 }
 
 #[test]
@@ -109,33 +101,29 @@ fn windows_reach_the_end_of_the_numbers(rt: HostRuntime) {
     for (length, optimistic_views) in [(u32::MAX, 0), (u32::MAX, u64::MAX), (5, 1)] {
         assert!(rt; length > 0);
         let lookahead = lookahead(length, optimistic_views);
-        assert!(rt; lookahead.in_admission_window(before, last), "{length}");
-        assert!(rt; !lookahead.in_admission_window(last, last), "{length}");
-        assert!(rt; lookahead.admits(before, last), "{length}");
-        assert!(rt; lookahead.admits(last, before), "{length}");
-        assert!(rt; lookahead.admits_outbound(last, before), "{length}");
-        assert_eq!(rt;
-            lookahead.admits_outbound(before, last),
-            optimistic_views > 0,
-            "{length}"
-        );
-        assert!(rt; !lookahead.admits(View::new(1), last), "{length}");
+        holds(&rt, lookahead.in_admission_window(before, last));
+        holds(&rt, !lookahead.in_admission_window(last, last));
+        holds(&rt, lookahead.admits(before, last));
+        holds(&rt, lookahead.admits(last, before));
+        holds(&rt, lookahead.admits_outbound(last, before));
+        holds(&rt, lookahead.admits_outbound(before, last) == (optimistic_views > 0));
+        holds(&rt, !lookahead.admits(View::new(1), last));
     }
     // It starts a term of two views, which ends past the numbers.
     let pairs = lookahead(2, 0);
-    assert!(rt; pairs.admits(before, last));
-    assert!(rt; pairs.admits_outbound(before, last));
-    assert!(rt; !pairs.in_admission_window(before, last));
-    assert!(rt; pairs.admits_outbound(last, last));
-    assert!(rt; !pairs.in_admission_window(last, View::zero()));
+    holds(&rt, pairs.admits(before, last));
+    holds(&rt, pairs.admits_outbound(before, last));
+    holds(&rt, !pairs.in_admission_window(before, last));
+    holds(&rt, pairs.admits_outbound(last, last));
+    holds(&rt, !pairs.in_admission_window(last, View::zero()));
 }
 
 #[test]
 fn the_greatest_optimism_ends_with_the_next_term(rt: HostRuntime) {
     let pairs = lookahead(2, u64::MAX);
     let current = View::new(1);
-    assert!(rt; pairs.admits_outbound(current, View::new(3)));
-    assert!(rt; !pairs.admits_outbound(current, View::new(4)));
-    assert!(rt; pairs.admits(current, View::new(6)));
-    assert!(rt; !pairs.admits(current, View::new(7)));
+    holds(&rt, pairs.admits_outbound(current, View::new(3)));
+    holds(&rt, !pairs.admits_outbound(current, View::new(4)));
+    holds(&rt, pairs.admits(current, View::new(6)));
+    holds(&rt, !pairs.admits(current, View::new(7)));
 }

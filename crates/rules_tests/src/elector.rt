@@ -1,42 +1,55 @@
 //! Leaders by hand, and an order that another program made.
-ghost use Rattle.std.specs.Prelude.{◌≡◌, ◌<◌, ◌%◌, None, Some, length, refl};
+ghost use Rattle.std.specs.Prelude.{◌≡◌, ◌<◌, ◌%◌, None, Some, length};
 ghost use Rattle.std.specs.Option.{option_map_or};
 ghost use Rattle.std.proofs.Common.{arith};
 ghost use Rattle.simplex_rules.specs.Terms.{rotating};
 ghost use Rattle.simplex_rules.specs.declared.elector.Mode.TheVariants.{Scheduled, Dynamic};
 
-use super::*;
+use crate::holds::holds;
+use simplex_rules::elector::{Config, Elector, Mode};
+use simplex_rules::{RoundRobin, Terms, a_seed_makes_one_order, each_participant_leads_once};
 use simplex_types::{
-    AttestationList, Epoch, PlainScheme, PlainSignature, Read, Sha256Digest, TermLength, View,
-    ViewDelta,
+    AttestationList, Digest, Duplicate, Epoch, Participant, PlainScheme, PlainSignature, Read,
+    Round, Scheme, Sha256Digest, TermLength, View, ViewDelta,
 };
+use std::alloc::{AllocError, Global};
 use std::process::Abort;
 use std::test::Fail;
 
-/// What is built leads the views of the epoch, from this one on, by these, and so does a duplicate.
-fn leads<'a, S: Scheme<D>, D: Digest, C: Config<S, D>>(
+/// The elector is a schedule, and these lead the views of the epoch from this one on.
+fn leads_by<'a, S: Scheme<D>, D: Digest, E: Elector<S, D>>(
     rt: &impl Abort,
-    alloc: Global,
-    config: &'a C,
-    participants: u32,
-    first: Round,
+    elector: &'a E,
+    first: &Round,
     leaders: &[u32],
-) -> Result<(), Fail>
-where
+) where
     S::Certificate: 'a,
-    requires { 0 < participants }
 {
     let none: Option<&'a S::Certificate> = None;
-    let elector = config.build(alloc, participants)?;
-    let copy = elector.duplicate(alloc)?;
     assert!(rt; matches!(elector.mode(), Mode::Scheduled));
-    assert_eq!(rt; copy.terms(), elector.terms());
     for (later, leader) in leaders.iter().enumerate() {
         let view = View::new(first.view.get().wrapping_add(later as u64));
-        let round = Round::new(first.epoch, view);
-        assert_eq!(rt; elector.elect(round, none).get(), *leader, "in {view:?}");
-        assert_eq!(rt; copy.elect(round, none).get(), *leader, "in {view:?}");
+        let elected = elector.elect(Round::new(first.epoch, view), none);
+        assert_eq!(rt; elected.get(), *leader, "in {view:?}");
     }
+}
+
+/// So it is of what is built, and of a duplicate, which has the same terms.
+fn leads<S: Scheme<D>, D: Digest, C: Config<S, D>>(
+    rt: &impl Abort,
+    alloc: Global,
+    config: &C,
+    participants: u32,
+    first: &Round,
+    leaders: &[u32],
+) -> Result<(), Fail>
+    requires { 0 < participants }
+{
+    let elector = config.build(alloc, participants)?;
+    leads_by::<S, D, C::Elector>(rt, &elector, first, leaders);
+    let copy = elector.duplicate(alloc)?;
+    holds(rt, copy.terms() == elector.terms());
+    leads_by::<S, D, C::Elector>(rt, &copy, first, leaders);
     Ok(())
 }
 
@@ -53,7 +66,7 @@ fn rotates(
     alloc: Global,
     rotation: &RoundRobin,
     participants: u32,
-    first: Round,
+    first: &Round,
     leaders: &[u32],
 ) -> Result<(), Fail>
     requires { 0 < participants }
@@ -77,7 +90,7 @@ fn terms_of_one_view_are_led_in_turn(rt: HostRuntime) -> Result<(), Fail> {
         rt.alloc(),
         &rotation,
         5,
-        round(0, 1),
+        &round(0, 1),
         &[1, 2, 3, 4, 0, 1],
     )
 }
@@ -90,7 +103,7 @@ fn the_views_of_a_term_have_one_leader(rt: HostRuntime) -> Result<(), Fail> {
         rt.alloc(),
         &rotation,
         4,
-        round(1, 1),
+        &round(1, 1),
         &[2, 2, 2, 3, 3, 3, 0],
     )
 }
@@ -98,7 +111,7 @@ fn the_views_of_a_term_have_one_leader(rt: HostRuntime) -> Result<(), Fail> {
 #[test]
 fn view_zero_is_before_the_first_term(rt: HostRuntime) -> Result<(), Fail> {
     let rotation = RoundRobin::default();
-    rotates(&rt, rt.alloc(), &rotation, 4, round(2, 0), &[2, 3, 0])
+    rotates(&rt, rt.alloc(), &rotation, 4, &round(2, 0), &[2, 3, 0])
 }
 
 #[test]
@@ -110,7 +123,7 @@ fn the_sum_of_epoch_and_term_wraps(rt: HostRuntime) -> Result<(), Fail> {
         rt.alloc(),
         &rotation,
         5,
-        round(u64::MAX, 0),
+        &round(u64::MAX, 0),
         &[0, 0, 1],
     )
 }
@@ -118,7 +131,7 @@ fn the_sum_of_epoch_and_term_wraps(rt: HostRuntime) -> Result<(), Fail> {
 #[test]
 fn one_participant_leads_alone(rt: HostRuntime) -> Result<(), Fail> {
     let rotation = RoundRobin::shuffled(rt.alloc(), b"simplex")?;
-    rotates(&rt, rt.alloc(), &rotation, 1, round(7, 1), &[0, 0, 0])
+    rotates(&rt, rt.alloc(), &rotation, 1, &round(7, 1), &[0, 0, 0])
 }
 
 // The order of the seed is 0, 3, 5, 2, 1, 6, 4 by hashlib.
@@ -132,30 +145,31 @@ fn a_seed_orders_the_participants(rt: HostRuntime) -> Result<(), Fail> {
         alloc,
         &rotation,
         7,
-        round(0, 1),
+        &round(0, 1),
         &[3, 5, 2, 1, 6, 4, 0],
     )?;
     let copy = rotation.duplicate(alloc)?;
     let slow = copy.with_term(TermLength::new(2), 500, ViewDelta::zero());
-    rotates(&rt, alloc, &slow, 7, round(3, 1), &[1, 1, 6, 6, 4, 4, 0])
+    rotates(&rt, alloc, &slow, 7, &round(3, 1), &[1, 1, 6, 6, 4, 4, 0])
 }
 
-/// The terms of what is built for four.
-fn terms_of(alloc: Global, rotation: &RoundRobin) -> Result<Terms, AllocError> {
+/// What is built for four sets these terms.
+fn sets(rt: &impl Abort, alloc: Global, rotation: &RoundRobin, terms: Terms) -> Result<(), Fail> {
     let elector = Config::<PlainScheme, Sha256Digest>::build(rotation, alloc, 4)?;
-    Ok(Elector::<PlainScheme, Sha256Digest>::terms(&elector))
+    let set = Elector::<PlainScheme, Sha256Digest>::terms(&elector);
+    holds(rt, set == terms);
+    Ok(())
 }
 
 #[test]
 fn terms_are_of_one_view_unless_set(rt: HostRuntime) -> Result<(), Fail> {
     let alloc = rt.alloc();
-    assert_eq!(rt; terms_of(alloc, &RoundRobin::default())?, Terms::rotating());
-    let shuffled = RoundRobin::shuffled(alloc, b"simplex")?;
-    assert_eq!(rt; terms_of(alloc, &shuffled)?, Terms::rotating());
+    sets(&rt, alloc, &RoundRobin::default(), Terms::rotating())?;
+    let rotation = RoundRobin::shuffled(alloc, b"simplex")?;
+    sets(&rt, alloc, &rotation, Terms::rotating())?;
     let (length, views) = (TermLength::new(3), ViewDelta::new(2));
-    let set = shuffled.with_term(length, 500, views);
-    assert_eq!(rt; terms_of(alloc, &set)?, Terms::stable(length, 500, views));
-    Ok(())
+    let terms = Terms::stable(length, 500, views);
+    sets(&rt, alloc, &rotation.with_term(length, 500, views), terms)
 }
 
 /// Leads by how many attestations the certificate lists: an elector that is no schedule.
@@ -207,23 +221,26 @@ impl<D: Digest> Elector<PlainScheme, D> for ByCount {
     ghost participants_lead = { λ e n r. elim [ None ↦ λ built. built.0 | Some c ↦ λ built. Prim.omega (arith, built.0, built.1) ] };
 
     ghost schedule = { λ e r c d mode. absurd (let other : Dynamic ≡ Scheduled = mode in Prim.cc) };
+}
 
-    ghost one_in_term = { λ e r s c epoch _ _ term. refl };
+/// The leader of view 2 where it was entered by this certificate, and of view 1 where there is none.
+fn elected(certificate: Option<&AttestationList<PlainSignature>>) -> Participant {
+    let elector = ByCount { participants: 4 };
+    match certificate {
+        None => Elector::<PlainScheme, Sha256Digest>::elect(&elector, round(0, 1), None),
+        Some(made) => Elector::<PlainScheme, Sha256Digest>::elect(&elector, round(0, 2), Some(made)),
+    }
 }
 
 #[test]
 fn a_certificate_decides_where_there_is_no_schedule(rt: HostRuntime) -> Result<(), Fail> {
     // One signature, of member 2.
-    let mut spelling: &[u8] = &[
-        1, 2, 0, 0, 0, 0, 0, 0, 0, 0, 0, 0, 0, 0, 0, 0, 0, 0, 0, 0, 0, 0, 0, 0, 0, 0, 0, 0, 0, 0,
-        0, 0, 0, 0,
-    ];
-    let certificate = AttestationList::<PlainSignature>::read_cfg(rt.alloc(), &mut spelling, 4)?;
-    let elector = ByCount { participants: 4 };
-    let leader = Elector::<PlainScheme, Sha256Digest>::elect(&elector, round(0, 1), None);
-    assert_eq!(rt; leader.get(), 0);
-    let next = round(0, 2);
-    let leader = Elector::<PlainScheme, Sha256Digest>::elect(&elector, next, Some(&certificate));
-    assert_eq!(rt; leader.get(), 1);
+    let mut spelling = [0; 34];
+    spelling[0] = 1;
+    spelling[1] = 2;
+    let mut rest = spelling.as_slice();
+    let certificate = AttestationList::<PlainSignature>::read_cfg(rt.alloc(), &mut rest, 4)?;
+    holds(&rt, elected(None).get() == 0);
+    holds(&rt, elected(Some(&certificate)).get() == 1);
     Ok(())
 }

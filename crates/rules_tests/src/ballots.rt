@@ -1,0 +1,100 @@
+//! Votes of one member as they stand in a stream, and what an audit finds in a stream.
+
+use simplex_rules::{Audit, SaltedScheme, SaltedSignature, audit};
+use simplex_types::{
+    Attestation, Epoch, Listing, Participant, Proposal, Round, Sha256Digest, Subject, View, Write,
+};
+use std::alloc::{AllocError, Global};
+use std::process::Abort;
+use std::test::Fail;
+
+/// Member 1's vote in view 2, by the byte that its payload repeats, if it has one, and its signature's
+/// counter. The signature with the counter 0 is on something else.
+#[derive(Clone, Copy)]
+pub(crate) enum Vote {
+    Notarize(u8, u64),
+    Nullify(u64),
+    Finalize(u8, u64),
+}
+
+/// View 2.
+pub(crate) fn round() -> Round {
+    Round::new(Epoch::new(0), View::new(2))
+}
+
+/// The proposal of 32 such bytes in view 2.
+pub(crate) fn proposal(payload: u8) -> Proposal<Sha256Digest> {
+    Proposal::new(round(), View::new(1), Sha256Digest::new([payload; 32]))
+}
+
+/// The committee of four, seen by member 1.
+pub(crate) fn salted(alloc: Global) -> Result<SaltedScheme, AllocError> {
+    SaltedScheme::new(alloc, b"simplex", 4, Some(Participant::new(1)), 0)
+}
+
+/// The scheme's member's attestation that stands in the vote.
+fn attestation(scheme: &SaltedScheme, vote: Vote) -> Option<Attestation<SaltedSignature>> {
+    let elsewhere = Subject::<Sha256Digest>::Nullify(Round::new(Epoch::new(0), View::new(9)));
+    match vote {
+        Vote::Notarize(_, 0) | Vote::Nullify(0) | Vote::Finalize(_, 0) => {
+            scheme.sign_with(0, &elsewhere)
+        }
+        Vote::Notarize(payload, counter) => {
+            scheme.sign_with(counter, &Subject::Notarize(&proposal(payload)))
+        }
+        Vote::Nullify(counter) => {
+            scheme.sign_with(counter, &Subject::<Sha256Digest>::Nullify(round()))
+        }
+        Vote::Finalize(payload, counter) => {
+            scheme.sign_with(counter, &Subject::Finalize(&proposal(payload)))
+        }
+    }
+}
+
+/// Appends what the vote is on: epoch 0, view 2, and for a proposal its parent 1 and its payload.
+fn append_content(out: &mut Vec<u8>, vote: Vote) -> Result<(), AllocError> {
+    match vote {
+        Vote::Notarize(payload, _) | Vote::Finalize(payload, _) => {
+            out.extend_from_slice(&[0, 2, 1])?;
+            out.extend_from_slice(&[payload; 32])
+        }
+        Vote::Nullify(_) => out.extend_from_slice(&[0, 2]),
+    }
+}
+
+/// Appends the votes, one behind the other.
+fn append_votes(out: &mut Vec<u8>, scheme: &SaltedScheme, votes: &[Vote]) -> Result<(), Fail> {
+    for vote in votes {
+        append_content(out, *vote)?;
+        let signed = attestation(scheme, *vote).ok_or("no key")?;
+        signed.write(out)?;
+    }
+    Ok(())
+}
+
+/// Reports of these tags and votes, one behind the other.
+pub(crate) fn stream(alloc: Global, reports: &[(u8, &[Vote])]) -> Result<Vec<u8>, Fail> {
+    let scheme = salted(alloc)?;
+    let mut out = Vec::new(alloc);
+    for (tag, votes) in reports {
+        out.push(*tag)?;
+        append_votes(&mut out, &scheme, votes)?;
+    }
+    Ok(out)
+}
+
+/// The spelled evidence of an audit of whole reports.
+pub(crate) fn evidence<S: Listing<Sha256Digest>>(
+    rt: &impl Abort,
+    alloc: Global,
+    scheme: &S,
+    bytes: &[u8],
+) -> Result<Vec<u8>, Fail> {
+    let found: Audit<S, Sha256Digest> = audit(alloc, scheme, bytes)?;
+    assert_eq!(rt; found.fault, None);
+    let mut spelled = Vec::new(alloc);
+    for piece in &found.evidence {
+        piece.write(&mut spelled)?;
+    }
+    Ok(spelled)
+}

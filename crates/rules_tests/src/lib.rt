@@ -1,0 +1,21 @@
+//! Tests of the rules, by their public calls alone.
+#![tactic(auto)]
+
+#[cfg(test)]
+mod audit;
+#[cfg(test)]
+mod ballots;
+#[cfg(test)]
+mod elector;
+#[cfg(test)]
+mod holds;
+#[cfg(test)]
+mod hostile;
+#[cfg(test)]
+mod kind;
+#[cfg(test)]
+mod lookahead;
+#[cfg(test)]
+mod salted;
+#[cfg(test)]
+mod viewport;
