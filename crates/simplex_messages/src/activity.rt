@@ -11,8 +11,8 @@ use crate::nullify_finalize::NullifyFinalize;
 use crate::proposal_certificate::{Finalization, Notarization};
 use crate::proposal_vote::{Finalize, Notarize};
 use simplex_types::{
-    CodecError, Digest, Duplicate, EncodeSize, Epoch, Epochable, Read, Scheme, View, Viewable,
-    Write,
+    CodecError, Digest, Duplicate, EncodeSize, Epoch, Epochable, Read, Round, Scheme, View,
+    Viewable, Write,
 };
 use std::alloc::{AllocError, Global};
 
@@ -44,7 +44,7 @@ pub enum Activity<S: Scheme<D>, D: Digest> {
 
 impl<S: Scheme<D>, D: Digest> Activity<S, D> {
     ghost use Rattle.std.specs.Prelude.{◌≡◌, ◌↔◌, ◌++◌, IsTrue, OnOk, OnErr, take, vec_len};
-    ghost use Rattle.simplex_messages.specs.Activity.{activity_body, activity_fits, activity_tag, HoldsCertificate, IsRight};
+    ghost use Rattle.simplex_messages.specs.Activity.{activity_body, activity_fits, activity_round, activity_tag, HoldsCertificate, IsRight};
 
     /// Whether what the report holds is right: the attestation of a vote, both attestations of
     /// evidence, or the certificate.
@@ -76,6 +76,24 @@ impl<S: Scheme<D>, D: Digest> Activity<S, D> {
             Activity::Nullification(_) => true,
             Activity::Finalization(_) => true,
             _ => false,
+        }
+    }
+
+    /// The round that what is reported is of.
+    fn round(&self) -> Round
+        ensures { result ≡ activity_round self.now }
+    {
+        match self {
+            Activity::Notarize(vote) => vote.round(),
+            Activity::Notarization(certificate) => certificate.round(),
+            Activity::Certification(certificate) => certificate.round(),
+            Activity::Nullify(vote) => vote.round(),
+            Activity::Nullification(certificate) => certificate.round(),
+            Activity::Finalize(vote) => vote.round(),
+            Activity::Finalization(certificate) => certificate.round(),
+            Activity::ConflictingNotarize(evidence) => evidence.round(),
+            Activity::ConflictingFinalize(evidence) => evidence.round(),
+            Activity::NullifyFinalize(evidence) => evidence.round(),
         }
     }
 
@@ -126,18 +144,7 @@ impl<S: Scheme<D>, D: Digest> Epochable for Activity<S, D> {
     ghost epoch_of = { λ a. (activity_round a).epoch };
 
     fn epoch(&self) -> Epoch {
-        match self {
-            Activity::Notarize(vote) => vote.epoch(),
-            Activity::Notarization(certificate) => certificate.epoch(),
-            Activity::Certification(certificate) => certificate.epoch(),
-            Activity::Nullify(vote) => vote.epoch(),
-            Activity::Nullification(certificate) => certificate.epoch(),
-            Activity::Finalize(vote) => vote.epoch(),
-            Activity::Finalization(certificate) => certificate.epoch(),
-            Activity::ConflictingNotarize(evidence) => evidence.epoch(),
-            Activity::ConflictingFinalize(evidence) => evidence.epoch(),
-            Activity::NullifyFinalize(evidence) => evidence.epoch(),
-        }
+        self.round().epoch
     }
 }
 
@@ -147,18 +154,7 @@ impl<S: Scheme<D>, D: Digest> Viewable for Activity<S, D> {
     ghost view_of = { λ a. (activity_round a).view };
 
     fn view(&self) -> View {
-        match self {
-            Activity::Notarize(vote) => vote.view(),
-            Activity::Notarization(certificate) => certificate.view(),
-            Activity::Certification(certificate) => certificate.view(),
-            Activity::Nullify(vote) => vote.view(),
-            Activity::Nullification(certificate) => certificate.view(),
-            Activity::Finalize(vote) => vote.view(),
-            Activity::Finalization(certificate) => certificate.view(),
-            Activity::ConflictingNotarize(evidence) => evidence.view(),
-            Activity::ConflictingFinalize(evidence) => evidence.view(),
-            Activity::NullifyFinalize(evidence) => evidence.view(),
-        }
+        self.round().view
     }
 }
 
