@@ -1,6 +1,6 @@
 //! What a member reports.
 
-ghost use Rattle.std.specs.Prelude.{◌≡◌};
+ghost use Rattle.std.specs.Prelude.{◌≡◌, ◌≤◌};
 ghost use Rattle.simplex_types.specs.Codec.{Gives};
 ghost use Rattle.simplex_messages.specs.Activity.{activity_behind};
 
@@ -230,13 +230,15 @@ impl<S: Scheme<D>, D: Digest> EncodeSize for Activity<S, D> {
 
 impl<S: Scheme<D>, D: Digest> Read for Activity<S, D> {
     ghost use Rattle.simplex_types.specs.Codec.{bounded-IsCodec};
-    ghost use Rattle.simplex_messages.specs.Activity.{activity_at, activity_within, activity-IsCodec};
+    ghost use Rattle.simplex_messages.specs.Activity.{activity_at, activity_within, activity_within-weaker, activity-IsCodec};
 
     ghost within = { λ n. activity_within (S.Certificate.within n) };
 
     ghost reading = { λ n. activity_at D.PartialEq.eq (D.reading n) (S.Signature.reading n) (S.Certificate.reading n) };
 
     ghost one_spelling = { λ n small. activity-IsCodec D.PartialEq.eq (bounded-IsCodec (D.one_spelling n small) (D.unbounded n)) (bounded-IsCodec (S.Signature.one_spelling n small) (S.Signature.unbounded n)) (S.Certificate.one_spelling n small) };
+
+    ghost grows = { λ n m x up h. activity_within-weaker (λ c. S.Certificate.grows n m c up) x h };
 
     #[tactic(auto, unfolding(crate::specs::Activity::activity_at))]
     fn read_cfg(alloc: Global, input: &mut &[u8], bound: u32) -> Result<Self, CodecError> {
@@ -267,6 +269,22 @@ fn read_behind<S: Scheme<D>, D: Digest>(
         2 => Ok(Activity::Certification(Notarization::read_cfg(alloc, input, bound)?)),
         3 => Ok(Activity::Nullify(Nullify::read_cfg(alloc, input, bound)?)),
         4 => Ok(Activity::Nullification(Nullification::read_cfg(alloc, input, bound)?)),
+        _ => read_further(tag, alloc, input, bound),
+    }
+}
+
+/// Reads what stands behind a tag from 5 on.
+#[tactic(auto, unfolding(crate::specs::Activity::activity_behind))]
+fn read_further<S: Scheme<D>, D: Digest>(
+    tag: u8,
+    alloc: Global,
+    input: &mut &[u8],
+    bound: u32,
+) -> Result<Activity<S, D>, CodecError>
+    requires { 5 ≤ tag }
+    ensures { Gives (activity_behind D.PartialEq.eq (D.reading bound) (S.Signature.reading bound) (S.Certificate.reading bound) tag) input.old.now input.new.now result }
+{
+    match tag {
         5 => Ok(Activity::Finalize(Finalize::read_cfg(alloc, input, bound)?)),
         6 => Ok(Activity::Finalization(Finalization::read_cfg(alloc, input, bound)?)),
         7 => Ok(Activity::ConflictingNotarize(ConflictingNotarize::read_cfg(alloc, input, bound)?)),

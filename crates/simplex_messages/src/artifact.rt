@@ -234,13 +234,15 @@ impl<S: Scheme<D>, D: Digest> EncodeSize for Artifact<S, D> {
 
 impl<S: Scheme<D>, D: Digest> Read for Artifact<S, D> {
     ghost use Rattle.simplex_types.specs.Codec.{bounded-IsCodec};
-    ghost use Rattle.simplex_messages.specs.Artifact.{artifact_at, artifact_within, artifact-IsCodec};
+    ghost use Rattle.simplex_messages.specs.Artifact.{artifact_at, artifact_within, artifact_within-weaker, artifact-IsCodec};
 
     ghost within = { λ n. artifact_within (S.Certificate.within n) };
 
     ghost reading = { λ n. artifact_at (D.reading n) (S.Signature.reading n) (S.Certificate.reading n) };
 
     ghost one_spelling = { λ n small. artifact-IsCodec (bounded-IsCodec (D.one_spelling n small) (D.unbounded n)) (bounded-IsCodec (S.Signature.one_spelling n small) (S.Signature.unbounded n)) (S.Certificate.one_spelling n small) };
+
+    ghost grows = { λ n m x up h. artifact_within-weaker (λ c. S.Certificate.grows n m c up) x h };
 
     #[tactic(auto, unfolding(crate::specs::Artifact::artifact_at))]
     fn read_cfg(alloc: Global, input: &mut &[u8], bound: u32) -> Result<Self, CodecError> {

@@ -161,13 +161,15 @@ impl<S: Scheme<D>, D: Digest> EncodeSize for Certificate<S, D> {
 
 impl<S: Scheme<D>, D: Digest> Read for Certificate<S, D> {
     ghost use Rattle.simplex_types.specs.Codec.{bounded-IsCodec};
-    ghost use Rattle.simplex_messages.specs.Certificate.{any_certificate_at, any_certificate_within, any_certificate-IsCodec};
+    ghost use Rattle.simplex_messages.specs.Certificate.{any_certificate_at, any_certificate_within, any_certificate_within-weaker, any_certificate-IsCodec};
 
     ghost within = { λ n. any_certificate_within (S.Certificate.within n) };
 
     ghost reading = { λ n. any_certificate_at (D.reading n) (S.Certificate.reading n) };
 
     ghost one_spelling = { λ n small. any_certificate-IsCodec (bounded-IsCodec (D.one_spelling n small) (D.unbounded n)) (S.Certificate.one_spelling n small) };
+
+    ghost grows = { λ n m x up h. any_certificate_within-weaker (λ c. S.Certificate.grows n m c up) x h };
 
     #[tactic(auto, unfolding(crate::specs::Certificate::any_certificate_at))]
     fn read_cfg(alloc: Global, input: &mut &[u8], bound: u32) -> Result<Self, CodecError> {

@@ -163,6 +163,8 @@ impl<S: Scheme<D>, D: Digest> Read for Vote<S, D> {
 
     ghost one_spelling = { λ n small. unbounded-IsCodec (any_vote-IsCodec (bounded-IsCodec (D.one_spelling n small) (D.unbounded n)) (bounded-IsCodec (S.Signature.one_spelling n small) (S.Signature.unbounded n))) };
 
+    ghost grows = { λ n m x up h. h };
+
     #[tactic(auto, unfolding(crate::specs::Vote::any_vote_at))]
     fn read_cfg(alloc: Global, input: &mut &[u8], bound: u32) -> Result<Self, CodecError> {
         let all: &[u8] = *input;
