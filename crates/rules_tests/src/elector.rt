@@ -22,7 +22,8 @@ fn leads_by<'a, S: Scheme<D>, D: Digest, E: Elector<S, D>>(
     elector: &'a E,
     first: &Round,
     leaders: &[u32],
-) where
+)
+where
     S::Certificate: 'a,
 {
     let none: Option<&'a S::Certificate> = None;
@@ -228,7 +229,11 @@ fn elected(certificate: Option<&AttestationList<PlainSignature>>) -> Participant
     let elector = ByCount { participants: 4 };
     match certificate {
         None => Elector::<PlainScheme, Sha256Digest>::elect(&elector, round(0, 1), None),
-        Some(made) => Elector::<PlainScheme, Sha256Digest>::elect(&elector, round(0, 2), Some(made)),
+        Some(made) => Elector::<PlainScheme, Sha256Digest>::elect(
+            &elector,
+            round(0, 2),
+            Some(made),
+        ),
     }
 }
 

@@ -92,7 +92,8 @@ fn members_past_the_committee_are_not_named(rt: HostRuntime) -> Result<(), Fail>
     let alloc = rt.alloc();
     let eight = committee(alloc, 8, 7)?;
     let bytes = votes(alloc, &eight, &[10, 11])?;
-    holds(&rt, evidence(&rt, alloc, &eight, &bytes)? == conflict(alloc, &eight)?);
+    let found = evidence(&rt, alloc, &eight, &bytes)?;
+    holds(&rt, found == conflict(alloc, &eight)?);
     let seven = committee(alloc, 7, 1)?;
     holds(&rt, evidence(&rt, alloc, &seven, &bytes)?.is_empty());
     Ok(())

@@ -57,8 +57,9 @@ fn admission_window_ends_with_the_term(rt: HostRuntime) {
             holds(&rt, is_taken == is_within);
         }
     }
-    holds(&rt, !lookahead(5, 2).in_admission_window(View::new(5), View::new(6)));
-    holds(&rt, !lookahead(5, 2).in_admission_window(View::zero(), View::new(1)));
+    let five = lookahead(5, 2);
+    holds(&rt, !five.in_admission_window(View::new(5), View::new(6)));
+    holds(&rt, !five.in_admission_window(View::zero(), View::new(1)));
 }
 
 #[test]
@@ -106,7 +107,8 @@ fn windows_reach_the_end_of_the_numbers(rt: HostRuntime) {
         holds(&rt, lookahead.admits(before, last));
         holds(&rt, lookahead.admits(last, before));
         holds(&rt, lookahead.admits_outbound(last, before));
-        holds(&rt, lookahead.admits_outbound(before, last) == (optimistic_views > 0));
+        let is_spoken = optimistic_views > 0;
+        holds(&rt, lookahead.admits_outbound(before, last) == is_spoken);
         holds(&rt, !lookahead.admits(View::new(1), last));
     }
     // It starts a term of two views, which ends past the numbers.

@@ -106,7 +106,14 @@ fn signature_is_the_counter_and_a_hash(rt: HostRuntime) -> Result<(), Fail> {
     // Each number of the proposal takes several bytes.
     let round = Round::new(Epoch::new(300), View::new(70_000));
     let large = Proposal::new(round, View::new(129), Sha256Digest::new([170; 32]));
-    signs(&rt, alloc, 2, u64::MAX, &Subject::Notarize(&large), NOTARIZED)?;
+    signs(
+        &rt,
+        alloc,
+        2,
+        u64::MAX,
+        &Subject::Notarize(&large),
+        NOTARIZED,
+    )?;
     signs(&rt, alloc, 2, 0, &Subject::Finalize(&large), FINALIZED)
 }
 
@@ -180,7 +187,11 @@ fn a_turned_signature_is_refused(rt: HostRuntime) -> Result<(), Fail> {
     let bytes = spelled(rt.alloc(), &attestation.signature)?;
     // No byte, two of the salt, and two of the hash.
     for (place, taken) in [(40, true), (0, false), (7, false), (8, false), (39, false)] {
-        assert_eq!(rt; takes_turned(&scheme, &bytes, place)?, taken, "byte {place}");
+        assert_eq!(rt;
+            takes_turned(&scheme, &bytes, place)?,
+            taken,
+            "byte {place}"
+        );
     }
     Ok(())
 }
@@ -190,8 +201,12 @@ fn attestation_is_refused_for_anything_else(rt: HostRuntime) -> Result<(), Fail>
     let scheme = member(rt.alloc(), 1, 5)?;
     let attestation = next(&scheme).ok_or("member 1 has a key")?;
     let signer = Participant::new(0);
+    let renamed = Attestation {
+        signer,
+        ..attestation
+    };
     holds(&rt, takes(&scheme, 3, &attestation));
-    holds(&rt, !takes(&scheme, 3, &Attestation { signer, ..attestation }));
+    holds(&rt, !takes(&scheme, 3, &renamed));
     holds(&rt, !takes(&scheme, 4, &attestation));
     Ok(())
 }
@@ -202,9 +217,10 @@ fn only_members_attest(rt: HostRuntime) -> Result<(), Fail> {
     let four = member(rt.alloc(), 0, 0)?;
     let stranger = next(&five).ok_or("member 4 has a key")?;
     let signer = Participant::new(u32::MAX);
+    let far = Attestation { signer, ..stranger };
     holds(&rt, takes(&five, 3, &stranger));
     holds(&rt, !takes(&four, 3, &stranger));
-    holds(&rt, !takes(&four, 3, &Attestation { signer, ..stranger }));
+    holds(&rt, !takes(&four, 3, &far));
     Ok(())
 }
 
@@ -223,7 +239,8 @@ fn each_member_has_its_key(rt: HostRuntime) -> Result<(), Fail> {
     let last = Participant::new(3);
     let key = Scheme::<Sha256Digest>::key(&four, last).ok_or("member 3 has a key")?;
     holds(&rt, key.index() == last);
-    holds(&rt, Scheme::<Sha256Digest>::key(&four, Participant::new(4)).is_none());
+    let past = Participant::new(4);
+    holds(&rt, Scheme::<Sha256Digest>::key(&four, past).is_none());
     Ok(())
 }
 
@@ -317,7 +334,10 @@ fn a_signature_has_forty_bytes(rt: HostRuntime) -> Result<(), Fail> {
     let mut rest = NULLIFIED.as_slice();
     let signature = SaltedSignature::read_cfg(rt.alloc(), &mut rest, 4)?;
     holds(&rt, rest.is_empty());
-    holds(&rt, spelled(rt.alloc(), &signature)?.as_slice() == NULLIFIED.as_slice());
+    holds(
+        &rt,
+        spelled(rt.alloc(), &signature)?.as_slice() == NULLIFIED.as_slice(),
+    );
     holds(&rt, signature.encode_size() == 40);
     holds(&rt, SaltedSignature::max_encode_size() == 40);
     holds(&rt, signature.duplicate(rt.alloc())? == signature);

@@ -173,11 +173,7 @@ impl<S: Listing<D>, D: Digest> Tally<S, D> {
     }
 
     /// Counts both votes of evidence of a nullify beside a finalize, those that verify.
-    fn count_beside(
-        &mut self,
-        scheme: &S,
-        both: &NullifyFinalize<S, D>,
-    ) -> Result<(), AllocError>
+    fn count_beside(&mut self, scheme: &S, both: &NullifyFinalize<S, D>) -> Result<(), AllocError>
         ensures { OnOk result ((reports : List (Activity S D S.PublicKey S.Signature S.Certificate)) → HoldsReports S.lists (S.attests scheme.now) D.cmp reports self.old → HoldsReports S.lists (S.attests scheme.now) D.cmp (reports ++ nullify_finalize_report both.now ∷ []) self.new) }
     {
         self.nullifies.count(scheme, both.nullify())?;
