@@ -31,18 +31,6 @@ two_quorums_meet n xs ys faulty some p q few =
     let both = (common-members xs ys found.0).0 found.1 in
     (found.0, All-contains (λ (x : ℕ). x < n) xs found.0 p.below both.0, both.0, both.1, found.2)
 
--- in a committee of two or more a quorum has a member that isn't faulty and isn't l
-pub beyond_one_more : (n : ℕ) (xs faulty : List ℕ) (l : ℕ) → 2 ≤ n → AreQuorum n xs → length faulty ≤ faults n
-    → (x : ℕ) × (x < n) × Contains xs x × (x ≢ l) × (Contains faulty x → ⊥)
-beyond_one_more n xs faulty l two p few =
-    let found = escapes xs (l ∷ faulty) p.once (omega (arith, few, p.enough)) in (
-      found.0,
-      All-contains (λ (x : ℕ). x < n) xs found.0 p.below found.1,
-      found.1,
-      λ same. found.2 (subst (Contains (l ∷ faulty)) (sym same) (Contains-head l faulty)),
-      λ liar. found.2 (Contains-rest l faulty found.0 liar),
-    )
-
 -- ---- attestations
 
 -- what holds of what f gives of each two elements holds of each two of the list that it gives
