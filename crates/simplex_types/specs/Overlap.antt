@@ -1,11 +1,11 @@
 -- What quorums of one committee have in common.
 use Rattle.std.specs.Prelude.{◌≡◌, ◌≢◌, ℕ, ◌+◌, ◌*◌, ◌≤◌, ◌<◌, List, [], ◌∷◌, length, map, All, AllPairs, refl}
 use Rattle.std.specs.List.{Contains}
-use Rattle.std.proofs.Common.{sym, subst, get_or, arith}
+use Rattle.std.proofs.Common.{get_or, arith}
 use Rattle.std.proofs.lemmas.List.{length-map, get_or-map}
 use Rattle.std.proofs.lemmas.List.Elements.{All-contains, All-map, Contains-get_or}
 use Rattle.simplex_types.specs.declared.attestation.Attestation.{Attestation}
-use Rattle.simplex_types.specs.Counting.{NoneTwice, AllBelow, common, common-members, common-NoneTwice, common-AllBelow, common-length, escapes, Contains-head, Contains-rest}
+use Rattle.simplex_types.specs.Counting.{NoneTwice, AllBelow, common, common-members, common-NoneTwice, common-AllBelow, common-length, escapes}
 use Rattle.simplex_types.specs.Quorum.{faults, quorum, IsQuorum}
 
 -- numbers of a quorum of a committee of n: none twice, each below n, and enough of them
