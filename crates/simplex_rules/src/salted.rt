@@ -1,19 +1,21 @@
 //! A scheme whose signatures of one subject differ, for tests.
 
-ghost use Rattle.std.specs.Prelude.{◌≡◌, ◌↔◌, ◌<◌, ◌≤◌, ◌^◌, ◌++◌, ℕ, List, Option, Some, None, length, All, IsTrue, IfOk, IfSome, IfNone, IsNone, ⊤, Ok, Err};
+ghost use Rattle.std.specs.Prelude.{◌≡◌, ◌↔◌, ◌<◌, ◌≤◌, ◌^◌, ◌++◌, ℕ, List, Option, Some, None, length, Contains, IfOk, IfSome, IfNone, IsNone, IsSome, true, ⊤, Ok, Err};
 ghost use Rattle.std.specs.Option.{ForSome};
 ghost use Rattle.std.proofs.Common.{rules, arith};
 ghost use Rattle.simplex_types.specs.Codec.{bytes_at, bytes-IsCodec, unbounded-IsCodec};
+ghost use Rattle.simplex_types.specs.AttestationList.{list_within};
 ghost use Rattle.simplex_types.specs.Quorum.{IsQuorum};
 ghost use Rattle.simplex_types.specs.Subject.{Statement, statement};
+ghost use Rattle.simplex_types.specs.declared.attestation.Attestation.{Attestation};
 ghost use Rattle.simplex_types.specs.declared.codec.CodecError.TheVariants.{End};
-ghost use Rattle.simplex_rules.specs.Salted.{salted_hash, salted_signature, IsSalted};
+ghost use Rattle.simplex_rules.specs.Salted.{salted_hash, salted_signature, IsSalted, Attests};
 
 use sha2::{Digest as _, Sha256};
 use simplex_types::{
-    AssemblyError, Attestation, AttestationList, CodecError, Digest, Duplicate, EncodeSize,
-    Listing, MaxEncodeSize, Namespace, Participant, PlainKey, PlainScheme, Read, Scheme, Signature,
-    Subject, Write, hash_signed, quorum,
+    AssemblyError, Attestation, AttestationList, Attesting, CodecError, Digest, Duplicate,
+    EncodeSize, Listing, MaxEncodeSize, Namespace, Participant, PlainKey, PlainScheme, Read,
+    Scheme, Signature, Subject, Write, failing_signers, hash_signed, list_of_quorum, lists_quorum,
 };
 use std::alloc::{AllocError, Global};
 use std::cell::Cell;
@@ -79,6 +81,8 @@ impl Read for SaltedSignature {
     ghost reading = { λ _. bytes_at 40 };
 
     ghost one_spelling = { λ _ _. unbounded-IsCodec (bytes-IsCodec 40) };
+
+    ghost grows = { λ n m x up h. h };
 
     fn read_cfg(_alloc: Global, input: &mut &[u8], _bound: u32) -> Result<Self, CodecError> {
         taken(input).ok_or(CodecError::End)
@@ -204,22 +208,31 @@ impl SaltedScheme {
         hash_signed(&mut hasher, self.namespace.base(), index, subject);
         hasher.finalize()
     }
+}
 
-    /// Whether each of the attestations attests the subject.
-    fn all_attest<D: Digest>(
+impl<D: Digest> Attesting<D> for SaltedScheme {
+    type Mark = SaltedSignature;
+
+    ghost members = { λ s. s.participants };
+
+    ghost marks = { λ s i x a. Attests D.spelling s.base s.participants i x a };
+
+    fn members(&self) -> u32 {
+        Attesting::<D>::members(&self.plain)
+    }
+
+    fn attests(
         &self,
         subject: &Subject<'_, D>,
-        listed: &[Attestation<SaltedSignature>],
-    ) -> bool
-        ensures { IsTrue result ↔ All (λ a. (a.signer < self.now.participants) × IsSalted D.spelling self.now.base a.signer (statement subject.now) a.signature) listed.now }
-    {
-        for attestation in listed {
-            if !self.verify_attestation(subject, attestation) {
-                return false;
-            }
-        }
-        true
+        attestation: &Attestation<SaltedSignature>,
+    ) -> bool {
+        let bytes: &[u8] = &attestation.signature.0;
+        let (salt, hash) = bytes.split_at(8);
+        attestation.signer.get() < Scheme::<D>::participants(&self.plain)
+            && self.hash_of(salt, attestation.signer, subject).as_slice() == hash
     }
+
+    ghost marks_member = { λ s i x a h. h.0 };
 }
 
 impl<D: Digest> Scheme<D> for SaltedScheme {
@@ -235,13 +248,15 @@ impl<D: Digest> Scheme<D> for SaltedScheme {
 
     ghost key_of = { λ s i. i };
 
-    ghost attests = { λ s i x a. (i < s.participants) × IsSalted D.spelling s.base i x a };
+    ghost attests = { λ s i x a. Attests D.spelling s.base s.participants i x a };
 
-    ghost certifies = { λ s x c. IsQuorum s.participants (λ i a. (i < s.participants) × IsSalted D.spelling s.base i x a) c };
+    ghost certifies = { λ s x c. IsQuorum s.participants (λ i a. Attests D.spelling s.base s.participants i x a) c };
 
     ghost lists = { λ c. c };
 
     ghost enumerates = { ⊤ };
+
+    ghost batchable = { λ _. true };
 
     fn participants(&self) -> u32 {
         Scheme::<D>::participants(&self.plain)
@@ -267,10 +282,36 @@ impl<D: Digest> Scheme<D> for SaltedScheme {
         subject: &Subject<'_, D>,
         attestation: &Attestation<SaltedSignature>,
     ) -> bool {
-        let bytes: &[u8] = &attestation.signature.0;
-        let (salt, hash) = bytes.split_at(8);
-        attestation.signer.get() < Scheme::<D>::participants(&self.plain)
-            && self.hash_of(salt, attestation.signer, subject).as_slice() == hash
+        self.attests(subject, attestation)
+    }
+
+    fn is_batchable(&self) -> bool {
+        true
+    }
+
+    fn verify_attestations(
+        &self,
+        alloc: Global,
+        subject: &Subject<'_, D>,
+        attestations: &[Attestation<SaltedSignature>],
+    ) -> Result<Vec<Participant>, AllocError> {
+        failing_signers(alloc, self, subject, attestations)
+    }
+
+    fn optimistic_assemble(
+        &self,
+        alloc: Global,
+        subject: &Subject<'_, D>,
+        attestations: &[Attestation<SaltedSignature>],
+    ) -> Result<Option<AttestationList<SaltedSignature>>, AllocError>
+        ensures exact { IfOk result (λ made. IsSome made ↔ IsQuorum self.now.participants (λ i a. Attests D.spelling self.now.base self.now.participants i (statement subject.now) a) attestations.now) }
+        ensures certifies { IfOk result (λ made. IfSome made (λ c. IsQuorum self.now.participants (λ i a. Attests D.spelling self.now.base self.now.participants i (statement subject.now) a) c)) }
+        ensures only_given { IfOk result (λ made. IfSome made (λ c. (a : Attestation (List ℕ)) → Contains c a → Contains attestations.now a)) }
+        ensures all_given { IfOk result (λ made. IfSome made (λ c. (a : Attestation (List ℕ)) → Contains attestations.now a → Contains c a)) }
+        ensures readable { IfOk result (λ made. IfSome made (λ c. list_within self.now.participants c)) }
+        ensures within { IfOk result (λ made. IfSome made (λ c. list_within 65535 c)) }
+    {
+        list_of_quorum(alloc, self, subject, attestations)
     }
 
     fn verify_certificate(
@@ -278,9 +319,7 @@ impl<D: Digest> Scheme<D> for SaltedScheme {
         subject: &Subject<'_, D>,
         certificate: &AttestationList<SaltedSignature>,
     ) -> bool {
-        let listed = certificate.attestations();
-        quorum(Scheme::<D>::participants(&self.plain)) as usize <= listed.len()
-            && self.all_attest(subject, listed)
+        lists_quorum(self, subject, certificate)
     }
 
     fn assemble(
@@ -288,13 +327,9 @@ impl<D: Digest> Scheme<D> for SaltedScheme {
         alloc: Global,
         attestations: &[Attestation<SaltedSignature>],
     ) -> Result<AttestationList<SaltedSignature>, AssemblyError> {
-        let participants = Scheme::<D>::participants(&self.plain);
-        let needed = quorum(participants);
-        let count = attestations.len();
-        if count < needed as usize {
-            return Err(AssemblyError::InsufficientAttestations(needed, count as u32));
-        }
-        Ok(AttestationList::new(alloc, participants, attestations)?)
+        let participants = Attesting::<D>::members(&self.plain);
+        let certificate = AttestationList::assemble(alloc, participants, attestations)?;
+        Ok(certificate)
     }
 
     ghost attests_member = { λ s i x a h. h.0 };
@@ -308,6 +343,8 @@ impl<D: Digest> Listing<D> for SaltedScheme {
     }
 
     ghost enumerated = { tt };
+
+    ghost sufficient = { λ s x c h. h };
 
     ghost backed = { λ s x c h. h };
 }

@@ -165,32 +165,3 @@ common-length n xs ys once_x once_y below_x below_y =
     let once : NoneTwice (others ++ ys) = NoneTwice-append others ys (except-NoneTwice xs ys once_x) once_y (λ x here there. ((except-members xs ys x).0 here).1 there) in
     let below : AllBelow n (others ++ ys) = All-append (λ (x : ℕ). x < n) others ys (except-AllBelow n xs ys below_x) below_y in
     omega (arith, room n (others ++ ys) once below, length-append others ys, length-filter_both (has ys) (λ x. not (has ys x)) (λ x. refl) xs)
-
--- ---- one less
-
--- the list without e
-abbrev pub without : ℕ → List ℕ → List ℕ
-without e xs = except xs (e ∷ [])
-
--- in it are the others
-pub without-members : (e : ℕ) (xs : List ℕ) (x : ℕ) → Contains (without e xs) x ↔ (Contains xs x × (x ≢ e))
-without-members e xs x =
-    let m = except-members xs (e ∷ []) x in (
-      λ here. ((m.0 here).0, λ same. (m.0 here).1 (subst (Contains (e ∷ [])) (sym same) (Contains-head e []))),
-      λ both. m.1 (both.0, λ there. elim (Contains-cases e [] x there) [ inl same ↦ both.1 (sym same) | inr nowhere ↦ Contains-nil x nowhere ]),
-    )
-
--- none of them twice
-pub without-NoneTwice : (e : ℕ) (xs : List ℕ) → NoneTwice xs → NoneTwice (without e xs)
-without-NoneTwice e xs once = except-NoneTwice xs (e ∷ []) once
-
--- and one less than before
-pub without-length : (e : ℕ) (xs : List ℕ) → NoneTwice xs → Contains xs e → length (without e xs) + 1 ≡ length xs
-without-length e xs once here =
-    let left = without e xs in
-    let once_more : NoneTwice (e ∷ left) = NoneTwice-cons e left (λ again. ((without-members e xs e).0 again).1 refl) (without-NoneTwice e xs once) in
-    let back : (x : ℕ) → Contains (e ∷ left) x → Contains xs x = λ x there.
-    elim (Contains-cases e left x there) [ inl same ↦ subst (Contains xs) same here | inr other ↦ ((without-members e xs x).0 other).0 ] in
-    let forth : (x : ℕ) → Contains xs x → Contains (e ∷ left) x = λ x there.
-    elim (cases_eq x e) [ inl same ↦ subst (Contains (e ∷ left)) (sym same) (Contains-head e left) | inr other ↦ Contains-rest e left x ((without-members e xs x).1 (there, other)) ] in
-    omega (arith, no_longer (e ∷ left) xs once_more back, no_longer xs (e ∷ left) once forth)

@@ -1,11 +1,11 @@
 -- What quorums of one committee have in common.
 use Rattle.std.specs.Prelude.{◌≡◌, ◌≢◌, ℕ, ◌+◌, ◌*◌, ◌≤◌, ◌<◌, List, [], ◌∷◌, length, map, All, AllPairs, refl}
 use Rattle.std.specs.List.{Contains}
-use Rattle.std.proofs.Common.{sym, subst, get_or, arith}
+use Rattle.std.proofs.Common.{get_or, arith}
 use Rattle.std.proofs.lemmas.List.{length-map, get_or-map}
 use Rattle.std.proofs.lemmas.List.Elements.{All-contains, All-map, Contains-get_or}
 use Rattle.simplex_types.specs.declared.attestation.Attestation.{Attestation}
-use Rattle.simplex_types.specs.Counting.{NoneTwice, AllBelow, common, common-members, common-NoneTwice, common-AllBelow, common-length, escapes, Contains-head, Contains-rest}
+use Rattle.simplex_types.specs.Counting.{NoneTwice, AllBelow, common, common-members, common-NoneTwice, common-AllBelow, common-length, escapes}
 use Rattle.simplex_types.specs.Quorum.{faults, quorum, IsQuorum}
 
 -- numbers of a quorum of a committee of n: none twice, each below n, and enough of them
@@ -30,18 +30,6 @@ two_quorums_meet n xs ys faulty some p q few =
     let found = escapes (common xs ys) faulty (common-NoneTwice xs ys p.once) (omega (arith, few, two_quorums_share n xs ys some p q)) in
     let both = (common-members xs ys found.0).0 found.1 in
     (found.0, All-contains (λ (x : ℕ). x < n) xs found.0 p.below both.0, both.0, both.1, found.2)
-
--- in a committee of two or more a quorum has a member that isn't faulty and isn't l
-pub beyond_one_more : (n : ℕ) (xs faulty : List ℕ) (l : ℕ) → 2 ≤ n → AreQuorum n xs → length faulty ≤ faults n
-    → (x : ℕ) × (x < n) × Contains xs x × (x ≢ l) × (Contains faulty x → ⊥)
-beyond_one_more n xs faulty l two p few =
-    let found = escapes xs (l ∷ faulty) p.once (omega (arith, few, p.enough)) in (
-      found.0,
-      All-contains (λ (x : ℕ). x < n) xs found.0 p.below found.1,
-      found.1,
-      λ same. found.2 (subst (Contains (l ∷ faulty)) (sym same) (Contains-head l faulty)),
-      λ liar. found.2 (Contains-rest l faulty found.0 liar),
-    )
 
 -- ---- attestations
 

@@ -44,6 +44,13 @@ impl Model for PlainKey {
 }
 
 impl PlainKey {
+    /// The key of the member of this index.
+    pub const fn new(index: Participant) -> Self
+        ensures { result ≡ index }
+    {
+        PlainKey(index)
+    }
+
     /// The member whose key it is.
     pub const fn index(self) -> Participant
         ensures { result ≡ self }
@@ -222,9 +229,9 @@ impl PlainScheme {
         participants: u32,
         me: Option<Participant>,
     ) -> Result<Self, AllocError>
-        requires short_base { length base.now ≤ 255 }
+        requires short_base { length base.now ≤ Self.MAX_BASE }
         requires some { 0 < participants }
-        requires at_most { participants ≤ 65535 }
+        requires at_most { participants ≤ Self.MAX_PARTICIPANTS }
         requires member { ForSome me (λ i. i < participants) }
         ensures base { IfOk result (λ s. s.base ≡ base.now) }
         ensures participants { IfOk result (λ s. s.participants ≡ participants) }

@@ -6,6 +6,8 @@ mod attestation_list;
 #[cfg(test)]
 mod attributes;
 #[cfg(test)]
+mod batching;
+#[cfg(test)]
 mod certificates;
 #[cfg(test)]
 mod codec;
