@@ -8,7 +8,7 @@ use std::alloc::Global;
 use std::process::Abort;
 use std::test::Fail;
 
-// At each N from 6 to 9 `rt try --test --fail-alloc N` refuses one of the vector's four growths.
+// Where `rt try --test --fail-alloc N` refuses a growth of the vector, it is as it was.
 #[test]
 fn a_refused_write_leaves_the_vector_as_it_was(rt: HostRuntime) -> Result<(), Fail> {
     let evidence = Report::ConflictingNotarize(own_evidence(&rt, rt.alloc(), 0xaa, 0xbb)?);
