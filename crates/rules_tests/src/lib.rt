@@ -18,4 +18,6 @@ mod lookahead;
 #[cfg(test)]
 mod salted;
 #[cfg(test)]
+mod salted_batching;
+#[cfg(test)]
 mod viewport;
