@@ -1,0 +1,4 @@
+pub mod Backers
+pub mod Folding
+pub mod Choosing
+pub mod Admitting
