@@ -7,3 +7,5 @@ pub mod Keeping
 pub mod Admission
 pub mod Tracking
 pub mod Rounds
+pub mod Construction
+pub mod Quorums

@@ -8,12 +8,14 @@ ghost use Rattle.simplex_messages.specs.Certificate.{certificate_round};
 ghost use Rattle.simplex_batcher.specs.declared.fault.BatcherFault.TheVariants.{WrongRound, OtherLeader, Contradicts, Memory};
 ghost use Rattle.simplex_batcher.specs.declared.kind.Kind.TheVariants.{Notarization};
 ghost use Rattle.simplex_batcher.specs.Votes.{vote_kind, certificate_kind};
-ghost use Rattle.simplex_batcher.specs.History.{Taken, Cast, Certified, Led, Forwarded, recorded, selected, leader_of, takes, is_kept_in_full, is_complete, forwardable, is_another};
+ghost use Rattle.simplex_batcher.specs.History.{Taken, Cast, Certified, Led, Forwarded, recorded, selected, leader_of, takes, is_kept_in_full, is_complete, forwardable, is_another, next_kind};
 ghost use Rattle.simplex_batcher.specs.Lawful.{IsNew, VoteAttests, Allowed};
 ghost use Rattle.simplex_batcher.specs.Admission.{as_report, evidence, contradicts, IsBlocked, report_of, IsAdmissionFault, IsCastFault};
+ghost use Rattle.simplex_batcher.specs.Construction.{after, IsBatch};
 ghost use Rattle.simplex_batcher.specs.Rounds.{RoundKeeps, AtEach};
 
 use crate::admission::{Admission, are_against, are_for_two, are_one, evidence_of, report};
+use crate::batch::Batch;
 use crate::fault::BatcherFault;
 use crate::kind::Kind;
 use crate::tracker::VoteTracker;
@@ -269,6 +271,31 @@ impl<S: Batching<D>, D: Digest> Round<S, D> {
         match self.verifier.lead(leader, led) {
             Ok(()) => Ok(()),
             Err(fault) => Err(fault),
+        }
+    }
+
+    /// Makes a certificate, or judges the votes that wait, of the first kind of which one of the two is due: notarization,
+    /// nullification, finalization. After an `Err` the call counts as not made.
+    pub fn try_construct(
+        &mut self,
+        alloc: Global,
+    ) -> Result<Option<Batch<Certificate<S, D>>>, AllocError>
+        ensures none { IfOk result (λ made. AtEach D.PartialEq.eq S.Scheme S.batchable self.old (λ s h. is_none made ≡ is_none (next_kind D.PartialEq.eq s h))) }
+        ensures batch { IfOk result (λ made. IfSome made (λ batch. AtEach D.PartialEq.eq S.Scheme S.batchable self.old (λ s h. MatchOption (next_kind D.PartialEq.eq s h) ⊥ (λ kind. IsBatch S.Scheme D.PartialEq.eq s kind h batch)))) }
+        ensures ok { IfOk result (λ made. AtEach D.PartialEq.eq S.Scheme S.batchable self.old (λ s h. MatchOption (next_kind D.PartialEq.eq s h) (RoundKeeps D.PartialEq.eq S.Scheme S.batchable s self.new h) (λ kind. RoundKeeps D.PartialEq.eq S.Scheme S.batchable s self.new (after kind made h)))) }
+        ensures err { OnErr result (AtEach D.PartialEq.eq S.Scheme S.batchable self.old (λ s h. RoundKeeps D.PartialEq.eq S.Scheme S.batchable s self.new h)) }
+    {
+        match self.verifier.construct(alloc, Kind::Notarization)? {
+            Some(batch) => return Ok(Some(batch)),
+            None => {}
+        }
+        match self.verifier.construct(alloc, Kind::Nullification)? {
+            Some(batch) => return Ok(Some(batch)),
+            None => {}
+        }
+        match self.verifier.construct(alloc, Kind::Finalization)? {
+            Some(batch) => Ok(Some(batch)),
+            None => Ok(None),
         }
     }
 

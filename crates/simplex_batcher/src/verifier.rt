@@ -24,6 +24,8 @@ use simplex_types::{Attributable, Digest, Participant, Proposal, Round, quorum};
 use std::alloc::{AllocError, Global};
 use std::rc::Rc;
 
+mod construction;
+
 /// The votes of one round that count for certificates.
 #[derive(Drop)]
 pub struct Verifier<S: Batching<D>, D: Digest> {
