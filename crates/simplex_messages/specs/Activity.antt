@@ -112,6 +112,20 @@ module _ {S D P G C : Type 0} where
   activity_within W (activity.ConflictingFinalize x) = ⊤
   activity_within W (activity.NullifyFinalize x) = ⊤
 
+  -- and so, where that asks no more of a certificate
+  pub activity_within-weaker : {V W : C → Type 0} → ((c : C) → V c → W c) → (x : Activity S D P G C) → activity_within V x → activity_within W x
+  unfolding activity_within
+  activity_within-weaker all (activity.Notarize v) within = within
+  activity_within-weaker all (activity.Notarization c) within = all c.certificate within
+  activity_within-weaker all (activity.Certification c) within = all c.certificate within
+  activity_within-weaker all (activity.Nullify v) within = within
+  activity_within-weaker all (activity.Nullification c) within = all c.certificate within
+  activity_within-weaker all (activity.Finalize v) within = within
+  activity_within-weaker all (activity.Finalization c) within = all c.certificate within
+  activity_within-weaker all (activity.ConflictingNotarize x) within = within
+  activity_within-weaker all (activity.ConflictingFinalize x) within = within
+  activity_within-weaker all (activity.NullifyFinalize x) within = within
+
   -- what a report of each kind holds, as a report
   abbrev pub notarize_report : Notarize S D P G C → Activity S D P G C
   notarize_report v = activity.Notarize v

@@ -74,6 +74,17 @@ module _ {S D P G C : Type 0} where
   artifact_within W (artifact.Finalize v) = ⊤
   artifact_within W (artifact.Finalization c) = W c.certificate
 
+  -- and so, where that asks no more of a certificate
+  pub artifact_within-weaker : {V W : C → Type 0} → ((c : C) → V c → W c) → (x : Artifact S D P G C) → artifact_within V x → artifact_within W x
+  unfolding artifact_within
+  artifact_within-weaker all (artifact.Notarize v) within = within
+  artifact_within-weaker all (artifact.Notarization c) within = all c.certificate within
+  artifact_within-weaker all (artifact.Certification round ok) within = within
+  artifact_within-weaker all (artifact.Nullify v) within = within
+  artifact_within-weaker all (artifact.Nullification c) within = all c.certificate within
+  artifact_within-weaker all (artifact.Finalize v) within = within
+  artifact_within-weaker all (artifact.Finalization c) within = all c.certificate within
+
   -- a value of each kind, as an artifact
   abbrev pub notarize_artifact : Notarize S D P G C → Artifact S D P G C
   notarize_artifact v = artifact.Notarize v

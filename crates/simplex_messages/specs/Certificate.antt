@@ -58,6 +58,13 @@ module _ {S D P G C : Type 0} where
   any_certificate_within W (certificate.Nullification c) = W c.certificate
   any_certificate_within W (certificate.Finalization c) = W c.certificate
 
+  -- and so, where that asks no more of a certificate
+  pub any_certificate_within-weaker : {V W : C → Type 0} → ((c : C) → V c → W c) → (x : Certificate S D P G C) → any_certificate_within V x → any_certificate_within W x
+  unfolding any_certificate_within
+  any_certificate_within-weaker all (certificate.Notarization c) within = all c.certificate within
+  any_certificate_within-weaker all (certificate.Nullification c) within = all c.certificate within
+  any_certificate_within-weaker all (certificate.Finalization c) within = all c.certificate within
+
   -- a certificate of one kind, as a certificate
   abbrev pub as_notarization : Notarization S D P G C → Certificate S D P G C
   as_notarization c = certificate.Notarization c

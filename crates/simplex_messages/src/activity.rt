@@ -1,6 +1,6 @@
 //! What a member reports.
 
-ghost use Rattle.std.specs.Prelude.{◌≡◌};
+ghost use Rattle.std.specs.Prelude.{◌≡◌, ◌≤◌};
 ghost use Rattle.simplex_types.specs.Codec.{Gives};
 ghost use Rattle.simplex_messages.specs.Activity.{activity_behind};
 
@@ -11,8 +11,8 @@ use crate::nullify_finalize::NullifyFinalize;
 use crate::proposal_certificate::{Finalization, Notarization};
 use crate::proposal_vote::{Finalize, Notarize};
 use simplex_types::{
-    CodecError, Digest, Duplicate, EncodeSize, Epoch, Epochable, Read, Scheme, View, Viewable,
-    Write,
+    CodecError, Digest, Duplicate, EncodeSize, Epoch, Epochable, Read, Round, Scheme, View,
+    Viewable, Write,
 };
 use std::alloc::{AllocError, Global};
 
@@ -44,7 +44,7 @@ pub enum Activity<S: Scheme<D>, D: Digest> {
 
 impl<S: Scheme<D>, D: Digest> Activity<S, D> {
     ghost use Rattle.std.specs.Prelude.{◌≡◌, ◌↔◌, ◌++◌, IsTrue, OnOk, OnErr, take, vec_len};
-    ghost use Rattle.simplex_messages.specs.Activity.{activity_body, activity_fits, activity_tag, HoldsCertificate, IsRight};
+    ghost use Rattle.simplex_messages.specs.Activity.{activity_body, activity_fits, activity_round, activity_tag, HoldsCertificate, IsRight};
 
     /// Whether what the report holds is right: the attestation of a vote, both attestations of
     /// evidence, or the certificate.
@@ -76,6 +76,24 @@ impl<S: Scheme<D>, D: Digest> Activity<S, D> {
             Activity::Nullification(_) => true,
             Activity::Finalization(_) => true,
             _ => false,
+        }
+    }
+
+    /// The round that what is reported is of.
+    fn round(&self) -> Round
+        ensures { result ≡ activity_round self.now }
+    {
+        match self {
+            Activity::Notarize(vote) => vote.round(),
+            Activity::Notarization(certificate) => certificate.round(),
+            Activity::Certification(certificate) => certificate.round(),
+            Activity::Nullify(vote) => vote.round(),
+            Activity::Nullification(certificate) => certificate.round(),
+            Activity::Finalize(vote) => vote.round(),
+            Activity::Finalization(certificate) => certificate.round(),
+            Activity::ConflictingNotarize(evidence) => evidence.round(),
+            Activity::ConflictingFinalize(evidence) => evidence.round(),
+            Activity::NullifyFinalize(evidence) => evidence.round(),
         }
     }
 
@@ -126,18 +144,7 @@ impl<S: Scheme<D>, D: Digest> Epochable for Activity<S, D> {
     ghost epoch_of = { λ a. (activity_round a).epoch };
 
     fn epoch(&self) -> Epoch {
-        match self {
-            Activity::Notarize(vote) => vote.epoch(),
-            Activity::Notarization(certificate) => certificate.epoch(),
-            Activity::Certification(certificate) => certificate.epoch(),
-            Activity::Nullify(vote) => vote.epoch(),
-            Activity::Nullification(certificate) => certificate.epoch(),
-            Activity::Finalize(vote) => vote.epoch(),
-            Activity::Finalization(certificate) => certificate.epoch(),
-            Activity::ConflictingNotarize(evidence) => evidence.epoch(),
-            Activity::ConflictingFinalize(evidence) => evidence.epoch(),
-            Activity::NullifyFinalize(evidence) => evidence.epoch(),
-        }
+        self.round().epoch
     }
 }
 
@@ -147,18 +154,7 @@ impl<S: Scheme<D>, D: Digest> Viewable for Activity<S, D> {
     ghost view_of = { λ a. (activity_round a).view };
 
     fn view(&self) -> View {
-        match self {
-            Activity::Notarize(vote) => vote.view(),
-            Activity::Notarization(certificate) => certificate.view(),
-            Activity::Certification(certificate) => certificate.view(),
-            Activity::Nullify(vote) => vote.view(),
-            Activity::Nullification(certificate) => certificate.view(),
-            Activity::Finalize(vote) => vote.view(),
-            Activity::Finalization(certificate) => certificate.view(),
-            Activity::ConflictingNotarize(evidence) => evidence.view(),
-            Activity::ConflictingFinalize(evidence) => evidence.view(),
-            Activity::NullifyFinalize(evidence) => evidence.view(),
-        }
+        self.round().view
     }
 }
 
@@ -234,13 +230,15 @@ impl<S: Scheme<D>, D: Digest> EncodeSize for Activity<S, D> {
 
 impl<S: Scheme<D>, D: Digest> Read for Activity<S, D> {
     ghost use Rattle.simplex_types.specs.Codec.{bounded-IsCodec};
-    ghost use Rattle.simplex_messages.specs.Activity.{activity_at, activity_within, activity-IsCodec};
+    ghost use Rattle.simplex_messages.specs.Activity.{activity_at, activity_within, activity_within-weaker, activity-IsCodec};
 
     ghost within = { λ n. activity_within (S.Certificate.within n) };
 
     ghost reading = { λ n. activity_at D.PartialEq.eq (D.reading n) (S.Signature.reading n) (S.Certificate.reading n) };
 
     ghost one_spelling = { λ n small. activity-IsCodec D.PartialEq.eq (bounded-IsCodec (D.one_spelling n small) (D.unbounded n)) (bounded-IsCodec (S.Signature.one_spelling n small) (S.Signature.unbounded n)) (S.Certificate.one_spelling n small) };
+
+    ghost grows = { λ n m x up h. activity_within-weaker (λ c. S.Certificate.grows n m c up) x h };
 
     #[tactic(auto, unfolding(crate::specs::Activity::activity_at))]
     fn read_cfg(alloc: Global, input: &mut &[u8], bound: u32) -> Result<Self, CodecError> {
@@ -271,6 +269,22 @@ fn read_behind<S: Scheme<D>, D: Digest>(
         2 => Ok(Activity::Certification(Notarization::read_cfg(alloc, input, bound)?)),
         3 => Ok(Activity::Nullify(Nullify::read_cfg(alloc, input, bound)?)),
         4 => Ok(Activity::Nullification(Nullification::read_cfg(alloc, input, bound)?)),
+        _ => read_further(tag, alloc, input, bound),
+    }
+}
+
+/// Reads what stands behind a tag from 5 on.
+#[tactic(auto, unfolding(crate::specs::Activity::activity_behind))]
+fn read_further<S: Scheme<D>, D: Digest>(
+    tag: u8,
+    alloc: Global,
+    input: &mut &[u8],
+    bound: u32,
+) -> Result<Activity<S, D>, CodecError>
+    requires { 5 ≤ tag }
+    ensures { Gives (activity_behind D.PartialEq.eq (D.reading bound) (S.Signature.reading bound) (S.Certificate.reading bound) tag) input.old.now input.new.now result }
+{
+    match tag {
         5 => Ok(Activity::Finalize(Finalize::read_cfg(alloc, input, bound)?)),
         6 => Ok(Activity::Finalization(Finalization::read_cfg(alloc, input, bound)?)),
         7 => Ok(Activity::ConflictingNotarize(ConflictingNotarize::read_cfg(alloc, input, bound)?)),

@@ -1,9 +1,9 @@
 //! Artifacts of a record.
 
-ghost use Rattle.std.specs.Prelude.{◌≡◌};
+ghost use Rattle.std.specs.Prelude.{◌≡◌, ◌++◌, OnOk, OnErr, take, vec_len};
 ghost use Rattle.simplex_types.specs.Codec.{Gives, as_at, both_at};
-ghost use Rattle.simplex_types.specs.Round.{round_at};
-ghost use Rattle.simplex_types.specs.Truth.{truth_at};
+ghost use Rattle.simplex_types.specs.Round.{round_at, round_fits, round_spelling};
+ghost use Rattle.simplex_types.specs.Truth.{truth_at, truth_spelling};
 ghost use Rattle.simplex_messages.specs.Artifact.{artifact_behind, certification_artifact};
 
 use crate::certificate::Certificate;
@@ -39,8 +39,8 @@ pub enum Artifact<S: Scheme<D>, D: Digest> {
 }
 
 impl<S: Scheme<D>, D: Digest> Artifact<S, D> {
-    ghost use Rattle.std.specs.Prelude.{◌↔◌, IsTrue};
-    ghost use Rattle.simplex_messages.specs.Artifact.{artifact_within};
+    ghost use Rattle.std.specs.Prelude.{◌≡◌, ◌↔◌, ◌++◌, IsTrue, OnOk, OnErr, take, vec_len};
+    ghost use Rattle.simplex_messages.specs.Artifact.{artifact_body, artifact_fits, artifact_round, artifact_tag, artifact_within};
 
     /// Whether the artifact can be read again under this bound on the committee's size: whether its
     /// certificate, where it has one, is within it.
@@ -58,6 +58,65 @@ impl<S: Scheme<D>, D: Digest> Artifact<S, D> {
             | Artifact::Finalize(_) => true,
         }
     }
+
+    /// The round that the artifact is of.
+    fn round(&self) -> Round
+        ensures { result ≡ artifact_round self.now }
+    {
+        match self {
+            Artifact::Notarize(vote) => vote.round(),
+            Artifact::Notarization(certificate) => certificate.round(),
+            Artifact::Certification(round, _) => *round,
+            Artifact::Nullify(vote) => vote.round(),
+            Artifact::Nullification(certificate) => certificate.round(),
+            Artifact::Finalize(vote) => vote.round(),
+            Artifact::Finalization(certificate) => certificate.round(),
+        }
+    }
+
+    /// The byte that the spelling begins with.
+    #[tactic(auto, unfolding(crate::specs::Artifact::artifact_tag))]
+    fn tag(&self) -> u8
+        ensures { result ≡ artifact_tag self.now }
+    {
+        match self {
+            Artifact::Notarize(_) => 0,
+            Artifact::Notarization(_) => 1,
+            Artifact::Certification(..) => 2,
+            Artifact::Nullify(_) => 3,
+            Artifact::Nullification(_) => 4,
+            Artifact::Finalize(_) => 5,
+            Artifact::Finalization(_) => 6,
+        }
+    }
+
+    /// Appends what stands behind the tag.
+    #[tactic(auto, unfolding(crate::specs::Artifact::artifact_body, crate::specs::Artifact::artifact_fits))]
+    fn append_behind(&self, out: &mut Vec<u8>) -> Result<(), AllocError>
+        ensures ok { OnOk result (out.new.items ≡ out.old.items ++ artifact_body D.spelling S.Signature.spelling S.Certificate.spelling self.now) }
+        ensures readable { OnOk result (artifact_fits D.fits S.Signature.fits S.Certificate.fits self.now) }
+        ensures err { OnErr result (take (vec_len out.old) out.new.items ≡ out.old.items) }
+    {
+        match self {
+            Artifact::Notarize(vote) => vote.append(out),
+            Artifact::Notarization(certificate) => certificate.append(out),
+            Artifact::Certification(round, ok) => append_certification(round, *ok, out),
+            Artifact::Nullify(vote) => vote.append(out),
+            Artifact::Nullification(certificate) => certificate.append(out),
+            Artifact::Finalize(vote) => vote.append(out),
+            Artifact::Finalization(certificate) => certificate.append(out),
+        }
+    }
+}
+
+/// Appends a round and the verdict on its proposal.
+fn append_certification(round: &Round, ok: bool, out: &mut Vec<u8>) -> Result<(), AllocError>
+    ensures ok { OnOk result (out.new.items ≡ out.old.items ++ (round_spelling round.now ++ truth_spelling ok)) }
+    ensures readable { OnOk result (round_fits round.now) }
+    ensures err { OnErr result (take (vec_len out.old) out.new.items ≡ out.old.items) }
+{
+    round.append(out)?;
+    ok.append(out)
 }
 
 impl<S: Scheme<D>, D: Digest> From<Vote<S, D>> for Artifact<S, D> {
@@ -103,15 +162,7 @@ impl<S: Scheme<D>, D: Digest> Epochable for Artifact<S, D> {
     ghost epoch_of = { λ a. (artifact_round a).epoch };
 
     fn epoch(&self) -> Epoch {
-        match self {
-            Artifact::Notarize(vote) => vote.epoch(),
-            Artifact::Notarization(certificate) => certificate.epoch(),
-            Artifact::Certification(round, _) => round.epoch,
-            Artifact::Nullify(vote) => vote.epoch(),
-            Artifact::Nullification(certificate) => certificate.epoch(),
-            Artifact::Finalize(vote) => vote.epoch(),
-            Artifact::Finalization(certificate) => certificate.epoch(),
-        }
+        self.round().epoch
     }
 }
 
@@ -121,15 +172,7 @@ impl<S: Scheme<D>, D: Digest> Viewable for Artifact<S, D> {
     ghost view_of = { λ a. (artifact_round a).view };
 
     fn view(&self) -> View {
-        match self {
-            Artifact::Notarize(vote) => vote.view(),
-            Artifact::Notarization(certificate) => certificate.view(),
-            Artifact::Certification(round, _) => round.view,
-            Artifact::Nullify(vote) => vote.view(),
-            Artifact::Nullification(certificate) => certificate.view(),
-            Artifact::Finalize(vote) => vote.view(),
-            Artifact::Finalization(certificate) => certificate.view(),
-        }
+        self.round().view
     }
 }
 
@@ -160,39 +203,10 @@ impl<S: Scheme<D>, D: Digest> Write for Artifact<S, D> {
 
     ghost spelling = { artifact_spelling D.spelling S.Signature.spelling S.Certificate.spelling };
 
-    #[tactic(auto, unfolding(crate::specs::Artifact::artifact_spelling, crate::specs::Artifact::artifact_tag, crate::specs::Artifact::artifact_body, crate::specs::Artifact::artifact_fits))]
+    #[tactic(auto, unfolding(crate::specs::Artifact::artifact_spelling))]
     fn append(&self, out: &mut Vec<u8>) -> Result<(), AllocError> {
-        match self {
-            Artifact::Notarize(vote) => {
-                out.push(0)?;
-                vote.append(out)
-            }
-            Artifact::Notarization(certificate) => {
-                out.push(1)?;
-                certificate.append(out)
-            }
-            Artifact::Certification(round, ok) => {
-                out.push(2)?;
-                round.append(out)?;
-                ok.append(out)
-            }
-            Artifact::Nullify(vote) => {
-                out.push(3)?;
-                vote.append(out)
-            }
-            Artifact::Nullification(certificate) => {
-                out.push(4)?;
-                certificate.append(out)
-            }
-            Artifact::Finalize(vote) => {
-                out.push(5)?;
-                vote.append(out)
-            }
-            Artifact::Finalization(certificate) => {
-                out.push(6)?;
-                certificate.append(out)
-            }
-        }
+        out.push(self.tag())?;
+        self.append_behind(out)
     }
 }
 
@@ -220,13 +234,15 @@ impl<S: Scheme<D>, D: Digest> EncodeSize for Artifact<S, D> {
 
 impl<S: Scheme<D>, D: Digest> Read for Artifact<S, D> {
     ghost use Rattle.simplex_types.specs.Codec.{bounded-IsCodec};
-    ghost use Rattle.simplex_messages.specs.Artifact.{artifact_at, artifact_within, artifact-IsCodec};
+    ghost use Rattle.simplex_messages.specs.Artifact.{artifact_at, artifact_within, artifact_within-weaker, artifact-IsCodec};
 
     ghost within = { λ n. artifact_within (S.Certificate.within n) };
 
     ghost reading = { λ n. artifact_at (D.reading n) (S.Signature.reading n) (S.Certificate.reading n) };
 
     ghost one_spelling = { λ n small. artifact-IsCodec (bounded-IsCodec (D.one_spelling n small) (D.unbounded n)) (bounded-IsCodec (S.Signature.one_spelling n small) (S.Signature.unbounded n)) (S.Certificate.one_spelling n small) };
+
+    ghost grows = { λ n m x up h. artifact_within-weaker (λ c. S.Certificate.grows n m c up) x h };
 
     #[tactic(auto, unfolding(crate::specs::Artifact::artifact_at))]
     fn read_cfg(alloc: Global, input: &mut &[u8], bound: u32) -> Result<Self, CodecError> {

@@ -174,6 +174,3 @@ impl<'a, T> Iterator for AttributableMapIter<'a, T> {
         None
     }
 }
-
-#[cfg(test)]
-mod tests;

@@ -7,8 +7,8 @@ ghost use Rattle.simplex_messages.specs.Certificate.{any_certificate_behind};
 use crate::nullification::Nullification;
 use crate::proposal_certificate::{Finalization, Notarization};
 use simplex_types::{
-    CodecError, Digest, Duplicate, EncodeSize, Epoch, Epochable, Read, Scheme, View, Viewable,
-    Write,
+    CodecError, Digest, Duplicate, EncodeSize, Epoch, Epochable, Read, Round, Scheme, View,
+    Viewable, Write,
 };
 use std::alloc::{AllocError, Global};
 
@@ -25,8 +25,8 @@ pub enum Certificate<S: Scheme<D>, D: Digest> {
 }
 
 impl<S: Scheme<D>, D: Digest> Certificate<S, D> {
-    ghost use Rattle.std.specs.Prelude.{◌≡◌, ◌↔◌, ◌+◌, IsTrue};
-    ghost use Rattle.simplex_messages.specs.Certificate.{certificate_statement, certified_by};
+    ghost use Rattle.std.specs.Prelude.{◌≡◌, ◌↔◌, ◌+◌, ◌++◌, IsTrue, OnOk, OnErr, take, vec_len};
+    ghost use Rattle.simplex_messages.specs.Certificate.{any_certificate_body, any_certificate_fits, any_certificate_tag, certificate_round, certificate_statement, certified_by};
 
     /// How many bytes the spelling of a certificate of a committee of so many has at most, of any
     /// kind and with its tag. Of each value `encode_size` says that it is no longer.
@@ -46,6 +46,43 @@ impl<S: Scheme<D>, D: Digest> Certificate<S, D> {
             Certificate::Finalization(certificate) => certificate.verify(scheme),
         }
     }
+
+    /// The round that the certificate is of.
+    fn round(&self) -> Round
+        ensures { result ≡ certificate_round self.now }
+    {
+        match self {
+            Certificate::Notarization(certificate) => certificate.round(),
+            Certificate::Nullification(certificate) => certificate.round(),
+            Certificate::Finalization(certificate) => certificate.round(),
+        }
+    }
+
+    /// The byte that the spelling begins with.
+    #[tactic(auto, unfolding(crate::specs::Certificate::any_certificate_tag))]
+    fn tag(&self) -> u8
+        ensures { result ≡ any_certificate_tag self.now }
+    {
+        match self {
+            Certificate::Notarization(_) => 0,
+            Certificate::Nullification(_) => 1,
+            Certificate::Finalization(_) => 2,
+        }
+    }
+
+    /// Appends what stands behind the tag.
+    #[tactic(auto, unfolding(crate::specs::Certificate::any_certificate_body, crate::specs::Certificate::any_certificate_fits))]
+    fn append_behind(&self, out: &mut Vec<u8>) -> Result<(), AllocError>
+        ensures ok { OnOk result (out.new.items ≡ out.old.items ++ any_certificate_body D.spelling S.Certificate.spelling self.now) }
+        ensures readable { OnOk result (any_certificate_fits D.fits S.Certificate.fits self.now) }
+        ensures err { OnErr result (take (vec_len out.old) out.new.items ≡ out.old.items) }
+    {
+        match self {
+            Certificate::Notarization(certificate) => certificate.append(out),
+            Certificate::Nullification(certificate) => certificate.append(out),
+            Certificate::Finalization(certificate) => certificate.append(out),
+        }
+    }
 }
 
 impl<S: Scheme<D>, D: Digest> Epochable for Certificate<S, D> {
@@ -54,11 +91,7 @@ impl<S: Scheme<D>, D: Digest> Epochable for Certificate<S, D> {
     ghost epoch_of = { λ c. (certificate_round c).epoch };
 
     fn epoch(&self) -> Epoch {
-        match self {
-            Certificate::Notarization(certificate) => certificate.epoch(),
-            Certificate::Nullification(certificate) => certificate.epoch(),
-            Certificate::Finalization(certificate) => certificate.epoch(),
-        }
+        self.round().epoch
     }
 }
 
@@ -68,11 +101,7 @@ impl<S: Scheme<D>, D: Digest> Viewable for Certificate<S, D> {
     ghost view_of = { λ c. (certificate_round c).view };
 
     fn view(&self) -> View {
-        match self {
-            Certificate::Notarization(certificate) => certificate.view(),
-            Certificate::Nullification(certificate) => certificate.view(),
-            Certificate::Finalization(certificate) => certificate.view(),
-        }
+        self.round().view
     }
 }
 
@@ -99,22 +128,10 @@ impl<S: Scheme<D>, D: Digest> Write for Certificate<S, D> {
 
     ghost spelling = { any_certificate_spelling D.spelling S.Certificate.spelling };
 
-    #[tactic(auto, unfolding(crate::specs::Certificate::any_certificate_spelling, crate::specs::Certificate::any_certificate_tag, crate::specs::Certificate::any_certificate_body, crate::specs::Certificate::any_certificate_fits))]
+    #[tactic(auto, unfolding(crate::specs::Certificate::any_certificate_spelling))]
     fn append(&self, out: &mut Vec<u8>) -> Result<(), AllocError> {
-        match self {
-            Certificate::Notarization(certificate) => {
-                out.push(0)?;
-                certificate.append(out)
-            }
-            Certificate::Nullification(certificate) => {
-                out.push(1)?;
-                certificate.append(out)
-            }
-            Certificate::Finalization(certificate) => {
-                out.push(2)?;
-                certificate.append(out)
-            }
-        }
+        out.push(self.tag())?;
+        self.append_behind(out)
     }
 }
 
@@ -144,13 +161,15 @@ impl<S: Scheme<D>, D: Digest> EncodeSize for Certificate<S, D> {
 
 impl<S: Scheme<D>, D: Digest> Read for Certificate<S, D> {
     ghost use Rattle.simplex_types.specs.Codec.{bounded-IsCodec};
-    ghost use Rattle.simplex_messages.specs.Certificate.{any_certificate_at, any_certificate_within, any_certificate-IsCodec};
+    ghost use Rattle.simplex_messages.specs.Certificate.{any_certificate_at, any_certificate_within, any_certificate_within-weaker, any_certificate-IsCodec};
 
     ghost within = { λ n. any_certificate_within (S.Certificate.within n) };
 
     ghost reading = { λ n. any_certificate_at (D.reading n) (S.Certificate.reading n) };
 
     ghost one_spelling = { λ n small. any_certificate-IsCodec (bounded-IsCodec (D.one_spelling n small) (D.unbounded n)) (S.Certificate.one_spelling n small) };
+
+    ghost grows = { λ n m x up h. any_certificate_within-weaker (λ c. S.Certificate.grows n m c up) x h };
 
     #[tactic(auto, unfolding(crate::specs::Certificate::any_certificate_at))]
     fn read_cfg(alloc: Global, input: &mut &[u8], bound: u32) -> Result<Self, CodecError> {

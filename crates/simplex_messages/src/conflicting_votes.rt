@@ -166,6 +166,8 @@ impl<K: ProposalKind<D>, S: Scheme<D>, D: Digest> Read for ConflictingVotes<K, S
 
     ghost one_spelling = { λ n small. unbounded-IsCodec (conflicting-IsCodec D.PartialEq.eq (bounded-IsCodec (D.one_spelling n small) (D.unbounded n)) (bounded-IsCodec (S.Signature.one_spelling n small) (S.Signature.unbounded n))) };
 
+    ghost grows = { λ n m x up h. h };
+
     #[tactic(auto, unfolding(crate::specs::ConflictingVotes::conflicting_at))]
     fn read_cfg(alloc: Global, input: &mut &[u8], bound: u32) -> Result<Self, CodecError> {
         let mut rest = *input;

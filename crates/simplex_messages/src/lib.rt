@@ -15,8 +15,6 @@ mod nullify;
 mod nullify_finalize;
 mod proposal_certificate;
 mod proposal_vote;
-#[cfg(test)]
-mod tests;
 mod verifying;
 mod vote;
 

@@ -53,6 +53,8 @@ impl<S: Scheme<D>, D: Digest> Nullification<S, D> {
     ) -> Result<Self, AssemblyError>
         requires { CanNullify (S.size scheme.now) votes.now }
         ensures made { IfOk result (IsNullificationOf (S.attests scheme.now) (S.certifies scheme.now) S.lists S.enumerates votes.now) }
+        ensures readable { IfOk result (λ c. S.Certificate.within (S.size scheme.now) c.certificate) }
+        ensures within { IfOk result (λ c. S.Certificate.within 65535 c.certificate) }
         ensures too_few { length votes.now < quorum (S.size scheme.now) → result ≡ Err (InsufficientAttestations (quorum (S.size scheme.now)) (length votes.now)) }
         ensures enough { quorum (S.size scheme.now) ≤ length votes.now → IfErr result (λ e. e ≡ Memory) }
     {
@@ -68,6 +70,8 @@ impl<S: Scheme<D>, D: Digest> Nullification<S, D> {
     ) -> Result<Self, AssemblyError>
         requires { CanNullify (S.size scheme.now) votes.items }
         ensures made { IfOk result (IsNullificationOf (S.attests scheme.now) (S.certifies scheme.now) S.lists S.enumerates votes.items) }
+        ensures readable { IfOk result (λ c. S.Certificate.within (S.size scheme.now) c.certificate) }
+        ensures within { IfOk result (λ c. S.Certificate.within 65535 c.certificate) }
         ensures too_few { length votes.items < quorum (S.size scheme.now) → result ≡ Err (InsufficientAttestations (quorum (S.size scheme.now)) (length votes.items)) }
         ensures enough { quorum (S.size scheme.now) ≤ length votes.items → IfErr result (λ e. e ≡ Memory) }
     {
@@ -165,6 +169,8 @@ impl<S: Scheme<D>, D: Digest> Read for Nullification<S, D> {
     ghost reading = { λ n. nullification_at (S.Certificate.reading n) };
 
     ghost one_spelling = { λ n small. nullification-IsCodec (S.Certificate.one_spelling n small) };
+
+    ghost grows = { λ n m c up h. S.Certificate.grows n m c.certificate up h };
 
     #[tactic(auto, unfolding(crate::specs::Nullification::nullification_at))]
     fn read_cfg(alloc: Global, input: &mut &[u8], bound: u32) -> Result<Self, CodecError> {

@@ -159,6 +159,8 @@ impl<S: Scheme<D>, D: Digest> Read for Nullify<S, D> {
 
     ghost one_spelling = { λ n small. unbounded-IsCodec (nullify-IsCodec (bounded-IsCodec (S.Signature.one_spelling n small) (S.Signature.unbounded n))) };
 
+    ghost grows = { λ n m x up h. h };
+
     fn read_cfg(alloc: Global, input: &mut &[u8], bound: u32) -> Result<Self, CodecError> {
         let mut rest = *input;
         let round = Round::read_cfg(alloc, &mut rest, bound)?;

@@ -162,6 +162,8 @@ impl<S: Scheme<D>, D: Digest> Read for NullifyFinalize<S, D> {
 
     ghost one_spelling = { λ n small. unbounded-IsCodec (beside-IsCodec (bounded-IsCodec (D.one_spelling n small) (D.unbounded n)) (bounded-IsCodec (S.Signature.one_spelling n small) (S.Signature.unbounded n))) };
 
+    ghost grows = { λ n m x up h. h };
+
     #[tactic(auto, unfolding(crate::specs::NullifyFinalize::beside_at))]
     fn read_cfg(alloc: Global, input: &mut &[u8], bound: u32) -> Result<Self, CodecError> {
         let mut rest = *input;

@@ -176,6 +176,8 @@ impl<K: ProposalKind<D>, S: Scheme<D>, D: Digest> Read for ProposalVote<K, S, D>
 
     ghost one_spelling = { λ n small. unbounded-IsCodec (vote-IsCodec (bounded-IsCodec (D.one_spelling n small) (D.unbounded n)) (bounded-IsCodec (S.Signature.one_spelling n small) (S.Signature.unbounded n))) };
 
+    ghost grows = { λ n m x up h. h };
+
     fn read_cfg(alloc: Global, input: &mut &[u8], bound: u32) -> Result<Self, CodecError> {
         let mut rest = *input;
         let proposal = Proposal::read_cfg(alloc, &mut rest, bound)?;

@@ -8,7 +8,7 @@ use crate::nullify::Nullify;
 use crate::proposal_vote::{Finalize, Notarize};
 use simplex_types::{
     Attributable, CodecError, Digest, Duplicate, EncodeSize, Epoch, Epochable, MaxEncodeSize,
-    Participant, Read, Scheme, View, Viewable, Write,
+    Participant, Read, Round, Scheme, View, Viewable, Write,
 };
 use std::alloc::{AllocError, Global};
 
@@ -24,17 +24,56 @@ pub enum Vote<S: Scheme<D>, D: Digest> {
     Finalize(Finalize<S, D>),
 }
 
+impl<S: Scheme<D>, D: Digest> Vote<S, D> {
+    ghost use Rattle.std.specs.Prelude.{◌≡◌, ◌++◌, OnOk, OnErr, take, vec_len};
+    ghost use Rattle.simplex_messages.specs.Vote.{any_vote_body, any_vote_fits, any_vote_tag};
+    ghost use Rattle.simplex_messages.specs.VoteParts.{vote_round};
+
+    /// The round that the vote is of.
+    fn round(&self) -> Round
+        ensures { result ≡ vote_round self.now }
+    {
+        match self {
+            Vote::Notarize(vote) => vote.round(),
+            Vote::Nullify(vote) => vote.round(),
+            Vote::Finalize(vote) => vote.round(),
+        }
+    }
+
+    /// The byte that the spelling begins with.
+    #[tactic(auto, unfolding(crate::specs::Vote::any_vote_tag))]
+    fn tag(&self) -> u8
+        ensures { result ≡ any_vote_tag self.now }
+    {
+        match self {
+            Vote::Notarize(_) => 0,
+            Vote::Nullify(_) => 1,
+            Vote::Finalize(_) => 2,
+        }
+    }
+
+    /// Appends what stands behind the tag.
+    #[tactic(auto, unfolding(crate::specs::Vote::any_vote_body, crate::specs::Vote::any_vote_fits))]
+    fn append_behind(&self, out: &mut Vec<u8>) -> Result<(), AllocError>
+        ensures ok { OnOk result (out.new.items ≡ out.old.items ++ any_vote_body D.spelling S.Signature.spelling self.now) }
+        ensures readable { OnOk result (any_vote_fits D.fits S.Signature.fits self.now) }
+        ensures err { OnErr result (take (vec_len out.old) out.new.items ≡ out.old.items) }
+    {
+        match self {
+            Vote::Notarize(vote) => vote.append(out),
+            Vote::Nullify(vote) => vote.append(out),
+            Vote::Finalize(vote) => vote.append(out),
+        }
+    }
+}
+
 impl<S: Scheme<D>, D: Digest> Epochable for Vote<S, D> {
     ghost use Rattle.simplex_messages.specs.VoteParts.{vote_round};
 
     ghost epoch_of = { λ v. (vote_round v).epoch };
 
     fn epoch(&self) -> Epoch {
-        match self {
-            Vote::Notarize(vote) => vote.epoch(),
-            Vote::Nullify(vote) => vote.epoch(),
-            Vote::Finalize(vote) => vote.epoch(),
-        }
+        self.round().epoch
     }
 }
 
@@ -44,11 +83,7 @@ impl<S: Scheme<D>, D: Digest> Viewable for Vote<S, D> {
     ghost view_of = { λ v. (vote_round v).view };
 
     fn view(&self) -> View {
-        match self {
-            Vote::Notarize(vote) => vote.view(),
-            Vote::Nullify(vote) => vote.view(),
-            Vote::Finalize(vote) => vote.view(),
-        }
+        self.round().view
     }
 }
 
@@ -86,22 +121,10 @@ impl<S: Scheme<D>, D: Digest> Write for Vote<S, D> {
 
     ghost spelling = { any_vote_spelling D.spelling S.Signature.spelling };
 
-    #[tactic(auto, unfolding(crate::specs::Vote::any_vote_spelling, crate::specs::Vote::any_vote_tag, crate::specs::Vote::any_vote_body, crate::specs::Vote::any_vote_fits))]
+    #[tactic(auto, unfolding(crate::specs::Vote::any_vote_spelling))]
     fn append(&self, out: &mut Vec<u8>) -> Result<(), AllocError> {
-        match self {
-            Vote::Notarize(vote) => {
-                out.push(0)?;
-                vote.append(out)
-            }
-            Vote::Nullify(vote) => {
-                out.push(1)?;
-                vote.append(out)
-            }
-            Vote::Finalize(vote) => {
-                out.push(2)?;
-                vote.append(out)
-            }
-        }
+        out.push(self.tag())?;
+        self.append_behind(out)
     }
 }
 
@@ -139,6 +162,8 @@ impl<S: Scheme<D>, D: Digest> Read for Vote<S, D> {
     ghost reading = { λ n. any_vote_at (D.reading n) (S.Signature.reading n) };
 
     ghost one_spelling = { λ n small. unbounded-IsCodec (any_vote-IsCodec (bounded-IsCodec (D.one_spelling n small) (D.unbounded n)) (bounded-IsCodec (S.Signature.one_spelling n small) (S.Signature.unbounded n))) };
+
+    ghost grows = { λ n m x up h. h };
 
     #[tactic(auto, unfolding(crate::specs::Vote::any_vote_at))]
     fn read_cfg(alloc: Global, input: &mut &[u8], bound: u32) -> Result<Self, CodecError> {

@@ -3,7 +3,7 @@ use Rattle.std.proofs.Common.{◌≡◌, ◌≢◌, ℕ, zero, suc, ◌+◌, ◌
 use Rattle.std.specs.List.{All, sum_by}
 use Rattle.std.specs.List.Sorted.{IsNonDecreasingBy, IsPermutation}
 use Rattle.std.proofs.lemmas.Bool.{cases_Bool, eqb-true, ne_eqb}
-use Rattle.std.proofs.lemmas.List.Elements.{All-tail}
+use Rattle.std.proofs.lemmas.List.Elements.{All-nil, All-cons, All-tail}
 use Rattle.std.proofs.lemmas.List.Sums.{sum_by-cons}
 use Rattle.std.proofs.lemmas.List.Sorted.{sum_by-IsPermutation}
 use Rattle.simplex_types.specs.declared.attestation.Attestation.{Attestation}
@@ -73,6 +73,17 @@ module _ {G : Type 0} where
 
   pub AscendsFrom-few : (n : ℕ) (x : List (Attestation G)) → AscendsFrom 0 x → All (λ a. a.signer < n) x → length x ≤ n
   AscendsFrom-few n x up below = let all = few 0 n x (omega arith) up below in omega (arith, all)
+
+  -- where the last of ascending indices is below n, all are
+  pub AscendsFrom-last : (low n k : ℕ) (x : List (Attestation G)) (d : Attestation G) → AscendsFrom low x → k + 1 ≡ length x → (get_or x k d).signer < n → All (λ a. a.signer < n) x
+  AscendsFrom-last low n k [] d up place last = All-nil _
+  AscendsFrom-last low n zero (a ∷ []) d up place last = All-cons (λ (b : Attestation G). b.signer < n) a [] last (All-nil _)
+  AscendsFrom-last low n (suc k) (a ∷ []) d up place last = absurd (omega (arith, place))
+  AscendsFrom-last low n zero (a ∷ b ∷ x) d up place last = absurd (omega (arith, place))
+  AscendsFrom-last low n (suc k) (a ∷ b ∷ x) d up place last =
+      let rest = AscendsFrom-last (a.signer + 1) n k (b ∷ x) d up.1 (omega (arith, place)) last in
+      let next : b.signer < n = rest 0 b (omega arith) in
+      All-cons (λ (c : Attestation G). c.signer < n) a (b ∷ x) (omega (arith, up.1.0, next)) rest
 
   two_by : (i : ℕ) (x : List (Attestation G)) (k l : ℕ) (d : Attestation G) → k < l → l < length x → (get_or x k d).signer ≡ i → (get_or x l d).signer ≡ i → 2 ≤ sum_by (is_by i) x
   two_by i [] k l d before below e f = absurd (omega arith)

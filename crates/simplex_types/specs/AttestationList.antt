@@ -2,6 +2,7 @@
 use Rattle.std.specs.Prelude.{ℕ, zero, suc, ◌+◌, ◌≤◌, ◌<◌, nat_lt, ◌&&◌, ◌==◌, Bool, not, List, [], ◌∷◌, ◌++◌, length, All, Result, Ok, Err, if◌then◌else◌, ⊤}
 use Rattle.std.specs.List.{flat_map}
 use Rattle.std.specs.Ordering.{on, eq_of_both}
+use Rattle.std.proofs.Common.{arith}
 use Rattle.std.specs.Cmp.Lexicographic.{pointwise}
 use Rattle.simplex_types.specs.declared.codec.CodecError.{CodecError}
 use Rattle.simplex_types.specs.declared.codec.CodecError.TheVariants.{TooLong}
@@ -31,6 +32,11 @@ module _ {G : Type 0} where
   -- a list within the bound n: at most n attestations, each index below n
   unfoldable pub list_within : ℕ → List (Attestation G) → Type 0
   list_within n listed = All (λ a. a.signer < n) listed × (length listed ≤ n)
+
+  -- and so within each greater bound
+  pub list_within-grows : (n m : ℕ) (listed : List (Attestation G)) → n ≤ m → list_within n listed → list_within m listed
+  unfolding list_within
+  list_within-grows n m listed up within = ((λ k d l. omega (arith, up, within.0 k d l)), omega (arith, up, within.1))
 
   -- one attestation, of an index from low on and below n, which is judged when it is read
   unfoldable pub next_at : (List ℕ → Result (G × List ℕ) CodecError) → ℕ → ℕ → List ℕ → Result (Attestation G × List ℕ) CodecError

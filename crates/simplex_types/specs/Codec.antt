@@ -38,6 +38,10 @@ pub record IsCodec {A : Type 0} (Fits : A → Type 0) (spelling : A → List ℕ
 abbrev pub Readable : {A : Type 0} → (A → Type 0) → (A → Type 0) → A → Type 0
 Readable Fits Within x = Fits x × Within x
 
+-- no value that can be read is spelled by these bytes
+abbrev pub SpellsNone : {A : Type 0} → (A → Type 0) → (A → List ℕ) → List ℕ → Type 0
+SpellsNone {A} Fits spelling bytes = (x : A) → Fits x → bytes ≡ spelling x → ⊥
+
 -- a fixed number of bytes as they are
 abbrev pub bytes_at : ℕ → List ℕ → Result (List ℕ × List ℕ) CodecError
 bytes_at n bytes = if nat_lt (length bytes) n then Err End else Ok (take n bytes, drop n bytes)

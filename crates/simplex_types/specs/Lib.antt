@@ -6,6 +6,7 @@ pub mod Truth
 pub mod Proposal
 pub mod Attestation
 pub mod AttestationList
+pub mod Batching
 pub mod ListCodec
 pub mod ListEquality
 pub mod ListSize

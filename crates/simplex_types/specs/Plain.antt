@@ -24,6 +24,10 @@ hashed payload base index s = ((to_be_bytes w32 index ++ to_be_bytes w32 (length
 abbrev pub signature : {D : Type 0} → (D → List ℕ) → List ℕ → ℕ → Statement D → List ℕ
 signature payload base index s = sha256 (hashed payload base index s)
 
+-- a signature of a member on a statement: there is a member of this index, and it is the hash
+abbrev pub Attests : {D : Type 0} → (D → List ℕ) → List ℕ → ℕ → ℕ → Statement D → List ℕ → Type 0
+Attests payload base participants index s bytes = (index < participants) × (bytes ≡ signature payload base index s)
+
 -- whether each is a byte
 abbrev pub are_bytes : List ℕ → Bool
 are_bytes bytes = list_all (λ b. nat_lt b 256) bytes

@@ -2,7 +2,9 @@
 use Rattle.std.specs.Prelude.{ℕ, ◌≢◌, ◌+◌, ◌-◌, ◌/◌, ◌≤◌, ◌<◌, List, [], ◌∷◌, length, All, AllPairs}
 use Rattle.std.proofs.Common.{arith}
 use Rattle.std.proofs.lemmas.List.Elements.{All-nil, All-cons}
+use Rattle.std.specs.List.Sorted.{IsPermutation}
 use Rattle.std.proofs.lemmas.List.Kept.{AllPairs-cons}
+use Rattle.std.proofs.lemmas.List.Sorted.{All-permutation}
 use Rattle.simplex_types.specs.declared.attestation.Attestation.{Attestation}
 use Rattle.simplex_types.specs.AttestationList.{AscendsFrom}
 
@@ -48,3 +50,9 @@ module _ {G : Type 0} where
     enough = enough;
     attesting = all;
   }
+
+  -- and so they are in whatever order they were given
+  pub IsQuorum-from_given : (n : ℕ) (attests : ℕ → G → Type 0) (given x : List (Attestation G)) → ((i : ℕ) (a : G) → attests i a → i < n)
+      → IsPermutation given x → AscendsFrom 0 x → quorum n ≤ length x → All (λ a. attests a.signer a.signature) given → IsQuorum n attests x
+  IsQuorum-from_given n attests given x member moved up enough all =
+      IsQuorum-from_ascending n attests x member up enough (All-permutation (λ (a : Attestation G). attests a.signer a.signature) given x moved all)

@@ -90,6 +90,8 @@ impl<G: Signature> Read for Attestation<G> {
 
     ghost one_spelling = { λ n small. unbounded-IsCodec (attestation-IsCodec (bounded-IsCodec (G.one_spelling n small) (G.unbounded n))) };
 
+    ghost grows = { λ n m x up h. h };
+
     fn read_cfg(alloc: Global, input: &mut &[u8], bound: u32) -> Result<Self, CodecError> {
         let mut rest = *input;
         let signer = Participant::read_cfg(alloc, &mut rest, bound)?;

@@ -1,15 +1,17 @@
 //! Certificates that list their attestations.
 
-ghost use Rattle.std.specs.Prelude.{◌≡◌, ◌+◌, ◌++◌, ◌<◌, ◌≤◌, ◌^◌, length, IfOk};
+ghost use Rattle.std.specs.Prelude.{◌≡◌, ◌+◌, ◌++◌, ◌<◌, ◌≤◌, ◌^◌, length, take, vec_len, All, IfOk, OnOk, OnErr};
+ghost use Rattle.std.specs.List.{flat_map};
+ghost use Rattle.simplex_types.specs.Attestation.{attestation_fits, attestation_spelling};
 ghost use Rattle.simplex_types.specs.Codec.{Gives, GivesBy};
 ghost use Rattle.simplex_types.specs.AttestationList.{next_at, ascending_at};
 
 use crate::attestation::{Attestation, Signature};
 use crate::codec::{CodecError, EncodeSize, MaxEncodeSize, Read, Write};
+use crate::committee::quorum;
 use crate::duplicate::Duplicate;
-use crate::membership::ascend_below;
 use crate::position::Participant;
-use crate::scheme::Aggregate;
+use crate::scheme::{Aggregate, AssemblyError};
 use crate::varint::{put_varint, read_u64, varint_size};
 use std::alloc::{AllocError, Global};
 use std::hash::{Hash, Hasher};
@@ -35,10 +37,11 @@ impl<G: Signature> Model for AttestationList<G> {
 }
 
 impl<G: Signature> AttestationList<G> {
-    ghost use Rattle.std.specs.Prelude.{◌≡◌, ◌<◌, All, IfOk};
+    ghost use Rattle.std.specs.Prelude.{◌≡◌, ◌<◌, ◌≤◌, length, All, Err, IfOk, IfErr};
     ghost use Rattle.std.specs.List.Sorted.{IsPermutation};
-    ghost use Rattle.simplex_types.specs.AttestationList.{AscendsFrom};
-    ghost use Rattle.simplex_types.specs.Quorum.{AreDistinct};
+    ghost use Rattle.simplex_types.specs.AttestationList.{AscendsFrom, list_within};
+    ghost use Rattle.simplex_types.specs.Quorum.{AreDistinct, quorum};
+    ghost use Rattle.simplex_types.specs.declared.scheme.AssemblyError.TheVariants.{InsufficientAttestations, Memory};
 
     /// The list of these attestations, of distinct members of a committee of so many, as
     /// `are_of_distinct_members` tells. Refused only where memory is.
@@ -51,10 +54,39 @@ impl<G: Signature> AttestationList<G> {
         requires members { All (λ a. a.signer < participants) attestations.now }
         ensures same { IfOk result (λ c. IsPermutation attestations.now c) }
         ensures ascending { IfOk result (λ c. AscendsFrom 0 c) }
+        ensures within { IfOk result (λ c. list_within participants c) }
     {
         let mut attestations = Vec::from_slice(alloc, attestations)?;
         attestations.sort_unstable_by_key(|attestation| attestation.signer.get());
         Ok(AttestationList { attestations })
+    }
+
+    /// The list of these attestations, where they are enough for a quorum of a committee of so many.
+    ///
+    /// # Errors
+    ///
+    /// [`AssemblyError::InsufficientAttestations`] where they are fewer than a quorum, and
+    /// [`AssemblyError::Memory`] where memory ran out.
+    pub fn assemble(
+        alloc: Global,
+        participants: u32,
+        attestations: &[Attestation<G>],
+    ) -> Result<Self, AssemblyError>
+        requires distinct { AreDistinct attestations.now }
+        requires members { All (λ a. a.signer < participants) attestations.now }
+        ensures same { IfOk result (λ c. IsPermutation attestations.now c) }
+        ensures ascending { IfOk result (λ c. AscendsFrom 0 c) }
+        ensures quorum { IfOk result (λ c. quorum participants ≤ length c) }
+        ensures within { IfOk result (λ c. list_within participants c) }
+        ensures too_few { length attestations.now < quorum participants → result ≡ Err (InsufficientAttestations (quorum participants) (length attestations.now)) }
+        ensures enough { quorum participants ≤ length attestations.now → IfErr result (λ e. e ≡ Memory) }
+    {
+        let needed = quorum(participants);
+        let count = attestations.len();
+        if count < needed as usize {
+            return Err(AssemblyError::InsufficientAttestations(needed, count as u32));
+        }
+        Ok(Self::new(alloc, participants, attestations)?)
     }
 
     /// The attestations, by ascending index.
@@ -112,6 +144,22 @@ fn read_ascending<G: Signature>(
     Ok(attestations)
 }
 
+/// Appends the spellings of the attestations. Where memory is refused, a part may stand behind what was
+/// there.
+fn put_all<G: Signature>(
+    out: &mut Vec<u8>,
+    attestations: &[Attestation<G>],
+) -> Result<(), AllocError>
+    ensures ok { OnOk result (out.new.items ≡ out.old.items ++ flat_map (attestation_spelling G.spelling) attestations.now) }
+    ensures readable { OnOk result (All (attestation_fits G.fits) attestations.now) }
+    ensures err { OnErr result (take (vec_len out.old) out.new.items ≡ out.old.items) }
+{
+    for attestation in attestations {
+        attestation.write(out)?;
+    }
+    Ok(())
+}
+
 impl<G: Signature> Write for AttestationList<G> {
     ghost use Rattle.simplex_types.specs.AttestationList.{list_fits, list_spelling};
 
@@ -122,15 +170,12 @@ impl<G: Signature> Write for AttestationList<G> {
     #[tactic(auto, unfolding(crate::specs::AttestationList::list_spelling, crate::specs::AttestationList::list_fits))]
     fn append(&self, out: &mut Vec<u8>) -> Result<(), AllocError> {
         put_varint(out, self.attestations.len() as u64)?;
-        for attestation in &self.attestations {
-            attestation.write(out)?;
-        }
-        Ok(())
+        put_all(out, &self.attestations)
     }
 }
 
 impl<G: Signature> Read for AttestationList<G> {
-    ghost use Rattle.simplex_types.specs.AttestationList.{list_within, list_at};
+    ghost use Rattle.simplex_types.specs.AttestationList.{list_within, list_within-grows, list_at};
     ghost use Rattle.simplex_types.specs.Codec.{bounded-IsCodec};
     ghost use Rattle.simplex_types.specs.ListCodec.{list-IsCodec};
 
@@ -139,6 +184,8 @@ impl<G: Signature> Read for AttestationList<G> {
     ghost reading = { λ n. list_at (G.reading n) n };
 
     ghost one_spelling = { λ n small. list-IsCodec n small (bounded-IsCodec (G.one_spelling n small) (G.unbounded n)) };
+
+    ghost grows = { list_within-grows };
 
     #[tactic(auto, unfolding(crate::specs::AttestationList::list_at))]
     fn read_cfg(alloc: Global, input: &mut &[u8], bound: u32) -> Result<Self, CodecError> {
@@ -227,8 +274,11 @@ impl<G: Signature> Aggregate for AttestationList<G> {
 
     #[tactic(auto, unfolding(crate::specs::AttestationList::list_within))]
     fn is_within(&self, participants: u32) -> bool {
-        self.attestations.len() <= participants as usize
-            && ascend_below(participants, &self.attestations)
+        // The last index is the greatest.
+        match self.attestations.last() {
+            Some(last) => last.signer.get() < participants,
+            None => true,
+        }
     }
 
     ghost longest = { λ n x small fits within. list_longest G.fits G.spelling G.max_size G.longest n x small fits within };

@@ -1,7 +1,7 @@
 //! Values as bytes: each value has one spelling, and reading stops at the first trouble from the left.
 
 ghost use Rattle.std.specs.Prelude.{◌≡◌, ◌++◌, ℕ, ◌<◌, ◌≤◌, ◌^◌, List, Result, Ok, Err, length, IfOk, IfSome, IfNone, OnOk, OnErr, take, vec_len};
-ghost use Rattle.simplex_types.specs.Codec.{Gives, IsCodec, Readable, bytes_at};
+ghost use Rattle.simplex_types.specs.Codec.{Gives, IsCodec, Readable, SpellsNone, bytes_at};
 ghost use Rattle.simplex_types.specs.declared.codec.CodecError.{CodecError};
 ghost use Rattle.simplex_types.specs.declared.codec.CodecError.TheVariants.{End, Memory};
 
@@ -110,6 +110,35 @@ pub trait Read: Write + Sized {
     /// Exactly the spellings of values within the bound are read, and what was spelled is read again
     /// whatever follows. So each value has one spelling, and no spelling begins another.
     ghost one_spelling: { (n : ℕ) → n < 2 ^ 32 → IsCodec (Readable Self.fits (within n)) Self.spelling (reading n) };
+
+    /// A greater bound asks no more.
+    ghost grows: { (n m : ℕ) (x : Self) → n ≤ m → within n x → within m x };
+}
+
+/// The value that all the bytes spell, or nothing where they spell none: where reading refuses them, or
+/// stops before their end. `bound` is the committee's size. Refused only where memory is.
+pub fn decode_cfg<T: Read + Drop>(
+    alloc: Global,
+    bytes: &[u8],
+    bound: u32,
+) -> Result<Option<T>, AllocError>
+    ensures some { IfOk result (λ found. IfSome found (λ x. (bytes.now ≡ T.spelling x) × Readable T.fits (T.within bound) x)) }
+    ensures none { IfOk result (λ found. IfNone found (SpellsNone (Readable T.fits (T.within bound)) T.spelling bytes.now)) }
+{
+    let mut rest = bytes;
+    match T::read_cfg(alloc, &mut rest, bound) {
+        Ok(value) => {
+            if rest.is_empty() {
+                Ok(Some(value))
+            } else {
+                Ok(None)
+            }
+        }
+        Err(CodecError::Memory) => Err(AllocError),
+        Err(CodecError::End) => Ok(None),
+        Err(CodecError::Invalid) => Ok(None),
+        Err(CodecError::TooLong) => Ok(None),
+    }
 }
 
 /// Takes so many bytes as they are, or nothing where fewer are left.

@@ -93,6 +93,8 @@ impl Read for Sha256Digest {
 
     ghost one_spelling = { λ _ _. unbounded-IsCodec (bytes-IsCodec 32) };
 
+    ghost grows = { λ n m x up h. h };
+
     fn read_cfg(_alloc: Global, input: &mut &[u8], _bound: u32) -> Result<Self, CodecError> {
         Ok(Sha256Digest(read_bytes(input)?))
     }

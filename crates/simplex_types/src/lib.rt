@@ -3,6 +3,7 @@
 
 mod attestation;
 mod attestation_list;
+mod attesting;
 mod attributes;
 mod codec;
 mod committee;
@@ -22,8 +23,9 @@ mod varint;
 
 pub use attestation::{Attestation, Signature};
 pub use attestation_list::AttestationList;
+pub use attesting::{Attesting, failing_signers, list_of_quorum, lists_quorum};
 pub use attributes::{Attributable, Epochable, Viewable};
-pub use codec::{CodecError, EncodeSize, MaxEncodeSize, Read, Write};
+pub use codec::{CodecError, EncodeSize, MaxEncodeSize, Read, Write, decode_cfg};
 pub use committee::{faults, quorum, two_quorums_share_members};
 pub use context::{Context, equal_contexts_are_one};
 pub use digest::{Digest, Sha256Digest};

@@ -22,7 +22,7 @@ pub fn are_of_distinct_members<G: Signature>(
 }
 
 /// Whether the indices ascend, each below the bound.
-pub(crate) fn ascend_below<G: Signature>(bound: u32, attestations: &[Attestation<G>]) -> bool
+fn ascend_below<G: Signature>(bound: u32, attestations: &[Attestation<G>]) -> bool
     ensures { IsTrue result ↔ (AscendsFrom 0 attestations.now × All (λ a. a.signer < bound) attestations.now) }
 {
     let mut low = 0;

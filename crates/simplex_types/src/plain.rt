@@ -1,12 +1,14 @@
 //! A scheme with no secret, for tests and tools: a signature is a hash of what is signed.
 
-ghost use Rattle.std.specs.Prelude.{◌≡◌, ◌↔◌, ◌<◌, ◌≤◌, ◌^◌, ◌++◌, ℕ, List, Option, length, All, IsTrue, IfOk, IfSome, ⊤};
+ghost use Rattle.std.specs.Prelude.{◌≡◌, ◌↔◌, ◌<◌, ◌≤◌, ◌^◌, ◌++◌, ℕ, List, Option, length, Contains, IsSome, IfOk, IfSome, true, ⊤};
 ghost use Rattle.std.specs.Option.{ForSome};
 ghost use Rattle.std.specs.Int.{w32, to_be_bytes};
 ghost use Rattle.std.proofs.Common.{rules, arith};
 ghost use Rattle.sha2.specs.Hashers.{Holds256};
 ghost use Rattle.simplex_types.specs.Codec.{bytes_at, bytes-IsCodec, unbounded-IsCodec};
-ghost use Rattle.simplex_types.specs.Plain.{hashed, signature, key_at, key-IsCodec};
+ghost use Rattle.simplex_types.specs.declared.attestation.Attestation.{Attestation};
+ghost use Rattle.simplex_types.specs.AttestationList.{list_within};
+ghost use Rattle.simplex_types.specs.Plain.{Attests, signature, key_at, key-IsCodec};
 ghost use Rattle.simplex_types.specs.Proposal.{proposal_spelling};
 ghost use Rattle.simplex_types.specs.Round.{round_spelling};
 ghost use Rattle.simplex_types.specs.Quorum.{IsQuorum};
@@ -15,8 +17,8 @@ ghost use Rattle.simplex_types.specs.Varint.{varint};
 
 use crate::attestation::{Attestation, Signature};
 use crate::attestation_list::AttestationList;
+use crate::attesting::{Attesting, failing_signers, list_of_quorum, lists_quorum};
 use crate::codec::{CodecError, EncodeSize, MaxEncodeSize, Read, Write, read_bytes, take_bytes};
-use crate::committee::quorum;
 use crate::digest::Digest;
 use crate::duplicate::Duplicate;
 use crate::hashing::hash_signed;
@@ -83,6 +85,8 @@ impl Read for PlainKey {
     ghost reading = { λ _. key_at };
 
     ghost one_spelling = { λ _ _. unbounded-IsCodec key-IsCodec };
+
+    ghost grows = { λ n m x up h. h };
 
     fn read_cfg(_alloc: Global, input: &mut &[u8], _bound: u32) -> Result<Self, CodecError> {
         let index = u32::from_be_bytes(read_bytes(input)?);
@@ -154,6 +158,8 @@ impl Read for PlainSignature {
 
     ghost one_spelling = { λ _ _. unbounded-IsCodec (bytes-IsCodec 32) };
 
+    ghost grows = { λ n m x up h. h };
+
     fn read_cfg(_alloc: Global, input: &mut &[u8], _bound: u32) -> Result<Self, CodecError> {
         Ok(PlainSignature(read_bytes(input)?))
     }
@@ -198,7 +204,7 @@ impl Model for PlainScheme {
 
     ghost view = { λ s. record { base = s.namespace; participants = s.participants; me = s.me } };
 
-    ghost invariant = { λ s. (length s.namespace ≤ 255) × (0 < s.participants) × ForSome s.me (λ i. i < s.participants) };
+    ghost invariant = { λ s. (length s.namespace ≤ 255) × (0 < s.participants) × (s.participants ≤ 65535) × ForSome s.me (λ i. i < s.participants) };
 }
 
 impl PlainScheme {
@@ -245,22 +251,23 @@ impl PlainScheme {
     }
 }
 
-impl PlainScheme {
-    /// Whether each of the attestations attests the subject.
-    fn all_attest<D: Digest>(
-        &self,
-        subject: &Subject<'_, D>,
-        listed: &[Attestation<PlainSignature>],
-    ) -> bool
-        ensures { IsTrue result ↔ All (λ a. (a.signer < self.now.participants) × (a.signature ≡ signature D.spelling self.now.base a.signer (statement subject.now))) listed.now }
-    {
-        for attestation in listed {
-            if !self.verify_attestation(subject, attestation) {
-                return false;
-            }
-        }
-        true
+impl<D: Digest> Attesting<D> for PlainScheme {
+    type Mark = PlainSignature;
+
+    ghost members = { λ s. s.participants };
+
+    ghost marks = { λ s i x a. Attests D.spelling s.base s.participants i x a };
+
+    fn members(&self) -> u32 {
+        self.participants
     }
+
+    fn attests(&self, subject: &Subject<'_, D>, attestation: &Attestation<PlainSignature>) -> bool {
+        attestation.signer.get() < self.participants
+            && self.signature_of(attestation.signer, subject) == attestation.signature
+    }
+
+    ghost marks_member = { λ s i x a h. h.0 };
 }
 
 impl<D: Digest> Scheme<D> for PlainScheme {
@@ -276,13 +283,15 @@ impl<D: Digest> Scheme<D> for PlainScheme {
 
     ghost key_of = { λ s i. i };
 
-    ghost attests = { λ s i subject a. (i < s.participants) × (a ≡ signature D.spelling s.base i subject) };
+    ghost attests = { λ s i x a. Attests D.spelling s.base s.participants i x a };
 
-    ghost certifies = { λ s subject c. IsQuorum s.participants (λ i a. (i < s.participants) × (a ≡ signature D.spelling s.base i subject)) c };
+    ghost certifies = { λ s x c. IsQuorum s.participants (λ i a. Attests D.spelling s.base s.participants i x a) c };
 
     ghost lists = { λ c. c };
 
     ghost enumerates = { ⊤ };
+
+    ghost batchable = { λ _. true };
 
     fn participants(&self) -> u32 {
         self.participants
@@ -311,8 +320,36 @@ impl<D: Digest> Scheme<D> for PlainScheme {
         subject: &Subject<'_, D>,
         attestation: &Attestation<PlainSignature>,
     ) -> bool {
-        attestation.signer.get() < self.participants
-            && self.signature_of(attestation.signer, subject) == attestation.signature
+        self.attests(subject, attestation)
+    }
+
+    fn is_batchable(&self) -> bool {
+        true
+    }
+
+    fn verify_attestations(
+        &self,
+        alloc: Global,
+        subject: &Subject<'_, D>,
+        attestations: &[Attestation<PlainSignature>],
+    ) -> Result<Vec<Participant>, AllocError> {
+        failing_signers(alloc, self, subject, attestations)
+    }
+
+    fn optimistic_assemble(
+        &self,
+        alloc: Global,
+        subject: &Subject<'_, D>,
+        attestations: &[Attestation<PlainSignature>],
+    ) -> Result<Option<AttestationList<PlainSignature>>, AllocError>
+        ensures exact { IfOk result (λ made. IsSome made ↔ IsQuorum self.now.participants (λ i a. Attests D.spelling self.now.base self.now.participants i (statement subject.now) a) attestations.now) }
+        ensures certifies { IfOk result (λ made. IfSome made (λ c. IsQuorum self.now.participants (λ i a. Attests D.spelling self.now.base self.now.participants i (statement subject.now) a) c)) }
+        ensures only_given { IfOk result (λ made. IfSome made (λ c. (a : Attestation (List ℕ)) → Contains c a → Contains attestations.now a)) }
+        ensures all_given { IfOk result (λ made. IfSome made (λ c. (a : Attestation (List ℕ)) → Contains attestations.now a → Contains c a)) }
+        ensures readable { IfOk result (λ made. IfSome made (λ c. list_within self.now.participants c)) }
+        ensures within { IfOk result (λ made. IfSome made (λ c. list_within 65535 c)) }
+    {
+        list_of_quorum(alloc, self, subject, attestations)
     }
 
     fn verify_certificate(
@@ -320,8 +357,7 @@ impl<D: Digest> Scheme<D> for PlainScheme {
         subject: &Subject<'_, D>,
         certificate: &AttestationList<PlainSignature>,
     ) -> bool {
-        let listed = certificate.attestations();
-        quorum(self.participants) as usize <= listed.len() && self.all_attest(subject, listed)
+        lists_quorum(self, subject, certificate)
     }
 
     fn assemble(
@@ -329,12 +365,8 @@ impl<D: Digest> Scheme<D> for PlainScheme {
         alloc: Global,
         attestations: &[Attestation<PlainSignature>],
     ) -> Result<AttestationList<PlainSignature>, AssemblyError> {
-        let needed = quorum(self.participants);
-        let count = attestations.len();
-        if count < needed as usize {
-            return Err(AssemblyError::InsufficientAttestations(needed, count as u32));
-        }
-        Ok(AttestationList::new(alloc, self.participants, attestations)?)
+        let certificate = AttestationList::assemble(alloc, self.participants, attestations)?;
+        Ok(certificate)
     }
 
     ghost attests_member = { λ s i x a h. h.0 };
@@ -348,6 +380,8 @@ impl<D: Digest> Listing<D> for PlainScheme {
     }
 
     ghost enumerated = { tt };
+
+    ghost sufficient = { λ s x c h. h };
 
     ghost backed = { λ s x c h. h };
 }

@@ -106,6 +106,8 @@ impl<D: Digest> Read for Proposal<D> {
 
     ghost one_spelling = { λ n small. unbounded-IsCodec (proposal-IsCodec (bounded-IsCodec (D.one_spelling n small) (D.unbounded n))) };
 
+    ghost grows = { λ n m x up h. h };
+
     fn read_cfg(alloc: Global, input: &mut &[u8], bound: u32) -> Result<Self, CodecError> {
         let mut rest = *input;
         let round = Round::read_cfg(alloc, &mut rest, bound)?;

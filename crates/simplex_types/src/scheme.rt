@@ -4,6 +4,7 @@ ghost use Rattle.std.specs.Prelude.{◌≡◌, ◌↔◌, ◌<◌, ◌≤◌, �
 ghost use Rattle.simplex_types.specs.declared.attestation.Attestation.{Attestation};
 ghost use Rattle.simplex_types.specs.declared.scheme.AssemblyError.TheVariants.{InsufficientAttestations, Memory};
 ghost use Rattle.simplex_types.specs.AttestationList.{AscendsFrom};
+ghost use Rattle.simplex_types.specs.Batching.{AreFailing};
 ghost use Rattle.simplex_types.specs.Quorum.{AreDistinct, IsQuorum, quorum};
 ghost use Rattle.simplex_types.specs.Subject.{Statement, statement};
 
@@ -99,6 +100,9 @@ pub trait Scheme<D: Digest> {
     /// Certificates list all that they are made of.
     ghost enumerates: { Type 0 };
 
+    /// Many attestations are judged faster together than one by one.
+    ghost batchable: { Self → Bool };
+
     /// How many members the committee has: at least one.
     fn participants(&self) -> u32
         ensures value { result ≡ size self.now }
@@ -128,6 +132,33 @@ pub trait Scheme<D: Digest> {
     ) -> bool
         ensures { IsTrue result ↔ attests self.now attestation.now.signer (statement subject.now) attestation.now.signature };
 
+    /// Whether many attestations are judged faster together than one by one.
+    fn is_batchable(&self) -> bool
+        ensures { result ≡ batchable self.now };
+
+    /// The members in whose names an attestation of these fails, ascending, each once: in the names of
+    /// all others each attests. Refused only where memory is.
+    fn verify_attestations(
+        &self,
+        alloc: Global,
+        subject: &Subject<'_, D>,
+        attestations: &[Attestation<Self::Signature>],
+    ) -> Result<Vec<Participant>, AllocError>
+        ensures { IfOk result (λ failing. AreFailing (λ i a. attests self.now i (statement subject.now) a) attestations.now failing.items) };
+
+    /// A certificate of attestations, where the scheme finds that they certify the subject, and `None`
+    /// where it doesn't. Refused only where memory is.
+    fn optimistic_assemble(
+        &self,
+        alloc: Global,
+        subject: &Subject<'_, D>,
+        attestations: &[Attestation<Self::Signature>],
+    ) -> Result<Option<Self::Certificate>, AllocError>
+        ensures certifies { IfOk result (λ made. IfSome made (λ c. certifies self.now (statement subject.now) c)) }
+        ensures only_given { IfOk result (λ made. IfSome made (λ c. (a : Attestation Self.Signature) → Contains (lists c) a → Contains attestations.now a)) }
+        ensures readable { IfOk result (λ made. IfSome made (λ c. Self.Certificate.within (size self.now) c)) }
+        ensures within { IfOk result (λ made. IfSome made (λ c. Self.Certificate.within 65535 c)) };
+
     /// Whether the certificate certifies the subject.
     fn verify_certificate(&self, subject: &Subject<'_, D>, certificate: &Self::Certificate) -> bool
         ensures { IsTrue result ↔ certifies self.now (statement subject.now) certificate.now };
@@ -149,6 +180,8 @@ pub trait Scheme<D: Digest> {
         ensures certifies { IfOk result (λ c. (x : Statement D) → All (λ a. attests self.now a.signer x a.signature) attestations.now → certifies self.now x c) }
         ensures only_given { IfOk result (λ c. (a : Attestation Self.Signature) → Contains (lists c) a → Contains attestations.now a) }
         ensures all_given { IfOk result (λ c. enumerates → (a : Attestation Self.Signature) → Contains attestations.now a → Contains (lists c) a) }
+        ensures readable { IfOk result (λ c. Self.Certificate.within (size self.now) c) }
+        ensures within { IfOk result (λ c. Self.Certificate.within 65535 c) }
         ensures too_few { length attestations.now < quorum (size self.now) → result ≡ Err (InsufficientAttestations (quorum (size self.now)) (length attestations.now)) }
         ensures enough { quorum (size self.now) ≤ length attestations.now → IfErr result (λ e. e ≡ Memory) };
 
@@ -165,6 +198,9 @@ pub trait Listing<D: Digest>: Scheme<D> {
 
     /// Certificates list all that they are made of.
     ghost enumerated: { Self.enumerates };
+
+    /// What lists attestations of a quorum certifies.
+    ghost sufficient: { (s : Self) (x : Statement D) (c : Self.Certificate) → IsQuorum (Self.size s) (λ i a. Self.attests s i x a) (Self.lists c) → Self.certifies s x c };
 
     /// What certifies lists attestations of a quorum.
     ghost backed: { (s : Self) (x : Statement D) (c : Self.Certificate) → Self.certifies s x c → IsQuorum (Self.size s) (λ i a. Self.attests s i x a) (Self.lists c) };

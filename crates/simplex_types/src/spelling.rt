@@ -45,6 +45,8 @@ impl Read for Epoch {
 
     ghost one_spelling = { λ _ _. unbounded-IsCodec (varint-IsCodec max_u64) };
 
+    ghost grows = { λ n m x up h. h };
+
     fn read_cfg(_alloc: Global, input: &mut &[u8], _bound: u32) -> Result<Self, CodecError> {
         Ok(Epoch::new(read_u64(input)?))
     }
@@ -82,6 +84,8 @@ impl Read for View {
     ghost reading = { λ _. varint_at max_u64 };
 
     ghost one_spelling = { λ _ _. unbounded-IsCodec (varint-IsCodec max_u64) };
+
+    ghost grows = { λ n m x up h. h };
 
     fn read_cfg(_alloc: Global, input: &mut &[u8], _bound: u32) -> Result<Self, CodecError> {
         Ok(View::new(read_u64(input)?))
@@ -121,6 +125,8 @@ impl Read for Participant {
 
     ghost one_spelling = { λ _ _. unbounded-IsCodec (varint-IsCodec max_u32) };
 
+    ghost grows = { λ n m x up h. h };
+
     fn read_cfg(_alloc: Global, input: &mut &[u8], _bound: u32) -> Result<Self, CodecError> {
         Ok(Participant::new(read_u32(input)?))
     }
@@ -159,6 +165,8 @@ impl Read for Round {
     ghost reading = { λ _. round_at };
 
     ghost one_spelling = { λ _ _. unbounded-IsCodec round-IsCodec };
+
+    ghost grows = { λ n m x up h. h };
 
     fn read_cfg(alloc: Global, input: &mut &[u8], bound: u32) -> Result<Self, CodecError> {
         let mut rest = *input;
@@ -206,6 +214,8 @@ impl Read for bool {
     ghost reading = { λ _. truth_at };
 
     ghost one_spelling = { λ _ _. unbounded-IsCodec truth-IsCodec };
+
+    ghost grows = { λ n m x up h. h };
 
     #[tactic(auto, unfolding(crate::specs::Truth::truth_at))]
     fn read_cfg(_alloc: Global, input: &mut &[u8], _bound: u32) -> Result<Self, CodecError> {

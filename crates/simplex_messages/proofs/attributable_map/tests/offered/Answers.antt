@@ -1,4 +1,0 @@
-use Rattle.simplex_messages.proofs.attributable_map.tests.offered.Goals as goal
-
-pub loop-item-preserved : goal.loop-item-preserved
-loop-item-preserved g c = c.insert.ensures.first_items c.loop-item.yielded c.loop-item.invariant

@@ -1,9 +1,0 @@
-use Rattle.std.proofs.Common.{◌≡◌, ◌<◌, ℕ, get_or}
-use Rattle.simplex_types.specs.declared.attestation.Attestation.{Attestation}
-use Rattle.simplex_types.specs.Plain.{signature}
-use Rattle.simplex_types.specs.Subject.{statement}
-use Rattle.simplex_types.proofs.plain.PlainScheme.all_attest.Given as goal
-
--- each attestation so far attests
-abbrev pub invariant-loop-attestation : goal.invariant-loop-attestation
-invariant-loop-attestation g l = (k : ℕ) (d : Attestation _) → k < l.attestation-index → ((get_or l.listed k d).signer < l.self.participants) × ((get_or l.listed k d).signature ≡ signature g.D.Write.spelling l.self.base (get_or l.listed k d).signer (statement l.subject))
