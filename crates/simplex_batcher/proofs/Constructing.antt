@@ -11,7 +11,7 @@ use Rattle.simplex_types.specs.declared.position.Round.{Round}
 use Rattle.simplex_types.specs.declared.scheme.Scheme.{Ghosts}
 use Rattle.simplex_types.specs.Quorum.{AreDistinct}
 use Rattle.simplex_types.specs.Subject.{Statement}
-use Rattle.batching.specs.Batching.{AreFailing}
+use Rattle.simplex_types.specs.Batching.{AreFailing}
 use Rattle.simplex_messages.specs.declared.vote.Vote.{Vote}
 use Rattle.simplex_messages.specs.declared.vote.Vote.TheVariants as vote
 use Rattle.simplex_messages.specs.declared.certificate.Certificate.{Certificate}

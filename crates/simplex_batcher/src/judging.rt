@@ -6,7 +6,6 @@ ghost use Rattle.simplex_types.specs.Quorum.{AreDistinct};
 ghost use Rattle.simplex_types.specs.Subject.{statement};
 ghost use Rattle.simplex_batcher.specs.Judging.{is_among, without, IsJudged, IsOneByOne, IsWhole};
 
-use batching::Batching;
 use simplex_types::{
     Attestation, Digest, Participant, Scheme, Signature, Subject, are_of_distinct_members,
 };
@@ -76,7 +75,7 @@ pub(crate) fn assemble_enough<S: Scheme<D>, D: Digest>(
 }
 
 /// Judges each of the waiting.
-fn judge_each<S: Batching<D>, D: Digest>(
+fn judge_each<S: Scheme<D>, D: Digest>(
     alloc: Global,
     scheme: &S,
     subject: &Subject<'_, D>,
@@ -98,7 +97,7 @@ fn judge_each<S: Batching<D>, D: Digest>(
 }
 
 /// Judges attestations of one statement that wait, beside those that are verified.
-pub fn judge<S: Batching<D>, D: Digest>(
+pub fn judge<S: Scheme<D>, D: Digest>(
     alloc: Global,
     scheme: &S,
     subject: &Subject<'_, D>,

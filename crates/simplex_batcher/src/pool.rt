@@ -11,20 +11,19 @@ ghost use Rattle.simplex_batcher.specs.Pools.{PoolIs, PoolStays};
 
 use crate::judging::{Judged, is_listed, judge};
 use crate::votes::{attestation_of, is_for};
-use batching::Batching;
 use simplex_messages::Vote;
 use simplex_types::{Attestation, Attributable, Digest, Participant, Proposal, Scheme, Subject};
 use std::alloc::{AllocError, Global};
 
 /// The votes of one kind that count for a certificate.
 #[derive(Drop)]
-pub(crate) struct Pool<S: Batching<D>, D: Digest> {
+pub(crate) struct Pool<S: Scheme<D>, D: Digest> {
     pub(crate) waiting: Vec<Vote<S, D>>,
     pub(crate) verified: Vec<Vote<S, D>>,
     pub(crate) complete: bool,
 }
 
-impl<S: Batching<D>, D: Digest> Pool<S, D> {
+impl<S: Scheme<D>, D: Digest> Pool<S, D> {
     /// No votes, and no certificate.
     pub(crate) fn new(alloc: Global) -> Self
         ensures { PoolIs result false [] [] }
@@ -108,7 +107,7 @@ impl<S: Batching<D>, D: Digest> Pool<S, D> {
 }
 
 /// Whether all these votes are for what the first is for.
-fn are_for<S: Batching<D>, D: Digest>(votes: &[Vote<S, D>], first: &Vote<S, D>) -> bool
+fn are_for<S: Scheme<D>, D: Digest>(votes: &[Vote<S, D>], first: &Vote<S, D>) -> bool
     ensures { result ≡ are_one D.PartialEq.eq (first.now ∷ votes.now) }
 {
     for vote in votes {
@@ -120,7 +119,7 @@ fn are_for<S: Batching<D>, D: Digest>(votes: &[Vote<S, D>], first: &Vote<S, D>) 
 }
 
 /// Whether the vote is for what the first is for.
-fn is_beside<S: Batching<D>, D: Digest>(vote: &Vote<S, D>, first: &Vote<S, D>) -> bool
+fn is_beside<S: Scheme<D>, D: Digest>(vote: &Vote<S, D>, first: &Vote<S, D>) -> bool
     ensures { result ≡ is_candidate D.PartialEq.eq (vote_proposal first.now) vote.now }
 {
     match first {
@@ -131,7 +130,7 @@ fn is_beside<S: Batching<D>, D: Digest>(vote: &Vote<S, D>, first: &Vote<S, D>) -
 }
 
 /// The attestations of votes, in their order.
-pub(crate) fn attestations_of<S: Batching<D>, D: Digest>(
+pub(crate) fn attestations_of<S: Scheme<D>, D: Digest>(
     alloc: Global,
     votes: &[Vote<S, D>],
 ) -> Result<Vec<Attestation<S::Signature>>, AllocError>

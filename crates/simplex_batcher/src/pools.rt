@@ -14,20 +14,19 @@ use crate::judging::Judged;
 use crate::kind::Kind;
 use crate::pool::Pool;
 use crate::votes::kind_of;
-use batching::Batching;
 use simplex_messages::Vote;
 use simplex_types::{Digest, Participant, Proposal, Scheme, Subject};
 use std::alloc::{AllocError, Global};
 
 /// The votes of the three kinds that count for certificates.
 #[derive(Drop)]
-pub(crate) struct Pools<S: Batching<D>, D: Digest> {
+pub(crate) struct Pools<S: Scheme<D>, D: Digest> {
     pub(crate) notarizes: Pool<S, D>,
     pub(crate) nullifies: Pool<S, D>,
     pub(crate) finalizes: Pool<S, D>,
 }
 
-impl<S: Batching<D>, D: Digest> Pools<S, D> {
+impl<S: Scheme<D>, D: Digest> Pools<S, D> {
     /// No votes, and no certificates.
     pub(crate) fn new(alloc: Global) -> Self
         ensures notarizes { PoolIs result.notarizes false [] [] }

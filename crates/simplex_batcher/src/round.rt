@@ -21,22 +21,23 @@ use crate::kind::Kind;
 use crate::tracker::VoteTracker;
 use crate::verifier::Verifier;
 use crate::votes::{is_notarize, kind_of, kind_of_certificate, round_of, round_of_certificate};
-use batching::Batching;
 use simplex_messages::{Activity, Certificate, Vote};
-use simplex_types::{Attributable, Digest, Duplicate, Participant, Proposal, Round as Rnd};
+use simplex_types::{
+    Attributable, Digest, Duplicate, Participant, Proposal, Round as Rnd, Scheme,
+};
 use std::alloc::{AllocError, Global};
 use std::rc::Rc;
 
 /// The votes of one round, on their way to certificates.
 #[derive(Drop)]
-pub struct Round<S: Batching<D>, D: Digest> {
+pub struct Round<S: Scheme<D>, D: Digest> {
     tracks: bool,
     forwarded: bool,
     tracker: VoteTracker<S, D>,
     verifier: Verifier<S, D>,
 }
 
-impl<S: Batching<D>, D: Digest> Round<S, D> {
+impl<S: Scheme<D>, D: Digest> Round<S, D> {
     /// A round in which nothing happened. With `track_historical_votes` votes are kept in full also when their kind is
     /// certified.
     pub fn new(alloc: Global, round: Rnd, scheme: Rc<S>, track_historical_votes: bool) -> Self

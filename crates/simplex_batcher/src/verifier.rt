@@ -18,9 +18,8 @@ use crate::proposal_state::ProposalState;
 use crate::votes::{
     fixed_by, is_for, is_notarize, kind_of, kind_of_certificate, proposal_of_certificate,
 };
-use batching::Batching;
 use simplex_messages::{Certificate, Notarize, Vote};
-use simplex_types::{Attributable, Digest, Participant, Proposal, Round, quorum};
+use simplex_types::{Attributable, Digest, Participant, Proposal, Round, Scheme, quorum};
 use std::alloc::{AllocError, Global};
 use std::rc::Rc;
 
@@ -28,7 +27,7 @@ mod construction;
 
 /// The votes of one round that count for certificates.
 #[derive(Drop)]
-pub struct Verifier<S: Batching<D>, D: Digest> {
+pub struct Verifier<S: Scheme<D>, D: Digest> {
     round: Round,
     scheme: Rc<S>,
     needed: u32,
@@ -38,7 +37,7 @@ pub struct Verifier<S: Batching<D>, D: Digest> {
     pools: Pools<S, D>,
 }
 
-impl<S: Batching<D>, D: Digest> Verifier<S, D> {
+impl<S: Scheme<D>, D: Digest> Verifier<S, D> {
     /// A verifier that knows of no vote. It makes certificates of so many votes, and never of fewer than a quorum.
     pub fn new(alloc: Global, round: Round, scheme: Rc<S>, needed: u32) -> Self
         ensures { VerifierKeeps D.PartialEq.eq S.Scheme S.batchable (record { round = round; scheme = scheme.value; members = S.size scheme.value; needed = max needed (quorum (S.size scheme.value)); batchable = S.batchable scheme.value; tracks = false; is_skipped = false }) result [] }
@@ -240,7 +239,7 @@ impl<S: Batching<D>, D: Digest> Verifier<S, D> {
 }
 
 /// The proposal of a notarize.
-fn proposal_in<S: Batching<D>, D: Digest>(notarize: Option<&Notarize<S, D>>) -> Option<Proposal<D>>
+fn proposal_in<S: Scheme<D>, D: Digest>(notarize: Option<&Notarize<S, D>>) -> Option<Proposal<D>>
     ensures { result ≡ option_map (λ n. n.proposal) (option_copied notarize.entry) }
 {
     match notarize {

@@ -15,9 +15,8 @@ use crate::kind::Kind;
 use crate::pool::attestations_of;
 use crate::verifier::Verifier;
 use crate::votes::{certificate_on, subject_of};
-use batching::Batching;
 use simplex_messages::Certificate;
-use simplex_types::{Digest, Proposal, Round, Subject};
+use simplex_types::{Digest, Proposal, Round, Scheme, Subject};
 use std::alloc::{AllocError, Global};
 
 /// What votes of a kind state that are counted.
@@ -41,7 +40,7 @@ fn subject_for<'a, D: Digest>(
     }
 }
 
-impl<S: Batching<D>, D: Digest> Verifier<S, D> {
+impl<S: Scheme<D>, D: Digest> Verifier<S, D> {
     /// Makes a notarization, or judges the notarizes that wait, where one of the two is due. After an `Err` the call
     /// counts as not made.
     pub fn try_construct_notarization(

@@ -10,14 +10,14 @@ use Rattle.simplex_batcher.proofs.verifier.Verifier.assemble_verified.Goals as g
 
 pub returns-in_default : goal.returns-in_default
 returns-in_default g c = λ s h k ready.
-    none-ready g.D.PartialEq.eq g.S.Scheme g.S.Batching.batchable s h c.args.kind c.args.self.now k ready
+    none-ready g.D.PartialEq.eq g.S.Scheme g.S.Scheme.batchable s h c.args.kind c.args.self.now k ready
       (rw (c.as_slice-votes.ensures.value, c.of.ensures) at c.in_default.len_below)
 
 pub returns-in-Some : goal.returns-in-Some
 returns-in-Some g c = λ s h k ready.
     let same = g.D.PartialEq.eq in
     let law = g.met.D.Digest.equal_is_same in
-    let batchable = g.S.Batching.batchable in
+    let batchable = g.S.Scheme.batchable in
     let first = c.first-item.result in
     let items : c.as_slice-votes.result.now ≡ (pool_at c.args.kind c.args.self.now.pools).verified.items = c.as_slice-votes.ensures.value ∙ rw c.of.ensures refl in
     let e = cons-of (pool_at c.args.kind c.args.self.now.pools).verified.items first (rw items at c.first-item.is) (rw items at c.in-len1-up.len_at_least) in
@@ -30,7 +30,7 @@ pub returns : goal.returns
 returns g c = λ s h k ready.
     let same = g.D.PartialEq.eq in
     let law = g.met.D.Digest.equal_is_same in
-    let batchable = g.S.Batching.batchable in
+    let batchable = g.S.Scheme.batchable in
     let first = c.first-item.result in
     let items : c.as_slice-votes.result.now ≡ (pool_at c.args.kind c.args.self.now.pools).verified.items = c.as_slice-votes.ensures.value ∙ rw c.of.ensures refl in
     let e = cons-of (pool_at c.args.kind c.args.self.now.pools).verified.items first (rw items at c.first-item.is) (rw items at c.in-len1-up.len_at_least) in

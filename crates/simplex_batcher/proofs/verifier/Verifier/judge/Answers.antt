@@ -10,7 +10,7 @@ pub returns-in-Some-clause-batch : goal.returns-in-Some-clause-batch
 returns-in-Some-clause-batch g c = λ s h k on.
     let same = g.D.PartialEq.eq in
     let law = g.met.D.Digest.equal_is_same in
-    let batchable = g.S.Batching.batchable in
+    let batchable = g.S.Scheme.batchable in
     let x = statement c.args.subject.now in
     let p = pool-keeps same g.S.Scheme batchable s c.args.self.now h c.args.kind k in
     let f = rw c.deref.ensures at c.in_ok-certificate.ensures in
@@ -27,7 +27,7 @@ pub returns-in-Some-clause-keeps : goal.returns-in-Some-clause-keeps
 returns-in-Some-clause-keeps g c = λ s h k on.
     let same = g.D.PartialEq.eq in
     let law = g.met.D.Digest.equal_is_same in
-    let batchable = g.S.Batching.batchable in
+    let batchable = g.S.Scheme.batchable in
     let here = judged-on same g.S.Scheme batchable law s h c.args.kind c.certificate_on-certificate.result (statement c.args.subject.now) k.lawful on c.certificate_on-certificate.ensures.states in
     c.record-changed.ensures.keeps s h k here.round_is
 
@@ -35,7 +35,7 @@ pub returns-in_ok-settle-in-None-clause-batch : goal.returns-in_ok-settle-in-Non
 returns-in_ok-settle-in-None-clause-batch g c = λ s h k on.
     let same = g.D.PartialEq.eq in
     let law = g.met.D.Digest.equal_is_same in
-    let batchable = g.S.Batching.batchable in
+    let batchable = g.S.Scheme.batchable in
     let x = statement c.args.subject.now in
     let p = pool-keeps same g.S.Scheme batchable s c.args.self.now h c.args.kind k in
     let f = rw c.deref.ensures at c.in_ok-certificate.ensures in
@@ -53,7 +53,7 @@ pub returns-in_ok-settle-in-None-clause-keeps : goal.returns-in_ok-settle-in-Non
 returns-in_ok-settle-in-None-clause-keeps g c = λ s h k on.
     let same = g.D.PartialEq.eq in
     let law = g.met.D.Digest.equal_is_same in
-    let batchable = g.S.Batching.batchable in
+    let batchable = g.S.Scheme.batchable in
     let x = statement c.args.subject.now in
     let f = rw c.deref.ensures at c.in_ok-certificate.ensures in
     let verdict = judged-of same g.S.Scheme batchable law s h c.args.kind c.args.self.now c.of-pool.result.now x c.in_ok-certificate.field-0 k c.of-pool.ensures on f in
