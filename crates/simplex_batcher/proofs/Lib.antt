@@ -1,0 +1,9 @@
+pub mod Backers
+pub mod Folding
+pub mod Choosing
+pub mod Admitting
+pub mod Lawfully
+pub mod Stating
+pub mod Kept
+pub mod Rightly
+pub mod Constructing

@@ -1,0 +1,12 @@
+use Rattle.std.proofs.Common.{◌≡◌, refl, arith, max, false, true}
+use Rattle.simplex_types.specs.Quorum.{quorum}
+use Rattle.simplex_batcher.proofs.round.Round.skipped.Goals as goal
+
+pub returns : goal.returns
+returns g c =
+    let e : max 0 (quorum (g.S.Scheme.size c.args.scheme.value)) ≡ quorum (g.S.Scheme.size c.args.scheme.value) = grind arith in record {
+      verifier = rw e at (c.open.ensures false);
+      tracker = c.new.ensures;
+      tracks_is = refl;
+      forwarded_is = refl;
+    }

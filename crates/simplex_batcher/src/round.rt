@@ -1,0 +1,339 @@
+//! The votes of one round.
+
+ghost use Rattle.std.specs.Prelude.{◌≡◌, ◌≢◌, ◌↔◌, ◌∷◌, [], ◌&&◌, ℕ, List, Bool, true, false, Err, Option, Some, None, find, IsTrue, IfOk, IfErr, IfSome, MatchOption, OnOk, OnErr, is_none, is_some, if◌then◌else◌};
+ghost use Rattle.std.specs.Option.{option_copied};
+ghost use Rattle.simplex_types.specs.Quorum.{quorum};
+ghost use Rattle.simplex_messages.specs.VoteParts.{vote_round, vote_signer};
+ghost use Rattle.simplex_messages.specs.Certificate.{certificate_round};
+ghost use Rattle.simplex_batcher.specs.declared.fault.BatcherFault.TheVariants.{WrongRound, OtherLeader, Contradicts, Memory};
+ghost use Rattle.simplex_batcher.specs.declared.kind.Kind.TheVariants.{Notarization};
+ghost use Rattle.simplex_batcher.specs.Votes.{vote_kind, certificate_kind};
+ghost use Rattle.simplex_batcher.specs.History.{Taken, Cast, Certified, Led, Forwarded, recorded, selected, leader_of, takes, is_kept_in_full, is_complete, forwardable, is_another, next_kind};
+ghost use Rattle.simplex_batcher.specs.Lawful.{IsNew, VoteAttests, Allowed};
+ghost use Rattle.simplex_batcher.specs.Admission.{as_report, evidence, contradicts, IsBlocked, report_of, IsAdmissionFault, IsCastFault};
+ghost use Rattle.simplex_batcher.specs.Construction.{after, IsBatch};
+ghost use Rattle.simplex_batcher.specs.Rounds.{RoundKeeps, AtEach};
+
+use crate::admission::{Admission, are_against, are_for_two, are_one, evidence_of, report};
+use crate::batch::Batch;
+use crate::fault::BatcherFault;
+use crate::kind::Kind;
+use crate::tracker::VoteTracker;
+use crate::verifier::Verifier;
+use crate::votes::{is_notarize, kind_of, kind_of_certificate, round_of, round_of_certificate};
+use simplex_messages::{Activity, Certificate, Vote};
+use simplex_types::{
+    Attributable, Digest, Duplicate, Participant, Proposal, Round as Rnd, Scheme,
+};
+use std::alloc::{AllocError, Global};
+use std::rc::Rc;
+
+/// The votes of one round, on their way to certificates.
+#[derive(Drop)]
+pub struct Round<S: Scheme<D>, D: Digest> {
+    tracks: bool,
+    forwarded: bool,
+    tracker: VoteTracker<S, D>,
+    verifier: Verifier<S, D>,
+}
+
+impl<S: Scheme<D>, D: Digest> Round<S, D> {
+    /// A round in which nothing happened. With `track_historical_votes` votes are kept in full also when their kind is
+    /// certified.
+    pub fn new(alloc: Global, round: Rnd, scheme: Rc<S>, track_historical_votes: bool) -> Self
+        ensures { RoundKeeps D.PartialEq.eq S.Scheme S.batchable (record { round = round; scheme = scheme.value; members = S.size scheme.value; needed = quorum (S.size scheme.value); batchable = S.batchable scheme.value; tracks = track_historical_votes; is_skipped = false }) result [] }
+    {
+        Round {
+            tracks: track_historical_votes,
+            forwarded: false,
+            tracker: VoteTracker::new(alloc),
+            verifier: Verifier::open(alloc, round, scheme, 0, false),
+        }
+    }
+
+    /// A round that is passed over: it keeps no vote in full, and makes no certificate.
+    pub fn skipped(alloc: Global, round: Rnd, scheme: Rc<S>) -> Self
+        ensures { RoundKeeps D.PartialEq.eq S.Scheme S.batchable (record { round = round; scheme = scheme.value; members = S.size scheme.value; needed = quorum (S.size scheme.value); batchable = S.batchable scheme.value; tracks = false; is_skipped = true }) result [] }
+    {
+        Round {
+            tracks: false,
+            forwarded: false,
+            tracker: VoteTracker::new(alloc),
+            verifier: Verifier::open(alloc, round, scheme, 0, true),
+        }
+    }
+
+    /// Whether a certificate of this kind was recorded or made.
+    pub fn has_certificate(&self, kind: Kind) -> bool
+        ensures { AtEach D.PartialEq.eq S.Scheme S.batchable self.now (λ s h. result ≡ is_complete kind h) }
+    {
+        self.verifier.has_certificate(kind)
+    }
+
+    /// Whether the vote is of this round.
+    pub fn belongs(&self, vote: &Vote<S, D>) -> bool
+        ensures { AtEach D.PartialEq.eq S.Scheme S.batchable self.now (λ s h. IsTrue result ↔ (vote_round vote.now ≡ s.round)) }
+    {
+        round_of(vote) == self.verifier.round()
+    }
+
+    /// Whether the certificate is of this round.
+    pub fn belongs_certificate(&self, certificate: &Certificate<S, D>) -> bool
+        ensures { AtEach D.PartialEq.eq S.Scheme S.batchable self.now (λ s h. IsTrue result ↔ (certificate_round certificate.now ≡ s.round)) }
+    {
+        round_of_certificate(certificate) == self.verifier.round()
+    }
+
+    /// Whether votes of this kind are kept in full.
+    fn is_kept_in_full(&self, kind: Kind) -> bool
+        ensures { AtEach D.PartialEq.eq S.Scheme S.batchable self.now (λ s h. result ≡ is_kept_in_full s kind h) }
+    {
+        !self.verifier.is_skipped() && (self.tracks || !self.has_certificate(kind))
+    }
+
+    /// Whether a vote from the network is accepted.
+    fn takes(&self, sender: Participant, vote: &Vote<S, D>) -> bool
+        ensures { AtEach D.PartialEq.eq S.Scheme S.batchable self.now (λ s h. result ≡ takes s h sender vote.now) }
+    {
+        sender == vote.signer()
+            && sender.get() < self.verifier.participants()
+            && self.tracker.recorded(vote).is_none()
+    }
+
+    /// What is answered to a vote that is not accepted.
+    fn refuse(
+        &self,
+        alloc: Global,
+        sender: Participant,
+        vote: &Vote<S, D>,
+    ) -> Result<Admission<S, D>, AllocError>
+        ensures added { IfOk result (λ a. a.added ≡ false) }
+        ensures block { IfOk result (λ a. AtEach D.PartialEq.eq S.Scheme S.batchable self.now (λ s h. takes s h sender vote.now ≡ false → IsTrue a.block ↔ IsBlocked s h sender vote.now)) }
+        ensures report { IfOk result (λ a. AtEach D.PartialEq.eq S.Scheme S.batchable self.now (λ s h. takes s h sender vote.now ≡ false → a.report ≡ report_of D.PartialEq.eq s h sender vote.now)) }
+    {
+        if sender != vote.signer() {
+            return Ok(Admission {
+                added: false,
+                block: true,
+                report: None,
+            });
+        }
+        if sender.get() >= self.verifier.participants() {
+            return Ok(Admission {
+                added: false,
+                block: false,
+                report: None,
+            });
+        }
+        let Some(recorded) = self.tracker.recorded(vote) else {
+            return Ok(Admission {
+                added: false,
+                block: false,
+                report: None,
+            });
+        };
+        if !self.is_kept_in_full(kind_of(recorded)) {
+            return Ok(Admission {
+                added: false,
+                block: are_for_two(recorded, vote),
+                report: None,
+            });
+        }
+        let report = evidence_of(alloc, recorded, vote)?;
+        Ok(Admission {
+            added: false,
+            block: !are_one(recorded, vote),
+            report,
+        })
+    }
+
+    /// Takes a vote from the network. Its sender is blocked where it names another, or where the vote offends one that was
+    /// accepted.
+    ///
+    /// # Errors
+    ///
+    /// [`BatcherFault::WrongRound`] where the vote is of another round, and [`BatcherFault::Memory`] where memory ran out.
+    /// Nothing is changed then.
+    pub fn add_network(
+        &mut self,
+        alloc: Global,
+        sender: Participant,
+        vote: Vote<S, D>,
+    ) -> Result<Admission<S, D>, BatcherFault>
+        ensures foreign { AtEach D.PartialEq.eq S.Scheme S.batchable self.old (λ s h. vote_round vote ≢ s.round → (result ≡ Err WrongRound)) }
+        ensures refused { IfErr result (λ e. AtEach D.PartialEq.eq S.Scheme S.batchable self.old (λ s h. IsAdmissionFault s vote e)) }
+        ensures ours { IfOk result (λ a. AtEach D.PartialEq.eq S.Scheme S.batchable self.old (λ s h. vote_round vote ≡ s.round)) }
+        ensures added { IfOk result (λ a. AtEach D.PartialEq.eq S.Scheme S.batchable self.old (λ s h. a.added ≡ takes s h sender vote)) }
+        ensures block { IfOk result (λ a. AtEach D.PartialEq.eq S.Scheme S.batchable self.old (λ s h. IsTrue a.block ↔ IsBlocked s h sender vote)) }
+        ensures report { IfOk result (λ a. AtEach D.PartialEq.eq S.Scheme S.batchable self.old (λ s h. a.report ≡ report_of D.PartialEq.eq s h sender vote)) }
+        ensures ok { OnOk result (AtEach D.PartialEq.eq S.Scheme S.batchable self.old (λ s h. RoundKeeps D.PartialEq.eq S.Scheme S.batchable s self.new (if takes s h sender vote then Taken vote ∷ h else h))) }
+        ensures err { OnErr result (AtEach D.PartialEq.eq S.Scheme S.batchable self.old (λ s h. RoundKeeps D.PartialEq.eq S.Scheme S.batchable s self.new h)) }
+    {
+        if !self.belongs(&vote) {
+            return Err(BatcherFault::WrongRound);
+        }
+        if !self.takes(sender, &vote) {
+            return Ok(self.refuse(alloc, sender, &vote)?);
+        }
+        let report = report(alloc, &vote)?;
+        self.put(alloc, vote, false)?;
+        Ok(Admission {
+            added: true,
+            block: false,
+            report: Some(report),
+        })
+    }
+
+    /// Puts down a vote that nothing stands in the way of.
+    fn put(&mut self, alloc: Global, vote: Vote<S, D>, own: bool) -> Result<(), AllocError>
+        ensures taken { OnOk result (AtEach D.PartialEq.eq S.Scheme S.batchable self.old (λ s h. own ≡ false → IsNew s h vote → RoundKeeps D.PartialEq.eq S.Scheme S.batchable s self.new (Taken vote ∷ h))) }
+        ensures cast { OnOk result (AtEach D.PartialEq.eq S.Scheme S.batchable self.old (λ s h. own ≡ true → IsNew s h vote → VoteAttests S.attests s vote → RoundKeeps D.PartialEq.eq S.Scheme S.batchable s self.new (Cast vote ∷ h))) }
+        ensures err { OnErr result (AtEach D.PartialEq.eq S.Scheme S.batchable self.old (λ s h. IsNew s h vote → RoundKeeps D.PartialEq.eq S.Scheme S.batchable s self.new h)) }
+    {
+        let signer = vote.signer();
+        let notarize = is_notarize(&vote);
+        self.tracker.put(vote.duplicate(alloc)?)?;
+        match self.verifier.add(vote, own) {
+            Ok(()) => Ok(()),
+            Err(AllocError) => {
+                self.tracker.take_back(signer, notarize);
+                Err(AllocError)
+            }
+        }
+    }
+
+    /// Takes an own vote, which attests: its report where it is new, and nothing where one of its kind, or of nullify and
+    /// finalize the other, was given before.
+    ///
+    /// # Errors
+    ///
+    /// [`BatcherFault::WrongRound`] where it is of another round, [`BatcherFault::Contradicts`] where it contradicts a
+    /// recorded vote, and [`BatcherFault::Memory`] where memory ran out. Nothing is changed then.
+    pub fn accept_vote(
+        &mut self,
+        alloc: Global,
+        vote: Vote<S, D>,
+    ) -> Result<Option<Activity<S, D>>, BatcherFault>
+        ensures foreign { AtEach D.PartialEq.eq S.Scheme S.batchable self.old (λ s h. vote_round vote ≢ s.round → (result ≡ Err WrongRound)) }
+        ensures against { AtEach D.PartialEq.eq S.Scheme S.batchable self.old (λ s h. vote_round vote ≡ s.round → contradicts D.PartialEq.eq h vote ≡ true → (result ≡ Err Contradicts)) }
+        ensures refused { IfErr result (λ e. AtEach D.PartialEq.eq S.Scheme S.batchable self.old (λ s h. IsCastFault D.PartialEq.eq s h vote e)) }
+        ensures report { IfOk result (λ report. AtEach D.PartialEq.eq S.Scheme S.batchable self.old (λ s h. report ≡ (if is_none (recorded h vote) then Some (as_report vote) else None))) }
+        ensures ok { OnOk result (AtEach D.PartialEq.eq S.Scheme S.batchable self.old (λ s h. VoteAttests S.attests s vote → RoundKeeps D.PartialEq.eq S.Scheme S.batchable s self.new (if is_none (recorded h vote) then Cast vote ∷ h else h))) }
+        ensures err { OnErr result (AtEach D.PartialEq.eq S.Scheme S.batchable self.old (λ s h. RoundKeeps D.PartialEq.eq S.Scheme S.batchable s self.new h)) }
+    {
+        if !self.belongs(&vote) {
+            return Err(BatcherFault::WrongRound);
+        }
+        if let Some(recorded) = self.tracker.recorded(&vote) {
+            if are_against(recorded, &vote) {
+                return Err(BatcherFault::Contradicts);
+            }
+            return Ok(None);
+        }
+        let report = report(alloc, &vote)?;
+        self.put(alloc, vote, true)?;
+        Ok(Some(report))
+    }
+
+    /// Records a certificate: whether it is a notarization that selects a new proposal.
+    ///
+    /// # Errors
+    ///
+    /// [`BatcherFault::WrongRound`] where it is of another round. Nothing is changed then.
+    pub fn record_certificate(
+        &mut self,
+        certificate: &Certificate<S, D>,
+    ) -> Result<bool, BatcherFault>
+        ensures foreign { AtEach D.PartialEq.eq S.Scheme S.batchable self.old (λ s h. certificate_round certificate.now ≢ s.round → (result ≡ Err WrongRound)) }
+        ensures refused { IfErr result (λ e. AtEach D.PartialEq.eq S.Scheme S.batchable self.old (λ s h. (certificate_round certificate.now ≢ s.round) × (e ≡ WrongRound))) }
+        ensures selects { IfOk result (λ selects. AtEach D.PartialEq.eq S.Scheme S.batchable self.old (λ s h. IsTrue selects ↔ ((certificate_kind certificate.now ≡ Notarization) × (selected (Certified certificate.now ∷ h) ≢ selected h)))) }
+        ensures ok { OnOk result (AtEach D.PartialEq.eq S.Scheme S.batchable self.old (λ s h. RoundKeeps D.PartialEq.eq S.Scheme S.batchable s self.new (Certified certificate.now ∷ h))) }
+        ensures err { OnErr result (AtEach D.PartialEq.eq S.Scheme S.batchable self.old (λ s h. RoundKeeps D.PartialEq.eq S.Scheme S.batchable s self.new h)) }
+    {
+        if !self.belongs_certificate(certificate) {
+            return Err(BatcherFault::WrongRound);
+        }
+        let changed = self.verifier.record(certificate);
+        Ok(changed && kind_of_certificate(certificate) == Kind::Notarization)
+    }
+
+    /// Names the leader. The same leader again changes nothing.
+    ///
+    /// # Errors
+    ///
+    /// [`BatcherFault::OtherLeader`] where another was named before. Nothing is changed then.
+    pub fn set_leader(&mut self, leader: Participant) -> Result<(), BatcherFault>
+        ensures other { AtEach D.PartialEq.eq S.Scheme S.batchable self.old (λ s h. IfSome (leader_of h) (λ known. known ≢ leader → (result ≡ Err OtherLeader))) }
+        ensures refused { IfErr result (λ e. AtEach D.PartialEq.eq S.Scheme S.batchable self.old (λ s h. (e ≡ OtherLeader) × MatchOption (leader_of h) ⊥ (λ known. known ≢ leader))) }
+        ensures ok { OnOk result (AtEach D.PartialEq.eq S.Scheme S.batchable self.old (λ s h. RoundKeeps D.PartialEq.eq S.Scheme S.batchable s self.new (if is_none (leader_of h) then Led leader ∷ h else h))) }
+        ensures err { OnErr result (AtEach D.PartialEq.eq S.Scheme S.batchable self.old (λ s h. RoundKeeps D.PartialEq.eq S.Scheme S.batchable s self.new h)) }
+    {
+        let led = self.tracker.notarized_by(leader);
+        match self.verifier.lead(leader, led) {
+            Ok(()) => Ok(()),
+            Err(fault) => Err(fault),
+        }
+    }
+
+    /// Makes a certificate, or judges the votes that wait, of the first kind of which one of the two is due: notarization,
+    /// nullification, finalization. After an `Err` the call counts as not made.
+    pub fn try_construct(
+        &mut self,
+        alloc: Global,
+    ) -> Result<Option<Batch<Certificate<S, D>>>, AllocError>
+        ensures none { IfOk result (λ made. AtEach D.PartialEq.eq S.Scheme S.batchable self.old (λ s h. is_none made ≡ is_none (next_kind D.PartialEq.eq s h))) }
+        ensures batch { IfOk result (λ made. IfSome made (λ batch. AtEach D.PartialEq.eq S.Scheme S.batchable self.old (λ s h. MatchOption (next_kind D.PartialEq.eq s h) ⊥ (λ kind. IsBatch S.Scheme D.PartialEq.eq s kind h batch)))) }
+        ensures ok { IfOk result (λ made. AtEach D.PartialEq.eq S.Scheme S.batchable self.old (λ s h. MatchOption (next_kind D.PartialEq.eq s h) (RoundKeeps D.PartialEq.eq S.Scheme S.batchable s self.new h) (λ kind. RoundKeeps D.PartialEq.eq S.Scheme S.batchable s self.new (after kind made h)))) }
+        ensures err { OnErr result (AtEach D.PartialEq.eq S.Scheme S.batchable self.old (λ s h. RoundKeeps D.PartialEq.eq S.Scheme S.batchable s self.new h)) }
+    {
+        match self.verifier.construct(alloc, Kind::Notarization)? {
+            Some(batch) => return Ok(Some(batch)),
+            None => {}
+        }
+        match self.verifier.construct(alloc, Kind::Nullification)? {
+            Some(batch) => return Ok(Some(batch)),
+            None => {}
+        }
+        match self.verifier.construct(alloc, Kind::Finalization)? {
+            Some(batch) => Ok(Some(batch)),
+            None => Ok(None),
+        }
+    }
+
+    /// The selected proposal, once in the round's life, where the leader is named and is another than this member.
+    pub fn try_forward_proposal(&mut self, me: Participant) -> Option<Proposal<D>>
+        ensures exact { AtEach D.PartialEq.eq S.Scheme S.batchable self.old (λ s h. result ≡ forwardable h me) }
+        ensures keeps { AtEach D.PartialEq.eq S.Scheme S.batchable self.old (λ s h. RoundKeeps D.PartialEq.eq S.Scheme S.batchable s self.new (if is_some (forwardable h me) then Forwarded ∷ h else h)) }
+    {
+        match self.forwardable(me) {
+            Some(proposal) => {
+                self.forwarded = true;
+                Some(proposal)
+            }
+            None => None,
+        }
+    }
+
+    /// The proposal that is to be forwarded.
+    fn forwardable(&self, me: Participant) -> Option<Proposal<D>>
+        ensures { AtEach D.PartialEq.eq S.Scheme S.batchable self.now (λ s h. result ≡ forwardable h me) }
+    {
+        if self.forwarded || !self.is_led_by_another(me) {
+            return None;
+        }
+        match self.verifier.proposal() {
+            Some(proposal) => Some(*proposal),
+            None => None,
+        }
+    }
+
+    /// Whether the leader is named, and is another than this member.
+    fn is_led_by_another(&self, me: Participant) -> bool
+        ensures { AtEach D.PartialEq.eq S.Scheme S.batchable self.now (λ s h. result ≡ is_another (leader_of h) me) }
+    {
+        match self.verifier.leader() {
+            Some(leader) => leader != me,
+            None => false,
+        }
+    }
+}
