@@ -141,11 +141,11 @@ module _ {S D P G C : Type 0} (same : D → D → Bool) (s : Setup S) (kind : Ki
       let w : before.waiting.items ≡ (if counts && is_kind kind (vote_kind v) then waiting same s kind h ++ v ∷ [] else waiting same s kind h) = is.waiting_are ∙ rw (k.waiting_are, and-true counts (is_kind kind (vote_kind v))) refl in
       let x : before.verified.items ≡ verified same s kind h = is.verified_are ∙ unpushed counts (is_kind kind (vote_kind v)) first.verified.items (first.verified.items ++ v ∷ []) ∙ k.verified_are in
       chosen h e old next before after first.complete (if counts && is_kind kind (vote_kind v) then waiting same s kind h ++ v ∷ [] else waiting same s kind h) (verified same s kind h)
-        (record { complete_is = is.complete_is; waiting_are = w; verified_are = x }) keeps two k.complete_is
-        (pushed-stay h v old next (counts && is_kind kind (vote_kind v)) (waiting same s kind h) one (waiting-count same s kind h) (λ b. rw two (good (and-left counts (is_kind kind (vote_kind v)) b))))
-        (still h old next (verified same s kind h) one (verified-count same s kind h))
-        (pushed-counts (s.is_skipped || is_complete kind h) (is_kind kind (vote_kind v)) counts p (waiting same s kind h) v (p v) refl (no-wait h) mine)
-        (counts-open (s.is_skipped || is_complete kind h) p (verified same s kind h) (no-sure h))
+      (record { complete_is = is.complete_is; waiting_are = w; verified_are = x }) keeps two k.complete_is
+      (pushed-stay h v old next (counts && is_kind kind (vote_kind v)) (waiting same s kind h) one (waiting-count same s kind h) (λ b. rw two (good (and-left counts (is_kind kind (vote_kind v)) b))))
+      (still h old next (verified same s kind h) one (verified-count same s kind h))
+      (pushed-counts (s.is_skipped || is_complete kind h) (is_kind kind (vote_kind v)) counts p (waiting same s kind h) v (p v) refl (no-wait h) mine)
+      (counts-open (s.is_skipped || is_complete kind h) p (verified same s kind h) (no-sure h))
 
   -- an own vote was given
   pub keeps-cast : (h : History S D P G C) (v : Vote S D P G C) (counts : Bool) (old next : ProposalState D) (first before after : Pool S D P G C)
@@ -160,11 +160,11 @@ module _ {S D P G C : Type 0} (same : D → D → Bool) (s : Setup S) (kind : Ki
       let x : before.verified.items ≡ (if counts && is_kind kind (vote_kind v) then verified same s kind h ++ v ∷ [] else verified same s kind h) = is.verified_are ∙ rw (k.verified_are, and-true counts (is_kind kind (vote_kind v))) refl in
       let w : before.waiting.items ≡ waiting same s kind h = is.waiting_are ∙ unpushed counts (is_kind kind (vote_kind v)) first.waiting.items (first.waiting.items ++ v ∷ []) ∙ k.waiting_are in
       chosen h e old next before after first.complete (waiting same s kind h) (if counts && is_kind kind (vote_kind v) then verified same s kind h ++ v ∷ [] else verified same s kind h)
-        (record { complete_is = is.complete_is; waiting_are = w; verified_are = x }) keeps two k.complete_is
-        (still h old next (waiting same s kind h) one (waiting-count same s kind h))
-        (pushed-stay h v old next (counts && is_kind kind (vote_kind v)) (verified same s kind h) one (verified-count same s kind h) (λ b. rw two (good (and-left counts (is_kind kind (vote_kind v)) b))))
-        (counts-open (s.is_skipped || is_complete kind h) p (waiting same s kind h) (no-wait h))
-        (pushed-counts (s.is_skipped || is_complete kind h) (is_kind kind (vote_kind v)) counts p (verified same s kind h) v (p v) refl (no-sure h) mine)
+      (record { complete_is = is.complete_is; waiting_are = w; verified_are = x }) keeps two k.complete_is
+      (still h old next (waiting same s kind h) one (waiting-count same s kind h))
+      (pushed-stay h v old next (counts && is_kind kind (vote_kind v)) (verified same s kind h) one (verified-count same s kind h) (λ b. rw two (good (and-left counts (is_kind kind (vote_kind v)) b))))
+      (counts-open (s.is_skipped || is_complete kind h) p (waiting same s kind h) (no-wait h))
+      (pushed-counts (s.is_skipped || is_complete kind h) (is_kind kind (vote_kind v)) counts p (verified same s kind h) v (p v) refl (no-sure h) mine)
 
   -- a certificate was recorded, or made
   pub keeps-certified : (h : History S D P G C) (c : Certificate S D P G C) (old next : ProposalState D) (first before after : Pool S D P G C)
@@ -180,11 +180,11 @@ module _ {S D P G C : Type 0} (same : D → D → Bool) (s : Setup S) (kind : Ki
       let more : (b || is_some rest) ≡ is_complete kind (e ∷ h) = found-more b c rest in
       let closed : before.complete ≡ (b || is_some rest) = rw k.complete_is at is.complete_is in
       chosen h e old next before after (b || is_some rest) (if b then [] else waiting same s kind h) (if b then [] else verified same s kind h)
-        (record { complete_is = closed; waiting_are = rw k.waiting_are at is.waiting_are; verified_are = rw k.verified_are at is.verified_are }) keeps two more
-        (λ stays. finished-passes b (is_candidate same (proposal_of (selection_of next))) (waiting same s kind h) (still h old next (waiting same s kind h) one (waiting-count same s kind h) stays))
-        (λ stays. finished-passes b (is_candidate same (proposal_of (selection_of next))) (verified same s kind h) (still h old next (verified same s kind h) one (verified-count same s kind h) stays))
-        (rw (← more) (finished-counts s.is_skipped b (is_some rest) p (waiting same s kind h) (no-wait h)))
-        (rw (← more) (finished-counts s.is_skipped b (is_some rest) p (verified same s kind h) (no-sure h)))
+      (record { complete_is = closed; waiting_are = rw k.waiting_are at is.waiting_are; verified_are = rw k.verified_are at is.verified_are }) keeps two more
+      (λ stays. finished-passes b (is_candidate same (proposal_of (selection_of next))) (waiting same s kind h) (still h old next (waiting same s kind h) one (waiting-count same s kind h) stays))
+      (λ stays. finished-passes b (is_candidate same (proposal_of (selection_of next))) (verified same s kind h) (still h old next (verified same s kind h) one (verified-count same s kind h) stays))
+      (rw (← more) (finished-counts s.is_skipped b (is_some rest) p (waiting same s kind h) (no-wait h)))
+      (rw (← more) (finished-counts s.is_skipped b (is_some rest) p (verified same s kind h) (no-sure h)))
 
   -- the leader was named
   pub keeps-led : (h : History S D P G C) (i : ℕ) (old next : ProposalState D) (first after : Pool S D P G C)
@@ -192,10 +192,10 @@ module _ {S D P G C : Type 0} (same : D → D → Bool) (s : Setup S) (kind : Ki
       → PoolKeeps same s kind after (Led i ∷ h)
   keeps-led h i old next first after k keeps one two =
       chosen h (Led i) old next first after (is_complete kind h) (waiting same s kind h) (verified same s kind h) k keeps two refl
-        (still h old next (waiting same s kind h) one (waiting-count same s kind h))
-        (still h old next (verified same s kind h) one (verified-count same s kind h))
-        (counts-open (s.is_skipped || is_complete kind h) (is_candidate same (selected (Led i ∷ h))) (waiting same s kind h) (no-wait h))
-        (counts-open (s.is_skipped || is_complete kind h) (is_candidate same (selected (Led i ∷ h))) (verified same s kind h) (no-sure h))
+      (still h old next (waiting same s kind h) one (waiting-count same s kind h))
+      (still h old next (verified same s kind h) one (verified-count same s kind h))
+      (counts-open (s.is_skipped || is_complete kind h) (is_candidate same (selected (Led i ∷ h))) (waiting same s kind h) (no-wait h))
+      (counts-open (s.is_skipped || is_complete kind h) (is_candidate same (selected (Led i ∷ h))) (verified same s kind h) (no-sure h))
 
   -- the votes of a kind were judged, and no certificate came of it
   pub keeps-judged : (h : History S D P G C) (k : Kind) (failing : List ℕ) (first after : Pool S D P G C)

@@ -70,26 +70,26 @@ module _ {S D P G C : Type 0} (same : D → D → Bool) (g : Ghosts S D P G C) (
   pub judged-of : (s : Setup S) (h : History S D P G C) (kind : Kind) (v : Verifier S D P G C) (pool : Pool S D P G C) (x : Statement D) (judged : Judged C)
       → VerifierKeeps same g batchable s v h → pool ≡ pool_at kind v.pools → context s kind h ≡ Some x
       → (AreDistinct (map vote_attestation pool.verified.items ++ map vote_attestation pool.waiting.items) → All (λ a. g.attests v.scheme.value a.signer x a.signature) (map vote_attestation pool.verified.items)
-        → IsJudged (g.certifies v.scheme.value x) g.lists (batchable v.scheme.value) (λ i a. g.attests v.scheme.value i x a) g.enumerates v.needed (map vote_attestation pool.verified.items) (map vote_attestation pool.waiting.items) judged)
+      → IsJudged (g.certifies v.scheme.value x) g.lists (batchable v.scheme.value) (λ i a. g.attests v.scheme.value i x a) g.enumerates v.needed (map vote_attestation pool.verified.items) (map vote_attestation pool.waiting.items) judged)
       → IsJudged (g.certifies s.scheme x) g.lists s.batchable (λ i a. g.attests s.scheme i x a) g.enumerates s.needed (map vote_attestation (verified same s kind h)) (map vote_attestation (waiting same s kind h)) judged
   judged-of s h kind v pool x judged k one e f =
       let p = pool-keeps same g batchable s v h kind k in
       let f' = rw (one, p.verified_are, p.waiting_are, k.scheme_is, k.batchable_is, k.needed_is) at f in
       f' (counted-distinct same g.attests s kind h k.lawful)
-        (attest-it same law g.attests s kind h k.lawful x (verified same s kind h) (verified-attest same g.attests s kind h k.lawful) (verified-state same law g.attests s kind h k.lawful x e))
+      (attest-it same law g.attests s kind h k.lawful x (verified same s kind h) (verified-attest same g.attests s kind h k.lawful) (verified-state same law g.attests s kind h k.lawful x e))
 
   -- the certificate of the verified votes, said of the history
   pub made-of : (s : Setup S) (h : History S D P G C) (kind : Kind) (v : Verifier S D P G C) (first : Vote S D P G C) (votes : List (Vote S D P G C)) (made : Option C)
       → VerifierKeeps same g batchable s v h → (pool_at kind v.pools).verified.items ≡ first ∷ votes → is_ready same s kind h ≡ true
       → (AreDistinct (map vote_attestation (pool_at kind v.pools).verified.items) → All (λ a. g.attests v.scheme.value a.signer (vote_statement first) a.signature) (map vote_attestation (pool_at kind v.pools).verified.items)
-        → MatchOption made (length (map vote_attestation (pool_at kind v.pools).verified.items) < v.needed) (λ c. (v.needed ≤ length (map vote_attestation (pool_at kind v.pools).verified.items)) × IsWhole (g.certifies v.scheme.value (vote_statement first)) g.lists g.enumerates (map vote_attestation (pool_at kind v.pools).verified.items) c))
+      → MatchOption made (length (map vote_attestation (pool_at kind v.pools).verified.items) < v.needed) (λ c. (v.needed ≤ length (map vote_attestation (pool_at kind v.pools).verified.items)) × IsWhole (g.certifies v.scheme.value (vote_statement first)) g.lists g.enumerates (map vote_attestation (pool_at kind v.pools).verified.items) c))
       → MatchOption made ⊥ (λ c. IsWhole (g.certifies s.scheme (vote_statement first)) g.lists g.enumerates (map vote_attestation (verified same s kind h)) c)
   made-of s h kind v first votes made k e ready f =
       let p = pool-keeps same g batchable s v h kind k in
       let all = ready-state same law g.attests s kind h k.lawful first votes (sym p.verified_are ∙ e) ready in
       let f' = rw (p.verified_are, k.scheme_is, k.needed_is) at f in
       go made (f' (first-part (λ (a b : Attestation G). a.signer ≢ b.signer) (map vote_attestation (verified same s kind h)) (map vote_attestation (waiting same s kind h)) (counted-distinct same g.attests s kind h k.lawful))
-        (attest-it same law g.attests s kind h k.lawful (vote_statement first) (verified same s kind h) (verified-attest same g.attests s kind h k.lawful) all))
+      (attest-it same law g.attests s kind h k.lawful (vote_statement first) (verified same s kind h) (verified-attest same g.attests s kind h k.lawful) all))
     where
       enough : s.needed ≤ length (map vote_attestation (verified same s kind h))
       enough = grind (arith, length-map (verified same s kind h) vote_attestation, (and_parts (nat_le s.needed (length (verified same s kind h))) (is_some (context s kind h) || are_one same (verified same s kind h)) ready).0)

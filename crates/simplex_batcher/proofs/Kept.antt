@@ -156,12 +156,12 @@ module _ {S D P G C : Type 0} where
         quorum-kept kind q alone open_ =
             let votes = verified same s kind h ++ waiting same s kind h in
             let within : (i : ℕ) → Contains q.signers i → Contains (map vote_signer votes) i = λ i there.
-              let b = All-contains (Backs attests s kind h q.stated) q.signers i q.each there in
-              rw (← b.signer_is) (Contains-map vote_signer votes b.vote
-                (elim (vote-kept attests s kind b.vote made b.kind_is b.attests_it h lawful open_ b.accepted_is (along s kind h q.stated b.vote q.context_is alone b.kind_is b.states)) [
-                  | inl at ↦ Contains-append_left (verified same s kind h) (waiting same s kind h) b.vote at
-                  | inr at ↦ Contains-append_right (verified same s kind h) (waiting same s kind h) b.vote at
-                ])) in
+            let b = All-contains (Backs attests s kind h q.stated) q.signers i q.each there in
+            rw (← b.signer_is) (Contains-map vote_signer votes b.vote
+            (elim (vote-kept attests s kind b.vote made b.kind_is b.attests_it h lawful open_ b.accepted_is (along s kind h q.stated b.vote q.context_is alone b.kind_is b.states)) [
+              | inl at ↦ Contains-append_left (verified same s kind h) (waiting same s kind h) b.vote at
+              | inr at ↦ Contains-append_right (verified same s kind h) (waiting same s kind h) b.vote at
+            ])) in
             let few : length q.signers ≤ length (map vote_signer votes) = no_longer q.signers (map vote_signer votes) q.distinct within in
             omega (arith, q.enough, few, length-map votes vote_signer, length-append (verified same s kind h) (waiting same s kind h))
 

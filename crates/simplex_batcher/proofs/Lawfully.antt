@@ -46,7 +46,7 @@ module _ {X : Type 0} where
       let rest : AllPairs R (xs ++ ys) = λ i j d l m. pairs (suc i) (suc j) d (omega arith) (omega arith) in
       let first : All (R x) (xs ++ ys) = λ k d l. pairs zero (suc k) d (omega arith) (omega arith) in
       AllPairs-cons R x (xs ++ z ∷ ys) (All-between (R x) xs ys z first (turn z x (All-head (R z) x (xs ++ ys) all)))
-        (AllPairs-between R turn xs ys z rest (All-tail (R z) x (xs ++ ys) all))
+      (AllPairs-between R turn xs ys z rest (All-tail (R z) x (xs ++ ys) all))
     where
       All-between : (P : X → Type 0) (xs ys : List X) (z : X) → All P (xs ++ ys) → P z → All P (xs ++ z ∷ ys)
       All-between P [] ys z all here = All-cons P z ys here all
@@ -89,15 +89,17 @@ module _ {S D P G C : Type 0} (same : D → D → Bool) (s : Setup S) (kind : Ki
   each-counted Holds (Taken v ∷ h) each =
       let rest = each-counted Holds h (λ u there. each u (Contains-append_right (v ∷ []) (accepted h) u there)) in
       let closed = s.is_skipped || is_complete kind h in
-      let p = is_candidate same (selected (Taken v ∷ h)) in
-      (All-counted Holds closed p (if is_kind kind (vote_kind v) then waiting same s kind h ++ v ∷ [] else waiting same s kind h) (All-if_pushed Holds (is_kind kind (vote_kind v)) (waiting same s kind h) v rest.0 (each v (zero, omega arith, refl))),
-        All-counted Holds closed p (verified same s kind h) rest.1)
+      let p = is_candidate same (selected (Taken v ∷ h)) in (
+        All-counted Holds closed p (if is_kind kind (vote_kind v) then waiting same s kind h ++ v ∷ [] else waiting same s kind h) (All-if_pushed Holds (is_kind kind (vote_kind v)) (waiting same s kind h) v rest.0 (each v (zero, omega arith, refl))),
+        All-counted Holds closed p (verified same s kind h) rest.1,
+      )
   each-counted Holds (Cast v ∷ h) each =
       let rest = each-counted Holds h (λ u there. each u (Contains-append_right (v ∷ []) (accepted h) u there)) in
       let closed = s.is_skipped || is_complete kind h in
-      let p = is_candidate same (selected (Cast v ∷ h)) in
-      (All-counted Holds closed p (waiting same s kind h) rest.0,
-        All-counted Holds closed p (if is_kind kind (vote_kind v) then verified same s kind h ++ v ∷ [] else verified same s kind h) (All-if_pushed Holds (is_kind kind (vote_kind v)) (verified same s kind h) v rest.1 (each v (zero, omega arith, refl))))
+      let p = is_candidate same (selected (Cast v ∷ h)) in (
+        All-counted Holds closed p (waiting same s kind h) rest.0,
+        All-counted Holds closed p (if is_kind kind (vote_kind v) then verified same s kind h ++ v ∷ [] else verified same s kind h) (All-if_pushed Holds (is_kind kind (vote_kind v)) (verified same s kind h) v rest.1 (each v (zero, omega arith, refl))),
+      )
   each-counted Holds (Certified c ∷ h) each =
       let rest = each-counted Holds h each in
       let closed = s.is_skipped || is_complete kind (Certified c ∷ h) in
@@ -114,9 +116,10 @@ module _ {S D P G C : Type 0} (same : D → D → Bool) (s : Setup S) (kind : Ki
       let p = is_candidate same (selected (Forwarded ∷ h)) in
       (All-counted Holds closed p (waiting same s kind h) rest.0, All-counted Holds closed p (verified same s kind h) rest.1)
   each-counted Holds (Judged k failing ∷ h) each =
-      let rest = each-counted Holds h each in
-      (All-if_none Holds (is_kind kind k) (waiting same s kind h) rest.0,
-        All-if_more Holds (is_kind kind k) (verified same s kind h) (filter (λ v. not (is_among failing (vote_signer v))) (waiting same s kind h)) rest.1 (λ _. All-filter (λ v. not (is_among failing (vote_signer v))) Holds (waiting same s kind h) rest.0))
+      let rest = each-counted Holds h each in (
+        All-if_none Holds (is_kind kind k) (waiting same s kind h) rest.0,
+        All-if_more Holds (is_kind kind k) (verified same s kind h) (filter (λ v. not (is_among failing (vote_signer v))) (waiting same s kind h)) rest.1 (λ _. All-filter (λ v. not (is_among failing (vote_signer v))) Holds (waiting same s kind h) rest.0),
+      )
 
 -- two votes are of two signers
 abbrev pub AreApart : {S D P G C : Type 0} → Vote S D P G C → Vote S D P G C → Type 0
@@ -214,4 +217,4 @@ module _ {S D P G C : Type 0} where
     verified-attest (Forwarded ∷ h) lawful = All-counted (VoteAttests attests s) (s.is_skipped || is_complete kind h) (is_candidate same (selected (Forwarded ∷ h))) (verified same s kind h) (verified-attest h lawful.1)
     verified-attest (Judged k failing ∷ h) lawful = All-if_more (VoteAttests attests s) (is_kind kind k) (verified same s kind h) (filter (λ v. not (is_among failing (vote_signer v))) (waiting same s kind h)) (verified-attest h lawful.1)
         (λ one. filter-holds (VoteAttests attests s) (λ v. not (is_among failing (vote_signer v))) (waiting same s kind h)
-          (λ v there out. lawful.0.others_attest v (rw (kind-same kind k one) there) (not-true (is_among failing (vote_signer v)) out)))
+        (λ v there out. lawful.0.others_attest v (rw (kind-same kind k one) there) (not-true (is_among failing (vote_signer v)) out)))

@@ -187,9 +187,9 @@ module _ {D : Type 0} (same : D → D → Bool) (law : (x y : D) → IsTrue (sam
             let head = All-head IsMine first votes all in
             let rest = All-tail IsMine first votes all in
             All-cons (λ v. vote_statement v ≡ vote_statement first) first votes refl
-              (λ k d l.
-                let out = not-found (λ u. not (is_candidate same (vote_proposal first) u)) votes (slice_index_or votes k d) (is_none-None (find (λ u. not (is_candidate same (vote_proposal first) u)) votes) one) (Contains-get_or votes k d l) in
-                states kind s.round (vote_proposal first) (vote_statement first) (slice_index_or votes k d) (states-own kind s.round first head.0 head.1) (rest k d l).0 (rest k d l).1 (not-not (is_candidate same (vote_proposal first) (slice_index_or votes k d)) out))
+            (λ k d l.
+            let out = not-found (λ u. not (is_candidate same (vote_proposal first) u)) votes (slice_index_or votes k d) (is_none-None (find (λ u. not (is_candidate same (vote_proposal first) u)) votes) one) (Contains-get_or votes k d l) in
+            states kind s.round (vote_proposal first) (vote_statement first) (slice_index_or votes k d) (states-own kind s.round first head.0 head.1) (rest k d l).0 (rest k d l).1 (not-not (is_candidate same (vote_proposal first) (slice_index_or votes k d)) out))
 
         -- where the verified votes are enough, each states what the first states
         pub ready-state : (first : Vote S D P G C) (votes : List (Vote S D P G C)) → verified same s kind h ≡ first ∷ votes → is_ready same s kind h ≡ true → All (λ v. vote_statement v ≡ vote_statement first) (verified same s kind h)

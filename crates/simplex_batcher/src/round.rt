@@ -22,9 +22,7 @@ use crate::tracker::VoteTracker;
 use crate::verifier::Verifier;
 use crate::votes::{is_notarize, kind_of, kind_of_certificate, round_of, round_of_certificate};
 use simplex_messages::{Activity, Certificate, Vote};
-use simplex_types::{
-    Attributable, Digest, Duplicate, Participant, Proposal, Round as Rnd, Scheme,
-};
+use simplex_types::{Attributable, Digest, Duplicate, Participant, Proposal, Round as Rnd, Scheme};
 use std::alloc::{AllocError, Global};
 use std::rc::Rc;
 

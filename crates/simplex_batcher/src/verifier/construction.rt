@@ -176,7 +176,13 @@ impl<S: Scheme<D>, D: Digest> Verifier<S, D> {
         };
         let subject = subject_of(first);
         let given = attestations_of(alloc, votes)?;
-        match assemble_enough::<S, D>(alloc, &self.scheme, &subject, self.needed as usize, &given)? {
+        match assemble_enough::<S, D>(
+            alloc,
+            &self.scheme,
+            &subject,
+            self.needed as usize,
+            &given,
+        )? {
             Some(certificate) => Ok(Some(certificate_on(&subject, certificate))),
             None => Ok(None),
         }

@@ -37,7 +37,7 @@ pub returns-in_err-put-clause-err : goal.returns-in_err-put-clause-err
 returns-in_err-put-clause-err g c =
     let fault = err_from_is_err_and c.from_residual-in_err-put.result c.from_residual-in_err-put.ensures.1 in
     rw fault.1 (λ s h k.
-      c.in_err-put.ensures.err s h k (taken-new s h c.args.sender c.args.vote (sym (c.takes.ensures s h k) ∙ c.if-not-takes.false) ((c.belongs.ensures s h k).0 c.if-not-belongs.false)))
+    c.in_err-put.ensures.err s h k (taken-new s h c.args.sender c.args.vote (sym (c.takes.ensures s h k) ∙ c.if-not-takes.false) ((c.belongs.ensures s h k).0 c.if-not-belongs.false)))
 
 pub returns-clause-ok : goal.returns-clause-ok
 returns-clause-ok g c = λ s h k.

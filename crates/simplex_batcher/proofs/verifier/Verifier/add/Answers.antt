@@ -20,9 +20,9 @@ returns-clause-waits g c = λ s h k waits allowed.
     let good = counts-good same s h e v c.counts-held.result counts in
     let is = c.choose-changed.ensures.chosen in
     chosen-keeps same g.S.Scheme g.S.Scheme.batchable s h e c.select-next.result old _ c.choose-changed.new.self k refl refl refl refl k.leader_is is one allowed
-      (keeps-taken same s Notarization h v c.counts-held.result old.proposal c.select-next.result old.pools.notarizes _ _ k.notarizes (rw waits at c.in_ok-push.ensures.notarizes) is.notarizes k.selection_is one (mine Notarization) good)
-      (keeps-taken same s Nullification h v c.counts-held.result old.proposal c.select-next.result old.pools.nullifies _ _ k.nullifies (rw waits at c.in_ok-push.ensures.nullifies) is.nullifies k.selection_is one (mine Nullification) good)
-      (keeps-taken same s Finalization h v c.counts-held.result old.proposal c.select-next.result old.pools.finalizes _ _ k.finalizes (rw waits at c.in_ok-push.ensures.finalizes) is.finalizes k.selection_is one (mine Finalization) good)
+    (keeps-taken same s Notarization h v c.counts-held.result old.proposal c.select-next.result old.pools.notarizes _ _ k.notarizes (rw waits at c.in_ok-push.ensures.notarizes) is.notarizes k.selection_is one (mine Notarization) good)
+    (keeps-taken same s Nullification h v c.counts-held.result old.proposal c.select-next.result old.pools.nullifies _ _ k.nullifies (rw waits at c.in_ok-push.ensures.nullifies) is.nullifies k.selection_is one (mine Nullification) good)
+    (keeps-taken same s Finalization h v c.counts-held.result old.proposal c.select-next.result old.pools.finalizes _ _ k.finalizes (rw waits at c.in_ok-push.ensures.finalizes) is.finalizes k.selection_is one (mine Finalization) good)
 
 pub returns-clause-verified : goal.returns-clause-verified
 returns-clause-verified g c = λ s h k own allowed.
@@ -36,6 +36,6 @@ returns-clause-verified g c = λ s h k own allowed.
     let good = counts-good same s h e v c.counts-held.result counts in
     let is = c.choose-changed.ensures.chosen in
     chosen-keeps same g.S.Scheme g.S.Scheme.batchable s h e c.select-next.result old _ c.choose-changed.new.self k refl refl refl refl k.leader_is is one allowed
-      (keeps-cast same s Notarization h v c.counts-held.result old.proposal c.select-next.result old.pools.notarizes _ _ k.notarizes (rw own at c.in_ok-push.ensures.notarizes) is.notarizes k.selection_is one (mine Notarization) good)
-      (keeps-cast same s Nullification h v c.counts-held.result old.proposal c.select-next.result old.pools.nullifies _ _ k.nullifies (rw own at c.in_ok-push.ensures.nullifies) is.nullifies k.selection_is one (mine Nullification) good)
-      (keeps-cast same s Finalization h v c.counts-held.result old.proposal c.select-next.result old.pools.finalizes _ _ k.finalizes (rw own at c.in_ok-push.ensures.finalizes) is.finalizes k.selection_is one (mine Finalization) good)
+    (keeps-cast same s Notarization h v c.counts-held.result old.proposal c.select-next.result old.pools.notarizes _ _ k.notarizes (rw own at c.in_ok-push.ensures.notarizes) is.notarizes k.selection_is one (mine Notarization) good)
+    (keeps-cast same s Nullification h v c.counts-held.result old.proposal c.select-next.result old.pools.nullifies _ _ k.nullifies (rw own at c.in_ok-push.ensures.nullifies) is.nullifies k.selection_is one (mine Nullification) good)
+    (keeps-cast same s Finalization h v c.counts-held.result old.proposal c.select-next.result old.pools.finalizes _ _ k.finalizes (rw own at c.in_ok-push.ensures.finalizes) is.finalizes k.selection_is one (mine Finalization) good)

@@ -11,7 +11,7 @@ use Rattle.simplex_batcher.proofs.verifier.Verifier.assemble_verified.Goals as g
 pub returns-in_default : goal.returns-in_default
 returns-in_default g c = λ s h k ready.
     none-ready g.D.PartialEq.eq g.S.Scheme g.S.Scheme.batchable s h c.args.kind c.args.self.now k ready
-      (rw (c.as_slice-votes.ensures.value, c.of.ensures) at c.in_default.len_below)
+    (rw (c.as_slice-votes.ensures.value, c.of.ensures) at c.in_default.len_below)
 
 pub returns-in-Some : goal.returns-in-Some
 returns-in-Some g c = λ s h k ready.

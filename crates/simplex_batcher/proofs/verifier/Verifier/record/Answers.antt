@@ -23,6 +23,6 @@ returns-clause-keeps g c = λ s h k ours.
     let is = c.choose.ensures.chosen in
     let kind = c.kind_of_certificate.ensures in
     chosen-keeps same g.S.Scheme g.S.Scheme.batchable s h e c.select-next.result old _ c.choose.new.self k refl refl refl refl k.leader_is is one ours
-      (keeps-certified same s Notarization h x old.proposal c.select-next.result old.pools.notarizes _ _ k.notarizes (rw kind at c.finish.ensures.notarizes) is.notarizes k.selection_is one)
-      (keeps-certified same s Nullification h x old.proposal c.select-next.result old.pools.nullifies _ _ k.nullifies (rw kind at c.finish.ensures.nullifies) is.nullifies k.selection_is one)
-      (keeps-certified same s Finalization h x old.proposal c.select-next.result old.pools.finalizes _ _ k.finalizes (rw kind at c.finish.ensures.finalizes) is.finalizes k.selection_is one)
+    (keeps-certified same s Notarization h x old.proposal c.select-next.result old.pools.notarizes _ _ k.notarizes (rw kind at c.finish.ensures.notarizes) is.notarizes k.selection_is one)
+    (keeps-certified same s Nullification h x old.proposal c.select-next.result old.pools.nullifies _ _ k.nullifies (rw kind at c.finish.ensures.nullifies) is.nullifies k.selection_is one)
+    (keeps-certified same s Finalization h x old.proposal c.select-next.result old.pools.finalizes _ _ k.finalizes (rw kind at c.finish.ensures.finalizes) is.finalizes k.selection_is one)
