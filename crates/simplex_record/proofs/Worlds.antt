@@ -3,12 +3,14 @@ use Rattle.std.proofs.Common.{◌≡◌, ◌≢◌, ◌⊎◌, inl, inr, ⊎_eli
 use Rattle.std.specs.Prelude.{⊤, unwrap_or, All, length}
 use Rattle.std.specs.List.{Contains}
 use Rattle.std.proofs.lemmas.Bool.{cases_eq, cases_lt}
+use Rattle.std.proofs.lemmas.List.Elements.{All-contains}
 use Rattle.simplex_types.specs.declared.attestation.Attestation.{Attestation}
 use Rattle.simplex_types.specs.declared.position.Round.{Round}
 use Rattle.simplex_types.specs.declared.proposal.Proposal.{Proposal}
 use Rattle.simplex_types.specs.Positions.{term_start, IsTermStart, InCoveringRange}
-use Rattle.simplex_types.specs.Quorum.{IsQuorum, quorum}
-use Rattle.simplex_types.specs.Overlap.{signers, AttestsIn, two_quorums_meet, beyond_one_more, signers-AreQuorum, signers-attest}
+use Rattle.simplex_types.specs.Quorum.{IsQuorum, faults, quorum}
+use Rattle.simplex_types.specs.Counting.{Contains-head, Contains-rest, escapes}
+use Rattle.simplex_types.specs.Overlap.{AreQuorum, signers, AttestsIn, two_quorums_meet, signers-AreQuorum, signers-attest}
 use Rattle.simplex_types.specs.Subject.{Statement, notarize, nullify, finalize}
 use Rattle.simplex_messages.specs.declared.certificate.Certificate.{Certificate}
 use Rattle.simplex_messages.specs.declared.certificate.Certificate.TheVariants as certificate
@@ -21,6 +23,18 @@ use Rattle.simplex_record.specs.Agreement.{IsFor, OneProposalAView, NoFinalizedV
 use Rattle.simplex_record.specs.Chain.{IsExplicit, IsGround, AllStandOnGround, IsNotarized, LeadDown, OneChain}
 use Rattle.simplex_record.proofs.Figures.{term_start-up}
 use Rattle.simplex_record.proofs.Member.{one_notarize, finalize_is_notarized, finalize_is_above, finalize_is_healed, skipped_is_covered, taken_certifies, finalize_is_judged, notarized_is_above}
+
+-- in a committee of two or more a quorum has a member that isn't faulty and isn't l
+beyond_one_more : (n : ℕ) (xs faulty : List ℕ) (l : ℕ) → 2 ≤ n → AreQuorum n xs → length faulty ≤ faults n
+    → (x : ℕ) × (x < n) × Contains xs x × (x ≢ l) × (Contains faulty x → ⊥)
+beyond_one_more n xs faulty l two p few =
+    let found = escapes xs (l ∷ faulty) p.once (omega (arith, few, p.enough)) in (
+      found.0,
+      All-contains (λ (x : ℕ). x < n) xs found.0 p.below found.1,
+      found.1,
+      λ same. found.2 (subst (Contains (l ∷ faulty)) (sym same) (Contains-head l faulty)),
+      λ liar. found.2 (Contains-rest l faulty found.0 liar),
+    )
 
 -- a quorum by a member's own scheme is one by the committee's
 quorum_alike : {D G : Type 0} (size own_size : ℕ) (attests own_attests : ℕ → Statement D → G → Type 0) (s : Statement D) (listed : List (Attestation G))
