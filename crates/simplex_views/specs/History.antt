@@ -1,6 +1,6 @@
 -- What can happen to a voter, and what its views see of it. Histories hold the newest first.
-use Rattle.std.specs.Prelude.{◌≡◌, ◌+◌, ◌==◌, ◌&&◌, ◌||◌, nat_lt, nat_le, nat_eq, ℕ, Bool, true, false, max, List, [], ◌∷◌, Option, Some, None, is_some, option_map, if◌then◌else◌}
-use Rattle.std.specs.Option.{option_or, option_eq}
+use Rattle.std.specs.Prelude.{◌+◌, ◌==◌, ◌&&◌, ◌||◌, nat_lt, nat_le, ℕ, Bool, true, false, max, List, [], ◌∷◌, Option, Some, None, is_some, option_map, if◌then◌else◌}
+use Rattle.std.specs.Option.{option_or}
 use Rattle.simplex_types.specs.declared.proposal.Proposal.{Proposal}
 use Rattle.simplex_types.specs.Positions.{next_term_start, term_end}
 use Rattle.simplex_messages.specs.declared.nullification.Nullification.{Nullification}
@@ -71,7 +71,7 @@ pub data Point (S D P G C : Type 0) : Type 0 where
   -- the member's record says so: a vote, of a notarize with whether its proposal was taken; a verdict
   recalled_notarize : Proposal D → Bool → Point S D P G C
   recalled_nullify : ℕ → Point S D P G C
-  recalled_finalize : ℕ → Point S D P G C
+  recalled_finalize : Proposal D → Point S D P G C
   recalled_verdict : ℕ → Bool → Point S D P G C
   -- the certificate of this kind of a view was handed out, or the record says so
   sent : Kind → ℕ → Point S D P G C
@@ -96,18 +96,15 @@ module _ {X : Type 0} where
 abbrev pub later : ℕ → Option ℕ → Option ℕ
 later now timeout = option_map (λ t. now + t) timeout
 
+-- a leader, where there is a schedule
+abbrev pub by_schedule : Mode → ℕ → Option ℕ
+by_schedule Scheduled leader = Some leader
+by_schedule Dynamic leader = None
+
 module _ {S C : Type 0} where
-  -- this member has the index
-  abbrev pub is_me : Setup S C → ℕ → Bool
-  is_me s i = option_eq nat_eq s.me (Some i)
-
-  -- whom the elector names for a view whatever certificate it will be entered by: nobody without a schedule
-  abbrev pub named_by : Mode → ℕ → Option ℕ
-  named_by Scheduled leader = Some leader
-  named_by Dynamic leader = None
-
+  -- whom a schedule names for a view, whatever certificate it will be entered by
   abbrev pub scheduled_leader : Setup S C → ℕ → Option ℕ
-  scheduled_leader s view = named_by s.mode (s.elect view None)
+  scheduled_leader s view = by_schedule s.mode (s.elect view None)
 
 module _ {S D P G C : Type 0} where
   -- the current view: the highest that was entered, behind a nullification the next term's start, behind a finalization or
@@ -126,6 +123,10 @@ module _ {S D P G C : Type 0} where
   last_finalized (finalized now c ∷ h) = max c.proposal.round.view (last_finalized h)
   last_finalized (x ∷ h) = last_finalized h
 
+  -- the view that the member's record begins behind: each begins at the start
+  abbrev pub floor : List (Point S D P G C) → ℕ
+  floor h = 0
+
   -- the least view that is kept
   abbrev pub min_active : Setup S C → List (Point S D P G C) → ℕ
   min_active s h = retention_floor (last_finalized h) s.retention
@@ -139,9 +140,9 @@ module _ {S D P G C : Type 0} where
   -- a view is entered, where it lies above the current one: from then on its deadlines run
   abbrev pub enter : Setup S C → ℕ → ℕ → ℕ → (ℕ → List (Item S D P G C)) → ℕ → List (Item S D P G C)
   enter s current_view now view t =
-    if nat_lt current_view view
-    then put view (past.armed (now + s.leader_timeout) (now + s.certification_timeout) (later now s.stall_timeout)) (put view (past.entered now) t)
-    else t
+      if nat_lt current_view view
+      then put view (past.armed (now + s.leader_timeout) (now + s.certification_timeout) (later now s.stall_timeout)) (put view (past.entered now) t)
+      else t
 
   -- a view has a notarization or finalization
   abbrev pub is_direct : List (Item S D P G C) → Bool
@@ -171,8 +172,8 @@ module _ {S D P G C : Type 0} where
   seen s (nullified now c ∷ h) = put c.round.view (past.nullified c) (enter s (current s h) now (next_term_start s.length c.round.view) (seen s h))
   seen s (finalized now c ∷ h) = put c.proposal.round.view (past.finalized c) (enter s (current s h) now (c.proposal.round.view + 1) (seen s h))
   seen s (judged now view ok ∷ h) =
-    if ok then enter s (current s h) now (view + 1) (put view (past.judged true) (seen s h))
-    else (if nat_le (current s h) view then put view (past.latched now reason.FailedCertification) (put view (past.judged false) (seen s h))
+      if ok then enter s (current s h) now (view + 1) (put view (past.judged true) (seen s h))
+      else (if nat_le (current s h) view then put view (past.latched now reason.FailedCertification) (put view (past.judged false) (seen s h))
       else put view (past.judged false) (seen s h))
   seen s (forwarded view p ∷ h) = if past.has_nullified (seen s h view) then seen s h else put view (past.offered (offer.forwarded p)) (seen s h)
   seen s (built now p payload ∷ h) = put p.round.view (past.bound p payload) (put p.round.view (past.built now p) (seen s h))
@@ -189,10 +190,10 @@ module _ {S D P G C : Type 0} where
   seen s (voted_nullify view ∷ h) = put view past.voted_nullify (seen s h)
   seen s (voted_finalize view p ∷ h) = put view past.voted_finalize (seen s h)
   seen s (recalled_notarize p taken ∷ h) =
-    bind (undecided_payload (seen s h p.parent)) p
+      bind (undecided_payload (seen s h p.parent)) p
       (put p.round.view past.voted_notarize (if taken then put p.round.view (past.offered (offer.recorded p)) (seen s h) else seen s h))
   seen s (recalled_nullify view ∷ h) = put view past.voted_nullify (seen s h)
-  seen s (recalled_finalize view ∷ h) = put view past.voted_finalize (seen s h)
+  seen s (recalled_finalize p ∷ h) = put p.round.view past.voted_finalize (seen s h)
   seen s (recalled_verdict view ok ∷ h) = put view (past.judged ok) (seen s h)
   seen s (sent k view ∷ h) = put view (sent_item k) (seen s h)
   seen s (polled now ∷ h) = if nat_lt 0 (current s h) then put (current s h) (past.polled (now + s.timeout_retry)) (seen s h) else seen s h

@@ -1,0 +1,63 @@
+-- Which views a nullification covers, as a span from its view to the end of its term.
+use Rattle.std.proofs.Common.{ℕ, zero, suc, ◌≡◌, ◌≤◌, ◌<◌, ◌+◌, ◌*◌, ◌/◌, ◌↔◌, ◌⊎◌, ◌==◌, true, false, ⊎_elim, inl, inr, refl, sym, ◌∙◌, subst, arith}
+use Rattle.std.specs.Prelude.{Bool, ◌||◌, List, [], ◌∷◌}
+use Rattle.std.proofs.Math.Nat.{div-lt_iff_lt-mul, le-div_iff_mul-le}
+use Rattle.std.proofs.lemmas.Grind.{common_steps}
+use Rattle.std.proofs.lemmas.Bool.{or_cases, or_left, or_right, eqb-true, eq-eqb}
+use Rattle.simplex_types.specs.Positions.{term_start, term_end, next_term_start, InCoveringRange}
+use Rattle.simplex_messages.specs.declared.nullification.Nullification.{Nullification}
+use Rattle.simplex_record.specs.Coverage as spans
+use Rattle.simplex_record.specs.Coverage.{LiesIn}
+use Rattle.simplex_views.specs.History.{Setup, Point, nullified, was_nullified}
+use Rattle.simplex_views.specs.Views.{IsCovered}
+
+-- a view up to the end of a term is of that term or of an earlier one
+term_end-le : (views u v : ℕ) → 0 < views → (suc v ≤ term_end views (suc u)) ↔ (v / views ≤ u / views)
+term_end-le views u v some =
+    let within : (v / views < u / views + 1) ↔ (v < (u / views + 1) * views) = div-lt_iff_lt-mul some in
+    let last : term_end views (suc u) ≡ (u / views + 1) * views = grind (arith, common_steps) in (
+      λ h. omega (arith, within.1 (omega arith)),
+      λ h. omega (arith, within.0 (omega arith)),
+    )
+
+-- a view from the start of a term on is of that term or of a later one
+term_start-le : (views u v : ℕ) → 0 < views → (term_start views (suc v) ≤ suc u) ↔ (v / views ≤ u / views)
+term_start-le views u v some =
+    let within : (v / views ≤ u / views) ↔ (v / views * views ≤ u) = le-div_iff_mul-le some in
+    let first : term_start views (suc v) ≡ v / views * views + 1 = grind (arith, common_steps) in (
+      λ h. within.1 (omega arith),
+      λ h. omega (arith, within.0 h),
+    )
+
+-- a view lies in its term
+pub term_end-above : (views view : ℕ) → 0 < views → view ≤ term_end views view
+term_end-above views zero some = omega arith
+term_end-above views (suc v) some = (term_end-le views v v some).1 (omega arith)
+
+-- the views that a nullification covers are those from its own to the end of its term
+pub covers-span : (views view u : ℕ) → 0 < views → LiesIn (u, term_end views u) view ↔ InCoveringRange views view u
+covers-span views zero zero some = (λ lies. (omega arith, omega arith), λ range. (omega arith, omega arith))
+covers-span views zero (suc u) some = (λ lies. absurd (omega (arith, lies.0)), λ range. absurd (omega (arith, range.1)))
+covers-span views (suc v) zero some = (λ lies. absurd (let none : term_end views zero ≡ 0 = grind (arith, common_steps) in omega (arith, lies.1, none)), λ range. absurd (let first : term_start views (suc v) ≡ v / views * views + 1 = grind (arith, common_steps) in omega (arith, range.0, first)))
+covers-span views (suc v) (suc u) some =
+    let start = term_start-le views u v some in
+    let end = term_end-le views u v some in (
+      λ lies. (start.1 (end.0 lies.1), lies.0),
+      λ range. (range.1, end.1 (start.0 range.0)),
+    )
+
+module _ {S D P G C : Type 0} where
+  -- one more nullification covers what lies in its span
+  pub covered-next : (s : Setup S C) (h : List (Point S D P G C)) (now : ℕ) (c : Nullification S D P G C) (covered covers : Type 0) (view : ℕ) → 0 < s.length
+      → covers ↔ (covered ⊎ LiesIn (c.round.view, term_end s.length c.round.view) view) → covered ↔ IsCovered s h view → covers ↔ IsCovered s (nullified now c ∷ h) view
+  covered-next s h now c covered covers view some step before =
+      let span = covers-span s.length view c.round.view some in (
+        λ now_covered. ⊎_elim
+            (λ was. let there = before.0 was in (there.0, there.1, or_right (c.round.view == there.0) (was_nullified h there.0) there.2))
+            (λ lies. (c.round.view, span.0 lies, or_left (c.round.view == c.round.view) (was_nullified h c.round.view) (eq-eqb c.round.view c.round.view refl)))
+            (step.0 now_covered),
+        λ there. ⊎_elim
+            (λ e. let at : c.round.view ≡ there.0 = eqb-true c.round.view there.0 e in step.1 (inr (span.1 (subst (λ u. InCoveringRange s.length view u) (sym at) there.1))))
+            (λ was. step.1 (inl (before.1 (there.0, there.1, was))))
+            (or_cases (c.round.view == there.0) (was_nullified h there.0) there.2),
+      )

@@ -1,0 +1,199 @@
+//! The rounds of all views of which something is known.
+#![tactic(auto, unfolding(crate::specs::Rounds::Keep))]
+
+ghost use Rattle.std.specs.Prelude.{◌≡◌, ◌↔◌, ◌<◌, ◌==◌, if◌then◌else◌, ℕ, false, true, List, [], ◌∷◌, Option, Some, None, is_none, IsSome, IsTrue, IfOk, OnOk, MatchOption, option_map};
+ghost use Rattle.std.specs.Ordering.{nat_cmp};
+ghost use Rattle.std.specs.BTreeMap.{get};
+ghost use Rattle.simplex_round.specs.Held.{held, forwarded, Agrees, Differs};
+ghost use Rattle.simplex_round.specs.Past.{offered, entered, armed, latched, notarized, nullified, finalized, judged, notarization, nullification, finalization, offers, has_nullified};
+ghost use Rattle.simplex_round.specs.Round as one;
+ghost use Rattle.simplex_views.specs.History.{put};
+ghost use Rattle.simplex_views.specs.Rounds.{Common, Keep, AtEach, IsOpen, IsTracked, learn, setup_of};
+
+use simplex_messages::{Finalization, Notarization, Nullification};
+use simplex_round::{Round, TimeoutReason};
+use simplex_types::{
+    Digest, Epoch, Participant, Proposal, Round as Position, Scheme, View, Viewable,
+};
+use std::alloc::{AllocError, Global};
+use std::collections::BTreeMap;
+use std::rc::Rc;
+
+/// The rounds of all views of which something is known.
+#[derive(Drop)]
+pub(crate) struct Rounds<S: Scheme<D>, D: Digest> {
+    scheme: Rc<S>,
+    epoch: Epoch,
+    by_view: BTreeMap<View, Round<S, D>>,
+}
+
+impl<S: Scheme<D> + Drop, D: Digest> Rounds<S, D> {
+    /// Nothing is known of any view.
+    pub(crate) fn new(alloc: Global, scheme: Rc<S>, epoch: Epoch) -> Self
+        ensures { Keep S.key_of (record { scheme = scheme.value; epoch = epoch }) result (λ view. None) (λ view. []) }
+    {
+        Rounds {
+            scheme,
+            epoch,
+            by_view: BTreeMap::new(alloc),
+        }
+    }
+
+    /// What is known of a view, where something is.
+    pub(crate) fn get(&self, view: View) -> Option<&Round<S, D>>
+        ensures { AtEach S.key_of self.now (λ s led past. MatchOption result ((past view ≡ []) × (led view ≡ None)) (λ r. IsTracked (past view) (led view) × one.Keeps S.key_of (setup_of s view) r.now (led view) (past view))) }
+    {
+        // The proof takes from the number that it has 64 bits.
+        let _number = view.get();
+        self.by_view.get(&view)
+    }
+
+    /// Opens the round of a view, where it is not open. Nothing has happened by that.
+    fn open(&mut self, view: View) -> Result<(), AllocError>
+        ensures there { OnOk result (IsSome (get nat_cmp self.new.by_view view)) }
+        ensures opens { OnOk result (AtEach S.key_of self.old (λ s led past. IsOpen S.key_of s self.new led past view)) }
+    {
+        // The proof takes from the number that it has 64 bits.
+        let _number = view.get();
+        if self.by_view.contains_key(&view) {
+            return Ok(());
+        }
+        let round = Round::new(self.scheme.clone()?, Position::new(self.epoch, view));
+        self.by_view.insert(view, round)?;
+        Ok(())
+    }
+
+    /// The view is entered, with these deadlines.
+    pub(crate) fn enter(
+        &mut self,
+        view: View,
+        now: u64,
+        leader: u64,
+        certification: u64,
+        stall: Option<u64>,
+    ) -> Result<(), AllocError>
+        ensures { OnOk result (AtEach S.key_of self.old (λ s led past. Keep S.key_of s self.new led (put view (armed leader certification stall) (put view (entered now) past)))) }
+    {
+        self.open(view)?;
+        if let Some(round) = self.by_view.get_mut(&view) {
+            round.mark_entered(now);
+            round.set_deadlines(leader, certification, stall);
+        }
+        Ok(())
+    }
+
+    /// The leader of the view becomes known, where it isn't: whether it wasn't.
+    pub(crate) fn learn(&mut self, view: View, leader: Participant) -> Result<bool, AllocError>
+        ensures keeps { OnOk result (AtEach S.key_of self.old (λ s led past. leader < S.size s.scheme → Keep S.key_of s self.new (learn view leader led) past)) }
+        ensures answer { IfOk result (λ new. AtEach S.key_of self.old (λ s led past. new ≡ is_none (led view))) }
+    {
+        self.open(view)?;
+        match self.by_view.get_mut(&view) {
+            Some(round) => {
+                if round.leader().is_some() {
+                    return Ok(false);
+                }
+                round.set_leader(leader);
+                Ok(true)
+            }
+            None => Ok(false),
+        }
+    }
+
+    /// Takes a notarization, the first of its view: the known leader's key where it took the place of another proposal.
+    pub(crate) fn add_notarization(
+        &mut self,
+        certificate: Notarization<S, D>,
+    ) -> Result<Option<S::PublicKey>, AllocError>
+        ensures keeps { OnOk result (AtEach S.key_of self.old (λ s led past. notarization (past certificate.proposal.round.view) ≡ None → Keep S.key_of s self.new led (put certificate.proposal.round.view (notarized certificate) past))) }
+        ensures replaced { IfOk result (λ key. AtEach S.key_of self.old (λ s led past. notarization (past certificate.proposal.round.view) ≡ None → Differs (held (offers (past certificate.proposal.round.view))) certificate.proposal → key ≡ option_map (S.key_of s.scheme) (led certificate.proposal.round.view))) }
+        ensures same { IfOk result (λ key. AtEach S.key_of self.old (λ s led past. Agrees (held (offers (past certificate.proposal.round.view))) certificate.proposal → key ≡ None)) }
+    {
+        let view = certificate.view();
+        self.open(view)?;
+        match self.by_view.get_mut(&view) {
+            Some(round) => {
+                let (_first, key) = round.add_notarization(certificate);
+                Ok(key)
+            }
+            None => Ok(None),
+        }
+    }
+
+    /// Takes a nullification, the first of its view.
+    pub(crate) fn add_nullification(
+        &mut self,
+        certificate: Nullification<S, D>,
+    ) -> Result<(), AllocError>
+        ensures { OnOk result (AtEach S.key_of self.old (λ s led past. nullification (past certificate.round.view) ≡ None → Keep S.key_of s self.new led (put certificate.round.view (nullified certificate) past))) }
+    {
+        let view = certificate.view();
+        self.open(view)?;
+        if let Some(round) = self.by_view.get_mut(&view) {
+            let _first = round.add_nullification(certificate);
+        }
+        Ok(())
+    }
+
+    /// Takes a finalization, the first of its view: the known leader's key where it took the place of another proposal.
+    pub(crate) fn add_finalization(
+        &mut self,
+        certificate: Finalization<S, D>,
+    ) -> Result<Option<S::PublicKey>, AllocError>
+        ensures keeps { OnOk result (AtEach S.key_of self.old (λ s led past. finalization (past certificate.proposal.round.view) ≡ None → Keep S.key_of s self.new led (put certificate.proposal.round.view (finalized certificate) past))) }
+        ensures replaced { IfOk result (λ key. AtEach S.key_of self.old (λ s led past. finalization (past certificate.proposal.round.view) ≡ None → Differs (held (offers (past certificate.proposal.round.view))) certificate.proposal → key ≡ option_map (S.key_of s.scheme) (led certificate.proposal.round.view))) }
+        ensures same { IfOk result (λ key. AtEach S.key_of self.old (λ s led past. Agrees (held (offers (past certificate.proposal.round.view))) certificate.proposal → key ≡ None)) }
+    {
+        let view = certificate.view();
+        self.open(view)?;
+        match self.by_view.get_mut(&view) {
+            Some(round) => {
+                let (_first, key) = round.add_finalization(certificate);
+                Ok(key)
+            }
+            None => Ok(None),
+        }
+    }
+
+    /// Takes in the verdict on a view.
+    pub(crate) fn judge(&mut self, view: View, is_success: bool) -> Result<(), AllocError>
+        ensures { OnOk result (AtEach S.key_of self.old (λ s led past. Keep S.key_of s self.new led (put view (judged is_success) past))) }
+    {
+        self.open(view)?;
+        if let Some(round) = self.by_view.get_mut(&view) {
+            round.certified(is_success);
+        }
+        Ok(())
+    }
+
+    /// Takes a reason to give the view up.
+    pub(crate) fn latch(
+        &mut self,
+        view: View,
+        now: u64,
+        reason: TimeoutReason,
+    ) -> Result<(), AllocError>
+        ensures { OnOk result (AtEach S.key_of self.old (λ s led past. Keep S.key_of s self.new led (put view (latched now reason) past))) }
+    {
+        self.open(view)?;
+        if let Some(round) = self.by_view.get_mut(&view) {
+            round.latch_timeout(now, reason);
+        }
+        Ok(())
+    }
+
+    /// Offers the leader's proposal of a view: whether it is the first there. Behind an own nullify nothing changes.
+    pub(crate) fn forward(&mut self, view: View, proposal: &Proposal<D>) -> Result<bool, AllocError>
+        ensures keeps { OnOk result (AtEach S.key_of self.old (λ s led past. Keep S.key_of s self.new led (if has_nullified (past view) then past else put view (offered (forwarded proposal.now)) past))) }
+        ensures answer { IfOk result (λ first. AtEach S.key_of self.old (λ s led past. IsTrue first ↔ ((has_nullified (past view) ≡ false) × (held (offers (past view)) ≡ None)))) }
+    {
+        self.open(view)?;
+        match self.by_view.get_mut(&view) {
+            Some(round) => {
+                let first = round.set_proposal(proposal);
+                Ok(first)
+            }
+            None => Ok(false),
+        }
+    }
+}
