@@ -1,1 +1,5 @@
+pub mod Ancestry
 pub mod Configuring
+pub mod Due
+pub mod Matching
+pub mod Requests

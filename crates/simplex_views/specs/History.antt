@@ -71,7 +71,7 @@ pub data Point (S D P G C : Type 0) : Type 0 where
   -- the member's record says so: a vote, of a notarize with whether its proposal was taken; a verdict
   recalled_notarize : Proposal D → Bool → Point S D P G C
   recalled_nullify : ℕ → Point S D P G C
-  recalled_finalize : ℕ → Point S D P G C
+  recalled_finalize : Proposal D → Point S D P G C
   recalled_verdict : ℕ → Bool → Point S D P G C
   -- the certificate of this kind of a view was handed out, or the record says so
   sent : Kind → ℕ → Point S D P G C
@@ -192,7 +192,7 @@ module _ {S D P G C : Type 0} where
     bind (undecided_payload (seen s h p.parent)) p
       (put p.round.view past.voted_notarize (if taken then put p.round.view (past.offered (offer.recorded p)) (seen s h) else seen s h))
   seen s (recalled_nullify view ∷ h) = put view past.voted_nullify (seen s h)
-  seen s (recalled_finalize view ∷ h) = put view past.voted_finalize (seen s h)
+  seen s (recalled_finalize p ∷ h) = put p.round.view past.voted_finalize (seen s h)
   seen s (recalled_verdict view ok ∷ h) = put view (past.judged ok) (seen s h)
   seen s (sent k view ∷ h) = put view (sent_item k) (seen s h)
   seen s (polled now ∷ h) = if nat_lt 0 (current s h) then put (current s h) (past.polled (now + s.timeout_retry)) (seen s h) else seen s h
