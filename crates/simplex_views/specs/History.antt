@@ -96,18 +96,19 @@ module _ {X : Type 0} where
 abbrev pub later : ℕ → Option ℕ → Option ℕ
 later now timeout = option_map (λ t. now + t) timeout
 
+-- a leader, where there is a schedule
+abbrev pub by_schedule : Mode → ℕ → Option ℕ
+by_schedule Scheduled leader = Some leader
+by_schedule Dynamic leader = None
+
 module _ {S C : Type 0} where
   -- this member has the index
   abbrev pub is_me : Setup S C → ℕ → Bool
   is_me s i = option_eq nat_eq s.me (Some i)
 
-  -- whom the elector names for a view whatever certificate it will be entered by: nobody without a schedule
-  abbrev pub named_by : Mode → ℕ → Option ℕ
-  named_by Scheduled leader = Some leader
-  named_by Dynamic leader = None
-
+  -- whom a schedule names for a view, whatever certificate it will be entered by
   abbrev pub scheduled_leader : Setup S C → ℕ → Option ℕ
-  scheduled_leader s view = named_by s.mode (s.elect view None)
+  scheduled_leader s view = by_schedule s.mode (s.elect view None)
 
 module _ {S D P G C : Type 0} where
   -- the current view: the highest that was entered, behind a nullification the next term's start, behind a finalization or
