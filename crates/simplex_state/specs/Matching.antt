@@ -15,11 +15,11 @@ use Rattle.simplex_state.specs.Ancestry.{Member, member, held_at, IsCovered, exp
 use Rattle.simplex_state.specs.Requests.{BuildIsDue, VerifyIsDue, IsInvalid, NullificationIsWanted, NotarizationIsWanted, CertifyIsDue, CertificateIsWanted}
 use Rattle.simplex_state.specs.Due.{NotarizeIsDue, NullifyIsDue, FinalizeIsDue}
 
-module _ {S D P G C : Type 0} where
-  -- the round of a view
-  abbrev pub round_of : Setup S C → ℕ → Round
-  round_of s view = record { epoch = s.epoch; view = view }
+-- the round of a view
+abbrev pub round_of : {S C : Type 0} → Setup S C → ℕ → Round
+round_of s view = record { epoch = s.epoch; view = view }
 
+module _ {S D P G C : Type 0} where
   -- what the points say in the member's record, the newest first: the certificates that were taken, the verdicts that came, and the
   -- own votes, of which a repeated nullify is none
   abbrev pub told : Setup S C → List (Point S D P G C) → List (Entry D)
@@ -55,9 +55,9 @@ module _ {D : Type 0} (m : Member) where
     pub current : k.current ≡ current_view m.length r
     pub last_finalized : k.last_finalized ≡ recorded.last_finalized r
     pub covered : (view : ℕ) → IsCovered m k view → recorded.IsCovered m.length r view
-    pub notarize : (p : Proposal D) → HasVoted r (notarize p) → recorded.IsKept m.retention r p.round.view → k.has_notarized p.round.view ≡ true
-    pub nullify : (x : Round) → HasVoted r (nullify x) → recorded.IsKept m.retention r x.view → k.has_nullified x.view ≡ true
-    pub finalize : (p : Proposal D) → HasVoted r (finalize p) → recorded.IsKept m.retention r p.round.view → k.has_finalized p.round.view ≡ true
+    pub own_notarize : (p : Proposal D) → HasVoted r (notarize p) → recorded.IsKept m.retention r p.round.view → k.has_notarized p.round.view ≡ true
+    pub own_nullify : (x : Round) → HasVoted r (nullify x) → recorded.IsKept m.retention r x.view → k.has_nullified x.view ≡ true
+    pub own_finalize : (p : Proposal D) → HasVoted r (finalize p) → recorded.IsKept m.retention r p.round.view → k.has_finalized p.round.view ≡ true
     pub notarized : (view : ℕ) (p : Proposal D) → k.notarized view ≡ Some p → (p.round.view ≡ view) × HasTaken r (notarize p)
     pub certified : (view : ℕ) → k.verdict view ≡ Some true → (x : Round) × (x.view ≡ view) × HasJudged r x true
     pub supported : (p : Proposal D) → HasTaken r (notarize p) ⊎ HasTaken r (finalize p) → recorded.IsKept m.retention r p.round.view
