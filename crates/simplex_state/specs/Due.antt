@@ -1,5 +1,5 @@
 -- Which votes are due, and when a view is given up.
-use Rattle.std.specs.Prelude.{◌≡◌, ◌≢◌, ◌⊎◌, ◌+◌, ◌-◌, ◌<◌, ◌≤◌, ◌&&◌, ◌||◌, nat_lt, nat_le, ℕ, zero, suc, Bool, true, false, max, List, [], Option, Some, None, is_some, IsSome, option_map, option_and_then, if◌then◌else◌}
+use Rattle.std.specs.Prelude.{◌≡◌, ◌≢◌, ◌⊎◌, ◌+◌, ◌-◌, ◌<◌, ◌≤◌, ◌&&◌, ◌||◌, nat_lt, nat_le, ℕ, zero, suc, Bool, true, false, max, List, [], Option, Some, None, is_some, IsSome, option_and_then, if◌then◌else◌}
 use Rattle.simplex_types.specs.declared.proposal.Proposal.{Proposal}
 use Rattle.simplex_types.specs.Positions.{HasRoom, term_start, term_index}
 use Rattle.simplex_rules.specs.Windows.{AdmitsOutbound, Retains}

@@ -1,5 +1,5 @@
 -- What a voter knows, beside what its record says. Behind that the laws of the voter, as statements that are still to be proved.
-use Rattle.std.specs.Prelude.{◌≡◌, ◌≢◌, ◌⊎◌, ◌↔◌, ◌<◌, ◌≤◌, ℕ, Bool, true, false, List, [], ◌∷◌, reverse, Contains, Option, Some, None, IsSome, if◌then◌else◌}
+use Rattle.std.specs.Prelude.{◌≡◌, ◌⊎◌, ◌↔◌, ◌<◌, ◌≤◌, ℕ, Bool, true, false, List, [], ◌∷◌, reverse, Contains, Some, IsSome, if◌then◌else◌}
 use Rattle.simplex_types.specs.declared.position.Round.{Round}
 use Rattle.simplex_types.specs.declared.proposal.Proposal.{Proposal}
 use Rattle.simplex_types.specs.Subject.{notarize, nullify, finalize}
@@ -9,9 +9,9 @@ use Rattle.simplex_record.specs.Rules.{MayNotarize, MayNullify, MayFinalize}
 use Rattle.simplex_round.specs.declared.timeout_reason.TimeoutReason.{TimeoutReason}
 use Rattle.simplex_round.specs.Held.{IsTainted}
 use Rattle.simplex_round.specs.Past as past
-use Rattle.simplex_views.specs.History.{Setup, Point, started, notarized, nullified, finalized, judged, latched, voted_notarize, voted_nullify, voted_finalize, recalled_notarize, recalled_nullify, recalled_finalize, recalled_verdict, pruned, current, last_finalized, seen}
+use Rattle.simplex_views.specs.History.{Setup, Point, notarized, nullified, finalized, judged, latched, voted_notarize, voted_nullify, voted_finalize, recalled_notarize, recalled_nullify, recalled_finalize, recalled_verdict, pruned, current, last_finalized, seen}
 use Rattle.simplex_views.specs.Known.{Known, known}
-use Rattle.simplex_state.specs.Ancestry.{Member, member, held_at, IsCovered, explicit, Optimistic, IsParent, IsPreferred, Stands}
+use Rattle.simplex_state.specs.Ancestry.{Member, member, held_at, IsCovered, Optimistic, IsPreferred}
 use Rattle.simplex_state.specs.Requests.{BuildIsDue, VerifyIsDue, IsInvalid, NullificationIsWanted, NotarizationIsWanted, CertifyIsDue, CertificateIsWanted}
 use Rattle.simplex_state.specs.Due.{NotarizeIsDue, NullifyIsDue, FinalizeIsDue}
 
