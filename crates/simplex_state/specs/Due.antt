@@ -14,10 +14,11 @@ use Rattle.simplex_views.specs.Known.{Known}
 use Rattle.simplex_state.specs.Ancestry.{Member, held_at, explicit, InWindow, Optimistic, IsSteady, IsRequired}
 
 module _ {D : Type 0} (m : Member) (k : Known D) where
-  -- a notarize is due: the view is kept, has room and may be spoken of; neither it nor a nullify was voted; the held proposal is
+  -- a notarize is due: the view is kept, lies behind the floor of the record, has room and may be spoken of; neither it nor a nullify was voted; the held proposal is
   -- verified; inside the issuance window the view before has an optimistic payload; what the proposal is bound to hasn't fallen
   pub record NotarizeIsDue (view : ℕ) : Type 0 where
     pub kept : Retains k.last_finalized m.retention view
+    pub behind : k.floor < view
     pub room : HasRoom m.length view
     pub outbound : AdmitsOutbound m.length m.optimistic_views k.current view
     pub first : k.has_notarized view ≡ false

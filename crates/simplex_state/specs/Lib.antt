@@ -1,4 +1,5 @@
 pub mod Ancestry
+pub mod Answers
 pub mod Configuring
 pub mod Due
 pub mod Matching

@@ -1,5 +1,5 @@
 -- What a voter knows, beside what its record says. Behind that the laws of the voter, as statements that are still to be proved.
-use Rattle.std.specs.Prelude.{◌≡◌, ◌⊎◌, ◌↔◌, ◌<◌, ◌≤◌, ℕ, Bool, true, false, List, [], ◌∷◌, reverse, Contains, Some, IsSome, if◌then◌else◌}
+use Rattle.std.specs.Prelude.{◌≡◌, ◌⊎◌, ◌↔◌, ◌<◌, ◌≤◌, ℕ, Bool, true, false, List, [], ◌∷◌, reverse, Contains, ◌+◌, Some, IsSome, if◌then◌else◌}
 use Rattle.simplex_types.specs.declared.position.Round.{Round}
 use Rattle.simplex_types.specs.declared.proposal.Proposal.{Proposal}
 use Rattle.simplex_types.specs.Subject.{notarize, nullify, finalize}
@@ -10,9 +10,10 @@ use Rattle.simplex_round.specs.declared.timeout_reason.TimeoutReason.{TimeoutRea
 use Rattle.simplex_round.specs.Held.{IsTainted}
 use Rattle.simplex_round.specs.Past as past
 use Rattle.simplex_views.specs.History.{Setup, Point, notarized, nullified, finalized, judged, latched, voted_notarize, voted_nullify, voted_finalize, recalled_notarize, recalled_nullify, recalled_finalize, recalled_verdict, pruned, current, last_finalized, seen}
+use Rattle.simplex_views.specs.Leaders.{is_in_window, inherits, leader}
 use Rattle.simplex_views.specs.Known.{Known, known}
-use Rattle.simplex_state.specs.Ancestry.{Member, member, held_at, IsCovered, Optimistic, IsPreferred}
-use Rattle.simplex_state.specs.Requests.{BuildIsDue, VerifyIsDue, IsInvalid, NullificationIsWanted, NotarizationIsWanted, CertifyIsDue, CertificateIsWanted}
+use Rattle.simplex_state.specs.Ancestry.{Member, member, held_at, IsCovered, InWindow, Optimistic, IsPreferred}
+use Rattle.simplex_state.specs.Requests.{Scanned, BuildIsDue, VerifyIsDue, IsInvalid, NullificationIsWanted, NotarizationIsWanted, CertifyIsDue, CertificateIsWanted}
 use Rattle.simplex_state.specs.Due.{NotarizeIsDue, NullifyIsDue, FinalizeIsDue}
 
 -- the round of a view
@@ -54,6 +55,7 @@ module _ {D : Type 0} (m : Member) where
   pub record Matches (k : Known D) (r : List (Entry D)) : Type 0 where
     pub current : k.current ≡ current_view m.length r
     pub last_finalized : k.last_finalized ≡ recorded.last_finalized r
+    pub floor : k.floor ≡ recorded.floor r
     pub covered : (view : ℕ) → IsCovered m k view → recorded.IsCovered m.length r view
     pub own_notarize : (p : Proposal D) → HasVoted r (notarize p) → recorded.IsKept m.retention r p.round.view → k.has_notarized p.round.view ≡ true
     pub own_nullify : (x : Round) → HasVoted r (nullify x) → recorded.IsKept m.retention r x.view → k.has_nullified x.view ≡ true
@@ -74,6 +76,7 @@ module _ {D : Type 0} (m : Member) where
   pub record AgreeAbove (k j : Known D) : Type 0 where
     pub current : k.current ≡ j.current
     pub last_finalized : k.last_finalized ≡ j.last_finalized
+    pub floor : k.floor ≡ j.floor
     pub genesis : k.genesis ≡ j.genesis
     pub anchored : (k.last_finalized ≡ 0) ⊎ (IsSome (k.finalized k.last_finalized) × IsSome (held_at m k k.last_finalized))
     pub covered : (view : ℕ) → k.last_finalized < view → IsCovered m k view ↔ IsCovered m j view
@@ -145,3 +148,20 @@ module _ (S D P G C : Type 0) where
   abbrev pub PruneChangesNothing : Type 0
   PruneChangesNothing = (s : Setup S C) (h : List (Point S D P G C)) (view : ℕ) → last_finalized h < view
     → AreDueAlike (member s) (known s h) (known s (pruned ∷ h)) view × AreDueAlike (member s) (known s (pruned ∷ h)) (known s h) view
+
+  -- the issuance window is the same for leaders and for all that is due
+  abbrev pub WindowsAgree : Type 0
+  WindowsAgree = (s : Setup S C) (h : List (Point S D P G C)) (view : ℕ) → InWindow (member s) (known s h) view ↔ (is_in_window s h view ≡ true)
+
+  -- whoever leads a view leads the next one too, where that inherits: nothing more is to be learnt
+  abbrev pub LeadersAreClosed : Type 0
+  LeadersAreClosed = (s : Setup S C) (h : List (Point S D P G C)) (view i : ℕ)
+    → inherits s h (view + 1) ≡ true → leader s h view ≡ Some i → IsSome (leader s h (view + 1))
+
+  -- a look at the proposals that wait changes nothing that is due, and leaves none of those that it passed to be verified
+  abbrev pub ScanChangesNothing : Type 0
+  ScanChangesNothing = (s : Setup S C) (now first view : ℕ) (h end : List (Point S D P G C)) → Scanned s now first h view end → known s end ≡ known s h
+
+  abbrev pub ScanLeavesNothing : Type 0
+  ScanLeavesNothing = (s : Setup S C) (now first view : ℕ) (h end : List (Point S D P G C)) → Scanned s now first h view end
+    → (u : ℕ) (p : Proposal D) (payload : D) → first ≤ u → u < view → ¬ VerifyIsDue (member s) (known s end) u p payload

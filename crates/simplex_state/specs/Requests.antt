@@ -1,5 +1,5 @@
 -- What is to be asked for: builds, verifications, certificates that are missing, verdicts.
-use Rattle.std.specs.Prelude.{◌≡◌, ◌≢◌, ◌⊎◌, ◌+◌, ◌<◌, ◌≤◌, ℕ, false, List, ◌∷◌, Option, Some, None, IsSome}
+use Rattle.std.specs.Prelude.{◌≡◌, ◌≢◌, ◌⊎◌, ◌+◌, ◌<◌, ◌≤◌, ◌↔◌, ℕ, false, List, ◌∷◌, AllPairs, Contains, Option, Some, None, IsSome}
 use Rattle.simplex_types.specs.declared.proposal.Proposal.{Proposal}
 use Rattle.simplex_types.specs.Positions.{IsTermStart, HasRoom}
 use Rattle.simplex_rules.specs.Windows.{AdmitsOutbound}
@@ -121,6 +121,25 @@ module _ {D : Type 0} (m : Member) (k : Known D) where
     pub no_nullification : (p : Proposal D) (u : ℕ) → ¬ NullificationIsWanted view p u
     pub no_notarization : (p : Proposal D) → ¬ NotarizationIsWanted view p
     pub not_invalid : (p : Proposal D) → ¬ IsInvalid view p
+
+  -- the build to ask for: of the lowest view where one is
+  pub record IsFirstBuild (view parent : ℕ) (payload : D) : Type 0 where
+    pub due : BuildIsDue view parent payload
+    pub lowest : (u : ℕ) → u < view → (p : ℕ) (x : D) → ¬ BuildIsDue u p x
+
+  -- no build is to be asked for
+  abbrev pub NoBuildIsDue : Type 0
+  NoBuildIsDue = (view parent : ℕ) (payload : D) → ¬ BuildIsDue view parent payload
+
+  -- the proposals on which verdicts are to be asked for, by their views, each once
+  pub record AreReady (ready : List (Proposal D)) : Type 0 where
+    pub exact : (p : Proposal D) → Contains ready p ↔ CertifyIsDue p.round.view p
+    pub ascend : AllPairs (λ (p q : Proposal D). p.round.view < q.round.view) ready
+
+  -- the views that wait, each with the one that it waits for, where that is to be asked for; by the views, each once
+  pub record AreWanted (fetches : List (ℕ × ℕ)) : Type 0 where
+    pub exact : (view required : ℕ) → Contains fetches (view, required) ↔ CertificateIsWanted view required
+    pub ascend : AllPairs (λ (x y : ℕ × ℕ). x.0 < y.0) fetches
 
 module _ {S D P G C : Type 0} (s : Setup S C) (now : ℕ) where
   -- the views from the current one up to this one were looked at, which led so far: those with a proposal that can never stand are

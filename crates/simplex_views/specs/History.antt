@@ -127,6 +127,10 @@ module _ {S D P G C : Type 0} where
   last_finalized (finalized now c ∷ h) = max c.proposal.round.view (last_finalized h)
   last_finalized (x ∷ h) = last_finalized h
 
+  -- the view that the member's record begins behind: each begins at the start
+  abbrev pub floor : List (Point S D P G C) → ℕ
+  floor h = 0
+
   -- the least view that is kept
   abbrev pub min_active : Setup S C → List (Point S D P G C) → ℕ
   min_active s h = retention_floor (last_finalized h) s.retention

@@ -4,14 +4,15 @@ use Rattle.simplex_types.specs.declared.proposal.Proposal.{Proposal}
 use Rattle.simplex_messages.specs.ProposalCertificate.{Notarization, Finalization}
 use Rattle.simplex_round.specs.Held.{Offer}
 use Rattle.simplex_round.specs.Past as past
-use Rattle.simplex_views.specs.History.{Setup, Point, voted_notarize, recalled_notarize, certify_waited, current, last_finalized, genesis, is_marked, was_nullified, seen}
+use Rattle.simplex_views.specs.History.{Setup, Point, voted_notarize, recalled_notarize, certify_waited, current, last_finalized, floor, genesis, is_marked, was_nullified, seen}
 use Rattle.simplex_views.specs.Leaders.{leader}
 
 -- what a voter knows
 pub record Known (D : Type 0) : Type 0 where
-  -- the current view, the last finalized one, and the payload at the start
+  -- the current view, the last finalized one, the one that the record begins behind, and the payload at the start
   pub current : ℕ
   pub last_finalized : ℕ
+  pub floor : ℕ
   pub genesis : Option D
   -- of each view: its leader, what was taken of what was offered to it, whether a nullification of it was ever learnt, what it is
   -- notarized and finalized for, its verdict
@@ -50,6 +51,7 @@ module _ {S D P G C : Type 0} where
   known s h = record {
     current = current s h;
     last_finalized = last_finalized h;
+    floor = floor h;
     genesis = genesis h;
     leader = leader s h;
     offers = λ view. past.offers (seen s h view);

@@ -3,6 +3,7 @@
 
 pub mod ancestry;
 pub mod due;
+pub mod getters;
 pub mod leaders;
 pub mod positions;
 pub mod requests;

@@ -1,6 +1,7 @@
 //! The voter's worked cases, told by the plain program.
 
 use crate::plain::ancestry::Parent;
+use crate::plain::getters::Entry;
 use crate::plain::requests::{Judging, Look};
 use crate::plain::{History, Point, Proposal, Setup};
 use simplex_round::TimeoutReason;
@@ -241,4 +242,33 @@ fn a_chain_of_own_votes_supports_the_next_view(rt: HostRuntime) {
     assert_eq!(rt; all.look(2), Look::Verify(proposal(2, 1, B), A));
     // Without optimistic views the parent's certificate is awaited.
     assert_eq!(rt; history(member(5, 0), &points).parent(2, 1), Parent::Missing);
+}
+
+#[test]
+fn what_covers_outlives_its_view(rt: HostRuntime) {
+    let points = [
+        started(),
+        nullified(7),
+        finalized(0, 8, 6, A),
+        Point::Pruned,
+        finalized(0, 12, 8, A),
+        Point::Pruned,
+    ];
+    let all = history(Setup { retention: 0, ..member(5, 0) }, &points);
+    assert_eq!(rt; all.first(3).last_dropped(), Some(7));
+    holds(&rt, !all.first(4).is_tracked(7));
+    holds(&rt, all.first(4).keeps_nullification(7));
+    holds(&rt, !all.keeps_nullification(7));
+    holds(&rt, all.is_covered(9));
+    assert_eq!(rt; all.first(4).first_uncovered(8, 12), Some(11));
+}
+
+#[test]
+fn the_best_certificate_helps_others_on(rt: HostRuntime) {
+    let points = [started(), certified(5), notarized(5, 4, A), nullified(2), nullified(3), finalized(0, 5, 4, A)];
+    let all = history(member(5, 0), &points);
+    let best = [None, None, Some(Entry::Notarization(5)), Some(Entry::Nullification(2)), Some(Entry::Nullification(3)), Some(Entry::Finalization(5))];
+    for (before, best) in best.iter().enumerate() {
+        assert_eq!(rt; all.first(before.saturating_add(1)).best_certificate(), *best);
+    }
 }
