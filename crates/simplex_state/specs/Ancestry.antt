@@ -49,8 +49,8 @@ module _ {D : Type 0} (m : Member) (k : Known D) where
   -- the explicit payload of a view: that of the start, or of the held proposal where it is finalized or its verdict true
   abbrev pub explicit : ℕ → Option D
   explicit view =
-    if view == 0 then k.genesis
-    else (if is_some (k.finalized view) || verdict_is_true (k.verdict view) then option_map (λ (p : Proposal D). p.payload) (held_at view) else None)
+      if view == 0 then k.genesis
+      else (if is_some (k.finalized view) || verdict_is_true (k.verdict view) then option_map (λ (p : Proposal D). p.payload) (held_at view) else None)
 
   -- a view has a notarization or finalization
   abbrev pub has_certificate : ℕ → Bool
@@ -62,7 +62,7 @@ module _ {D : Type 0} (m : Member) (k : Known D) where
     pub optimism : m.optimistic_views ≢ 0
     pub inside : ¬ IsTermStart m.length view
     pub anchor : (issuance_floor m.optimistic_views view ≡ 0)
-      ⊎ ((u : ℕ) × (issuance_floor m.optimistic_views view ≤ u) × (u < view) × (has_certificate u ≡ true))
+        ⊎ ((u : ℕ) × (issuance_floor m.optimistic_views view ≤ u) × (u < view) × (has_certificate u ≡ true))
 
   -- this member may build at the start of the next term before the view that ends this one is decided: a schedule names it for
   -- that start, and the view isn't covered
@@ -75,7 +75,7 @@ module _ {D : Type 0} (m : Member) (k : Known D) where
   -- the payload that a view's certificates support: the finalization's, or the notarization's without a false verdict
   abbrev pub certificate_payload : ℕ → Option D
   certificate_payload view =
-    option_map (λ (p : Proposal D). p.payload) (option_or (k.finalized view) (if verdict_is_false (k.verdict view) then None else k.notarized view))
+      option_map (λ (p : Proposal D). p.payload) (option_or (k.finalized view) (if verdict_is_false (k.verdict view) then None else k.notarized view))
 
   -- a view of the term up to this one, above the last finalized view, has a false verdict
   abbrev pub HasFailed : ℕ → Type 0
@@ -100,9 +100,9 @@ module _ {D : Type 0} (m : Member) (k : Known D) where
   pub data Optimistic : ℕ → D → Type 0 where
     at_start : {payload : D} → k.genesis ≡ Some payload → Optimistic 0 payload
     by_certificate : {view : ℕ} {payload : D} → view ≢ 0 → has_certificate view ≡ true → ¬ HasFailed view → certificate_payload view ≡ Some payload
-      → Optimistic view payload
+        → Optimistic view payload
     by_own_vote : {view : ℕ} {p : Proposal D} {payload : D} → view ≢ 0 → IsVotedFor view p → Optimistic p.parent payload
-      → ForSome (k.binding view) (λ b. b.1 ≡ payload) → Optimistic view p.payload
+        → ForSome (k.binding view) (λ b. b.1 ≡ payload) → Optimistic view p.payload
 
   -- the payload with which a view's proposal may stand on this parent: inside the window the optimistic one, outside the explicit
   pub record Supports (view parent : ℕ) (payload : D) : Type 0 where

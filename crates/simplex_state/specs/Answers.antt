@@ -23,10 +23,10 @@ module _ {S D P G C : Type 0} (s : Setup S C) (h : List (Point S D P G C)) where
   -- nullification that covers it; or its notarization. Of the start there is none
   abbrev pub entry_certificate : ℕ → ℕ → Option (Certificate S D P G C)
   entry_certificate view before =
-    if before == 0 then None
-    else option_or (option_map certificate.Finalization (past.finalization (seen s h before)))
+      if before == 0 then None
+      else option_or (option_map certificate.Finalization (past.finalization (seen s h before)))
       (option_or (if view == term_start s.length view then option_map certificate.Nullification (covering_nullification before) else None)
-        (option_map certificate.Notarization (past.notarization (seen s h before))))
+      (option_map certificate.Notarization (past.notarization (seen s h before))))
 
   abbrev pub best_certificate : Option (Certificate S D P G C)
   best_certificate = entry_certificate (current s h) (current s h - 1)

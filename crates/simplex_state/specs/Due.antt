@@ -61,8 +61,8 @@ module _ {S D P G C : Type 0} where
   -- the oldest view of the current term that was entered and isn't finalized
   abbrev pub oldest_entered : Setup S C → List (Point S D P G C) → Option ℕ
   oldest_entered s h =
-    let low : ℕ = max (last_finalized h + 1) (term_start s.length (current s h)) in
-    first_from (λ u. is_some (past.entered_at (seen s h u))) low (current s h + 1 - low)
+      let low : ℕ = max (last_finalized h + 1) (term_start s.length (current s h)) in
+      first_from (λ u. is_some (past.entered_at (seen s h u))) low (current s h + 1 - low)
 
   -- its stall deadline
   abbrev pub term_deadline : Setup S C → List (Point S D P G C) → Option ℕ
@@ -72,8 +72,8 @@ module _ {S D P G C : Type 0} where
   -- else at its own first timeout or its term's
   abbrev pub timeout_of : ℕ → Bool → Option ℕ → List (Item S D P G C) → Option (ℕ × TimeoutReason)
   timeout_of now counts stall x =
-    if is_some (past.finalization x) || past.has_finalized x || past.has_nullified x then past.next_timeout x counts
-    else earlier now (past.next_timeout x counts) stall
+      if is_some (past.finalization x) || past.has_finalized x || past.has_nullified x then past.next_timeout x counts
+      else earlier now (past.next_timeout x counts) stall
 
   -- when and why the current view is given up
   abbrev pub timeout : Setup S C → List (Point S D P G C) → ℕ → Option (ℕ × TimeoutReason)

@@ -63,7 +63,7 @@ module _ {D : Type 0} (m : Member) where
     pub notarized : (view : ℕ) (p : Proposal D) → k.notarized view ≡ Some p → (p.round.view ≡ view) × HasTaken r (notarize p)
     pub certified : (view : ℕ) → k.verdict view ≡ Some true → (x : Round) × (x.view ≡ view) × HasJudged r x true
     pub supported : (p : Proposal D) → HasTaken r (notarize p) ⊎ HasTaken r (finalize p) → recorded.IsKept m.retention r p.round.view
-      → ¬ IsTainted (k.offers p.round.view) → held_at m k p.round.view ≡ Some p
+        → ¬ IsTainted (k.offers p.round.view) → held_at m k p.round.view ≡ Some p
 
   -- the held proposal lies in its view, and was bound to its parent's payload
   pub record IsBound (k : Known D) (view : ℕ) (p : Proposal D) : Type 0 where
@@ -111,12 +111,12 @@ module _ {D : Type 0} (m : Member) where
 -- a notarize that is due may be recorded, where the held proposal was bound to its parent's payload
 abbrev pub DueMayBeNotarized : Type 0 → Type 0
 DueMayBeNotarized D = (m : Member) (k : Known D) (r : List (Entry D)) (view : ℕ) (p : Proposal D)
-  → Matches m k r → IsBound m k view p → NotarizeIsDue m k view → MayNotarize m.length r p
+    → Matches m k r → IsBound m k view p → NotarizeIsDue m k view → MayNotarize m.length r p
 
 -- a finalize that is due may be recorded
 abbrev pub DueMayBeFinalized : Type 0 → Type 0
 DueMayBeFinalized D = (m : Member) (k : Known D) (r : List (Entry D)) (view : ℕ) (p : Proposal D)
-  → Matches m k r → held_at m k view ≡ Some p → FinalizeIsDue m k view → MayFinalize m.length r p
+    → Matches m k r → held_at m k view ≡ Some p → FinalizeIsDue m k view → MayFinalize m.length r p
 
 -- there is at most one payload that a view supports, and at most one parent to build on
 abbrev pub OneIsSupported : Type 0 → Type 0
@@ -133,8 +133,8 @@ module _ (S D P G C : Type 0) where
   -- a nullify that is due and isn't a repetition may be recorded
   abbrev pub DueMayBeNullified : Type 0
   DueMayBeNullified = (s : Setup S C) (h : List (Point S D P G C)) (r : List (Entry D)) (now : ℕ)
-    → Matches (member s) (known s h) r → NullifyIsDue s h now → past.has_nullified (seen s h (current s h)) ≡ false
-    → MayNullify s.length r (round_of s (current s h))
+      → Matches (member s) (known s h) r → NullifyIsDue s h now → past.has_nullified (seen s h (current s h)) ≡ false
+      → MayNullify s.length r (round_of s (current s h))
 
   -- what is known at the end of an orderly history is what its record says
   abbrev pub EachHistoryMatches : Type 0
@@ -147,7 +147,7 @@ module _ (S D P G C : Type 0) where
   -- dropping the views that need not be kept changes nothing that is due above the last finalized one
   abbrev pub PruneChangesNothing : Type 0
   PruneChangesNothing = (s : Setup S C) (h : List (Point S D P G C)) (view : ℕ) → last_finalized h < view
-    → AreDueAlike (member s) (known s h) (known s (pruned ∷ h)) view × AreDueAlike (member s) (known s (pruned ∷ h)) (known s h) view
+      → AreDueAlike (member s) (known s h) (known s (pruned ∷ h)) view × AreDueAlike (member s) (known s (pruned ∷ h)) (known s h) view
 
   -- the issuance window is the same for leaders and for all that is due
   abbrev pub WindowsAgree : Type 0
@@ -156,7 +156,7 @@ module _ (S D P G C : Type 0) where
   -- whoever leads a view leads the next one too, where that inherits: nothing more is to be learnt
   abbrev pub LeadersAreClosed : Type 0
   LeadersAreClosed = (s : Setup S C) (h : List (Point S D P G C)) (view i : ℕ)
-    → inherits s h (view + 1) ≡ true → leader s h view ≡ Some i → IsSome (leader s h (view + 1))
+      → inherits s h (view + 1) ≡ true → leader s h view ≡ Some i → IsSome (leader s h (view + 1))
 
   -- a look at the proposals that wait changes nothing that is due, and leaves none of those that it passed to be verified
   abbrev pub ScanChangesNothing : Type 0
@@ -164,4 +164,4 @@ module _ (S D P G C : Type 0) where
 
   abbrev pub ScanLeavesNothing : Type 0
   ScanLeavesNothing = (s : Setup S C) (now first view : ℕ) (h end : List (Point S D P G C)) → Scanned s now first h view end
-    → (u : ℕ) (p : Proposal D) (payload : D) → first ≤ u → u < view → ¬ VerifyIsDue (member s) (known s end) u p payload
+      → (u : ℕ) (p : Proposal D) (payload : D) → first ≤ u → u < view → ¬ VerifyIsDue (member s) (known s end) u p payload

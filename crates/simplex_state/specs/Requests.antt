@@ -47,10 +47,10 @@ module _ {D : Type 0} (m : Member) (k : Known D) where
   -- the current view is given up here; else since the parent may no longer be used
   abbrev pub StopsHandoff : ℕ → ℕ → D → Option HandoffAbandonedReason → Type 0
   StopsHandoff view parent payload None =
-    (explicit m k parent ≡ Some payload) ⊎ ((k.has_nullified k.current ≡ false) × IsCaptured view parent payload)
+      (explicit m k parent ≡ Some payload) ⊎ ((k.has_nullified k.current ≡ false) × IsCaptured view parent payload)
   StopsHandoff view parent payload (Some abandoned.ParentNullify) = (explicit m k parent ≢ Some payload) × (k.has_nullified k.current ≢ false)
   StopsHandoff view parent payload (Some abandoned.AncestryInvalidated) =
-    (explicit m k parent ≢ Some payload) × (k.has_nullified k.current ≡ false) × ¬ IsCaptured view parent payload
+      (explicit m k parent ≢ Some payload) × (k.has_nullified k.current ≡ false) × ¬ IsCaptured view parent payload
   StopsHandoff view parent payload (Some why) = ⊥
 
   -- this proposal waits for its parent alone, to be verified: another member leads, it is held, no verification was asked for, no
@@ -148,4 +148,4 @@ module _ {S D P G C : Type 0} (s : Setup S C) (now : ℕ) where
     begun : Scanned first h first h
     passed : {view : ℕ} {end : List (Point S D P G C)} → Scanned first h view end → IsPassed (member s) (known s end) view → Scanned first h (view + 1) end
     given_up : {view : ℕ} {end : List (Point S D P G C)} → Scanned first h view end → (p : Proposal D) × IsInvalid (member s) (known s end) view p
-      → Scanned first h (view + 1) (latched now view reason.InvalidProposal ∷ end)
+        → Scanned first h (view + 1) (latched now view reason.InvalidProposal ∷ end)

@@ -144,9 +144,9 @@ module _ {S D P G C : Type 0} where
   -- a view is entered, where it lies above the current one: from then on its deadlines run
   abbrev pub enter : Setup S C → ℕ → ℕ → ℕ → (ℕ → List (Item S D P G C)) → ℕ → List (Item S D P G C)
   enter s current_view now view t =
-    if nat_lt current_view view
-    then put view (past.armed (now + s.leader_timeout) (now + s.certification_timeout) (later now s.stall_timeout)) (put view (past.entered now) t)
-    else t
+      if nat_lt current_view view
+      then put view (past.armed (now + s.leader_timeout) (now + s.certification_timeout) (later now s.stall_timeout)) (put view (past.entered now) t)
+      else t
 
   -- a view has a notarization or finalization
   abbrev pub is_direct : List (Item S D P G C) → Bool
@@ -176,8 +176,8 @@ module _ {S D P G C : Type 0} where
   seen s (nullified now c ∷ h) = put c.round.view (past.nullified c) (enter s (current s h) now (next_term_start s.length c.round.view) (seen s h))
   seen s (finalized now c ∷ h) = put c.proposal.round.view (past.finalized c) (enter s (current s h) now (c.proposal.round.view + 1) (seen s h))
   seen s (judged now view ok ∷ h) =
-    if ok then enter s (current s h) now (view + 1) (put view (past.judged true) (seen s h))
-    else (if nat_le (current s h) view then put view (past.latched now reason.FailedCertification) (put view (past.judged false) (seen s h))
+      if ok then enter s (current s h) now (view + 1) (put view (past.judged true) (seen s h))
+      else (if nat_le (current s h) view then put view (past.latched now reason.FailedCertification) (put view (past.judged false) (seen s h))
       else put view (past.judged false) (seen s h))
   seen s (forwarded view p ∷ h) = if past.has_nullified (seen s h view) then seen s h else put view (past.offered (offer.forwarded p)) (seen s h)
   seen s (built now p payload ∷ h) = put p.round.view (past.bound p payload) (put p.round.view (past.built now p) (seen s h))
@@ -194,7 +194,7 @@ module _ {S D P G C : Type 0} where
   seen s (voted_nullify view ∷ h) = put view past.voted_nullify (seen s h)
   seen s (voted_finalize view p ∷ h) = put view past.voted_finalize (seen s h)
   seen s (recalled_notarize p taken ∷ h) =
-    bind (undecided_payload (seen s h p.parent)) p
+      bind (undecided_payload (seen s h p.parent)) p
       (put p.round.view past.voted_notarize (if taken then put p.round.view (past.offered (offer.recorded p)) (seen s h) else seen s h))
   seen s (recalled_nullify view ∷ h) = put view past.voted_nullify (seen s h)
   seen s (recalled_finalize p ∷ h) = put p.round.view past.voted_finalize (seen s h)

@@ -66,5 +66,5 @@ module _ {S D P G C : Type 0} where
     last_asked = λ view. past.last_asked (seen s h view);
     binding = λ view. past.binding (seen s h view);
     certify_asked = λ view. past.is_certify_asked (seen s h view);
-    certify_waited = is_marked s waits h
+    certify_waited = is_marked s waits h;
   }

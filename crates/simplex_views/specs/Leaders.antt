@@ -36,32 +36,32 @@ module _ {S D P G C : Type 0} where
   -- this member, where a schedule names it for a term's start and it voted to notarize the view before
   abbrev pub named_early : Setup S C → List (Point S D P G C) → ℕ → Option ℕ
   named_early s h view =
-    if hands_off && (view == term_start s.length view) && past.has_notarized (seen s h (view - 1)) && option_eq nat_eq s.me (scheduled_leader s view)
-    then s.me else None
+      if hands_off && (view == term_start s.length view) && past.has_notarized (seen s h (view - 1)) && option_eq nat_eq s.me (scheduled_leader s view)
+      then s.me else None
 
   -- some of the views that a view's window reaches back to has a notarization or finalization
   abbrev pub has_anchor : Setup S C → List (Point S D P G C) → ℕ → Bool
   has_anchor s h view =
-    let low : ℕ = issuance_floor s.optimistic_views view in
-    any_from (λ u. is_direct (seen s h u)) low (view - low)
+      let low : ℕ = issuance_floor s.optimistic_views view in
+      any_from (λ u. is_direct (seen s h u)) low (view - low)
 
   -- a view is in the issuance window: views are optimistic, it starts no term, and its window reaches the start or an anchor
   abbrev pub is_in_window : Setup S C → List (Point S D P G C) → ℕ → Bool
   is_in_window s h view =
-    not (s.optimistic_views == 0) && not (view == term_start s.length view)
+      not (s.optimistic_views == 0) && not (view == term_start s.length view)
       && ((issuance_floor s.optimistic_views view == 0) || has_anchor s h view)
 
   -- one of the views of its own term that its window reaches back to has a notarization or finalization
   abbrev pub has_anchor_in_term : Setup S C → List (Point S D P G C) → ℕ → Bool
   has_anchor_in_term s h view =
-    let low : ℕ = issuance_floor s.optimistic_views view in
-    not (s.optimistic_views == 0) && any_from (λ u. nat_le (term_start s.length view) u && is_direct (seen s h u)) low (view - low)
+      let low : ℕ = issuance_floor s.optimistic_views view in
+      not (s.optimistic_views == 0) && any_from (λ u. nat_le (term_start s.length view) u && is_direct (seen s h u)) low (view - low)
 
   -- a view has the leader of the view before: a view of its term that its window reaches has a certificate, or it is in the window
   -- and the leader's proposal of the view before was forwarded or voted for
   abbrev pub inherits : Setup S C → List (Point S D P G C) → ℕ → Bool
   inherits s h view =
-    has_anchor_in_term s h view
+      has_anchor_in_term s h view
       || (is_in_window s h view && (was_forwarded s h (view - 1) || past.has_notarized (seen s h (view - 1))))
 
   -- who leads each view: whoever becomes known first stays, until the view is dropped

@@ -44,30 +44,95 @@ pub struct Setup {
 /// What can happen. Of a certificate a mark stands for its bytes.
 #[derive(Clone, Copy)]
 pub enum Point {
-    Started { now: u64, payload: u8 },
-    Notarized { proposal: Proposal, mark: u64 },
-    Nullified { now: u64, view: u64, mark: u64 },
-    Finalized { now: u64, proposal: Proposal, mark: u64 },
-    Judged { now: u64, view: u64, ok: bool },
-    Forwarded { view: u64, proposal: Proposal },
-    Built { now: u64, proposal: Proposal, parent_payload: u8 },
-    Confirmed { view: u64 },
-    Unbound { view: u64 },
-    Latched { now: u64, view: u64, reason: TimeoutReason },
-    BuildAsked { view: u64 },
-    BuildReleased { view: u64 },
-    VerifyAsked { view: u64, proposal: Proposal, parent_payload: u8 },
-    AncestryAsked { view: u64, missing: u64 },
-    CertifyAsked { view: u64 },
-    CertifyWaited { view: u64 },
-    VotedNotarize { view: u64 },
-    VotedNullify { view: u64 },
-    VotedFinalize { view: u64 },
-    RecalledNotarize { proposal: Proposal },
-    RecalledNullify { view: u64 },
-    RecalledFinalize { view: u64 },
-    RecalledVerdict { view: u64, ok: bool },
-    Polled { now: u64 },
+    Started {
+        now: u64,
+        payload: u8,
+    },
+    Notarized {
+        proposal: Proposal,
+        mark: u64,
+    },
+    Nullified {
+        now: u64,
+        view: u64,
+        mark: u64,
+    },
+    Finalized {
+        now: u64,
+        proposal: Proposal,
+        mark: u64,
+    },
+    Judged {
+        now: u64,
+        view: u64,
+        ok: bool,
+    },
+    Forwarded {
+        view: u64,
+        proposal: Proposal,
+    },
+    Built {
+        now: u64,
+        proposal: Proposal,
+        parent_payload: u8,
+    },
+    Confirmed {
+        view: u64,
+    },
+    Unbound {
+        view: u64,
+    },
+    Latched {
+        now: u64,
+        view: u64,
+        reason: TimeoutReason,
+    },
+    BuildAsked {
+        view: u64,
+    },
+    BuildReleased {
+        view: u64,
+    },
+    VerifyAsked {
+        view: u64,
+        proposal: Proposal,
+        parent_payload: u8,
+    },
+    AncestryAsked {
+        view: u64,
+        missing: u64,
+    },
+    CertifyAsked {
+        view: u64,
+    },
+    CertifyWaited {
+        view: u64,
+    },
+    VotedNotarize {
+        view: u64,
+    },
+    VotedNullify {
+        view: u64,
+    },
+    VotedFinalize {
+        view: u64,
+    },
+    RecalledNotarize {
+        proposal: Proposal,
+    },
+    RecalledNullify {
+        view: u64,
+    },
+    RecalledFinalize {
+        view: u64,
+    },
+    RecalledVerdict {
+        view: u64,
+        ok: bool,
+    },
+    Polled {
+        now: u64,
+    },
     Pruned,
 }
 
@@ -156,7 +221,10 @@ impl<'a> History<'a> {
     pub fn entry(self, view: u64) -> Option<usize> {
         let begins = self.begins(view);
         for (place, point) in self.points.iter().enumerate() {
-            if begins <= place && self.enters(*point) == view && self.first(place).current() < view {
+            if begins <= place
+                && self.enters(*point) == view
+                && self.first(place).current() < view
+            {
                 return Some(place);
             }
         }

@@ -59,7 +59,10 @@ impl<'a> History<'a> {
     /// Whether this member may build behind the view, which ends a term, before it is decided.
     fn is_handoff_parent(self, view: u64) -> bool {
         let next = view.saturating_add(1);
-        HANDS_OFF && is_term_start(self.setup.length, next) && self.setup.leads_by_schedule(next) && !self.is_covered(view)
+        HANDS_OFF
+            && is_term_start(self.setup.length, next)
+            && self.setup.leads_by_schedule(next)
+            && !self.is_covered(view)
     }
 
     /// Whether a view of the term up to this one, above the last finalized view, has a false verdict.
@@ -96,7 +99,9 @@ impl<'a> History<'a> {
     fn voted_for(self, view: u64) -> Option<Proposal> {
         let held = self.held(view)?;
         let is_reached = self.is_in_window(view.saturating_add(1)) || self.is_handoff_parent(view);
-        let stands = self.last_finalized() <= held.parent && held.parent < view && self.first_uncovered(held.parent, view).is_none();
+        let stands = self.last_finalized() <= held.parent
+            && held.parent < view
+            && self.first_uncovered(held.parent, view).is_none();
         if is_reached && self.has(Mark::Notarize, view) && self.is_verified(view) && stands {
             Some(held)
         } else {
@@ -144,7 +149,8 @@ impl<'a> History<'a> {
 
     /// What the parent rule says, the first error first.
     pub fn parent(self, view: u64, parent: u64) -> Parent {
-        let is_passed_over = !is_term_start(self.setup.length, view) && view != parent.saturating_add(1);
+        let is_passed_over = !is_term_start(self.setup.length, view)
+            && view != parent.saturating_add(1);
         if view <= parent || parent < self.last_finalized() || is_passed_over {
             return Parent::Invalid;
         }
@@ -211,7 +217,9 @@ impl<'a> History<'a> {
     /// The view that has to be explicit before a proposal of the view on this parent is certified or finalized.
     pub fn required(self, view: u64, parent: u64) -> Option<u64> {
         let before = view.saturating_sub(1);
-        let is_early = parent == before && self.setup.leads_by_schedule(view) && self.has(Mark::Notarize, view);
+        let is_early = parent == before
+            && self.setup.leads_by_schedule(view)
+            && self.has(Mark::Notarize, view);
         if !is_term_start(self.setup.length, view) || is_early {
             Some(before)
         } else {

@@ -9,15 +9,22 @@ impl<'a> History<'a> {
     /// Whether a vote or request for the view may leave: it has room, and may be spoken of.
     pub fn may_speak(self, view: u64) -> bool {
         let setup = self.setup;
-        has_room(setup.length, view) && admits_outbound(setup.length, setup.optimistic_views, self.current(), view)
+        has_room(setup.length, view)
+            && admits_outbound(setup.length, setup.optimistic_views, self.current(), view)
     }
 
     /// Whether a notarize of the view is due.
     pub fn notarize_is_due(self, view: u64) -> bool {
         let is_kept = 1 <= view && self.min_active() <= view;
         let is_first = !self.has(Mark::Notarize, view) && !self.has(Mark::Nullify, view);
-        let is_supported = !self.is_in_window(view) || self.optimistic(view.saturating_sub(1)).is_some();
-        is_kept && self.may_speak(view) && is_first && self.is_verified(view) && is_supported && self.is_steady(view)
+        let is_supported = !self.is_in_window(view)
+            || self.optimistic(view.saturating_sub(1)).is_some();
+        is_kept
+            && self.may_speak(view)
+            && is_first
+            && self.is_verified(view)
+            && is_supported
+            && self.is_steady(view)
     }
 
     /// Whether an earlier view of the term, above the last finalized view, was given up here.
@@ -58,13 +65,25 @@ impl<'a> History<'a> {
         for (place, point) in self.points.iter().enumerate() {
             let before = self.first(place);
             let came = match *point {
-                Point::Latched { now, view: at, reason } if at == view => Some((now, reason)),
-                Point::Judged { now, view: at, ok: false } if at == view && before.current() <= view => {
+                Point::Latched {
+                    now,
+                    view: at,
+                    reason,
+                } if at == view => Some((now, reason)),
+                Point::Judged {
+                    now,
+                    view: at,
+                    ok: false,
+                } if at == view && before.current() <= view => {
                     Some((now, TimeoutReason::FailedCertification))
                 }
                 _ => None,
             };
-            if begins <= place && came.is_some() && !before.has(Mark::Nullify, view) && !before.has(Mark::Finalize, view) {
+            if begins <= place
+                && came.is_some()
+                && !before.has(Mark::Nullify, view)
+                && !before.has(Mark::Finalize, view)
+            {
                 return came;
             }
         }
@@ -88,11 +107,13 @@ impl<'a> History<'a> {
         let mut retry = None;
         for (place, point) in self.points.iter().enumerate() {
             match *point {
-                Point::VotedNullify { view: at } | Point::RecalledNullify { view: at } if at == view && begins <= place => {
+                Point::VotedNullify { view: at } | Point::RecalledNullify { view: at }
+                    if at == view && begins <= place => {
                     is_given_up = true;
                     retry = None;
                 }
-                Point::Polled { now } if is_given_up && retry.is_none() && self.first(place).current() == view => {
+                Point::Polled { now }
+                    if is_given_up && retry.is_none() && self.first(place).current() == view => {
                     retry = Some(now.saturating_add(self.setup.timeout_retry));
                 }
                 _ => {}
@@ -161,7 +182,11 @@ impl<'a> History<'a> {
     /// Whether a nullify of the view may be voted, and whether it would be a repetition: of the current view, behind the
     /// start, with room, without an own finalize.
     pub fn gives_up(self, view: u64) -> Option<bool> {
-        if view == 0 || view != self.current() || !has_room(self.setup.length, view) || self.has(Mark::Finalize, view) {
+        if view == 0
+            || view != self.current()
+            || !has_room(self.setup.length, view)
+            || self.has(Mark::Finalize, view)
+        {
             return None;
         }
         Some(self.has(Mark::Nullify, view))

@@ -35,7 +35,10 @@ fn touched(point: Point) -> Option<u64> {
         | Point::RecalledNullify { view }
         | Point::RecalledFinalize { view }
         | Point::RecalledVerdict { view, .. } => Some(view),
-        Point::Started { .. } | Point::CertifyWaited { .. } | Point::Polled { .. } | Point::Pruned => None,
+        Point::Started { .. }
+        | Point::CertifyWaited { .. }
+        | Point::Polled { .. }
+        | Point::Pruned => None,
     }
 }
 
@@ -49,7 +52,8 @@ impl<'a> History<'a> {
             match *point {
                 Point::Nullified { view: at, .. } if at == view => is_kept = true,
                 Point::Pruned if view < before.min_active() => {
-                    is_kept = is_kept && before.last_finalized() < term_end(self.setup.length, view);
+                    is_kept = is_kept
+                        && before.last_finalized() < term_end(self.setup.length, view);
                 }
                 _ => {}
             }
@@ -68,7 +72,11 @@ impl<'a> History<'a> {
         if self.finalized(before).is_some() {
             return Some(Entry::Finalization(before));
         }
-        let mut best = if self.notarized(before).is_some() { Some(Entry::Notarization(before)) } else { None };
+        let mut best = if self.notarized(before).is_some() {
+            Some(Entry::Notarization(before))
+        } else {
+            None
+        };
         if is_term_start(self.setup.length, current) {
             for view in term_start(self.setup.length, before)..=before {
                 if self.keeps_nullification(view) {

@@ -40,17 +40,25 @@ impl<'a> History<'a> {
             Point::Notarized { proposal, mark } | Point::Finalized { proposal, mark, .. } => {
                 (proposal.view.saturating_add(1), mark)
             }
-            Point::Nullified { view: at, mark, .. } => (next_term_start(self.setup.length, at), mark),
+            Point::Nullified { view: at, mark, .. } => (
+                next_term_start(self.setup.length, at),
+                mark,
+            ),
             _ => return None,
         };
-        if leads_to == view { Some(self.setup.elect(view, mark)) } else { None }
+        if leads_to == view {
+            Some(self.setup.elect(view, mark))
+        } else {
+            None
+        }
     }
 
     /// Whether the view has the leader of the view before: with optimistic views, a view of its term that lies at most
     /// these and one before it has a certificate; or it is in the window, and the leader's proposal of the view before
     /// was forwarded or voted for.
     fn follows(self, view: u64) -> bool {
-        let Some(floor) = issuance_floor(self.setup.length, self.setup.optimistic_views, view) else {
+        let Some(floor) = issuance_floor(self.setup.length, self.setup.optimistic_views, view)
+        else {
             return false;
         };
         for anchor in floor..view {
@@ -59,7 +67,8 @@ impl<'a> History<'a> {
             }
         }
         let before = view.saturating_sub(1);
-        self.is_in_window(view) && (self.has(Mark::Forwarded, before) || self.has(Mark::Notarize, before))
+        self.is_in_window(view)
+            && (self.has(Mark::Forwarded, before) || self.has(Mark::Notarize, before))
     }
 
     /// Who becomes known to lead the view at the last point, where this is the leader of the view before.
@@ -68,7 +77,11 @@ impl<'a> History<'a> {
             return Some(named);
         }
         let is_start = view == term_start(self.setup.length, view);
-        if HANDS_OFF && is_start && self.has(Mark::Notarize, view.saturating_sub(1)) && self.setup.leads_by_schedule(view) {
+        if HANDS_OFF
+            && is_start
+            && self.has(Mark::Notarize, view.saturating_sub(1))
+            && self.setup.leads_by_schedule(view)
+        {
             return self.setup.me;
         }
         if self.follows(view) { before } else { None }
@@ -82,7 +95,9 @@ impl<'a> History<'a> {
             let mut before = None;
             for (view, leader) in leaders.iter_mut().enumerate() {
                 let view = view as u64;
-                if matches!(self.points.get(place), Some(Point::Pruned)) && view < now.min_active() {
+                if matches!(self.points.get(place), Some(Point::Pruned))
+                    && view < now.min_active()
+                {
                     *leader = None;
                 } else if leader.is_none() && 0 < view {
                     *leader = now.becomes_leader(view, before);

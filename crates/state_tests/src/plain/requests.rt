@@ -48,7 +48,11 @@ impl<'a> History<'a> {
 
     /// The parent on which a build for the view is to be asked for.
     pub fn build(self, view: u64) -> Option<(u64, u8)> {
-        if !self.is_open(view) || !self.leads(view) || self.held(view).is_some() || self.is_build_asked(view) {
+        if !self.is_open(view)
+            || !self.leads(view)
+            || self.held(view).is_some()
+            || self.is_build_asked(view)
+        {
             return None;
         }
         let parent = self.find_parent(view)?;
@@ -60,7 +64,8 @@ impl<'a> History<'a> {
 
     /// Whether the parent that a build was asked for on may still be used.
     pub fn is_captured(self, view: u64, parent: (u64, u8)) -> bool {
-        self.find_parent(view) == Some(parent) || self.parent(view, parent.0) == Parent::Payload(parent.1)
+        self.find_parent(view) == Some(parent)
+            || self.parent(view, parent.0) == Parent::Payload(parent.1)
     }
 
     /// Whether the build is superseded.
@@ -84,7 +89,9 @@ impl<'a> History<'a> {
     /// The proposal that waits for its parent alone to be verified: another member leads, and none was asked for.
     fn waiting(self, view: u64) -> Option<Proposal> {
         let leader = self.leader(view)?;
-        let is_asked = self.has(Mark::VerifyAsked, view) || self.is_settled(view) || self.is_backed(view);
+        let is_asked = self.has(Mark::VerifyAsked, view)
+            || self.is_settled(view)
+            || self.is_backed(view);
         if self.is_open(view) && self.setup.me != Some(leader) && !is_asked {
             self.held(view)
         } else {
@@ -101,8 +108,11 @@ impl<'a> History<'a> {
         match self.parent(view, proposal.parent) {
             Parent::Invalid => Look::Invalid,
             Parent::Payload(payload) => Look::Verify(proposal, payload),
-            Parent::Uncovered(uncovered) if last != Some(uncovered) => Look::Nullification(uncovered),
-            Parent::Missing if !self.is_in_window(view) && last != Some(proposal.parent) => Look::Notarization(proposal.parent),
+            Parent::Uncovered(uncovered) if last != Some(uncovered) => Look::Nullification(
+                uncovered,
+            ),
+            Parent::Missing if !self.is_in_window(view) && last != Some(proposal.parent) =>
+                Look::Notarization(proposal.parent),
             _ => Look::Pass,
         }
     }
@@ -125,7 +135,8 @@ impl<'a> History<'a> {
         match self.parent(view, proposal.parent) {
             Parent::Invalid | Parent::Uncovered(_) => Judging::Pass,
             _ if self.explicit(required).is_some() => Judging::Ask(proposal),
-            _ if self.notarized(required).is_none() && !self.has(Mark::CertifyWaited, view) => Judging::Fetch(required),
+            _ if self.notarized(required).is_none() && !self.has(Mark::CertifyWaited, view) =>
+                Judging::Fetch(required),
             _ => Judging::Wait(required),
         }
     }

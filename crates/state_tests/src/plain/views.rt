@@ -29,8 +29,14 @@ fn marked(point: Point) -> Option<(Mark, u64)> {
     match point {
         Point::VotedNotarize { view } => Some((Mark::Notarize, view)),
         Point::RecalledNotarize { proposal } => Some((Mark::Notarize, proposal.view)),
-        Point::VotedNullify { view } | Point::RecalledNullify { view } => Some((Mark::Nullify, view)),
-        Point::VotedFinalize { view } | Point::RecalledFinalize { view } => Some((Mark::Finalize, view)),
+        Point::VotedNullify { view } | Point::RecalledNullify { view } => Some((
+            Mark::Nullify,
+            view,
+        )),
+        Point::VotedFinalize { view } | Point::RecalledFinalize { view } => Some((
+            Mark::Finalize,
+            view,
+        )),
         Point::Forwarded { view, .. } => Some((Mark::Forwarded, view)),
         Point::VerifyAsked { view, .. } => Some((Mark::VerifyAsked, view)),
         Point::CertifyAsked { view } => Some((Mark::CertifyAsked, view)),
@@ -83,7 +89,11 @@ impl<'a> History<'a> {
             Source::Built => !is_given_up && agrees,
             Source::Recorded => agrees,
         };
-        if is_taken { Some((source, proposal)) } else { None }
+        if is_taken {
+            Some((source, proposal))
+        } else {
+            None
+        }
     }
 
     /// The held proposal: that of the last certificate, else the first that was taken, which is the first that was
@@ -174,7 +184,10 @@ impl<'a> History<'a> {
                     None => false,
                     Some(held) => held != proposal,
                 };
-                if source == Source::Built || source == Source::Recorded || (source == Source::Certificate && replaces) {
+                if source == Source::Built
+                    || source == Source::Recorded
+                    || (source == Source::Certificate && replaces)
+                {
                     return true;
                 }
             }
@@ -186,7 +199,9 @@ impl<'a> History<'a> {
     pub fn is_backed(self, view: u64) -> bool {
         let begins = self.begins(view);
         for (place, point) in self.points.iter().enumerate() {
-            if begins <= place && matches!(*point, Point::VotedNotarize { view: at } if at == view) {
+            if begins <= place
+                && matches!(*point, Point::VotedNotarize { view: at } if at == view)
+            {
                 return true;
             }
             if let Some((Source::Recorded, _)) = self.taken(place, view) {
@@ -203,7 +218,8 @@ impl<'a> History<'a> {
         for (place, point) in self.points.iter().enumerate() {
             match *point {
                 Point::BuildAsked { view: at } if at == view && begins <= place => is_asked = true,
-                Point::BuildReleased { view: at } if at == view && begins <= place => is_asked = false,
+                Point::BuildReleased { view: at } if at == view && begins <= place => is_asked =
+                    false,
                 _ => {}
             }
         }
@@ -247,7 +263,8 @@ impl<'a> History<'a> {
     pub fn verdict(self, view: u64) -> Option<bool> {
         let begins = self.begins(view);
         for (place, point) in self.points.iter().enumerate() {
-            if let Point::Judged { view: at, ok, .. } | Point::RecalledVerdict { view: at, ok } = *point
+            if let Point::Judged { view: at, ok, .. }
+            | Point::RecalledVerdict { view: at, ok } = *point
                 && at == view
                 && begins <= place
             {
@@ -282,10 +299,18 @@ impl<'a> History<'a> {
                 continue;
             }
             match *point {
-                Point::VerifyAsked { view: at, proposal, parent_payload } if at == view => {
+                Point::VerifyAsked {
+                    view: at,
+                    proposal,
+                    parent_payload,
+                } if at == view => {
                     binding = Some((proposal, parent_payload));
                 }
-                Point::Built { proposal, parent_payload, .. } if proposal.view == view => {
+                Point::Built {
+                    proposal,
+                    parent_payload,
+                    ..
+                } if proposal.view == view => {
                     binding = Some((proposal, parent_payload));
                 }
                 Point::Unbound { view: at } if at == view => binding = None,
@@ -305,7 +330,8 @@ impl<'a> History<'a> {
 
     /// Whether the view is in the issuance window: its window reaches the start, or a view with a certificate.
     pub fn is_in_window(self, view: u64) -> bool {
-        let Some(floor) = issuance_floor(self.setup.length, self.setup.optimistic_views, view) else {
+        let Some(floor) = issuance_floor(self.setup.length, self.setup.optimistic_views, view)
+        else {
             return false;
         };
         if floor == 0 {
