@@ -1,5 +1,5 @@
 -- What the voter answers of what it keeps.
-use Rattle.std.specs.Prelude.{◌≡◌, ◌↔◌, ◌+◌, ◌-◌, ◌<◌, ◌==◌, ℕ, zero, suc, List, AllPairs, Contains, Option, Some, None, option_map, if◌then◌else◌}
+use Rattle.std.specs.Prelude.{◌↔◌, ◌+◌, ◌-◌, ◌<◌, ◌==◌, ℕ, zero, suc, List, AllPairs, Contains, Option, None, option_map, if◌then◌else◌}
 use Rattle.std.specs.Option.{option_or}
 use Rattle.simplex_types.specs.Positions.{term_start}
 use Rattle.simplex_messages.specs.declared.certificate.Certificate.{Certificate}

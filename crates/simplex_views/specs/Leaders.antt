@@ -1,10 +1,10 @@
 -- Who leads each view, as far as it is known.
-use Rattle.std.specs.Prelude.{◌≡◌, ◌+◌, ◌-◌, ◌==◌, ◌&&◌, ◌||◌, not, nat_lt, nat_le, nat_eq, ℕ, zero, suc, Bool, true, false, List, [], ◌∷◌, Option, Some, None, is_some, if◌then◌else◌}
+use Rattle.std.specs.Prelude.{◌+◌, ◌-◌, ◌==◌, ◌&&◌, ◌||◌, not, nat_lt, nat_le, nat_eq, ℕ, zero, suc, Bool, false, List, [], ◌∷◌, Option, Some, None, if◌then◌else◌}
 use Rattle.std.specs.Option.{option_or, option_eq}
 use Rattle.simplex_types.specs.Positions.{next_term_start, term_start}
 use Rattle.simplex_rules.specs.Windows.{issuance_floor}
 use Rattle.simplex_round.specs.Past as past
-use Rattle.simplex_views.specs.History.{Setup, Point, started, notarized, nullified, finalized, forwarded, pruned, hands_off, is_me, scheduled_leader, is_direct, is_marked, min_active, seen}
+use Rattle.simplex_views.specs.History.{Setup, Point, started, notarized, nullified, finalized, forwarded, pruned, hands_off, scheduled_leader, is_direct, is_marked, min_active, seen}
 
 -- one of so many numbers from this one on passes
 abbrev pub any_from : (ℕ → Bool) → ℕ → ℕ → Bool
