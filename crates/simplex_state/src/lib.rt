@@ -1,0 +1,4 @@
+//! How a member of a committee is set up.
+#![tactic(auto)]
+
+pub mod config;
