@@ -1,0 +1,11 @@
+//! What a member still has to fetch of certificates, and what it answers to those who ask it for them.
+#![tactic(auto)]
+
+mod ask;
+mod effect;
+mod held;
+mod state;
+
+pub use ask::{Ask, Kind, Until};
+pub use effect::{Effect, FetchReason};
+pub use state::State;
