@@ -1,5 +1,5 @@
 -- What a voter knows, beside what its record says. Behind that the laws of the voter, as statements that are still to be proved.
-use Rattle.std.specs.Prelude.{◌≡◌, ◌⊎◌, ◌↔◌, ◌<◌, ◌≤◌, ℕ, Bool, true, false, List, [], ◌∷◌, reverse, Contains, ◌+◌, Some, IsSome, if◌then◌else◌}
+use Rattle.std.specs.Prelude.{◌≡◌, ◌⊎◌, ◌↔◌, ◌<◌, ◌≤◌, ℕ, Bool, true, false, List, [], ◌∷◌, reverse, Contains, ◌+◌, Some, IsSome, IsTrue, ⊤, if◌then◌else◌}
 use Rattle.simplex_types.specs.declared.position.Round.{Round}
 use Rattle.simplex_types.specs.declared.proposal.Proposal.{Proposal}
 use Rattle.simplex_types.specs.Subject.{notarize, nullify, finalize}
@@ -7,9 +7,9 @@ use Rattle.simplex_record.specs.Record as recorded
 use Rattle.simplex_record.specs.Record.{Entry, HasVoted, HasTaken, HasJudged, current_view}
 use Rattle.simplex_record.specs.Rules.{MayNotarize, MayNullify, MayFinalize}
 use Rattle.simplex_round.specs.declared.timeout_reason.TimeoutReason.{TimeoutReason}
-use Rattle.simplex_round.specs.Held.{IsTainted}
+use Rattle.simplex_round.specs.Held.{IsTainted, Agrees, held}
 use Rattle.simplex_round.specs.Past as past
-use Rattle.simplex_views.specs.History.{Setup, Point, notarized, nullified, finalized, judged, latched, voted_notarize, voted_nullify, voted_finalize, recalled_notarize, recalled_nullify, recalled_finalize, recalled_verdict, pruned, current, last_finalized, seen}
+use Rattle.simplex_views.specs.History.{Setup, Point, notarized, nullified, finalized, judged, built, latched, voted_notarize, voted_nullify, voted_finalize, recalled_notarize, recalled_nullify, recalled_finalize, recalled_verdict, pruned, current, last_finalized, seen}
 use Rattle.simplex_views.specs.Leaders.{is_in_window, inherits, leader}
 use Rattle.simplex_views.specs.Known.{Known, known}
 use Rattle.simplex_state.specs.Ancestry.{Member, member, held_at, IsCovered, InWindow, Optimistic, IsPreferred}
@@ -41,9 +41,18 @@ module _ {S D P G C : Type 0} where
   abbrev pub record_of : Setup S C → List (Point S D P G C) → List (Entry D)
   record_of s h = reverse (told s h)
 
-  -- a history as its owner keeps it: it began; votes are on proposals of their views; a verdict that was recalled was given too
+  -- an own proposal stands only where it was taken: nothing or the same was held
+  abbrev pub OwnWereTaken : Setup S C → List (Point S D P G C) → Type 0
+  OwnWereTaken s [] = ⊤
+  OwnWereTaken s (built now p payload ∷ h) = Agrees (held (past.offers (seen s h p.round.view))) p × OwnWereTaken s h
+  OwnWereTaken s (recalled_notarize p taken ∷ h) = (IsTrue taken → Agrees (held (past.offers (seen s h p.round.view))) p) × OwnWereTaken s h
+  OwnWereTaken s (x ∷ h) = OwnWereTaken s h
+
+  -- a history as its owner keeps it: it began; own proposals stand where they were taken; votes are on proposals of their views; a
+  -- verdict that was recalled was given too
   pub record IsOrderly (s : Setup S C) (h : List (Point S D P G C)) : Type 0 where
     pub began : 1 ≤ current s h
+    pub taken : OwnWereTaken s h
     pub notarizes : (view : ℕ) (p : Proposal D) → Contains h (voted_notarize view p) → p.round.view ≡ view
     pub finalizes : (view : ℕ) (p : Proposal D) → Contains h (voted_finalize view p) → p.round.view ≡ view
     pub verdicts : (view : ℕ) (ok : Bool) → Contains h (recalled_verdict view ok) → (now : ℕ) × Contains h (judged now view ok)
@@ -78,6 +87,7 @@ module _ {D : Type 0} (m : Member) where
     pub last_finalized : k.last_finalized ≡ j.last_finalized
     pub floor : k.floor ≡ j.floor
     pub genesis : k.genesis ≡ j.genesis
+    pub ahead : k.last_finalized ≤ k.current
     pub anchored : (k.last_finalized ≡ 0) ⊎ (IsSome (k.finalized k.last_finalized) × IsSome (held_at m k k.last_finalized))
     pub covered : (view : ℕ) → k.last_finalized < view → IsCovered m k view ↔ IsCovered m j view
     pub leader : (view : ℕ) → k.last_finalized ≤ view → k.leader view ≡ j.leader view

@@ -1,6 +1,6 @@
 -- What can happen to a voter, and what its views see of it. Histories hold the newest first.
-use Rattle.std.specs.Prelude.{◌+◌, ◌==◌, ◌&&◌, ◌||◌, nat_lt, nat_le, nat_eq, ℕ, Bool, true, false, max, List, [], ◌∷◌, Option, Some, None, is_some, option_map, if◌then◌else◌}
-use Rattle.std.specs.Option.{option_or, option_eq}
+use Rattle.std.specs.Prelude.{◌+◌, ◌==◌, ◌&&◌, ◌||◌, nat_lt, nat_le, ℕ, Bool, true, false, max, List, [], ◌∷◌, Option, Some, None, is_some, option_map, if◌then◌else◌}
+use Rattle.std.specs.Option.{option_or}
 use Rattle.simplex_types.specs.declared.proposal.Proposal.{Proposal}
 use Rattle.simplex_types.specs.Positions.{next_term_start, term_end}
 use Rattle.simplex_messages.specs.declared.nullification.Nullification.{Nullification}
@@ -102,10 +102,6 @@ by_schedule Scheduled leader = Some leader
 by_schedule Dynamic leader = None
 
 module _ {S C : Type 0} where
-  -- this member has the index
-  abbrev pub is_me : Setup S C → ℕ → Bool
-  is_me s i = option_eq nat_eq s.me (Some i)
-
   -- whom a schedule names for a view, whatever certificate it will be entered by
   abbrev pub scheduled_leader : Setup S C → ℕ → Option ℕ
   scheduled_leader s view = by_schedule s.mode (s.elect view None)

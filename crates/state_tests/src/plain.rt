@@ -16,7 +16,7 @@ use simplex_round::TimeoutReason;
 pub const VIEWS: usize = 32;
 
 /// A proposal, with a number in place of its payload.
-#[derive(Clone, Copy, PartialEq, Eq, Debug)]
+#[derive(Clone, Copy, PartialEq, Eq)]
 pub struct Proposal {
     pub view: u64,
     pub parent: u64,

@@ -1,4 +1,4 @@
-//! The voter's worked cases, told by the plain program.
+//! The voter's worked cases, told by the plain program. Each row says behind how many points it is asked.
 
 use crate::plain::ancestry::Parent;
 use crate::plain::getters::Entry;
@@ -7,15 +7,15 @@ use crate::plain::{History, Point, Proposal, Setup};
 use simplex_round::TimeoutReason;
 use std::process::Abort;
 
-/// The payload at the start, and three more.
+/// The payload at the start, and two more.
 const GENESIS: u8 = 0;
 
 const A: u8 = 0xaa;
 
 const B: u8 = 0xbb;
 
-fn holds(rt: &impl Abort, is_so: bool) {
-    assert!(rt; is_so);
+fn holds(rt: &impl Abort, count: usize, is_so: bool) {
+    assert!(rt; is_so, "behind {count} points");
 }
 
 /// Member 0 of four, whose leaders take turns, in terms of this length with so many optimistic views.
@@ -55,6 +55,13 @@ const fn proposal(view: u64, parent: u64, payload: u8) -> Proposal {
     }
 }
 
+const fn forwarded(view: u64, parent: u64, payload: u8) -> Point {
+    Point::Forwarded {
+        view,
+        proposal: proposal(view, parent, payload),
+    }
+}
+
 const fn notarized(view: u64, parent: u64, payload: u8) -> Point {
     Point::Notarized {
         proposal: proposal(view, parent, payload),
@@ -86,6 +93,44 @@ const fn certified(view: u64) -> Point {
     }
 }
 
+/// At these moments the next timeout is this one.
+fn times_out(rt: &impl Abort, all: History<'_>, rows: &[(usize, u64, u64, TimeoutReason)]) {
+    for (count, now, moment, reason) in rows {
+        let next = all.first(*count).timeout(*now);
+        holds(rt, *count, next == Some((*moment, *reason)));
+    }
+}
+
+/// For the proposals of these views this is to be done.
+fn looks(rt: &impl Abort, all: History<'_>, rows: &[(usize, u64, Look)]) {
+    for (count, view, look) in rows {
+        holds(rt, *count, all.first(*count).look(*view) == *look);
+    }
+}
+
+/// For the verdicts of these views this is to be done.
+fn judges(rt: &impl Abort, all: History<'_>, rows: &[(usize, u64, Judging)]) {
+    for (count, view, judging) in rows {
+        holds(rt, *count, all.first(*count).judging(*view) == *judging);
+    }
+}
+
+/// These views are led so.
+fn are_led(rt: &impl Abort, all: History<'_>, rows: &[(usize, u64, Option<u32>)]) {
+    for (count, view, leader) in rows {
+        holds(rt, *count, all.first(*count).leader(*view) == *leader);
+    }
+}
+
+/// A notarize or a finalize of these views is due or not.
+fn are_due(rt: &impl Abort, all: History<'_>, rows: &[(usize, u64, bool, bool)]) {
+    for (count, view, notarize, finalize) in rows {
+        let now = all.first(*count);
+        holds(rt, *count, now.notarize_is_due(*view) == *notarize);
+        holds(rt, *count, now.finalize_is_due(*view) == *finalize);
+    }
+}
+
 #[test]
 fn a_member_alone_gives_its_view_up_in_time(rt: HostRuntime) {
     let points = [
@@ -96,22 +141,28 @@ fn a_member_alone_gives_its_view_up_in_time(rt: HostRuntime) {
         Point::Polled { now: 6_500 },
     ];
     let all = history(member(1, 0), &points);
-    assert_eq!(rt;
-        all.first(1).timeout(0),
-        Some((1_000, TimeoutReason::LeaderTimeout))
+    times_out(
+        &rt,
+        all,
+        &[
+            (1, 0, 1_000, TimeoutReason::LeaderTimeout),
+            (3, 1_000, 6_000, TimeoutReason::Retry),
+            (5, 6_500, 11_500, TimeoutReason::Retry),
+        ],
     );
-    assert_eq!(rt; all.first(1).gives_up(1), Some(false));
-    holds(&rt, !all.first(1).nullify_is_due(999));
-    holds(&rt, all.first(1).nullify_is_due(1_000));
-    assert_eq!(rt;
-        all.first(3).timeout(1_000),
-        Some((6_000, TimeoutReason::Retry))
-    );
-    assert_eq!(rt; all.first(3).gives_up(1), Some(true));
-    assert_eq!(rt; all.first(3).gives_up(2), None);
-    holds(&rt, !all.first(3).nullify_is_due(5_999));
-    holds(&rt, all.first(3).nullify_is_due(6_000));
-    assert_eq!(rt; all.timeout(6_500), Some((11_500, TimeoutReason::Retry)));
+    let due = [
+        (1, 999, false),
+        (1, 1_000, true),
+        (3, 5_999, false),
+        (3, 6_000, true),
+    ];
+    for (count, now, is_due) in due {
+        holds(&rt, count, all.first(count).nullify_is_due(now) == is_due);
+    }
+    let votes = [(1, 1, Some(false)), (3, 1, Some(true)), (3, 2, None)];
+    for (count, view, repeats) in votes {
+        holds(&rt, count, all.first(count).gives_up(view) == repeats);
+    }
 }
 
 #[test]
@@ -127,12 +178,47 @@ fn views_are_skipped_while_budget_remains(rt: HostRuntime) {
         finalized(100, 1, 0, A),
     ];
     let all = history(member(1, 0), &points);
-    assert_eq!(rt; all.first(2).current(), 5);
-    assert_eq!(rt;
-        all.first(3).timeout(100),
-        Some((1_000, TimeoutReason::LeaderTimeout))
+    holds(&rt, 2, all.first(2).current() == 5);
+    times_out(
+        &rt,
+        all,
+        &[
+            (3, 100, 1_000, TimeoutReason::LeaderTimeout),
+            (4, 100, 100, TimeoutReason::LeaderNullify),
+        ],
     );
-    assert_eq!(rt; all.timeout(100), Some((100, TimeoutReason::LeaderNullify)));
+}
+
+#[test]
+fn a_term_that_stalls_is_given_up(rt: HostRuntime) {
+    let setup = Setup {
+        stall_timeout: Some(1_500),
+        ..member(5, 0)
+    };
+    let points = [
+        started(),
+        forwarded(1, 0, A),
+        notarized(1, 0, A),
+        Point::Judged {
+            now: 900,
+            view: 1,
+            ok: true,
+        },
+        finalized(950, 1, 0, A),
+        nullified(7),
+    ];
+    times_out(
+        &rt,
+        history(setup, &points),
+        &[
+            (1, 0, 1_000, TimeoutReason::LeaderTimeout),
+            (2, 0, 1_500, TimeoutReason::StallTimeout),
+            (4, 900, 1_500, TimeoutReason::StallTimeout),
+            (4, 1_950, 1_900, TimeoutReason::LeaderTimeout),
+            (5, 950, 1_900, TimeoutReason::LeaderTimeout),
+            (6, 950, 1_000, TimeoutReason::LeaderTimeout),
+        ],
+    );
 }
 
 #[test]
@@ -140,10 +226,7 @@ fn what_a_proposal_rests_on_is_asked_for_in_order_and_once(rt: HostRuntime) {
     let points = [
         started(),
         nullified(4),
-        Point::Forwarded {
-            view: 5,
-            proposal: proposal(5, 2, A),
-        },
+        forwarded(5, 2, A),
         Point::AncestryAsked {
             view: 5,
             missing: 3,
@@ -155,11 +238,17 @@ fn what_a_proposal_rests_on_is_asked_for_in_order_and_once(rt: HostRuntime) {
         },
     ];
     let all = history(member(1, 0), &points);
-    assert_eq!(rt; all.leader(5), Some(1));
-    assert_eq!(rt; all.first(3).look(5), Look::Nullification(3));
-    assert_eq!(rt; all.first(4).look(5), Look::Pass);
-    assert_eq!(rt; all.first(5).look(5), Look::Notarization(2));
-    assert_eq!(rt; all.look(5), Look::Pass);
+    are_led(&rt, all, &[(3, 5, Some(1))]);
+    looks(
+        &rt,
+        all,
+        &[
+            (3, 5, Look::Nullification(3)),
+            (4, 5, Look::Pass),
+            (5, 5, Look::Notarization(2)),
+            (6, 5, Look::Pass),
+        ],
+    );
 }
 
 #[test]
@@ -172,12 +261,17 @@ fn a_verdict_waits_for_its_parent(rt: HostRuntime) {
         certified(1),
         Point::CertifyAsked { view: 2 },
     ];
-    let all = history(member(5, 0), &points);
-    assert_eq!(rt; all.first(2).judging(2), Judging::Fetch(1));
-    assert_eq!(rt; all.first(3).judging(2), Judging::Wait(1));
-    assert_eq!(rt; all.first(4).judging(1), Judging::Ask(proposal(1, 0, A)));
-    assert_eq!(rt; all.first(5).judging(2), Judging::Ask(proposal(2, 1, B)));
-    assert_eq!(rt; all.judging(2), Judging::Pass);
+    judges(
+        &rt,
+        history(member(5, 0), &points),
+        &[
+            (2, 2, Judging::Fetch(1)),
+            (3, 2, Judging::Wait(1)),
+            (4, 1, Judging::Ask(proposal(1, 0, A))),
+            (5, 2, Judging::Ask(proposal(2, 1, B))),
+            (6, 2, Judging::Pass),
+        ],
+    );
 }
 
 #[test]
@@ -193,11 +287,16 @@ fn no_view_is_finalized_behind_an_own_nullify_of_its_term(rt: HostRuntime) {
         certified(3),
         finalized(0, 2, 1, B),
     ];
-    let all = history(member(5, 0), &points);
-    holds(&rt, all.first(3).finalize_is_due(1));
-    holds(&rt, !all.first(6).finalize_is_due(2));
-    holds(&rt, !all.first(8).finalize_is_due(3));
-    holds(&rt, all.finalize_is_due(3));
+    are_due(
+        &rt,
+        history(member(5, 0), &points),
+        &[
+            (3, 1, false, true),
+            (6, 2, false, false),
+            (8, 3, false, false),
+            (9, 3, false, true),
+        ],
+    );
 }
 
 #[test]
@@ -220,46 +319,64 @@ fn a_term_is_entered_by_each_kind_of_certificate(rt: HostRuntime) {
         (notarized(10, 9, A), 0),
     ];
     for (point, current) in rows {
-        assert_eq!(rt; history(member(5, 0), &[point]).current(), current);
+        holds(&rt, 1, history(member(5, 0), &[point]).current() == current);
     }
     let points = [started(), nullified(7), certified(3), finalized(0, 4, 3, A)];
-    assert_eq!(rt; history(member(5, 0), &points).current(), 11);
+    holds(&rt, 4, history(member(5, 0), &points).current() == 11);
 }
 
 #[test]
-fn leaders_are_known_by_each_of_their_rules(rt: HostRuntime) {
-    let forwarded = Point::Forwarded {
-        view: 1,
-        proposal: proposal(1, 0, A),
-    };
-    // The optimistic views of terms of five, what happened, a view, and its leader.
-    let rows: [(u64, &[Point], u64, Option<u32>); 14] = [
-        (0, &[], 1, None),
-        (0, &[started()], 1, Some(1)),
-        (0, &[started()], 2, None),
-        (0, &[started(), notarized(2, 1, A)], 3, Some(1)),
-        (0, &[started(), notarized(2, 1, A)], 4, None),
-        (0, &[started(), finalized(0, 5, 4, A)], 6, Some(2)),
-        (0, &[started(), nullified(7)], 11, Some(3)),
-        (0, &[started(), nullified(7)], 8, None),
-        (2, &[started(), notarized(2, 1, A)], 5, Some(1)),
-        (2, &[started(), notarized(2, 1, A)], 6, None),
-        (2, &[started(), forwarded], 2, Some(1)),
-        (2, &[started(), forwarded], 3, None),
-        (2, &[forwarded, started()], 2, Some(1)),
-        (
-            2,
-            &[started(), Point::VotedNotarize { view: 1 }],
-            2,
-            Some(1),
-        ),
+fn a_certificate_names_who_leads_behind_it(rt: HostRuntime) {
+    let points = [
+        started(),
+        notarized(2, 1, A),
+        finalized(0, 5, 4, A),
+        nullified(7),
     ];
-    for (optimistic_views, points, view, leader) in rows {
-        assert_eq!(rt;
-            history(member(5, optimistic_views), points).leader(view),
-            leader
-        );
-    }
+    are_led(
+        &rt,
+        history(member(5, 0), &points),
+        &[
+            (0, 1, None),
+            (1, 1, Some(1)),
+            (1, 2, None),
+            (2, 3, Some(1)),
+            (2, 4, None),
+            (2, 6, None),
+            (3, 6, Some(2)),
+            (3, 11, None),
+            (4, 8, None),
+            (4, 11, Some(3)),
+        ],
+    );
+}
+
+#[test]
+fn a_leader_leads_on_where_views_are_optimistic(rt: HostRuntime) {
+    let certificates = [started(), notarized(2, 1, A)];
+    are_led(
+        &rt,
+        history(member(5, 2), &certificates),
+        &[(1, 2, None), (2, 5, Some(1)), (2, 6, None)],
+    );
+    let proposals = [forwarded(1, 0, A), started(), forwarded(2, 1, B)];
+    are_led(
+        &rt,
+        history(member(5, 2), &proposals),
+        &[(1, 2, None), (2, 2, Some(1)), (2, 3, None), (3, 3, Some(1))],
+    );
+    let votes = [
+        started(),
+        Point::VotedNotarize { view: 1 },
+        Point::RecalledNotarize {
+            proposal: proposal(2, 1, B),
+        },
+    ];
+    are_led(
+        &rt,
+        history(member(5, 2), &votes),
+        &[(2, 2, Some(1)), (2, 3, None), (3, 3, Some(1)), (3, 4, None)],
+    );
 }
 
 #[test]
@@ -274,11 +391,7 @@ fn a_certificate_decides_where_leaders_take_no_turns(rt: HostRuntime) {
             proposal: proposal(2, 1, A),
             mark: 3,
         },
-        Point::Finalized {
-            now: 0,
-            proposal: proposal(2, 1, A),
-            mark: 0,
-        },
+        finalized(0, 2, 1, A),
         Point::Nullified {
             now: 0,
             view: 3,
@@ -286,61 +399,91 @@ fn a_certificate_decides_where_leaders_take_no_turns(rt: HostRuntime) {
         },
         Point::Pruned,
     ];
-    let all = history(setup, &points);
-    assert_eq!(rt; all.leader(1), Some(1));
-    assert_eq!(rt; all.leader(3), Some(2));
-    assert_eq!(rt; all.leader(5), Some(2));
-    assert_eq!(rt; all.leader(6), Some(3));
-    let short = history(
-        Setup {
-            retention: 0,
-            ..setup
-        },
-        &points,
+    are_led(
+        &rt,
+        history(setup, &points),
+        &[
+            (5, 1, Some(1)),
+            (5, 3, Some(2)),
+            (5, 5, Some(2)),
+            (5, 6, Some(3)),
+        ],
     );
-    assert_eq!(rt; short.leader(1), None);
-    assert_eq!(rt; short.leader(3), Some(2));
+    let short = Setup {
+        retention: 0,
+        ..setup
+    };
+    are_led(
+        &rt,
+        history(short, &points),
+        &[(4, 1, Some(1)), (5, 1, None), (5, 3, Some(2))],
+    );
 }
 
 #[test]
 fn a_chain_of_own_votes_supports_the_next_view(rt: HostRuntime) {
-    let forwarded = Point::Forwarded {
-        view: 1,
-        proposal: proposal(1, 0, A),
-    };
-    let asked = Point::VerifyAsked {
-        view: 1,
-        proposal: proposal(1, 0, A),
-        parent_payload: GENESIS,
-    };
     let points = [
         started(),
-        forwarded,
-        asked,
+        forwarded(1, 0, A),
+        Point::VerifyAsked {
+            view: 1,
+            proposal: proposal(1, 0, A),
+            parent_payload: GENESIS,
+        },
         Point::Confirmed { view: 1 },
         Point::VotedNotarize { view: 1 },
-        Point::Forwarded {
-            view: 2,
-            proposal: proposal(2, 1, B),
-        },
+        forwarded(2, 1, B),
     ];
     let all = history(member(5, 2), &points);
-    assert_eq!(rt;
-        all.first(2).look(1),
-        Look::Verify(proposal(1, 0, A), GENESIS)
+    looks(
+        &rt,
+        all,
+        &[
+            (2, 1, Look::Verify(proposal(1, 0, A), GENESIS)),
+            (3, 1, Look::Pass),
+            (6, 2, Look::Verify(proposal(2, 1, B), A)),
+        ],
     );
-    assert_eq!(rt; all.first(3).look(1), Look::Pass);
-    holds(&rt, !all.first(3).notarize_is_due(1));
-    holds(&rt, all.first(4).notarize_is_due(1));
-    holds(&rt, !all.first(5).notarize_is_due(1));
-    assert_eq!(rt; all.first(4).optimistic(1), None);
-    assert_eq!(rt; all.optimistic(1), Some(A));
-    assert_eq!(rt; all.explicit(1), None);
-    assert_eq!(rt; all.look(2), Look::Verify(proposal(2, 1, B), A));
+    are_due(
+        &rt,
+        all,
+        &[
+            (3, 1, false, false),
+            (4, 1, true, false),
+            (5, 1, false, false),
+        ],
+    );
+    holds(&rt, 4, all.first(4).optimistic(1).is_none());
+    holds(&rt, 6, all.optimistic(1) == Some(A));
+    holds(&rt, 6, all.explicit(1).is_none());
     // Without optimistic views the parent's certificate is awaited.
-    assert_eq!(rt;
-        history(member(5, 0), &points).parent(2, 1),
-        Parent::Missing
+    holds(
+        &rt,
+        6,
+        history(member(5, 0), &points).parent(2, 1) == Parent::Missing,
+    );
+}
+
+#[test]
+fn no_notarize_passes_over_an_uncovered_view(rt: HostRuntime) {
+    let points = [
+        started(),
+        notarized(1, 0, A),
+        certified(1),
+        nullified(3),
+        forwarded(4, 1, B),
+        Point::VerifyAsked {
+            view: 4,
+            proposal: proposal(4, 1, B),
+            parent_payload: A,
+        },
+        Point::Confirmed { view: 4 },
+        nullified(2),
+    ];
+    are_due(
+        &rt,
+        history(member(1, 0), &points),
+        &[(7, 4, false, false), (8, 4, true, false)],
     );
 }
 
@@ -354,19 +497,17 @@ fn what_covers_outlives_its_view(rt: HostRuntime) {
         finalized(0, 12, 8, A),
         Point::Pruned,
     ];
-    let all = history(
-        Setup {
-            retention: 0,
-            ..member(5, 0)
-        },
-        &points,
-    );
-    assert_eq!(rt; all.first(3).last_dropped(), Some(7));
-    holds(&rt, !all.first(4).is_tracked(7));
-    holds(&rt, all.first(4).keeps_nullification(7));
-    holds(&rt, !all.keeps_nullification(7));
-    holds(&rt, all.is_covered(9));
-    assert_eq!(rt; all.first(4).first_uncovered(8, 12), Some(11));
+    let short = Setup {
+        retention: 0,
+        ..member(5, 0)
+    };
+    let all = history(short, &points);
+    holds(&rt, 3, all.first(3).last_dropped() == Some(7));
+    holds(&rt, 4, !all.first(4).is_tracked(7));
+    holds(&rt, 4, all.first(4).keeps_nullification(7));
+    holds(&rt, 6, !all.keeps_nullification(7));
+    holds(&rt, 6, all.is_covered(9));
+    holds(&rt, 4, all.first(4).first_uncovered(8, 12) == Some(11));
 }
 
 #[test]
@@ -380,18 +521,15 @@ fn the_best_certificate_helps_others_on(rt: HostRuntime) {
         finalized(0, 5, 4, A),
     ];
     let all = history(member(5, 0), &points);
-    let best = [
-        None,
-        None,
-        Some(Entry::Notarization(5)),
-        Some(Entry::Nullification(2)),
-        Some(Entry::Nullification(3)),
-        Some(Entry::Finalization(5)),
+    let rows = [
+        (1, None),
+        (2, None),
+        (3, Some(Entry::Notarization(5))),
+        (4, Some(Entry::Nullification(2))),
+        (5, Some(Entry::Nullification(3))),
+        (6, Some(Entry::Finalization(5))),
     ];
-    for (before, best) in best.iter().enumerate() {
-        assert_eq!(rt;
-            all.first(before.saturating_add(1)).best_certificate(),
-            *best
-        );
+    for (count, best) in rows {
+        holds(&rt, count, all.first(count).best_certificate() == best);
     }
 }

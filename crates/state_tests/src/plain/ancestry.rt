@@ -9,7 +9,7 @@ use super::{History, Proposal, VIEWS};
 type Payloads = [Option<u8>; VIEWS];
 
 /// What the parent rule says.
-#[derive(Clone, Copy, PartialEq, Eq, Debug)]
+#[derive(Clone, Copy, PartialEq, Eq)]
 pub enum Parent {
     /// The proposal can never stand on it.
     Invalid,

@@ -4,7 +4,7 @@ use super::positions::{is_term_start, term_end, term_start};
 use super::{History, Point, VIEWS};
 
 /// A certificate, with the view that it is of.
-#[derive(Clone, Copy, PartialEq, Eq, Debug)]
+#[derive(Clone, Copy, PartialEq, Eq)]
 pub enum Entry {
     Notarization(u64),
     Nullification(u64),

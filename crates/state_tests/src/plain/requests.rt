@@ -7,7 +7,7 @@ use super::{History, Proposal};
 use simplex_round::HandoffAbandonedReason;
 
 /// What is to be done for the proposal of a view that waits to be verified.
-#[derive(Clone, Copy, PartialEq, Eq, Debug)]
+#[derive(Clone, Copy, PartialEq, Eq)]
 pub enum Look {
     /// Nothing.
     Pass,
@@ -22,7 +22,7 @@ pub enum Look {
 }
 
 /// What is to be done for a view's verdict.
-#[derive(Clone, Copy, PartialEq, Eq, Debug)]
+#[derive(Clone, Copy, PartialEq, Eq)]
 pub enum Judging {
     /// Nothing.
     Pass,
