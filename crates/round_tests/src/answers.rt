@@ -77,7 +77,7 @@ fn a_proposal_is_bound_until_it_is_unbound(rt: HostRuntime) -> Result<(), Fail> 
 fn a_verdict_is_asked_for_until_it_is_given_up(rt: HostRuntime) -> Result<(), Fail> {
     let alloc = rt.alloc();
     let mut view = Known::new(alloc, 1, 0)?;
-    let added = view.add_notarization(alloc, A, [0, 2, 3])?;
+    let added = view.add_notarization(alloc, A, [0, 2, 3]);
     holds(&rt, added == Added::First);
     holds(&rt, view.pending_certification() == Some(A));
     view.set_certify_handle(7);
@@ -93,11 +93,13 @@ fn a_verdict_that_is_given_up_or_came_is_not_asked_for(rt: HostRuntime) -> Resul
     let alloc = rt.alloc();
     let mut given_up = Known::new(alloc, 1, 0)?;
     holds(&rt, given_up.abort_certify().is_none());
-    let _first = given_up.add_notarization(alloc, A, [0, 2, 3])?;
+    let added = given_up.add_notarization(alloc, A, [0, 2, 3]);
+    holds(&rt, added == Added::First);
     holds(&rt, given_up.pending_certification().is_none());
     let mut judged = Known::new(alloc, 1, 0)?;
     judged.certified(false);
-    let _first = judged.add_notarization(alloc, A, [0, 2, 3])?;
+    let added = judged.add_notarization(alloc, A, [0, 2, 3]);
+    holds(&rt, added == Added::First);
     holds(&rt, judged.pending_certification().is_none());
     Ok(())
 }

@@ -1,7 +1,7 @@
 //! The certificates of a view: what they support, that each is handed out once, and refused memory.
 
-use crate::known::{Added, Known};
-use crate::samples::{A, B, Kept, finalization, holds, notarization, nullification};
+use crate::known::{Added, Known, Sent};
+use crate::samples::{A, B, holds, kept_finalization, kept_notarization, kept_nullification};
 use std::test::Fail;
 
 #[test]
@@ -11,7 +11,8 @@ fn a_false_verdict_takes_a_notarizations_support_and_a_finalization_gives_it(
     let alloc = rt.alloc();
     let mut view = Known::new(alloc, 1, 0)?;
     holds(&rt, !view.is_directly_notarized());
-    let _first = view.add_notarization(alloc, A, [0, 2, 3])?;
+    let added = view.add_notarization(alloc, A, [0, 2, 3]);
+    holds(&rt, added == Added::First);
     holds(&rt, view.is_directly_notarized());
     holds(&rt, view.certificate_ancestry_payload() == Some(A));
     holds(&rt, view.forwardable_proposal() == Some(A));
@@ -19,7 +20,8 @@ fn a_false_verdict_takes_a_notarizations_support_and_a_finalization_gives_it(
     holds(&rt, view.certificate_ancestry_payload().is_none());
     holds(&rt, view.forwardable_proposal().is_none());
     holds(&rt, view.certified_payload().is_none());
-    let _final = view.add_finalization(alloc, A, [0, 2, 3])?;
+    let added = view.add_finalization(alloc, A, [0, 2, 3]);
+    holds(&rt, added == Added::First);
     holds(&rt, view.certificate_ancestry_payload() == Some(A));
     holds(&rt, view.certified_payload() == Some(A));
     Ok(())
@@ -42,14 +44,14 @@ fn of_each_kind_the_first_certificate_stays(rt: HostRuntime) -> Result<(), Fail>
     let alloc = rt.alloc();
     let mut view = Known::new(alloc, 1, 0)?;
     holds(&rt, view.finalization().is_none());
-    let notarized = view.add_notarization(alloc, A, [0, 2, 3])?;
+    let notarized = view.add_notarization(alloc, A, [0, 2, 3]);
     holds(&rt, notarized == Added::First);
-    let again = view.add_notarization(alloc, B, [1, 2, 3])?;
+    let again = view.add_notarization(alloc, B, [1, 2, 3]);
     holds(&rt, again == Added::Again);
     holds(&rt, view.notarization() == Some(A));
-    let finalized = view.add_finalization(alloc, A, [0, 2, 3])?;
+    let finalized = view.add_finalization(alloc, A, [0, 2, 3]);
     holds(&rt, finalized == Added::First);
-    let again = view.add_finalization(alloc, B, [1, 2, 3])?;
+    let again = view.add_finalization(alloc, B, [1, 2, 3]);
     holds(&rt, again == Added::Again);
     holds(&rt, view.finalization() == Some(A));
     holds(&rt, view.proposal() == Some(A));
@@ -61,12 +63,15 @@ fn a_nullification_is_taken_and_handed_out_once(rt: HostRuntime) -> Result<(), F
     let alloc = rt.alloc();
     let mut view = Known::new(alloc, 1, 0)?;
     holds(&rt, !view.has_nullification());
-    holds(&rt, !view.broadcast_nullification(alloc)?);
-    holds(&rt, view.add_nullification(alloc)?);
-    holds(&rt, !view.add_nullification(alloc)?);
+    holds(&rt, view.broadcast_nullification(alloc) == Sent::Nothing);
+    holds(&rt, view.add_nullification(alloc) == Added::First);
+    holds(&rt, view.add_nullification(alloc) == Added::Again);
     holds(&rt, view.has_nullification());
-    holds(&rt, view.broadcast_nullification(alloc)?);
-    holds(&rt, !view.broadcast_nullification(alloc)?);
+    holds(
+        &rt,
+        view.broadcast_nullification(alloc) == Sent::Nullification,
+    );
+    holds(&rt, view.broadcast_nullification(alloc) == Sent::Nothing);
     Ok(())
 }
 
@@ -74,11 +79,11 @@ fn a_nullification_is_taken_and_handed_out_once(rt: HostRuntime) -> Result<(), F
 fn a_recorded_notarization_counts_as_handed_out(rt: HostRuntime) -> Result<(), Fail> {
     let alloc = rt.alloc();
     let mut view = Known::new(alloc, 1, 0)?;
-    view.replay(&Kept::Notarization(notarization(alloc, A, [0, 2, 3])?));
+    holds(&rt, view.replay(kept_notarization(alloc)));
     holds(&rt, view.notarization().is_none());
-    let added = view.add_notarization(alloc, A, [0, 2, 3])?;
+    let added = view.add_notarization(alloc, A, [0, 2, 3]);
     holds(&rt, added == Added::First);
-    holds(&rt, view.broadcast_notarization(alloc)?.is_none());
+    holds(&rt, view.broadcast_notarization(alloc) == Sent::Nothing);
     Ok(())
 }
 
@@ -86,10 +91,10 @@ fn a_recorded_notarization_counts_as_handed_out(rt: HostRuntime) -> Result<(), F
 fn a_recorded_nullification_counts_as_handed_out(rt: HostRuntime) -> Result<(), Fail> {
     let alloc = rt.alloc();
     let mut view = Known::new(alloc, 1, 0)?;
-    view.replay(&Kept::Nullification(nullification(alloc)?));
+    holds(&rt, view.replay(kept_nullification(alloc)));
     holds(&rt, !view.has_nullification());
-    holds(&rt, view.add_nullification(alloc)?);
-    holds(&rt, !view.broadcast_nullification(alloc)?);
+    holds(&rt, view.add_nullification(alloc) == Added::First);
+    holds(&rt, view.broadcast_nullification(alloc) == Sent::Nothing);
     Ok(())
 }
 
@@ -97,11 +102,11 @@ fn a_recorded_nullification_counts_as_handed_out(rt: HostRuntime) -> Result<(), 
 fn a_recorded_finalization_counts_as_handed_out(rt: HostRuntime) -> Result<(), Fail> {
     let alloc = rt.alloc();
     let mut view = Known::new(alloc, 1, 0)?;
-    view.replay(&Kept::Finalization(finalization(alloc, A, [0, 2, 3])?));
+    holds(&rt, view.replay(kept_finalization(alloc)));
     holds(&rt, view.finalization().is_none());
-    let added = view.add_finalization(alloc, A, [0, 2, 3])?;
+    let added = view.add_finalization(alloc, A, [0, 2, 3]);
     holds(&rt, added == Added::First);
-    holds(&rt, view.broadcast_finalization(alloc)?.is_none());
+    holds(&rt, view.broadcast_finalization(alloc) == Sent::Nothing);
     Ok(())
 }
 
@@ -109,12 +114,14 @@ fn a_recorded_finalization_counts_as_handed_out(rt: HostRuntime) -> Result<(), F
 fn a_refused_copy_of_a_notarization_is_handed_out_later(rt: HostRuntime) -> Result<(), Fail> {
     let alloc = rt.alloc();
     let mut view = Known::new(alloc, 1, 0)?;
-    let _first = view.add_notarization(alloc, A, [0, 2, 3])?;
-    match view.broadcast_notarization(alloc) {
-        Ok(sent) => holds(&rt, sent == Some(A)),
-        Err(_) => holds(&rt, view.broadcast_notarization(alloc)? == Some(A)),
-    }
-    holds(&rt, view.broadcast_notarization(alloc)?.is_none());
+    let added = view.add_notarization(alloc, A, [0, 2, 3]);
+    holds(&rt, added == Added::First);
+    let sent = match view.broadcast_notarization(alloc) {
+        Sent::Refused => view.broadcast_notarization(alloc),
+        sent => sent,
+    };
+    holds(&rt, sent == Sent::Proposal(A));
+    holds(&rt, view.broadcast_notarization(alloc) == Sent::Nothing);
     Ok(())
 }
 
@@ -122,12 +129,13 @@ fn a_refused_copy_of_a_notarization_is_handed_out_later(rt: HostRuntime) -> Resu
 fn a_refused_copy_of_a_nullification_is_handed_out_later(rt: HostRuntime) -> Result<(), Fail> {
     let alloc = rt.alloc();
     let mut view = Known::new(alloc, 1, 0)?;
-    holds(&rt, view.add_nullification(alloc)?);
-    match view.broadcast_nullification(alloc) {
-        Ok(sent) => holds(&rt, sent),
-        Err(_) => holds(&rt, view.broadcast_nullification(alloc)?),
-    }
-    holds(&rt, !view.broadcast_nullification(alloc)?);
+    holds(&rt, view.add_nullification(alloc) == Added::First);
+    let sent = match view.broadcast_nullification(alloc) {
+        Sent::Refused => view.broadcast_nullification(alloc),
+        sent => sent,
+    };
+    holds(&rt, sent == Sent::Nullification);
+    holds(&rt, view.broadcast_nullification(alloc) == Sent::Nothing);
     Ok(())
 }
 
@@ -135,11 +143,13 @@ fn a_refused_copy_of_a_nullification_is_handed_out_later(rt: HostRuntime) -> Res
 fn a_refused_copy_of_a_finalization_is_handed_out_later(rt: HostRuntime) -> Result<(), Fail> {
     let alloc = rt.alloc();
     let mut view = Known::new(alloc, 1, 0)?;
-    let _first = view.add_finalization(alloc, A, [0, 2, 3])?;
-    match view.broadcast_finalization(alloc) {
-        Ok(sent) => holds(&rt, sent == Some(A)),
-        Err(_) => holds(&rt, view.broadcast_finalization(alloc)? == Some(A)),
-    }
-    holds(&rt, view.broadcast_finalization(alloc)?.is_none());
+    let added = view.add_finalization(alloc, A, [0, 2, 3]);
+    holds(&rt, added == Added::First);
+    let sent = match view.broadcast_finalization(alloc) {
+        Sent::Refused => view.broadcast_finalization(alloc),
+        sent => sent,
+    };
+    holds(&rt, sent == Sent::Proposal(A));
+    holds(&rt, view.broadcast_finalization(alloc) == Sent::Nothing);
     Ok(())
 }

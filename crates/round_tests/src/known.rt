@@ -7,10 +7,11 @@ use crate::samples::{
     A, B, Kept, finalization, notarization, nullification, payload, position, proposal,
 };
 use simplex_round::{Leader, Round, TimeoutReason, Token};
-use simplex_types::{Duplicate, Participant, PlainKey, PlainScheme, Proposal, Sha256Digest, View};
+use simplex_types::{
+    CodecError, Duplicate, Participant, PlainKey, PlainScheme, Proposal, Sha256Digest, View,
+};
 use std::alloc::{AllocError, Global};
 use std::rc::Rc;
-use std::test::Fail;
 
 /// What one of four members knows of view 2. A proposal is named by the byte that its payload is made of.
 #[derive(Drop)]
@@ -27,18 +28,37 @@ pub enum Added {
     First,
     /// It is the first, and its proposal took the place of another: the member whose key is answered.
     InPlace(u32),
+    /// Memory was refused to the test itself.
+    Refused,
+}
+
+/// What a call that hands out a certificate answers.
+#[derive(Clone, Copy, PartialEq, Eq)]
+pub enum Sent {
+    /// Nothing is to be handed out.
+    Nothing,
+    /// A certificate of this proposal.
+    Proposal(u8),
+    /// A nullification.
+    Nullification,
+    /// Memory was refused.
+    Refused,
 }
 
 /// The name of a proposal, and 0 where it is none of those of the tests.
-fn named(proposed: Option<Proposal<Sha256Digest>>) -> Option<u8> {
-    let held = proposed?;
+fn name_of(held: Proposal<Sha256Digest>) -> u8 {
     if held == proposal(A) {
-        return Some(A);
+        return A;
     }
     if held == proposal(B) {
-        return Some(B);
+        return B;
     }
-    Some(0)
+    0
+}
+
+/// The name of a proposal that is there.
+fn named(proposed: Option<Proposal<Sha256Digest>>) -> Option<u8> {
+    Some(name_of(proposed?))
 }
 
 /// The name of the proposal that has the payload, and 0 where it is none of those of the tests.
@@ -185,31 +205,31 @@ impl Known {
 
 /// Certificates, and verdicts.
 impl Known {
-    pub fn add_notarization(
-        &mut self,
-        alloc: Global,
-        name: u8,
-        signers: [u8; 3],
-    ) -> Result<Added, Fail> {
-        let certificate = notarization(alloc, name, signers)?;
-        let (is_first, contradicted) = self.round.add_notarization(certificate);
-        Ok(addition(is_first, contradicted))
+    pub fn add_notarization(&mut self, alloc: Global, name: u8, signers: [u8; 3]) -> Added {
+        match notarization(alloc, name, signers) {
+            Ok(certificate) => {
+                let (is_first, contradicted) = self.round.add_notarization(certificate);
+                addition(is_first, contradicted)
+            }
+            Err(_) => Added::Refused,
+        }
     }
 
-    pub fn add_nullification(&mut self, alloc: Global) -> Result<bool, Fail> {
-        let certificate = nullification(alloc)?;
-        Ok(self.round.add_nullification(certificate))
+    pub fn add_nullification(&mut self, alloc: Global) -> Added {
+        match nullification(alloc) {
+            Ok(certificate) => addition(self.round.add_nullification(certificate), None),
+            Err(_) => Added::Refused,
+        }
     }
 
-    pub fn add_finalization(
-        &mut self,
-        alloc: Global,
-        name: u8,
-        signers: [u8; 3],
-    ) -> Result<Added, Fail> {
-        let certificate = finalization(alloc, name, signers)?;
-        let (is_first, contradicted) = self.round.add_finalization(certificate);
-        Ok(addition(is_first, contradicted))
+    pub fn add_finalization(&mut self, alloc: Global, name: u8, signers: [u8; 3]) -> Added {
+        match finalization(alloc, name, signers) {
+            Ok(certificate) => {
+                let (is_first, contradicted) = self.round.add_finalization(certificate);
+                addition(is_first, contradicted)
+            }
+            Err(_) => Added::Refused,
+        }
     }
 
     pub fn notarization(&self) -> Option<u8> {
@@ -224,21 +244,27 @@ impl Known {
         named(Some(self.round.finalization()?.proposal))
     }
 
-    pub fn broadcast_notarization(&mut self, alloc: Global) -> Result<Option<u8>, AllocError> {
-        match self.round.broadcast_notarization(alloc)? {
-            Some(sent) => Ok(named(Some(sent.proposal))),
-            None => Ok(None),
+    pub fn broadcast_notarization(&mut self, alloc: Global) -> Sent {
+        match self.round.broadcast_notarization(alloc) {
+            Ok(Some(sent)) => Sent::Proposal(name_of(sent.proposal)),
+            Ok(None) => Sent::Nothing,
+            Err(_) => Sent::Refused,
         }
     }
 
-    pub fn broadcast_nullification(&mut self, alloc: Global) -> Result<bool, AllocError> {
-        Ok(self.round.broadcast_nullification(alloc)?.is_some())
+    pub fn broadcast_nullification(&mut self, alloc: Global) -> Sent {
+        match self.round.broadcast_nullification(alloc) {
+            Ok(Some(_)) => Sent::Nullification,
+            Ok(None) => Sent::Nothing,
+            Err(_) => Sent::Refused,
+        }
     }
 
-    pub fn broadcast_finalization(&mut self, alloc: Global) -> Result<Option<u8>, AllocError> {
-        match self.round.broadcast_finalization(alloc)? {
-            Some(sent) => Ok(named(Some(sent.proposal))),
-            None => Ok(None),
+    pub fn broadcast_finalization(&mut self, alloc: Global) -> Sent {
+        match self.round.broadcast_finalization(alloc) {
+            Ok(Some(sent)) => Sent::Proposal(name_of(sent.proposal)),
+            Ok(None) => Sent::Nothing,
+            Err(_) => Sent::Refused,
         }
     }
 
@@ -305,8 +331,15 @@ impl Known {
         named(self.round.construct_finalize())
     }
 
-    pub fn replay(&mut self, artifact: &Kept) {
-        self.round.replay(artifact);
+    /// Whether there is an artifact, which is then replayed.
+    pub fn replay(&mut self, artifact: Result<Kept, CodecError>) -> bool {
+        match artifact {
+            Ok(kept) => {
+                self.round.replay(&kept);
+                true
+            }
+            Err(_) => false,
+        }
     }
 
     pub fn mark_entered(&mut self, now: u64) {

@@ -1,10 +1,9 @@
 //! What several tests need: proposals for view 2, and certificates and votes on these.
 
 use simplex_messages::{Artifact, Finalization, Notarization, Nullification};
-use simplex_types::{Epoch, PlainScheme, Proposal, Read, Round, Sha256Digest, View};
+use simplex_types::{CodecError, Epoch, PlainScheme, Proposal, Read, Round, Sha256Digest, View};
 use std::alloc::{AllocError, Global};
 use std::process::Abort;
-use std::test::Fail;
 
 pub type Kept = Artifact<PlainScheme, Sha256Digest>;
 
@@ -58,34 +57,34 @@ fn spelled(alloc: Global, byte: u8, signers: [u8; 3]) -> Result<Vec<u8>, AllocEr
 }
 
 /// The notarization of the proposal of this payload, by these members.
-pub fn notarization(alloc: Global, byte: u8, signers: [u8; 3]) -> Result<Notarized, Fail> {
+pub fn notarization(alloc: Global, byte: u8, signers: [u8; 3]) -> Result<Notarized, CodecError> {
     let bytes = spelled(alloc, byte, signers)?;
     let mut rest = bytes.as_slice();
     Ok(Notarized::read_cfg(alloc, &mut rest, 4)?)
 }
 
 /// The finalization of the proposal of this payload, by these members.
-pub fn finalization(alloc: Global, byte: u8, signers: [u8; 3]) -> Result<Finalized, Fail> {
+pub fn finalization(alloc: Global, byte: u8, signers: [u8; 3]) -> Result<Finalized, CodecError> {
     let bytes = spelled(alloc, byte, signers)?;
     let mut rest = bytes.as_slice();
     Ok(Finalized::read_cfg(alloc, &mut rest, 4)?)
 }
 
 /// The nullification of view 2 by the last three members.
-pub fn nullification(alloc: Global) -> Result<Nullified, Fail> {
+pub fn nullification(alloc: Global) -> Result<Nullified, CodecError> {
     let bytes = certified(alloc, &[0, 2], [1, 2, 3])?;
     let mut rest = bytes.as_slice();
     Ok(Nullified::read_cfg(alloc, &mut rest, 4)?)
 }
 
 /// What these bytes of a record spell.
-fn kept(alloc: Global, bytes: &[u8]) -> Result<Kept, Fail> {
+fn kept(alloc: Global, bytes: &[u8]) -> Result<Kept, CodecError> {
     let mut rest = bytes;
     Ok(Kept::read_cfg(alloc, &mut rest, 4)?)
 }
 
 /// An own vote of member 1 for the proposal of this payload, behind the tag of its kind.
-fn own_vote(alloc: Global, tag: u8, byte: u8) -> Result<Kept, Fail> {
+fn own_vote(alloc: Global, tag: u8, byte: u8) -> Result<Kept, CodecError> {
     let mut bytes = Vec::from_slice(alloc, &[tag, 0, 2, 1])?;
     bytes.extend_from_slice(&[byte; 32])?;
     bytes.extend_from_slice(&[1; 33])?;
@@ -93,20 +92,35 @@ fn own_vote(alloc: Global, tag: u8, byte: u8) -> Result<Kept, Fail> {
 }
 
 /// The own notarize of member 1 for the proposal of this payload, as it stands in a record.
-pub fn own_notarize(alloc: Global, byte: u8) -> Result<Kept, Fail> {
+pub fn own_notarize(alloc: Global, byte: u8) -> Result<Kept, CodecError> {
     own_vote(alloc, 0, byte)
 }
 
 /// The own finalize of member 1 for the proposal of this payload, as it stands in a record.
-pub fn own_finalize(alloc: Global, byte: u8) -> Result<Kept, Fail> {
+pub fn own_finalize(alloc: Global, byte: u8) -> Result<Kept, CodecError> {
     own_vote(alloc, 5, byte)
 }
 
 /// The own nullify of member 1 for view 2, as it stands in a record.
-pub fn own_nullify(alloc: Global) -> Result<Kept, Fail> {
+pub fn own_nullify(alloc: Global) -> Result<Kept, CodecError> {
     let mut bytes = [1; 36];
     bytes[0] = 3;
     bytes[1] = 0;
     bytes[2] = 2;
     kept(alloc, &bytes)
+}
+
+/// The notarization of the first payload's proposal, as it stands in a record.
+pub fn kept_notarization(alloc: Global) -> Result<Kept, CodecError> {
+    Ok(Kept::Notarization(notarization(alloc, A, [0, 2, 3])?))
+}
+
+/// The nullification of view 2, as it stands in a record.
+pub fn kept_nullification(alloc: Global) -> Result<Kept, CodecError> {
+    Ok(Kept::Nullification(nullification(alloc)?))
+}
+
+/// The finalization of the first payload's proposal, as it stands in a record.
+pub fn kept_finalization(alloc: Global) -> Result<Kept, CodecError> {
+    Ok(Kept::Finalization(finalization(alloc, A, [0, 2, 3])?))
 }

@@ -86,7 +86,7 @@ fn behind_a_vote_only_the_deadline_against_a_standstill_is_set(
     let retry = Some((5000, TimeoutReason::Retry));
     holds(&rt, view.next_timeout(0, true) == retry);
     holds(&rt, view.stall_deadline() == Some(10000));
-    let added = view.add_finalization(alloc, A, [0, 2, 3])?;
+    let added = view.add_finalization(alloc, A, [0, 2, 3]);
     holds(&rt, added == Added::First);
     holds(&rt, view.stall_deadline().is_none());
     holds(&rt, view.next_timeout(0, true).is_none());
@@ -98,7 +98,7 @@ fn behind_an_own_finalize_nothing_comes_due(rt: HostRuntime) -> Result<(), Fail>
     let alloc = rt.alloc();
     let mut view = Known::new(alloc, 1, 0)?;
     view.set_deadlines(1000, 2000, None);
-    let added = view.add_notarization(alloc, A, [0, 2, 3])?;
+    let added = view.add_notarization(alloc, A, [0, 2, 3]);
     holds(&rt, added == Added::First);
     view.certified(true);
     view.latch_timeout(100, TimeoutReason::LeaderNullify);

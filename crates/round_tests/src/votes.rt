@@ -1,6 +1,6 @@
 //! Which votes a member casts: worked cases, call by call, and what its record says of them.
 
-use crate::known::{Added, Known};
+use crate::known::{Added, Known, Sent};
 use crate::samples::{A, B, Kept, holds, own_finalize, own_notarize, own_nullify, position};
 use std::test::Fail;
 
@@ -12,10 +12,10 @@ fn a_certificate_contradicts_behind_the_own_vote(rt: HostRuntime) -> Result<(), 
     holds(&rt, view.verified());
     holds(&rt, view.construct_notarize() == Some(A));
     holds(&rt, view.construct_finalize().is_none());
-    let added = view.add_notarization(alloc, B, [1, 2, 3])?;
+    let added = view.add_notarization(alloc, B, [1, 2, 3]);
     holds(&rt, added == Added::InPlace(0));
-    holds(&rt, view.broadcast_notarization(alloc)? == Some(B));
-    holds(&rt, view.broadcast_notarization(alloc)?.is_none());
+    holds(&rt, view.broadcast_notarization(alloc) == Sent::Proposal(B));
+    holds(&rt, view.broadcast_notarization(alloc) == Sent::Nothing);
     holds(&rt, view.pending_certification() == Some(B));
     view.certified(true);
     holds(&rt, view.construct_finalize().is_none());
@@ -26,10 +26,10 @@ fn a_certificate_contradicts_behind_the_own_vote(rt: HostRuntime) -> Result<(), 
 fn a_certificate_contradicts_a_recorded_vote(rt: HostRuntime) -> Result<(), Fail> {
     let alloc = rt.alloc();
     let mut view = Known::new(alloc, 1, 0)?;
-    view.replay(&own_notarize(alloc, A)?);
+    holds(&rt, view.replay(own_notarize(alloc, A)));
     holds(&rt, view.broadcast_notarize());
     holds(&rt, !view.set_proposal(B));
-    let added = view.add_finalization(alloc, B, [0, 2, 3])?;
+    let added = view.add_finalization(alloc, B, [0, 2, 3]);
     holds(&rt, added == Added::InPlace(0));
     holds(&rt, view.certified_proposal() == Some(B));
     Ok(())
@@ -39,7 +39,7 @@ fn a_certificate_contradicts_a_recorded_vote(rt: HostRuntime) -> Result<(), Fail
 fn a_finalize_needs_a_verdict_and_no_verification_here(rt: HostRuntime) -> Result<(), Fail> {
     let alloc = rt.alloc();
     let mut view = Known::new(alloc, 1, 0)?;
-    let added = view.add_notarization(alloc, A, [0, 2, 3])?;
+    let added = view.add_notarization(alloc, A, [0, 2, 3]);
     holds(&rt, added == Added::First);
     holds(&rt, view.construct_finalize().is_none());
     view.certified(true);
@@ -80,7 +80,7 @@ fn a_notarize_is_voted_once(rt: HostRuntime) -> Result<(), Fail> {
 fn a_recorded_nullify_binds(rt: HostRuntime) -> Result<(), Fail> {
     let alloc = rt.alloc();
     let mut view = Known::new(alloc, 1, 0)?;
-    view.replay(&own_nullify(alloc)?);
+    holds(&rt, view.replay(own_nullify(alloc)));
     holds(&rt, view.construct_nullify() == Some(true));
     Ok(())
 }
@@ -89,7 +89,7 @@ fn a_recorded_nullify_binds(rt: HostRuntime) -> Result<(), Fail> {
 fn a_recorded_finalize_binds(rt: HostRuntime) -> Result<(), Fail> {
     let alloc = rt.alloc();
     let mut view = Known::new(alloc, 1, 0)?;
-    view.replay(&own_finalize(alloc, A)?);
+    holds(&rt, view.replay(own_finalize(alloc, A)));
     holds(&rt, view.construct_nullify().is_none());
     Ok(())
 }
@@ -98,7 +98,7 @@ fn a_recorded_finalize_binds(rt: HostRuntime) -> Result<(), Fail> {
 fn a_recorded_verdict_counts_and_enters_no_view(rt: HostRuntime) -> Result<(), Fail> {
     let mut view = Known::new(rt.alloc(), 1, 0)?;
     let verdict: Kept = Kept::Certification(position(), true);
-    view.replay(&verdict);
+    holds(&rt, view.replay(Ok(verdict)));
     holds(&rt, view.is_certified());
     holds(&rt, view.elapsed_since_start(1000).is_none());
     Ok(())
