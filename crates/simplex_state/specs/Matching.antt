@@ -1,10 +1,11 @@
 -- What a voter knows, beside what its record says. Behind that the laws of the voter, as statements that are still to be proved.
-use Rattle.std.specs.Prelude.{◌≡◌, ◌⊎◌, ◌↔◌, ◌<◌, ◌≤◌, ℕ, Bool, true, false, List, [], ◌∷◌, reverse, Contains, ◌+◌, Some, IsSome, IsTrue, ⊤, if◌then◌else◌}
+use Rattle.std.specs.Prelude.{◌≡◌, ◌≢◌, ◌⊎◌, ◌↔◌, ◌<◌, ◌≤◌, ℕ, Bool, true, false, List, [], ◌∷◌, reverse, Contains, ◌+◌, Some, IsSome, IsTrue, ⊤, if◌then◌else◌}
 use Rattle.simplex_types.specs.declared.position.Round.{Round}
 use Rattle.simplex_types.specs.declared.proposal.Proposal.{Proposal}
 use Rattle.simplex_types.specs.Subject.{notarize, nullify, finalize}
 use Rattle.simplex_record.specs.Record as recorded
 use Rattle.simplex_record.specs.Record.{Entry, HasVoted, HasTaken, HasJudged, current_view}
+use Rattle.simplex_record.specs.Chain.{JudgesOnGround, VotesOnGround}
 use Rattle.simplex_record.specs.Rules.{MayNotarize, MayNullify, MayFinalize}
 use Rattle.simplex_round.specs.declared.timeout_reason.TimeoutReason.{TimeoutReason}
 use Rattle.simplex_round.specs.Held.{IsTainted, Agrees, held}
@@ -70,6 +71,7 @@ module _ {D : Type 0} (m : Member) where
     pub own_nullify : (x : Round) → HasVoted r (nullify x) → recorded.IsKept m.retention r x.view → k.has_nullified x.view ≡ true
     pub own_finalize : (p : Proposal D) → HasVoted r (finalize p) → recorded.IsKept m.retention r p.round.view → k.has_finalized p.round.view ≡ true
     pub notarized : (view : ℕ) (p : Proposal D) → k.notarized view ≡ Some p → (p.round.view ≡ view) × HasTaken r (notarize p)
+    pub finalized : (view : ℕ) (p : Proposal D) → k.finalized view ≡ Some p → (p.round.view ≡ view) × HasTaken r (finalize p)
     pub certified : (view : ℕ) → k.verdict view ≡ Some true → (x : Round) × (x.view ≡ view) × HasJudged r x true
     pub supported : (p : Proposal D) → HasTaken r (notarize p) ⊎ HasTaken r (finalize p) → recorded.IsKept m.retention r p.round.view
         → ¬ IsTainted (k.offers p.round.view) → held_at m k p.round.view ≡ Some p
@@ -116,7 +118,8 @@ module _ {D : Type 0} (m : Member) where
     pub certify : (p : Proposal D) → CertifyIsDue m k view p → CertifyIsDue m j view p
     pub certificate : (required : ℕ) → CertificateIsWanted m k view required → CertificateIsWanted m j view required
 
--- STATEMENTS, none of them proved yet: each is to be the contract of a function without a body.
+-- The laws, as statements. Each is or is to be a clause of a function without a body (`laws.rt`): what stands in no clause there is
+-- not proved.
 
 -- a notarize that is due may be recorded, where the held proposal was bound to its parent's payload
 abbrev pub DueMayBeNotarized : Type 0 → Type 0
@@ -127,6 +130,16 @@ DueMayBeNotarized D = (m : Member) (k : Known D) (r : List (Entry D)) (view : �
 abbrev pub DueMayBeFinalized : Type 0 → Type 0
 DueMayBeFinalized D = (m : Member) (k : Known D) (r : List (Entry D)) (view : ℕ) (p : Proposal D)
     → Matches m k r → held_at m k view ≡ Some p → FinalizeIsDue m k view → MayFinalize m.length r p
+
+-- a notarize that is due stands on ground, and so does a true verdict on a proposal on which one is to be asked for, unless the
+-- committee has one member
+abbrev pub DueNotarizeIsOnGround : Type 0 → Type 0
+DueNotarizeIsOnGround D = (m : Member) (k : Known D) (r : List (Entry D)) (view i : ℕ) (p : Proposal D)
+    → m.me ≡ Some i → Matches m k r → IsBound m k view p → NotarizeIsDue m k view → VotesOnGround m.length m.scheduled i r p
+
+abbrev pub DueVerdictIsOnGround : Type 0 → Type 0
+DueVerdictIsOnGround D = (m : Member) (k : Known D) (r : List (Entry D)) (view size : ℕ) (p : Proposal D)
+    → size ≢ 1 → Matches m k r → CertifyIsDue m k view p → JudgesOnGround size m.length r p.round
 
 -- there is at most one payload that a view supports, and at most one parent to build on
 abbrev pub OneIsSupported : Type 0 → Type 0
