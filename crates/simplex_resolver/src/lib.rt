@@ -5,6 +5,7 @@ mod ask;
 mod effect;
 mod held;
 mod state;
+mod terms;
 
 pub use ask::{Ask, Kind, Until};
 pub use effect::{Effect, FetchReason};

@@ -1,8 +1,11 @@
 //! The state of a member's repair.
 
+ghost use Rattle.simplex_types.specs.Positions.{HasRoom};
+
 use crate::ask::Kind;
-use crate::effect::{Effect, FetchReason};
+use crate::effect::{Effect, push_if};
 use crate::held::Held;
+use crate::terms::{scan_start, terms_between};
 use simplex_messages::{Certificate, Notarization};
 use simplex_types::{Digest, Scheme, TermLength, View, Viewable, Write};
 use std::alloc::{AllocError, Global};
@@ -11,35 +14,51 @@ use std::alloc::{AllocError, Global};
 /// who ask it. It asks for nothing before the end of the replay of its record.
 #[derive(Drop)]
 pub struct State {
+    pub(crate) held: Held,
     /// The highest view of a certificate, or 0.
-    current: View,
+    pub(crate) current: View,
     /// The highest view that was finalized or certified, or 0.
-    floor: View,
-    /// Where the next scan goes on.
-    cursor: View,
+    pub(crate) floor: View,
     /// Whether the replay has ended.
-    live: bool,
-    held: Held,
+    pub(crate) live: bool,
+    ghost current_room: { HasRoom held.length current },
+    ghost floor_room: { HasRoom held.length floor },
 }
 
 impl State {
+    ghost use Rattle.std.specs.Prelude.{◌≡◌, ◌<◌, ◌+◌, ◌++◌, ◌∷◌, [], ℕ, List, nat_lt, OnOk, IfOk, true, false, map};
+    ghost use Rattle.std.specs.Option.{option_map};
+    ghost use Rattle.simplex_messages.specs.Certificate.{any_certificate_spelling, certificate_round, as_notarization};
+    ghost use Rattle.simplex_resolver.specs.declared.effect.Effect.{Effect};
+    ghost use Rattle.simplex_resolver.specs.History.{Item, Nullified, Notarized, Finalized, Judged, Replayed, item_of, finalized, floor, current};
+    ghost use Rattle.simplex_resolver.specs.Outstanding.{Gives, Scans, ScansBehind, AreMissing, fetch_failed, scanned, is_missing};
+    ghost use Rattle.simplex_resolver.specs.Answers.{is_settled, is_key_settled, is_uncertifiable, produced};
+    ghost use Rattle.simplex_resolver.specs.Keeps.{Keeps, AtEach, length_of};
+
     /// Nothing has come, and the replay has not ended.
-    pub fn new(alloc: Global, term_length: TermLength) -> Self {
+    pub fn new(alloc: Global, term_length: TermLength) -> Self
+        ensures keeps { Keeps term_length result [] }
+        ensures length { length_of result ≡ term_length }
+    {
+        let _views = term_length.get();
         State {
+            held: Held::new(alloc, term_length),
             current: View::zero(),
             floor: View::zero(),
-            cursor: View::zero(),
             live: false,
-            held: Held::new(alloc, term_length),
         }
     }
 
     /// How many views a term has.
-    pub fn term_length(&self) -> TermLength {
+    pub fn term_length(&self) -> TermLength
+        ensures length { result ≡ length_of self.now }
+        ensures each { AtEach self.now (λ views h. result ≡ views) }
+    {
         self.held.length
     }
 
-    /// Takes a certificate, and tells what follows, in order. After an `Err` the state may be used no more.
+    /// Takes a certificate, and tells what follows, in order. Its view must have room: `View::has_room` tells. After an
+    /// `Err` the state may be used no more.
     ///
     /// # Errors
     ///
@@ -48,7 +67,12 @@ impl State {
         &mut self,
         alloc: Global,
         certificate: &Certificate<S, D>,
-    ) -> Result<Vec<Effect>, AllocError> {
+    ) -> Result<Vec<Effect>, AllocError>
+        requires { HasRoom (length_of self.old) (certificate_round certificate.now).view }
+        ensures keeps { OnOk result (AtEach self.old (λ views h. Keeps views self.new (item_of (any_certificate_spelling D.spelling S.Certificate.spelling) certificate.now ∷ h))) }
+        ensures gives { IfOk result (λ given. AtEach self.old (λ views h. Gives views h (item_of (any_certificate_spelling D.spelling S.Certificate.spelling) certificate.now) given.items)) }
+        ensures length { length_of self.new ≡ length_of self.old }
+    {
         let view = certificate.view();
         match certificate {
             Certificate::Notarization(_) => self.notarized(alloc, view),
@@ -58,7 +82,7 @@ impl State {
     }
 
     /// Takes a verdict on a notarization, which may come before the notarization itself, and tells what follows, in
-    /// order. After an `Err` the state may be used no more.
+    /// order. Its view must have room: `View::has_room` tells. After an `Err` the state may be used no more.
     ///
     /// # Errors
     ///
@@ -68,7 +92,12 @@ impl State {
         alloc: Global,
         notarization: Notarization<S, D>,
         success: bool,
-    ) -> Result<Vec<Effect>, AllocError> {
+    ) -> Result<Vec<Effect>, AllocError>
+        requires { HasRoom (length_of self.old) notarization.proposal.round.view }
+        ensures keeps { OnOk result (AtEach self.old (λ views h. Keeps views self.new (Judged notarization.proposal.round.view (any_certificate_spelling D.spelling S.Certificate.spelling (as_notarization notarization)) success ∷ h))) }
+        ensures gives { IfOk result (λ given. AtEach self.old (λ views h. Gives views h (Judged notarization.proposal.round.view (any_certificate_spelling D.spelling S.Certificate.spelling (as_notarization notarization)) success) given.items)) }
+        ensures length { length_of self.new ≡ length_of self.old }
+    {
         let view = notarization.view();
         if success {
             let certificate = Certificate::Notarization(notarization);
@@ -83,16 +112,23 @@ impl State {
     /// # Errors
     ///
     /// Where memory is refused.
-    pub fn replayed(&mut self, alloc: Global) -> Result<Vec<Effect>, AllocError> {
+    pub fn replayed(&mut self, alloc: Global) -> Result<Vec<Effect>, AllocError>
+        ensures keeps { OnOk result (AtEach self.old (λ views h. Keeps views self.new (Replayed ∷ h))) }
+        ensures gives { IfOk result (λ given. AtEach self.old (λ views h. Gives views h Replayed given.items)) }
+        ensures length { length_of self.new ≡ length_of self.old }
+    {
         let mut effects = Vec::new(alloc);
+        let went = self.scanned();
         self.live = true;
-        self.scan(&mut effects, self.current)?;
+        self.scan(&mut effects, self.current, went, false)?;
         self.ask_for_failed(&mut effects)?;
         Ok(effects)
     }
 
     /// Whether nothing is left to be asked of this kind at the view: it is there, or never will be.
-    pub fn settled(&self, view: View, kind: Kind) -> bool {
+    pub fn settled(&self, view: View, kind: Kind) -> bool
+        ensures { AtEach self.now (λ views h. result ≡ is_settled views h view kind) }
+    {
         if view <= self.held.last_finalized {
             return true;
         }
@@ -103,17 +139,23 @@ impl State {
     }
 
     /// Whether nothing is left to be asked at the view.
-    pub fn key_settled(&self, view: View) -> bool {
+    pub fn key_settled(&self, view: View) -> bool
+        ensures { AtEach self.now (λ views h. result ≡ is_key_settled views h view) }
+    {
         self.settled(view, Kind::Nullification) && self.settled(view, Kind::Notarization)
     }
 
     /// Whether the view is above the last finalized one and had a false verdict.
-    pub fn uncertifiable(&self, view: View) -> bool {
+    pub fn uncertifiable(&self, view: View) -> bool
+        ensures { AtEach self.now (λ views h. result ≡ is_uncertifiable h view) }
+    {
         self.held.has_failed(view)
     }
 
     /// The best certificate for who asks for the view, as it was spelled.
-    pub fn produce(&self, view: View) -> Option<&[u8]> {
+    pub fn produce(&self, view: View) -> Option<&[u8]>
+        ensures { AtEach self.now (λ views h. option_map (λ bytes. bytes.now) result ≡ produced views h view) }
+    {
         if let Some(bytes) = self.held.finalization_from(view) {
             return Some(bytes);
         }
@@ -135,28 +177,39 @@ impl State {
         alloc: Global,
         view: View,
         nullification: &W,
-    ) -> Result<Vec<Effect>, AllocError> {
+    ) -> Result<Vec<Effect>, AllocError>
+        requires { HasRoom (length_of self.old) view }
+        ensures keeps { OnOk result (AtEach self.old (λ views h. Keeps views self.new (Nullified view (W.spelling nullification.now) ∷ h))) }
+        ensures gives { IfOk result (λ given. AtEach self.old (λ views h. Gives views h (Nullified view (W.spelling nullification.now)) given.items)) }
+        ensures length { length_of self.new ≡ length_of self.old }
+    {
         let mut effects = Vec::new(alloc);
+        let went = self.scanned();
         let end = view.term_end(self.held.length);
         self.current = self.current.max(view);
         let reaches = self.held.take_nullification(alloc, view, nullification)?;
-        let settled = Effect::Settled {
-            kind: Kind::Nullification,
-            start: view,
-            end,
-        };
-        push_if(reaches, &mut effects, settled)?;
-        self.scan_if_live(&mut effects, view)?;
+        push_if(
+            reaches,
+            &mut effects,
+            Effect::settled_nullifications(view, end),
+        )?;
+        self.scan(&mut effects, view, went, false)?;
         Ok(effects)
     }
 
     /// Takes a notarization.
-    fn notarized(&mut self, alloc: Global, view: View) -> Result<Vec<Effect>, AllocError> {
+    fn notarized(&mut self, alloc: Global, view: View) -> Result<Vec<Effect>, AllocError>
+        requires { HasRoom (length_of self.old) view }
+        ensures keeps { OnOk result (AtEach self.old (λ views h. Keeps views self.new (Notarized view ∷ h))) }
+        ensures gives { IfOk result (λ given. AtEach self.old (λ views h. Gives views h (Notarized view) given.items)) }
+        ensures length { length_of self.new ≡ length_of self.old }
+    {
         let mut effects = Vec::new(alloc);
+        let went = self.scanned();
         self.current = self.current.max(view);
         let settles = self.held.take_notarization(view)?;
-        push_if(settles, &mut effects, settled_notarization(view))?;
-        self.scan_if_live(&mut effects, view)?;
+        push_if(settles, &mut effects, Effect::settled_notarization(view))?;
+        self.scan(&mut effects, view, went, false)?;
         Ok(effects)
     }
 
@@ -166,14 +219,20 @@ impl State {
         alloc: Global,
         view: View,
         finalization: &W,
-    ) -> Result<Vec<Effect>, AllocError> {
+    ) -> Result<Vec<Effect>, AllocError>
+        requires { HasRoom (length_of self.old) view }
+        ensures keeps { OnOk result (AtEach self.old (λ views h. Keeps views self.new (Finalized view (W.spelling finalization.now) ∷ h))) }
+        ensures gives { IfOk result (λ given. AtEach self.old (λ views h. Gives views h (Finalized view (W.spelling finalization.now)) given.items)) }
+        ensures length { length_of self.new ≡ length_of self.old }
+    {
         let mut effects = Vec::new(alloc);
+        let went = self.scanned();
         self.current = self.current.max(view);
         self.held.take_finalization(alloc, view, finalization)?;
         effects.push(Effect::Finalized(self.held.last_finalized))?;
         let raised = self.raise(view);
         push_if(raised, &mut effects, Effect::Raised(view))?;
-        self.scan_if_live(&mut effects, view)?;
+        self.scan(&mut effects, view, went, raised)?;
         Ok(effects)
     }
 
@@ -183,132 +242,111 @@ impl State {
         alloc: Global,
         view: View,
         notarization: &W,
-    ) -> Result<Vec<Effect>, AllocError> {
+    ) -> Result<Vec<Effect>, AllocError>
+        requires { HasRoom (length_of self.old) view }
+        ensures keeps { OnOk result (AtEach self.old (λ views h. Keeps views self.new (Judged view (W.spelling notarization.now) true ∷ h))) }
+        ensures gives { IfOk result (λ given. AtEach self.old (λ views h. Gives views h (Judged view (W.spelling notarization.now) true) given.items)) }
+        ensures length { length_of self.new ≡ length_of self.old }
+    {
         let mut effects = Vec::new(alloc);
-        effects.push(settled_notarization(view))?;
+        let went = self.scanned();
         self.held.take_success(alloc, view, notarization)?;
+        effects.push(Effect::settled_notarization(view))?;
         let raised = self.raise(view);
         push_if(raised, &mut effects, Effect::Raised(view))?;
-        self.scan_if_live(&mut effects, view)?;
+        self.scan(&mut effects, view, went, raised)?;
         Ok(effects)
     }
 
     /// Takes a false verdict.
-    fn failed(&mut self, alloc: Global, view: View) -> Result<Vec<Effect>, AllocError> {
+    fn failed(&mut self, alloc: Global, view: View) -> Result<Vec<Effect>, AllocError>
+        ensures keeps { OnOk result ((bytes : List ℕ) → AtEach self.old (λ views h. Keeps views self.new (Judged view bytes false ∷ h))) }
+        ensures gives { IfOk result (λ given. (bytes : List ℕ) → AtEach self.old (λ views h. Gives views h (Judged view bytes false) given.items)) }
+        ensures length { length_of self.new ≡ length_of self.old }
+    {
         let mut effects = Vec::new(alloc);
-        effects.push(settled_notarization(view))?;
         self.held.take_failure(view)?;
-        let missing = self.live && self.is_missing(view);
-        push_if(missing, &mut effects, fetch_of_failed(view))?;
+        effects.push(Effect::settled_notarization(view))?;
+        let missing = self.live && view > self.floor && !self.held.is_covered(view);
+        push_if(missing, &mut effects, Effect::fetch_failed(view))?;
         Ok(effects)
     }
 
-    /// Raises the floor to the view, and tells whether it was below. Behind a floor inside a term the rest of the term
-    /// has to be asked for anew.
-    fn raise(&mut self, view: View) -> bool {
+    /// How far scans went: to the highest certificate's view, and nowhere before the replay has ended.
+    fn scanned(&self) -> View
+        ensures { AtEach self.now (λ views h. result ≡ scanned h) }
+    {
+        if self.live {
+            self.current
+        } else {
+            View::zero()
+        }
+    }
+
+    /// Raises the floor to the view, and tells whether it was below.
+    fn raise(&mut self, view: View) -> bool
+        requires { HasRoom (length_of self.old) view }
+        ensures answer { result ≡ nat_lt self.old.floor view }
+        ensures raised { self.new ≡ record self.old { floor = max view self.old.floor } }
+    {
         if view <= self.floor {
             return false;
         }
         self.floor = view;
-        let next = view.next();
-        if !next.is_term_start(self.held.length) {
-            self.cursor = self.cursor.min(next);
-        }
         true
     }
 
-    /// Whether the view is above the floor and no nullification covers it.
-    fn is_missing(&self, view: View) -> bool {
-        view > self.floor && !self.held.is_covered(view)
-    }
-
-    /// The scan behind what was taken, once the replay has ended.
-    fn scan_if_live(&mut self, effects: &mut Vec<Effect>, cause: View) -> Result<(), AllocError> {
-        if self.live {
-            self.scan(effects, cause)?;
-        }
-        Ok(())
-    }
-
-    /// Asks for what is missing from the cursor on, and moves it behind that.
-    fn scan(&mut self, effects: &mut Vec<Effect>, cause: View) -> Result<(), AllocError> {
-        let start = self.cursor.max(self.floor.next());
-        if start >= self.current {
-            self.cursor = start;
+    /// The scan behind what was taken, once the replay has ended: asks for what is missing from where it begins.
+    fn scan(
+        &self,
+        effects: &mut Vec<Effect>,
+        cause: View,
+        went: View,
+        raised: bool,
+    ) -> Result<(), AllocError>
+        requires { HasRoom (length_of self.now) went }
+        ensures { OnOk result ((views : ℕ) (h : List Item) (x : Item) → Keeps views self.now (x ∷ h) → went ≡ scanned h → raised ≡ nat_lt (floor h) (floor (x ∷ h)) → (asked : List Effect) × ScansBehind views h x cause asked × (effects.new.items ≡ effects.old.items ++ asked)) }
+    {
+        if !self.live {
             return Ok(());
         }
-        self.ask_from(effects, cause, start)?;
-        self.cursor = term_start_from(self.current, self.held.length);
-        Ok(())
+        let start = scan_start(went, self.floor, raised, self.held.length);
+        self.ask_from(effects, cause, start)
     }
 
-    /// Asks for what is missing from the view on, term by term, below the highest view of a certificate.
+    /// Asks for what is missing from the view on, term by term, below the highest certificate's view.
     fn ask_from(
         &self,
         effects: &mut Vec<Effect>,
         cause: View,
         start: View,
-    ) -> Result<(), AllocError> {
-        // So many may be missing that only a refusal ends this: it is to come before the work.
+    ) -> Result<(), AllocError>
+        requires { self.now.floor < start }
+        ensures { OnOk result (AtEach self.now (λ views h. (asked : List Effect) × Scans views h cause start asked × (effects.new.items ≡ effects.old.items ++ asked))) }
+    {
+        if start >= self.current {
+            return Ok(());
+        }
+        // So much may be missing that only a refusal ends this: it is to come before the work.
         effects.reserve(terms_between(start, self.current, self.held.length))?;
         let mut anchor = start;
         while let Some(view) = self.held.first_missing(anchor, self.current) {
-            effects.push(Effect::Fetch {
-                view,
-                cause,
-                reason: FetchReason::MissingNullification,
-            })?;
+            effects.push(Effect::fetch(view, cause))?;
             anchor = view.next_term_start(self.held.length);
         }
         Ok(())
     }
 
-    /// Asks for each view with a false verdict that is above the floor and not covered.
-    fn ask_for_failed(&self, effects: &mut Vec<Effect>) -> Result<(), AllocError> {
+    /// Asks for each view with a false verdict that is above the floor and that no nullification covers.
+    fn ask_for_failed(&self, effects: &mut Vec<Effect>) -> Result<(), AllocError>
+        ensures { OnOk result (AtEach self.now (λ views h. (missing : List ℕ) × AreMissing views h (floor h) missing × (effects.new.items ≡ effects.old.items ++ map fetch_failed missing))) }
+    {
         let mut last = self.floor;
         while let Some(view) = self.held.next_failed(last) {
-            push_if(!self.held.is_covered(view), effects, fetch_of_failed(view))?;
+            let missing = !self.held.is_covered(view);
+            push_if(missing, effects, Effect::fetch_failed(view))?;
             last = view;
         }
         Ok(())
     }
-}
-
-/// Notarizations of this view are settled.
-fn settled_notarization(view: View) -> Effect {
-    Effect::Settled {
-        kind: Kind::Notarization,
-        start: view,
-        end: view,
-    }
-}
-
-/// The view is fetched since its verdict was false.
-fn fetch_of_failed(view: View) -> Effect {
-    Effect::Fetch {
-        view,
-        cause: view,
-        reason: FetchReason::CertificationFailed,
-    }
-}
-
-/// The first term start from the view on.
-fn term_start_from(view: View, length: TermLength) -> View {
-    if view.is_term_start(length) {
-        return view;
-    }
-    view.next_term_start(length)
-}
-
-/// In how many terms the views from `start` on and below `end` lie, at most.
-fn terms_between(start: View, end: View, length: TermLength) -> usize {
-    (end.term_index(length) - start.term_index(length)) as usize + 1
-}
-
-/// Adds the effect, where there is one.
-fn push_if(there: bool, effects: &mut Vec<Effect>, effect: Effect) -> Result<(), AllocError> {
-    if there {
-        effects.push(effect)?;
-    }
-    Ok(())
 }
