@@ -11,9 +11,6 @@ use std::collections::BTreeSet;
 use std::process::Abort;
 use std::test::Fail;
 
-/// The views that are looked at: all that are handed in lie below the last of them.
-const VIEWS: u64 = 24;
-
 /// What is handed in, what it gives, and the views that are outstanding behind it.
 pub type Step<'a> = (Given, &'a [Gives], &'a [u64]);
 
@@ -146,13 +143,16 @@ impl Beside {
         Ok(answers)
     }
 
-    /// The views that are outstanding by what was answered are those by the plain program.
-    pub fn agrees(&self, rt: &impl Abort) {
-        for view in 0..VIEWS {
-            let is_there = self.outstanding.contains(&view);
-            holds(rt, is_there == self.told().is_outstanding(view));
-        }
-        holds(rt, self.outstanding.range(VIEWS..).next().is_none());
+    /// The views that are outstanding by what was answered are these.
+    fn leaves(&self, rt: &impl Abort, views: &[u64]) {
+        let left = self.outstanding.iter().copied();
+        holds(rt, left.eq(views.iter().copied()));
+    }
+
+    /// They are those of the plain program.
+    pub fn agrees(&self, rt: &impl Abort, alloc: Global) -> Result<(), AllocError> {
+        self.leaves(rt, &self.told().outstanding(alloc)?);
+        Ok(())
     }
 
     /// Of this view the resolver tells what the plain program tells.
@@ -200,15 +200,8 @@ pub fn walk(rt: &impl Abort, alloc: Global, views: u32, steps: &[Step<'_>]) -> R
     for (given, gives, outstanding) in steps {
         let answers = beside.hand(rt, alloc, *given)?;
         holds(rt, answers.as_slice() == *gives);
-        holds(
-            rt,
-            beside
-                .outstanding
-                .iter()
-                .copied()
-                .eq(outstanding.iter().copied()),
-        );
-        beside.agrees(rt);
+        beside.leaves(rt, outstanding);
+        beside.agrees(rt, alloc)?;
     }
     Ok(beside)
 }

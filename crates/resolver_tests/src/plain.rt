@@ -126,12 +126,21 @@ impl<'a> Told<'a> {
         view > self.floor() && self.covering(view).is_none()
     }
 
-    /// Whether a nullification of the view is still to be fetched.
-    pub fn is_outstanding(self, view: u64) -> bool {
-        let floor = self.floor();
-        let is_anchor = view == floor.saturating_add(1) || self.starts_term(view);
-        let is_due = is_anchor && view < self.current() || self.has(Given::Verdict(view, false));
-        is_due && view > floor && self.has(Given::Replayed) && self.covering(view).is_none()
+    /// The views of which a nullification is still to be fetched, ascending.
+    pub fn outstanding(self, alloc: Global) -> Result<Vec<u64>, AllocError> {
+        let mut views = Vec::new(alloc);
+        if !self.has(Given::Replayed) {
+            return Ok(views);
+        }
+        let (lowest, current) = (self.floor().saturating_add(1), self.current());
+        for view in lowest..=self.highest() {
+            let is_anchor = view == lowest || self.starts_term(view);
+            let is_due = is_anchor && view < current || self.has(Given::Verdict(view, false));
+            if is_due && self.covering(view).is_none() {
+                views.push(view)?;
+            }
+        }
+        Ok(views)
     }
 
     /// Whether there is nothing left to fetch of this kind at the view.
