@@ -5,6 +5,7 @@ use crate::given::Given::{self, Finalization, Notarization, Nullification, Verdi
 use crate::given::holds;
 use simplex_resolver::{Kind, State};
 use simplex_types::{TermLength, View};
+use std::alloc::Global;
 use std::process::Abort;
 use std::test::Fail;
 
@@ -17,6 +18,15 @@ const GIVEN: [Given; 5] = [
     Verdict(8, false),
 ];
 
+/// The resolver behind these, and the plain program beside it.
+fn behind(rt: &impl Abort, alloc: Global, given: &[Given]) -> Result<Beside, Fail> {
+    let mut beside = Beside::new(alloc, 5);
+    for item in given {
+        beside.hand(rt, alloc, *item)?;
+    }
+    Ok(beside)
+}
+
 /// Whether asks for a nullification, asks for a notarization and both are settled at the view.
 fn expect(rt: &impl Abort, state: &State, view: u64, nullification: bool, notarization: bool) {
     let at = View::new(view);
@@ -27,11 +37,7 @@ fn expect(rt: &impl Abort, state: &State, view: u64, nullification: bool, notari
 
 #[test]
 fn an_ask_is_settled_by_what_is_there_or_can_not_be(rt: HostRuntime) -> Result<(), Fail> {
-    let alloc = rt.alloc();
-    let mut beside = Beside::new(alloc, 5);
-    for given in GIVEN {
-        beside.hand(&rt, alloc, given)?;
-    }
+    let beside = behind(&rt, rt.alloc(), &GIVEN)?;
     let rows = [
         (0, true, true),
         (1, true, true),
@@ -53,22 +59,19 @@ fn an_ask_is_settled_by_what_is_there_or_can_not_be(rt: HostRuntime) -> Result<(
 
 #[test]
 fn a_view_is_uncertifiable_until_it_is_finalized(rt: HostRuntime) -> Result<(), Fail> {
-    let alloc = rt.alloc();
-    let mut beside = Beside::new(alloc, 5);
-    for given in GIVEN {
-        beside.hand(&rt, alloc, given)?;
+    // A true verdict behind the false one changes nothing, a finalization does, and below it a false verdict counts for nothing.
+    let rows: [(&[Given], u64); 3] = [
+        (&GIVEN, 8),
+        (&[Verdict(8, false), Verdict(8, true)], 8),
+        (&[Verdict(8, false), Finalization(8), Verdict(6, false)], 0),
+    ];
+    for (given, failed) in rows {
+        let beside = behind(&rt, rt.alloc(), given)?;
+        for view in 1..12 {
+            let is_it = beside.state.uncertifiable(View::new(view));
+            holds(&rt, is_it == (view == failed));
+        }
     }
-    for view in 0..12 {
-        let is_it = beside.state.uncertifiable(View::new(view));
-        holds(&rt, is_it == (view == 8));
-    }
-    // A true verdict behind it changes nothing, a finalization does, and a false verdict below it doesn't count.
-    beside.hand(&rt, alloc, Verdict(8, true))?;
-    holds(&rt, beside.state.uncertifiable(View::new(8)));
-    beside.hand(&rt, alloc, Finalization(8))?;
-    beside.hand(&rt, alloc, Verdict(6, false))?;
-    holds(&rt, !beside.state.uncertifiable(View::new(8)));
-    holds(&rt, !beside.state.uncertifiable(View::new(6)));
     Ok(())
 }
 
@@ -79,7 +82,8 @@ fn nothing_is_settled_or_served_at_first(rt: HostRuntime) {
     // View 0 counts as finalized.
     expect(&rt, &state, 0, true, true);
     expect(&rt, &state, 1, false, false);
-    holds(&rt, !state.uncertifiable(View::new(1)));
-    holds(&rt, state.produce(View::new(0)).is_none());
-    holds(&rt, state.produce(View::new(1)).is_none());
+    for view in 0..3 {
+        let at = View::new(view);
+        holds(&rt, !state.uncertifiable(at) && state.produce(at).is_none());
+    }
 }

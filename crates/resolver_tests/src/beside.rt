@@ -185,11 +185,22 @@ impl Beside {
         place: usize,
     ) -> Result<(), Fail> {
         let given = self.given.get(place).ok_or("nothing stands there")?;
-        let bytes = spelled(alloc, *given, place)?;
-        let served = self.state.produce(View::new(view)).ok_or("none is served")?;
-        holds(rt, served == bytes.as_slice());
-        Ok(())
+        serves(rt, alloc, &self.state, view, (*given, place))
     }
+}
+
+/// Who asks for the view is served the certificate that was handed in at this place.
+pub fn serves(
+    rt: &impl Abort,
+    alloc: Global,
+    state: &State,
+    view: u64,
+    (given, place): (Given, usize),
+) -> Result<(), Fail> {
+    let bytes = spelled(alloc, given, place)?;
+    let served = state.produce(View::new(view)).ok_or("none is served")?;
+    holds(rt, served == bytes.as_slice());
+    Ok(())
 }
 
 /// Hands in one thing after the other: what each gives, and what is outstanding behind it.

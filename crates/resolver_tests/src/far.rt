@@ -1,8 +1,10 @@
 //! Views near the end of the numbers. What is answered is worked out by hand.
 
-use crate::beside::hand;
+ghost use Rattle.std.specs.Prelude.{◌<◌};
+
+use crate::beside::{hand, serves};
 use crate::given::Given::{self, Finalization, Notarization, Nullification, Replayed, Verdict};
-use crate::given::{holds, spelled};
+use crate::given::holds;
 use crate::plain::Gives::{self, Covers, Failed, Finalizes, Missing, Notarizes, Raises};
 use simplex_resolver::{Kind, State};
 use simplex_types::{TermLength, View};
@@ -31,107 +33,100 @@ fn behind(rt: &impl Abort, alloc: Global, views: u32, rows: &[Row<'_>]) -> Resul
 // The last term with room is that of the views from 2^64-20 to 2^64-16: two terms and one view more lie behind the next start.
 #[test]
 fn the_last_term_with_room_is_as_any(rt: HostRuntime) -> Result<(), Fail> {
-    let alloc = rt.alloc();
-    let (finalized, start, notarized, end) = (LAST - 22, LAST - 19, LAST - 16, LAST - 15);
-    let rows: [Row<'_>; 6] = [
+    const FINALIZED: u64 = LAST - 22;
+    const START: u64 = LAST - 19;
+    const FAILED: u64 = LAST - 17;
+    const CERTIFIED: u64 = LAST - 16;
+    const END: u64 = LAST - 15;
+    const ROWS: [Row<'static>; 6] = [
         (Replayed, &[]),
         (
-            Finalization(finalized),
-            &[Finalizes(finalized), Raises(finalized)],
+            Finalization(FINALIZED),
+            &[Finalizes(FINALIZED), Raises(FINALIZED)],
         ),
         (
-            Nullification(end),
+            Nullification(END),
             &[
-                Covers(end, end),
-                Missing(finalized + 1, end),
-                Missing(start, end),
+                Covers(END, END),
+                Missing(FINALIZED + 1, END),
+                Missing(START, END),
             ],
         ),
-        (Notarization(notarized), &[Notarizes(notarized, notarized)]),
+        (Notarization(CERTIFIED), &[Notarizes(CERTIFIED, CERTIFIED)]),
         (
-            Verdict(notarized - 1, false),
-            &[
-                Notarizes(notarized - 1, notarized - 1),
-                Failed(notarized - 1, notarized - 1),
-            ],
+            Verdict(FAILED, false),
+            &[Notarizes(FAILED, FAILED), Failed(FAILED, FAILED)],
         ),
         (
-            Verdict(notarized, true),
-            &[Notarizes(notarized, notarized), Raises(notarized)],
+            Verdict(CERTIFIED, true),
+            &[Notarizes(CERTIFIED, CERTIFIED), Raises(CERTIFIED)],
         ),
     ];
-    let state = behind(&rt, alloc, 5, &rows)?;
-    let floor = spelled(alloc, Verdict(notarized, true), 5)?;
-    holds(
-        &rt,
-        state.produce(View::new(start)) == Some(floor.as_slice()),
-    );
-    let nullification = spelled(alloc, Nullification(end), 2)?;
-    holds(
-        &rt,
-        state.produce(View::new(end)) == Some(nullification.as_slice()),
-    );
+    let alloc = rt.alloc();
+    let state = behind(&rt, alloc, 5, &ROWS)?;
+    serves(&rt, alloc, &state, START, (Verdict(CERTIFIED, true), 5))?;
+    serves(&rt, alloc, &state, END, (Nullification(END), 2))?;
     holds(&rt, state.produce(View::new(LAST)).is_none());
-    holds(&rt, state.key_settled(View::new(finalized)));
     holds(&rt, !state.settled(View::new(LAST), Kind::Nullification));
-    holds(&rt, !View::new(end + 1).has_room(state.term_length()));
+    holds(&rt, !View::new(END + 1).has_room(state.term_length()));
     Ok(())
 }
 
 #[test]
 fn the_last_view_with_room_is_as_any(rt: HostRuntime) -> Result<(), Fail> {
-    let last = LAST - 4;
-    let rows: [Row<'_>; 5] = [
+    const END: u64 = LAST - 4;
+    const ROWS: [Row<'static>; 5] = [
         (
-            Finalization(last - 3),
-            &[Finalizes(last - 3), Raises(last - 3)],
+            Finalization(END - 3),
+            &[Finalizes(END - 3), Raises(END - 3)],
         ),
-        (Verdict(last - 1, false), &[Notarizes(last - 1, last - 1)]),
-        (Nullification(last), &[Covers(last, last)]),
+        (Verdict(END - 1, false), &[Notarizes(END - 1, END - 1)]),
+        (Nullification(END), &[Covers(END, END)]),
         (
             Replayed,
             &[
-                Missing(last - 2, last),
-                Missing(last - 1, last),
-                Failed(last - 1, last - 1),
+                Missing(END - 2, END),
+                Missing(END - 1, END),
+                Failed(END - 1, END - 1),
             ],
         ),
-        (Finalization(last), &[Finalizes(last), Raises(last)]),
+        (Finalization(END), &[Finalizes(END), Raises(END)]),
     ];
-    let state = behind(&rt, rt.alloc(), 1, &rows)?;
-    holds(&rt, !View::new(last + 1).has_room(state.term_length()));
+    let state = behind(&rt, rt.alloc(), 1, &ROWS)?;
+    holds(&rt, !View::new(END + 1).has_room(state.term_length()));
     Ok(())
 }
 
 // Terms of 2^32-1 views: term number 2^32-2 is the last with room.
 #[test]
 fn the_longest_terms_are_as_any(rt: HostRuntime) -> Result<(), Fail> {
-    let views = u64::from(u32::MAX);
-    let end = LAST - 3 * views;
-    let (before, lowest) = (end - 2 * views, end - views);
-    let rows: [Row<'_>; 5] = [
+    const VIEWS: u64 = 0xffff_ffff;
+    const END: u64 = LAST - 3 * VIEWS;
+    const BEFORE: u64 = END - 2 * VIEWS;
+    const LOWEST: u64 = END - VIEWS;
+    const ROWS: [Row<'static>; 5] = [
         (Replayed, &[]),
-        (Finalization(before), &[Finalizes(before), Raises(before)]),
+        (Finalization(BEFORE), &[Finalizes(BEFORE), Raises(BEFORE)]),
         (
-            Nullification(end - 1),
+            Nullification(END - 1),
             &[
-                Covers(end - 1, end),
-                Missing(before + 1, end - 1),
-                Missing(lowest + 1, end - 1),
+                Covers(END - 1, END),
+                Missing(BEFORE + 1, END - 1),
+                Missing(LOWEST + 1, END - 1),
             ],
         ),
-        (Nullification(before + 1), &[Covers(before + 1, lowest)]),
+        (Nullification(BEFORE + 1), &[Covers(BEFORE + 1, LOWEST)]),
         (
-            Verdict(lowest, true),
-            &[Notarizes(lowest, lowest), Raises(lowest)],
+            Verdict(LOWEST, true),
+            &[Notarizes(LOWEST, LOWEST), Raises(LOWEST)],
         ),
     ];
-    let state = behind(&rt, rt.alloc(), u32::MAX, &rows)?;
-    holds(&rt, !View::new(end + 1).has_room(state.term_length()));
-    holds(&rt, state.settled(View::new(end), Kind::Nullification));
+    let state = behind(&rt, rt.alloc(), u32::MAX, &ROWS)?;
+    holds(&rt, !View::new(END + 1).has_room(state.term_length()));
+    holds(&rt, state.settled(View::new(END), Kind::Nullification));
     holds(
         &rt,
-        !state.settled(View::new(lowest + 1), Kind::Nullification),
+        !state.settled(View::new(LOWEST + 1), Kind::Nullification),
     );
     Ok(())
 }

@@ -1,5 +1,7 @@
 //! Histories by chance: each answer is the plain program's, and the effects, applied in turn, leave what is outstanding.
 
+ghost use Rattle.std.specs.Prelude.{◌<◌};
+
 use crate::beside::Beside;
 use crate::chance::Chance;
 use crate::given::{Given, holds};

@@ -6,13 +6,14 @@ use crate::given::holds;
 use crate::plain::Gives::{self, Covers, Failed, Finalizes, Missing, Notarizes, Raises};
 use simplex_resolver::State;
 use simplex_types::{TermLength, View};
-use std::test::Fail;
+use std::alloc::Global;
+use std::process::Abort;
 
 // Where `rt try --test --fail-alloc N` refuses a request, that call is refused and no other answer stands in its place. The state is
 // used no more then. Each call asks for memory: for a copy of a certificate, for what is held and for the effects.
 #[test]
 fn a_refused_allocation_is_answered(rt: HostRuntime) {
-    let rows: [(Given, &[Gives]); 8] = [
+    const ROWS: [(Given, &[Gives]); 8] = [
         (Verdict(8, false), &[Notarizes(8, 8)]),
         (Replayed, &[Failed(8, 8)]),
         (
@@ -43,7 +44,7 @@ fn a_refused_allocation_is_answered(rt: HostRuntime) {
         (Nullification(13), &[Covers(13, 15)]),
     ];
     let mut state = State::new(rt.alloc(), TermLength::new(5));
-    for (place, (given, gives)) in rows.iter().enumerate() {
+    for (place, (given, gives)) in ROWS.iter().enumerate() {
         let Some(answers) = hand(rt.alloc(), &mut state, *given, place) else {
             return;
         };
@@ -52,22 +53,21 @@ fn a_refused_allocation_is_answered(rt: HostRuntime) {
     holds(&rt, state.produce(View::new(13)).is_some());
 }
 
+/// In terms of one view, the last of these is refused for memory, and none before it.
+fn is_refused(rt: &impl Abort, alloc: Global, given: &[Given]) {
+    let mut state = State::new(alloc, TermLength::ONE);
+    for (place, item) in given.iter().enumerate() {
+        let answers = hand(alloc, &mut state, *item, place);
+        holds(rt, answers.is_some() == (place + 1 < given.len()));
+    }
+}
+
 // A certificate of a far view leaves more to be fetched than there can be memory for. Room for it is asked before the work begins,
 // so this ends.
 #[test]
-fn a_gap_without_end_is_refused(rt: HostRuntime) -> Result<(), Fail> {
-    for given in [Nullification(1 << 63), Notarization(1 << 63)] {
-        let mut state = State::new(rt.alloc(), TermLength::ONE);
-        let first = hand(rt.alloc(), &mut state, Replayed, 0).ok_or("no memory")?;
-        holds(&rt, first.is_empty());
-        holds(&rt, hand(rt.alloc(), &mut state, given, 1).is_none());
-    }
-    let mut state = State::new(rt.alloc(), TermLength::ONE);
-    let taken = hand(rt.alloc(), &mut state, Nullification(1 << 63), 0).ok_or("no memory")?;
-    holds(
-        &rt,
-        taken.as_slice() == [Covers(1 << 63, 1 << 63)].as_slice(),
-    );
-    holds(&rt, hand(rt.alloc(), &mut state, Replayed, 1).is_none());
-    Ok(())
+fn a_gap_without_end_is_refused(rt: HostRuntime) {
+    let far = 1 << 63;
+    is_refused(&rt, rt.alloc(), &[Replayed, Nullification(far)]);
+    is_refused(&rt, rt.alloc(), &[Replayed, Notarization(far)]);
+    is_refused(&rt, rt.alloc(), &[Nullification(far), Replayed]);
 }

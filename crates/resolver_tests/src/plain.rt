@@ -24,7 +24,7 @@ pub enum Gives {
 }
 
 /// What was handed in so far, the oldest first, in terms of so many views.
-#[derive(Clone, Copy)]
+#[derive(Drop)]
 pub struct Told<'a> {
     pub length: TermLength,
     pub given: &'a [Given],
@@ -32,29 +32,29 @@ pub struct Told<'a> {
 
 impl<'a> Told<'a> {
     /// The last view of the view's term.
-    fn last_of_term(self, view: u64) -> u64 {
+    fn last_of_term(&self, view: u64) -> u64 {
         let views = u64::from(self.length.get());
         view.div_ceil(views).saturating_mul(views)
     }
 
     /// Whether the view before it is the last of a term.
-    fn starts_term(self, view: u64) -> bool {
+    fn starts_term(&self, view: u64) -> bool {
         let before = view.saturating_sub(1);
         self.last_of_term(before) == before
     }
 
     /// Whether this very thing was handed in.
-    fn has(self, wanted: Given) -> bool {
+    fn has(&self, wanted: Given) -> bool {
         self.first(wanted).is_some()
     }
 
     /// The place at which this was handed in first.
-    fn first(self, wanted: Given) -> Option<usize> {
+    fn first(&self, wanted: Given) -> Option<usize> {
         self.given.iter().position(|given| *given == wanted)
     }
 
     /// The place at which this was handed in last.
-    fn last(self, wanted: Given) -> Option<usize> {
+    fn last(&self, wanted: Given) -> Option<usize> {
         let mut found = None;
         for (place, given) in self.given.iter().enumerate() {
             if *given == wanted {
@@ -65,7 +65,7 @@ impl<'a> Told<'a> {
     }
 
     /// The highest finalized view, or 0.
-    fn finalized(self) -> u64 {
+    fn finalized(&self) -> u64 {
         let mut highest = 0;
         for given in self.given {
             if let Given::Finalization(view) = *given {
@@ -76,7 +76,7 @@ impl<'a> Told<'a> {
     }
 
     /// The highest finalized or certified view, or 0.
-    fn floor(self) -> u64 {
+    fn floor(&self) -> u64 {
         let mut highest = self.finalized();
         for given in self.given {
             if let Given::Verdict(view, true) = *given {
@@ -87,7 +87,7 @@ impl<'a> Told<'a> {
     }
 
     /// The highest view of a certificate, or 0.
-    fn current(self) -> u64 {
+    fn current(&self) -> u64 {
         let mut highest = 0;
         for given in self.given {
             if !matches!(given, Given::Verdict(..)) {
@@ -98,7 +98,7 @@ impl<'a> Told<'a> {
     }
 
     /// The highest view of all, or 0.
-    fn highest(self) -> u64 {
+    fn highest(&self) -> u64 {
         let mut highest = 0;
         for given in self.given {
             highest = given.view().max(highest);
@@ -108,7 +108,7 @@ impl<'a> Told<'a> {
 
     /// The place of the nullification that covers the view: of those of it and of earlier views of its term the first of the
     /// highest view.
-    fn covering(self, view: u64) -> Option<usize> {
+    fn covering(&self, view: u64) -> Option<usize> {
         let mut highest = None;
         for given in self.given {
             if let Given::Nullification(of) = *given
@@ -122,12 +122,12 @@ impl<'a> Told<'a> {
     }
 
     /// Whether the view needs a nullification that covers it: it is above the floor, and none does.
-    fn is_bare(self, view: u64) -> bool {
+    fn is_bare(&self, view: u64) -> bool {
         view > self.floor() && self.covering(view).is_none()
     }
 
     /// The views of which a nullification is still to be fetched, ascending.
-    pub fn outstanding(self, alloc: Global) -> Result<Vec<u64>, AllocError> {
+    pub fn outstanding(&self, alloc: Global) -> Result<Vec<u64>, AllocError> {
         let mut views = Vec::new(alloc);
         if !self.has(Given::Replayed) {
             return Ok(views);
@@ -144,7 +144,7 @@ impl<'a> Told<'a> {
     }
 
     /// Whether there is nothing left to fetch of this kind at the view.
-    pub fn is_settled(self, view: u64, kind: Kind) -> bool {
+    pub fn is_settled(&self, view: u64, kind: Kind) -> bool {
         let is_known = self.has(Given::Notarization(view))
             || self.has(Given::Verdict(view, true))
             || self.has(Given::Verdict(view, false));
@@ -156,12 +156,12 @@ impl<'a> Told<'a> {
     }
 
     /// Whether the view's notarization failed, and the view may still matter.
-    pub fn is_uncertifiable(self, view: u64) -> bool {
+    pub fn is_uncertifiable(&self, view: u64) -> bool {
         view > self.finalized() && self.has(Given::Verdict(view, false))
     }
 
     /// The place of the certificate that is served to who asks for the view.
-    pub fn served(self, view: u64) -> Option<usize> {
+    pub fn served(&self, view: u64) -> Option<usize> {
         let finalization = self.first(Given::Finalization(self.finalized()));
         if finalization.is_some() && view <= self.finalized() {
             return finalization;
@@ -178,23 +178,25 @@ impl<'a> Told<'a> {
     }
 
     /// What was handed in until so many things were.
-    fn until(self, count: usize) -> Told<'a> {
-        let given = self.given.get(..count).unwrap_or(self.given);
-        Told { given, ..self }
+    fn until(&self, count: usize) -> Told<'a> {
+        Told {
+            length: self.length,
+            given: self.given.get(..count).unwrap_or(self.given),
+        }
     }
 
     /// Whether the last of these looks for what is missing.
-    fn scans(self) -> bool {
+    fn scans(&self) -> bool {
         !matches!(self.given.last(), Some(Given::Verdict(_, false))) && self.has(Given::Replayed)
     }
 
     /// Where a scan begins, by where the cursor stands.
-    fn start(self, cursor: u64) -> u64 {
+    fn start(&self, cursor: u64) -> u64 {
         cursor.max(self.floor().saturating_add(1))
     }
 
     /// Where the cursor stands behind the last of these, by where it stood before its scan.
-    fn stop(self, cursor: u64) -> u64 {
+    fn stop(&self, cursor: u64) -> u64 {
         if !self.scans() {
             return cursor;
         }
@@ -209,7 +211,7 @@ impl<'a> Told<'a> {
     }
 
     /// Where the cursor stands before the scan behind the last of these: a raise of the floor into a term pulls it back.
-    fn cursor(self) -> u64 {
+    fn cursor(&self) -> u64 {
         let mut cursor = 0;
         let mut before = self.until(0);
         for count in 1..=self.given.len() {
@@ -225,7 +227,7 @@ impl<'a> Told<'a> {
     }
 
     /// What is fetched by the scan behind the last of these.
-    fn scan(self, gives: &mut Vec<Gives>) -> Result<(), AllocError> {
+    fn scan(&self, gives: &mut Vec<Gives>) -> Result<(), AllocError> {
         let (start, current) = (self.start(self.cursor()), self.current());
         let cause = match self.given.last() {
             Some(given) if *given != Given::Replayed => given.view(),
@@ -240,7 +242,7 @@ impl<'a> Told<'a> {
     }
 
     /// What is settled by the next thing that is handed in.
-    fn settles(self, next: Given) -> Option<Gives> {
+    fn settles(&self, next: Given) -> Option<Gives> {
         let is_live = next.view() > self.finalized();
         match next {
             Given::Nullification(view) => {
@@ -256,7 +258,7 @@ impl<'a> Told<'a> {
     }
 
     /// What is fetched of this view, where its notarization failed.
-    fn repair(self, view: u64, gives: &mut Vec<Gives>) -> Result<(), AllocError> {
+    fn repair(&self, view: u64, gives: &mut Vec<Gives>) -> Result<(), AllocError> {
         if self.has(Given::Replayed)
             && self.is_bare(view)
             && self.has(Given::Verdict(view, false))
@@ -267,14 +269,14 @@ impl<'a> Told<'a> {
     }
 
     /// What the last of these gives, in order.
-    pub fn gives(self, alloc: Global) -> Result<Vec<Gives>, AllocError> {
+    pub fn gives(&self, alloc: Global) -> Result<Vec<Gives>, AllocError> {
         let mut gives = Vec::new(alloc);
         let Some((last, before)) = self.given.split_last() else {
             return Ok(gives);
         };
         let before = Told {
+            length: self.length,
             given: before,
-            ..self
         };
         if let Some(settled) = before.settles(*last) {
             gives.push(settled)?;

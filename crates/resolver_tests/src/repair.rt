@@ -7,7 +7,7 @@ use std::test::Fail;
 
 #[test]
 fn a_nullification_asks_for_the_term_starts_below_it(rt: HostRuntime) -> Result<(), Fail> {
-    let steps: [Step<'_>; 4] = [
+    const STEPS: [Step<'static>; 4] = [
         (Replayed, &[], &[]),
         (
             Nullification(14),
@@ -22,13 +22,13 @@ fn a_nullification_asks_for_the_term_starts_below_it(rt: HostRuntime) -> Result<
         (Nullification(1), &[Covers(1, 5)], &[6, 11]),
         (Nullification(6), &[Covers(6, 10)], &[11]),
     ];
-    walk(&rt, rt.alloc(), 5, &steps)?;
+    walk(&rt, rt.alloc(), 5, &STEPS)?;
     Ok(())
 }
 
 #[test]
 fn the_end_of_the_replay_asks_for_what_is_left(rt: HostRuntime) -> Result<(), Fail> {
-    let steps: [Step<'_>; 9] = [
+    const STEPS: [Step<'static>; 9] = [
         (Notarization(5), &[Notarizes(5, 5)], &[]),
         (Verdict(5, false), &[Notarizes(5, 5)], &[]),
         (Notarization(6), &[Notarizes(6, 6)], &[]),
@@ -43,13 +43,13 @@ fn the_end_of_the_replay_asks_for_what_is_left(rt: HostRuntime) -> Result<(), Fa
             &[7, 8, 9],
         ),
     ];
-    walk(&rt, rt.alloc(), 5, &steps)?;
+    walk(&rt, rt.alloc(), 5, &STEPS)?;
     Ok(())
 }
 
 #[test]
 fn behind_a_floor_inside_a_term_its_rest_is_asked_for(rt: HostRuntime) -> Result<(), Fail> {
-    let steps: [Step<'_>; 4] = [
+    const STEPS: [Step<'static>; 4] = [
         (Replayed, &[], &[]),
         (
             Nullification(14),
@@ -74,7 +74,7 @@ fn behind_a_floor_inside_a_term_its_rest_is_asked_for(rt: HostRuntime) -> Result
             &[4, 6, 11],
         ),
     ];
-    walk(&rt, rt.alloc(), 5, &steps)?;
+    walk(&rt, rt.alloc(), 5, &STEPS)?;
     Ok(())
 }
 
@@ -83,13 +83,13 @@ fn a_nullification_below_the_floor_covers_the_rest_of_its_term(
     rt: HostRuntime,
 ) -> Result<(), Fail> {
     let alloc = rt.alloc();
-    let steps: [Step<'_>; 4] = [
+    const STEPS: [Step<'static>; 4] = [
         (Replayed, &[], &[]),
         (Finalization(3), &[Finalizes(3), Raises(3)], &[]),
         (Nullification(6), &[Covers(6, 10), Missing(4, 6)], &[4]),
         (Nullification(2), &[Covers(2, 5)], &[]),
     ];
-    let beside = walk(&rt, alloc, 5, &steps)?;
+    let beside = walk(&rt, alloc, 5, &STEPS)?;
     beside.serves(&rt, alloc, 4, 3)?;
     beside.serves(&rt, alloc, 5, 3)
 }
@@ -97,7 +97,7 @@ fn a_nullification_below_the_floor_covers_the_rest_of_its_term(
 // A view is fetched once until a raise of the floor lands in a term, however often a certificate comes.
 #[test]
 fn a_certificate_that_comes_again_asks_for_nothing(rt: HostRuntime) -> Result<(), Fail> {
-    let steps: [Step<'_>; 10] = [
+    const STEPS: [Step<'static>; 10] = [
         (Replayed, &[], &[]),
         (
             Nullification(14),
@@ -126,13 +126,13 @@ fn a_certificate_that_comes_again_asks_for_nothing(rt: HostRuntime) -> Result<()
         (Finalization(23), &[Finalizes(23)], &[]),
         (Nullification(20), &[], &[]),
     ];
-    walk(&rt, rt.alloc(), 5, &steps)?;
+    walk(&rt, rt.alloc(), 5, &STEPS)?;
     Ok(())
 }
 
 #[test]
 fn in_terms_of_one_view_each_view_is_asked_for(rt: HostRuntime) -> Result<(), Fail> {
-    let steps: [Step<'_>; 6] = [
+    const STEPS: [Step<'static>; 6] = [
         (Replayed, &[], &[]),
         (
             Nullification(4),
@@ -144,13 +144,13 @@ fn in_terms_of_one_view_each_view_is_asked_for(rt: HostRuntime) -> Result<(), Fa
         (Notarization(6), &[Notarizes(6, 6), Missing(5, 6)], &[3, 5]),
         (Finalization(6), &[Finalizes(6), Raises(6)], &[]),
     ];
-    walk(&rt, rt.alloc(), 1, &steps)?;
+    walk(&rt, rt.alloc(), 1, &STEPS)?;
     Ok(())
 }
 
 #[test]
 fn nothing_is_asked_for_before_the_end_of_the_replay(rt: HostRuntime) -> Result<(), Fail> {
-    let steps: [Step<'_>; 8] = [
+    const STEPS: [Step<'static>; 8] = [
         (Notarization(4), &[Notarizes(4, 4)], &[]),
         (Verdict(4, false), &[Notarizes(4, 4)], &[]),
         (Finalization(5), &[Finalizes(5), Raises(5)], &[]),
@@ -168,13 +168,13 @@ fn nothing_is_asked_for_before_the_end_of_the_replay(rt: HostRuntime) -> Result<
             &[6, 7, 8, 10],
         ),
     ];
-    walk(&rt, rt.alloc(), 1, &steps)?;
+    walk(&rt, rt.alloc(), 1, &STEPS)?;
     Ok(())
 }
 
 #[test]
 fn the_rest_of_a_term_is_asked_for_once_a_later_view_comes(rt: HostRuntime) -> Result<(), Fail> {
-    let steps: [Step<'_>; 4] = [
+    const STEPS: [Step<'static>; 4] = [
         (Replayed, &[], &[]),
         (Notarization(4), &[Notarizes(4, 4), Missing(1, 4)], &[1]),
         (Verdict(4, true), &[Notarizes(4, 4), Raises(4)], &[]),
@@ -189,13 +189,13 @@ fn the_rest_of_a_term_is_asked_for_once_a_later_view_comes(rt: HostRuntime) -> R
             &[5, 6, 11],
         ),
     ];
-    walk(&rt, rt.alloc(), 5, &steps)?;
+    walk(&rt, rt.alloc(), 5, &STEPS)?;
     Ok(())
 }
 
 #[test]
 fn a_nullification_counts_until_its_term_is_finalized(rt: HostRuntime) -> Result<(), Fail> {
-    let steps: [Step<'_>; 6] = [
+    const STEPS: [Step<'static>; 6] = [
         (Replayed, &[], &[]),
         (Finalization(3), &[Finalizes(3), Raises(3)], &[]),
         (Nullification(2), &[Covers(2, 5)], &[]),
@@ -204,13 +204,13 @@ fn a_nullification_counts_until_its_term_is_finalized(rt: HostRuntime) -> Result
         // A lower finalization tells of the highest one.
         (Finalization(2), &[Finalizes(5)], &[]),
     ];
-    walk(&rt, rt.alloc(), 5, &steps)?;
+    walk(&rt, rt.alloc(), 5, &STEPS)?;
     Ok(())
 }
 
 #[test]
 fn a_false_verdict_asks_for_its_view_unless_it_is_covered(rt: HostRuntime) -> Result<(), Fail> {
-    let steps: [Step<'_>; 9] = [
+    const STEPS: [Step<'static>; 9] = [
         (Replayed, &[], &[]),
         (
             Notarization(7),
@@ -231,6 +231,6 @@ fn a_false_verdict_asks_for_its_view_unless_it_is_covered(rt: HostRuntime) -> Re
         (Verdict(8, false), &[Notarizes(8, 8)], &[]),
         (Verdict(6, true), &[Notarizes(6, 6)], &[]),
     ];
-    walk(&rt, rt.alloc(), 5, &steps)?;
+    walk(&rt, rt.alloc(), 5, &STEPS)?;
     Ok(())
 }

@@ -34,7 +34,7 @@ fn expect(
 fn a_finalization_goes_before_a_notarization_and_that_before_a_nullification(
     rt: HostRuntime,
 ) -> Result<(), Fail> {
-    let given = [
+    const GIVEN: [Given; 6] = [
         Nullification(2),
         Finalization(3),
         Notarization(8),
@@ -53,14 +53,14 @@ fn a_finalization_goes_before_a_notarization_and_that_before_a_nullification(
         finalized, finalized, finalized, fourth, nullified, sixth, sixth, eighth, sixth, sixth,
         None, None,
     ];
-    expect(&rt, rt.alloc(), &given, &served)
+    expect(&rt, rt.alloc(), &GIVEN, &served)
 }
 
 #[test]
 fn up_to_the_floor_its_notarization_is_served_where_nothing_else_is(
     rt: HostRuntime,
 ) -> Result<(), Fail> {
-    let given = [
+    const GIVEN: [Given; 4] = [
         Finalization(1),
         Verdict(5, true),
         Verdict(9, true),
@@ -70,14 +70,14 @@ fn up_to_the_floor_its_notarization_is_served_where_nothing_else_is(
     let served = [
         finalized, floor, nullified, nullified, fifth, floor, floor, floor, floor, None,
     ];
-    expect(&rt, rt.alloc(), &given, &served)
+    expect(&rt, rt.alloc(), &GIVEN, &served)
 }
 
 #[test]
 fn of_several_certificates_one_is_served(rt: HostRuntime) -> Result<(), Fail> {
     // The first nullification of a view and the highest that covers, the first of the highest finalizations, the
     // notarization of the last true verdict.
-    let given = [
+    const GIVEN: [Given; 8] = [
         Nullification(9),
         Nullification(7),
         Nullification(7),
@@ -91,17 +91,17 @@ fn of_several_certificates_one_is_served(rt: HostRuntime) -> Result<(), Fail> {
     let served = [
         finalized, finalized, finalized, fifth, fifth, None, seventh, seventh, ninth, ninth, None,
     ];
-    expect(&rt, rt.alloc(), &given, &served)
+    expect(&rt, rt.alloc(), &GIVEN, &served)
 }
 
 #[test]
 fn a_notarization_is_served_once_its_verdict_is_true(rt: HostRuntime) -> Result<(), Fail> {
     // One waits for its verdict, one failed, and of one a false verdict came behind the true one.
-    let given = [
+    const GIVEN: [Given; 4] = [
         Notarization(2),
         Verdict(3, false),
         Verdict(1, true),
         Verdict(1, false),
     ];
-    expect(&rt, rt.alloc(), &given, &[Some(2), None, None, None])
+    expect(&rt, rt.alloc(), &GIVEN, &[Some(2), None, None, None])
 }

@@ -3,6 +3,7 @@
 use crate::given::holds;
 use simplex_resolver::{Ask, Effect, FetchReason, Kind, Until};
 use simplex_types::View;
+use std::process::Abort;
 
 #[test]
 fn kinds_and_reasons_have_words(rt: HostRuntime) {
@@ -15,26 +16,29 @@ fn kinds_and_reasons_have_words(rt: HostRuntime) {
     holds(&rt, missing != failed);
 }
 
-#[test]
-fn asks_are_in_order_by_kind_and_then_by_what_ends_them(rt: HostRuntime) {
-    let mut asks = [Ask::backfill(); 4];
-    let kinds = [Kind::Nullification, Kind::Notarization];
-    let ends = [Until::Floor, Until::Finalization];
-    for place in 0..4usize {
-        asks[place] = Ask {
-            kind: kinds[place / 2],
-            until: ends[place % 2],
-        };
-    }
+/// The asks stand in the order of their places, and differ.
+fn are_in_order(rt: &impl Abort, asks: &[Ask]) {
     for (place, ask) in asks.iter().enumerate() {
         for (other, than) in asks.iter().enumerate() {
-            holds(&rt, ask.cmp(than) == place.cmp(&other));
-            holds(&rt, (ask < than) == (place < other));
-            holds(&rt, (ask == than) == (place == other));
-            holds(&rt, (ask.kind < than.kind) == (place / 2 < other / 2));
-            holds(&rt, (ask.until < than.until) == (place % 2 < other % 2));
+            holds(rt, ask.cmp(than) == place.cmp(&other));
+            holds(rt, (ask == than) == (place == other));
         }
     }
+}
+
+#[test]
+fn asks_are_in_order_by_kind_and_then_by_what_ends_them(rt: HostRuntime) {
+    let ask = |kind, until| Ask { kind, until };
+    let asks = [
+        ask(Kind::Nullification, Until::Floor),
+        ask(Kind::Nullification, Until::Finalization),
+        ask(Kind::Notarization, Until::Floor),
+        ask(Kind::Notarization, Until::Finalization),
+    ];
+    are_in_order(&rt, &asks);
+    holds(&rt, Kind::Nullification < Kind::Notarization);
+    holds(&rt, Until::Floor < Until::Finalization);
+    holds(&rt, Until::Floor != Until::Finalization);
     holds(&rt, asks[0] == Ask::backfill());
     holds(&rt, asks[1] == Ask::ancestry(Kind::Nullification));
     holds(&rt, asks[3] == Ask::ancestry(Kind::Notarization));
