@@ -1,12 +1,13 @@
 -- Terms, by their starts and ends.
-use Rattle.std.specs.Prelude.{max}
-use Rattle.std.proofs.Common.{◌≡◌, ◌≢◌, ◌⊎◌, inl, inr, ⊎_elim, ◌↔◌, ◌≤◌, ◌<◌, ◌==◌, ◌+◌, ◌-◌, ◌*◌, ◌/◌, ◌^◌, ℕ, zero, suc, refl, sym, ◌∙◌, ap, arith, if◌then◌else◌}
+use Rattle.std.specs.Prelude.{max, not, nat_le, Bool, true, false, ◌||◌, ◌&&◌}
+use Rattle.std.proofs.Common.{◌≡◌, inl, inr, ◌↔◌, ◌≤◌, ◌<◌, ◌==◌, ◌+◌, ◌-◌, ◌*◌, ◌/◌, ◌^◌, ℕ, zero, suc, refl, sym, ◌∙◌, ap, arith}
 use Rattle.std.proofs.Math.Nat.{div-lt_iff_lt-mul, le-div_iff_mul-le, mul-le-mul_right, mul-div_left}
 use Rattle.std.proofs.lemmas.Grind.{common_steps}
-use Rattle.std.proofs.lemmas.Bool.{cases_lt}
+use Rattle.std.proofs.lemmas.Bool.{cases_eq, cases_lt}
 use Rattle.std.proofs.lemmas.Bool.Decides.{nat_tests}
-use Rattle.simplex_types.specs.Positions.{term_index, term_start, term_end, next_term_start, IsTermStart, InCoveringRange, Covers, HasRoom}
-use Rattle.simplex_resolver.specs.Outstanding.{term_start_from}
+use Rattle.simplex_types.specs.Positions.{term_index, term_start, term_end, next_term_start, IsTermStart, HasRoom}
+use Rattle.simplex_resolver.specs.Outstanding.{term_start_from, scan_start}
+use Rattle.simplex_resolver.proofs.Choices.{nat_le-yes, if_other}
 
 -- the term of a view, by the view before it
 term_index-suc : (views before : ℕ) → term_index views (suc before) ≡ before / views + 1
@@ -126,3 +127,38 @@ module _ (views : ℕ) (some : 0 < views) where
   term_start_from-ge v =
       let behind = next_term_start-gt v in
       grind (arith, nat_tests, behind)
+
+  -- and is a term's start
+  pub term_start_from-IsTermStart : (v : ℕ) → IsTermStart views (term_start_from views v)
+  term_start_from-IsTermStart v = elim (cases_eq v (term_start views v)) [
+    | inl is ↦
+        let first : term_start_from views v ≡ v = grind (arith, nat_tests, is) in
+        rw first is
+    | inr later ↦
+        let first : term_start_from views v ≡ next_term_start views v = if_other v (term_start views v) v (next_term_start views v) later in
+        rw first (next-IsTermStart v)
+  ]
+
+  -- a scan begins above the floor
+  pub scan_start-gt : (went level : ℕ) (raised : Bool) → level < scan_start views went level raised
+  scan_start-gt went level raised = by (nat_le went (level + 1) || (raised && not (level + 1 == term_start views (level + 1)))) refl
+    where
+      by : (b : Bool) → (nat_le went (level + 1) || (raised && not (level + 1 == term_start views (level + 1)))) ≡ b → level < scan_start views went level raised
+      by true e = rw e (omega arith)
+      by false e = rw e (elim (cases_lt (level + 1) went) [
+        | inl past ↦ let ge = term_start_from-ge went in omega (arith, past, ge)
+        | inr low ↦ absurd (let never = rw (nat_le-yes went (level + 1) low) at e in grind (arith, never))
+      ])
+
+-- room where the length is the same, before a view with room, and of the higher of two views
+pub room_kept : (views length v : ℕ) → length ≡ views → HasRoom views v → HasRoom length v
+room_kept views length v is room = rw is room
+
+pub room_before : (views u v : ℕ) → 0 < views → HasRoom views v → u ≤ v → HasRoom views u
+room_before views u v some room le = let mono = next_term_start-mono views some u v le in omega (arith, mono, room)
+
+pub room_of_max : (views length u v w : ℕ) → length ≡ views → w ≡ max u v → HasRoom views u → HasRoom views v → HasRoom length w
+room_of_max views length u v w is high first second = elim (cases_lt u v) [
+  | inl lt ↦ let e : w ≡ v = grind (arith, nat_tests, lt, high) in rw (is, e) second
+  | inr le ↦ let e : w ≡ u = grind (arith, nat_tests, le, high) in rw (is, e) first
+]

@@ -95,7 +95,7 @@ Gives views h (Finalized v bytes) given = (asked : List Effect) × ScansBehind v
 Gives views h (Judged v bytes true) given = (asked : List Effect) × ScansBehind views h (Judged v bytes true) v asked
     × (given ≡ (settled_notarization v ∷ when (nat_lt (floor h) v) (effect.Raised v)) ++ asked)
 Gives views h (Judged v bytes false) given = given ≡ settled_notarization v ∷ when (live h && (nat_lt (floor h) v && not (covered views h v))) (fetch_failed v)
-Gives views h Replayed given = (asked : List Effect) × (missing : List ℕ) × ScansBehind views h Replayed (current h) asked × AreMissing views h (floor h) missing
+Gives views h Replayed given = (asked : List Effect) × (missing : List ℕ) × ScansBehind views h Replayed (current h) asked × AreMissing views (Replayed ∷ h) (floor (Replayed ∷ h)) missing
     × (given ≡ asked ++ map fetch_failed missing)
 
 -- an effect, applied to the outstanding views

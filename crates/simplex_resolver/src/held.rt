@@ -1,6 +1,6 @@
 //! The certificates and verdicts that are held for repair, and served.
 
-ghost use Rattle.std.specs.Prelude.{◌≡◌, ◌<◌, ◌≤◌, ◌+◌, ◌^◌, ◌&&◌, ◌∷◌, [], ℕ, not, max, nat_lt, nat_le, is_some, if◌then◌else◌, true, false, Option, None, IfOk, OnOk, IfSome, IfNone};
+ghost use Rattle.std.specs.Prelude.{◌≡◌, ◌<◌, ◌≤◌, ◌+◌, ◌^◌, ◌&&◌, ◌∷◌, [], ℕ, List, not, max, nat_lt, nat_le, is_some, if◌then◌else◌, true, false, Option, None, IfOk, OnOk, IfSome, IfNone};
 ghost use Rattle.std.specs.Option.{option_map};
 ghost use Rattle.std.specs.Ordering.{nat_cmp};
 ghost use Rattle.std.specs.BTreeMap.{get};
@@ -59,7 +59,8 @@ impl Held {
         view: View,
         nullification: &W,
     ) -> Result<bool, AllocError>
-        requires { HasRoom self.old.length view }
+        requires some { 0 < self.old.length }
+        requires room { HasRoom self.old.length view }
         ensures holds { OnOk result (AtEachHeld self.old (λ views h. Holds views self.new (Nullified view (W.spelling nullification.now) ∷ h))) }
         ensures answer { IfOk result (λ reaches. AtEachHeld self.old (λ views h. reaches ≡ nat_lt (finalized h) (term_end views view))) }
         ensures length { self.new.length ≡ self.old.length }
@@ -98,7 +99,8 @@ impl Held {
         view: View,
         finalization: &W,
     ) -> Result<(), AllocError>
-        requires { HasRoom self.old.length view }
+        requires some { 0 < self.old.length }
+        requires room { HasRoom self.old.length view }
         ensures holds { OnOk result (AtEachHeld self.old (λ views h. Holds views self.new (Finalized view (W.spelling finalization.now) ∷ h))) }
         ensures length { self.new.length ≡ self.old.length }
     {
@@ -114,7 +116,8 @@ impl Held {
         drop_views_below(&mut self.known, first);
         drop_views_below(&mut self.failed, first);
         // The spans of what is dropped go into one.
-        self.covered.cover(View::zero(), view)
+        self.covered.cover(View::zero(), view)?;
+        Ok(())
     }
 
     /// Takes a true verdict on a notarization.
@@ -149,11 +152,13 @@ impl Held {
         Ok(())
     }
 
-    /// The highest nullification that covers the view, which is to be above the last finalized one.
+    /// The highest nullification that covers the view, where this is above the last finalized one.
     pub(crate) fn covering(&self, view: View) -> Option<&[u8]>
-        ensures bytes { AtEachHeld self.now (λ views h. option_map (λ bytes. bytes.now) result ≡ covering views h view) }
-        ensures there { AtEachHeld self.now (λ views h. finalized h < view → is_some result ≡ covered views h view) }
+        ensures { AtEachHeld self.now (λ views h. option_map (λ bytes. bytes.now) result ≡ covering views h view) }
     {
+        if view <= self.last_finalized {
+            return None;
+        }
         let start = view.term_start(self.length);
         match self
             .nullifications

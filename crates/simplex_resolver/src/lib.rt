@@ -4,9 +4,11 @@
 mod ask;
 mod effect;
 mod held;
+mod laws;
 mod state;
 mod terms;
 
 pub use ask::{Ask, Kind, Until};
 pub use effect::{Effect, FetchReason};
+pub use laws::effects_leave_the_outstanding;
 pub use state::State;

@@ -1,5 +1,6 @@
 //! The state of a member's repair.
 
+ghost use Rattle.std.specs.Prelude.{◌<◌};
 ghost use Rattle.simplex_types.specs.Positions.{HasRoom};
 
 use crate::ask::Kind;
@@ -21,17 +22,18 @@ pub struct State {
     pub(crate) floor: View,
     /// Whether the replay has ended.
     pub(crate) live: bool,
+    ghost some: { 0 < held.length },
     ghost current_room: { HasRoom held.length current },
     ghost floor_room: { HasRoom held.length floor },
 }
 
 impl State {
-    ghost use Rattle.std.specs.Prelude.{◌≡◌, ◌<◌, ◌+◌, ◌++◌, ◌∷◌, [], ℕ, List, nat_lt, OnOk, IfOk, true, false, map};
+    ghost use Rattle.std.specs.Prelude.{◌≡◌, ◌+◌, ◌++◌, ◌∷◌, [], ℕ, List, not, nat_lt, ◌&&◌, OnOk, IfOk, true, false, map};
     ghost use Rattle.std.specs.Option.{option_map};
     ghost use Rattle.simplex_messages.specs.Certificate.{any_certificate_spelling, certificate_round, as_notarization};
     ghost use Rattle.simplex_resolver.specs.declared.effect.Effect.{Effect};
-    ghost use Rattle.simplex_resolver.specs.History.{Item, Nullified, Notarized, Finalized, Judged, Replayed, item_of, finalized, floor, current};
-    ghost use Rattle.simplex_resolver.specs.Outstanding.{Gives, Scans, ScansBehind, AreMissing, fetch_failed, scanned, is_missing};
+    ghost use Rattle.simplex_resolver.specs.History.{Item, Nullified, Notarized, Finalized, Judged, Replayed, item_of, covered, floor, live};
+    ghost use Rattle.simplex_resolver.specs.Outstanding.{Gives, Scans, ScansBehind, AreMissing, fetch_failed, scanned};
     ghost use Rattle.simplex_resolver.specs.Answers.{is_settled, is_key_settled, is_uncertifiable, produced};
     ghost use Rattle.simplex_resolver.specs.Keeps.{Keeps, AtEach, length_of};
 
@@ -172,6 +174,7 @@ impl State {
     }
 
     /// Takes a nullification.
+    #[tactic(auto, using(crate::proofs::TermStarts::room_kept, crate::proofs::TermStarts::room_of_max))]
     fn nullified<W: Write>(
         &mut self,
         alloc: Global,
@@ -198,6 +201,7 @@ impl State {
     }
 
     /// Takes a notarization.
+    #[tactic(auto, using(crate::proofs::TermStarts::room_kept, crate::proofs::TermStarts::room_of_max))]
     fn notarized(&mut self, alloc: Global, view: View) -> Result<Vec<Effect>, AllocError>
         requires { HasRoom (length_of self.old) view }
         ensures keeps { OnOk result (AtEach self.old (λ views h. Keeps views self.new (Notarized view ∷ h))) }
@@ -214,6 +218,7 @@ impl State {
     }
 
     /// Takes a finalization.
+    #[tactic(auto, using(crate::proofs::TermStarts::room_kept, crate::proofs::TermStarts::room_of_max))]
     fn finalized<W: Write>(
         &mut self,
         alloc: Global,
@@ -230,13 +235,15 @@ impl State {
         self.current = self.current.max(view);
         self.held.take_finalization(alloc, view, finalization)?;
         effects.push(Effect::Finalized(self.held.last_finalized))?;
-        let raised = self.raise(view);
+        let raised = self.floor < view;
+        self.floor = self.floor.max(view);
         push_if(raised, &mut effects, Effect::Raised(view))?;
         self.scan(&mut effects, view, went, raised)?;
         Ok(effects)
     }
 
     /// Takes a true verdict.
+    #[tactic(auto, using(crate::proofs::TermStarts::room_kept, crate::proofs::TermStarts::room_of_max))]
     fn succeeded<W: Write>(
         &mut self,
         alloc: Global,
@@ -252,48 +259,51 @@ impl State {
         let went = self.scanned();
         self.held.take_success(alloc, view, notarization)?;
         effects.push(Effect::settled_notarization(view))?;
-        let raised = self.raise(view);
+        let raised = self.floor < view;
+        self.floor = self.floor.max(view);
         push_if(raised, &mut effects, Effect::Raised(view))?;
         self.scan(&mut effects, view, went, raised)?;
         Ok(effects)
     }
 
     /// Takes a false verdict.
+    #[tactic(auto, using(crate::proofs::TermStarts::room_kept, crate::proofs::TermStarts::room_of_max))]
     fn failed(&mut self, alloc: Global, view: View) -> Result<Vec<Effect>, AllocError>
         ensures keeps { OnOk result ((bytes : List ℕ) → AtEach self.old (λ views h. Keeps views self.new (Judged view bytes false ∷ h))) }
         ensures gives { IfOk result (λ given. (bytes : List ℕ) → AtEach self.old (λ views h. Gives views h (Judged view bytes false) given.items)) }
         ensures length { length_of self.new ≡ length_of self.old }
     {
         let mut effects = Vec::new(alloc);
+        let missing = self.is_missing(view);
         self.held.take_failure(view)?;
         effects.push(Effect::settled_notarization(view))?;
-        let missing = self.live && view > self.floor && !self.held.is_covered(view);
         push_if(missing, &mut effects, Effect::fetch_failed(view))?;
         Ok(effects)
     }
 
+    /// Whether the replay has ended, the view is above the floor and no nullification covers it.
+    fn is_missing(&self, view: View) -> bool
+        ensures { AtEach self.now (λ views h. result ≡ (live h && (nat_lt (floor h) view && not (covered views h view)))) }
+    {
+        if !self.live {
+            return false;
+        }
+        if view <= self.floor {
+            return false;
+        }
+        !self.held.is_covered(view)
+    }
+
     /// How far scans went: to the highest certificate's view, and nowhere before the replay has ended.
     fn scanned(&self) -> View
-        ensures { AtEach self.now (λ views h. result ≡ scanned h) }
+        ensures answer { AtEach self.now (λ views h. result ≡ scanned h) }
+        ensures room { HasRoom (length_of self.now) result }
     {
         if self.live {
             self.current
         } else {
             View::zero()
         }
-    }
-
-    /// Raises the floor to the view, and tells whether it was below.
-    fn raise(&mut self, view: View) -> bool
-        requires { HasRoom (length_of self.old) view }
-        ensures answer { result ≡ nat_lt self.old.floor view }
-        ensures raised { self.new ≡ record self.old { floor = max view self.old.floor } }
-    {
-        if view <= self.floor {
-            return false;
-        }
-        self.floor = view;
-        true
     }
 
     /// The scan behind what was taken, once the replay has ended: asks for what is missing from where it begins.
@@ -307,11 +317,11 @@ impl State {
         requires { HasRoom (length_of self.now) went }
         ensures { OnOk result ((views : ℕ) (h : List Item) (x : Item) → Keeps views self.now (x ∷ h) → went ≡ scanned h → raised ≡ nat_lt (floor h) (floor (x ∷ h)) → (asked : List Effect) × ScansBehind views h x cause asked × (effects.new.items ≡ effects.old.items ++ asked)) }
     {
-        if !self.live {
-            return Ok(());
+        if self.live {
+            let start = scan_start(went, self.floor, raised, self.held.length);
+            self.ask_from(effects, cause, start)?;
         }
-        let start = scan_start(went, self.floor, raised, self.held.length);
-        self.ask_from(effects, cause, start)
+        Ok(())
     }
 
     /// Asks for what is missing from the view on, term by term, below the highest certificate's view.

@@ -1,6 +1,6 @@
 //! Where scans begin, and how many terms they pass.
 
-ghost use Rattle.std.specs.Prelude.{◌≡◌, ◌<◌, ◌+◌, ◌-◌, ◌^◌};
+ghost use Rattle.std.specs.Prelude.{◌≡◌, ◌≤◌, ◌<◌, ◌+◌, ◌-◌, ◌^◌};
 ghost use Rattle.simplex_types.specs.Positions.{next_term_start, term_index, HasRoom};
 ghost use Rattle.simplex_resolver.specs.Outstanding.{scan_start, term_start_from};
 
@@ -33,6 +33,7 @@ pub(crate) fn scan_start(went: View, floor: View, raised: bool, length: TermLeng
 
 /// In how many terms the views from `start` to `end` lie.
 pub(crate) fn terms_between(start: View, end: View, length: TermLength) -> usize
+    requires some { 0 < length }
     requires order { term_index length start ≤ term_index length end }
     requires room { HasRoom length end }
     ensures { result ≡ term_index length end - term_index length start + 1 }
