@@ -15,8 +15,8 @@ use simplex_journal::FileDisk;
 use simplex_messages::{Activity, Notarize};
 use simplex_types::{Epoch, Participant, PlainScheme, Proposal, Round, Sha256Digest, View, Write};
 use std::alloc::{AllocError, Global};
-use std::io;
 use std::rc::Rc;
+use std::{fs, io};
 use voting::{recalled, vote_on};
 
 /// View 1 of epoch 0.
@@ -76,6 +76,7 @@ fn main(rt: HostRuntime) -> io::Result<()> {
     start(&rt, 0xaa)?;
     // The same after a crash, with another proposal from a leader that lies.
     start(&rt, 0xbb)?;
+    fs::remove_file(&rt, "record")?;
     let reports = lies(alloc, &committee(alloc, 2)?)?;
     let (guilty, fault) = guilty(alloc, &committee(alloc, 0)?, &reports)?;
     for member in &guilty {
