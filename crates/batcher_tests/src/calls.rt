@@ -124,8 +124,33 @@ pub enum Call {
     Construct,
     /// The proposal to forward, asked by this member.
     Forward(u32),
+    /// A question.
+    Ask(Question),
+}
+
+/// A question to a round.
+#[derive(Clone, Copy, Debug)]
+pub enum Question {
     /// Whether a kind is certified.
-    Has(Kind),
+    HasCertificate(Kind),
+    /// Whether this member's nullify was accepted.
+    HasNullify(u32),
+    /// Whether no vote for this payload was accepted of this member.
+    IsMissingVoter(u8, u32),
+    /// Of which members none was.
+    MissingVoters(u8),
+    /// Whether the vote is of the round.
+    Belongs(Ballot),
+    /// Whether the certificate is.
+    BelongsCertificate(Sealed),
+}
+
+/// Whether a kind is certified.
+pub fn has(kind: Kind, is_so: bool) -> (Call, Answer) {
+    (
+        Call::Ask(Question::HasCertificate(kind)),
+        Answer::Truth(is_so),
+    )
 }
 
 /// What is reported.
@@ -163,6 +188,8 @@ pub enum Answer {
     Taken(Report),
     /// Yes or no.
     Truth(bool),
+    /// These members.
+    Members(u64),
     /// Nothing more to say.
     Done,
     /// Something was constructed, or judged.

@@ -66,7 +66,7 @@ fn certifies_all(rt: &impl Abort, answer: Answer, kind: Kind) {
 #[test]
 fn a_hundred_thousand_votes_of_a_thousand_members(rt: HostRuntime) -> Result<(), Fail> {
     let mut table = plain_table(rt.alloc(), MEMBERS, Opening::Kept)?;
-    let votes = table.signed(&five_of_each(rt.alloc())?)?;
+    let votes = table.clerk.signed(&five_of_each(rt.alloc())?)?;
     assert_eq!(rt; flood(&mut table, &votes)?, [2000, 30000, 32000]);
     assert!(rt; table.answer(Call::Lead(0))? == Answer::Done);
     certifies_all(&rt, table.answer(Call::Construct)?, Kind::Notarization);

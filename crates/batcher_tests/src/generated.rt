@@ -1,6 +1,8 @@
 //! Calls as if by chance, beside the plain program.
 
-use crate::calls::{A, Answer, B, Ballot, Call, Mark, OTHER_VIEW, Sealed, VIEW, nullify, vote_on};
+use crate::calls::{
+    A, Answer, B, Ballot, Call, Mark, OTHER_VIEW, Question, Sealed, VIEW, nullify, vote_on,
+};
 use crate::chance::Chance;
 use crate::members::{plain_table, salted_table, slow_table};
 use crate::model::{KINDS, Model};
@@ -118,6 +120,19 @@ fn any_own(chance: &mut Chance, members: u64) -> Call {
     })
 }
 
+/// A question to a round of so many members.
+fn any_question(chance: &mut Chance, members: u32) -> Question {
+    let signer = chance.below(u64::from(members) + 1) as u32;
+    match chance.below(6) {
+        0 => Question::HasCertificate(any_kind(chance)),
+        1 => Question::HasNullify(signer),
+        2 => Question::IsMissingVoter(any_payload(chance), signer),
+        3 => Question::MissingVoters(any_payload(chance)),
+        4 => Question::Belongs(any_ballot(chance, FIRST, signer)),
+        _ => Question::BelongsCertificate(any_certificate(chance, members)),
+    }
+}
+
 /// A call on a round of so many members.
 fn any_call(chance: &mut Chance, marks: [Mark; 2], members: u32) -> Call {
     let some = u64::from(members).max(1);
@@ -125,9 +140,9 @@ fn any_call(chance: &mut Chance, marks: [Mark; 2], members: u32) -> Call {
         0..=2 => Call::Lead(chance.below(2) as u32),
         3..=5 => Call::Forward(chance.below(2) as u32),
         6 => Call::Record(any_certificate(chance, members)),
-        7..=8 => Call::Has(any_kind(chance)),
-        9..=11 => any_own(chance, some),
-        12..=19 => Call::Construct,
+        7..=10 => Call::Ask(any_question(chance, members)),
+        11..=13 => any_own(chance, some),
+        14..=21 => Call::Construct,
         _ => any_network(chance, marks, some),
     }
 }
@@ -175,11 +190,29 @@ fn loses_no_quorum<S: Listing<Sha256Digest> + Drop>(
     }
     assert!(rt; table.answer(Call::Construct)? == Answer::Nothing);
     for kind in KINDS {
-        let Answer::Truth(is_certified) = table.answer(Call::Has(kind))? else {
+        let Answer::Truth(is_certified) = table.answer(Call::Ask(Question::HasCertificate(kind)))?
+        else {
             return Err("whether a kind is certified".into());
         };
         let may_be_lost = kind != Kind::Nullification && model.has_replaced();
         assert!(rt; is_certified || may_be_lost || !model.has_quorum(kind));
+    }
+    Ok(())
+}
+
+/// A list of calls is answered as the plain program answers each of them.
+fn answers_in_a_row<S: Listing<Sha256Digest> + Drop>(
+    rt: &impl Abort,
+    alloc: Global,
+    table: &mut Table<S>,
+    model: &mut Model,
+    calls: &[Call],
+) -> Result<(), Fail> {
+    let answers = table.run(calls)?;
+    assert!(rt; answers.len() == calls.len());
+    for (call, answer) in calls.iter().zip(&answers) {
+        let expected = model.answer(alloc, *call)?;
+        assert!(rt; *answer == expected, "{call:?}");
     }
     Ok(())
 }
@@ -217,10 +250,28 @@ fn answers_as_the_rules<S: Listing<Sha256Digest> + Drop>(
 }
 
 #[test]
+fn ten_thousand_calls_in_lists_are_answered_by_the_rules(rt: HostRuntime) -> Result<(), Fail> {
+    let alloc = rt.alloc();
+    let mut chance = Chance::seeded(1);
+    let mut table = plain_table(alloc, 4, Opening::Kept)?;
+    for _ in 0..250 {
+        let opening = any_opening(&mut chance);
+        table.reopen(opening)?;
+        let mut model = Model::new(alloc, 4, true, opening);
+        let mut calls = Vec::with_capacity(alloc, CALLS as usize)?;
+        for _ in 0..CALLS {
+            calls.push(any_call(&mut chance, FIRST, 4))?;
+        }
+        answers_in_a_row(&rt, alloc, &mut table, &mut model, &calls)?;
+    }
+    Ok(())
+}
+
+#[test]
 fn four_members_are_answered_by_the_rules(rt: HostRuntime) -> Result<(), Fail> {
     let mut table = plain_table(rt.alloc(), 4, Opening::Kept)?;
     let play = Play {
-        rounds: 250,
+        rounds: 100,
         members: 4,
         batchable: true,
         marks: FIRST,

@@ -9,6 +9,8 @@ mod calls;
 #[cfg(test)]
 mod chance;
 #[cfg(test)]
+mod clerk;
+#[cfg(test)]
 mod flood;
 #[cfg(test)]
 mod generated;
@@ -17,6 +19,8 @@ mod members;
 #[cfg(test)]
 mod model;
 #[cfg(test)]
+mod naming;
+#[cfg(test)]
 mod one_by_one;
 #[cfg(test)]
 mod schemes;
@@ -24,5 +28,7 @@ mod schemes;
 mod selection;
 #[cfg(test)]
 mod table;
+#[cfg(test)]
+mod verifier;
 #[cfg(test)]
 mod worked;

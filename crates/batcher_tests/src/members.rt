@@ -3,6 +3,7 @@
 ghost use Rattle.std.specs.Prelude.{◌<◌, ◌≤◌};
 
 use crate::calls::{Answer, Call};
+use crate::clerk::Clerk;
 use crate::one_by_one::OneByOne;
 use crate::table::{Opening, Table, plays};
 use simplex_rules::SaltedScheme;
@@ -23,7 +24,16 @@ pub fn plain(alloc: Global, count: u32) -> Result<Vec<PlainScheme>, AllocError>
     Ok(members)
 }
 
-/// A round of a committee of so many under the plain scheme. One signs beside them who is none of them.
+/// A committee of so many under the plain scheme. One signs beside them who is none of them.
+pub fn plain_clerk(alloc: Global, count: u32) -> Result<Clerk<PlainScheme>, AllocError>
+    requires some { 0 < count }
+    requires at_most { count < 65535 }
+{
+    let scheme = PlainScheme::new(alloc, b"simplex", count, None)?;
+    Clerk::new(alloc, scheme, plain(alloc, count + 1)?)
+}
+
+/// A round of such a committee.
 pub fn plain_table(
     alloc: Global,
     count: u32,
@@ -32,9 +42,7 @@ pub fn plain_table(
     requires some { 0 < count }
     requires at_most { count < 65535 }
 {
-    let scheme = PlainScheme::new(alloc, b"simplex", count, None)?;
-    let members = plain(alloc, count + 1)?;
-    Table::new(alloc, scheme, members, opening)
+    Table::new(alloc, plain_clerk(alloc, count)?, opening)
 }
 
 /// The calls of a table on a round of a committee of so many under the plain scheme.
@@ -68,7 +76,8 @@ fn salted(alloc: Global) -> Result<Vec<SaltedScheme>, AllocError> {
 /// A round of a committee of four under the salted scheme.
 pub fn salted_table(alloc: Global, opening: Opening) -> Result<Table<SaltedScheme>, AllocError> {
     let scheme = SaltedScheme::new(alloc, b"simplex", 4, None, 0)?;
-    Table::new(alloc, scheme, salted(alloc)?, opening)
+    let clerk = Clerk::new(alloc, scheme, salted(alloc)?)?;
+    Table::new(alloc, clerk, opening)
 }
 
 /// A round of a committee of four under the plain scheme, judged one by one.
@@ -81,5 +90,6 @@ pub fn slow_table(alloc: Global, opening: Opening) -> Result<Table<OneByOne>, Al
         })?;
     }
     let plain = PlainScheme::new(alloc, b"simplex", 4, None)?;
-    Table::new(alloc, OneByOne { plain }, members, opening)
+    let clerk = Clerk::new(alloc, OneByOne { plain }, members)?;
+    Table::new(alloc, clerk, opening)
 }

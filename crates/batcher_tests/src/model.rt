@@ -1,7 +1,7 @@
 //! A round by the rules alone: a plain program that keeps the list of what happened and looks at all of it again for
 //! each answer.
 
-use crate::calls::{Answer, Ballot, Call, Made, Mark, Report, Sealed, VIEW, one};
+use crate::calls::{Answer, Ballot, Call, Made, Mark, Question, Report, Sealed, VIEW, one};
 use crate::table::Opening;
 use simplex_batcher::{BatcherFault, Kind};
 use std::alloc::{AllocError, Global};
@@ -392,6 +392,46 @@ impl Model {
         Ok(Answer::Nothing)
     }
 
+    /// Whether no vote for this payload was accepted of this member.
+    fn is_missing(&self, payload: u8, signer: u32) -> bool {
+        !self.happened.iter().any(|event| {
+            matches!(event, Event::Accepted(ballot, _)
+                if ballot.signer == signer
+                    && ballot.payload == payload
+                    && ballot.kind != Kind::Nullification)
+        })
+    }
+
+    /// Whether this member's nullify was accepted.
+    fn has_nullify(&self, signer: u32) -> bool {
+        self.happened.iter().any(|event| {
+            matches!(event, Event::Accepted(ballot, _)
+                if ballot.signer == signer && ballot.kind == Kind::Nullification)
+        })
+    }
+
+    /// What the question is answered.
+    fn ask(&self, question: Question) -> Answer {
+        match question {
+            Question::HasCertificate(kind) => Answer::Truth(self.is_complete(kind)),
+            Question::HasNullify(signer) => Answer::Truth(self.has_nullify(signer)),
+            Question::IsMissingVoter(payload, signer) => {
+                Answer::Truth(self.is_missing(payload, signer))
+            }
+            Question::MissingVoters(payload) => {
+                let mut missing = 0;
+                for signer in 0..self.members {
+                    if self.is_missing(payload, signer) {
+                        missing |= one(signer);
+                    }
+                }
+                Answer::Members(missing)
+            }
+            Question::Belongs(ballot) => Answer::Truth(ballot.view == VIEW),
+            Question::BelongsCertificate(sealed) => Answer::Truth(sealed.view == VIEW),
+        }
+    }
+
     /// What the call answers.
     pub fn answer(&mut self, alloc: Global, call: Call) -> Result<Answer, AllocError> {
         match call {
@@ -401,7 +441,7 @@ impl Model {
             Call::Lead(leader) => self.lead(leader),
             Call::Construct => self.construct(alloc),
             Call::Forward(me) => self.forward(me),
-            Call::Has(kind) => Ok(Answer::Truth(self.is_complete(kind))),
+            Call::Ask(question) => Ok(self.ask(question)),
         }
     }
 }

@@ -2,7 +2,8 @@
 //! leads.
 
 use crate::calls::{
-    A, Answer, B, Ballot, Call, Made, Report, certificate_by, comes, finalize, notarize, nullify,
+    A, Answer, B, Ballot, Call, Made, Report, certificate_by, comes, finalize, has, notarize,
+    nullify,
 };
 use crate::members::plain_plays;
 use crate::table::Opening;
@@ -70,11 +71,11 @@ fn a_skipped_round_forwards_and_makes_no_certificate(rt: HostRuntime) -> Result<
         comes(notarize(2, A)),
         comes(notarize(3, A)),
         (Call::Construct, Answer::Nothing),
-        (Call::Has(Kind::Notarization), Answer::Truth(false)),
+        has(Kind::Notarization, false),
         forwards(2, A),
         keeps(2),
         certified(Kind::Notarization, A, false),
-        (Call::Has(Kind::Notarization), Answer::Truth(true)),
+        has(Kind::Notarization, true),
     ];
     plain_plays(&rt, rt.alloc(), 4, Opening::Skipped, &rows)
 }
@@ -178,9 +179,9 @@ fn three_kinds_are_certified_in_turn(rt: HostRuntime) -> Result<(), Fail> {
         made(Kind::Notarization, A, &[0, 1, 2], 2),
         made(Kind::Nullification, 0, &[0, 1, 2], 3),
         (Call::Construct, Answer::Nothing),
-        (Call::Has(Kind::Notarization), Answer::Truth(true)),
-        (Call::Has(Kind::Nullification), Answer::Truth(true)),
-        (Call::Has(Kind::Finalization), Answer::Truth(false)),
+        has(Kind::Notarization, true),
+        has(Kind::Nullification, true),
+        has(Kind::Finalization, false),
     ];
     plain_plays(&rt, rt.alloc(), 4, Opening::Kept, &rows)
 }
