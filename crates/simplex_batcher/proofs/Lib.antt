@@ -4,6 +4,8 @@ pub mod Choosing
 pub mod Admitting
 pub mod Lawfully
 pub mod Stating
+pub mod Single
 pub mod Kept
 pub mod Rightly
 pub mod Constructing
+pub mod Reaching

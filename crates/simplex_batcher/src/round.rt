@@ -26,6 +26,8 @@ use simplex_types::{Attributable, Digest, Duplicate, Participant, Proposal, Roun
 use std::alloc::{AllocError, Global};
 use std::rc::Rc;
 
+mod queries;
+
 /// The votes of one round, on their way to certificates.
 #[derive(Drop)]
 pub struct Round<S: Scheme<D>, D: Digest> {
