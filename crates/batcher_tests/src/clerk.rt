@@ -140,8 +140,9 @@ impl<S: Listing<Sha256Digest> + Drop> Clerk<S> {
     /// The attestations of a certificate.
     fn attestations(&self, sealed: Sealed) -> Result<Vec<Attestation<S::Signature>>, AllocError> {
         let mut attestations = Vec::new(self.alloc);
-        for (index, member) in self.members.iter().enumerate() {
-            if sealed.signers & one(index as u32) != 0
+        for member in &self.members {
+            if let Some(me) = member.me()
+                && sealed.signers & one(me.get()) != 0
                 && let Some(attestation) = attested(
                     member,
                     sealed.kind,

@@ -56,6 +56,19 @@ fn evidence(recorded: Ballot, ballot: Ballot) -> Report {
     }
 }
 
+/// Whether all these votes are for one payload.
+fn are_for_one(ballots: &[Ballot]) -> bool {
+    let Some(first) = ballots.first() else {
+        return true;
+    };
+    for ballot in ballots {
+        if ballot.payload != first.payload {
+            return false;
+        }
+    }
+    true
+}
+
 /// The payload that an event fixes: that of a notarization or finalization, or of an own finalize.
 fn fixed_by(event: &Event) -> Option<u8> {
     match event {
@@ -306,9 +319,7 @@ impl Model {
         let verified = self.counted(alloc, kind, false)?;
         let waiting = self.counted(alloc, kind, true)?;
         let is_known = kind == Kind::Nullification || self.selected(&self.happened).is_some();
-        let are_one = verified
-            .windows(2)
-            .all(|two| two[0].payload == two[1].payload);
+        let are_one = are_for_one(&verified);
         if verified.len() >= self.quorum() && (is_known || are_one) {
             let certificate = self.certify(kind, &verified, &[])?;
             return Ok(Some(Made {
@@ -318,7 +329,8 @@ impl Model {
                 fallback: false,
             }));
         }
-        let enough = !self.batchable || verified.len() + waiting.len() >= self.quorum();
+        let enough = !self.batchable
+            || verified.len().saturating_add(waiting.len()) >= self.quorum();
         if !is_known || waiting.is_empty() || !enough {
             return Ok(None);
         }
@@ -338,7 +350,7 @@ impl Model {
             if ballot.mark == Mark::Broken {
                 invalid |= one(ballot.signer);
             } else {
-                good += 1;
+                good = good.saturating_add(1);
             }
         }
         let certificate = if good >= self.quorum() {

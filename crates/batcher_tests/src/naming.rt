@@ -118,10 +118,14 @@ fn listed<G>(attestations: &[Attestation<G>]) -> u64 {
 
 /// The set of these members, who have to ascend.
 pub fn ascending(members: &[Participant]) -> Result<u64, Fail> {
-    for two in members.windows(2) {
-        if two[0].get() >= two[1].get() {
+    let mut below: Option<Participant> = None;
+    for member in members {
+        if let Some(last) = below
+            && last.get() >= member.get()
+        {
             return Err("members do not ascend".into());
         }
+        below = Some(*member);
     }
     Ok(named(members))
 }

@@ -56,11 +56,16 @@ impl<S: Listing<Sha256Digest> + Drop> Desk<S> {
 
     /// Names the leader with this notarize of it: what is refused.
     fn lead(&mut self, leader: u32, notarize: Ballot) -> Result<Option<BatcherFault>, Fail> {
-        let leader = Participant::new(leader);
-        match self.clerk.vote(notarize)? {
-            Vote::Notarize(vote) => Ok(self.verifier.set_leader(leader, Some(&vote)).err()),
-            _ => Ok(self.verifier.set_leader(leader, None).err()),
-        }
+        let vote = self.clerk.vote(notarize)?;
+        let led = match &vote {
+            Vote::Notarize(vote) => Some(vote),
+            _ => None,
+        };
+        Ok(
+            self.verifier
+                .set_leader(Participant::new(leader), led)
+                .err(),
+        )
     }
 
     /// The payload of the selected proposal.
