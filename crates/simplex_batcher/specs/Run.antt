@@ -31,6 +31,11 @@ module _ {S D P G C : Type 0} where
   IsAsked attests s (AcceptVote v) = VoteAttests attests s v
   IsAsked attests s call = ⊤
 
+  -- the history after a construction of the kind that is due, if one is
+  abbrev pub after_construction : Option Kind → Option (Batch (Certificate S D P G C)) → History S D P G C → History S D P G C
+  after_construction None made h = h
+  after_construction (Some kind) made h = after kind made h
+
   module _ (same : D → D → Bool) where
     -- the answer to a vote of this round from the network
     pub record IsAdmission (s : Setup S) (h : History S D P G C) (sender : ℕ) (v : Vote S D P G C) (a : Admission S D P G C) : Type 0 where
@@ -56,21 +61,13 @@ module _ {S D P G C : Type 0} where
     AnswersQuestion s h (BelongsCertificate c) (answer.Is b) = IsTrue b ↔ (certificate_round c ≡ s.round)
     AnswersQuestion s h question a = ⊥
 
-    -- the history after a construction
-    abbrev pub after_construction : Setup S → History S D P G C → Option (Batch (Certificate S D P G C)) → History S D P G C
-    after_construction s h made = after_kind (next_kind same s h)
-      where
-        after_kind : Option Kind → History S D P G C
-        after_kind None = h
-        after_kind (Some kind) = after kind made h
-
     -- the history after a call: as before, where it was refused
     abbrev pub after_call : Setup S → History S D P G C → Call S D P G C → Answer S D P G C → History S D P G C
     after_call s h (AddNetwork sender v) (answer.Admitted a) = if takes s h sender v then Taken v ∷ h else h
     after_call s h (AcceptVote v) (answer.Cast report) = if is_none (recorded h v) then Cast v ∷ h else h
     after_call s h (RecordCertificate c) (answer.Recorded selects) = Certified c ∷ h
     after_call s h (SetLeader leader) answer.Led = if is_none (leader_of h) then Led leader ∷ h else h
-    after_call s h TryConstruct (answer.Constructed made) = after_construction s h made
+    after_call s h TryConstruct (answer.Constructed made) = after_construction (next_kind same s h) made h
     after_call s h (TryForwardProposal me) (answer.Forward p) = if is_some (forwardable h me) then Forwarded ∷ h else h
     after_call s h call a = h
 

@@ -10,6 +10,7 @@ ghost use Rattle.simplex_batcher.specs.declared.kind.Kind.TheVariants.{Notarizat
 ghost use Rattle.simplex_batcher.specs.Votes.{vote_kind, certificate_kind};
 ghost use Rattle.simplex_batcher.specs.History.{Taken, Cast, Certified, Led, Forwarded, recorded, selected, leader_of, takes, is_kept_in_full, is_complete, forwardable, is_another, next_kind};
 ghost use Rattle.simplex_batcher.specs.Lawful.{IsNew, VoteAttests, Allowed};
+ghost use Rattle.simplex_batcher.specs.Quorums.{AllCertified};
 ghost use Rattle.simplex_batcher.specs.Admission.{as_report, evidence, contradicts, IsBlocked, report_of, IsAdmissionFault, IsCastFault};
 ghost use Rattle.simplex_batcher.specs.Construction.{after, IsBatch};
 ghost use Rattle.simplex_batcher.specs.Rounds.{RoundKeeps, AtEach};
@@ -217,6 +218,8 @@ impl<S: Scheme<D>, D: Digest> Round<S, D> {
         ensures foreign { AtEach D.PartialEq.eq S.Scheme S.batchable self.old (λ s h. vote_round vote ≢ s.round → (result ≡ Err WrongRound)) }
         ensures against { AtEach D.PartialEq.eq S.Scheme S.batchable self.old (λ s h. vote_round vote ≡ s.round → contradicts D.PartialEq.eq h vote ≡ true → (result ≡ Err Contradicts)) }
         ensures refused { IfErr result (λ e. AtEach D.PartialEq.eq S.Scheme S.batchable self.old (λ s h. IsCastFault D.PartialEq.eq s h vote e)) }
+        ensures ours { IfOk result (λ report. AtEach D.PartialEq.eq S.Scheme S.batchable self.old (λ s h. vote_round vote ≡ s.round)) }
+        ensures agrees { IfOk result (λ report. AtEach D.PartialEq.eq S.Scheme S.batchable self.old (λ s h. contradicts D.PartialEq.eq h vote ≡ false)) }
         ensures report { IfOk result (λ report. AtEach D.PartialEq.eq S.Scheme S.batchable self.old (λ s h. report ≡ (if is_none (recorded h vote) then Some (as_report vote) else None))) }
         ensures ok { OnOk result (AtEach D.PartialEq.eq S.Scheme S.batchable self.old (λ s h. VoteAttests S.attests s vote → RoundKeeps D.PartialEq.eq S.Scheme S.batchable s self.new (if is_none (recorded h vote) then Cast vote ∷ h else h))) }
         ensures err { OnErr result (AtEach D.PartialEq.eq S.Scheme S.batchable self.old (λ s h. RoundKeeps D.PartialEq.eq S.Scheme S.batchable s self.new h)) }
@@ -246,6 +249,7 @@ impl<S: Scheme<D>, D: Digest> Round<S, D> {
     ) -> Result<bool, BatcherFault>
         ensures foreign { AtEach D.PartialEq.eq S.Scheme S.batchable self.old (λ s h. certificate_round certificate.now ≢ s.round → (result ≡ Err WrongRound)) }
         ensures refused { IfErr result (λ e. AtEach D.PartialEq.eq S.Scheme S.batchable self.old (λ s h. (certificate_round certificate.now ≢ s.round) × (e ≡ WrongRound))) }
+        ensures ours { IfOk result (λ selects. AtEach D.PartialEq.eq S.Scheme S.batchable self.old (λ s h. certificate_round certificate.now ≡ s.round)) }
         ensures selects { IfOk result (λ selects. AtEach D.PartialEq.eq S.Scheme S.batchable self.old (λ s h. IsTrue selects ↔ ((certificate_kind certificate.now ≡ Notarization) × (selected (Certified certificate.now ∷ h) ≢ selected h)))) }
         ensures ok { OnOk result (AtEach D.PartialEq.eq S.Scheme S.batchable self.old (λ s h. RoundKeeps D.PartialEq.eq S.Scheme S.batchable s self.new (Certified certificate.now ∷ h))) }
         ensures err { OnErr result (AtEach D.PartialEq.eq S.Scheme S.batchable self.old (λ s h. RoundKeeps D.PartialEq.eq S.Scheme S.batchable s self.new h)) }
@@ -265,6 +269,7 @@ impl<S: Scheme<D>, D: Digest> Round<S, D> {
     pub fn set_leader(&mut self, leader: Participant) -> Result<(), BatcherFault>
         ensures other { AtEach D.PartialEq.eq S.Scheme S.batchable self.old (λ s h. IfSome (leader_of h) (λ known. known ≢ leader → (result ≡ Err OtherLeader))) }
         ensures refused { IfErr result (λ e. AtEach D.PartialEq.eq S.Scheme S.batchable self.old (λ s h. (e ≡ OtherLeader) × MatchOption (leader_of h) ⊥ (λ known. known ≢ leader))) }
+        ensures named { IfOk result (λ _. AtEach D.PartialEq.eq S.Scheme S.batchable self.old (λ s h. IfSome (leader_of h) (λ known. known ≡ leader))) }
         ensures ok { OnOk result (AtEach D.PartialEq.eq S.Scheme S.batchable self.old (λ s h. RoundKeeps D.PartialEq.eq S.Scheme S.batchable s self.new (if is_none (leader_of h) then Led leader ∷ h else h))) }
         ensures err { OnErr result (AtEach D.PartialEq.eq S.Scheme S.batchable self.old (λ s h. RoundKeeps D.PartialEq.eq S.Scheme S.batchable s self.new h)) }
     {
@@ -276,12 +281,14 @@ impl<S: Scheme<D>, D: Digest> Round<S, D> {
     }
 
     /// Makes a certificate, or judges the votes that wait, of the first kind of which one of the two is due: notarization,
-    /// nullification, finalization. After an `Err` the call counts as not made.
+    /// nullification, finalization. Where nothing is due, each kind with a valid quorum has its certificate. After an `Err`
+    /// the call counts as not made.
     pub fn try_construct(
         &mut self,
         alloc: Global,
     ) -> Result<Option<Batch<Certificate<S, D>>>, AllocError>
         ensures none { IfOk result (λ made. AtEach D.PartialEq.eq S.Scheme S.batchable self.old (λ s h. is_none made ≡ is_none (next_kind D.PartialEq.eq s h))) }
+        ensures certified { IfOk result (λ made. made ≡ None → AtEach D.PartialEq.eq S.Scheme S.batchable self.old (λ s h. s.is_skipped ≡ false → AllCertified S.attests s h)) }
         ensures batch { IfOk result (λ made. IfSome made (λ batch. AtEach D.PartialEq.eq S.Scheme S.batchable self.old (λ s h. MatchOption (next_kind D.PartialEq.eq s h) ⊥ (λ kind. IsBatch S.Scheme D.PartialEq.eq s kind h batch)))) }
         ensures ok { IfOk result (λ made. AtEach D.PartialEq.eq S.Scheme S.batchable self.old (λ s h. MatchOption (next_kind D.PartialEq.eq s h) (RoundKeeps D.PartialEq.eq S.Scheme S.batchable s self.new h) (λ kind. RoundKeeps D.PartialEq.eq S.Scheme S.batchable s self.new (after kind made h)))) }
         ensures err { OnErr result (AtEach D.PartialEq.eq S.Scheme S.batchable self.old (λ s h. RoundKeeps D.PartialEq.eq S.Scheme S.batchable s self.new h)) }

@@ -71,7 +71,7 @@ fn make<S: Scheme<D>, D: Digest>(
 }
 
 /// Makes the calls, one after the other, and hands back their answers. A call that is refused counts as not made. Own
-/// votes among them have to attest.
+/// votes among them have to attest. After an `Err` none was made.
 pub fn run<S: Scheme<D>, D: Digest>(
     alloc: Global,
     round: &mut Round<S, D>,
@@ -79,10 +79,12 @@ pub fn run<S: Scheme<D>, D: Digest>(
 ) -> Result<Vec<Answer<S, D>>, AllocError>
     ensures answers { IfOk result (λ answers. AtEach D.PartialEq.eq S.Scheme S.batchable round.old (λ s h. All (IsAsked S.attests s) calls.items → AnswersAre S.Scheme D.PartialEq.eq s h calls.items answers.items)) }
     ensures keeps { IfOk result (λ answers. AtEach D.PartialEq.eq S.Scheme S.batchable round.old (λ s h. All (IsAsked S.attests s) calls.items → RoundKeeps D.PartialEq.eq S.Scheme S.batchable s round.new (after_all D.PartialEq.eq s h calls.items answers.items))) }
+    ensures err { OnErr result (round.new ≡ round.old) }
 {
     let mut answers = Vec::with_capacity(alloc, calls.len())?;
     for call in calls {
-        answers.push(make(alloc, round, call))?;
+        let answer = make(alloc, round, call);
+        answers.push_reserved(answer);
     }
     Ok(answers)
 }

@@ -81,10 +81,7 @@ pub(crate) fn is_nullify<S: Scheme<D>, D: Digest>(vote: &Vote<S, D>) -> bool
 }
 
 /// Whether the vote is a notarize or a finalize for this proposal.
-pub(crate) fn is_backing<S: Scheme<D>, D: Digest>(
-    vote: &Vote<S, D>,
-    proposal: &Proposal<D>,
-) -> bool
+pub(crate) fn is_backing<S: Scheme<D>, D: Digest>(vote: &Vote<S, D>, proposal: &Proposal<D>) -> bool
     ensures { result ≡ is_backing D.PartialEq.eq proposal.now vote.now }
 {
     match vote {

@@ -25,9 +25,9 @@ loop-index-preserved g c = λ s h k.
     let here : c.is_missing_voter.result ≡ p i = rw c.new-signer.ensures at (c.is_missing_voter.ensures s h k) in
     elim c.if-is_missing_voter.branch [
       | then-is_missing_voter+in_ok-push w ↦
-        let missing : p i ≡ true = sym here ∙ w.if-is_missing_voter.true in
-        rw (w.missing-is, w.in_ok-push.ensures.items, c.loop-index.invariant s h k, pick-more p i, missing, c.new-signer.ensures) refl
+          let missing : p i ≡ true = sym here ∙ w.if-is_missing_voter.true in
+          rw (w.missing-is, w.in_ok-push.ensures.items, c.loop-index.invariant s h k, pick-more p i, missing, c.new-signer.ensures) refl
       | else-is_missing_voter w ↦
-        let there : p i ≡ false = sym here ∙ w.if-is_missing_voter.false in
-        rw (w.missing-is, c.loop-index.invariant s h k, pick-more p i, there) (sym (append-nil (filter p (range_with_len 0 i))))
+          let there : p i ≡ false = sym here ∙ w.if-is_missing_voter.false in
+          rw (w.missing-is, c.loop-index.invariant s h k, pick-more p i, there) (sym (append-nil (filter p (range_with_len 0 i))))
     ]
