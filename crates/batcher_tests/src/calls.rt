@@ -13,7 +13,7 @@ pub const VIEW: u64 = 2;
 pub const OTHER_VIEW: u64 = 3;
 
 /// What a signature is.
-#[derive(Clone, Copy, Debug, PartialEq, Eq)]
+#[derive(Clone, Copy, PartialEq, Eq)]
 pub enum Mark {
     /// The signer's first one.
     Good,
@@ -24,7 +24,7 @@ pub enum Mark {
 }
 
 /// A vote.
-#[derive(Clone, Copy, Debug, PartialEq, Eq)]
+#[derive(Clone, Copy, PartialEq, Eq)]
 pub struct Ballot {
     /// The kind of certificate that it counts for.
     pub kind: Kind,
@@ -70,7 +70,7 @@ pub fn marked(mark: Mark, ballot: Ballot) -> Ballot {
 }
 
 /// A certificate of this kind, and whom it lists.
-#[derive(Clone, Copy, Debug, PartialEq, Eq)]
+#[derive(Clone, Copy, PartialEq, Eq)]
 pub struct Sealed {
     /// Its kind.
     pub kind: Kind,
@@ -110,7 +110,7 @@ pub fn set_of(indices: &[u32]) -> u64 {
 }
 
 /// A call on a round.
-#[derive(Clone, Copy, Debug)]
+#[derive(Clone, Copy)]
 pub enum Call {
     /// A vote from the network, handed in by this sender.
     Network(u32, Ballot),
@@ -129,7 +129,7 @@ pub enum Call {
 }
 
 /// A question to a round.
-#[derive(Clone, Copy, Debug)]
+#[derive(Clone, Copy)]
 pub enum Question {
     /// Whether a kind is certified.
     HasCertificate(Kind),
@@ -154,7 +154,7 @@ pub fn has(kind: Kind, is_so: bool) -> (Call, Answer) {
 }
 
 /// What is reported.
-#[derive(Clone, Copy, Debug, PartialEq, Eq)]
+#[derive(Clone, Copy, PartialEq, Eq)]
 pub enum Report {
     /// Nothing.
     Nothing,
@@ -165,7 +165,7 @@ pub enum Report {
 }
 
 /// What comes of a construction.
-#[derive(Clone, Copy, Debug, PartialEq, Eq)]
+#[derive(Clone, Copy, PartialEq, Eq)]
 pub struct Made {
     /// The certificate, where there is one.
     pub certificate: Option<Sealed>,
@@ -178,7 +178,7 @@ pub struct Made {
 }
 
 /// What a call answers.
-#[derive(Clone, Copy, Debug, PartialEq, Eq)]
+#[derive(Clone, Copy, PartialEq, Eq)]
 pub enum Answer {
     /// It is refused.
     Refused(BatcherFault),

@@ -166,14 +166,7 @@ fn agree<S: Listing<Sha256Digest> + Drop>(
 ) -> Result<Answer, Fail> {
     let answer = table.answer(call)?;
     let expected = model.answer(alloc, call)?;
-    assert!(rt;
-        answer == expected,
-        "{:?} on {:?}: {:?}, not {:?}",
-        call,
-        &model.happened,
-        answer,
-        expected
-    );
+    assert!(rt; answer == expected);
     Ok(answer)
 }
 
@@ -212,7 +205,7 @@ fn answers_in_a_row<S: Listing<Sha256Digest> + Drop>(
     assert!(rt; answers.len() == calls.len());
     for (call, answer) in calls.iter().zip(&answers) {
         let expected = model.answer(alloc, *call)?;
-        assert!(rt; *answer == expected, "{call:?}");
+        assert!(rt; *answer == expected);
     }
     Ok(())
 }

@@ -10,8 +10,8 @@ use std::alloc::{AllocError, Global};
 pub const KINDS: [Kind; 3] = [Kind::Notarization, Kind::Nullification, Kind::Finalization];
 
 /// What happened to a round.
-#[derive(Clone, Copy, Debug)]
-pub enum Event {
+#[derive(Clone, Copy)]
+enum Event {
     /// A vote was accepted, an own one or one from the network.
     Accepted(Ballot, bool),
     /// A certificate of this kind, for this payload, was recorded or made.
@@ -30,7 +30,7 @@ pub struct Model {
     members: u32,
     batchable: bool,
     opening: Opening,
-    pub happened: Vec<Event>,
+    happened: Vec<Event>,
 }
 
 /// Whether the second vote is of the first one's member, and of its kind or, of nullify and finalize, of either.
