@@ -162,6 +162,8 @@ pub enum Report {
     Vote(Ballot),
     /// These two votes as evidence.
     Evidence(Ballot, Ballot),
+    /// What nobody signed, or a certificate.
+    Strange,
 }
 
 /// What comes of a construction.
@@ -198,6 +200,8 @@ pub enum Answer {
     Forward(u8),
     /// There is nothing.
     Nothing,
+    /// A certificate that does not certify, or members that do not ascend.
+    Strange,
 }
 
 /// A vote is accepted, and reported.

@@ -1,15 +1,31 @@
 //! A committee whose members sign what a test names, and who names what comes of it.
 
-use crate::calls::{Ballot, Made, Mark, Report, Sealed, one};
+use crate::calls::{Answer, Ballot, Made, Mark, Report, Sealed, one};
 use crate::naming::{ascending, attested, certificate_with, named_certificate, vote_with};
 use simplex_batcher::{Batch, Kind};
-use simplex_messages::{Activity, Certificate, Vote};
+use simplex_messages::{Activity, Certificate, Finalize, Notarize, Nullify, Vote};
 use simplex_types::{
     AssemblyError, Attestation, Duplicate, Listing, Scheme, Sha256Digest, are_of_distinct_members,
 };
 use std::alloc::{AllocError, Global};
 use std::rc::Rc;
 use std::test::Fail;
+
+/// A report of one vote.
+fn voted(vote: Option<Ballot>) -> Report {
+    match vote {
+        Some(ballot) => Report::Vote(ballot),
+        None => Report::Strange,
+    }
+}
+
+/// A report of two votes.
+fn evidence(first: Option<Ballot>, second: Option<Ballot>) -> Report {
+    match (first, second) {
+        (Some(first), Some(second)) => Report::Evidence(first, second),
+        _ => Report::Strange,
+    }
+}
 
 /// A vote that was signed, and its name.
 #[derive(Drop)]
@@ -48,14 +64,14 @@ impl<S: Listing<Sha256Digest> + Drop> Clerk<S> {
         self.scheme.clone()
     }
 
-    /// A vote that its member signs.
-    fn sign(&self, ballot: Ballot) -> Result<Vote<S, Sha256Digest>, Fail> {
-        let member = self.members.get(ballot.signer as usize).ok_or("a member")?;
+    /// A vote that its member signs, where there is such a member.
+    fn sign(&self, ballot: Ballot) -> Option<Vote<S, Sha256Digest>> {
+        let member = self.members.get(ballot.signer as usize)?;
         let attestation = match ballot.mark {
-            Mark::Broken => attested(member, Kind::Nullification, 99, 0),
-            _ => attested(member, ballot.kind, ballot.view, ballot.payload),
+            Mark::Broken => attested(member, Kind::Nullification, 99, 0)?,
+            _ => attested(member, ballot.kind, ballot.view, ballot.payload)?,
         };
-        Ok(vote_with(ballot, attestation.ok_or("a key")?))
+        Some(vote_with(ballot, attestation))
     }
 
     /// The vote of this name, signed when it is asked for first.
@@ -65,73 +81,98 @@ impl<S: Listing<Sha256Digest> + Drop> Clerk<S> {
                 return Ok(signed.vote.duplicate(self.alloc)?);
             }
         }
-        let vote = self.sign(ballot)?;
+        let vote = self.sign(ballot).ok_or("a member")?;
         let copy = vote.duplicate(self.alloc)?;
         self.signed.push(Signed { ballot, vote })?;
         Ok(copy)
     }
 
-    /// The name of a vote.
-    fn named(&self, vote: &Vote<S, Sha256Digest>) -> Result<Ballot, Fail> {
-        for signed in &self.signed {
-            if signed.vote == *vote {
-                return Ok(signed.ballot);
+    /// Each of these votes, signed and not kept by name.
+    pub fn votes(&self, ballots: &[Ballot]) -> Result<Vec<Vote<S, Sha256Digest>>, AllocError> {
+        let mut votes = Vec::with_capacity(self.alloc, ballots.len())?;
+        for ballot in ballots {
+            if let Some(vote) = self.sign(*ballot) {
+                votes.push(vote)?;
             }
         }
-        Err("a vote that was never signed".into())
+        Ok(votes)
+    }
+
+    /// The name of a notarize.
+    fn notarize(&self, vote: &Notarize<S, Sha256Digest>) -> Option<Ballot> {
+        for signed in &self.signed {
+            if let Vote::Notarize(own) = &signed.vote
+                && *own == *vote
+            {
+                return Some(signed.ballot);
+            }
+        }
+        None
+    }
+
+    /// The name of a nullify.
+    fn nullify(&self, vote: &Nullify<S, Sha256Digest>) -> Option<Ballot> {
+        for signed in &self.signed {
+            if let Vote::Nullify(own) = &signed.vote
+                && *own == *vote
+            {
+                return Some(signed.ballot);
+            }
+        }
+        None
+    }
+
+    /// The name of a finalize.
+    fn finalize(&self, vote: &Finalize<S, Sha256Digest>) -> Option<Ballot> {
+        for signed in &self.signed {
+            if let Vote::Finalize(own) = &signed.vote
+                && *own == *vote
+            {
+                return Some(signed.ballot);
+            }
+        }
+        None
     }
 
     /// The name of a report.
-    pub fn reported(&self, report: Option<Activity<S, Sha256Digest>>) -> Result<Report, Fail> {
+    pub fn report(&self, report: &Option<Activity<S, Sha256Digest>>) -> Report {
         let Some(activity) = report else {
-            return Ok(Report::Nothing);
+            return Report::Nothing;
         };
         match activity {
-            Activity::Notarize(vote) => Ok(Report::Vote(self.named(&Vote::Notarize(vote))?)),
-            Activity::Nullify(vote) => Ok(Report::Vote(self.named(&Vote::Nullify(vote))?)),
-            Activity::Finalize(vote) => Ok(Report::Vote(self.named(&Vote::Finalize(vote))?)),
+            Activity::Notarize(vote) => voted(self.notarize(vote)),
+            Activity::Nullify(vote) => voted(self.nullify(vote)),
+            Activity::Finalize(vote) => voted(self.finalize(vote)),
             Activity::ConflictingNotarize(two) => {
-                let first = Vote::Notarize(two.first().duplicate(self.alloc)?);
-                let second = Vote::Notarize(two.second().duplicate(self.alloc)?);
-                self.evidence(&first, &second)
+                evidence(self.notarize(two.first()), self.notarize(two.second()))
             }
             Activity::ConflictingFinalize(two) => {
-                let first = Vote::Finalize(two.first().duplicate(self.alloc)?);
-                let second = Vote::Finalize(two.second().duplicate(self.alloc)?);
-                self.evidence(&first, &second)
+                evidence(self.finalize(two.first()), self.finalize(two.second()))
             }
             Activity::NullifyFinalize(two) => {
-                let first = Vote::Nullify(two.nullify().duplicate(self.alloc)?);
-                let second = Vote::Finalize(two.finalize().duplicate(self.alloc)?);
-                self.evidence(&first, &second)
+                evidence(self.nullify(two.nullify()), self.finalize(two.finalize()))
             }
-            _ => Err("a certificate is reported".into()),
+            _ => Report::Strange,
         }
     }
 
-    /// The name of evidence.
-    fn evidence(
-        &self,
-        first: &Vote<S, Sha256Digest>,
-        second: &Vote<S, Sha256Digest>,
-    ) -> Result<Report, Fail> {
-        Ok(Report::Evidence(self.named(first)?, self.named(second)?))
-    }
-
-    /// The name of what was constructed. A certificate has to certify.
-    pub fn made(&self, batch: &Batch<Certificate<S, Sha256Digest>>) -> Result<Made, Fail> {
+    /// The name of what was constructed.
+    pub fn made(&self, batch: &Batch<Certificate<S, Sha256Digest>>) -> Answer {
+        let Some(invalid) = ascending(&batch.invalid) else {
+            return Answer::Strange;
+        };
         let certificate = match &batch.certificate {
             Some(certificate) => {
                 if !certificate.verify(&self.scheme) {
-                    return Err("a certificate that does not certify".into());
+                    return Answer::Strange;
                 }
                 Some(named_certificate(certificate))
             }
             None => None,
         };
-        Ok(Made {
+        Answer::Constructed(Made {
             certificate,
-            invalid: ascending(&batch.invalid)?,
+            invalid,
             processed: batch.processed,
             fallback: batch.fallback,
         })
@@ -177,14 +218,5 @@ impl<S: Listing<Sha256Digest> + Drop> Clerk<S> {
             made => made?,
         };
         Ok(made.ok_or("signers of the committee")?)
-    }
-
-    /// Each of these votes is signed, so that it can be handed in without a name.
-    pub fn signed(&self, ballots: &[Ballot]) -> Result<Vec<Vote<S, Sha256Digest>>, Fail> {
-        let mut votes = Vec::with_capacity(self.alloc, ballots.len())?;
-        for ballot in ballots {
-            votes.push(self.sign(*ballot)?)?;
-        }
-        Ok(votes)
     }
 }

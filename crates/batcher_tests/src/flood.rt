@@ -2,10 +2,10 @@
 
 use crate::calls::{A, Answer, B, Ballot, Call, Made, finalize, notarize, nullify};
 use crate::members::plain_table;
-use crate::table::{Opening, Table};
-use simplex_batcher::Kind;
+use crate::table::{Counts, Opening, Table};
+use simplex_batcher::{BatcherFault, Kind};
 use simplex_messages::Vote;
-use simplex_types::{PlainScheme, Sha256Digest};
+use simplex_types::{Listing, Sha256Digest};
 use std::alloc::{AllocError, Global};
 use std::process::Abort;
 use std::test::Fail;
@@ -29,25 +29,21 @@ fn five_of_each(alloc: Global) -> Result<Vec<Ballot>, AllocError> {
     Ok(ballots)
 }
 
-/// The votes are handed in again and again: how many are accepted, how many block their member, and of how many there
-/// is a report.
-fn flood(
-    table: &mut Table<PlainScheme>,
-    votes: &[Vote<PlainScheme, Sha256Digest>],
-) -> Result<[usize; 3], Fail> {
-    let mut counts = [0usize; 3];
+/// The votes are handed in again and again.
+fn flood<S: Listing<Sha256Digest> + Drop>(
+    table: &mut Table<S>,
+    votes: &[Vote<S, Sha256Digest>],
+) -> Result<Counts, BatcherFault> {
+    let mut counts = Counts::default();
     for _ in 0..TIMES {
-        let told = table.pour(votes)?;
-        for (count, more) in counts.iter_mut().zip(told) {
-            *count = count.saturating_add(more);
-        }
+        table.pour(votes, &mut counts)?;
     }
     Ok(counts)
 }
 
 /// All votes of this kind come into its certificate.
-fn certifies_all(rt: &impl Abort, answer: Answer, kind: Kind) {
-    let whole = match answer {
+fn certifies_all(answer: &Answer, kind: Kind) -> bool {
+    match answer {
         Answer::Constructed(
             Made {
                 certificate: Some(certificate),
@@ -57,21 +53,56 @@ fn certifies_all(rt: &impl Abort, answer: Answer, kind: Kind) {
             },
         ) => certificate.kind == kind && certificate.listed == 1000,
         _ => false,
-    };
-    assert!(rt; whole);
+    }
 }
 
-// Behind the certificates the votes are released: of all that is sent again only the notarize for another proposal
-// offends, and there is no evidence of it.
+/// The notarizes and the nullifies are certified, and nothing else is.
+fn are_certified(answers: &[Answer]) -> bool {
+    match answers {
+        [led, first, second, third] => {
+            *led == Answer::Done
+                && certifies_all(first, Kind::Notarization)
+                && certifies_all(second, Kind::Nullification)
+                && *third == Answer::Nothing
+        }
+        _ => false,
+    }
+}
+
+/// The flood comes, then certificates, then the flood again. Behind the certificates the votes are released: of all that
+/// is sent again only the notarize for another proposal offends, and there is no evidence of it.
+fn withstands<S: Listing<Sha256Digest> + Drop>(
+    rt: &impl Abort,
+    alloc: Global,
+    table: &mut Table<S>,
+) -> Result<(), Fail> {
+    let votes = table.clerk.votes(&five_of_each(alloc)?)?;
+    let before = flood(table, &votes)?;
+    let construct = [
+        Call::Lead(0),
+        Call::Construct,
+        Call::Construct,
+        Call::Construct,
+    ];
+    let answers = table.run(&construct)?;
+    let behind = flood(table, &votes)?;
+    let expected = Counts {
+        accepted: 2000,
+        blocked: 30000,
+        reported: 32000,
+    };
+    assert!(rt; before == expected);
+    assert!(rt; are_certified(&answers));
+    let released = Counts {
+        blocked: 10000,
+        ..Counts::default()
+    };
+    assert!(rt; behind == released);
+    Ok(())
+}
+
 #[test]
 fn a_hundred_thousand_votes_of_a_thousand_members(rt: HostRuntime) -> Result<(), Fail> {
     let mut table = plain_table(rt.alloc(), MEMBERS, Opening::Kept)?;
-    let votes = table.clerk.signed(&five_of_each(rt.alloc())?)?;
-    assert_eq!(rt; flood(&mut table, &votes)?, [2000, 30000, 32000]);
-    assert!(rt; table.answer(Call::Lead(0))? == Answer::Done);
-    certifies_all(&rt, table.answer(Call::Construct)?, Kind::Notarization);
-    certifies_all(&rt, table.answer(Call::Construct)?, Kind::Nullification);
-    assert!(rt; table.answer(Call::Construct)? == Answer::Nothing);
-    assert_eq!(rt; flood(&mut table, &votes)?, [0, 10000, 0]);
-    Ok(())
+    withstands(&rt, rt.alloc(), &mut table)
 }

@@ -9,7 +9,7 @@ use crate::model::{KINDS, Model};
 use crate::table::{Opening, Table};
 use simplex_batcher::Kind;
 use simplex_types::{Listing, Sha256Digest};
-use std::alloc::Global;
+use std::alloc::{AllocError, Global};
 use std::process::Abort;
 use std::test::Fail;
 
@@ -87,33 +87,38 @@ fn any_certificate(chance: &mut Chance, members: u32) -> Sealed {
     }
 }
 
-/// A vote from the network by one of so many members or, rarely, by nobody of them or in another's name.
-fn any_network(chance: &mut Chance, marks: [Mark; 2], members: u64) -> Call {
-    let some = if chance.below(16) == 0 {
-        members.saturating_add(1)
-    } else {
-        members
-    };
-    let signer = if some == 0 {
+/// One of so many members.
+fn any_member(chance: &mut Chance, members: u32) -> u32 {
+    if members == 0 {
         0
     } else {
-        chance.below(some) as u32
-    };
+        chance.below(u64::from(members)) as u32
+    }
+}
+
+/// One of so many members or, rarely, one who is none of them.
+fn anyone(chance: &mut Chance, members: u32) -> u32 {
+    if chance.below(16) == 0 {
+        members
+    } else {
+        any_member(chance, members)
+    }
+}
+
+/// A vote from the network, rarely in another's name.
+fn any_network(chance: &mut Chance, marks: [Mark; 2], members: u32) -> Call {
+    let signer = anyone(chance, members);
     let ballot = any_ballot(chance, marks, signer);
     if chance.below(16) == 0 {
-        Call::Network(0, ballot)
+        Call::Network(any_member(chance, members), ballot)
     } else {
         Call::Network(signer, ballot)
     }
 }
 
 /// An own vote of one of so many members, which attests.
-fn any_own(chance: &mut Chance, members: u64) -> Call {
-    let signer = if members == 0 {
-        0
-    } else {
-        chance.below(members) as u32
-    };
+fn any_own(chance: &mut Chance, members: u32) -> Call {
+    let signer = any_member(chance, members);
     Call::Own(Ballot {
         mark: Mark::Good,
         ..any_ballot(chance, FIRST, signer)
@@ -122,7 +127,7 @@ fn any_own(chance: &mut Chance, members: u64) -> Call {
 
 /// A question to a round of so many members.
 fn any_question(chance: &mut Chance, members: u32) -> Question {
-    let signer = chance.below(u64::from(members) + 1) as u32;
+    let signer = anyone(chance, members);
     match chance.below(6) {
         0 => Question::HasCertificate(any_kind(chance)),
         1 => Question::HasNullify(signer),
@@ -135,15 +140,14 @@ fn any_question(chance: &mut Chance, members: u32) -> Question {
 
 /// A call on a round of so many members.
 fn any_call(chance: &mut Chance, marks: [Mark; 2], members: u32) -> Call {
-    let some = u64::from(members).max(1);
     match chance.below(64) {
         0..=2 => Call::Lead(chance.below(2) as u32),
         3..=5 => Call::Forward(chance.below(2) as u32),
         6 => Call::Record(any_certificate(chance, members)),
         7..=10 => Call::Ask(any_question(chance, members)),
-        11..=13 => any_own(chance, some),
+        11..=13 => any_own(chance, members),
         14..=21 => Call::Construct,
-        _ => any_network(chance, marks, some),
+        _ => any_network(chance, marks, members),
     }
 }
 
@@ -156,60 +160,6 @@ fn any_opening(chance: &mut Chance) -> Opening {
     }
 }
 
-/// The round and the plain program answer the same.
-fn agree<S: Listing<Sha256Digest> + Drop>(
-    rt: &impl Abort,
-    table: &mut Table<S>,
-    model: &mut Model,
-    alloc: Global,
-    call: Call,
-) -> Result<Answer, Fail> {
-    let answer = table.answer(call)?;
-    let expected = model.answer(alloc, call)?;
-    assert!(rt; answer == expected);
-    Ok(answer)
-}
-
-/// Asked three times, a round made each certificate for which a valid quorum is there, of notarizes and finalizes where
-/// the selected proposal replaced no other.
-fn loses_no_quorum<S: Listing<Sha256Digest> + Drop>(
-    rt: &impl Abort,
-    alloc: Global,
-    table: &mut Table<S>,
-    model: &mut Model,
-) -> Result<(), Fail> {
-    for _ in 0..3 {
-        let _answer = agree(rt, table, model, alloc, Call::Construct)?;
-    }
-    assert!(rt; table.answer(Call::Construct)? == Answer::Nothing);
-    for kind in KINDS {
-        let Answer::Truth(is_certified) = table.answer(Call::Ask(Question::HasCertificate(kind)))?
-        else {
-            return Err("whether a kind is certified".into());
-        };
-        let may_be_lost = kind != Kind::Nullification && model.has_replaced();
-        assert!(rt; is_certified || may_be_lost || !model.has_quorum(kind));
-    }
-    Ok(())
-}
-
-/// A list of calls is answered as the plain program answers each of them.
-fn answers_in_a_row<S: Listing<Sha256Digest> + Drop>(
-    rt: &impl Abort,
-    alloc: Global,
-    table: &mut Table<S>,
-    model: &mut Model,
-    calls: &[Call],
-) -> Result<(), Fail> {
-    let answers = table.run(calls)?;
-    assert!(rt; answers.len() == calls.len());
-    for (call, answer) in calls.iter().zip(&answers) {
-        let expected = model.answer(alloc, *call)?;
-        assert!(rt; *answer == expected);
-    }
-    Ok(())
-}
-
 /// What is played: how many rounds, of how many members, and with which signatures.
 #[derive(Clone, Copy)]
 struct Play {
@@ -219,8 +169,46 @@ struct Play {
     marks: [Mark; 2],
 }
 
+/// The calls on one round. At last it is asked for four constructions.
+fn any_calls(alloc: Global, chance: &mut Chance, play: Play) -> Result<Vec<Call>, AllocError> {
+    let mut calls = Vec::with_capacity(alloc, CALLS as usize)?;
+    for _ in 4..CALLS {
+        calls.push(any_call(chance, play.marks, play.members))?;
+    }
+    for _ in 0..4 {
+        calls.push(Call::Construct)?;
+    }
+    Ok(calls)
+}
+
+/// The plain program answers the calls so.
+fn answers_by_the_rules(
+    alloc: Global,
+    model: &mut Model,
+    calls: &[Call],
+    answers: &[Answer],
+) -> Result<bool, AllocError> {
+    let mut are_so = calls.len() == answers.len();
+    for (call, answer) in calls.iter().zip(answers) {
+        are_so = are_so && model.answer(alloc, *call)? == *answer;
+    }
+    Ok(are_so)
+}
+
+/// Behind three constructions nothing is due, and each valid quorum has its certificate, of notarizes and finalizes where
+/// the selected proposal replaced no other.
+fn loses_no_quorum(model: &Model, answers: &[Answer]) -> bool {
+    let mut is_none_lost = answers.last() == Some(&Answer::Nothing);
+    for kind in KINDS {
+        let may_be_lost = kind != Kind::Nullification && model.has_replaced();
+        let is_kept = model.is_complete(kind) || !model.has_quorum(kind);
+        is_none_lost = is_none_lost && (is_kept || may_be_lost);
+    }
+    is_none_lost
+}
+
 /// Rounds answer as the plain program does, and lose no quorum.
-fn answers_as_the_rules<S: Listing<Sha256Digest> + Drop>(
+fn answer_by_the_rules<S: Listing<Sha256Digest> + Drop>(
     rt: &impl Abort,
     alloc: Global,
     table: &mut Table<S>,
@@ -230,46 +218,25 @@ fn answers_as_the_rules<S: Listing<Sha256Digest> + Drop>(
     for _ in 0..play.rounds {
         let opening = any_opening(&mut chance);
         table.reopen(opening)?;
+        let calls = any_calls(alloc, &mut chance, play)?;
+        let answers = table.run(&calls)?;
         let mut model = Model::new(alloc, play.members, play.batchable, opening);
-        for _ in 0..CALLS {
-            let call = any_call(&mut chance, play.marks, play.members);
-            let _answer = agree(rt, table, &mut model, alloc, call)?;
-        }
-        if opening != Opening::Skipped {
-            loses_no_quorum(rt, alloc, table, &mut model)?;
-        }
+        assert!(rt; answers_by_the_rules(alloc, &mut model, &calls, &answers)?);
+        assert!(rt; opening == Opening::Skipped || loses_no_quorum(&model, &answers));
     }
     Ok(())
 }
 
 #[test]
-fn ten_thousand_calls_in_lists_are_answered_by_the_rules(rt: HostRuntime) -> Result<(), Fail> {
-    let alloc = rt.alloc();
-    let mut chance = Chance::seeded(1);
-    let mut table = plain_table(alloc, 4, Opening::Kept)?;
-    for _ in 0..250 {
-        let opening = any_opening(&mut chance);
-        table.reopen(opening)?;
-        let mut model = Model::new(alloc, 4, true, opening);
-        let mut calls = Vec::with_capacity(alloc, CALLS as usize)?;
-        for _ in 0..CALLS {
-            calls.push(any_call(&mut chance, FIRST, 4))?;
-        }
-        answers_in_a_row(&rt, alloc, &mut table, &mut model, &calls)?;
-    }
-    Ok(())
-}
-
-#[test]
-fn four_members_are_answered_by_the_rules(rt: HostRuntime) -> Result<(), Fail> {
+fn ten_thousand_calls_are_answered_by_the_rules(rt: HostRuntime) -> Result<(), Fail> {
     let mut table = plain_table(rt.alloc(), 4, Opening::Kept)?;
     let play = Play {
-        rounds: 100,
+        rounds: 250,
         members: 4,
         batchable: true,
         marks: FIRST,
     };
-    answers_as_the_rules(&rt, rt.alloc(), &mut table, play)
+    answer_by_the_rules(&rt, rt.alloc(), &mut table, play)
 }
 
 #[test]
@@ -281,7 +248,7 @@ fn seven_members_are_answered_by_the_rules(rt: HostRuntime) -> Result<(), Fail> 
         batchable: true,
         marks: FIRST,
     };
-    answers_as_the_rules(&rt, rt.alloc(), &mut table, play)
+    answer_by_the_rules(&rt, rt.alloc(), &mut table, play)
 }
 
 #[test]
@@ -293,7 +260,7 @@ fn votes_signed_each_time_anew_are_answered_by_the_rules(rt: HostRuntime) -> Res
         batchable: true,
         marks: SECOND,
     };
-    answers_as_the_rules(&rt, rt.alloc(), &mut table, play)
+    answer_by_the_rules(&rt, rt.alloc(), &mut table, play)
 }
 
 #[test]
@@ -305,5 +272,5 @@ fn votes_judged_one_by_one_are_answered_by_the_rules(rt: HostRuntime) -> Result<
         batchable: false,
         marks: FIRST,
     };
-    answers_as_the_rules(&rt, rt.alloc(), &mut table, play)
+    answer_by_the_rules(&rt, rt.alloc(), &mut table, play)
 }

@@ -108,7 +108,7 @@ impl Model {
     }
 
     /// Whether a kind is certified.
-    fn is_complete(&self, kind: Kind) -> bool {
+    pub fn is_complete(&self, kind: Kind) -> bool {
         self.happened.iter().any(|event| matches!(event, Event::Certified(of, _) if *of == kind))
     }
 

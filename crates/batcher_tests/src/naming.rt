@@ -8,7 +8,6 @@ use simplex_messages::{
 use simplex_types::{
     Attestation, Epoch, Listing, Participant, Proposal, Round, Scheme, Sha256Digest, Subject, View,
 };
-use std::test::Fail;
 
 /// A view of epoch 0.
 pub fn round(view: u64) -> Round {
@@ -116,25 +115,18 @@ fn listed<G>(attestations: &[Attestation<G>]) -> u64 {
     set
 }
 
-/// The set of these members, who have to ascend.
-pub fn ascending(members: &[Participant]) -> Result<u64, Fail> {
+/// The set of these members, where they ascend.
+pub fn ascending(members: &[Participant]) -> Option<u64> {
+    let mut set = 0;
     let mut below: Option<Participant> = None;
     for member in members {
         if let Some(last) = below
             && last.get() >= member.get()
         {
-            return Err("members do not ascend".into());
+            return None;
         }
         below = Some(*member);
-    }
-    Ok(named(members))
-}
-
-/// The set of these members.
-fn named(members: &[Participant]) -> u64 {
-    let mut set = 0;
-    for member in members {
         set |= one(member.get());
     }
-    set
+    Some(set)
 }

@@ -4,7 +4,7 @@ use crate::calls::{Answer, Call, Question, VIEW};
 use crate::clerk::Clerk;
 use crate::naming::{ascending, payload_of, proposal, round};
 use simplex_batcher::{
-    Answer as Told, BatcherFault, Call as Asked, Question as Query, Round as Votes, run,
+    Admission, Answer as Told, BatcherFault, Call as Asked, Question as Query, Round as Votes, run,
 };
 use simplex_messages::Vote;
 use simplex_types::{Attributable, Duplicate, Listing, Participant, Scheme, Sha256Digest};
@@ -22,6 +22,23 @@ pub enum Opening {
     Tracked,
     /// The round is passed over.
     Skipped,
+}
+
+/// How many votes were accepted, how many blocked their member, and of how many there was a report.
+#[derive(Clone, Copy, Default, PartialEq, Eq)]
+pub struct Counts {
+    pub accepted: usize,
+    pub blocked: usize,
+    pub reported: usize,
+}
+
+impl Counts {
+    /// Counts a vote.
+    fn add(&mut self, accepted: bool, blocked: bool, reported: bool) {
+        self.accepted = self.accepted.saturating_add(usize::from(accepted));
+        self.blocked = self.blocked.saturating_add(usize::from(blocked));
+        self.reported = self.reported.saturating_add(usize::from(reported));
+    }
 }
 
 /// A round of a committee, all of whose members sign.
@@ -63,19 +80,26 @@ impl<S: Listing<Sha256Digest> + Drop> Table<S> {
         Ok(())
     }
 
-    /// Each of these votes is handed in by its member: how many are accepted, how many block their member, and of how
-    /// many there is a report.
-    pub fn pour(&mut self, votes: &[Vote<S, Sha256Digest>]) -> Result<[usize; 3], Fail> {
-        let mut counts = [0usize; 3];
+    /// A vote is handed in by its member.
+    fn hand_in(
+        &mut self,
+        vote: &Vote<S, Sha256Digest>,
+    ) -> Result<Admission<S, Sha256Digest>, BatcherFault> {
+        let copy = vote.duplicate(self.alloc)?;
+        self.votes.add_network(self.alloc, vote.signer(), copy)
+    }
+
+    /// Each of these votes is handed in by its member, and what is told of it is counted.
+    pub fn pour(
+        &mut self,
+        votes: &[Vote<S, Sha256Digest>],
+        counts: &mut Counts,
+    ) -> Result<(), BatcherFault> {
         for vote in votes {
-            let copy = vote.duplicate(self.alloc)?;
-            let admission = self.votes.add_network(self.alloc, vote.signer(), copy)?;
-            let told = [admission.added, admission.block, admission.report.is_some()];
-            for (count, is_so) in counts.iter_mut().zip(told) {
-                *count = count.saturating_add(usize::from(is_so));
-            }
+            let admission = self.hand_in(vote)?;
+            counts.add(admission.added, admission.block, admission.report.is_some());
         }
-        Ok(counts)
+        Ok(())
     }
 
     /// The question of this name.
@@ -110,103 +134,71 @@ impl<S: Listing<Sha256Digest> + Drop> Table<S> {
     }
 
     /// The name of an answer.
-    fn named_answer(&self, told: Told<S, Sha256Digest>) -> Result<Answer, Fail> {
+    fn named(&self, told: &Told<S, Sha256Digest>) -> Answer {
         match told {
             Told::Admitted(admission) => {
-                let report = self.clerk.reported(admission.report)?;
-                Ok(Answer::Admitted(admission.added, admission.block, report))
+                let report = self.clerk.report(&admission.report);
+                Answer::Admitted(admission.added, admission.block, report)
             }
-            Told::Cast(report) => Ok(Answer::Taken(self.clerk.reported(report)?)),
-            Told::Recorded(selects) => Ok(Answer::Truth(selects)),
-            Told::Led => Ok(Answer::Done),
-            Told::Constructed(Some(batch)) => Ok(Answer::Constructed(self.clerk.made(&batch)?)),
-            Told::Constructed(None) => Ok(Answer::Nothing),
-            Told::Forward(Some(proposal)) => Ok(Answer::Forward(payload_of(&proposal))),
-            Told::Forward(None) => Ok(Answer::Nothing),
-            Told::Is(is_so) => Ok(Answer::Truth(is_so)),
-            Told::Members(members) => Ok(Answer::Members(ascending(&members)?)),
-            Told::Refused(fault) => Ok(Answer::Refused(fault)),
+            Told::Cast(report) => Answer::Taken(self.clerk.report(report)),
+            Told::Recorded(selects) => Answer::Truth(*selects),
+            Told::Led => Answer::Done,
+            Told::Constructed(Some(batch)) => self.clerk.made(batch),
+            Told::Constructed(None) => Answer::Nothing,
+            Told::Forward(Some(proposal)) => Answer::Forward(payload_of(proposal)),
+            Told::Forward(None) => Answer::Nothing,
+            Told::Is(is_so) => Answer::Truth(*is_so),
+            Told::Members(members) => match ascending(members) {
+                Some(set) => Answer::Members(set),
+                None => Answer::Strange,
+            },
+            Told::Refused(fault) => Answer::Refused(*fault),
         }
     }
 
-    /// Makes a call by its own name.
-    fn make(&mut self, call: Asked<S, Sha256Digest>) -> Told<S, Sha256Digest> {
-        match call {
-            Asked::AddNetwork(sender, vote) => {
-                match self.votes.add_network(self.alloc, sender, vote) {
-                    Ok(admission) => Told::Admitted(admission),
-                    Err(fault) => Told::Refused(fault),
-                }
-            }
-            Asked::AcceptVote(vote) => match self.votes.accept_vote(self.alloc, vote) {
-                Ok(report) => Told::Cast(report),
-                Err(fault) => Told::Refused(fault),
-            },
-            Asked::RecordCertificate(certificate) => {
-                match self.votes.record_certificate(&certificate) {
-                    Ok(selects) => Told::Recorded(selects),
-                    Err(fault) => Told::Refused(fault),
-                }
-            }
-            Asked::SetLeader(leader) => match self.votes.set_leader(leader) {
-                Ok(()) => Told::Led,
-                Err(fault) => Told::Refused(fault),
-            },
-            Asked::TryConstruct => match self.votes.try_construct(self.alloc) {
-                Ok(made) => Told::Constructed(made),
-                Err(AllocError) => Told::Refused(BatcherFault::Memory),
-            },
-            Asked::TryForwardProposal(me) => Told::Forward(self.votes.try_forward_proposal(me)),
-            Asked::Ask(question) => self.ask(&question),
+    /// These calls.
+    fn list(&mut self, calls: &[Call]) -> Result<Vec<Asked<S, Sha256Digest>>, Fail> {
+        let mut list = Vec::with_capacity(self.alloc, calls.len())?;
+        for call in calls {
+            list.push(self.spelled(*call)?)?;
         }
+        Ok(list)
     }
 
-    /// Asks a question by its own name.
-    fn ask(&self, question: &Query<S, Sha256Digest>) -> Told<S, Sha256Digest> {
-        match question {
-            Query::HasCertificate(kind) => Told::Is(self.votes.has_certificate(*kind)),
-            Query::HasNullify(signer) => Told::Is(self.votes.has_nullify(*signer)),
-            Query::IsMissingVoter(proposal, signer) => {
-                Told::Is(self.votes.is_missing_voter(proposal, *signer))
-            }
-            Query::MissingVoters(proposal) => {
-                match self.votes.missing_voters(self.alloc, proposal) {
-                    Ok(missing) => Told::Members(missing),
-                    Err(AllocError) => Told::Refused(BatcherFault::Memory),
-                }
-            }
-            Query::Belongs(vote) => Told::Is(self.votes.belongs(vote)),
-            Query::BelongsCertificate(certificate) => {
-                Told::Is(self.votes.belongs_certificate(certificate))
-            }
+    /// The names of these answers.
+    fn names(&self, told: &[Told<S, Sha256Digest>]) -> Result<Vec<Answer>, AllocError> {
+        let mut names = Vec::with_capacity(self.alloc, told.len())?;
+        for told in told {
+            names.push(self.named(told))?;
         }
-    }
-
-    /// What the call answers, made once.
-    fn once(&mut self, call: Call) -> Result<Answer, Fail> {
-        let asked = self.spelled(call)?;
-        let told = self.make(asked);
-        self.named_answer(told)
+        Ok(names)
     }
 
     /// What the calls answer, made in a row.
     pub fn run(&mut self, calls: &[Call]) -> Result<Vec<Answer>, Fail> {
-        let mut asked = Vec::with_capacity(self.alloc, calls.len())?;
-        for call in calls {
-            asked.push(self.spelled(*call)?)?;
-        }
-        let mut answers = Vec::with_capacity(self.alloc, calls.len())?;
-        for told in run(self.alloc, &mut self.votes, asked)? {
-            answers.push(self.named_answer(told)?)?;
-        }
-        Ok(answers)
+        let list = self.list(calls)?;
+        let told = run(self.alloc, &mut self.votes, list)?;
+        Ok(self.names(&told)?)
     }
 
     /// What the call answers: where its memory is refused, what the same call answers then.
-    pub fn answer(&mut self, call: Call) -> Result<Answer, Fail> {
-        match self.once(call)? {
-            Answer::Refused(BatcherFault::Memory) => self.once(call),
-            answer => Ok(answer),
+    fn answer(&mut self, call: Call) -> Result<Answer, Fail> {
+        let answer = self.once(call)?;
+        if answer != Answer::Refused(BatcherFault::Memory) {
+            return Ok(answer);
+        }
+        self.once(call)
+    }
+
+    /// What the call answers, made once.
+    fn once(&mut self, call: Call) -> Result<Answer, Fail> {
+        let list = self.list(&[call])?;
+        match run(self.alloc, &mut self.votes, list) {
+            Ok(told) => match told.first() {
+                Some(told) => Ok(self.named(told)),
+                None => Ok(Answer::Strange),
+            },
+            Err(AllocError) => Ok(Answer::Refused(BatcherFault::Memory)),
         }
     }
 }
