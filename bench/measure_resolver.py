@@ -70,7 +70,7 @@ def main():
             growth = [f"{now / then:.1f}" for now, then in zip(costs, before)] if before else ["", ""]
             print(
                 f"| {held:,} | {costs[0]:.3f} | {growth[0]} | {costs[1]:.3f} | {growth[1]} |"
-                f" {costs[1] / costs[0]:.2f} |"
+                f" {costs[1] / costs[0]:.2g} |"
             )
             before = costs
         print()
