@@ -13,15 +13,17 @@ use std::alloc::{AllocError, Global};
 
 /// The certificates and verdicts that came to a member, what it has to ask for by them, and what it answers to those
 /// who ask it. It asks for nothing before the end of the replay of its record.
+///
+/// A call costs a logarithm in what is held, for itself and for each of its effects. What is finalized is dropped, once.
 #[derive(Drop)]
 pub struct State {
-    pub(crate) held: Held,
+    held: Held,
     /// The highest view of a certificate, or 0.
-    pub(crate) current: View,
+    current: View,
     /// The highest view that was finalized or certified, or 0.
-    pub(crate) floor: View,
+    floor: View,
     /// Whether the replay has ended.
-    pub(crate) live: bool,
+    live: bool,
     ghost some: { 0 < held.length },
     ghost current_room: { HasRoom held.length current },
     ghost floor_room: { HasRoom held.length floor },
@@ -42,6 +44,7 @@ impl State {
         ensures keeps { Keeps term_length result [] }
         ensures length { length_of result ≡ term_length }
     {
+        // The proof takes from the number how large it can be.
         let _views = term_length.get();
         State {
             held: Held::new(alloc, term_length),
@@ -109,7 +112,8 @@ impl State {
         }
     }
 
-    /// Takes the end of the replay, and tells what is to be fetched. After an `Err` the state may be used no more.
+    /// Takes the end of the replay, and tells what is to be fetched. It looks at each false verdict above the floor. After
+    /// an `Err` the state may be used no more.
     ///
     /// # Errors
     ///
