@@ -2,7 +2,7 @@
 
 use crate::assertions::holds;
 use crate::samples::{Item, certified, three};
-use simplex_journal::{Disk, Journal, JournalFault, MemoryDisk};
+use simplex_journal::{BOUND, Disk, Journal, JournalFault, MemoryDisk};
 use simplex_types::Read;
 use std::alloc::{AllocError, Global};
 use std::process::Abort;
@@ -54,7 +54,7 @@ fn assert_appends(
     artifact: &Item,
     left: &[u8],
 ) -> Result<(), Fail> {
-    if !artifact.is_within(65_535) {
+    if !artifact.is_within(BOUND) {
         return Err(Fail::from("not within the bound"));
     }
     let Ok((mut journal, _)) = Kept::open(alloc, MemoryDisk::new(alloc)) else {

@@ -109,7 +109,7 @@ fn members_of(
     size: u32,
     indices: &[u32],
 ) -> Result<Vec<PlainScheme>, Fail> {
-    if base.len() > 255 || size > 65535 {
+    if base.len() > PlainScheme::MAX_BASE || size > PlainScheme::MAX_PARTICIPANTS {
         return Err("no committee".into());
     }
     let mut members = Vec::new(alloc);

@@ -1,111 +1,130 @@
 //! The answers of the other calls, once each.
 
-use crate::samples::{A, B, Notarized, certificate, first_key, holds, payload, proposal, round_of};
-use simplex_round::Token;
-use simplex_types::{Duplicate, Participant};
+use crate::known::{Added, Known};
+use crate::samples::{A, B, holds};
 use std::test::Fail;
 
 #[test]
 fn a_leader_builds_once_until_it_gives_the_build_back(rt: HostRuntime) -> Result<(), Fail> {
-    let alloc = rt.alloc();
-    let mut round = round_of(alloc, 0, 0)?;
-    holds(&rt, round.should_propose());
-    let leader = round.try_propose().ok_or("the leader builds")?;
-    holds(&rt, leader.idx == Participant::new(0));
-    holds(&rt, Some(leader.key) == first_key(alloc)?);
-    holds(&rt, round.try_propose().is_none());
-    round.clear_proposal_request();
-    holds(&rt, round.should_propose());
-    holds(&rt, !round.request_verify());
-    holds(&rt, round.set_proposal(&proposal(A)));
-    holds(&rt, !round.should_propose());
+    let mut view = Known::new(rt.alloc(), 0, 0)?;
+    holds(&rt, view.should_propose());
+    holds(&rt, view.try_propose() == Some(0));
+    holds(&rt, view.try_propose().is_none());
+    view.clear_proposal_request();
+    holds(&rt, view.should_propose());
+    holds(&rt, !view.request_verify());
+    holds(&rt, view.set_proposal(A));
+    holds(&rt, !view.should_propose());
+    holds(&rt, !view.proposed(1000, B));
     Ok(())
 }
 
 #[test]
 fn another_members_proposal_is_verified_once(rt: HostRuntime) -> Result<(), Fail> {
-    let mut round = round_of(rt.alloc(), 1, 0)?;
-    holds(&rt, !round.should_propose());
-    holds(&rt, round.pending_verification().is_none());
-    holds(&rt, round.set_proposal(&proposal(A)));
-    let (leader, held) = round.pending_verification().ok_or("one is due")?;
-    holds(&rt, leader.idx == Participant::new(0));
-    holds(&rt, held == proposal(A));
-    holds(&rt, round.request_verify());
-    holds(&rt, !round.request_verify());
-    holds(&rt, round.pending_verification().is_none());
-    holds(&rt, round.verified());
-    holds(&rt, !round.verified());
-    holds(&rt, round.is_verified());
+    let mut view = Known::new(rt.alloc(), 1, 0)?;
+    holds(&rt, !view.should_propose());
+    holds(&rt, view.pending_verification().is_none());
+    holds(&rt, view.set_proposal(A));
+    holds(&rt, view.pending_verification() == Some((0, A)));
+    holds(&rt, view.request_verify());
+    holds(&rt, !view.request_verify());
+    holds(&rt, view.pending_verification().is_none());
+    holds(&rt, view.verified());
+    holds(&rt, !view.verified());
+    holds(&rt, view.is_verified());
+    Ok(())
+}
+
+#[test]
+fn nothing_is_asked_for_behind_an_own_nullify(rt: HostRuntime) -> Result<(), Fail> {
+    let mut leading = Known::new(rt.alloc(), 0, 0)?;
+    holds(&rt, leading.construct_nullify() == Some(false));
+    holds(&rt, !leading.should_propose());
+    holds(&rt, leading.try_propose().is_none());
+    let mut following = Known::new(rt.alloc(), 1, 0)?;
+    holds(&rt, following.set_proposal(A));
+    holds(&rt, following.construct_nullify() == Some(false));
+    holds(&rt, following.pending_verification().is_none());
+    holds(&rt, !following.request_verify());
     Ok(())
 }
 
 #[test]
 fn the_leader_is_a_member(rt: HostRuntime) -> Result<(), Fail> {
     let alloc = rt.alloc();
-    let mut round = round_of(alloc, 1, 4)?;
-    holds(&rt, round.leader().is_none());
-    round.set_leader(Participant::new(0));
-    round.set_leader(Participant::new(4));
-    let leader = round.leader().ok_or("member 0 leads")?.duplicate(alloc)?;
-    holds(&rt, leader.idx == Participant::new(0));
-    holds(&rt, Some(leader.key) == first_key(alloc)?);
-    holds(&rt, round.is_signer(Participant::new(1)));
-    holds(&rt, !round.is_signer(Participant::new(0)));
+    let mut view = Known::new(alloc, 1, 4)?;
+    holds(&rt, view.leader(alloc)?.is_none());
+    view.set_leader(0);
+    view.set_leader(4);
+    holds(&rt, view.leader(alloc)? == Some(0));
+    holds(&rt, view.is_signer(1));
+    holds(&rt, !view.is_signer(0));
     Ok(())
 }
 
 #[test]
 fn a_proposal_is_bound_until_it_is_unbound(rt: HostRuntime) -> Result<(), Fail> {
-    let mut round = round_of(rt.alloc(), 1, 0)?;
-    holds(&rt, round.verifying().is_none());
-    round.set_verifying(proposal(A), payload(B));
-    holds(&rt, round.verifying() == Some((proposal(A), payload(B))));
-    round.clear_verifying();
-    holds(&rt, round.verifying().is_none());
+    let mut view = Known::new(rt.alloc(), 1, 0)?;
+    holds(&rt, view.verifying().is_none());
+    view.set_verifying(A, B);
+    holds(&rt, view.verifying() == Some((A, B)));
+    view.clear_verifying();
+    holds(&rt, view.verifying().is_none());
     Ok(())
 }
 
 #[test]
 fn a_verdict_is_asked_for_until_it_is_given_up(rt: HostRuntime) -> Result<(), Fail> {
     let alloc = rt.alloc();
-    let mut round = round_of(alloc, 1, 0)?;
-    let notarization: Notarized = certificate(alloc, A, [0, 2, 3])?;
-    let (_is_first, _leader) = round.add_notarization(notarization);
-    holds(&rt, round.pending_certification() == Some(proposal(A)));
-    round.set_certify_handle(Token(7));
-    holds(&rt, round.pending_certification().is_none());
-    let withdrawn = round.abort_certify().ok_or("a request stands")?;
-    holds(&rt, withdrawn.0 == 7);
-    holds(&rt, round.abort_certify().is_none());
-    holds(&rt, round.pending_certification().is_none());
+    let mut view = Known::new(alloc, 1, 0)?;
+    let added = view.add_notarization(alloc, A, [0, 2, 3]);
+    holds(&rt, added == Added::First);
+    holds(&rt, view.pending_certification() == Some(A));
+    view.set_certify_handle(7);
+    holds(&rt, view.pending_certification().is_none());
+    holds(&rt, view.abort_certify() == Some(7));
+    holds(&rt, view.abort_certify().is_none());
+    holds(&rt, view.pending_certification().is_none());
+    Ok(())
+}
+
+#[test]
+fn a_verdict_that_is_given_up_or_came_is_not_asked_for(rt: HostRuntime) -> Result<(), Fail> {
+    let alloc = rt.alloc();
+    let mut given_up = Known::new(alloc, 1, 0)?;
+    holds(&rt, given_up.abort_certify().is_none());
+    let added = given_up.add_notarization(alloc, A, [0, 2, 3]);
+    holds(&rt, added == Added::First);
+    holds(&rt, given_up.pending_certification().is_none());
+    let mut judged = Known::new(alloc, 1, 0)?;
+    judged.certified(false);
+    let added = judged.add_notarization(alloc, A, [0, 2, 3]);
+    holds(&rt, added == Added::First);
+    holds(&rt, judged.pending_certification().is_none());
     Ok(())
 }
 
 #[test]
 fn the_first_verdict_stays(rt: HostRuntime) -> Result<(), Fail> {
-    let mut round = round_of(rt.alloc(), 1, 0)?;
-    round.set_certify_handle(Token(7));
-    round.certified(true);
-    round.certified(false);
-    holds(&rt, round.is_certified());
-    round.set_certify_handle(Token(8));
-    holds(&rt, round.abort_certify().is_none());
-    holds(&rt, round.is_certified());
+    let mut view = Known::new(rt.alloc(), 1, 0)?;
+    view.set_certify_handle(7);
+    view.certified(true);
+    view.certified(false);
+    holds(&rt, view.is_certified());
+    view.set_certify_handle(8);
+    holds(&rt, view.abort_certify().is_none());
+    holds(&rt, view.is_certified());
     Ok(())
 }
 
 #[test]
 fn a_differing_recovered_proposal_names_the_leader(rt: HostRuntime) -> Result<(), Fail> {
-    let alloc = rt.alloc();
-    let mut round = round_of(alloc, 1, 0)?;
-    holds(&rt, round.add_recovered_proposal(&proposal(A)).is_none());
-    holds(&rt, round.has_unequivocated_proposal());
-    holds(&rt, round.add_recovered_proposal(&proposal(A)).is_none());
-    let leader = round.add_recovered_proposal(&proposal(B));
-    holds(&rt, leader.is_some());
-    holds(&rt, leader == first_key(alloc)?);
-    holds(&rt, round.proposal() == Some(proposal(B)));
-    holds(&rt, !round.has_unequivocated_proposal());
+    let mut view = Known::new(rt.alloc(), 1, 0)?;
+    holds(&rt, view.add_recovered_proposal(A).is_none());
+    holds(&rt, view.has_unequivocated_proposal());
+    holds(&rt, view.add_recovered_proposal(A).is_none());
+    holds(&rt, view.add_recovered_proposal(B) == Some(0));
+    holds(&rt, view.proposal() == Some(B));
+    holds(&rt, !view.has_unequivocated_proposal());
     Ok(())
 }

@@ -6,6 +6,8 @@ mod answers;
 #[cfg(test)]
 mod certificates;
 #[cfg(test)]
+mod known;
+#[cfg(test)]
 mod samples;
 #[cfg(test)]
 mod slots;

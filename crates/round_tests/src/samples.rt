@@ -1,18 +1,9 @@
-//! What several tests need: rounds of view 2, proposals for it, and certificates and votes on these.
-
-ghost use Rattle.std.specs.Prelude.{◌<◌};
+//! What several tests need: proposals for view 2, and certificates and votes on these.
 
 use simplex_messages::{Artifact, Finalization, Notarization, Nullification};
-use simplex_round::Round as ViewRound;
-use simplex_types::{
-    Epoch, Participant, PlainKey, PlainScheme, Proposal, Read, Round, Scheme, Sha256Digest, View,
-};
+use simplex_types::{CodecError, Epoch, PlainScheme, Proposal, Read, Round, Sha256Digest, View};
 use std::alloc::{AllocError, Global};
 use std::process::Abort;
-use std::rc::Rc;
-use std::test::Fail;
-
-pub type Known = ViewRound<PlainScheme, Sha256Digest>;
 
 pub type Kept = Artifact<PlainScheme, Sha256Digest>;
 
@@ -22,15 +13,10 @@ pub type Nullified = Nullification<PlainScheme, Sha256Digest>;
 
 pub type Finalized = Finalization<PlainScheme, Sha256Digest>;
 
-/// The byte that 32 times is a payload, and that of another one.
+/// The byte that 32 times is a payload, and that of another one. They name the proposals too.
 pub const A: u8 = 0xaa;
 
 pub const B: u8 = 0xbb;
-
-/// The tags of own votes in a record.
-pub const NOTARIZE: u8 = 0;
-
-pub const FINALIZE: u8 = 5;
 
 /// Asserts what a test says.
 pub fn holds(rt: &impl Abort, is_so: bool) {
@@ -52,35 +38,6 @@ pub fn proposal(byte: u8) -> Proposal<Sha256Digest> {
     Proposal::new(position(), View::new(1), payload(byte))
 }
 
-/// A committee of four, seen by this member.
-fn committee(alloc: Global, me: u32) -> Result<PlainScheme, AllocError>
-    requires { me < 4 }
-{
-    PlainScheme::new(alloc, b"simplex", 4, Some(Participant::new(me)))
-}
-
-/// What this member of four knows of view 2, which the other one leads.
-pub fn round_of(alloc: Global, me: u32, leader: u32) -> Result<Known, AllocError>
-    requires { me < 4 }
-{
-    let scheme = Rc::new(alloc, committee(alloc, me)?)?;
-    let mut round = ViewRound::new(scheme, position());
-    round.set_leader(Participant::new(leader));
-    Ok(round)
-}
-
-/// The key of the first of four members.
-pub fn first_key(alloc: Global) -> Result<Option<PlainKey>, AllocError> {
-    let scheme = committee(alloc, 0)?;
-    Ok(Scheme::<Sha256Digest>::key(&scheme, Participant::new(0)))
-}
-
-/// The value that these bytes spell for a committee of four.
-pub fn read<T: Read>(alloc: Global, bytes: &[u8]) -> Result<T, Fail> {
-    let mut rest = bytes;
-    Ok(T::read_cfg(alloc, &mut rest, 4)?)
-}
-
 /// The bytes of a certificate that begins so, by these members. What stands for their signatures attests
 /// nothing: a round doesn't look at it.
 fn certified(alloc: Global, head: &[u8], signers: [u8; 3]) -> Result<Vec<u8>, AllocError> {
@@ -92,39 +49,78 @@ fn certified(alloc: Global, head: &[u8], signers: [u8; 3]) -> Result<Vec<u8>, Al
     Ok(bytes)
 }
 
-/// The bytes of the proposal of this payload.
-fn spelled(alloc: Global, byte: u8) -> Result<Vec<u8>, AllocError> {
-    let mut bytes = Vec::from_slice(alloc, &[0, 2, 1])?;
-    bytes.extend_from_slice(&[byte; 32])?;
-    Ok(bytes)
+/// The bytes of the proposal of this payload, and behind them those of a certificate by these members.
+fn spelled(alloc: Global, byte: u8, signers: [u8; 3]) -> Result<Vec<u8>, AllocError> {
+    let mut head = Vec::from_slice(alloc, &[0, 2, 1])?;
+    head.extend_from_slice(&[byte; 32])?;
+    certified(alloc, &head, signers)
 }
 
-/// A notarization or finalization of the proposal of this payload, by these members.
-pub fn certificate<T: Read>(alloc: Global, byte: u8, signers: [u8; 3]) -> Result<T, Fail> {
-    let head = spelled(alloc, byte)?;
-    let bytes = certified(alloc, &head, signers)?;
-    read(alloc, &bytes)
+/// The notarization of the proposal of this payload, by these members.
+pub fn notarization(alloc: Global, byte: u8, signers: [u8; 3]) -> Result<Notarized, CodecError> {
+    let bytes = spelled(alloc, byte, signers)?;
+    let mut rest = bytes.as_slice();
+    Ok(Notarized::read_cfg(alloc, &mut rest, 4)?)
+}
+
+/// The finalization of the proposal of this payload, by these members.
+pub fn finalization(alloc: Global, byte: u8, signers: [u8; 3]) -> Result<Finalized, CodecError> {
+    let bytes = spelled(alloc, byte, signers)?;
+    let mut rest = bytes.as_slice();
+    Ok(Finalized::read_cfg(alloc, &mut rest, 4)?)
 }
 
 /// The nullification of view 2 by the last three members.
-pub fn nullification(alloc: Global) -> Result<Nullified, Fail> {
+pub fn nullification(alloc: Global) -> Result<Nullified, CodecError> {
     let bytes = certified(alloc, &[0, 2], [1, 2, 3])?;
-    read(alloc, &bytes)
+    let mut rest = bytes.as_slice();
+    Ok(Nullified::read_cfg(alloc, &mut rest, 4)?)
 }
 
-/// An own vote of member 1 for the proposal of this payload, behind the tag of its kind, as it stands in a record.
-pub fn own_vote(alloc: Global, tag: u8, byte: u8) -> Result<Kept, Fail> {
+/// What these bytes of a record spell.
+fn kept(alloc: Global, bytes: &[u8]) -> Result<Kept, CodecError> {
+    let mut rest = bytes;
+    Ok(Kept::read_cfg(alloc, &mut rest, 4)?)
+}
+
+/// An own vote of member 1 for the proposal of this payload, behind the tag of its kind.
+fn own_vote(alloc: Global, tag: u8, byte: u8) -> Result<Kept, CodecError> {
     let mut bytes = Vec::from_slice(alloc, &[tag, 0, 2, 1])?;
     bytes.extend_from_slice(&[byte; 32])?;
     bytes.extend_from_slice(&[1; 33])?;
-    read(alloc, &bytes)
+    kept(alloc, &bytes)
+}
+
+/// The own notarize of member 1 for the proposal of this payload, as it stands in a record.
+pub fn own_notarize(alloc: Global, byte: u8) -> Result<Kept, CodecError> {
+    own_vote(alloc, 0, byte)
+}
+
+/// The own finalize of member 1 for the proposal of this payload, as it stands in a record.
+pub fn own_finalize(alloc: Global, byte: u8) -> Result<Kept, CodecError> {
+    own_vote(alloc, 5, byte)
 }
 
 /// The own nullify of member 1 for view 2, as it stands in a record.
-pub fn own_nullify(alloc: Global) -> Result<Kept, Fail> {
+pub fn own_nullify(alloc: Global) -> Result<Kept, CodecError> {
     let mut bytes = [1; 36];
     bytes[0] = 3;
     bytes[1] = 0;
     bytes[2] = 2;
-    read(alloc, &bytes)
+    kept(alloc, &bytes)
+}
+
+/// The notarization of the first payload's proposal, as it stands in a record.
+pub fn kept_notarization(alloc: Global) -> Result<Kept, CodecError> {
+    Ok(Kept::Notarization(notarization(alloc, A, [0, 2, 3])?))
+}
+
+/// The nullification of view 2, as it stands in a record.
+pub fn kept_nullification(alloc: Global) -> Result<Kept, CodecError> {
+    Ok(Kept::Nullification(nullification(alloc)?))
+}
+
+/// The finalization of the first payload's proposal, as it stands in a record.
+pub fn kept_finalization(alloc: Global) -> Result<Kept, CodecError> {
+    Ok(Kept::Finalization(finalization(alloc, A, [0, 2, 3])?))
 }

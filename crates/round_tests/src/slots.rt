@@ -59,6 +59,8 @@ fn the_proposal_of_a_certificate_is_verified_once(rt: HostRuntime) {
     holds(&rt, !slot.record_verified(proposal(B)));
     holds(&rt, slot.proposal().copied() == Some(proposal(A)));
     holds(&rt, slot.status() == Status::Unverified);
+    holds(&rt, !slot.should_build());
+    holds(&rt, slot.should_verify());
     holds(&rt, slot.request_verify());
     holds(&rt, !slot.request_verify());
     holds(&rt, slot.mark_verified());

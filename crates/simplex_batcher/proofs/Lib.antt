@@ -4,6 +4,11 @@ pub mod Choosing
 pub mod Admitting
 pub mod Lawfully
 pub mod Stating
+pub mod Single
 pub mod Kept
 pub mod Rightly
 pub mod Constructing
+pub mod Reaching
+pub mod Finishing
+pub mod Summing
+pub mod Ending

@@ -2,6 +2,7 @@ pub mod Judging
 pub mod Votes
 pub mod History
 pub mod Lawful
+pub mod Queries
 pub mod Pools
 pub mod Keeping
 pub mod Admission
@@ -9,3 +10,4 @@ pub mod Tracking
 pub mod Rounds
 pub mod Construction
 pub mod Quorums
+pub mod Run

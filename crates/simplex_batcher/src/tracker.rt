@@ -1,13 +1,14 @@
 //! The accepted votes of each member.
 
-ghost use Rattle.std.specs.Prelude.{◌≡◌, ◌∷◌, [], List, OnOk, OnErr, None, Some, find, is_some, true};
+ghost use Rattle.std.specs.Prelude.{◌≡◌, ◌∷◌, ◌||◌, [], List, OnOk, OnErr, None, Some, find, is_some, true};
 ghost use Rattle.std.specs.Option.{option_copied, option_and_then};
 ghost use Rattle.simplex_messages.specs.declared.vote.Vote.{Vote};
 ghost use Rattle.simplex_messages.specs.VoteParts.{vote_signer};
 ghost use Rattle.simplex_batcher.specs.Votes.{is_in_way, is_notarize_of, is_other_of, notarized_proposal};
-ghost use Rattle.simplex_batcher.specs.Tracking.{TrackerKeeps};
+ghost use Rattle.simplex_batcher.specs.Queries.{is_nullify, is_backing};
+ghost use Rattle.simplex_batcher.specs.Tracking.{TrackerKeeps, passes};
 
-use crate::votes::is_notarize;
+use crate::votes::{is_backing, is_notarize, is_nullify};
 use simplex_messages::Vote;
 use simplex_types::{Attributable, Digest, Participant, Proposal, Scheme};
 use std::alloc::{AllocError, Global};
@@ -41,11 +42,22 @@ impl<S: Scheme<D>, D: Digest> VoteTracker<S, D> {
         }
     }
 
-    /// This member's nullify or finalize.
-    pub(crate) fn other_of(&self, signer: Participant) -> Option<&Vote<S, D>>
-        ensures { (votes : List (Vote S D S.PublicKey S.Signature S.Certificate)) → TrackerKeeps self.now votes → option_copied result ≡ find (is_other_of signer) votes }
+    /// Whether this member voted to nullify.
+    pub(crate) fn has_nullify(&self, signer: Participant) -> bool
+        ensures { (votes : List (Vote S D S.PublicKey S.Signature S.Certificate)) → TrackerKeeps self.now votes → result ≡ passes is_nullify (find (is_other_of signer) votes) }
     {
-        self.others.get(&signer.get())
+        match self.others.get(&signer.get()) {
+            Some(vote) => is_nullify(vote),
+            None => false,
+        }
+    }
+
+    /// Whether this member voted to notarize or to finalize the proposal.
+    pub(crate) fn has_backed(&self, signer: Participant, proposal: &Proposal<D>) -> bool
+        ensures { (votes : List (Vote S D S.PublicKey S.Signature S.Certificate)) → TrackerKeeps self.now votes → result ≡ (passes (is_backing D.PartialEq.eq proposal.now) (find (is_notarize_of signer) votes) || passes (is_backing D.PartialEq.eq proposal.now) (find (is_other_of signer) votes)) }
+    {
+        is_for(self.notarizes.get(&signer.get()), proposal)
+            || is_for(self.others.get(&signer.get()), proposal)
     }
 
     /// The accepted vote that stands in the way of this one.
@@ -93,5 +105,15 @@ pub(crate) fn notarized_in<S: Scheme<D>, D: Digest>(vote: &Vote<S, D>) -> Option
         Vote::Notarize(vote) => Some(vote.proposal),
         Vote::Nullify(_) => None,
         Vote::Finalize(_) => None,
+    }
+}
+
+/// Whether there is a vote, and it is to notarize or to finalize the proposal.
+fn is_for<S: Scheme<D>, D: Digest>(vote: Option<&Vote<S, D>>, proposal: &Proposal<D>) -> bool
+    ensures { result ≡ passes (is_backing D.PartialEq.eq proposal.now) (option_copied vote.entry) }
+{
+    match vote {
+        Some(vote) => is_backing(vote, proposal),
+        None => false,
     }
 }

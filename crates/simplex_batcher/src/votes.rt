@@ -6,6 +6,7 @@ ghost use Rattle.simplex_messages.specs.VoteParts.{vote_round, vote_signer};
 ghost use Rattle.simplex_messages.specs.Certificate.{certificate_round, certificate_statement, certified_by};
 ghost use Rattle.simplex_batcher.specs.Votes.{is_kind, vote_kind, vote_proposal, vote_statement, vote_attestation, certificate_kind, certificate_proposal, is_notarize_of, fixed_proposal};
 ghost use Rattle.simplex_batcher.specs.History.{is_candidate};
+ghost use Rattle.simplex_batcher.specs.Queries.{is_nullify, is_backing};
 
 use crate::kind::Kind;
 use simplex_messages::{Certificate, Finalization, Notarization, Nullification, Vote};
@@ -65,6 +66,28 @@ pub(crate) fn is_notarize<S: Scheme<D>, D: Digest>(vote: &Vote<S, D>) -> bool
         Vote::Notarize(_) => true,
         Vote::Nullify(_) => false,
         Vote::Finalize(_) => false,
+    }
+}
+
+/// Whether the vote is a nullify.
+pub(crate) fn is_nullify<S: Scheme<D>, D: Digest>(vote: &Vote<S, D>) -> bool
+    ensures { result ≡ is_nullify vote.now }
+{
+    match vote {
+        Vote::Notarize(_) => false,
+        Vote::Nullify(_) => true,
+        Vote::Finalize(_) => false,
+    }
+}
+
+/// Whether the vote is a notarize or a finalize for this proposal.
+pub(crate) fn is_backing<S: Scheme<D>, D: Digest>(vote: &Vote<S, D>, proposal: &Proposal<D>) -> bool
+    ensures { result ≡ is_backing D.PartialEq.eq proposal.now vote.now }
+{
+    match vote {
+        Vote::Notarize(vote) => vote.proposal == *proposal,
+        Vote::Nullify(_) => false,
+        Vote::Finalize(vote) => vote.proposal == *proposal,
     }
 }
 

@@ -1,13 +1,12 @@
 -- What the program writes for what it reads.
-use Rattle.std.specs.Prelude.{◌≡◌, ◌<◌, ℕ, List, ◌++◌, length, codes, Option}
+use Rattle.std.specs.Prelude.{◌≡◌, ℕ, List, ◌++◌, length, codes, Option}
 use Rattle.std.specs.Ordering.{nat_cmp}
 use Rattle.std.specs.Cmp.Lexicographic.{slice_cmp, pointwise}
 use Rattle.std.specs.Prelude.{◌==◌}
 use Rattle.std.specs.Io.KnownBytes.{Appends}
 use Rattle.simplex_types.specs.declared.attestation.Attestation.{Attestation}
 use Rattle.simplex_types.specs.Codec.{Readable, bytes_at}
-use Rattle.simplex_types.specs.Plain.{Committee, signature}
-use Rattle.simplex_types.specs.Subject.{Statement}
+use Rattle.simplex_types.specs.Plain.{Committee, Attests}
 use Rattle.simplex_messages.specs.declared.activity.Activity.{Activity}
 use Rattle.simplex_types.specs.AttestationList.{list_fits, list_within, list_spelling, list_at}
 use Rattle.simplex_messages.specs.Activity.{activity_fits, activity_within, activity_spelling, activity_at}
@@ -18,18 +17,15 @@ use Rattle.simplex_cli.specs.declared.input.InputError.TheVariants as unread
 use Rattle.simplex_cli.specs.declared.trouble.Trouble.{Trouble}
 use Rattle.simplex_cli.specs.declared.trouble.Trouble.TheVariants as trouble
 
--- a signature of the plain scheme of so many members over the base `simplex`
-abbrev pub plain_attests : ℕ → ℕ → Statement (List ℕ) → List ℕ → Type 0
-plain_attests count i statement a = (i < count) × (a ≡ signature (λ d. d) (codes "simplex") i statement)
-
 -- reports of the plain scheme over SHA-256 digests
 abbrev pub Report : Type 0
 Report = Activity Committee (List ℕ) ℕ (List ℕ) (List (Attestation (List ℕ)))
 
--- the text is the lines of the audit of these bytes, which named this place
+-- the text is the lines of the audit of these bytes, which named this place: whose signatures count is said by the plain
+-- scheme of so many members over the base `simplex`
 pub record IsAnswer (count : ℕ) (bytes : List ℕ) (fault : Option ℕ) (text : List ℕ) : Type 0 where
   pub evidence : List Report
-  pub audit : IsAudit (λ c. c) (plain_attests count) (slice_cmp nat_cmp) (Readable (activity_fits (pointwise ◌==◌) (λ d. length d ≡ 32) (λ s. length s ≡ 32) (list_fits (λ s. length s ≡ 32))) (activity_within (list_within count))) (activity_spelling (λ d. d) (λ s. s) (list_spelling (λ s. s))) (activity_at (pointwise ◌==◌) (bytes_at 32) (bytes_at 32) (list_at (bytes_at 32) count)) bytes evidence fault
+  pub audit : IsAudit (λ c. c) (Attests (λ d. d) (codes "simplex") count) (slice_cmp nat_cmp) (Readable (activity_fits (pointwise ◌==◌) (λ d. length d ≡ 32) (λ s. length s ≡ 32) (list_fits (λ s. length s ≡ 32))) (activity_within (list_within count))) (activity_spelling (λ d. d) (λ s. s) (list_spelling (λ s. s))) (activity_at (pointwise ◌==◌) (bytes_at 32) (bytes_at 32) (list_at (bytes_at 32) count)) bytes evidence fault
   pub text_is : text ≡ lines_of evidence fault
 
 -- the lines of the audit of these bytes, which named this place, were written

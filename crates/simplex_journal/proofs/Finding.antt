@@ -2,7 +2,8 @@
 use Rattle.std.proofs.Common.{◌≡◌, ◌≢◌, inl, inr, ℕ, ◌+◌, ◌-◌, ◌<◌, ◌≤◌, List, [], ◌∷◌, ◌++◌, length, get_or, take, drop, refl, sym, ◌∙◌, ap, subst, arith, append_assoc, length-append, length-take, length-drop, take-append-drop, map}
 use Rattle.std.specs.List.{All}
 use Rattle.std.proofs.lemmas.List.{map-append}
-use Rattle.simplex_journal.specs.Record.{size, HasEntry, IsEnd, IsLeft, IsFound, IsNone, IsForeign}
+use Rattle.simplex_types.specs.Codec.{SpellsNone}
+use Rattle.simplex_journal.specs.Record.{size, HasEntry, IsEnd, IsLeft, IsFound, IsForeign}
 use Rattle.simplex_journal.proofs.Images.{entries_push}
 
 pub end_first : (bytes : List ℕ) → get_or bytes 0 0 ≢ 1 → IsEnd bytes
@@ -53,7 +54,7 @@ left_next spelling bytes rest body after messages m left entry is =
     })
 
 -- where what begins here is no message's, the place is foreign
-pub foreign_at : {M : Type 0} (Fits : M → Type 0) (spelling : M → List ℕ) (bytes rest body after : List ℕ) (place : ℕ) (messages : List M) → All Fits messages → IsLeft [] bytes rest (map spelling messages) → HasEntry rest body after → IsNone Fits spelling body
+pub foreign_at : {M : Type 0} (Fits : M → Type 0) (spelling : M → List ℕ) (bytes rest body after : List ℕ) (place : ℕ) (messages : List M) → All Fits messages → IsLeft [] bytes rest (map spelling messages) → HasEntry rest body after → SpellsNone Fits spelling body
     → place ≡ length bytes - length rest → IsForeign [] Fits spelling bytes place
 foreign_at Fits spelling bytes rest body after place messages fitting left entry none is = record {
   messages = messages;

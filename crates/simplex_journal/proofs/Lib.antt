@@ -7,6 +7,5 @@ pub mod Finding
 pub mod Total
 pub mod Reopened
 pub mod Held
-pub mod Messages
 pub mod Refusals
 pub mod Histories

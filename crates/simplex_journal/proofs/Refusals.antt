@@ -2,7 +2,8 @@
 use Rattle.std.proofs.Common.{◌≡◌, inr, ℕ, ◌<◌, List, [], ◌∷◌, ◌++◌, length, map, refl, sym, ◌∙◌, ap, subst, arith, append_assoc, length-append}
 use Rattle.std.specs.Prelude.{All}
 use Rattle.std.proofs.lemmas.List.Elements.{All-head, All-tail}
-use Rattle.simplex_journal.specs.Record.{HasEntry, AreEntries, Reads, IsLeft, IsNone, IsForeign, end_of}
+use Rattle.simplex_types.specs.Codec.{SpellsNone}
+use Rattle.simplex_journal.specs.Record.{HasEntry, AreEntries, Reads, IsLeft, IsForeign, end_of}
 use Rattle.simplex_journal.proofs.Finding.{left_first}
 use Rattle.simplex_journal.proofs.Total.{reads_any, reads_next, next_of, unique}
 
@@ -80,7 +81,7 @@ module _ {M : Type 0} {Fits : M → Type 0} {spelling : M → List ℕ} where
         place_is = f.place_is ∙ entries_long f.left.front _ f.left.entries ∙ sym (entries_long cut.left.front _ cut.left.entries);
       }
 
-  none_among : (messages first : List M) (body : List ℕ) (more : List (List ℕ)) → All Fits messages → map spelling messages ≡ map spelling first ++ body ∷ more → IsNone Fits spelling body → ⊥
+  none_among : (messages first : List M) (body : List ℕ) (more : List (List ℕ)) → All Fits messages → map spelling messages ≡ map spelling first ++ body ∷ more → SpellsNone Fits spelling body → ⊥
   none_among [] [] body more fit same none = absurd cc
   none_among [] (m ∷ first) body more fit same none = absurd cc
   none_among (m ∷ messages) [] body more fit same none = let head : body ≡ spelling m = cc in none m (All-head Fits m messages fit) head

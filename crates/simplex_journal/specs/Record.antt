@@ -1,5 +1,6 @@
 -- The record on a disk: entries of an open gate, a length in four bytes and a body, and then a closed gate.
 use Rattle.std.specs.Prelude.{◌≡◌, ◌⊎◌, ◌+◌, ◌*◌, ◌<◌, ℕ, List, [], ◌∷◌, ◌++◌, length, map, All}
+use Rattle.simplex_types.specs.Codec.{SpellsNone}
 use Rattle.simplex_journal.specs.Disk.{Call, Synced, MayLeave}
 
 -- the number that four bytes spell, most significant first
@@ -79,17 +80,13 @@ pub record IsFixed (seen : List ℕ) (calls : List Call) : Type 0 where
   pub earlier : List Call
   pub is : calls ≡ Synced seen ∷ earlier
 
--- it reads as something reads that a crash might have left after these calls
+-- the image reads as a record that a crash after these calls might have left
 pub record IsReopened (calls : List Call) (image : List ℕ) : Type 0 where
   pub before : List ℕ
   pub bodies : List (List ℕ)
   pub left : MayLeave calls before
   pub reads_before : Reads before bodies
   pub reads : Reads image bodies
-
--- no message that can be read is spelled by these bytes
-abbrev pub IsNone : {M : Type 0} → (M → Type 0) → (M → List ℕ) → List ℕ → Type 0
-IsNone {M} Fits spelling body = (message : M) → Fits message → body ≡ spelling message → ⊥
 
 -- the bytes have whole entries of messages, and at this place an open entry that is whole and of none
 pub record IsForeign (head : List ℕ) {M : Type 0} (Fits : M → Type 0) (spelling : M → List ℕ) (bytes : List ℕ) (place : ℕ) : Type 0 where
@@ -100,5 +97,5 @@ pub record IsForeign (head : List ℕ) {M : Type 0} (Fits : M → Type 0) (spell
   pub body : List ℕ
   pub after : List ℕ
   pub entry : HasEntry rest body after
-  pub none : IsNone Fits spelling body
+  pub none : SpellsNone Fits spelling body
   pub place_is : place ≡ length (head ++ left.front)

@@ -2,15 +2,15 @@
 
 ghost use Rattle.std.specs.Prelude.{◌≡◌, ◌⊎◌, ◌↔◌, ◌+◌, ◌<◌, [], ℕ, length, take, drop, map, All, IfOk, IfErr, IfSome, IfNone, IsTrue};
 ghost use Rattle.simplex_types.specs.Codec.{Readable};
-ghost use Rattle.simplex_journal.specs.Record.{HasEntry, IsEnd, IsFound, IsForeign, IsNone};
+ghost use Rattle.simplex_journal.specs.Record.{HasEntry, IsEnd, IsFound, IsForeign};
 ghost use Rattle.simplex_journal.specs.declared.fault.JournalFault.TheVariants.{Foreign, Memory};
 
 use crate::fault::JournalFault;
-use simplex_types::{CodecError, Read};
-use std::alloc::{AllocError, Global};
+use simplex_types::{Read, decode_cfg};
+use std::alloc::Global;
 
-/// The bound on a committee's size under which messages are read.
-pub(crate) const BOUND: u32 = 65_535;
+/// The bound on a committee's size under which messages are read: no committee has more members.
+pub const BOUND: u32 = 65_535;
 
 /// The messages of a record, and the place of the gate behind the last.
 #[derive(Drop)]
@@ -48,42 +48,21 @@ fn first_entry(bytes: &[u8]) -> Option<usize>
     Some(size)
 }
 
-/// The message that the body is, if it is exactly one.
-fn message_of<M: Read + Drop>(alloc: Global, body: &[u8]) -> Result<Option<M>, AllocError>
-    ensures some { IfOk result (λ found. IfSome found (λ m. (body.now ≡ M.spelling m) × Readable M.fits (M.within 65535) m)) }
-    ensures none { IfOk result (λ found. IfNone found (IsNone (Readable M.fits (M.within 65535)) M.spelling body.now)) }
-{
-    let mut rest = body;
-    match M::read_cfg(alloc, &mut rest, BOUND) {
-        Ok(message) => {
-            if rest.is_empty() {
-                Ok(Some(message))
-            } else {
-                Ok(None)
-            }
-        }
-        Err(CodecError::Memory) => Err(AllocError),
-        Err(CodecError::End) => Ok(None),
-        Err(CodecError::Invalid) => Ok(None),
-        Err(CodecError::TooLong) => Ok(None),
-    }
-}
-
 /// Reads the entries up to where no whole open one begins.
 pub(crate) fn read_entries<M: Read + Drop>(
     alloc: Global,
     bytes: &[u8],
 ) -> Result<Entries<M>, JournalFault>
     ensures found { IfOk result (λ entries. IsFound [] bytes.now entries.gate (map M.spelling entries.messages.items)) }
-    ensures fitting { IfOk result (λ entries. All (Readable M.fits (M.within 65535)) entries.messages.items) }
-    ensures faults { IfErr result (λ fault. (fault ≡ Memory) ⊎ ((place : ℕ) × (fault ≡ Foreign place) × IsForeign [] (Readable M.fits (M.within 65535)) M.spelling bytes.now place)) }
+    ensures fitting { IfOk result (λ entries. All (Readable M.fits (M.within BOUND)) entries.messages.items) }
+    ensures faults { IfErr result (λ fault. (fault ≡ Memory) ⊎ ((place : ℕ) × (fault ≡ Foreign place) × IsForeign [] (Readable M.fits (M.within BOUND)) M.spelling bytes.now place)) }
 {
     let mut messages = Vec::new(alloc);
     let mut rest = bytes;
     while let Some(size) = first_entry(rest) {
         let (_, behind) = rest.split_at(5);
         let (body, after) = behind.split_at(size);
-        let Some(message) = message_of(alloc, body)? else {
+        let Some(message) = decode_cfg(alloc, body, BOUND)? else {
             return Err(JournalFault::Foreign((bytes.len() - rest.len()) as u64));
         };
         messages.push(message)?;

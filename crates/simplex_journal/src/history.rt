@@ -8,6 +8,7 @@ ghost use Rattle.simplex_journal.specs.declared.history.Request.TheVariants.{Ope
 ghost use Rattle.simplex_journal.specs.History.{OfMessage, request_of, disk_of, MayRead, AtEachEvent, IsTrueOf, Finds, Remembers, IsAnswer, IsStage, GoesOn, failures_after, failures_told, Comes, CameBy};
 
 use crate::disk::Disk;
+use crate::entries::BOUND;
 use crate::fault::JournalFault;
 use crate::journal::Journal;
 use crate::memory_disk::MemoryDisk;
@@ -101,7 +102,7 @@ impl<M: Read + EncodeSize + Drop, K: Crash> Stage<M, K> {
         ensures answer { (history : List (Event M)) → IsStage self history → IsAnswer history result.1 × IsStage result.0 (result.1 ∷ history) }
         ensures cause { K.failed (disk_of result.0) ≡ failures_after result.1 (K.failed (disk_of self)) }
         ensures comes { Comes K.keeps K.calls K.crashed K.failed result.1 (disk_of self) (disk_of result.0) }
-        ensures stands { K.keeps → GoesOn (Readable M.fits (M.within 65535)) M.spelling K.seen K.calls self result.0 result.1 }
+        ensures stands { K.keeps → GoesOn (Readable M.fits (M.within BOUND)) M.spelling K.seen K.calls self result.0 result.1 }
     {
         match Journal::open(alloc, self.into_disk()) {
             Ok((journal, messages)) => (Stage::Open(journal), Event::Opened(messages)),
@@ -111,12 +112,12 @@ impl<M: Read + EncodeSize + Drop, K: Crash> Stage<M, K> {
 
     /// Appends a message to the journal that is open.
     fn append(self, message: M) -> (Self, Event<M>)
-        requires { M.within 65535 message }
+        requires { M.within BOUND message }
         ensures asked { request_of result.1 ≡ Append message }
         ensures answer { (history : List (Event M)) → IsStage self history → IsAnswer history result.1 × IsStage result.0 (result.1 ∷ history) }
         ensures cause { K.failed (disk_of result.0) ≡ failures_after result.1 (K.failed (disk_of self)) }
         ensures comes { Comes K.keeps K.calls K.crashed K.failed result.1 (disk_of self) (disk_of result.0) }
-        ensures stands { K.keeps → GoesOn (Readable M.fits (M.within 65535)) M.spelling K.seen K.calls self result.0 result.1 }
+        ensures stands { K.keeps → GoesOn (Readable M.fits (M.within BOUND)) M.spelling K.seen K.calls self result.0 result.1 }
     {
         let mut journal = match self {
             Stage::Open(journal) => journal,
@@ -134,7 +135,7 @@ impl<M: Read + EncodeSize + Drop, K: Crash> Stage<M, K> {
         ensures answer { (history : List (Event M)) → IsStage self history → IsAnswer history result.1 × IsStage result.0 (result.1 ∷ history) }
         ensures cause { K.failed (disk_of result.0) ≡ failures_after result.1 (K.failed (disk_of self)) }
         ensures comes { Comes K.keeps K.calls K.crashed K.failed result.1 (disk_of self) (disk_of result.0) }
-        ensures stands { K.keeps → GoesOn (Readable M.fits (M.within 65535)) M.spelling K.seen K.calls self result.0 result.1 }
+        ensures stands { K.keeps → GoesOn (Readable M.fits (M.within BOUND)) M.spelling K.seen K.calls self result.0 result.1 }
     {
         let mut disk = self.into_disk();
         disk.crash();
@@ -143,12 +144,12 @@ impl<M: Read + EncodeSize + Drop, K: Crash> Stage<M, K> {
 
     /// Does what is asked.
     fn step(self, alloc: Global, request: Request<M>) -> (Self, Event<M>)
-        requires { OfMessage (M.within 65535) request }
+        requires { OfMessage (M.within BOUND) request }
         ensures asked { request_of result.1 ≡ request }
         ensures answer { (history : List (Event M)) → IsStage self history → IsAnswer history result.1 × IsStage result.0 (result.1 ∷ history) }
         ensures cause { K.failed (disk_of result.0) ≡ failures_after result.1 (K.failed (disk_of self)) }
         ensures comes { Comes K.keeps K.calls K.crashed K.failed result.1 (disk_of self) (disk_of result.0) }
-        ensures stands { K.keeps → GoesOn (Readable M.fits (M.within 65535)) M.spelling K.seen K.calls self result.0 result.1 }
+        ensures stands { K.keeps → GoesOn (Readable M.fits (M.within BOUND)) M.spelling K.seen K.calls self result.0 result.1 }
     {
         match request {
             Request::Open => self.open(alloc),
@@ -175,12 +176,12 @@ pub fn run<M: Read + EncodeSize + Drop, K: Crash>(
     disk: K,
     requests: Vec<Request<M>>,
 ) -> Result<History<M, K>, (AllocError, K)>
-    requires { All (OfMessage (M.within 65535)) requests.items }
+    requires { All (OfMessage (M.within BOUND)) requests.items }
     ensures asked { IfOk result (λ history. map request_of history.events.items ≡ requests.items) }
     ensures answers { IfOk result (λ history. AtEachEvent IsAnswer (reverse history.events.items)) }
     ensures cause { IfOk result (λ history. K.failed history.disk ≡ failures_told (K.failed disk) (reverse history.events.items)) }
     ensures came { IfOk result (λ history. CameBy M.spelling K.keeps K.calls K.crashed K.failed disk (reverse history.events.items) history.disk) }
-    ensures refusals { IfOk result (λ history. K.keeps → AtEachEvent (IsTrueOf (Readable M.fits (M.within 65535)) M.spelling (K.calls disk)) (reverse history.events.items)) }
+    ensures refusals { IfOk result (λ history. K.keeps → AtEachEvent (IsTrueOf (Readable M.fits (M.within BOUND)) M.spelling (K.calls disk)) (reverse history.events.items)) }
     ensures finds { IfOk result (λ history. K.keeps → AtEachEvent (Finds M.spelling (K.calls disk)) (reverse history.events.items)) }
     ensures remembers { IfOk result (λ history. K.keeps → AtEachEvent Remembers (reverse history.events.items)) }
     ensures next_opening { IfOk result (λ history. K.keeps → (image : List ℕ) → MayLeave (K.calls history.disk) image → MayRead M.spelling (K.calls disk) (reverse history.events.items) image) }

@@ -8,6 +8,7 @@ ghost use Rattle.simplex_journal.specs.Journal.{IsRecord, IsTooLong};
 ghost use Rattle.simplex_journal.specs.Record.{Spells, Reads, IsAtRest, IsForeign, IsWithOrWithout, IsReopened};
 
 use crate::disk::{Disk, DiskFault};
+use crate::entries::BOUND;
 use crate::fault::JournalFault;
 use crate::opening::open_disk;
 use simplex_types::{EncodeSize, Read, Write};
@@ -52,19 +53,19 @@ impl<M: Read + EncodeSize + Drop, K: Disk> Journal<M, K> {
     pub fn open(alloc: Global, disk: K) -> Result<(Self, Vec<M>), (JournalFault, K)>
         ensures record { IfOk result (λ opened. K.keeps → IsRecord M.spelling K.seen K.calls opened.0 opened.1.items) }
         ensures fresh { IfOk result (λ opened. opened.0.failed ≡ false) }
-        ensures readable { IfOk result (λ opened. All (Readable M.fits (M.within 65535)) opened.1.items) }
+        ensures readable { IfOk result (λ opened. All (Readable M.fits (M.within BOUND)) opened.1.items) }
         ensures found { IfOk result (λ opened. K.keeps → (before : List ℕ) × MayLeave (K.calls disk) before × Reads before (map M.spelling opened.1.items)) }
         ensures reading { IfOk result (λ opened. K.keeps → Reads (K.seen disk) (map M.spelling opened.1.items)) }
 
-        // A crash at any moment leaves what reads as something that a crash might have left before.
+        // After a crash at any moment of the opening the disk reads as a record that a crash before it might have left.
         ensures any_moment { IfOk result (λ opened. K.keeps → LeavesOnly (K.calls disk) (K.calls opened.0.disk) (IsReopened (K.calls disk))) }
         ensures any_moment_of_a_fault { IfErr result (λ refused. K.keeps → LeavesOnly (K.calls disk) (K.calls refused.1) (IsReopened (K.calls disk))) }
 
         ensures device { IfErr result (λ refused. refused.0 ≡ Device → K.failed refused.1 ≡ counted false (K.failed disk)) }
         ensures no_fault { IfOk result (λ opened. K.failed opened.0.disk ≡ K.failed disk) }
         ensures no_fault_of_others { IfErr result (λ refused. refused.0 ≢ Device → K.failed refused.1 ≡ K.failed disk) }
-        ensures foreign { IfErr result (λ refused. (place : ℕ) → refused.0 ≡ Foreign place → K.keeps → IsForeign [] (Readable M.fits (M.within 65535)) M.spelling (K.seen refused.1) place) }
-        ensures foreign_reading { IfErr result (λ refused. (place : ℕ) → refused.0 ≡ Foreign place → K.keeps → IsForeign [] (Readable M.fits (M.within 65535)) M.spelling (K.seen disk) place) }
+        ensures foreign { IfErr result (λ refused. (place : ℕ) → refused.0 ≡ Foreign place → K.keeps → IsForeign [] (Readable M.fits (M.within BOUND)) M.spelling (K.seen refused.1) place) }
+        ensures foreign_reading { IfErr result (λ refused. (place : ℕ) → refused.0 ≡ Foreign place → K.keeps → IsForeign [] (Readable M.fits (M.within BOUND)) M.spelling (K.seen disk) place) }
         ensures faults { IfErr result (λ refused. (refused.0 ≡ Device) ⊎ ((refused.0 ≡ Memory) ⊎ ((place : ℕ) × (refused.0 ≡ Foreign place)))) }
         ensures untouched { IfErr result (λ refused. refused.0 ≢ Device → K.keeps → K.calls refused.1 ≡ Synced (K.seen refused.1) ∷ K.calls disk) }
     {
@@ -118,7 +119,7 @@ impl<M: Read + EncodeSize + Drop, K: Disk> Journal<M, K> {
     /// the last the message may or may not be found by the next opening, and every append answers
     /// `Failed` until then.
     pub fn append(&mut self, message: &M) -> Result<(), JournalFault>
-        requires { M.within 65535 message.now }
+        requires { M.within BOUND message.now }
         ensures record { OnOk result ((messages : List M) → K.keeps → IsRecord M.spelling K.seen K.calls self.old messages → IsRecord M.spelling K.seen K.calls self.new (messages ++ message.now ∷ [])) }
 
         // A crash at any moment of the call leaves the record from before it, with the message or without.

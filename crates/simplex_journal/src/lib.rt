@@ -11,6 +11,7 @@ mod memory_disk;
 mod opening;
 
 pub use disk::{Disk, DiskFault};
+pub use entries::BOUND;
 pub use fault::JournalFault;
 pub use file_disk::FileDisk;
 pub use history::{Crash, Event, History, Request, run};

@@ -7,7 +7,7 @@ ghost use Rattle.simplex_journal.specs.Disk.{MayLeave, LeavesOnly, Synced, count
 ghost use Rattle.simplex_journal.specs.Record.{Reads, IsForeign, IsFound, IsFixed, IsAtRest, IsReopened};
 
 use crate::disk::{Disk, DiskFault};
-use crate::entries::{Entries, read_entries};
+use crate::entries::{BOUND, Entries, read_entries};
 use crate::fault::JournalFault;
 use simplex_types::Read;
 use std::alloc::Global;
@@ -99,16 +99,16 @@ pub(crate) fn open_disk<M: Read + Drop, K: Disk>(
     disk: &mut K,
 ) -> Result<Entries<M>, JournalFault>
     ensures ok { IfOk result (λ entries. K.keeps → IsAtRest [] (K.seen disk.new) (K.calls disk.new) entries.gate (map M.spelling entries.messages.items)) }
-    ensures fitting { IfOk result (λ entries. All (Readable M.fits (M.within 65535)) entries.messages.items) }
+    ensures fitting { IfOk result (λ entries. All (Readable M.fits (M.within BOUND)) entries.messages.items) }
     ensures found { IfOk result (λ entries. K.keeps → (before : List ℕ) × MayLeave (K.calls disk.old) before × Reads before (map M.spelling entries.messages.items)) }
     ensures reading { IfOk result (λ entries. K.keeps → Reads (K.seen disk.old) (map M.spelling entries.messages.items)) }
-    // A crash at any moment leaves what reads as something that a crash might have left before.
+    // After a crash at any moment of the opening the disk reads as a record that a crash before it might have left.
     ensures any_moment { K.keeps → LeavesOnly (K.calls disk.old) (K.calls disk.new) (IsReopened (K.calls disk.old)) }
     ensures device { IsErrOf result JournalFault.Device → K.failed disk.new ≡ counted false (K.failed disk.old) }
     ensures no_fault { OnOk result (K.failed disk.new ≡ K.failed disk.old) }
     ensures no_fault_of_others { IfErr result (λ fault. fault ≢ Device → K.failed disk.new ≡ K.failed disk.old) }
-    ensures foreign { IfErr result (λ fault. (place : ℕ) → fault ≡ Foreign place → K.keeps → IsForeign [] (Readable M.fits (M.within 65535)) M.spelling (K.seen disk.new) place) }
-    ensures foreign_reading { IfErr result (λ fault. (place : ℕ) → fault ≡ Foreign place → K.keeps → IsForeign [] (Readable M.fits (M.within 65535)) M.spelling (K.seen disk.old) place) }
+    ensures foreign { IfErr result (λ fault. (place : ℕ) → fault ≡ Foreign place → K.keeps → IsForeign [] (Readable M.fits (M.within BOUND)) M.spelling (K.seen disk.new) place) }
+    ensures foreign_reading { IfErr result (λ fault. (place : ℕ) → fault ≡ Foreign place → K.keeps → IsForeign [] (Readable M.fits (M.within BOUND)) M.spelling (K.seen disk.old) place) }
     ensures faults { IfErr result (λ fault. (fault ≡ Device) ⊎ ((fault ≡ Memory) ⊎ ((place : ℕ) × (fault ≡ Foreign place)))) }
     // After any other fault than the disk's own nothing was written or cut.
     ensures untouched { IfErr result (λ fault. fault ≢ Device → K.keeps → K.calls disk.new ≡ Synced (K.seen disk.new) ∷ K.calls disk.old) }

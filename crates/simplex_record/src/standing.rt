@@ -67,8 +67,13 @@ impl<D: Digest> Standing<D> {
 
     /// Whether it may vote to nullify the round.
     pub fn may_nullify(&self, length: TermLength, round: Round) -> bool
-        ensures { (before : List (Entry D)) → Keeps length self.now before → IsTrue result ↔ MayNullify length before round }
+        ensures lawful { (before : List (Entry D)) → Keeps length self.now before → IsTrue result ↔ MayNullify length before round }
+        ensures from_one { IsTrue result → 1 ≤ round.view }
     {
+        // View 0 is never entered, so nobody gives it up.
+        if round.view == View::zero() {
+            return false;
+        }
         if round.view != self.current_view {
             return false;
         }

@@ -140,12 +140,13 @@ pub struct SaltedScheme {
 impl Model for SaltedScheme {
     ghost use Rattle.std.specs.Prelude.{◌≡◌, ◌≤◌, length};
     ghost use Rattle.simplex_types.specs.Plain.{Committee};
+    ghost use Rattle.simplex_types.specs.declared.plain.TheConstants.PlainScheme.{MAX_BASE};
 
     ghost Value = { Committee };
 
     ghost view = { λ s. s.plain };
 
-    ghost invariant = { λ s. (s.namespace ≡ s.plain.base) × (length s.namespace ≤ 255) };
+    ghost invariant = { λ s. (s.namespace ≡ s.plain.base) × (length s.namespace ≤ MAX_BASE) };
 }
 
 impl SaltedScheme {
@@ -158,9 +159,9 @@ impl SaltedScheme {
         me: Option<Participant>,
         counter: u64,
     ) -> Result<Self, AllocError>
-        requires short_base { length base.now ≤ 255 }
+        requires short_base { length base.now ≤ PlainScheme.MAX_BASE }
         requires some { 0 < participants }
-        requires at_most { participants ≤ 65535 }
+        requires at_most { participants ≤ PlainScheme.MAX_PARTICIPANTS }
         requires member { ForSome me (λ i. i < participants) }
         ensures base { IfOk result (λ s. s.base ≡ base.now) }
         ensures participants { IfOk result (λ s. s.participants ≡ participants) }

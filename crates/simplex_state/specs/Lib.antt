@@ -1,1 +1,6 @@
+pub mod Ancestry
+pub mod Answers
 pub mod Configuring
+pub mod Due
+pub mod Matching
+pub mod Requests

@@ -1,4 +1,9 @@
-//! How a member of a committee is set up.
+//! How a member of a committee is set up, and what follows from the definitions of its voter.
 #![tactic(auto)]
 
 pub mod config;
+mod laws;
+
+pub use laws::{
+    one_payload_is_built_on, what_is_due_may_be_recorded, what_is_due_stands_on_ground,
+};

@@ -3,3 +3,7 @@
 
 #[cfg(test)]
 mod config;
+#[cfg(test)]
+mod plain;
+#[cfg(test)]
+mod rows;

@@ -10,6 +10,23 @@ use simplex_messages::{Finalization, Notarization, Nullification};
 use simplex_types::{Digest, Duplicate, Scheme};
 use std::alloc::{AllocError, Global};
 
+/// A copy of the certificate, where there is one that was not handed out.
+fn unsent<C: Duplicate>(
+    certificate: &Option<C>,
+    is_sent: bool,
+    alloc: Global,
+) -> Result<Option<C>, AllocError>
+    ensures { IfOk result (λ copy. copy ≡ (if is_sent then None else certificate.now)) }
+{
+    if is_sent {
+        return Ok(None);
+    }
+    match certificate {
+        None => Ok(None),
+        Some(certificate) => Ok(Some(certificate.duplicate(alloc)?)),
+    }
+}
+
 impl<S: Scheme<D>, D: Digest> Round<S, D> {
     /// The notarization.
     pub fn notarization(&self) -> Option<&Notarization<S, D>>
@@ -97,13 +114,9 @@ impl<S: Scheme<D>, D: Digest> Round<S, D> {
         ensures keeps { IfOk result (λ sent. Becomes S.key_of self.old self.new (λ h. if is_some sent then sent_notarization ∷ h else h)) }
         ensures err { OnErr result (Becomes S.key_of self.old self.new (λ h. h)) }
     {
-        if self.broadcast_notarization {
-            return Ok(None);
-        }
-        match &self.notarization {
+        match unsent(&self.notarization, self.broadcast_notarization, alloc)? {
             None => Ok(None),
-            Some(certificate) => {
-                let copy = certificate.duplicate(alloc)?;
+            Some(copy) => {
                 self.broadcast_notarization = true;
                 Ok(Some(copy))
             }
@@ -123,13 +136,9 @@ impl<S: Scheme<D>, D: Digest> Round<S, D> {
         ensures keeps { IfOk result (λ sent. Becomes S.key_of self.old self.new (λ h. if is_some sent then sent_nullification ∷ h else h)) }
         ensures err { OnErr result (Becomes S.key_of self.old self.new (λ h. h)) }
     {
-        if self.broadcast_nullification {
-            return Ok(None);
-        }
-        match &self.nullification {
+        match unsent(&self.nullification, self.broadcast_nullification, alloc)? {
             None => Ok(None),
-            Some(certificate) => {
-                let copy = certificate.duplicate(alloc)?;
+            Some(copy) => {
                 self.broadcast_nullification = true;
                 Ok(Some(copy))
             }
@@ -149,13 +158,9 @@ impl<S: Scheme<D>, D: Digest> Round<S, D> {
         ensures keeps { IfOk result (λ sent. Becomes S.key_of self.old self.new (λ h. if is_some sent then sent_finalization ∷ h else h)) }
         ensures err { OnErr result (Becomes S.key_of self.old self.new (λ h. h)) }
     {
-        if self.broadcast_finalization {
-            return Ok(None);
-        }
-        match &self.finalization {
+        match unsent(&self.finalization, self.broadcast_finalization, alloc)? {
             None => Ok(None),
-            Some(certificate) => {
-                let copy = certificate.duplicate(alloc)?;
+            Some(copy) => {
                 self.broadcast_finalization = true;
                 Ok(Some(copy))
             }

@@ -1,8 +1,8 @@
 use Rattle.std.proofs.Common.{◌++◌, [], ◌∷◌, take, drop, sym, ◌∙◌, ap, subst, refl, inr, map, List, ℕ}
 use Rattle.std.specs.List.{All}
 use Rattle.std.proofs.lemmas.List.Elements.{All-nil, All-cons, All-append}
-use Rattle.simplex_types.specs.Codec.{Readable}
-use Rattle.simplex_journal.specs.Record.{IsLeft, IsNone}
+use Rattle.simplex_types.specs.Codec.{Readable, SpellsNone}
+use Rattle.simplex_journal.specs.Record.{IsLeft}
 use Rattle.simplex_journal.proofs.Finding.{left_next, found_at, foreign_at}
 use Rattle.simplex_journal.proofs.entries.read_entries.Goals as goal
 
@@ -11,12 +11,12 @@ returns-in_default-2-clause-faults g c =
     let Fits = Readable g.M.Write.fits (g.M.Read.within 65535) in
     let behind_is = c.split_at.ensures.back in
     let body_is = c.split_at-in-Some.ensures.front ∙ ap (λ (l : List ℕ). take c.in-Some.size l) behind_is in
-    let none : IsNone Fits g.M.Write.spelling c.split_at-in-Some.result.0.now = rw c.in_default-2.is at c.in_ok-message.ensures.none in
+    let none : SpellsNone Fits g.M.Write.spelling c.split_at-in-Some.result.0.now = rw c.in_default-2.is at c.in_ok-message.ensures.none in
     inr (
       _,
       refl,
       foreign_at Fits g.M.Write.spelling c.args.bytes.now c.loop-size.rest.now _ _ _ c.loop-size.messages.items c.loop-size.invariant.1 c.loop-size.invariant.0 c.in-Some.ensures.some
-          (subst (λ (l : List ℕ). IsNone Fits g.M.Write.spelling l) body_is none) refl,
+          (subst (λ (l : List ℕ). SpellsNone Fits g.M.Write.spelling l) body_is none) refl,
     )
 
 pub loop-size-preserved : goal.loop-size-preserved

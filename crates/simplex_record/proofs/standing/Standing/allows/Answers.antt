@@ -10,7 +10,7 @@ pub returns-in-Certification : goal.returns-in-Certification
 returns-in-Certification g c = rw c.in-Certification.is (record { lawful = c.may_judge.ensures.lawful; room = c.may_judge.ensures.room })
 
 pub returns-in-Nullify : goal.returns-in-Nullify
-returns-in-Nullify g c = rw c.in-Nullify.is (record { lawful = c.may_nullify.ensures; room = λ yes. tt })
+returns-in-Nullify g c = rw c.in-Nullify.is (record { lawful = c.may_nullify.ensures.lawful; room = λ yes. tt })
 
 pub returns-in-Nullification : goal.returns-in-Nullification
 returns-in-Nullification g c = rw c.in-Nullification.is (record { lawful = c.may_take_nullification.ensures.lawful; room = c.may_take_nullification.ensures.room })

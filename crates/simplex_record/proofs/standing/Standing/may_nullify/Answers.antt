@@ -1,13 +1,21 @@
-use Rattle.std.proofs.Common.{◌≡◌, sym, ◌∙◌, arith}
+use Rattle.std.proofs.Common.{◌≡◌, ◌≤◌, sym, ◌∙◌, arith}
 use Rattle.std.proofs.lemmas.Bool.Decides.{nat_tests}
+use Rattle.simplex_record.specs.Record.{current_view, enters}
+use Rattle.simplex_record.proofs.Figures.{greatest-least}
 use Rattle.simplex_record.proofs.Ruling.{no_nullify, no_finalize_of, unlike, true_not}
 use Rattle.simplex_record.proofs.standing.Standing.may_nullify.Goals as goal
 
-pub returns-then-contains : goal.returns-then-contains
-returns-then-contains g c = λ before k. unlike (λ may. sym (c.if-contains.true) ∙ c.contains.ensures ∙ (no_nullify c.args.self.now.votes before k.votes c.args.round).1 may.first)
+pub returns-then-eq-clause-lawful : goal.returns-then-eq-clause-lawful
+returns-then-eq-clause-lawful g c = λ before k. unlike (λ may.
+    let zero : c.args.round.view ≡ 0 = grind (arith, nat_tests, c.eq.ensures, c.zero.ensures, c.if-eq.true) in
+    let some : 1 ≤ current_view c.args.length before = greatest-least 1 (enters c.args.length) before in
+    absurd (omega (arith, zero, some, may.current)))
 
-pub returns : goal.returns
-returns g c = λ before k.
+pub returns-then-contains-clause-lawful : goal.returns-then-contains-clause-lawful
+returns-then-contains-clause-lawful g c = λ before k. unlike (λ may. sym (c.if-contains.true) ∙ c.contains.ensures ∙ (no_nullify c.args.self.now.votes before k.votes c.args.round).1 may.first)
+
+pub returns-clause-lawful : goal.returns-clause-lawful
+returns-clause-lawful g c = λ before k.
     let same : c.args.round.view ≡ c.args.self.now.current_view = grind (arith, nat_tests, c.ne.ensures, c.if-ne.false) in
     let never = no_finalize_of c.args.self.now.votes before k.votes c.args.round.view in (
       λ none. record {

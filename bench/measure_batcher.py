@@ -1,0 +1,91 @@
+#!/usr/bin/env python3
+"""Runs the baseline and simplex on the votes of the same rounds, compares and prints what they cost.
+
+Started by batcher.sh, which builds both. A time is the least wall time of some runs, the two programs
+taking turns, less that of a run with no repetition, for each repetition and vote handed in.
+"""
+
+import argparse
+import statistics
+import subprocess
+import sys
+import time
+
+SIZES = [4, 100, 1000]
+RUNS = 7
+QUICK_RUNS = 3
+# How many votes each member hands in, and how many one run goes through.
+PHASES = {
+    "add": (4, 8_000_000),
+    "construct": (1, 400_000),
+    "fallback": (1, 200_000),
+}
+
+
+def arguments():
+    parser = argparse.ArgumentParser(prog="batcher.sh", description="Measures a round of votes.")
+    parser.add_argument("--quick", action="store_true", help=f"{QUICK_RUNS} runs")
+    parser.add_argument("--runs", type=int, default=RUNS)
+    parser.add_argument("--baseline", help=argparse.SUPPRESS)
+    parser.add_argument("--simplex", help=argparse.SUPPRESS)
+    return parser.parse_args()
+
+
+def run(program, phase, members, repetitions):
+    """The answer, and the wall seconds."""
+    command = [program, phase, str(members), str(repetitions)]
+    start = time.perf_counter()
+    done = subprocess.run(command, check=True, capture_output=True)
+    return done.stdout.decode(), time.perf_counter() - start
+
+
+def expected(phase, members, repetitions):
+    """What these rounds have to answer, by the rules: votes accepted, members blocked, reports, and what the
+    certificates list, what was judged and what failed."""
+    if phase == "add":
+        told = (2 * members, members, 3 * members, 0, 0, 0)
+    else:
+        failing = int(phase == "fallback")
+        told = (members, 0, members, members - failing, members, failing)
+    return " ".join(str(repetitions * number) for number in told) + "\n"
+
+
+def measure(programs, phase, members, runs):
+    """The seconds for a vote of each program, the least of the runs, and the ratio of each run."""
+    votes, whole = PHASES[phase]
+    repetitions = max(2, whole // (votes * members))
+    least = [[float("inf")] * 2 for _ in programs]
+    ratios = []
+    for number in range(runs):
+        full = []
+        for program, taken in list(zip(programs, least))[:: 1 if number % 2 == 0 else -1]:
+            for count, at in ((0, 0), (repetitions, 1)):
+                answer, elapsed = run(program, phase, members, count)
+                if answer != expected(phase, members, count):
+                    sys.exit(f"disagreement: {program} answers {answer} of {phase}, {members}")
+                taken[at] = min(taken[at], elapsed)
+            full.append((program, elapsed))
+        ratios.append(dict(full)[programs[1]] / dict(full)[programs[0]])
+    each = [(full - start) / (repetitions * votes * members) for start, full in least]
+    return each, statistics.median(ratios)
+
+
+def main():
+    given = arguments()
+    programs = [given.baseline, given.simplex]
+    runs = QUICK_RUNS if given.quick else given.runs
+    costs = {}
+    for phase in PHASES:
+        for members in SIZES:
+            print(f"measuring {phase}: {members} members", file=sys.stderr)
+            costs[phase, members] = measure(programs, phase, members, runs)
+    print(f"Least wall time of {runs} runs, for one vote.\n")
+    print("| Phase | Members | Baseline ns | `simplex` ns | Ratio | Median of the runs' ratios |")
+    print("|---|---:|---:|---:|---:|---:|")
+    for (phase, members), ((baseline, simplex), median) in costs.items():
+        times = f"{1e9 * baseline:,.0f} | {1e9 * simplex:,.0f}"
+        print(f"| {phase} | {members:,} | {times} | {simplex / baseline:.2f} | {median:.2f} |")
+
+
+if __name__ == "__main__":
+    main()

@@ -1,0 +1,90 @@
+//! The libraries in a program of one's own: a member votes, remembers, starts again, and an auditor reads reports.
+#![tactic(auto)]
+
+ghost use Rattle.std.specs.Prelude.{◌<◌};
+
+mod auditing;
+mod checking;
+mod recording;
+mod voting;
+
+use auditing::guilty;
+use checking::first_breach;
+use recording::{Item, open_record, remember};
+use simplex_journal::FileDisk;
+use simplex_messages::{Activity, Notarize};
+use simplex_types::{Epoch, Participant, PlainScheme, Proposal, Round, Sha256Digest, View, Write};
+use std::alloc::{AllocError, Global};
+use std::rc::Rc;
+use std::{fs, io};
+use voting::{recalled, vote_on};
+
+/// View 1 of epoch 0.
+fn first_round() -> Round {
+    Round::new(Epoch::new(0), View::new(1))
+}
+
+/// The proposal of 32 such bytes for view 1, on genesis.
+fn proposal(byte: u8) -> Proposal<Sha256Digest> {
+    Proposal::new(first_round(), View::new(0), Sha256Digest::new([byte; 32]))
+}
+
+/// Four members, seen by the one with this index.
+fn committee(alloc: Global, me: u32) -> Result<PlainScheme, AllocError>
+    requires { me < 4 }
+{
+    PlainScheme::new(alloc, b"simplex", 4, Some(Participant::new(me)))
+}
+
+/// The bytes of two reports: the member whose key this is notarizes two proposals of view 1.
+fn lies(alloc: Global, liar: &PlainScheme) -> Result<Vec<u8>, AllocError> {
+    let mut reports = Vec::new(alloc);
+    for byte in [0xaa, 0xbb] {
+        if let Some(vote) = Notarize::sign(liar, proposal(byte)) {
+            let report: Activity<PlainScheme, Sha256Digest> = Activity::Notarize(vote);
+            report.write(&mut reports)?;
+        }
+    }
+    Ok(reports)
+}
+
+/// A member starts with what its record holds, and votes for the proposal that the leader sends, if it may.
+fn start(rt: &HostRuntime, byte: u8) -> io::Result<()> {
+    let alloc = rt.alloc();
+    let scheme = Rc::new(alloc, committee(alloc, 1)?)?;
+    let Ok((mut journal, record)) = open_record(alloc, FileDisk::open(rt, "record")?) else {
+        return println!(rt; "the record can't be opened");
+    };
+    let me = Participant::new(1);
+    if let Some(place) = first_breach(alloc, &scheme, me, &record)? {
+        return println!(rt; "artifact {place} breaks a rule");
+    }
+    let count = record.len();
+    println!(rt; "artifacts in a lawful record: {count}")?;
+    let mut known = recalled(scheme.clone()?, first_round(), Participant::new(0), &record);
+    let Some(vote) = vote_on(&scheme, &mut known, &proposal(byte)) else {
+        return println!(rt; "no vote");
+    };
+    match remember(&mut journal, &Item::Notarize(vote)) {
+        Ok(true) => println!(rt; "a vote that may be sent"),
+        Ok(false) | Err(_) => println!(rt; "a vote that may not be sent"),
+    }
+}
+
+fn main(rt: HostRuntime) -> io::Result<()> {
+    let alloc = rt.alloc();
+    start(&rt, 0xaa)?;
+    // The same after a crash, with another proposal from a leader that lies.
+    start(&rt, 0xbb)?;
+    fs::remove_file(&rt, "record")?;
+    let reports = lies(alloc, &committee(alloc, 2)?)?;
+    let (guilty, fault) = guilty(alloc, &committee(alloc, 0)?, &reports)?;
+    for member in &guilty {
+        let index = member.get();
+        println!(rt; "guilty: member {index}")?;
+    }
+    if let Some(place) = fault {
+        println!(rt; "no report at byte {place}")?;
+    }
+    Ok(())
+}

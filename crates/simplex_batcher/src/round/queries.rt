@@ -1,0 +1,43 @@
+//! What can be asked about the accepted votes.
+
+ghost use Rattle.std.specs.Prelude.{◌≡◌, ℕ, IfOk};
+ghost use Rattle.simplex_batcher.specs.Queries.{has_nullify, is_missing_voter, missing_voters};
+ghost use Rattle.simplex_batcher.specs.Rounds.{AtEach};
+
+use crate::round::Round;
+use simplex_types::{Digest, Participant, Proposal, Scheme};
+use std::alloc::{AllocError, Global};
+
+impl<S: Scheme<D>, D: Digest> Round<S, D> {
+    /// Whether a nullify of this member was accepted, its own ones among them.
+    pub fn has_nullify(&self, signer: Participant) -> bool
+        ensures { AtEach D.PartialEq.eq S.Scheme S.batchable self.now (λ s h. result ≡ has_nullify h signer) }
+    {
+        self.tracker.has_nullify(signer)
+    }
+
+    /// Whether no notarize and no finalize of this member for the proposal was accepted.
+    pub fn is_missing_voter(&self, proposal: &Proposal<D>, signer: Participant) -> bool
+        ensures { AtEach D.PartialEq.eq S.Scheme S.batchable self.now (λ s h. result ≡ is_missing_voter D.PartialEq.eq h proposal.now signer) }
+    {
+        !self.tracker.has_backed(signer, proposal)
+    }
+
+    /// The members of which no notarize and no finalize for the proposal was accepted, ascending.
+    pub fn missing_voters(
+        &self,
+        alloc: Global,
+        proposal: &Proposal<D>,
+    ) -> Result<Vec<Participant>, AllocError>
+        ensures { IfOk result (λ missing. AtEach D.PartialEq.eq S.Scheme S.batchable self.now (λ s h. missing.items ≡ missing_voters D.PartialEq.eq s h proposal.now)) }
+    {
+        let mut missing = Vec::new(alloc);
+        for index in 0..self.verifier.participants() {
+            let signer = Participant::new(index);
+            if self.is_missing_voter(proposal, signer) {
+                missing.push(signer)?;
+            }
+        }
+        Ok(missing)
+    }
+}

@@ -1,0 +1,40 @@
+-- What is settled, and what is served.
+use Rattle.std.specs.Prelude.{ℕ, zero, suc, ◌&&◌, ◌||◌, Bool, nat_lt, nat_le, List, Option, None, if◌then◌else◌}
+use Rattle.std.specs.Option.{option_or}
+use Rattle.simplex_types.specs.Positions.{term_start}
+use Rattle.simplex_resolver.specs.declared.ask.Kind.{Kind}
+use Rattle.simplex_resolver.specs.declared.ask.Kind.TheVariants as kind
+use Rattle.simplex_resolver.specs.History.{Item, finalized, floor, nullification, certified, finalization, covered, has_failed, is_known}
+
+-- nothing is left to be asked of the kind at the view
+abbrev pub is_settled : ℕ → List Item → ℕ → Kind → Bool
+is_settled views h v kind.Nullification = nat_le v (finalized h) || covered views h v
+is_settled views h v kind.Notarization = nat_le v (finalized h) || is_known h v
+
+-- nothing is left to be asked at the view
+abbrev pub is_key_settled : ℕ → List Item → ℕ → Bool
+is_key_settled views h v = is_settled views h v kind.Nullification && is_settled views h v kind.Notarization
+
+-- the view can be certified no more, though it is above the last finalized one
+abbrev pub is_uncertifiable : List Item → ℕ → Bool
+is_uncertifiable h v = nat_lt (finalized h) v && has_failed h v
+
+-- the nullification of the highest view from the first one to this one
+abbrev pub highest_nullification : List Item → ℕ → ℕ → Option (List ℕ)
+highest_nullification h first zero = if nat_le first 0 then nullification h 0 else None
+highest_nullification h first (suc v) = if nat_le first (suc v) then option_or (nullification h (suc v)) (highest_nullification h first v) else None
+
+-- the highest nullification that covers a view above the last finalized one
+abbrev pub covering : ℕ → List Item → ℕ → Option (List ℕ)
+covering views h v = if nat_lt (finalized h) v then highest_nullification h (term_start views v) v else None
+
+-- the certified notarization of a view above the last finalized one
+abbrev pub servable : List Item → ℕ → Option (List ℕ)
+servable h v = if nat_lt (finalized h) v then certified h v else None
+
+-- What is served to who asks for a view, the first that is there of: the highest finalization, if it is of this view or a
+-- later one, the view's certified notarization, the highest nullification that covers it, and the floor's certified
+-- notarization, if the floor is at the view or above it.
+abbrev pub produced : ℕ → List Item → ℕ → Option (List ℕ)
+produced views h v = option_or (if nat_le v (finalized h) then finalization h else None)
+    (option_or (servable h v) (option_or (covering views h v) (if nat_le v (floor h) then servable h (floor h) else None)))

@@ -1,0 +1,47 @@
+-- How the state stands to the list of all that came.
+use Rattle.std.specs.Prelude.{◌≡◌, ◌↔◌, ◌<◌, ◌&&◌, ℕ, true, nat_lt, List, Option, None, if◌then◌else◌}
+use Rattle.std.specs.Ordering.{nat_cmp}
+use Rattle.std.specs.Option.{option_map}
+use Rattle.std.specs.BTreeMap.{get}
+use Rattle.std.specs.BTreeSet.{contains}
+use Rattle.simplex_types.specs.Positions.{term_end}
+use Rattle.simplex_record.specs.Coverage.{IsCovered}
+use Rattle.simplex_resolver.specs.declared.held.Held.{Held}
+use Rattle.simplex_resolver.specs.declared.state.State.{State}
+use Rattle.simplex_resolver.specs.History.{Item, finalized, floor, current, live, nullification, finalization, covered, has_failed, is_known}
+use Rattle.simplex_resolver.specs.Answers.{servable}
+
+-- how many views a term has
+abbrev pub length_of : State → ℕ
+length_of state = state.held.length
+
+-- what is kept of a view's nullification: the first, until its term is finalized
+abbrev pub kept_nullification : ℕ → List Item → ℕ → Option (List ℕ)
+kept_nullification views h u = if nat_lt (finalized h) (term_end views u) then nullification h u else None
+
+-- what is held is what these items lead to
+pub record Holds (views : ℕ) (held : Held) (h : List Item) : Type 0 where
+  pub some : 0 < views
+  pub length_is : held.length ≡ views
+  pub finalized_is : held.last_finalized ≡ finalized h
+  pub finalization_is : option_map (λ bytes. bytes.items) held.finalization ≡ finalization h
+  pub nullifications : (u : ℕ) → option_map (λ bytes. bytes.items) (get nat_cmp held.nullifications u) ≡ kept_nullification views h u
+  pub covered_is : (v : ℕ) → finalized h < v → IsCovered held.covered v ↔ (covered views h v ≡ true)
+  pub known : (v : ℕ) → contains nat_cmp held.known v ≡ (nat_lt (finalized h) v && is_known h v)
+  pub certified_is : (v : ℕ) → option_map (λ bytes. bytes.items) (get nat_cmp held.certified v) ≡ servable h v
+  pub failed : (v : ℕ) → contains nat_cmp held.failed v ≡ (nat_lt (finalized h) v && has_failed h v)
+
+-- the state stands where these items lead
+pub record Keeps (views : ℕ) (state : State) (h : List Item) : Type 0 where
+  pub holds : Holds views state.held h
+  pub current_is : state.current ≡ current h
+  pub floor_is : state.floor ≡ floor h
+  pub live_is : state.live ≡ live h
+
+-- what holds of each length of terms and each list of items that the state stands at
+abbrev pub AtEach : State → (ℕ → List Item → Type 0) → Type 0
+AtEach state P = (views : ℕ) (h : List Item) → Keeps views state h → P views h
+
+-- the same of what is held
+abbrev pub AtEachHeld : Held → (ℕ → List Item → Type 0) → Type 0
+AtEachHeld held P = (views : ℕ) (h : List Item) → Holds views held h → P views h

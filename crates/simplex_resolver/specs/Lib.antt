@@ -1,0 +1,5 @@
+pub mod Answers
+pub mod Asking
+pub mod History
+pub mod Keeps
+pub mod Outstanding

@@ -1,0 +1,14 @@
+//! What a member still has to fetch of certificates, and what it answers to those who ask it for them.
+#![tactic(auto)]
+
+mod ask;
+mod effect;
+mod held;
+mod laws;
+mod state;
+mod terms;
+
+pub use ask::{Ask, Kind, Until};
+pub use effect::{Effect, FetchReason};
+pub use laws::effects_leave_the_outstanding;
+pub use state::State;

@@ -1,0 +1,3 @@
+mod Recordable
+mod Grounding
+mod Single

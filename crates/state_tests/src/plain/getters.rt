@@ -1,0 +1,112 @@
+//! What is answered of what is kept.
+
+use super::positions::{is_term_start, term_end, term_start};
+use super::{History, Point, VIEWS};
+
+/// A certificate, with the view that it is of.
+#[derive(Clone, Copy, PartialEq, Eq)]
+pub enum Entry {
+    Notarization(u64),
+    Nullification(u64),
+    Finalization(u64),
+}
+
+/// The view that something happened to by a point, beside a view that is entered.
+fn touched(point: Point) -> Option<u64> {
+    match point {
+        Point::Notarized { proposal, .. }
+        | Point::Finalized { proposal, .. }
+        | Point::Built { proposal, .. }
+        | Point::RecalledNotarize { proposal } => Some(proposal.view),
+        Point::Nullified { view, .. }
+        | Point::Judged { view, .. }
+        | Point::Forwarded { view, .. }
+        | Point::Confirmed { view }
+        | Point::Unbound { view }
+        | Point::Latched { view, .. }
+        | Point::BuildAsked { view }
+        | Point::BuildReleased { view }
+        | Point::VerifyAsked { view, .. }
+        | Point::AncestryAsked { view, .. }
+        | Point::CertifyAsked { view }
+        | Point::VotedNotarize { view }
+        | Point::VotedNullify { view }
+        | Point::VotedFinalize { view }
+        | Point::RecalledNullify { view }
+        | Point::RecalledFinalize { view }
+        | Point::RecalledVerdict { view, .. } => Some(view),
+        Point::Started { .. }
+        | Point::CertifyWaited { .. }
+        | Point::Polled { .. }
+        | Point::Pruned => None,
+    }
+}
+
+impl<'a> History<'a> {
+    /// Whether a nullification of the view is kept: a prune drops it with its view, but not while its term ends above
+    /// the last finalized view.
+    pub fn keeps_nullification(self, view: u64) -> bool {
+        let mut is_kept = false;
+        for (place, point) in self.points.iter().enumerate() {
+            let before = self.first(place);
+            match *point {
+                Point::Nullified { view: at, .. } if at == view => is_kept = true,
+                Point::Pruned if view < before.min_active() => {
+                    is_kept = is_kept
+                        && before.last_finalized() < term_end(self.setup.length, view);
+                }
+                _ => {}
+            }
+        }
+        is_kept
+    }
+
+    /// The best certificate to help others enter the current view, with the view before it: its finalization; at a
+    /// term's start the highest nullification that covers it; its notarization. Of the start there is none.
+    pub fn best_certificate(self) -> Option<Entry> {
+        let current = self.current();
+        let before = current.saturating_sub(1);
+        if before == 0 {
+            return None;
+        }
+        if self.finalized(before).is_some() {
+            return Some(Entry::Finalization(before));
+        }
+        let mut best = if self.notarized(before).is_some() {
+            Some(Entry::Notarization(before))
+        } else {
+            None
+        };
+        if is_term_start(self.setup.length, current) {
+            for view in term_start(self.setup.length, before)..=before {
+                if self.keeps_nullification(view) {
+                    best = Some(Entry::Nullification(view));
+                }
+            }
+        }
+        best
+    }
+
+    /// Whether the view is tracked: since it was last dropped something happened to it, it was entered, or its leader
+    /// became known.
+    pub fn is_tracked(self, view: u64) -> bool {
+        let begins = self.begins(view);
+        for (place, point) in self.points.iter().enumerate() {
+            if begins <= place && touched(*point) == Some(view) {
+                return true;
+            }
+        }
+        self.entry(view).is_some() || self.leader(view).is_some()
+    }
+
+    /// The highest view that a prune would drop.
+    pub fn last_dropped(self) -> Option<u64> {
+        let mut last = None;
+        for view in 0..VIEWS as u64 {
+            if view < self.min_active() && self.is_tracked(view) {
+                last = Some(view);
+            }
+        }
+        last
+    }
+}
