@@ -1,3 +1,5 @@
-mod Recordable
+mod Closed
 mod Grounding
+mod Recordable
 mod Single
+mod Steady

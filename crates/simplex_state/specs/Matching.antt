@@ -183,8 +183,8 @@ module _ (S D P G C : Type 0) where
 
   -- a look at the proposals that wait changes nothing that is due, and leaves none of those that it passed to be verified
   abbrev pub ScanChangesNothing : Type 0
-  ScanChangesNothing = (s : Setup S C) (now first view : ℕ) (h end : List (Point S D P G C)) → Scanned s now first h view end → known s end ≡ known s h
+  ScanChangesNothing = (s : Setup S C) (now first : ℕ) (h : List (Point S D P G C)) (view : ℕ) (end : List (Point S D P G C)) → Scanned s now first h view end → known s end ≡ known s h
 
   abbrev pub ScanLeavesNothing : Type 0
-  ScanLeavesNothing = (s : Setup S C) (now first view : ℕ) (h end : List (Point S D P G C)) → Scanned s now first h view end
+  ScanLeavesNothing = (s : Setup S C) (now first : ℕ) (h : List (Point S D P G C)) (view : ℕ) (end : List (Point S D P G C)) → Scanned s now first h view end
       → (u : ℕ) (p : Proposal D) (payload : D) → first ≤ u → u < view → ¬ VerifyIsDue (member s) (known s end) u p payload

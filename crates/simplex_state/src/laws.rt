@@ -1,6 +1,6 @@
 //! What follows from the definitions of a voter.
 
-ghost use Rattle.simplex_state.specs.Matching.{DueMayBeNotarized, DueMayBeFinalized, DueMayBeNullified, DueNotarizeIsOnGround, DueVerdictIsOnGround, OneIsSupported, OneIsPreferred};
+ghost use Rattle.simplex_state.specs.Matching.{DueMayBeNotarized, DueMayBeFinalized, DueMayBeNullified, DueNotarizeIsOnGround, DueVerdictIsOnGround, OneIsSupported, OneIsPreferred, LatchChangesNothing, ScanChangesNothing, ScanLeavesNothing, LeadersAreClosed};
 
 use simplex_types::{Digest, Scheme};
 
@@ -24,4 +24,15 @@ pub fn what_is_due_stands_on_ground<D: Digest>()
 pub fn one_payload_is_built_on<D: Digest>()
     ensures supported { OneIsSupported D }
     ensures preferred { OneIsPreferred D }
+{}
+
+/// That a view is given up for a reason changes nothing of what is known, so nothing else that is due; nor
+/// does a look at all proposals that wait, which may give up some; of those that it passed none is to be
+/// verified. And of who leads nothing more is to be
+/// learnt: whoever leads a view leads the next one too, where that inherits.
+pub fn a_latch_changes_nothing_due<S: Scheme<D>, D: Digest>()
+    ensures latch { LatchChangesNothing S D S.PublicKey S.Signature S.Certificate }
+    ensures scan { ScanChangesNothing S D S.PublicKey S.Signature S.Certificate }
+    ensures passed { ScanLeavesNothing S D S.PublicKey S.Signature S.Certificate }
+    ensures leaders { LeadersAreClosed S D S.PublicKey S.Signature S.Certificate }
 {}

@@ -5,5 +5,6 @@ pub mod config;
 mod laws;
 
 pub use laws::{
-    one_payload_is_built_on, what_is_due_may_be_recorded, what_is_due_stands_on_ground,
+    a_latch_changes_nothing_due, one_payload_is_built_on, what_is_due_may_be_recorded,
+    what_is_due_stands_on_ground,
 };
