@@ -1,12 +1,17 @@
 -- What is accepted is not blocked.
-use Rattle.std.proofs.Common.{◌≡◌, inl, inr, ℕ, Bool, true, false, ◌==◌, ◌&&◌, List, arith, refl, nat_lt}
-use Rattle.std.specs.Prelude.{Option, None, Some, MatchOption, is_none}
+use Rattle.std.proofs.Common.{◌≡◌, inl, inr, ℕ, zero, suc, Bool, true, false, ◌==◌, ◌&&◌, List, [], ◌∷◌, arith, refl, nat_lt}
+use Rattle.std.specs.Prelude.{Option, None, Some, MatchOption, is_none, is_some, find, if◌then◌else◌}
+use Rattle.std.specs.List.{Contains}
+use Rattle.std.specs.Option.{option_and_then}
+use Rattle.std.proofs.lemmas.List.Elements.{Contains-append_right}
 use Rattle.simplex_messages.specs.declared.vote.Vote.{Vote}
+use Rattle.simplex_messages.specs.declared.vote.Vote.TheVariants as vote
 use Rattle.simplex_messages.specs.declared.certificate.Certificate.{Certificate}
 use Rattle.simplex_messages.specs.VoteParts.{vote_signer, vote_round}
-use Rattle.simplex_batcher.specs.History.{History, Event, Setup, takes, recorded}
+use Rattle.simplex_batcher.specs.History.{History, Event, Setup, accepted, takes, recorded}
 use Rattle.simplex_batcher.specs.Lawful.{IsNew}
-use Rattle.simplex_batcher.specs.Admission.{IsBlocked, Offends}
+use Rattle.simplex_batcher.specs.Admission.{IsBlocked, Offends, evidence, contradicts, AgreesWithOwn}
+use Rattle.simplex_batcher.specs.Votes.{is_in_way}
 
 -- nothing is there
 pub none-there : {X : Type 0} (P : X → Type 0) (o : Option X) → is_none o ≡ true → MatchOption o ⊥ P → ⊥
@@ -36,3 +41,36 @@ module _ {S D P G C : Type 0} where
   -- a vote that nothing stands in the way of is new
   pub free-new : (s : Setup S) (h : History S D P G C) (v : Vote S D P G C) → recorded h v ≡ None → vote_round v ≡ s.round → IsNew s h v
   free-new s h v free ours = record { ours = ours; free = free }
+
+-- what is found is there, and passes
+found-there : {X : Type 0} (p : X → Bool) (xs : List X) (x : X) → find p xs ≡ Some x → Contains xs x × (p x ≡ true)
+found-there p [] x e = absurd (cc e)
+found-there p (y ∷ ys) x e = go (p y) refl e (found-there p ys x)
+  where
+    go : (b : Bool) → p y ≡ b → (if b then Some y else find p ys) ≡ Some x → (find p ys ≡ Some x → Contains ys x × (p x ≡ true)) → Contains (y ∷ ys) x × (p x ≡ true)
+    go true is e rest = let one : y ≡ x = cc e in ((zero, omega arith, one), rw (← one) is)
+    go false is e rest = let there = rest e in (Contains-append_right (y ∷ []) ys x there.0, there.1)
+
+module _ {S D P G C : Type 0} where
+  -- a vote that stands in the way is of the same signer
+  signer-in-way : (v u : Vote S D P G C) → is_in_way v u ≡ true → vote_signer u ≡ vote_signer v
+  signer-in-way (vote.Notarize v) (vote.Notarize u) e = grind (arith, e)
+  signer-in-way (vote.Notarize v) (vote.Nullify u) e = absurd (cc e)
+  signer-in-way (vote.Notarize v) (vote.Finalize u) e = absurd (cc e)
+  signer-in-way (vote.Nullify v) (vote.Notarize u) e = absurd (cc e)
+  signer-in-way (vote.Nullify v) (vote.Nullify u) e = grind (arith, e)
+  signer-in-way (vote.Nullify v) (vote.Finalize u) e = grind (arith, e)
+  signer-in-way (vote.Finalize v) (vote.Notarize u) e = absurd (cc e)
+  signer-in-way (vote.Finalize v) (vote.Nullify u) e = grind (arith, e)
+  signer-in-way (vote.Finalize v) (vote.Finalize u) e = grind (arith, e)
+
+  -- a vote that agrees with the own ones contradicts no accepted one
+  pub own-agrees : (same : D → D → Bool) (h : History S D P G C) (v : Vote S D P G C) → AgreesWithOwn same h v → contradicts same h v ≡ false
+  own-agrees same h v own = go (recorded h v) refl
+    where
+      go : (o : Option (Vote S D P G C)) → recorded h v ≡ o → is_some (option_and_then (λ u. evidence same u v) o) ≡ false
+      go None e = refl
+      go (Some u) e =
+          let there = found-there (is_in_way v) (accepted h) u e in
+          let one = signer-in-way v u there.1 in
+          rw (own.agrees u (own.own_alone u there.0 one) one) refl

@@ -153,5 +153,5 @@ module _ {S D P G C : Type 0} (same : D → D → Bool) (g : Ghosts S D P G C) (
     notarizes = keeps-judged same s Notarization h kind failing old.pools.notarizes new.pools.notarizes k.notarizes n;
     nullifies = keeps-judged same s Nullification h kind failing old.pools.nullifies new.pools.nullifies k.nullifies u;
     finalizes = keeps-judged same s Finalization h kind failing old.pools.finalizes new.pools.finalizes k.finalizes z;
-    lawful = (judged-right same g.attests s kind h k.lawful x failing (waiting-state same law g.attests s kind h k.lawful x on) are, k.lawful);
+    lawful = (judged-right same g.attests s kind h k.lawful x failing on (waiting-state same law g.attests s kind h k.lawful x on) are, k.lawful);
   }

@@ -9,3 +9,6 @@ pub mod Kept
 pub mod Rightly
 pub mod Constructing
 pub mod Reaching
+pub mod Finishing
+pub mod Summing
+pub mod Ending

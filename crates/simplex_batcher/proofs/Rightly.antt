@@ -13,7 +13,7 @@ use Rattle.simplex_messages.specs.VoteParts.{vote_signer}
 use Rattle.simplex_batcher.specs.declared.kind.Kind.{Kind}
 use Rattle.simplex_batcher.specs.Judging.{is_among}
 use Rattle.simplex_batcher.specs.Votes.{vote_statement, vote_attestation}
-use Rattle.simplex_batcher.specs.History.{History, Setup, waiting, verified}
+use Rattle.simplex_batcher.specs.History.{History, Setup, context, waiting, verified}
 use Rattle.simplex_batcher.specs.Lawful.{VoteAttests, IsRight, IsLawful}
 use Rattle.simplex_batcher.proofs.Backers.{among-not}
 use Rattle.simplex_batcher.proofs.Lawfully.{AreApart, counted-apart}
@@ -52,7 +52,7 @@ module _ {S D P G C : Type 0} where
   one-vote (x ∷ xs) u v pairs (suc j, l, e) (suc k, m, f) same =
       one-vote xs u v (λ i j d l m. pairs (suc i) (suc j) d (omega arith) (omega arith)) (j, omega arith, e) (k, omega arith, f) same
 
-  signer-of : (v : Vote S D P G C) → (vote_attestation v).signer ≡ vote_signer v
+  pub signer-of : (v : Vote S D P G C) → (vote_attestation v).signer ≡ vote_signer v
   signer-of (vote.Notarize v) = refl
   signer-of (vote.Nullify v) = refl
   signer-of (vote.Finalize v) = refl
@@ -72,8 +72,9 @@ module _ {S D P G C : Type 0} where
     as-attests x v e a = rw (signer-of v, ← e) a
 
     -- the verdict on attestations is right of the votes
-    pub judged-right : (x : Statement D) (failing : List ℕ) → All (λ v. vote_statement v ≡ x) (waiting same s kind h) → AreFailing (λ i a. attests s.scheme i x a) (map vote_attestation (waiting same s kind h)) failing → IsRight same attests s h kind failing
-    judged-right x failing says are = record {
+    pub judged-right : (x : Statement D) (failing : List ℕ) → context s kind h ≡ Some x → All (λ v. vote_statement v ≡ x) (waiting same s kind h) → AreFailing (λ i a. attests s.scheme i x a) (map vote_attestation (waiting same s kind h)) failing → IsRight same attests s h kind failing
+    judged-right x failing on says are = record {
+      known = rw on refl;
       others_attest = λ v there out. elim (are.others_attest (vote_attestation v) (map-there vote_attestation (waiting same s kind h) v there)) [
         | inl good ↦ attests-as x v (All-contains (λ v. vote_statement v ≡ x) (waiting same s kind h) v says there) good
         | inr listed ↦ absurd (among-not failing (vote_signer v) out (rw (signer-of v) at listed))

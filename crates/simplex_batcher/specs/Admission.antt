@@ -1,5 +1,5 @@
 -- What is answered to a vote from the network.
-use Rattle.std.specs.Prelude.{true, is_some, ⊤, ◌≡◌, ◌≢◌, ◌<◌, ◌⊎◌, ◌&&◌, ◌==◌, ℕ, Bool, if◌then◌else◌, List, Option, None, Some, MatchOption, MatchBool, nat_lt}
+use Rattle.std.specs.Prelude.{true, is_some, ⊤, ◌≡◌, ◌≢◌, ◌<◌, ◌⊎◌, ◌&&◌, ◌==◌, ℕ, Bool, if◌then◌else◌, List, Option, None, Some, MatchOption, MatchBool, nat_lt, Contains}
 use Rattle.std.specs.Option.{option_and_then}
 use Rattle.simplex_messages.specs.declared.vote.Vote.{Vote}
 use Rattle.simplex_messages.specs.declared.vote.Vote.TheVariants as vote
@@ -12,7 +12,7 @@ use Rattle.simplex_messages.specs.VoteParts.{vote_signer, vote_round}
 use Rattle.simplex_batcher.specs.declared.fault.BatcherFault.{BatcherFault}
 use Rattle.simplex_batcher.specs.declared.fault.BatcherFault.TheVariants.{WrongRound, OtherLeader, Contradicts, Memory}
 use Rattle.simplex_batcher.specs.Votes.{vote_kind}
-use Rattle.simplex_batcher.specs.History.{History, Event, Setup, recorded, takes, is_kept_in_full}
+use Rattle.simplex_batcher.specs.History.{History, Event, Setup, accepted, given, recorded, takes, is_kept_in_full}
 
 module _ {S D P G C : Type 0} where
   -- the vote as a report
@@ -57,6 +57,12 @@ module _ {S D P G C : Type 0} where
     -- a vote contradicts the accepted one that stands in its way
     abbrev pub contradicts : History S D P G C → Vote S D P G C → Bool
     contradicts h v = is_some (option_and_then (λ u. evidence u v) (recorded h v))
+
+    -- Own votes alone were accepted of this vote's member, and it contradicts none of them: so it is with the votes of a
+    -- member whose votes from the network are its own, and that never contradicts itself.
+    pub record AgreesWithOwn (h : History S D P G C) (v : Vote S D P G C) : Type 0 where
+      pub own_alone : (u : Vote S D P G C) → Contains (accepted h) u → vote_signer u ≡ vote_signer v → Contains (given h) u
+      pub agrees : (u : Vote S D P G C) → Contains (given h) u → vote_signer u ≡ vote_signer v → evidence u v ≡ None
 
     -- an own vote may be refused so: it is of another round, it contradicts a recorded one, or memory ran out
     abbrev pub IsCastFault : Setup S → History S D P G C → Vote S D P G C → BatcherFault → Type 0

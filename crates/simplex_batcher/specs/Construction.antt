@@ -1,5 +1,5 @@
 -- What comes of a construction.
-use Rattle.std.specs.Prelude.{◌≡◌, ℕ, Bool, true, false, List, [], ◌∷◌, length, map, All, Option, None, Some, IfSome, MatchBool}
+use Rattle.std.specs.Prelude.{◌≡◌, ℕ, Bool, true, false, List, [], ◌∷◌, length, map, All, Option, None, Some, IfSome, MatchOption, MatchBool}
 use Rattle.std.specs.Option.{option_map}
 use Rattle.simplex_types.specs.Subject.{Statement}
 use Rattle.simplex_types.specs.declared.scheme.Scheme.{Ghosts}
@@ -7,12 +7,20 @@ use Rattle.simplex_messages.specs.declared.vote.Vote.{Vote}
 use Rattle.simplex_messages.specs.declared.certificate.Certificate.{Certificate}
 use Rattle.simplex_messages.specs.Certificate.{certificate_round, certificate_statement, certified_by}
 use Rattle.simplex_batcher.specs.declared.kind.Kind.{Kind}
+use Rattle.simplex_batcher.specs.declared.kind.Kind.TheVariants.{Notarization, Nullification, Finalization}
 use Rattle.simplex_batcher.specs.declared.batch.Batch.{Batch}
 use Rattle.simplex_batcher.specs.declared.judging.Judged.{Judged}
 use Rattle.simplex_batcher.specs.Judging.{IsJudged, IsWhole}
 use Rattle.simplex_batcher.specs.Votes.{vote_statement, vote_attestation, certificate_kind}
-use Rattle.simplex_batcher.specs.History.{History, Certified, Setup, context, waiting, verified, is_ready}
+use Rattle.simplex_batcher.specs.History.{History, Certified, Setup, context, waiting, verified, is_ready, next_kind}
 use Rattle.simplex_batcher.specs.History as history
+
+-- how many kinds there are from the first of which a construction is due on
+abbrev pub kinds_left : Option Kind → ℕ
+kinds_left (Some Notarization) = 3
+kinds_left (Some Nullification) = 2
+kinds_left (Some Finalization) = 1
+kinds_left None = 0
 
 module _ {S D P G C : Type 0} where
   -- the history after a construction of a kind, of which something came or nothing
@@ -23,6 +31,11 @@ module _ {S D P G C : Type 0} where
       after_ : Option (Certificate S D P G C) → History S D P G C
       after_ (Some c) = Certified c ∷ h
       after_ None = history.Judged kind batch.invalid.items ∷ h
+
+  -- the history after a construction of the kind that is due, if one is
+  abbrev pub after_construction : Option Kind → Option (Batch (Certificate S D P G C)) → History S D P G C → History S D P G C
+  after_construction None made h = h
+  after_construction (Some kind) made h = after kind made h
 
   -- what a batch says of the attestations that it is about
   abbrev pub judged_of : Batch (Certificate S D P G C) → Judged C
@@ -64,3 +77,7 @@ module _ {S D P G C : Type 0} where
       -- what comes of a construction that is due
       abbrev pub IsBatch : Setup S → Kind → History S D P G C → Batch (Certificate S D P G C) → Type 0
       IsBatch s kind h batch = MatchBool (is_ready same s kind h) (IsOfVerified s kind h batch) (IsOfWaiting s kind h batch)
+
+      -- what comes of a construction: nothing where none is due, else a batch of the first kind of which one is
+      abbrev pub IsConstruction : Setup S → History S D P G C → Option (Batch (Certificate S D P G C)) → Type 0
+      IsConstruction s h made = MatchOption (next_kind same s h) (made ≡ None) (λ kind. MatchOption made ⊥ (λ batch. IsBatch s kind h batch))

@@ -93,6 +93,24 @@ module _ {S D P G C : Type 0} where
   abbrev pub accepted : History S D P G C → List (Vote S D P G C)
   accepted h = filter_map vote_in h
 
+  -- the vote from the network that an event brought
+  abbrev pub taken_in : Event (Vote S D P G C) (Certificate S D P G C) → Option (Vote S D P G C)
+  taken_in (Taken v) = Some v
+  taken_in e = None
+
+  -- the votes that were accepted from the network
+  abbrev pub taken : History S D P G C → List (Vote S D P G C)
+  taken h = filter_map taken_in h
+
+  -- the own vote that an event brought
+  abbrev pub own_in : Event (Vote S D P G C) (Certificate S D P G C) → Option (Vote S D P G C)
+  own_in (Cast v) = Some v
+  own_in e = None
+
+  -- the own votes that were given
+  abbrev pub given : History S D P G C → List (Vote S D P G C)
+  given h = filter_map own_in h
+
   -- the accepted vote that stands in the way of this one
   abbrev pub recorded : History S D P G C → Vote S D P G C → Option (Vote S D P G C)
   recorded h v = find (is_in_way v) (accepted h)

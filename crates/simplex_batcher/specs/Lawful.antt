@@ -1,5 +1,5 @@
 -- Which histories a round can have.
-use Rattle.std.specs.Prelude.{◌≡◌, ◌⊎◌, ℕ, Bool, true, false, List, [], ◌∷◌, Contains, Option, None, Some, ⊤}
+use Rattle.std.specs.Prelude.{◌≡◌, ◌⊎◌, ℕ, Bool, true, false, List, [], ◌∷◌, Contains, Option, None, Some, is_some, ⊤}
 use Rattle.simplex_types.specs.Subject.{Statement}
 use Rattle.simplex_messages.specs.declared.vote.Vote.{Vote}
 use Rattle.simplex_messages.specs.declared.certificate.Certificate.{Certificate}
@@ -8,7 +8,7 @@ use Rattle.simplex_messages.specs.Certificate.{certificate_round}
 use Rattle.simplex_batcher.specs.declared.kind.Kind.{Kind}
 use Rattle.simplex_batcher.specs.Judging.{is_among}
 use Rattle.simplex_batcher.specs.Votes.{vote_statement, vote_attestation}
-use Rattle.simplex_batcher.specs.History.{Event, Taken, Cast, Certified, Led, Judged, Forwarded, History, Setup, recorded, leader_of, has_forwarded, waiting}
+use Rattle.simplex_batcher.specs.History.{Event, Taken, Cast, Certified, Led, Judged, Forwarded, History, Setup, recorded, leader_of, has_forwarded, context, waiting}
 
 module _ {S D P G C : Type 0} where
   -- the vote is of this round, and no accepted vote stands in its way
@@ -21,8 +21,10 @@ module _ {S D P G C : Type 0} where
   VoteAttests attests s v = attests s.scheme (vote_signer v) (vote_statement v) (vote_attestation v).signature
 
   module _ (same : D → D → Bool) (attests : S → ℕ → Statement D → G → Type 0) where
-    -- the votes of a kind that wait were judged rightly: just those that fail are of these signers
+    -- the votes of a kind that wait were judged rightly: it was known what they have to state, and just those that fail are
+    -- of these signers
     pub record IsRight (s : Setup S) (h : History S D P G C) (kind : Kind) (failing : List ℕ) : Type 0 where
+      pub known : is_some (context s kind h) ≡ true
       pub others_attest : (v : Vote S D P G C) → Contains (waiting same s kind h) v → is_among failing (vote_signer v) ≡ false → VoteAttests attests s v
       pub each_fails : (v : Vote S D P G C) → Contains (waiting same s kind h) v → VoteAttests attests s v → is_among failing (vote_signer v) ≡ false
 

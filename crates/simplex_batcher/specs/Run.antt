@@ -1,5 +1,5 @@
 -- The answers to a list of calls.
-use Rattle.std.specs.Prelude.{◌≡◌, ◌≢◌, ◌↔◌, ℕ, Bool, true, false, IsTrue, List, [], ◌∷◌, if◌then◌else◌, Option, None, Some, IfSome, MatchOption, is_none, is_some, ⊤}
+use Rattle.std.specs.Prelude.{◌≡◌, ◌≢◌, ◌↔◌, ℕ, Bool, true, false, IsTrue, List, [], ◌∷◌, ◌++◌, ◌+◌, if◌then◌else◌, Option, None, Some, IfSome, MatchOption, is_none, is_some, ⊤}
 use Rattle.simplex_types.specs.Subject.{Statement}
 use Rattle.simplex_types.specs.declared.scheme.Scheme.{Ghosts}
 use Rattle.simplex_messages.specs.declared.vote.Vote.{Vote}
@@ -23,7 +23,7 @@ use Rattle.simplex_batcher.specs.History.{History, Taken, Cast, Certified, Led, 
 use Rattle.simplex_batcher.specs.Lawful.{VoteAttests}
 use Rattle.simplex_batcher.specs.Queries.{has_nullify, is_missing_voter, missing_voters}
 use Rattle.simplex_batcher.specs.Admission.{IsBlocked, report_of, as_report, contradicts, IsAdmissionFault, IsCastFault}
-use Rattle.simplex_batcher.specs.Construction.{after, IsBatch}
+use Rattle.simplex_batcher.specs.Construction.{after_construction, IsConstruction}
 
 module _ {S D P G C : Type 0} where
   -- what a call asks: that an own vote attests
@@ -31,10 +31,25 @@ module _ {S D P G C : Type 0} where
   IsAsked attests s (AcceptVote v) = VoteAttests attests s v
   IsAsked attests s call = ⊤
 
-  -- the history after a construction of the kind that is due, if one is
-  abbrev pub after_construction : Option Kind → Option (Batch (Certificate S D P G C)) → History S D P G C → History S D P G C
-  after_construction None made h = h
-  after_construction (Some kind) made h = after kind made h
+  -- how many votes a construction judged, if that was answered
+  abbrev pub processed_of : Answer S D P G C → ℕ
+  processed_of (answer.Constructed (Some batch)) = batch.processed
+  processed_of a = 0
+
+  -- how many votes were judged in all
+  abbrev pub processed_in : List (Answer S D P G C) → ℕ
+  processed_in [] = 0
+  processed_in (a ∷ answers) = processed_of a + processed_in answers
+
+  -- the last three calls were constructions, none of which was refused
+  pub record EndsInConstructions (calls : List (Call S D P G C)) (answers : List (Answer S D P G C)) : Type 0 where
+    pub before : List (Call S D P G C)
+    pub answered : List (Answer S D P G C)
+    pub first : Option (Batch (Certificate S D P G C))
+    pub second : Option (Batch (Certificate S D P G C))
+    pub third : Option (Batch (Certificate S D P G C))
+    pub calls_are : calls ≡ before ++ TryConstruct ∷ TryConstruct ∷ TryConstruct ∷ []
+    pub answers_are : answers ≡ answered ++ answer.Constructed first ∷ answer.Constructed second ∷ answer.Constructed third ∷ []
 
   module _ (same : D → D → Bool) where
     -- the answer to a vote of this round from the network
@@ -77,10 +92,6 @@ module _ {S D P G C : Type 0} where
     after_all s h calls answers = h
 
   module _ (g : Ghosts S D P G C) (same : D → D → Bool) where
-    -- what comes of a construction: nothing where none is due, else a batch of the first kind that is
-    abbrev pub IsConstruction : Setup S → History S D P G C → Option (Batch (Certificate S D P G C)) → Type 0
-    IsConstruction s h made = MatchOption (next_kind same s h) (made ≡ None) (λ kind. MatchOption made ⊥ (λ batch. IsBatch g same s kind h batch))
-
     -- what is answered to a call after this history
     abbrev pub Answers : Setup S → History S D P G C → Call S D P G C → Answer S D P G C → Type 0
     Answers s h (AddNetwork sender v) (answer.Admitted a) = IsAdmission same s h sender v a
@@ -91,7 +102,7 @@ module _ {S D P G C : Type 0} where
     Answers s h (RecordCertificate c) (answer.Refused fault) = (certificate_round c ≢ s.round) × (fault ≡ WrongRound)
     Answers s h (SetLeader leader) answer.Led = IfSome (leader_of h) (λ known. known ≡ leader)
     Answers s h (SetLeader leader) (answer.Refused fault) = (fault ≡ OtherLeader) × MatchOption (leader_of h) ⊥ (λ known. known ≢ leader)
-    Answers s h TryConstruct (answer.Constructed made) = IsConstruction s h made
+    Answers s h TryConstruct (answer.Constructed made) = IsConstruction g same s h made
     Answers s h TryConstruct (answer.Refused fault) = fault ≡ Memory
     Answers s h (TryForwardProposal me) (answer.Forward p) = p ≡ forwardable h me
     Answers s h (Ask question) a = AnswersQuestion same s h question a

@@ -1,6 +1,6 @@
 //! The votes of one round.
 
-ghost use Rattle.std.specs.Prelude.{◌≡◌, ◌≢◌, ◌↔◌, ◌∷◌, [], ◌&&◌, ℕ, List, Bool, true, false, Err, Option, Some, None, find, IsTrue, IfOk, IfErr, IfSome, MatchOption, OnOk, OnErr, is_none, is_some, if◌then◌else◌};
+ghost use Rattle.std.specs.Prelude.{◌≡◌, ◌≢◌, ◌↔◌, ◌<◌, ◌∷◌, [], ◌&&◌, ℕ, List, Bool, true, false, Err, Option, Some, None, find, IsTrue, IfOk, IfErr, IfSome, MatchOption, OnOk, OnErr, is_none, is_some, if◌then◌else◌};
 ghost use Rattle.std.specs.Option.{option_copied};
 ghost use Rattle.simplex_types.specs.Quorum.{quorum};
 ghost use Rattle.simplex_messages.specs.VoteParts.{vote_round, vote_signer};
@@ -11,8 +11,8 @@ ghost use Rattle.simplex_batcher.specs.Votes.{vote_kind, certificate_kind};
 ghost use Rattle.simplex_batcher.specs.History.{Taken, Cast, Certified, Led, Forwarded, recorded, selected, leader_of, takes, is_kept_in_full, is_complete, forwardable, is_another, next_kind};
 ghost use Rattle.simplex_batcher.specs.Lawful.{IsNew, VoteAttests, Allowed};
 ghost use Rattle.simplex_batcher.specs.Quorums.{AllCertified};
-ghost use Rattle.simplex_batcher.specs.Admission.{as_report, evidence, contradicts, IsBlocked, report_of, IsAdmissionFault, IsCastFault};
-ghost use Rattle.simplex_batcher.specs.Construction.{after, IsBatch};
+ghost use Rattle.simplex_batcher.specs.Admission.{as_report, evidence, contradicts, IsBlocked, report_of, AgreesWithOwn, IsAdmissionFault, IsCastFault};
+ghost use Rattle.simplex_batcher.specs.Construction.{after, after_construction, kinds_left, IsBatch};
 ghost use Rattle.simplex_batcher.specs.Rounds.{RoundKeeps, AtEach};
 
 use crate::admission::{Admission, are_against, are_for_two, are_one, evidence_of, report};
@@ -204,7 +204,8 @@ impl<S: Scheme<D>, D: Digest> Round<S, D> {
     }
 
     /// Takes an own vote, which attests: its report where it is new, and nothing where one of its kind, or of nullify and
-    /// finalize the other, was given before.
+    /// finalize the other, was given before. An own vote of a member that never contradicts itself is refused for want of
+    /// memory alone.
     ///
     /// # Errors
     ///
@@ -218,6 +219,7 @@ impl<S: Scheme<D>, D: Digest> Round<S, D> {
         ensures foreign { AtEach D.PartialEq.eq S.Scheme S.batchable self.old (λ s h. vote_round vote ≢ s.round → (result ≡ Err WrongRound)) }
         ensures against { AtEach D.PartialEq.eq S.Scheme S.batchable self.old (λ s h. vote_round vote ≡ s.round → contradicts D.PartialEq.eq h vote ≡ true → (result ≡ Err Contradicts)) }
         ensures refused { IfErr result (λ e. AtEach D.PartialEq.eq S.Scheme S.batchable self.old (λ s h. IsCastFault D.PartialEq.eq s h vote e)) }
+        ensures own { IfErr result (λ e. AtEach D.PartialEq.eq S.Scheme S.batchable self.old (λ s h. vote_round vote ≡ s.round → AgreesWithOwn D.PartialEq.eq h vote → e ≡ Memory)) }
         ensures ours { IfOk result (λ report. AtEach D.PartialEq.eq S.Scheme S.batchable self.old (λ s h. vote_round vote ≡ s.round)) }
         ensures agrees { IfOk result (λ report. AtEach D.PartialEq.eq S.Scheme S.batchable self.old (λ s h. contradicts D.PartialEq.eq h vote ≡ false)) }
         ensures report { IfOk result (λ report. AtEach D.PartialEq.eq S.Scheme S.batchable self.old (λ s h. report ≡ (if is_none (recorded h vote) then Some (as_report vote) else None))) }
@@ -281,14 +283,31 @@ impl<S: Scheme<D>, D: Digest> Round<S, D> {
     }
 
     /// Makes a certificate, or judges the votes that wait, of the first kind of which one of the two is due: notarization,
-    /// nullification, finalization. Where nothing is due, each kind with a valid quorum has its certificate. After an `Err`
-    /// the call counts as not made.
+    /// nullification, finalization. Where nothing is due, each kind with a valid quorum has its certificate. Where something
+    /// was, a later kind is due, or none: three calls one after the other are enough. After an `Err` the call counts as not
+    /// made.
     pub fn try_construct(
         &mut self,
         alloc: Global,
     ) -> Result<Option<Batch<Certificate<S, D>>>, AllocError>
         ensures none { IfOk result (λ made. AtEach D.PartialEq.eq S.Scheme S.batchable self.old (λ s h. is_none made ≡ is_none (next_kind D.PartialEq.eq s h))) }
+        ensures batch { IfOk result (λ made. IfSome made (λ batch. AtEach D.PartialEq.eq S.Scheme S.batchable self.old (λ s h. MatchOption (next_kind D.PartialEq.eq s h) ⊥ (λ kind. IsBatch S.Scheme D.PartialEq.eq s kind h batch)))) }
         ensures certified { IfOk result (λ made. made ≡ None → AtEach D.PartialEq.eq S.Scheme S.batchable self.old (λ s h. s.is_skipped ≡ false → AllCertified S.attests s h)) }
+        ensures last { IfOk result (λ made. AtEach D.PartialEq.eq S.Scheme S.batchable self.old (λ s h. let later = after_construction (next_kind D.PartialEq.eq s h) made h in s.is_skipped ≡ false → next_kind D.PartialEq.eq s later ≡ None → AllCertified S.attests s later)) }
+        ensures fewer { IfOk result (λ made. AtEach D.PartialEq.eq S.Scheme S.batchable self.old (λ s h. is_some made ≡ true → kinds_left (next_kind D.PartialEq.eq s (after_construction (next_kind D.PartialEq.eq s h) made h)) < kinds_left (next_kind D.PartialEq.eq s h))) }
+        ensures ok { IfOk result (λ made. AtEach D.PartialEq.eq S.Scheme S.batchable self.old (λ s h. RoundKeeps D.PartialEq.eq S.Scheme S.batchable s self.new (after_construction (next_kind D.PartialEq.eq s h) made h))) }
+        ensures err { OnErr result (AtEach D.PartialEq.eq S.Scheme S.batchable self.old (λ s h. RoundKeeps D.PartialEq.eq S.Scheme S.batchable s self.new h)) }
+    {
+        let made = self.construct_first(alloc)?;
+        Ok(made)
+    }
+
+    /// Makes what is due first.
+    fn construct_first(
+        &mut self,
+        alloc: Global,
+    ) -> Result<Option<Batch<Certificate<S, D>>>, AllocError>
+        ensures none { IfOk result (λ made. AtEach D.PartialEq.eq S.Scheme S.batchable self.old (λ s h. is_none made ≡ is_none (next_kind D.PartialEq.eq s h))) }
         ensures batch { IfOk result (λ made. IfSome made (λ batch. AtEach D.PartialEq.eq S.Scheme S.batchable self.old (λ s h. MatchOption (next_kind D.PartialEq.eq s h) ⊥ (λ kind. IsBatch S.Scheme D.PartialEq.eq s kind h batch)))) }
         ensures ok { IfOk result (λ made. AtEach D.PartialEq.eq S.Scheme S.batchable self.old (λ s h. MatchOption (next_kind D.PartialEq.eq s h) (RoundKeeps D.PartialEq.eq S.Scheme S.batchable s self.new h) (λ kind. RoundKeeps D.PartialEq.eq S.Scheme S.batchable s self.new (after kind made h)))) }
         ensures err { OnErr result (AtEach D.PartialEq.eq S.Scheme S.batchable self.old (λ s h. RoundKeeps D.PartialEq.eq S.Scheme S.batchable s self.new h)) }

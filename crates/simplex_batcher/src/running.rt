@@ -1,8 +1,10 @@
 //! Lists of calls.
 
-ghost use Rattle.std.specs.Prelude.{◌≡◌, List, All, IfOk, OnErr};
+ghost use Rattle.std.specs.Prelude.{◌≡◌, ◌≤◌, List, All, IfOk, OnErr, length, false};
+ghost use Rattle.simplex_batcher.specs.History.{taken};
+ghost use Rattle.simplex_batcher.specs.Quorums.{AllCertified};
 ghost use Rattle.simplex_batcher.specs.Rounds.{RoundKeeps, AtEach};
-ghost use Rattle.simplex_batcher.specs.Run.{IsAsked, AnswersQuestion, Answers, AnswersAre, after_call, after_all};
+ghost use Rattle.simplex_batcher.specs.Run.{IsAsked, AnswersQuestion, Answers, AnswersAre, after_call, after_all, processed_in, EndsInConstructions};
 
 use crate::call::{Answer, Call, Question};
 use crate::fault::BatcherFault;
@@ -71,7 +73,8 @@ fn make<S: Scheme<D>, D: Digest>(
 }
 
 /// Makes the calls, one after the other, and hands back their answers. A call that is refused counts as not made. Own
-/// votes among them have to attest. After an `Err` none was made.
+/// votes among them have to attest. The constructions judge no more votes than were accepted from the network, and three of
+/// them in a row leave no valid quorum without its certificate. After an `Err` no call was made.
 pub fn run<S: Scheme<D>, D: Digest>(
     alloc: Global,
     round: &mut Round<S, D>,
@@ -79,6 +82,8 @@ pub fn run<S: Scheme<D>, D: Digest>(
 ) -> Result<Vec<Answer<S, D>>, AllocError>
     ensures answers { IfOk result (λ answers. AtEach D.PartialEq.eq S.Scheme S.batchable round.old (λ s h. All (IsAsked S.attests s) calls.items → AnswersAre S.Scheme D.PartialEq.eq s h calls.items answers.items)) }
     ensures keeps { IfOk result (λ answers. AtEach D.PartialEq.eq S.Scheme S.batchable round.old (λ s h. All (IsAsked S.attests s) calls.items → RoundKeeps D.PartialEq.eq S.Scheme S.batchable s round.new (after_all D.PartialEq.eq s h calls.items answers.items))) }
+    ensures processed { IfOk result (λ answers. AtEach D.PartialEq.eq S.Scheme S.batchable round.old (λ s h. All (IsAsked S.attests s) calls.items → processed_in answers.items ≤ length (taken (after_all D.PartialEq.eq s h calls.items answers.items)))) }
+    ensures certified { IfOk result (λ answers. AtEach D.PartialEq.eq S.Scheme S.batchable round.old (λ s h. All (IsAsked S.attests s) calls.items → s.is_skipped ≡ false → EndsInConstructions calls.items answers.items → AllCertified S.attests s (after_all D.PartialEq.eq s h calls.items answers.items))) }
     ensures err { OnErr result (round.new ≡ round.old) }
 {
     let mut answers = Vec::with_capacity(alloc, calls.len())?;

@@ -1,12 +1,8 @@
-use Rattle.std.proofs.Common.{◌≡◌, refl, Bool, ◌∙◌}
+use Rattle.std.proofs.Common.{◌≡◌, refl}
 use Rattle.std.specs.Prelude.{Option, None, Some, MatchOption, IfSome, is_none}
-use Rattle.simplex_messages.specs.declared.certificate.Certificate.{Certificate}
 use Rattle.simplex_batcher.specs.declared.kind.Kind.{Kind}
-use Rattle.simplex_batcher.specs.declared.batch.Batch.{Batch}
-use Rattle.simplex_batcher.specs.History.{History, next_kind}
-use Rattle.simplex_batcher.specs.Construction.{after, IsBatch}
-use Rattle.simplex_batcher.specs.Rounds.{RoundKeeps}
-use Rattle.simplex_batcher.specs.Run.{after_construction}
+use Rattle.simplex_batcher.specs.History.{next_kind}
+use Rattle.simplex_batcher.specs.Construction.{IsBatch}
 use Rattle.simplex_batcher.proofs.running.make.Goals as goal
 
 -- what comes of a construction, by the kind that is due
@@ -18,10 +14,6 @@ made-of P (Some kind) (Some b) e batch = batch b refl
 
 some-at : {B : Type 0} (P : B → Type 0) (made : Option B) (b : B) → IfSome made P → made ≡ Some b → P b
 some-at P made b all e = rw e at all
-
-after-of : {S D P G C : Type 0} (R : History S D P G C → Type 0) (h : History S D P G C) (made : Option (Batch (Certificate S D P G C))) (next : Option Kind) → MatchOption next (R h) (λ kind. R (after kind made h)) → R (after_construction next made h)
-after-of R h made None m = m
-after-of R h made (Some kind) m = m
 
 pub returns-in-Ok-clause-answer : goal.returns-in-Ok-clause-answer
 returns-in-Ok-clause-answer g c = λ s h k. rw c.in-AddNetwork.is (record {
@@ -38,7 +30,3 @@ pub returns-in-Ok-try_construct-clause-answer : goal.returns-in-Ok-try_construct
 returns-in-Ok-try_construct-clause-answer g c = λ s h k. rw c.in-TryConstruct.is
     (made-of (λ kind batch. IsBatch g.S.Scheme g.D.PartialEq.eq s kind h batch) (next_kind g.D.PartialEq.eq s h) c.in-Ok-try_construct.made (c.in-Ok-try_construct.ensures.none s h k)
     (λ batch e. some-at _ c.in-Ok-try_construct.made batch c.in-Ok-try_construct.ensures.batch e s h k))
-
-pub returns-in-Ok-try_construct-clause-keeps : goal.returns-in-Ok-try_construct-clause-keeps
-returns-in-Ok-try_construct-clause-keeps g c = λ s h k asked. rw c.in-TryConstruct.is
-    (after-of (RoundKeeps g.D.PartialEq.eq g.S.Scheme g.S.Scheme.batchable s c.try_construct.new.self) h c.in-Ok-try_construct.made (next_kind g.D.PartialEq.eq s h) (c.in-Ok-try_construct.ensures.ok s h k))

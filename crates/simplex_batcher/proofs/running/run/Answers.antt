@@ -2,6 +2,8 @@ use Rattle.std.proofs.Common.{sym, ◌∙◌, ◌≡◌, ◌≤◌, ◌+◌, rul
 use Rattle.std.proofs.lemmas.List.{nil_from_length}
 use Rattle.simplex_batcher.specs.Run.{after_call}
 use Rattle.simplex_batcher.proofs.Reaching.{Reached-start, Reached-asked, Reached-step, Reached-end}
+use Rattle.simplex_batcher.proofs.Summing.{processed-taken}
+use Rattle.simplex_batcher.proofs.Ending.{three-enough}
 use Rattle.simplex_batcher.proofs.running.run.Goals as goal
 
 pub loop-call-init : goal.loop-call-init
@@ -34,3 +36,16 @@ returns-clause-keeps g c = λ s first k all.
     let i = c.loop-call.invariant.1 s first k all in
     let none = nil_from_length _ (sym c.loop-call.call-iterator.rest.ok.0 ∙ c.in-None.ensures.steps.0) in
     rw (Reached-end _ _ _ _ _ _ _ _ i.2 none).1 i.1
+
+pub returns-clause-processed : goal.returns-clause-processed
+returns-clause-processed g c = λ s first k all.
+    let i = c.loop-call.invariant.1 s first k all in
+    let none = nil_from_length _ (sym c.loop-call.call-iterator.rest.ok.0 ∙ c.in-None.ensures.steps.0) in
+    processed-taken g.S.Scheme g.D.PartialEq.eq s first _ _ (Reached-end _ _ _ _ _ _ _ _ i.2 none).0
+
+pub returns-clause-certified : goal.returns-clause-certified
+returns-clause-certified g c = λ s first k all live ends.
+    let i = c.loop-call.invariant.1 s first k all in
+    let none = nil_from_length _ (sym c.loop-call.call-iterator.rest.ok.0 ∙ c.in-None.ensures.steps.0) in
+    let reached = Reached-end _ _ _ _ _ _ _ _ i.2 none in
+    three-enough g.S.Scheme g.D.PartialEq.eq s g.met.D.Digest.equal_is_same i.1.verifier.some_needed first _ _ live reached.0 ends (rw reached.1 i.1.verifier.lawful)

@@ -1,17 +1,45 @@
-use Rattle.std.proofs.Common.{◌≡◌, ◌∙◌, refl, sym, false}
-use Rattle.std.specs.Prelude.{None}
-use Rattle.simplex_batcher.specs.declared.kind.Kind.TheVariants.{Notarization, Nullification, Finalization}
-use Rattle.simplex_batcher.specs.History.{is_due, next_kind}
+use Rattle.std.proofs.Common.{◌≡◌, ◌∙◌, refl, sym, true}
+use Rattle.std.specs.Prelude.{Option, None, Some, MatchOption, IfSome, is_none}
+use Rattle.simplex_messages.specs.declared.certificate.Certificate.{Certificate}
+use Rattle.simplex_batcher.specs.declared.kind.Kind.{Kind}
+use Rattle.simplex_batcher.specs.declared.batch.Batch.{Batch}
+use Rattle.simplex_batcher.specs.History.{History, next_kind}
+use Rattle.simplex_batcher.specs.Construction.{after, after_construction}
+use Rattle.simplex_batcher.specs.Rounds.{RoundKeeps}
 use Rattle.simplex_batcher.proofs.Kept.{none-lost}
+use Rattle.simplex_batcher.proofs.Finishing.{made-fewer}
 use Rattle.simplex_batcher.proofs.round.Round.try_construct.Goals as goal
 
-pub returns-in-None-3-clause-certified : goal.returns-in-None-3-clause-certified
-returns-in-None-3-clause-certified g c = λ _ s h k made.
+after-of : {S D P G C : Type 0} (R : History S D P G C → Type 0) (h : History S D P G C) (made : Option (Batch (Certificate S D P G C))) (next : Option Kind) → MatchOption next (R h) (λ kind. R (after kind made h)) → R (after_construction next made h)
+after-of R h made None m = m
+after-of R h made (Some kind) m = m
+
+nothing : {X : Type 0} (o : Option X) → is_none o ≡ true → o ≡ None
+nothing None e = refl
+nothing (Some x) e = absurd (cc e)
+
+some-at : {B : Type 0} (P : B → Type 0) (made : Option B) (b : B) → IfSome made P → made ≡ Some b → P b
+some-at P made b all e = rw e at all
+
+pub returns-clause-certified : goal.returns-clause-certified
+returns-clause-certified g c = λ none s h k live.
     let same = g.D.PartialEq.eq in
-    let second = rw c.in-None.is at (c.in_ok-batch.ensures.keeps s h k.verifier) in
-    let third = rw c.in-None-2.is at (c.in_ok-batch-2.ensures.keeps s h second) in
-    let notarization : is_due same s Notarization h ≡ false = sym (rw c.in-None.is at (c.in_ok-batch.ensures.due s h k.verifier)) in
-    let nullification : is_due same s Nullification h ≡ false = sym (rw c.in-None-2.is at (c.in_ok-batch-2.ensures.due s h second)) in
-    let finalization : is_due same s Finalization h ≡ false = sym (rw c.in-None-3.is at (c.in_ok-batch-3.ensures.due s h third)) in
-    let none : next_kind same s h ≡ None = rw (notarization, nullification, finalization) refl in
-    none-lost same g.met.D.Digest.equal_is_same g.S.Scheme.attests s h made k.verifier.lawful none
+    let next : next_kind same s h ≡ None = nothing (next_kind same s h) (sym (c.in_ok-made.ensures.none s h k) ∙ rw none refl) in
+    none-lost same g.met.D.Digest.equal_is_same g.S.Scheme.attests s h live k.verifier.lawful next
+
+pub returns-clause-last : goal.returns-clause-last
+returns-clause-last g c = λ s h k live none.
+    let same = g.D.PartialEq.eq in
+    let later = after_construction (next_kind same s h) c.in_ok-made.made h in
+    let kept = after-of (RoundKeeps same g.S.Scheme g.S.Scheme.batchable s c.construct_first.new.self) h c.in_ok-made.made (next_kind same s h) (c.in_ok-made.ensures.ok s h k) in
+    none-lost same g.met.D.Digest.equal_is_same g.S.Scheme.attests s later live kept.verifier.lawful none
+
+pub returns-clause-fewer : goal.returns-clause-fewer
+returns-clause-fewer g c = λ s h k some.
+    let same = g.D.PartialEq.eq in
+    made-fewer g.S.Scheme same g.met.D.Digest.equal_is_same s k.verifier.some_needed h k.verifier.lawful c.in_ok-made.made (next_kind same s h) refl some (c.in_ok-made.ensures.none s h k)
+    (λ batch e. some-at _ c.in_ok-made.made batch c.in_ok-made.ensures.batch e s h k)
+
+pub returns-clause-ok : goal.returns-clause-ok
+returns-clause-ok g c = λ s h k.
+    after-of (RoundKeeps g.D.PartialEq.eq g.S.Scheme g.S.Scheme.batchable s c.construct_first.new.self) h c.in_ok-made.made (next_kind g.D.PartialEq.eq s h) (c.in_ok-made.ensures.ok s h k)
