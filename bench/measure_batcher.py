@@ -1,15 +1,15 @@
 #!/usr/bin/env python3
 """Runs the baseline and simplex on the votes of the same rounds, compares and prints what they cost.
 
-Started by batcher.sh, which builds both. A time is the least wall time of some runs, the two programs
-taking turns, less that of a run with no repetition, for each repetition and vote handed in.
+Started by batcher.sh, which builds both. A time is the least processor time of some runs, the two
+programs taking turns, less that of a run with no repetition, for each repetition and vote handed in.
 """
 
 import argparse
+import resource
 import statistics
 import subprocess
 import sys
-import time
 
 SIZES = [4, 100, 1000]
 RUNS = 7
@@ -32,11 +32,12 @@ def arguments():
 
 
 def run(program, phase, members, repetitions):
-    """The answer, and the wall seconds."""
+    """The answer, and the seconds of a processor."""
     command = [program, phase, str(members), str(repetitions)]
-    start = time.perf_counter()
+    start = resource.getrusage(resource.RUSAGE_CHILDREN)
     done = subprocess.run(command, check=True, capture_output=True)
-    return done.stdout.decode(), time.perf_counter() - start
+    end = resource.getrusage(resource.RUSAGE_CHILDREN)
+    return done.stdout.decode(), end.ru_utime - start.ru_utime + end.ru_stime - start.ru_stime
 
 
 def expected(phase, members, repetitions):
@@ -79,7 +80,7 @@ def main():
         for members in SIZES:
             print(f"measuring {phase}: {members} members", file=sys.stderr)
             costs[phase, members] = measure(programs, phase, members, runs)
-    print(f"Least wall time of {runs} runs, for one vote.\n")
+    print(f"Least processor time of {runs} runs, for one vote.\n")
     print("| Phase | Members | Baseline ns | `simplex` ns | Ratio | Median of the runs' ratios |")
     print("|---|---:|---:|---:|---:|---:|")
     for (phase, members), ((baseline, simplex), median) in costs.items():

@@ -156,9 +156,12 @@ impl<S: Listing<Sha256Digest> + Drop> Table<S> {
         }
     }
 
-    /// These calls.
+    /// These calls. Where the memory for the list is refused, it is asked for again.
     fn list(&mut self, calls: &[Call]) -> Result<Vec<Asked<S, Sha256Digest>>, Fail> {
-        let mut list = Vec::with_capacity(self.alloc, calls.len())?;
+        let mut list = match Vec::with_capacity(self.alloc, calls.len()) {
+            Ok(list) => list,
+            Err(AllocError) => Vec::with_capacity(self.alloc, calls.len())?,
+        };
         for call in calls {
             list.push(self.spelled(*call)?)?;
         }

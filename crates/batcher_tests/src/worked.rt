@@ -115,8 +115,8 @@ fn what_is_refused_changes_nothing(rt: HostRuntime) -> Result<(), Fail> {
     plain_plays(&rt, rt.alloc(), 5, Opening::Kept, &rows)
 }
 
-// `rt try --test --fail-alloc N` refuses one of the requests for memory. Where the refused one is a call's on the round,
-// that call is made again, and all answers are those of a round that never met it.
+// Where one of the requests for memory is refused, as by `rt try --test --fail-alloc N`, whatever N, what asked is made
+// again, and all answers are those of a round that never met it.
 #[test]
 fn a_call_whose_memory_is_refused_counts_as_not_made(rt: HostRuntime) -> Result<(), Fail> {
     let judged = Made {

@@ -1,6 +1,6 @@
 //! What is answered to votes.
 
-ghost use Rattle.std.specs.Prelude.{◌≡◌, ◌↔◌, IsTrue, IfOk, is_some};
+ghost use Rattle.std.specs.Prelude.{◌≡◌, ◌↔◌, IsTrue, IfOk, None, false, is_some};
 ghost use Rattle.simplex_batcher.specs.Admission.{as_report, AreForTwo, evidence};
 
 use simplex_messages::{
@@ -18,6 +18,21 @@ pub struct Admission<S: Scheme<D>, D: Digest> {
     pub block: bool,
     /// The accepted vote, or evidence against its sender.
     pub report: Option<Activity<S, D>>,
+}
+
+impl<S: Scheme<D>, D: Digest> Admission<S, D> {
+    /// What is answered to a vote that is not accepted, and that there is no evidence against.
+    pub(crate) const fn without_evidence(block: bool) -> Self
+        ensures added { result.added ≡ false }
+        ensures block { result.block ≡ block }
+        ensures report { result.report ≡ None }
+    {
+        Admission {
+            added: false,
+            block,
+            report: None,
+        }
+    }
 }
 
 /// The vote as a report.

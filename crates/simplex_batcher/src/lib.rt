@@ -1,5 +1,5 @@
 //! The votes of one round, on their way to certificates.
-#![tactic(auto)]
+#![tactic(auto, unfolding(crate::specs::Rounds::RoundKeeps))]
 
 mod admission;
 mod batch;

@@ -92,60 +92,36 @@ impl<S: Scheme<D>, D: Digest> Round<S, D> {
         !self.verifier.is_skipped() && (self.tracks || !self.has_certificate(kind))
     }
 
-    /// Whether a vote from the network is accepted.
-    fn takes(&self, sender: Participant, vote: &Vote<S, D>) -> bool
-        ensures { AtEach D.PartialEq.eq S.Scheme S.batchable self.now (λ s h. result ≡ takes s h sender vote.now) }
-    {
-        sender == vote.signer()
-            && sender.get() < self.verifier.participants()
-            && self.tracker.recorded(vote).is_none()
-    }
-
-    /// What is answered to a vote that is not accepted.
-    fn refuse(
+    /// What is answered to a vote from the network that is not accepted; nothing where it is accepted.
+    fn refusal(
         &self,
         alloc: Global,
         sender: Participant,
         vote: &Vote<S, D>,
-    ) -> Result<Admission<S, D>, AllocError>
-        ensures added { IfOk result (λ a. a.added ≡ false) }
-        ensures block { IfOk result (λ a. AtEach D.PartialEq.eq S.Scheme S.batchable self.now (λ s h. takes s h sender vote.now ≡ false → IsTrue a.block ↔ IsBlocked s h sender vote.now)) }
-        ensures report { IfOk result (λ a. AtEach D.PartialEq.eq S.Scheme S.batchable self.now (λ s h. takes s h sender vote.now ≡ false → a.report ≡ report_of D.PartialEq.eq s h sender vote.now)) }
+    ) -> Result<Option<Admission<S, D>>, AllocError>
+        ensures takes { IfOk result (λ refused. AtEach D.PartialEq.eq S.Scheme S.batchable self.now (λ s h. is_none refused ≡ takes s h sender vote.now)) }
+        ensures added { IfOk result (λ refused. IfSome refused (λ a. a.added ≡ false)) }
+        ensures block { IfOk result (λ refused. IfSome refused (λ a. AtEach D.PartialEq.eq S.Scheme S.batchable self.now (λ s h. IsTrue a.block ↔ IsBlocked s h sender vote.now))) }
+        ensures report { IfOk result (λ refused. IfSome refused (λ a. AtEach D.PartialEq.eq S.Scheme S.batchable self.now (λ s h. a.report ≡ report_of D.PartialEq.eq s h sender vote.now))) }
     {
         if sender != vote.signer() {
-            return Ok(Admission {
-                added: false,
-                block: true,
-                report: None,
-            });
+            return Ok(Some(Admission::without_evidence(true)));
         }
         if sender.get() >= self.verifier.participants() {
-            return Ok(Admission {
-                added: false,
-                block: false,
-                report: None,
-            });
+            return Ok(Some(Admission::without_evidence(false)));
         }
         let Some(recorded) = self.tracker.recorded(vote) else {
-            return Ok(Admission {
-                added: false,
-                block: false,
-                report: None,
-            });
+            return Ok(None);
         };
         if !self.is_kept_in_full(kind_of(recorded)) {
-            return Ok(Admission {
-                added: false,
-                block: are_for_two(recorded, vote),
-                report: None,
-            });
+            return Ok(Some(Admission::without_evidence(are_for_two(recorded, vote))));
         }
         let report = evidence_of(alloc, recorded, vote)?;
-        Ok(Admission {
+        Ok(Some(Admission {
             added: false,
             block: !are_one(recorded, vote),
             report,
-        })
+        }))
     }
 
     /// Takes a vote from the network. Its sender is blocked where it names another, or where the vote offends one that was
@@ -173,8 +149,8 @@ impl<S: Scheme<D>, D: Digest> Round<S, D> {
         if !self.belongs(&vote) {
             return Err(BatcherFault::WrongRound);
         }
-        if !self.takes(sender, &vote) {
-            return Ok(self.refuse(alloc, sender, &vote)?);
+        if let Some(admission) = self.refusal(alloc, sender, &vote)? {
+            return Ok(admission);
         }
         let report = report(alloc, &vote)?;
         self.put(alloc, vote, false)?;

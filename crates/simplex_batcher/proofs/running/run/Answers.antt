@@ -4,6 +4,7 @@ use Rattle.simplex_batcher.specs.Run.{after_call}
 use Rattle.simplex_batcher.proofs.Reaching.{Reached-start, Reached-asked, Reached-step, Reached-end}
 use Rattle.simplex_batcher.proofs.Summing.{processed-taken}
 use Rattle.simplex_batcher.proofs.Ending.{three-enough}
+use Rattle.simplex_batcher.specs.Rounds.{RoundKeeps}
 use Rattle.simplex_batcher.proofs.running.run.Goals as goal
 
 pub loop-call-init : goal.loop-call-init
@@ -44,6 +45,7 @@ returns-clause-processed g c = λ s first k all.
     processed-taken g.S.Scheme g.D.PartialEq.eq s first _ _ (Reached-end _ _ _ _ _ _ _ _ i.2 none).0
 
 pub returns-clause-certified : goal.returns-clause-certified
+unfolding RoundKeeps
 returns-clause-certified g c = λ s first k all live ends.
     let i = c.loop-call.invariant.1 s first k all in
     let none = nil_from_length _ (sym c.loop-call.call-iterator.rest.ok.0 ∙ c.in-None.ensures.steps.0) in

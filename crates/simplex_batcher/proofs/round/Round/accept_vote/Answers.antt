@@ -3,9 +3,11 @@ use Rattle.std.specs.Prelude.{Some}
 use Rattle.simplex_batcher.specs.History.{accepted, recorded}
 use Rattle.simplex_batcher.specs.Admission.{contradicts}
 use Rattle.simplex_batcher.proofs.Admitting.{own-agrees}
+use Rattle.simplex_batcher.specs.Rounds.{RoundKeeps}
 use Rattle.simplex_batcher.proofs.round.Round.accept_vote.Goals as goal
 
 pub returns-then-are_against-clause-own : goal.returns-then-are_against-clause-own
+unfolding RoundKeeps
 returns-then-are_against-clause-own g c = λ s h k ours own.
     let same = g.D.PartialEq.eq in
     let v = c.args.vote in

@@ -1,16 +1,14 @@
-use Rattle.std.proofs.Common.{sym, ◌∙◌, refl}
+use Rattle.std.proofs.Common.{◌≡◌, sym, refl, true}
 use Rattle.std.proofs.lemmas.Result.{err_from_is_err_and}
-use Rattle.simplex_batcher.proofs.Admitting.{taken-not-blocked, taken-new}
+use Rattle.simplex_batcher.specs.History.{takes}
+use Rattle.simplex_batcher.proofs.Admitting.{taken-new}
 use Rattle.simplex_batcher.proofs.round.Round.add_network.Goals as goal
 
-pub returns-in_err-refuse-clause-foreign : goal.returns-in_err-refuse-clause-foreign
-returns-in_err-refuse-clause-foreign g c = λ s h k differs. absurd (differs ((c.belongs.ensures s h k).0 c.if-not-belongs.false))
+pub returns-in-Some-clause-foreign : goal.returns-in-Some-clause-foreign
+returns-in-Some-clause-foreign g c = λ s h k differs. absurd (differs ((c.belongs.ensures s h k).0 c.if-not-belongs.false))
 
-pub returns-then-not-takes-clause-foreign : goal.returns-then-not-takes-clause-foreign
-returns-then-not-takes-clause-foreign g c = λ s h k differs. absurd (differs ((c.belongs.ensures s h k).0 c.if-not-belongs.false))
-
-pub returns-then-not-takes-clause-block : goal.returns-then-not-takes-clause-block
-returns-then-not-takes-clause-block g c = λ s h k. c.in_ok-refuse.ensures.block s h k (sym (c.takes.ensures s h k) ∙ c.if-not-takes.true)
+pub returns-in-Some-clause-ours : goal.returns-in-Some-clause-ours
+returns-in-Some-clause-ours g c = λ s h k. (c.belongs.ensures s h k).0 c.if-not-belongs.false
 
 pub returns-in_err-report-clause-foreign : goal.returns-in_err-report-clause-foreign
 returns-in_err-report-clause-foreign g c = λ s h k differs. absurd (differs ((c.belongs.ensures s h k).0 c.if-not-belongs.false))
@@ -21,14 +19,8 @@ returns-in_err-put-clause-foreign g c = λ s h k differs. absurd (differs ((c.be
 pub returns-clause-foreign : goal.returns-clause-foreign
 returns-clause-foreign g c = λ s h k differs. absurd (differs ((c.belongs.ensures s h k).0 c.if-not-belongs.false))
 
-pub returns-clause-block : goal.returns-clause-block
-returns-clause-block g c = λ s h k. (λ no_. absurd (cc no_), λ b. absurd (taken-not-blocked s h c.args.sender c.args.vote (sym (c.takes.ensures s h k) ∙ c.if-not-takes.false) b))
-
 pub returns-then-not-belongs-clause-refused : goal.returns-then-not-belongs-clause-refused
 returns-then-not-belongs-clause-refused g c = λ s h k ours. absurd (cc ((c.belongs.ensures s h k).1 ours, c.if-not-belongs.true))
-
-pub returns-then-not-takes-clause-ours : goal.returns-then-not-takes-clause-ours
-returns-then-not-takes-clause-ours g c = λ s h k. (c.belongs.ensures s h k).0 c.if-not-belongs.false
 
 pub returns-clause-ours : goal.returns-clause-ours
 returns-clause-ours g c = λ s h k. (c.belongs.ensures s h k).0 c.if-not-belongs.false
@@ -37,9 +29,10 @@ pub returns-in_err-put-clause-err : goal.returns-in_err-put-clause-err
 returns-in_err-put-clause-err g c =
     let fault = err_from_is_err_and c.from_residual-in_err-put.result c.from_residual-in_err-put.ensures.1 in
     rw fault.1 (λ s h k.
-    c.in_err-put.ensures.err s h k (taken-new s h c.args.sender c.args.vote (sym (c.takes.ensures s h k) ∙ c.if-not-takes.false) ((c.belongs.ensures s h k).0 c.if-not-belongs.false)))
+    let taken = sym (rw c.in_default.is at (c.in_ok-admission.ensures.takes s h k)) in
+    c.in_err-put.ensures.err s h k (taken-new s h c.args.sender c.args.vote taken ((c.belongs.ensures s h k).0 c.if-not-belongs.false)))
 
 pub returns-clause-ok : goal.returns-clause-ok
 returns-clause-ok g c = λ s h k.
-    let taken = sym (c.takes.ensures s h k) ∙ c.if-not-takes.false in
+    let taken : takes s h c.args.sender c.args.vote ≡ true = sym (rw c.in_default.is at (c.in_ok-admission.ensures.takes s h k)) in
     rw taken (c.in_ok-put.ensures.taken s h k refl (taken-new s h c.args.sender c.args.vote taken ((c.belongs.ensures s h k).0 c.if-not-belongs.false)))

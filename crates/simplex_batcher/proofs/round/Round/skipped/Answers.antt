@@ -1,8 +1,10 @@
 use Rattle.std.proofs.Common.{◌≡◌, refl, arith, max, false, true}
 use Rattle.simplex_types.specs.Quorum.{quorum}
+use Rattle.simplex_batcher.specs.Rounds.{RoundKeeps}
 use Rattle.simplex_batcher.proofs.round.Round.skipped.Goals as goal
 
 pub returns : goal.returns
+unfolding RoundKeeps
 returns g c =
     let e : max 0 (quorum (g.S.Scheme.size c.args.scheme.value)) ≡ quorum (g.S.Scheme.size c.args.scheme.value) = grind arith in record {
       verifier = rw e at (c.open.ensures false);

@@ -22,12 +22,14 @@ some-at : {B : Type 0} (P : B → Type 0) (made : Option B) (b : B) → IfSome m
 some-at P made b all e = rw e at all
 
 pub returns-clause-certified : goal.returns-clause-certified
+unfolding RoundKeeps
 returns-clause-certified g c = λ none s h k live.
     let same = g.D.PartialEq.eq in
     let next : next_kind same s h ≡ None = nothing (next_kind same s h) (sym (c.in_ok-made.ensures.none s h k) ∙ rw none refl) in
     none-lost same g.met.D.Digest.equal_is_same g.S.Scheme.attests s h live k.verifier.lawful next
 
 pub returns-clause-last : goal.returns-clause-last
+unfolding RoundKeeps
 returns-clause-last g c = λ s h k live none.
     let same = g.D.PartialEq.eq in
     let later = after_construction (next_kind same s h) c.in_ok-made.made h in
@@ -35,11 +37,13 @@ returns-clause-last g c = λ s h k live none.
     none-lost same g.met.D.Digest.equal_is_same g.S.Scheme.attests s later live kept.verifier.lawful none
 
 pub returns-clause-fewer : goal.returns-clause-fewer
+unfolding RoundKeeps
 returns-clause-fewer g c = λ s h k some.
     let same = g.D.PartialEq.eq in
     made-fewer g.S.Scheme same g.met.D.Digest.equal_is_same s k.verifier.some_needed h k.verifier.lawful c.in_ok-made.made (next_kind same s h) refl some (c.in_ok-made.ensures.none s h k)
     (λ batch e. some-at _ c.in_ok-made.made batch c.in_ok-made.ensures.batch e s h k)
 
 pub returns-clause-ok : goal.returns-clause-ok
+unfolding RoundKeeps
 returns-clause-ok g c = λ s h k.
     after-of (RoundKeeps g.D.PartialEq.eq g.S.Scheme g.S.Scheme.batchable s c.construct_first.new.self) h c.in_ok-made.made (next_kind g.D.PartialEq.eq s h) (c.in_ok-made.ensures.ok s h k)
