@@ -3,6 +3,7 @@
 
 pub mod config;
 mod laws;
+pub mod resolver;
 
 pub use laws::{
     a_latch_changes_nothing_due, one_payload_is_built_on, what_is_due_may_be_recorded,
