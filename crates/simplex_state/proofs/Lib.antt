@@ -1,5 +1,10 @@
+mod Agreeing
 mod Closed
 mod Grounding
+mod Growing
+mod Matched
+mod Pruning
 mod Recordable
 mod Single
 mod Steady
+mod Windowing

@@ -1,4 +1,4 @@
--- What a voter knows, beside what its record says. Behind that the laws of the voter, as statements that are still to be proved.
+-- What a voter knows, beside what its record says. Behind that the laws of the voter, as statements.
 use Rattle.std.specs.Prelude.{◌≡◌, ◌≢◌, ◌⊎◌, ◌↔◌, ◌<◌, ◌≤◌, ℕ, Bool, true, false, List, [], ◌∷◌, reverse, Contains, ◌+◌, Some, IsSome, IsTrue, ⊤, if◌then◌else◌}
 use Rattle.simplex_types.specs.declared.position.Round.{Round}
 use Rattle.simplex_types.specs.declared.proposal.Proposal.{Proposal}
@@ -118,7 +118,7 @@ module _ {D : Type 0} (m : Member) where
     pub certify : (p : Proposal D) → CertifyIsDue m k view p → CertifyIsDue m j view p
     pub certificate : (required : ℕ) → CertificateIsWanted m k view required → CertificateIsWanted m j view required
 
--- The laws, as statements. Each is or is to be a clause of a function without a body (`laws.rt`): what stands in no clause there is
+-- The laws, as statements. Each is proved as a clause of a function without a body (`laws.rt`): what stands in no clause there is
 -- not proved.
 
 -- a notarize that is due may be recorded, where the held proposal was bound to its parent's payload

@@ -1,6 +1,6 @@
 //! What follows from the definitions of a voter.
 
-ghost use Rattle.simplex_state.specs.Matching.{DueMayBeNotarized, DueMayBeFinalized, DueMayBeNullified, DueNotarizeIsOnGround, DueVerdictIsOnGround, OneIsSupported, OneIsPreferred, LatchChangesNothing, ScanChangesNothing, ScanLeavesNothing, LeadersAreClosed};
+ghost use Rattle.simplex_state.specs.Matching.{DueMayBeNotarized, DueMayBeFinalized, DueMayBeNullified, DueNotarizeIsOnGround, DueVerdictIsOnGround, OneIsSupported, OneIsPreferred, LatchChangesNothing, ScanChangesNothing, ScanLeavesNothing, LeadersAreClosed, EachHistoryMatches, WhatAgreesIsDueAlike, PruneChangesNothing, WindowsAgree};
 
 use simplex_types::{Digest, Scheme};
 
@@ -35,4 +35,22 @@ pub fn a_latch_changes_nothing_due<S: Scheme<D>, D: Digest>()
     ensures scan { ScanChangesNothing S D S.PublicKey S.Signature S.Certificate }
     ensures passed { ScanLeavesNothing S D S.PublicKey S.Signature S.Certificate }
     ensures leaders { LeadersAreClosed S D S.PublicKey S.Signature S.Certificate }
+{}
+
+/// What is known at the end of an orderly history is what its record says, as far as votes rest on it: the
+/// current view and the last finalized one, what is covered, the own votes, certificates and verdicts.
+pub fn what_is_known_is_recorded<S: Scheme<D>, D: Digest>()
+    ensures { EachHistoryMatches S D S.PublicKey S.Signature S.Certificate }
+{}
+
+/// Where the same is known from the last finalized view on, the same votes and requests are due above it. So
+/// a prune, which drops only views below, changes nothing that is due there.
+pub fn a_prune_changes_nothing_due<S: Scheme<D>, D: Digest>()
+    ensures agreeing { WhatAgreesIsDueAlike D }
+    ensures pruned { PruneChangesNothing S D S.PublicKey S.Signature S.Certificate }
+{}
+
+/// The issuance window in which leaders are handed on is the one in which votes and requests are due.
+pub fn windows_are_one<S: Scheme<D>, D: Digest>()
+    ensures { WindowsAgree S D S.PublicKey S.Signature S.Certificate }
 {}
