@@ -10,7 +10,7 @@ use Rattle.simplex_rules.specs.Windows.{issuance_floor}
 use Rattle.simplex_round.specs.Past.{verdict_is_true}
 use Rattle.simplex_views.specs.Known.{Known}
 use Rattle.simplex_state.specs.Ancestry.{Member, held_at, AreCoveredBetween, IsFirstUncovered, explicit, has_certificate, certificate_payload, InWindow, IsHandoffParent, HasFailed, IsVotedFor, Optimistic, at_start, by_certificate, by_own_vote, Supports, IsSpan, IsParent, IsPredecessor, IsLastCertified, IsHandedOver, IsPreferred, Leads, Stands, IsSteady, IsRequired}
-use Rattle.simplex_state.specs.Requests.{IsOpen, BuildIsDue, WaitsForParent, NullificationIsWanted, VerdictIsOpen}
+use Rattle.simplex_state.specs.Requests.{IsOpen, BuildIsDue, IsCaptured, IsSuperseded, WaitsForParent, NullificationIsWanted, VerdictIsOpen}
 use Rattle.simplex_state.specs.Due.{NotarizeIsDue, FinalizeIsDue}
 use Rattle.simplex_state.specs.Matching.{AgreeAbove, WhatAgreesIsDueAlike}
 
@@ -332,6 +332,7 @@ what_agrees_is_due_alike {D} m k j view a above = record {
   finalize = finalize_is_due m k j a view above;
   build = λ parent payload due. build_is_due m k j a view parent payload above due;
   verify = λ p payload due. record { waits = waits m k j a view p above due.waits; parent = parent_rule m k j a view p.parent payload above due.parent };
+  superseded = λ parent payload s. superseded parent payload s;
   invalid = λ p bad. record { waits = waits m k j a view p above bad.waits; invalid = rw (sym a.last_finalized) bad.invalid };
   nullification = λ p u wanted. record {
     waits = waits m k j a view p above wanted.waits;
@@ -373,6 +374,15 @@ what_agrees_is_due_alike {D} m k j view a above = record {
 
     over : j.last_finalized < view
     over = omega (arith, above, a.last_finalized)
+
+    superseded : (parent : ℕ) (payload : D) → IsSuperseded m k view parent payload → IsSuperseded m j view parent payload
+    superseded parent payload s =
+        let other = s.other in
+        record { fallen = λ captured. s.fallen (captured_back captured); other = (other.0, other.1, preferred m k j a view other.0 other.1 above other.2) }
+      where
+        captured_back : IsCaptured m j view parent payload → IsCaptured m k view parent payload
+        captured_back (inl built) = inl (preferred m j k (turned m k j a) view parent payload over built)
+        captured_back (inr rule) = inr (parent_rule m j k (turned m k j a) view parent payload over rule)
 
     uncovered : (p : Proposal D) (u : ℕ) → NullificationIsWanted m k view p u → IsFirstUncovered m j p.parent view u
     uncovered p u wanted =

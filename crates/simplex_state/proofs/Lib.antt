@@ -4,6 +4,7 @@ mod Grounding
 mod Growing
 mod Matched
 mod Pruning
+mod Quiet
 mod Recordable
 mod Single
 mod Steady

@@ -5,7 +5,7 @@ pub mod config;
 mod laws;
 
 pub use laws::{
-    a_latch_changes_nothing_due, a_prune_changes_nothing_due, one_payload_is_built_on,
-    what_is_due_may_be_recorded, what_is_due_stands_on_ground, what_is_known_is_recorded,
-    windows_are_one,
+    a_latch_changes_nothing_due, a_look_leaves_nothing_to_ask, a_prune_changes_nothing_due,
+    one_payload_is_built_on, what_is_due_may_be_recorded, what_is_due_stands_on_ground,
+    what_is_known_is_recorded, windows_are_one,
 };
