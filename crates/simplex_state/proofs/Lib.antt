@@ -1,5 +1,11 @@
+mod Agreeing
 mod Closed
 mod Grounding
+mod Growing
+mod Matched
+mod Pruning
+mod Quiet
 mod Recordable
 mod Single
 mod Steady
+mod Windowing

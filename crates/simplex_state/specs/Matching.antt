@@ -1,21 +1,24 @@
--- What a voter knows, beside what its record says. Behind that the laws of the voter, as statements that are still to be proved.
+-- What a voter knows, beside what its record says. Behind that the laws of the voter, as statements.
 use Rattle.std.specs.Prelude.{◌≡◌, ◌≢◌, ◌⊎◌, ◌↔◌, ◌<◌, ◌≤◌, ℕ, Bool, true, false, List, [], ◌∷◌, reverse, Contains, ◌+◌, Some, IsSome, IsTrue, ⊤, if◌then◌else◌}
 use Rattle.simplex_types.specs.declared.position.Round.{Round}
 use Rattle.simplex_types.specs.declared.proposal.Proposal.{Proposal}
 use Rattle.simplex_types.specs.Subject.{notarize, nullify, finalize}
+use Rattle.simplex_rules.specs.declared.kind.Kind.{Kind}
+use Rattle.simplex_rules.specs.Windows.{AdmitsOutbound}
 use Rattle.simplex_record.specs.Record as recorded
 use Rattle.simplex_record.specs.Record.{Entry, HasVoted, HasTaken, HasJudged, current_view}
 use Rattle.simplex_record.specs.Chain.{JudgesOnGround, VotesOnGround}
 use Rattle.simplex_record.specs.Rules.{MayNotarize, MayNullify, MayFinalize}
 use Rattle.simplex_round.specs.declared.timeout_reason.TimeoutReason.{TimeoutReason}
+use Rattle.simplex_round.specs.declared.timeout_reason.TimeoutReason.TheVariants as reason
 use Rattle.simplex_round.specs.Held.{IsTainted, Agrees, held}
 use Rattle.simplex_round.specs.Past as past
-use Rattle.simplex_views.specs.History.{Setup, Point, notarized, nullified, finalized, judged, built, latched, voted_notarize, voted_nullify, voted_finalize, recalled_notarize, recalled_nullify, recalled_finalize, recalled_verdict, pruned, current, last_finalized, seen}
+use Rattle.simplex_views.specs.History.{Setup, Point, notarized, nullified, finalized, judged, built, latched, voted_notarize, voted_nullify, voted_finalize, recalled_notarize, recalled_nullify, recalled_finalize, recalled_verdict, sent, polled, pruned, current, last_finalized, seen}
 use Rattle.simplex_views.specs.Leaders.{is_in_window, inherits, leader}
 use Rattle.simplex_views.specs.Known.{Known, known}
 use Rattle.simplex_state.specs.Ancestry.{Member, member, held_at, IsCovered, InWindow, Optimistic, IsPreferred}
-use Rattle.simplex_state.specs.Requests.{Scanned, BuildIsDue, VerifyIsDue, IsInvalid, NullificationIsWanted, NotarizationIsWanted, CertifyIsDue, CertificateIsWanted}
-use Rattle.simplex_state.specs.Due.{NotarizeIsDue, NullifyIsDue, FinalizeIsDue}
+use Rattle.simplex_state.specs.Requests.{Scanned, BuildIsDue, IsSuperseded, VerifyIsDue, IsInvalid, AsksNothing, NullificationIsWanted, NotarizationIsWanted, CertifyIsDue, CertificateIsWanted}
+use Rattle.simplex_state.specs.Due.{NotarizeIsDue, NullifyIsDue, FinalizeIsDue, MayLatch, timeout}
 
 -- the round of a view
 abbrev pub round_of : {S C : Type 0} → Setup S C → ℕ → Round
@@ -112,13 +115,14 @@ module _ {D : Type 0} (m : Member) where
     pub finalize : FinalizeIsDue m k view → FinalizeIsDue m j view
     pub build : (parent : ℕ) (payload : D) → BuildIsDue m k view parent payload → BuildIsDue m j view parent payload
     pub verify : (p : Proposal D) (payload : D) → VerifyIsDue m k view p payload → VerifyIsDue m j view p payload
+    pub superseded : (parent : ℕ) (payload : D) → IsSuperseded m k view parent payload → IsSuperseded m j view parent payload
     pub invalid : (p : Proposal D) → IsInvalid m k view p → IsInvalid m j view p
     pub nullification : (p : Proposal D) (u : ℕ) → NullificationIsWanted m k view p u → NullificationIsWanted m j view p u
     pub notarization : (p : Proposal D) → NotarizationIsWanted m k view p → NotarizationIsWanted m j view p
     pub certify : (p : Proposal D) → CertifyIsDue m k view p → CertifyIsDue m j view p
     pub certificate : (required : ℕ) → CertificateIsWanted m k view required → CertificateIsWanted m j view required
 
--- The laws, as statements. Each is or is to be a clause of a function without a body (`laws.rt`): what stands in no clause there is
+-- The laws, as statements. Each is proved as a clause of a function without a body (`laws.rt`): what stands in no clause there is
 -- not proved.
 
 -- a notarize that is due may be recorded, where the held proposal was bound to its parent's payload
@@ -163,14 +167,31 @@ module _ (S D P G C : Type 0) where
   abbrev pub EachHistoryMatches : Type 0
   EachHistoryMatches = (s : Setup S C) (h : List (Point S D P G C)) → IsOrderly s h → Matches (member s) (known s h) (record_of s h)
 
-  -- a reason to give a view up changes nothing else that is due, nor does a look at the next timeout
+  -- a reason to give a view up changes nothing else that is due
   abbrev pub LatchChangesNothing : Type 0
   LatchChangesNothing = (s : Setup S C) (h : List (Point S D P G C)) (now view : ℕ) (why : TimeoutReason) → known s (latched now view why ∷ h) ≡ known s h
+
+  -- nor does a look at the next timeout, that a certificate was handed out, or a nullify that is voted once more
+  abbrev pub PollChangesNothing : Type 0
+  PollChangesNothing = (s : Setup S C) (h : List (Point S D P G C)) (now : ℕ) → known s (polled now ∷ h) ≡ known s h
+
+  abbrev pub SendChangesNothing : Type 0
+  SendChangesNothing = (s : Setup S C) (h : List (Point S D P G C)) (k : Kind) (view : ℕ) → known s (sent k view ∷ h) ≡ known s h
+
+  abbrev pub RepetitionChangesNothing : Type 0
+  RepetitionChangesNothing = (s : Setup S C) (h : List (Point S D P G C)) (view : ℕ)
+      → past.has_nullified (seen s h view) ≡ true → known s (voted_nullify view ∷ h) ≡ known s h
 
   -- dropping the views that need not be kept changes nothing that is due above the last finalized one
   abbrev pub PruneChangesNothing : Type 0
   PruneChangesNothing = (s : Setup S C) (h : List (Point S D P G C)) (view : ℕ) → last_finalized h < view
       → AreDueAlike (member s) (known s h) (known s (pruned ∷ h)) view × AreDueAlike (member s) (known s (pruned ∷ h)) (known s h) view
+
+  -- nor when and why the current view is given up, and which reasons for that count
+  abbrev pub PruneKeepsTimeouts : Type 0
+  PruneKeepsTimeouts = (s : Setup S C) (h : List (Point S D P G C)) (now : ℕ)
+      → (timeout s (pruned ∷ h) now ≡ timeout s h now) × (NullifyIsDue s h now ↔ NullifyIsDue s (pruned ∷ h) now)
+      × ((view : ℕ) (why : TimeoutReason) → MayLatch s h view why ↔ MayLatch s (pruned ∷ h) view why)
 
   -- the issuance window is the same for leaders and for all that is due
   abbrev pub WindowsAgree : Type 0
@@ -181,10 +202,20 @@ module _ (S D P G C : Type 0) where
   LeadersAreClosed = (s : Setup S C) (h : List (Point S D P G C)) (view i : ℕ)
       → inherits s h (view + 1) ≡ true → leader s h view ≡ Some i → IsSome (leader s h (view + 1))
 
-  -- a look at the proposals that wait changes nothing that is due, and leaves none of those that it passed to be verified
+  -- a look at the proposals that wait changes nothing that is due, and leaves nothing to be asked for those that it passed
   abbrev pub ScanChangesNothing : Type 0
   ScanChangesNothing = (s : Setup S C) (now first : ℕ) (h : List (Point S D P G C)) (view : ℕ) (end : List (Point S D P G C)) → Scanned s now first h view end → known s end ≡ known s h
 
   abbrev pub ScanLeavesNothing : Type 0
   ScanLeavesNothing = (s : Setup S C) (now first : ℕ) (h : List (Point S D P G C)) (view : ℕ) (end : List (Point S D P G C)) → Scanned s now first h view end
-      → (u : ℕ) (p : Proposal D) (payload : D) → first ≤ u → u < view → ¬ VerifyIsDue (member s) (known s end) u p payload
+      → (u : ℕ) → first ≤ u → u < view → AsksNothing (member s) (known s end) u
+
+  -- those that can never stand were given up for that
+  abbrev pub ScanGivesUp : Type 0
+  ScanGivesUp = (s : Setup S C) (now first : ℕ) (h : List (Point S D P G C)) (view : ℕ) (end : List (Point S D P G C)) → Scanned s now first h view end
+      → (u : ℕ) (p : Proposal D) → first ≤ u → u < view → IsInvalid (member s) (known s end) u p → Contains end (latched now u reason.InvalidProposal)
+
+  -- and where it passed all that may be spoken of, nothing is to be asked for any
+  abbrev pub WholeScanLeavesNothing : Type 0
+  WholeScanLeavesNothing = (s : Setup S C) (now : ℕ) (h : List (Point S D P G C)) (view : ℕ) (end : List (Point S D P G C)) → Scanned s now (current s h) h view end
+      → ((u : ℕ) → AdmitsOutbound s.length s.optimistic_views (current s h) u → u < view) → (u : ℕ) → AsksNothing (member s) (known s end) u

@@ -115,11 +115,15 @@ module _ {D : Type 0} (m : Member) (k : Known D) where
     pub first : k.certify_waited view ≡ false
     pub absent : k.notarized required ≡ None
 
-  -- nothing is to be asked for the view's proposal, nor is the view to be given up for it
-  pub record IsPassed (view : ℕ) : Type 0 where
+  -- nothing is to be asked for the view's proposal
+  pub record AsksNothing (view : ℕ) : Type 0 where
     pub no_verify : (p : Proposal D) (payload : D) → ¬ VerifyIsDue view p payload
     pub no_nullification : (p : Proposal D) (u : ℕ) → ¬ NullificationIsWanted view p u
     pub no_notarization : (p : Proposal D) → ¬ NotarizationIsWanted view p
+
+  -- nor is the view to be given up for it
+  pub record IsPassed (view : ℕ) : Type 0 where
+    pub asks : AsksNothing view
     pub not_invalid : (p : Proposal D) → ¬ IsInvalid view p
 
   -- the build to ask for: of the lowest view where one is

@@ -6,6 +6,7 @@ mod laws;
 pub mod resolver;
 
 pub use laws::{
-    a_latch_changes_nothing_due, one_payload_is_built_on, what_is_due_may_be_recorded,
-    what_is_due_stands_on_ground,
+    a_latch_changes_nothing_due, a_look_leaves_nothing_to_ask, a_prune_changes_nothing_due,
+    one_payload_is_built_on, what_is_due_may_be_recorded, what_is_due_stands_on_ground,
+    what_is_known_is_recorded, windows_are_one,
 };
