@@ -99,6 +99,26 @@ pub(crate) fn stream(alloc: Global, reports: &[(u8, &[Vote])]) -> Result<Vec<u8>
     Ok(out)
 }
 
+/// The tag of the vote as a loose report.
+pub(crate) fn tag_of(vote: Vote) -> u8 {
+    match vote {
+        Vote::Notarize(_, _) => 0,
+        Vote::Nullify(_) => 3,
+        Vote::Finalize(_, _) => 5,
+    }
+}
+
+/// The votes as loose reports, one behind the other.
+pub(crate) fn loose(alloc: Global, votes: &[Vote]) -> Result<Vec<u8>, Fail> {
+    let scheme = salted(alloc)?;
+    let mut out = Vec::new(alloc);
+    for vote in votes {
+        out.push(tag_of(*vote))?;
+        append_votes(&mut out, &scheme, &[*vote])?;
+    }
+    Ok(out)
+}
+
 /// The spelled evidence of an audit of whole reports.
 pub(crate) fn evidence<S: Listing<Sha256Digest>>(
     rt: &impl Abort,

@@ -1,15 +1,27 @@
 //! Votes that no audit needs to verify, and forged ones that stand before, between and behind true ones.
 
-use crate::audit::finds;
 use crate::ballots::Vote::{Finalize, Notarize, Nullify};
-use crate::ballots::{Vote, evidence, salted, stream, verifies};
+use crate::ballots::{Vote, evidence, loose, salted, stream, tag_of, verifies};
 use crate::holds::holds;
 use simplex_rules::SaltedScheme;
 use std::alloc::Global;
+use std::process::Abort;
 use std::test::Fail;
 
 /// Forged votes have these counters.
 const FORGED: u64 = 100;
+
+/// The audit of the loose votes gives this evidence, by its tags and votes.
+fn finds(
+    rt: &impl Abort,
+    alloc: Global,
+    votes: &[Vote],
+    wanted: &[(u8, &[Vote])],
+) -> Result<(), Fail> {
+    let found = evidence(rt, alloc, &salted(alloc)?, &loose(alloc, votes)?)?;
+    holds(rt, found == stream(alloc, wanted)?);
+    Ok(())
+}
 
 #[test]
 fn forged_votes_shadow_no_true_one_for_the_same_proposal(rt: HostRuntime) -> Result<(), Fail> {
@@ -24,11 +36,7 @@ fn forged_votes_shadow_no_true_one_for_the_same_proposal(rt: HostRuntime) -> Res
         &[other, forged, forged, again, first],
     ];
     for votes in rows {
-        let mut loose = Vec::new(rt.alloc());
-        for vote in votes {
-            loose.push((0_u8, core::slice::from_ref(vote)))?;
-        }
-        finds(&rt, rt.alloc(), &loose, &[(7, &[first, other])])?;
+        finds(&rt, rt.alloc(), votes, &[(7, &[first, other])])?;
     }
     Ok(())
 }
@@ -46,26 +54,22 @@ fn forged_votes_shadow_no_true_one_for_another_proposal(rt: HostRuntime) -> Resu
         &[second, high, low, high, first],
     ];
     for votes in rows {
-        let mut loose = Vec::new(rt.alloc());
-        for vote in votes {
-            loose.push((5_u8, core::slice::from_ref(vote)))?;
-        }
-        finds(&rt, rt.alloc(), &loose, &[(8, &[first, second])])?;
+        finds(&rt, rt.alloc(), votes, &[(8, &[first, second])])?;
     }
     Ok(())
 }
 
 #[test]
 fn forged_votes_alone_name_nobody(rt: HostRuntime) -> Result<(), Fail> {
-    let rows: [&[(u8, &[Vote])]; 5] = [
-        &[(0, &[Notarize(10, FORGED)]), (0, &[Notarize(11, 1)])],
-        &[(0, &[Notarize(11, 1)]), (0, &[Notarize(10, FORGED)])],
-        &[(3, &[Nullify(FORGED)]), (5, &[Finalize(10, 1)])],
-        &[(3, &[Nullify(1)]), (5, &[Finalize(10, FORGED)])],
-        &[(3, &[Nullify(FORGED)]), (5, &[Finalize(10, FORGED)])],
+    let rows: [&[Vote]; 5] = [
+        &[Notarize(10, FORGED), Notarize(11, 1)],
+        &[Notarize(11, 1), Notarize(10, FORGED)],
+        &[Nullify(FORGED), Finalize(10, 1)],
+        &[Nullify(1), Finalize(10, FORGED)],
+        &[Nullify(FORGED), Finalize(10, FORGED)],
     ];
-    for reports in rows {
-        finds(&rt, rt.alloc(), reports, &[])?;
+    for votes in rows {
+        finds(&rt, rt.alloc(), votes, &[])?;
     }
     Ok(())
 }
@@ -74,20 +78,15 @@ fn forged_votes_alone_name_nobody(rt: HostRuntime) -> Result<(), Fail> {
 fn claims_stand_on_both_sides_of_a_nullify_beside_a_finalize(rt: HostRuntime) -> Result<(), Fail> {
     let (nullify, finalize) = (Nullify(1), Finalize(10, 2));
     let (forged, false_one) = (Nullify(FORGED), Finalize(9, FORGED));
-    let rows: [&[(u8, &[Vote])]; 5] = [
-        &[(3, &[nullify]), (5, &[finalize])],
-        &[(5, &[finalize]), (3, &[nullify])],
-        &[(3, &[forged]), (5, &[finalize]), (3, &[nullify])],
-        &[(5, &[false_one]), (3, &[nullify]), (5, &[finalize])],
-        &[
-            (3, &[forged]),
-            (5, &[false_one]),
-            (9, &[nullify, finalize]),
-            (3, &[Nullify(3)]),
-        ],
+    let rows: [&[Vote]; 5] = [
+        &[nullify, finalize],
+        &[finalize, nullify],
+        &[forged, finalize, nullify],
+        &[false_one, nullify, finalize],
+        &[forged, false_one, finalize, nullify, Nullify(3)],
     ];
-    for reports in rows {
-        finds(&rt, rt.alloc(), reports, &[(9, &[nullify, finalize])])?;
+    for votes in rows {
+        finds(&rt, rt.alloc(), votes, &[(9, &[nullify, finalize])])?;
     }
     Ok(())
 }
@@ -106,11 +105,7 @@ fn flood(alloc: Global, falling: bool) -> Result<Vec<u8>, Fail> {
             votes.push(Notarize(110, 2))?;
         }
     }
-    let mut loose = Vec::new(alloc);
-    for vote in &votes {
-        loose.push((0_u8, core::slice::from_ref(vote)))?;
-    }
-    stream(alloc, &loose)
+    loose(alloc, &votes)
 }
 
 #[test]
@@ -124,12 +119,11 @@ fn a_flood_of_forged_proposals_hides_nothing(rt: HostRuntime) -> Result<(), Fail
     Ok(())
 }
 
-/// The kind's tag, and the byte that the payload repeats.
-fn content(vote: Vote) -> (u8, u8) {
+/// The byte that the payload repeats; of a nullify the first of those below.
+fn payload_of(vote: Vote) -> u8 {
     match vote {
-        Notarize(payload, _) => (0, payload),
-        Nullify(_) => (3, 10),
-        Finalize(payload, _) => (5, payload),
+        Notarize(payload, _) | Finalize(payload, _) => payload,
+        Nullify(_) => 10,
     }
 }
 
@@ -144,7 +138,8 @@ fn firsts(
     for payload in 10..13 {
         let mut first = None;
         for vote in votes {
-            if first.is_none() && content(*vote) == (tag, payload) && verifies(scheme, *vote)? {
+            let is_wanted = tag_of(*vote) == tag && payload_of(*vote) == payload;
+            if first.is_none() && is_wanted && verifies(scheme, *vote)? {
                 first = Some(*vote);
             }
         }
@@ -197,11 +192,7 @@ fn ten_thousand_streams_are_judged_as_by_verifying_each_vote(rt: HostRuntime) ->
                 .wrapping_add(1);
             votes.push(vote_of(state >> 33))?;
         }
-        let mut loose = Vec::new(alloc);
-        for vote in &votes {
-            loose.push((content(*vote).0, core::slice::from_ref(vote)))?;
-        }
-        let found = evidence(&rt, alloc, &scheme, &stream(alloc, &loose)?)?;
+        let found = evidence(&rt, alloc, &scheme, &loose(alloc, &votes)?)?;
         holds(&rt, found == verified_first(alloc, &scheme, &votes)?);
     }
     Ok(())
