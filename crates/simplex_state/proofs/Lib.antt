@@ -8,4 +8,5 @@ mod Quiet
 mod Recordable
 mod Single
 mod Steady
+mod Walking
 mod Windowing

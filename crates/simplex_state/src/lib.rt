@@ -1,7 +1,9 @@
 //! How a member of a committee is set up, and what follows from the definitions of its voter.
 #![tactic(auto)]
 
+pub mod ancestry;
 pub mod config;
+pub mod knowledge;
 mod laws;
 
 pub use laws::{
