@@ -85,7 +85,7 @@ module _ {D : Type 0} (m : Member) (k : Known D) where
       same (inr (inr x)) (inr (inl y)) = absurd (true≢false (sym y.1 ∙ x.2.undecided))
       same (inr (inr x)) (inr (inr y)) = sym x.3 ∙ (ap (λ (p : Proposal D). p.payload) (same_Some x.0 y.0 (sym x.2.held ∙ y.2.held)) ∙ y.3)
 
-  one_supports : (view parent : ℕ) (a b : D) → Supports m k view parent a → Supports m k view parent b → a ≡ b
+  pub one_supports : (view parent : ℕ) (a b : D) → Supports m k view parent a → Supports m k view parent b → a ≡ b
   one_supports view parent a b one other = by (window_or_not view)
     where
       by : InWindow m k view ⊎ ¬ InWindow m k view → a ≡ b

@@ -1,9 +1,9 @@
 -- What whoever knows of views is asked, and how far what a view supports rests on those below.
-use Rattle.std.specs.Prelude.{◌≡◌, ◌+◌, ◌<◌, ◌≤◌, ℕ, true, false, Option, Some, None, ⊤}
+use Rattle.std.specs.Prelude.{◌≡◌, ◌+◌, ◌<◌, ◌≤◌, ℕ, true, false, Option, Some, None, ⊤, IsSome}
 use Rattle.std.specs.Option.{ForSome}
-use Rattle.simplex_round.specs.Held.{IsVerified}
+use Rattle.simplex_round.specs.Held.{IsUnequivocated, IsVerified}
 use Rattle.simplex_views.specs.Known.{Known}
-use Rattle.simplex_state.specs.Ancestry.{Member, has_certificate, Optimistic, IsInvalidParent, IsFirstUncovered, LacksPayload}
+use Rattle.simplex_state.specs.Ancestry.{Member, explicit, has_certificate, Optimistic, IsInvalidParent, IsFirstUncovered, LacksPayload}
 use Rattle.simplex_state.specs.declared.ancestry.Link.{Link}
 use Rattle.simplex_state.specs.declared.ancestry.ParentFault.{ParentFault}
 use Rattle.simplex_state.specs.declared.ancestry.ParentFault.TheVariants as fault
@@ -25,6 +25,30 @@ module _ {D : Type 0} (m : Member) (k : Known D) where
   -- one of the views from the first on and before the end has a certificate
   abbrev pub HasCertificateWithin : ℕ → ℕ → Type 0
   HasCertificateWithin first end = (u : ℕ) × (first ≤ u) × (u < end) × (has_certificate m k u ≡ true)
+
+  -- one of the views from the first on and before the end was given up here
+  abbrev pub HasGivenUpWithin : ℕ → ℕ → Type 0
+  HasGivenUpWithin first end = (u : ℕ) × (first ≤ u) × (u < end) × (k.has_nullified u ≡ true)
+
+  -- the highest view below that is explicit, with its payload
+  pub record IsHighest (view u : ℕ) (payload : D) : Type 0 where
+    pub below : u < view
+    pub there : explicit m k u ≡ Some payload
+    pub highest : (w : ℕ) → u < w → w < view → explicit m k w ≡ None
+
+  -- of the view alone a notarize may be voted: neither it nor a nullify was, and the held proposal is verified
+  pub record AllowsNotarize (view : ℕ) : Type 0 where
+    pub first : k.has_notarized view ≡ false
+    pub not_given_up : k.has_nullified view ≡ false
+    pub verified : IsVerified (k.offers view)
+
+  -- and so a finalize: neither it nor a nullify was, and the held proposal, which nothing contradicts, is notarized and judged good
+  pub record AllowsFinalize (view : ℕ) : Type 0 where
+    pub not_given_up : k.has_nullified view ≡ false
+    pub first : k.has_finalized view ≡ false
+    pub unequivocated : IsUnequivocated (k.offers view)
+    pub notarized : IsSome (k.notarized view)
+    pub certified : k.verdict view ≡ Some true
 
   -- the held proposal of a view is verified and voted for
   pub record IsBacked (view : ℕ) : Type 0 where

@@ -1,12 +1,13 @@
 //! Which payload a proposal may stand on.
 
-ghost use Rattle.std.specs.Prelude.{◌≡◌, ◌≢◌, ◌↔◌, ◌+◌, ◌<◌, ◌^◌, IsTrue, IfSome, option_map, MatchOption, MatchResult, Some, true, false};
+ghost use Rattle.std.specs.Prelude.{◌≡◌, ◌≢◌, ◌⊎◌, ◌↔◌, ℕ, ◌+◌, ◌<◌, ◌^◌, IsTrue, IfSome, option_map, MatchOption, MatchResult, Some, true, false};
 ghost use Rattle.std.specs.Option.{ForSome};
-ghost use Rattle.simplex_state.specs.Ancestry.{HasFailed, InWindow, IsParent, Optimistic, Supports, explicit, has_certificate};
+ghost use Rattle.simplex_types.specs.Positions.{IsTermStart};
+ghost use Rattle.simplex_state.specs.Ancestry.{HasFailed, InWindow, IsParent, IsPreferred, IsRequired, IsSteady, Leads, Optimistic, Stands, Supports, explicit, has_certificate};
 ghost use Rattle.simplex_state.specs.Knowing.{AtEach, Explains, HasCertificateWithin, IsLink, Rests};
 
 use crate::knowledge::Knowledge;
-use simplex_types::{Digest, View};
+use simplex_types::{Digest, Proposal, View};
 
 /// Why a proposal can't stand on a parent.
 #[derive(Clone, Copy, Debug, PartialEq, Eq)]
@@ -220,4 +221,141 @@ pub fn parent_payload<K: Knowledge<D>, D: Digest>(
         return Err(ParentFault::Uncovered(first));
     }
     supported_payload(known, view, parent).ok_or(ParentFault::Missing)
+}
+
+/// The parent that a view is built on, with its payload: inside a term the view before, where it supports one; at a
+/// term's start the highest explicit view below, where each view between is covered.
+pub fn preferred_parent<K: Knowledge<D>, D: Digest>(known: &K, view: View) -> Option<(View, D)>
+    ensures { AtEach K.shows known.now (λ m k. MatchOption result ((parent : ℕ) (payload : D) → ¬ IsPreferred m k view parent payload) (λ x. IsPreferred m k view x.0 x.1)) }
+{
+    if view.is_term_start(known.lookahead().length) {
+        return last_parent(known, view);
+    }
+    previous_parent(known, view)
+}
+
+/// The same inside a term.
+fn previous_parent<K: Knowledge<D>, D: Digest>(known: &K, view: View) -> Option<(View, D)>
+    ensures { AtEach K.shows known.now (λ m k. ¬ IsTermStart m.length view → MatchOption result ((parent : ℕ) (payload : D) → ¬ IsPreferred m k view parent payload) (λ x. IsPreferred m k view x.0 x.1)) }
+{
+    let parent = view.previous()?;
+    match supported_payload(known, view, parent) {
+        Some(payload) => Some((parent, payload)),
+        None => None,
+    }
+}
+
+/// The same at a term's start.
+fn last_parent<K: Knowledge<D>, D: Digest>(known: &K, view: View) -> Option<(View, D)>
+    ensures { AtEach K.shows known.now (λ m k. IsTermStart m.length view → MatchOption result ((parent : ℕ) (payload : D) → ¬ IsPreferred m k view parent payload) (λ x. IsPreferred m k view x.0 x.1)) }
+{
+    let (parent, payload) = known.last_certified(view)?;
+    if known.first_uncovered(parent, view).is_some() {
+        return None;
+    }
+    Some((parent, payload))
+}
+
+/// Whether what a view's proposal is bound to hasn't fallen: it names the held proposal, and its parent may still be
+/// stood on with the bound payload, or this member, which leads, would build on just that.
+pub fn is_steady<K: Knowledge<D>, D: Digest>(known: &K, view: View) -> bool
+    ensures { AtEach K.shows known.now (λ m k. IsTrue result ↔ IsSteady m k view) }
+{
+    match known.binding(view) {
+        Some((proposal, payload)) => stands(known, view, &proposal, payload),
+        None => true,
+    }
+}
+
+/// Whether a binding of a proposal to its parent's payload stands.
+fn stands<K: Knowledge<D>, D: Digest>(
+    known: &K,
+    view: View,
+    proposal: &Proposal<D>,
+    payload: D,
+) -> bool
+    ensures { AtEach K.shows known.now (λ m k. IsTrue result ↔ Stands m k view (proposal.now, payload)) }
+{
+    if !is_held(known.proposal(view), proposal) {
+        return false;
+    }
+    may_stand_on(known, view, proposal.parent, payload)
+}
+
+/// Whether the held proposal is this one.
+fn is_held<D: Digest>(held: Option<Proposal<D>>, proposal: &Proposal<D>) -> bool
+    ensures { IsTrue result ↔ (held ≡ Some proposal.now) }
+{
+    match held {
+        Some(held) => held == *proposal,
+        None => false,
+    }
+}
+
+/// Whether a view's proposal may stand on this parent with this payload, or this member, which leads, would build it so.
+fn may_stand_on<K: Knowledge<D>, D: Digest>(known: &K, view: View, parent: View, payload: D) -> bool
+    ensures { AtEach K.shows known.now (λ m k. IsTrue result ↔ (IsParent m k view parent payload ⊎ (Leads m k view × IsPreferred m k view parent payload))) }
+{
+    if allows_parent(known, view, parent, payload) {
+        return true;
+    }
+    known.leads(view) && prefers(known, view, parent, payload)
+}
+
+/// Whether the parent rule gives this payload.
+fn allows_parent<K: Knowledge<D>, D: Digest>(
+    known: &K,
+    view: View,
+    parent: View,
+    payload: D,
+) -> bool
+    ensures { AtEach K.shows known.now (λ m k. IsTrue result ↔ IsParent m k view parent payload) }
+{
+    match parent_payload(known, view, parent) {
+        Ok(given) => given == payload,
+        Err(_) => false,
+    }
+}
+
+/// Whether this is the parent to build on, with this payload.
+fn prefers<K: Knowledge<D>, D: Digest>(known: &K, view: View, parent: View, payload: D) -> bool
+    ensures { AtEach K.shows known.now (λ m k. IsTrue result ↔ IsPreferred m k view parent payload) }
+{
+    is_just(preferred_parent(known, view), parent, payload)
+}
+
+/// Whether just this parent was found, with this payload.
+fn is_just<D: Digest>(found: Option<(View, D)>, parent: View, payload: D) -> bool
+    ensures { IsTrue result ↔ (found ≡ Some (parent, payload)) }
+{
+    match found {
+        Some((view, given)) => view == parent && given == payload,
+        None => false,
+    }
+}
+
+/// The view that has to be explicit before a view's proposal on this parent is certified or finalized: inside a term
+/// the view before; at a term's start the view before, where it is the parent, a schedule names this member for the
+/// view, and it voted to notarize there.
+pub fn required_parent<K: Knowledge<D>, D: Digest>(
+    known: &K,
+    view: View,
+    parent: View,
+) -> Option<View>
+    ensures { AtEach K.shows known.now (λ m k. MatchOption result ((required : ℕ) → ¬ IsRequired m k view parent required) (λ required. IsRequired m k view parent required)) }
+{
+    let before = view.previous()?;
+    if !view.is_term_start(known.lookahead().length) {
+        return Some(before);
+    }
+    if parent != before {
+        return None;
+    }
+    if !known.leads_by_schedule(view) {
+        return None;
+    }
+    if !known.broadcast_notarize(view) {
+        return None;
+    }
+    Some(before)
 }

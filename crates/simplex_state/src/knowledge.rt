@@ -1,9 +1,10 @@
 //! What whoever keeps a voter's views can be asked.
 
-ghost use Rattle.std.specs.Prelude.{◌≡◌, ◌≢◌, ◌↔◌, IsTrue, MatchOption};
+ghost use Rattle.std.specs.Prelude.{◌≡◌, ◌≢◌, ◌↔◌, ◌<◌, ℕ, IsTrue, MatchOption, None, Some};
+ghost use Rattle.simplex_rules.specs.Windows.{Retains};
 ghost use Rattle.simplex_views.specs.Known.{Known};
-ghost use Rattle.simplex_state.specs.Ancestry.{Member, AreCoveredBetween, IsFirstUncovered, certificate_payload, explicit, has_certificate, held_at};
-ghost use Rattle.simplex_state.specs.Knowing.{AtEach, HasFailedWithin, IsBacked};
+ghost use Rattle.simplex_state.specs.Ancestry.{Member, AreCoveredBetween, IsFirstUncovered, Leads, LeadsBySchedule, certificate_payload, explicit, has_certificate, held_at};
+ghost use Rattle.simplex_state.specs.Knowing.{AllowsFinalize, AllowsNotarize, AtEach, HasFailedWithin, HasGivenUpWithin, IsBacked, IsHighest};
 
 use simplex_rules::Lookahead;
 use simplex_types::{Digest, Proposal, View};
@@ -49,6 +50,50 @@ pub trait Knowledge<D: Digest> {
     /// What a view's proposal is bound to: a proposal, and its parent's payload.
     fn binding(&self, view: View) -> Option<(Proposal<D>, D)>
         ensures { AtEach shows self.now (λ m k. result ≡ k.binding view) };
+
+    /// The proposal that a view holds.
+    fn proposal(&self, view: View) -> Option<Proposal<D>>
+        ensures { AtEach shows self.now (λ m k. result ≡ held_at m k view) };
+
+    /// The highest view below this one that is explicit, with its payload.
+    fn last_certified(&self, view: View) -> Option<(View, D)>
+        ensures { AtEach shows self.now (λ m k. MatchOption result ((u : ℕ) → u < view → explicit m k u ≡ None) (λ last. IsHighest m k view last.0 last.1)) };
+
+    /// Whether this member leads a view, as far as is known.
+    fn leads(&self, view: View) -> bool
+        ensures { AtEach shows self.now (λ m k. IsTrue result ↔ Leads m k view) };
+
+    /// Whether a schedule names this member for a view.
+    fn leads_by_schedule(&self, view: View) -> bool
+        ensures { AtEach shows self.now (λ m k. IsTrue result ↔ LeadsBySchedule m view) };
+
+    /// The current view.
+    fn current_view(&self) -> View
+        ensures { AtEach shows self.now (λ m k. result ≡ k.current) };
+
+    /// The view that the record begins behind.
+    fn floor(&self) -> View
+        ensures { AtEach shows self.now (λ m k. result ≡ k.floor) };
+
+    /// Whether a view is kept.
+    fn retains(&self, view: View) -> bool
+        ensures { AtEach shows self.now (λ m k. IsTrue result ↔ Retains k.last_finalized m.retention view) };
+
+    /// Whether this member voted to notarize a view.
+    fn broadcast_notarize(&self, view: View) -> bool
+        ensures { AtEach shows self.now (λ m k. result ≡ k.has_notarized view) };
+
+    /// Whether it gave up one of the views from the first on and before the end.
+    fn has_given_up_within(&self, first: View, end: View) -> bool
+        ensures { AtEach shows self.now (λ m k. IsTrue result ↔ HasGivenUpWithin m k first end) };
+
+    /// Whether a view alone allows a notarize.
+    fn can_construct_notarize(&self, view: View) -> bool
+        ensures { AtEach shows self.now (λ m k. IsTrue result ↔ AllowsNotarize m k view) };
+
+    /// Whether a view alone allows a finalize.
+    fn can_construct_finalize(&self, view: View) -> bool
+        ensures { AtEach shows self.now (λ m k. IsTrue result ↔ AllowsFinalize m k view) };
 
     /// The first view strictly between a parent and a view that isn't covered.
     fn first_uncovered(&self, parent: View, view: View) -> Option<View>

@@ -5,6 +5,7 @@ pub mod ancestry;
 pub mod config;
 pub mod knowledge;
 mod laws;
+pub mod votes;
 
 pub use laws::{
     a_latch_changes_nothing_due, a_look_leaves_nothing_to_ask, a_prune_changes_nothing_due,
