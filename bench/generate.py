@@ -9,6 +9,9 @@ The shapes:
   kinds     votes, certificates and evidence of all kinds, in the order of the views
   certificates-4, certificates-100, certificates-1000
             certificates of all kinds in the order of the views, each by a quorum of so many
+  forged    the votes of `views`, of which none verifies
+  twice     the members' notarizes of two proposals in each view
+  falling   all members' notarizes in one round, each for a lesser proposal than the one before
   stored    the two votes of the repository's stored run; their output goes to OUT_stdout
 
 Beside the shape's votes each has evidence, or certificates that contradict each other.
@@ -49,6 +52,9 @@ MEMBERS = {
     "certificates-4": 5,
     "certificates-100": 149,
     "certificates-1000": 1499,
+    "forged": 100,
+    "twice": 100,
+    "falling": 100,
     "stored": 4,
 }
 # The shapes that are measured.
@@ -169,6 +175,32 @@ def one_round(source, signers):
             yield loose("notarize", vote)
 
 
+def forged(source, signers):
+    """Each signer's vote in each view, with a signature on nothing."""
+    for view in itertools.count(1):
+        proposal = source.proposal(view)
+        for index in signers:
+            vote = proposal + varint(index) + source.random.randbytes(32)
+            yield loose("notarize", vote)
+
+
+def twice(source, signers):
+    """Each signer's votes for two proposals in each view."""
+    for view in itertools.count(1):
+        for proposal in (source.proposal(view), source.proposal(view)):
+            for index in signers:
+                yield loose("notarize", spell_vote("notarize", index, proposal))
+
+
+def falling(source, signers):
+    """Votes in one round, each for a proposal with a lesser payload than all before."""
+    for count in itertools.count(1):
+        payload = (2**256 - count * 2**200).to_bytes(32, "big")
+        proposal = spell_proposal(EPOCH, 1, 0, payload)
+        for index in signers:
+            yield loose("notarize", spell_vote("notarize", index, proposal))
+
+
 def given_up(source, round_, proposal, signers):
     """Each signer's vote to give the round up, and evidence that some finalized the proposal."""
     for index in signers:
@@ -212,6 +244,9 @@ def certificates(source, members):
             yield source.certificate("nullification", members, round_)
 
 
+HOSTILE = {"forged": forged, "twice": twice, "falling": falling}
+
+
 def taken(reports, votes):
     """The first reports with so many votes, or a few more where the last holds several."""
     for count, message in reports:
@@ -232,6 +267,8 @@ def generate(shape, votes, seed):
         reports = kinds(source, members)
     elif shape.startswith("certificates"):
         reports = certificates(source, members)
+    elif shape in HOSTILE:
+        reports = HOSTILE[shape](source, range(members))
     else:
         reports = views(source, range(members))
     messages = taken(reports, votes)

@@ -8,7 +8,7 @@ use std::process::Abort;
 use std::test::Fail;
 
 /// The audit of the loose votes gives this evidence, by its tags and votes.
-fn finds(
+pub(crate) fn finds(
     rt: &impl Abort,
     alloc: Global,
     reports: &[(u8, &[Vote])],

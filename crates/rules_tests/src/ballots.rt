@@ -2,14 +2,15 @@
 
 use simplex_rules::{Audit, SaltedScheme, SaltedSignature, audit};
 use simplex_types::{
-    Attestation, Epoch, Listing, Participant, Proposal, Round, Sha256Digest, Subject, View, Write,
+    Attestation, Epoch, Listing, Participant, Proposal, Round, Scheme, Sha256Digest, Subject, View,
+    Write,
 };
 use std::alloc::{AllocError, Global};
 use std::process::Abort;
 use std::test::Fail;
 
 /// Member 1's vote in view 2, by the byte that its payload repeats, if it has one, and its signature's
-/// counter. The signature with the counter 0 is on something else.
+/// counter. A signature with the counter 0, or one of 100 and more, is on something else.
 #[derive(Clone, Copy)]
 pub(crate) enum Vote {
     Notarize(u8, u64),
@@ -36,9 +37,8 @@ pub(crate) fn salted(alloc: Global) -> Result<SaltedScheme, AllocError> {
 fn attestation(scheme: &SaltedScheme, vote: Vote) -> Option<Attestation<SaltedSignature>> {
     let elsewhere = Subject::<Sha256Digest>::Nullify(Round::new(Epoch::new(0), View::new(9)));
     match vote {
-        Vote::Notarize(_, 0) | Vote::Nullify(0) | Vote::Finalize(_, 0) => {
-            scheme.sign_with(0, &elsewhere)
-        }
+        Vote::Notarize(_, forged) | Vote::Nullify(forged) | Vote::Finalize(_, forged)
+            if forged == 0 || forged >= 100 => { scheme.sign_with(forged, &elsewhere) }
         Vote::Notarize(payload, counter) => {
             scheme.sign_with(counter, &Subject::Notarize(&proposal(payload)))
         }
@@ -49,6 +49,22 @@ fn attestation(scheme: &SaltedScheme, vote: Vote) -> Option<Attestation<SaltedSi
             scheme.sign_with(counter, &Subject::Finalize(&proposal(payload)))
         }
     }
+}
+
+/// Whether the vote verifies.
+pub(crate) fn verifies(scheme: &SaltedScheme, vote: Vote) -> Result<bool, Fail> {
+    let signed = attestation(scheme, vote).ok_or("no key")?;
+    Ok(match vote {
+        Vote::Notarize(payload, _) => {
+            scheme.verify_attestation(&Subject::Notarize(&proposal(payload)), &signed)
+        }
+        Vote::Nullify(_) => {
+            scheme.verify_attestation(&Subject::<Sha256Digest>::Nullify(round()), &signed)
+        }
+        Vote::Finalize(payload, _) => {
+            scheme.verify_attestation(&Subject::Finalize(&proposal(payload)), &signed)
+        }
+    })
 }
 
 /// Appends what the vote is on: epoch 0, view 2, and for a proposal its parent 1 and its payload.

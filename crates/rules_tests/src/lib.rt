@@ -6,6 +6,8 @@ mod audit;
 #[cfg(test)]
 mod ballots;
 #[cfg(test)]
+mod claims;
+#[cfg(test)]
 mod elector;
 #[cfg(test)]
 mod holds;

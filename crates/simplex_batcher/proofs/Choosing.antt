@@ -13,7 +13,7 @@ use Rattle.simplex_batcher.specs.declared.pool.Pool.{Pool}
 use Rattle.simplex_batcher.specs.declared.proposal_state.ProposalState.{ProposalState}
 use Rattle.simplex_batcher.specs.Judging.{is_among}
 use Rattle.simplex_batcher.specs.Votes.{is_kind, vote_kind, certificate_kind}
-use Rattle.simplex_batcher.specs.History.{History, leader_of, has_forwarded, forwardable, Event, Taken, Cast, Certified, Led, Judged, Forwarded, Setup, Selection, proposal_of, selection, selected, certificate_in, is_complete, is_candidate, counting, waiting, verified}
+use Rattle.simplex_batcher.specs.History.{History, leader_of, has_forwarded, forwardable, Event, Taken, Cast, Certified, Led, Judged, Forwarded, Setup, Selection, Unknown, Leads, Fixed, select, proposal_of, selection, selected, certificate_in, is_complete, is_candidate, counting, waiting, verified}
 use Rattle.simplex_batcher.specs.Pools.{pool_at, PoolIs, pushed, settled_waiting, settled_verified}
 use Rattle.simplex_types.specs.declared.scheme.Scheme.{Ghosts}
 use Rattle.simplex_batcher.specs.declared.verifier.Verifier.{Verifier}
@@ -228,6 +228,40 @@ module _ {S D P G C : Type 0} (same : D → D → Bool) (s : Setup S) (h : Histo
       right : (a b : Bool) → a && b ≡ true → b ≡ true
       right true b both = both
       right false b both = absurd (cc both)
+
+-- the selection stays where nothing is fixed and the leader has no proposal
+pub select-nothing : {D : Type 0} (x : Selection D) → select x None None ≡ x
+select-nothing Unknown = refl
+select-nothing (Leads p) = refl
+select-nothing (Fixed p) = refl
+
+-- what is not there on the right, and on the left
+pub none-right : {X : Type 0} (a : Bool) (o : Option X) → a || is_some o ≡ false → o ≡ None
+none-right true o e = absurd (cc e)
+none-right false None e = refl
+none-right false (Some x) e = absurd (cc e)
+
+pub none-left : {X : Type 0} (o : Option X) (b : Bool) → is_some o || b ≡ false → o ≡ None
+none-left None b e = refl
+none-left (Some x) b e = absurd (cc e)
+
+module _ {S D P G C : Type 0} (same : D → D → Bool) where
+  -- the same stays selected, and nothing is dropped
+  pub stays-for : (state : ProposalState D) (pool : Pool S D P G C) → KeepsFor same state state pool pool
+  stays-for state pool w v = record { complete_is = refl; waiting_are = sym (w refl); verified_are = sym (v refl) }
+
+  pub stays-chosen : (v : Verifier S D P G C) → IsChosen same v.proposal v v
+  stays-chosen v = record {
+    round_stays = refl;
+    scheme_stays = refl;
+    needed_stays = refl;
+    skipped_stays = refl;
+    leader_stays = refl;
+    selects = refl;
+    notarizes = stays-for v.proposal v.pools.notarizes;
+    nullifies = stays-for v.proposal v.pools.nullifies;
+    finalizes = stays-for v.proposal v.pools.finalizes;
+  }
 
 -- where nothing is selected every vote counts
 filter-none : {S D P G C : Type 0} (same : D → D → Bool) (votes : List (Vote S D P G C)) → votes ≡ filter (is_candidate same None) votes

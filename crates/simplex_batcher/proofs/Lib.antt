@@ -5,6 +5,8 @@ pub mod Admitting
 pub mod Lawfully
 pub mod Stating
 pub mod Single
+pub mod Slots
+pub mod Rows
 pub mod Kept
 pub mod Rightly
 pub mod Constructing

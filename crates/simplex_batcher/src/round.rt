@@ -47,7 +47,7 @@ impl<S: Scheme<D>, D: Digest> Round<S, D> {
         Round {
             tracks: track_historical_votes,
             forwarded: false,
-            tracker: VoteTracker::new(alloc),
+            tracker: VoteTracker::new(alloc, scheme.participants()),
             verifier: Verifier::open(alloc, round, scheme, 0, false),
         }
     }
@@ -59,7 +59,7 @@ impl<S: Scheme<D>, D: Digest> Round<S, D> {
         Round {
             tracks: false,
             forwarded: false,
-            tracker: VoteTracker::new(alloc),
+            tracker: VoteTracker::new(alloc, scheme.participants()),
             verifier: Verifier::open(alloc, round, scheme, 0, true),
         }
     }

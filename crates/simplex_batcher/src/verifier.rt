@@ -166,12 +166,34 @@ impl<S: Scheme<D>, D: Digest> Verifier<S, D> {
         ensures verified { OnOk result (AtEachOf D.PartialEq.eq S.Scheme S.batchable self.old (λ s h. verified ≡ true → Allowed D.PartialEq.eq S.attests s h (Cast vote) → VerifierKeeps D.PartialEq.eq S.Scheme S.batchable s self.new (Cast vote ∷ h))) }
         ensures err { OnErr result (AtEachOf D.PartialEq.eq S.Scheme S.batchable self.old (λ s h. VerifierKeeps D.PartialEq.eq S.Scheme S.batchable s self.new h)) }
     {
+        if !self.may_select(&vote, verified) {
+            self.hold(vote, verified)?;
+            return Ok(());
+        }
         let next = self
             .proposal
             .select(fixed_by(&vote, verified), self.led_by(&vote));
         let held = self.counts(&next, &vote);
         self.pools.push(vote, verified, held)?;
         let _changed = self.choose(next);
+        Ok(())
+    }
+
+    /// Whether the vote fixes a proposal, or is the leader's notarize.
+    fn may_select(&self, vote: &Vote<S, D>, verified: bool) -> bool
+        ensures { result ≡ (is_some (if verified then fixed_proposal vote.now else None) || is_some (led_by self.now.leader vote.now)) }
+    {
+        fixed_by(vote, verified).is_some() || self.led_by(vote).is_some()
+    }
+
+    /// Adds a vote that fixes no proposal, and isn't the leader's notarize.
+    fn hold(&mut self, vote: Vote<S, D>, verified: bool) -> Result<(), AllocError>
+        ensures waits { OnOk result (AtEachOf D.PartialEq.eq S.Scheme S.batchable self.old (λ s h. verified ≡ false → led_by self.old.leader vote ≡ None → Allowed D.PartialEq.eq S.attests s h (Taken vote) → VerifierKeeps D.PartialEq.eq S.Scheme S.batchable s self.new (Taken vote ∷ h))) }
+        ensures verified { OnOk result (AtEachOf D.PartialEq.eq S.Scheme S.batchable self.old (λ s h. verified ≡ true → fixed_proposal vote ≡ None → led_by self.old.leader vote ≡ None → Allowed D.PartialEq.eq S.attests s h (Cast vote) → VerifierKeeps D.PartialEq.eq S.Scheme S.batchable s self.new (Cast vote ∷ h))) }
+        ensures err { OnErr result (AtEachOf D.PartialEq.eq S.Scheme S.batchable self.old (λ s h. VerifierKeeps D.PartialEq.eq S.Scheme S.batchable s self.new h)) }
+    {
+        let held = self.counts(&self.proposal, &vote);
+        self.pools.push(vote, verified, held)?;
         Ok(())
     }
 

@@ -1,11 +1,16 @@
 -- The suspects of a list that are put into a set.
-use Rattle.std.proofs.Common.{true, List, [], ◌∷◌, ◌++◌, refl, sym, subst, ◌∙◌, inl, inr, map}
+use Rattle.std.proofs.Common.{◌≡◌, true, List, [], ◌∷◌, ◌++◌, Box, refl, sym, subst, ◌∙◌, inl, inr, map}
 use Rattle.std.specs.Prelude.{Contains, IsTrue}
 use Rattle.std.specs.Ordering.{is_eq}
 use Rattle.std.specs.BTreeSet.{BTreeSet, contains, IsSubset, Updates}
 use Rattle.std.proofs.lemmas.Bool.{cases_Bool}
 use Rattle.std.proofs.lemmas.List.{map-append}
+use Rattle.std.specs.declared.alloc.Global.{Global}
+use Rattle.simplex_rules.specs.declared.cast.Cast.{Cast}
+use Rattle.simplex_rules.specs.declared.cast.Kept.{Kept}
+use Rattle.simplex_rules.specs.declared.cast.Kept.TheVariants.{Claim, One, Two}
 use Rattle.simplex_rules.specs.declared.cast.Suspect.{Suspect}
+use Rattle.simplex_rules.specs.Cast.{IsTwo}
 use Rattle.simplex_rules.specs.Kept.{suspect_cmp}
 use Rattle.simplex_rules.proofs.Lists.{no_element, each_push}
 
@@ -18,6 +23,12 @@ inserted_stay s t k updates = λ q there. elim (cases_Bool (is_eq (suspect_cmp k
 
 pub inserted_there : (s t : BTreeSet Suspect) (k : Suspect) → Updates suspect_cmp s t k true → IsTrue (contains suspect_cmp t k)
 inserted_there s t k updates = updates.1
+
+-- what is not two votes is not two
+pub not_two : {D G : Type 0} (k : Kept D G) → ((a : Cast D G) (b : Box (Cast D G) Global) → k ≡ Two a b → ⊥) → IsTwo k → ⊥
+not_two (Claim a) other two = two
+not_two (One a) other two = two
+not_two (Two a b) other two = other a b refl
 
 module _ {X : Type 0} (key : X → Suspect) (P : X → Type 0) where
   -- the set has each suspect of these that P holds of

@@ -1,5 +1,5 @@
 -- What is kept of the votes is the verdict on them.
-use Rattle.std.proofs.Common.{◌≡◌, ◌⊎◌, ℕ, List, [], Option, Some, None, Box, refl, sym, ap, ◌∙◌, subst, inl, inr}
+use Rattle.std.proofs.Common.{◌≡◌, ◌⊎◌, ℕ, List, [], Option, Some, None, Box, refl, sym, ap, ◌∙◌, subst, inl, inr, map}
 use Rattle.std.specs.Prelude.{Contains, IsSome}
 use Rattle.std.specs.Cmp.{IsTotalOrder}
 use Rattle.std.specs.BTreeMap.{BTreeMap, get}
@@ -12,18 +12,21 @@ use Rattle.simplex_messages.specs.declared.nullify.Nullify.{Nullify}
 use Rattle.simplex_messages.specs.declared.proposal_vote.ProposalVote.{ProposalVote}
 use Rattle.simplex_messages.specs.ProposalVote.{IsAttested}
 use Rattle.simplex_messages.specs.Nullify.{NullifyIsAttested}
-use Rattle.simplex_messages.specs.Guilt.{IsGuilty, IsFirstRead, IsLeastEvidence, IsBelow, IsFirstNullify}
+use Rattle.simplex_messages.specs.Guilt.{IsGuilty, IsFirstRead, IsLeastEvidence, IsBelow, IsCastBy, IsFirstNullify}
 use Rattle.simplex_rules.specs.declared.cast.Choice.{Choice}
 use Rattle.simplex_rules.specs.declared.cast.Cast.{Cast}
 use Rattle.simplex_rules.specs.declared.cast.Kept.{Kept}
-use Rattle.simplex_rules.specs.declared.cast.Kept.TheVariants.{One, Two}
+use Rattle.simplex_rules.specs.declared.cast.Kept.TheVariants.{Claim, One, Two}
 use Rattle.simplex_rules.specs.declared.cast.Suspect.{Suspect}
-use Rattle.simplex_rules.specs.Cast.{IsLower, IsFirst, Summarizes}
-use Rattle.simplex_rules.specs.Kept.{suspect_cmp, casts_of, counted_of}
-use Rattle.simplex_rules.specs.Tally.{suspect_of, cast_of, vote_of, HoldsVotes, AreApart, IsHead, nullify_suspect, nullify_of, HoldsNullifies}
+use Rattle.simplex_rules.specs.declared.nullifies.Given.{Given}
+use Rattle.simplex_rules.specs.declared.nullifies.Given.TheVariants as given
+use Rattle.simplex_rules.specs.Cast.{IsLower, IsFirst, AreNone, IsFor, HasOne, HasTwo}
+use Rattle.simplex_rules.specs.Kept.{suspect_cmp, casts_of}
+use Rattle.simplex_rules.specs.Tally.{CastIsAttested, KeepsVotes, suspect_of, cast_of, parts_of, vote_of, HoldsVotes, IsLeastOf, AreApart, GivenIsAttested, KeepsNullifies, nullify_suspect, nullify_of, nullify_parts, HoldsNullifies, IsFirstOf}
 use Rattle.simplex_rules.proofs.Casts.{IsLower-differs, IsLower-trans}
 use Rattle.simplex_rules.proofs.Lists.{no_element}
-use Rattle.simplex_rules.proofs.Places.{choice_of, proposal_of, IsPlace-from_cast, counted_there}
+use Rattle.simplex_rules.proofs.Tallies.{tallied}
+use Rattle.simplex_rules.proofs.Places.{choice_of, proposal_of, own_there, IsPlace-from_cast}
 
 abbrev pub suspect_from : Round → ℕ → Suspect
 suspect_from r i = record { round = r; signer = i }
@@ -31,9 +34,6 @@ suspect_from r i = record { round = r; signer = i }
 -- ---- votes on a proposal
 
 module _ {K S D P G C : Type 0} where
-  abbrev parts_of : ProposalVote K S D P G C → Suspect × Cast D G
-  parts_of v = (suspect_of v, cast_of v)
-
   -- the vote of a suspect is made of the two
   vote_of-parts : (q : Suspect) (a : Cast D G) (v : ProposalVote K S D P G C) → parts_of v ≡ (q, a) → v ≡ vote_of q a
   vote_of-parts q a v is = ap (λ (p : Suspect × Cast D G). vote_of {K = K} {S = S} {P = P} {C = C} p.0 p.1) is
@@ -41,157 +41,213 @@ module _ {K S D P G C : Type 0} where
   suspect_is : (q : Suspect) (v : ProposalVote K S D P G C) → v.proposal.round ≡ q.round → v.attestation.signer ≡ q.signer → suspect_of v ≡ q
   suspect_is q v round signer = ap (λ (r : Round). suspect_from r v.attestation.signer) round ∙ ap (λ (i : ℕ). suspect_from q.round i) signer
 
-  module _ (states : Proposal D → Statement D) (attests : ℕ → Statement D → G → Type 0) (cmp : D → D → Ordering) (votes : List (ProposalVote K S D P G C)) (kept : BTreeMap Suspect (Kept D G)) (h : HoldsVotes states attests cmp votes kept) where
+  module _ (states : Proposal D → Statement D) (attests : ℕ → Statement D → G → Type 0) (votes : List (ProposalVote K S D P G C)) where
     abbrev casts : Suspect → List (Cast D G)
-    casts q = casts_of q (counted_of parts_of h.tested)
+    casts q = casts_of q (map parts_of votes)
 
-    -- a verifying vote is among those of its suspect
-    vote_there : (q : Suspect) (v : ProposalVote K S D P G C) → Contains votes v → IsAttested states attests v → suspect_of v ≡ q → Contains (casts q) (cast_of v)
-    vote_there q v there verifies is = subst (λ (x : Suspect). Contains (casts x) (cast_of v)) is (counted_there parts_of (IsAttested states attests) (Summarizes cmp) votes kept h v there verifies)
+    -- a vote is among those of its suspect
+    vote_there : (q : Suspect) (v : ProposalVote K S D P G C) → Contains votes v → suspect_of v ≡ q → Contains (casts q) (cast_of v)
+    vote_there q v there is = own_there parts_of q votes v there is
 
-    -- the first of a suspect's votes for a proposal is the first read that verifies
-    IsFirstRead-from_first : (q : Suspect) (a : Cast D G) → IsFirst (casts q) a → IsFirstRead states attests votes (vote_of q a)
+    -- and verifies there
+    verifies_there : (q : Suspect) (v : ProposalVote K S D P G C) → IsAttested states attests v → suspect_of v ≡ q → CastIsAttested states attests q (cast_of v)
+    verifies_there q v verifies is = subst (λ (x : Suspect). CastIsAttested states attests x (cast_of v)) is verifies
+
+    -- a vote of a suspect's round is for its choice
+    of_round : (q : Suspect) (v : ProposalVote K S D P G C) (a : Choice D) → v.proposal.round ≡ q.round → choice_of v.proposal ≡ a → v.proposal ≡ proposal_of q.round a
+    of_round q v a round choice = ap (λ (r : Round). proposal_of r (choice_of v.proposal)) round ∙ ap (λ (c : Choice D). proposal_of q.round c) choice
+
+    -- the first of a suspect's votes for a proposal that verifies is the first read that does
+    IsFirstRead-from_first : (q : Suspect) (a : Cast D G) → IsFirst (IsFor (CastIsAttested states attests q) a.choice) (casts q) a → IsFirstRead states attests votes (vote_of q a)
     IsFirstRead-from_first q a f =
-        let place = IsPlace-from_cast parts_of (IsAttested states attests) (Summarizes cmp) votes kept h q f.before a f.after (vote_of q a) (vote_of-parts q a) f.whole in
+        let place = IsPlace-from_cast parts_of q votes f.before a f.after (vote_of q a) (vote_of-parts q a) f.whole in
         record {
           before = place.front;
           after = place.back;
           whole = place.whole;
-          verifies = place.verifies;
+          verifies = f.is_so.0;
           first = λ u before verifies signer proposal.
               let is_q : suspect_of u ≡ q = suspect_is q u (ap (λ (p : Proposal D). p.round) proposal) signer in
-              f.first (cast_of u) (place.among u before verifies is_q) (ap (λ (p : Proposal D). choice_of p) proposal);
+              f.first (cast_of u) (place.among u before is_q) (verifies_there q u verifies is_q, ap (λ (p : Proposal D). choice_of p) proposal);
         }
 
-    -- what the map has of a suspect is what is kept of its votes
-    kept_at : (q : Suspect) (k : Kept D G) → get suspect_cmp kept q ≡ Some k → Summarizes cmp (casts q) k
-    kept_at q k found = rw found at (h.tallies q)
+    module _ (cmp : D → D → Ordering) where
+      -- where none of a suspect's votes verifies, none is the least
+      IsLeastOf-from_none : (q : Suspect) → AreNone (CastIsAttested states attests q) (casts q) → IsLeastOf states attests cmp votes q None
+      IsLeastOf-from_none q none = λ v there verifies is. none (cast_of v) (vote_there q v there is) (verifies_there q v verifies is)
 
-    -- what is kept of two proposals is of two
-    pub apart : IsTotalOrder cmp → AreApart kept
-    apart order = λ q a b found. IsLower-differs order a.choice b.value.choice (kept_at q (Two a b) found).2
+      IsLeastOf-from_one : (q : Suspect) (a : Cast D G) → HasOne (CastIsAttested states attests q) (casts q) a → IsLeastOf states attests cmp votes q (Some (vote_of q a))
+      IsLeastOf-from_one q a s = (
+        IsFirstRead-from_first q a s.0,
+        λ v there verifies theirs.
+            let is_q = suspect_is q v theirs.round_is theirs.signer_is in
+            inl (of_round q v a.choice theirs.round_is (s.1 (cast_of v) (vote_there q v there is_q) (verifies_there q v verifies is_q))),
+      )
 
-    -- what is kept of two proposals is evidence
-    pub IsLeastEvidence-from_two : IsTotalOrder cmp → (q : Suspect) (a : Cast D G) (b : Box (Cast D G) Global) → get suspect_cmp kept q ≡ Some (Two a b) → IsLeastEvidence states attests cmp votes (vote_of q a) (vote_of q b.value)
-    IsLeastEvidence-from_two order q a b found =
-        let s = kept_at q (Two a b) found in
-        record {
-          contradict = record { one_round = refl; one_signer = refl; two_proposals = λ same. IsLower-differs order a.choice b.value.choice s.2 (ap (λ (p : Proposal D). choice_of p) same) };
-          first = IsFirstRead-from_first q a s.0;
-          second = IsFirstRead-from_first q b.value s.1;
-          below = s.2;
-          least = λ v there verifies theirs.
-              let cast : Contains (casts q) (cast_of v) = vote_there q v there verifies (suspect_is q v theirs.round_is theirs.signer_is) in
-              let of_round : v.proposal ≡ proposal_of q.round (choice_of v.proposal) = ap (λ (r : Round). proposal_of r (choice_of v.proposal)) theirs.round_is in
-              elim (s.3 (cast_of v) cast) [
-                | inl is_a ↦ inl (of_round ∙ ap (λ (c : Choice D). proposal_of q.round c) is_a)
-                | inr other ↦ inr (elim other [
-                  | inl is_b ↦ inl (of_round ∙ ap (λ (c : Choice D). proposal_of q.round c) is_b)
-                  | inr above ↦ inr above
-                ])
-              ];
-        }
+      IsLeastOf-from_two : IsTotalOrder cmp → (q : Suspect) (a b : Cast D G) → HasTwo (CastIsAttested states attests q) cmp (casts q) a b → IsLeastOf states attests cmp votes q (Some (vote_of q a))
+      IsLeastOf-from_two order q a b s = (
+        IsFirstRead-from_first q a s.0,
+        λ v there verifies theirs.
+            let is_q = suspect_is q v theirs.round_is theirs.signer_is in
+            elim (s.3 (cast_of v) (vote_there q v there is_q) (verifies_there q v verifies is_q)) [
+              | inl is_a ↦ inl (of_round q v a.choice theirs.round_is is_a)
+              | inr other ↦ inr (elim other [
+                | inl is_b ↦ subst (λ (c : Choice D). IsLower cmp a.choice c) (sym is_b) s.2
+                | inr above ↦ IsLower-trans order a.choice b.choice (choice_of v.proposal) s.2 above
+              ])
+            ],
+      )
 
-    -- of the guilty two votes are kept
-    pub guilty_are_kept : (round : Round) (signer : ℕ) → IsGuilty states attests votes round signer → (a : Cast D G) × (b : Box (Cast D G) Global) × (get suspect_cmp kept (suspect_from round signer) ≡ Some (Two a b))
-    guilty_are_kept round signer guilty = among (get suspect_cmp kept (suspect_from round signer)) refl
-      where
-        first_suspect : suspect_of guilty.first ≡ suspect_from round signer
-        first_suspect = suspect_is (suspect_from round signer) guilty.first guilty.first_is_theirs.round_is guilty.first_is_theirs.signer_is
+      module _ (kept : BTreeMap Suspect (Kept D G)) (h : HoldsVotes states attests cmp votes kept) where
+        -- what the map has of a suspect is what is kept of its votes
+        kept_at : (q : Suspect) (k : Kept D G) → get suspect_cmp kept q ≡ Some k → KeepsVotes states attests cmp q (casts q) k
+        kept_at q k found = rw found at (tallied (KeepsVotes states attests cmp) parts_of votes kept h q)
 
-        second_suspect : suspect_of guilty.second ≡ suspect_from round signer
-        second_suspect = suspect_is (suspect_from round signer) guilty.second (sym guilty.contradict.one_round ∙ guilty.first_is_theirs.round_is) (sym guilty.contradict.one_signer ∙ guilty.first_is_theirs.signer_is)
+        -- what is kept of two proposals is of two
+        pub apart : IsTotalOrder cmp → AreApart kept
+        apart order = λ q a b found. IsLower-differs order a.choice b.value.choice (kept_at q (Two a b) found).2
 
-        first_cast : Contains (casts (suspect_from round signer)) (cast_of guilty.first)
-        first_cast = vote_there (suspect_from round signer) guilty.first guilty.first_is_there guilty.first_verifies first_suspect
+        -- what is kept of two proposals is evidence
+        pub IsLeastEvidence-from_two : IsTotalOrder cmp → (q : Suspect) (a : Cast D G) (b : Box (Cast D G) Global) → get suspect_cmp kept q ≡ Some (Two a b) → IsLeastEvidence states attests cmp votes (vote_of q a) (vote_of q b.value)
+        IsLeastEvidence-from_two order q a b found =
+            let s = kept_at q (Two a b) found in
+            record {
+              contradict = record { one_round = refl; one_signer = refl; two_proposals = λ same. IsLower-differs order a.choice b.value.choice s.2 (ap (λ (p : Proposal D). choice_of p) same) };
+              first = IsFirstRead-from_first q a s.0;
+              second = IsFirstRead-from_first q b.value s.1;
+              below = s.2;
+              least = λ v there verifies theirs.
+                  let is_q = suspect_is q v theirs.round_is theirs.signer_is in
+                  elim (s.3 (cast_of v) (vote_there q v there is_q) (verifies_there q v verifies is_q)) [
+                    | inl is_a ↦ inl (of_round q v a.choice theirs.round_is is_a)
+                    | inr other ↦ inr (elim other [
+                      | inl is_b ↦ inl (of_round q v b.value.choice theirs.round_is is_b)
+                      | inr above ↦ inr above
+                    ])
+                  ];
+            }
 
-        second_cast : Contains (casts (suspect_from round signer)) (cast_of guilty.second)
-        second_cast = vote_there (suspect_from round signer) guilty.second guilty.second_is_there guilty.second_verifies second_suspect
+        -- of the guilty two votes are kept
+        pub guilty_are_kept : (round : Round) (signer : ℕ) → IsGuilty states attests votes round signer → (a : Cast D G) × (b : Box (Cast D G) Global) × (get suspect_cmp kept (suspect_from round signer) ≡ Some (Two a b))
+        guilty_are_kept round signer guilty = among (get suspect_cmp kept (suspect_from round signer)) refl
+          where
+            first_is : suspect_of guilty.first ≡ (suspect_from round signer)
+            first_is = suspect_is (suspect_from round signer) guilty.first guilty.first_is_theirs.round_is guilty.first_is_theirs.signer_is
 
-        among : (k : Option (Kept D G)) → get suspect_cmp kept (suspect_from round signer) ≡ k → (a : Cast D G) × (b : Box (Cast D G) Global) × (get suspect_cmp kept (suspect_from round signer) ≡ Some (Two a b))
-        among None found =
-            let none : casts (suspect_from round signer) ≡ [] = rw found at (h.tallies (suspect_from round signer)) in
-            absurd (no_element (cast_of guilty.first) (subst (λ (cs : List (Cast D G)). Contains cs (cast_of guilty.first)) none first_cast))
-        among (Some (One a)) found =
-            let s = kept_at (suspect_from round signer) (One a) found in
-            let choices : choice_of guilty.first.proposal ≡ choice_of guilty.second.proposal = s.1 (cast_of guilty.first) first_cast ∙ sym (s.1 (cast_of guilty.second) second_cast) in
-            let proposals : guilty.first.proposal ≡ guilty.second.proposal = ap (λ (r : Round). proposal_of r (choice_of guilty.first.proposal)) guilty.contradict.one_round ∙ ap (λ (c : Choice D). proposal_of guilty.second.proposal.round c) choices in
-            absurd (guilty.contradict.two_proposals proposals)
-        among (Some (Two a b)) found = (a, b, found)
+            second_is : suspect_of guilty.second ≡ (suspect_from round signer)
+            second_is = suspect_is (suspect_from round signer) guilty.second (sym guilty.contradict.one_round ∙ guilty.first_is_theirs.round_is) (sym guilty.contradict.one_signer ∙ guilty.first_is_theirs.signer_is)
 
-    -- of whom a vote verifies, one is kept
-    pub voters_are_kept : (v : ProposalVote K S D P G C) → Contains votes v → IsAttested states attests v → IsSome (get suspect_cmp kept (suspect_of v))
-    voters_are_kept v there verifies = among (get suspect_cmp kept (suspect_of v)) refl
-      where
-        among : (k : Option (Kept D G)) → get suspect_cmp kept (suspect_of v) ≡ k → IsSome (get suspect_cmp kept (suspect_of v))
-        among None found =
-            let none : casts (suspect_of v) ≡ [] = rw found at (h.tallies (suspect_of v)) in
-            absurd (no_element (cast_of v) (subst (λ (cs : List (Cast D G)). Contains cs (cast_of v)) none (vote_there (suspect_of v) v there verifies refl)))
-        among (Some k) found = rw found refl
+            first_cast : Contains (casts (suspect_from round signer)) (cast_of guilty.first)
+            first_cast = vote_there (suspect_from round signer) guilty.first guilty.first_is_there first_is
 
-    -- the vote kept for the least proposal: the first read that verifies, and of all the least
-    pub record IsLeastVote (q : Suspect) (a : Cast D G) : Type 0 where
-      pub first : IsFirstRead states attests votes (vote_of q a)
-      pub least : (v : ProposalVote K S D P G C) → Contains votes v → IsAttested states attests v → v.proposal.round ≡ q.round → v.attestation.signer ≡ q.signer
-          → (v.proposal ≡ proposal_of q.round a.choice) ⊎ IsBelow cmp (proposal_of q.round a.choice) v.proposal
+            first_verifies : CastIsAttested states attests (suspect_from round signer) (cast_of guilty.first)
+            first_verifies = verifies_there (suspect_from round signer) guilty.first guilty.first_verifies first_is
 
-    pub IsLeastVote-from_one : (q : Suspect) (a : Cast D G) → get suspect_cmp kept q ≡ Some (One a) → IsLeastVote q a
-    IsLeastVote-from_one q a found =
-        let s = kept_at q (One a) found in
-        record {
-          first = IsFirstRead-from_first q a s.0;
-          least = λ v there verifies round signer.
-              let cast : Contains (casts q) (cast_of v) = vote_there q v there verifies (suspect_is q v round signer) in
-              inl (ap (λ (r : Round). proposal_of r (choice_of v.proposal)) round ∙ ap (λ (c : Choice D). proposal_of q.round c) (s.1 (cast_of v) cast));
-        }
+            -- not all that verify are for one proposal
+            not_one : (a : Cast D G) → HasOne (CastIsAttested states attests (suspect_from round signer)) (casts (suspect_from round signer)) a → ⊥
+            not_one a s =
+                let second = s.1 (cast_of guilty.second) (vote_there (suspect_from round signer) guilty.second guilty.second_is_there second_is) (verifies_there (suspect_from round signer) guilty.second guilty.second_verifies second_is) in
+                let choices : choice_of guilty.first.proposal ≡ choice_of guilty.second.proposal = s.1 (cast_of guilty.first) first_cast first_verifies ∙ sym second in
+                let proposals : guilty.first.proposal ≡ guilty.second.proposal = ap (λ (r : Round). proposal_of r (choice_of guilty.first.proposal)) guilty.contradict.one_round ∙ ap (λ (c : Choice D). proposal_of guilty.second.proposal.round c) choices in
+                guilty.contradict.two_proposals proposals
 
-    pub IsLeastVote-from_two : IsTotalOrder cmp → (q : Suspect) (a : Cast D G) (b : Box (Cast D G) Global) → get suspect_cmp kept q ≡ Some (Two a b) → IsLeastVote q a
-    IsLeastVote-from_two order q a b found =
-        let s = kept_at q (Two a b) found in
-        record {
-          first = IsFirstRead-from_first q a s.0;
-          least = λ v there verifies round signer.
-              let cast : Contains (casts q) (cast_of v) = vote_there q v there verifies (suspect_is q v round signer) in
-              elim (s.3 (cast_of v) cast) [
-                | inl is_a ↦ inl (ap (λ (r : Round). proposal_of r (choice_of v.proposal)) round ∙ ap (λ (c : Choice D). proposal_of q.round c) is_a)
-                | inr other ↦ inr (elim other [
-                  | inl is_b ↦ subst (λ (c : Choice D). IsLower cmp a.choice c) (sym is_b) s.2
-                  | inr above ↦ IsLower-trans order a.choice b.value.choice (choice_of v.proposal) s.2 above
-                ])
-              ];
-        }
+            among : (k : Option (Kept D G)) → get suspect_cmp kept (suspect_from round signer) ≡ k → (a : Cast D G) × (b : Box (Cast D G) Global) × (get suspect_cmp kept (suspect_from round signer) ≡ Some (Two a b))
+            among None found =
+                let none : casts (suspect_from round signer) ≡ [] = rw found at (tallied (KeepsVotes states attests cmp) parts_of votes kept h (suspect_from round signer)) in
+                absurd (no_element (cast_of guilty.first) (subst (λ (cs : List (Cast D G)). Contains cs (cast_of guilty.first)) none first_cast))
+            among (Some (Claim a)) found =
+                let s = kept_at (suspect_from round signer) (Claim a) found in
+                absurd (s.1 (λ verifies. not_one a (s.0 verifies)) (cast_of guilty.first) first_cast first_verifies)
+            among (Some (One a)) found = absurd (not_one a (kept_at (suspect_from round signer) (One a) found))
+            among (Some (Two a b)) found = (a, b, found)
+
+        -- of whom there is a vote, one is kept
+        pub voters_are_kept : (v : ProposalVote K S D P G C) → Contains votes v → IsSome (get suspect_cmp kept (suspect_of v))
+        voters_are_kept v there = among (get suspect_cmp kept (suspect_of v)) refl
+          where
+            among : (k : Option (Kept D G)) → get suspect_cmp kept (suspect_of v) ≡ k → IsSome (get suspect_cmp kept (suspect_of v))
+            among None found =
+                let none : casts (suspect_of v) ≡ [] = rw found at (tallied (KeepsVotes states attests cmp) parts_of votes kept h (suspect_of v)) in
+                absurd (no_element (cast_of v) (subst (λ (cs : List (Cast D G)). Contains cs (cast_of v)) none (vote_there (suspect_of v) v there refl)))
+            among (Some k) found = rw found refl
+
+        -- the least, by what is kept
+        pub least-none : (q : Suspect) → get suspect_cmp kept q ≡ None → IsLeastOf states attests cmp votes q None
+        least-none q found =
+            let none : casts q ≡ [] = rw found at (tallied (KeepsVotes states attests cmp) parts_of votes kept h q) in
+            IsLeastOf-from_none q (λ c there verifies. no_element c (subst (λ (cs : List (Cast D G)). Contains cs c) none there))
+
+        pub least-failed : (q : Suspect) (a : Cast D G) → get suspect_cmp kept q ≡ Some (Claim a) → (CastIsAttested states attests q a → ⊥) → IsLeastOf states attests cmp votes q None
+        least-failed q a found fails = IsLeastOf-from_none q ((kept_at q (Claim a) found).1 fails)
+
+        pub least-claim : (q : Suspect) (a : Cast D G) → get suspect_cmp kept q ≡ Some (Claim a) → CastIsAttested states attests q a → IsLeastOf states attests cmp votes q (Some (vote_of q a))
+        least-claim q a found verifies = IsLeastOf-from_one q a ((kept_at q (Claim a) found).0 verifies)
+
+        pub least-one : (q : Suspect) (a : Cast D G) → get suspect_cmp kept q ≡ Some (One a) → IsLeastOf states attests cmp votes q (Some (vote_of q a))
+        least-one q a found = IsLeastOf-from_one q a (kept_at q (One a) found)
+
+        pub least-two : IsTotalOrder cmp → (q : Suspect) (a : Cast D G) (b : Box (Cast D G) Global) → get suspect_cmp kept q ≡ Some (Two a b) → IsLeastOf states attests cmp votes q (Some (vote_of q a))
+        least-two order q a b found = IsLeastOf-from_two order q a b.value (kept_at q (Two a b) found)
 
 -- ---- nullifies
 
 module _ {S D P G C : Type 0} where
-  abbrev nullify_parts_of : Nullify S D P G C → Suspect × G
-  nullify_parts_of v = (nullify_suspect v, v.attestation.signature)
-
-  nullify_of-parts : (q : Suspect) (a : G) (v : Nullify S D P G C) → nullify_parts_of v ≡ (q, a) → v ≡ nullify_of q a
+  nullify_of-parts : (q : Suspect) (a : G) (v : Nullify S D P G C) → nullify_parts v ≡ (q, a) → v ≡ nullify_of q a
   nullify_of-parts q a v is = ap (λ (p : Suspect × G). nullify_of {S = S} {D = D} {P = P} {C = C} p.0 p.1) is
 
-  module _ (attests : ℕ → Statement D → G → Type 0) (votes : List (Nullify S D P G C)) (kept : BTreeMap Suspect G) (h : HoldsNullifies attests votes kept) where
-    -- the nullify that is kept is the first that verifies
-    pub IsFirstNullify-from_kept : (q : Suspect) (a : G) → get suspect_cmp kept q ≡ Some a → IsFirstNullify attests votes (nullify_of q a)
-    IsFirstNullify-from_kept q a found =
-        let head : IsHead (casts_of q (counted_of nullify_parts_of h.tested)) a = rw found at (h.tallies q) in
-        let place = IsPlace-from_cast nullify_parts_of (NullifyIsAttested attests) IsHead votes kept h q [] a head.0 (nullify_of q a) (nullify_of-parts q a) head.1 in
+  module _ (attests : ℕ → Statement D → G → Type 0) (votes : List (Nullify S D P G C)) where
+    abbrev signatures : Suspect → List G
+    signatures q = casts_of q (map nullify_parts votes)
+
+    -- a nullify is among those of its suspect
+    nullify_there : (q : Suspect) (v : Nullify S D P G C) → Contains votes v → nullify_suspect v ≡ q → Contains (signatures q) v.attestation.signature
+    nullify_there q v there is = own_there nullify_parts q votes v there is
+
+    given_there : (q : Suspect) (v : Nullify S D P G C) → NullifyIsAttested attests v → nullify_suspect v ≡ q → GivenIsAttested attests q v.attestation.signature
+    given_there q v verifies is = subst (λ (x : Suspect). GivenIsAttested attests x v.attestation.signature) is verifies
+
+    -- the first of a suspect's that verifies is the first read that does
+    IsFirstNullify-from_first : (q : Suspect) (a : G) → IsFirst (GivenIsAttested attests q) (signatures q) a → IsFirstNullify attests votes (nullify_of q a)
+    IsFirstNullify-from_first q a f =
+        let place = IsPlace-from_cast nullify_parts q votes f.before a f.after (nullify_of q a) (nullify_of-parts q a) f.whole in
         record {
           before = place.front;
           after = place.back;
           whole = place.whole;
-          verifies = place.verifies;
+          verifies = f.is_so;
           first = λ u before verifies signer round.
               let is_q : nullify_suspect u ≡ q = ap (λ (r : Round). suspect_from r u.attestation.signer) round ∙ ap (λ (i : ℕ). suspect_from q.round i) signer in
-              no_element u.attestation.signature (place.among u before verifies is_q);
+              f.first u.attestation.signature (place.among u before is_q) (given_there q u verifies is_q);
         }
 
-    -- of whom a nullify verifies, one is kept
-    pub nullifiers_are_kept : (v : Nullify S D P G C) → Contains votes v → NullifyIsAttested attests v → IsSome (get suspect_cmp kept (nullify_suspect v))
-    nullifiers_are_kept v there verifies = among (get suspect_cmp kept (nullify_suspect v)) refl
-      where
-        among : (k : Option G) → get suspect_cmp kept (nullify_suspect v) ≡ k → IsSome (get suspect_cmp kept (nullify_suspect v))
-        among None found =
-            let none : casts_of (nullify_suspect v) (counted_of nullify_parts_of h.tested) ≡ [] = rw found at (h.tallies (nullify_suspect v)) in
-            absurd (no_element v.attestation.signature (subst (λ (cs : List G). Contains cs v.attestation.signature) none (counted_there nullify_parts_of (NullifyIsAttested attests) IsHead votes kept h v there verifies)))
-        among (Some k) found = rw found refl
+    IsFirstOf-from_none : (q : Suspect) → AreNone (GivenIsAttested attests q) (signatures q) → IsFirstOf attests votes q None
+    IsFirstOf-from_none q none = λ v there verifies is. none v.attestation.signature (nullify_there q v there is) (given_there q v verifies is)
+
+    module _ (kept : BTreeMap Suspect (Given G)) (h : HoldsNullifies attests votes kept) where
+      given_at : (q : Suspect) (k : Given G) → get suspect_cmp kept q ≡ Some k → KeepsNullifies attests q (signatures q) k
+      given_at q k found = rw found at (tallied (KeepsNullifies attests) nullify_parts votes kept h q)
+
+      -- of whom there is a nullify, one is kept
+      pub nullifiers_are_kept : (v : Nullify S D P G C) → Contains votes v → IsSome (get suspect_cmp kept (nullify_suspect v))
+      nullifiers_are_kept v there = among (get suspect_cmp kept (nullify_suspect v)) refl
+        where
+          among : (k : Option (Given G)) → get suspect_cmp kept (nullify_suspect v) ≡ k → IsSome (get suspect_cmp kept (nullify_suspect v))
+          among None found =
+              let none : signatures (nullify_suspect v) ≡ [] = rw found at (tallied (KeepsNullifies attests) nullify_parts votes kept h (nullify_suspect v)) in
+              absurd (no_element v.attestation.signature (subst (λ (cs : List G). Contains cs v.attestation.signature) none (nullify_there (nullify_suspect v) v there refl)))
+          among (Some k) found = rw found refl
+
+      -- the first, by what is kept
+      pub first-none : (q : Suspect) → get suspect_cmp kept q ≡ None → IsFirstOf attests votes q None
+      first-none q found =
+          let none : signatures q ≡ [] = rw found at (tallied (KeepsNullifies attests) nullify_parts votes kept h q) in
+          IsFirstOf-from_none q (λ c there verifies. no_element c (subst (λ (cs : List G). Contains cs c) none there))
+
+      pub first-failed : (q : Suspect) (a : G) → get suspect_cmp kept q ≡ Some (given.Claim a) → (GivenIsAttested attests q a → ⊥) → IsFirstOf attests votes q None
+      first-failed q a found fails = IsFirstOf-from_none q ((given_at q (given.Claim a) found).1 fails)
+
+      pub first-claim : (q : Suspect) (a : G) → get suspect_cmp kept q ≡ Some (given.Claim a) → GivenIsAttested attests q a → IsFirstOf attests votes q (Some (nullify_of q a))
+      first-claim q a found verifies = IsFirstNullify-from_first q a ((given_at q (given.Claim a) found).0 verifies)
+
+      pub first-first : (q : Suspect) (a : G) → get suspect_cmp kept q ≡ Some (given.First a) → IsFirstOf attests votes q (Some (nullify_of q a))
+      first-first q a found = IsFirstNullify-from_first q a (given_at q (given.First a) found)

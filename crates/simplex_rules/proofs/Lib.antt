@@ -1,12 +1,14 @@
 pub mod Lists
 pub mod Casts
+pub mod Claims
 pub mod Suspects
 pub mod Tallies
-pub mod Counting
 pub mod Listed
 pub mod Gathering
 pub mod Places
 pub mod Judging
+pub mod Besides
+pub mod Pieces
 pub mod Verdicts
 pub mod Reading
 pub mod Accountable

@@ -13,6 +13,7 @@ use Rattle.simplex_messages.specs.declared.proposal_vote.ProposalVote.{ProposalV
 use Rattle.simplex_messages.specs.Nullify.{nullify_of_parts}
 use Rattle.simplex_messages.specs.ProposalVote.{vote_of_parts}
 use Rattle.simplex_rules.specs.declared.cast.Kept.{Kept}
+use Rattle.simplex_rules.specs.declared.nullifies.Given.{Given}
 use Rattle.simplex_rules.specs.declared.cast.Suspect.{Suspect}
 use Rattle.simplex_rules.specs.Tally.{HoldsVotes, HoldsNullifies}
 
@@ -56,5 +57,5 @@ module _ {S D P G C : Type 0} (c : Nullification S D P G C) where
   abbrev pub nullify_by : Attestation G → Nullify S D P G C
   nullify_by a = nullify_of_parts (c.round, a)
 
-  abbrev pub HoldsGivenUp : (ℕ → Statement D → G → Type 0) → List (Nullify S D P G C) → BTreeMap Suspect G → Type 0
+  abbrev pub HoldsGivenUp : (ℕ → Statement D → G → Type 0) → List (Nullify S D P G C) → BTreeMap Suspect (Given G) → Type 0
   HoldsGivenUp attests votes kept = HoldsNullifies attests votes kept

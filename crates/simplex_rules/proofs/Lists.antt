@@ -41,6 +41,13 @@ Contains-map f (x ∷ xs) y there = elim (element_cases (f x) y (map f xs) there
   | inr later ↦ let found = Contains-map f xs y later in (found.0, later_element x found.0 xs found.1, found.2)
 ]
 
+pub in-map : {X Y : Type 0} (f : X → Y) (xs : List X) (x : X) → Contains xs x → Contains (map f xs) (f x)
+in-map f [] x there = absurd (no_element x there)
+in-map f (y ∷ xs) x there = elim (element_cases y x xs there) [
+  | inl first ↦ subst (λ z. Contains (map f (y ∷ xs)) (f z)) first (first_element (f y) (map f xs))
+  | inr later ↦ later_element (f y) (f x) (map f xs) (in-map f xs x later)
+]
+
 pub Contains-flat_map : {X Y : Type 0} (f : X → List Y) (xs : List X) (y : Y) → Contains (flat_map f xs) y → (x : X) × Contains xs x × Contains (f x) y
 Contains-flat_map f [] y there = absurd (no_element y there)
 Contains-flat_map f (x ∷ xs) y there = elim (Contains-append_cases (f x) (flat_map f xs) y there) [

@@ -1,6 +1,6 @@
 -- The evidence that is kept is the verdict.
-use Rattle.std.proofs.Common.{◌≡◌, ℕ, true, false, List, [], ◌∷◌, ◌++◌, Option, Some, None, refl, sym, ap, ◌∙◌, subst, inl, inr, arith}
-use Rattle.std.specs.Prelude.{Contains, IsSome, IsTrue, AllPairs}
+use Rattle.std.proofs.Common.{◌≡◌, ℕ, List, [], ◌∷◌, ◌++◌, Option, Some, None, refl, sym, ap, ◌∙◌, subst, inl, inr, arith, map}
+use Rattle.std.specs.Prelude.{⊤, Contains, IsSome, IsTrue, AllPairs}
 use Rattle.std.specs.List.{flat_map}
 use Rattle.std.specs.List.Sorted.{IsStrictlySortedBy}
 use Rattle.std.specs.Cmp.{IsTotalOrder}
@@ -15,19 +15,21 @@ use Rattle.simplex_types.specs.declared.attestation.Attestation.{Attestation}
 use Rattle.simplex_types.specs.declared.position.Round.{Round}
 use Rattle.simplex_types.specs.Subject.{Statement, notarize, finalize}
 use Rattle.simplex_messages.specs.declared.activity.Activity.{Activity}
+use Rattle.simplex_messages.specs.declared.nullify.Nullify.{Nullify}
+use Rattle.simplex_messages.specs.ProposalVote.{Finalize}
 use Rattle.simplex_messages.specs.Activity.{conflicting_notarize_report, conflicting_finalize_report, nullify_finalize_report}
-use Rattle.simplex_messages.specs.Guilt.{notarizes_of, nullifies_of, finalizes_of, IsGuilty, IsGuiltyBeside, IsLeastBeside}
-use Rattle.simplex_rules.specs.declared.cast.Cast.{Cast}
+use Rattle.simplex_messages.specs.Guilt.{notarizes_of, nullifies_of, finalizes_of, IsGuilty, IsGuiltyBeside}
 use Rattle.simplex_rules.specs.declared.cast.Kept.{Kept}
-use Rattle.simplex_rules.specs.declared.cast.Kept.TheVariants.{One, Two}
+use Rattle.simplex_rules.specs.declared.cast.Kept.TheVariants.{Claim, One, Two}
 use Rattle.simplex_rules.specs.declared.cast.Suspect.{Suspect}
 use Rattle.simplex_rules.specs.declared.tally.Tally.{Tally}
 use Rattle.simplex_rules.specs.Kept.{suspect_cmp}
 use Rattle.simplex_rules.specs.Audit.{Accusation, Offence, TwoNotarizes, TwoFinalizes, NullifyBeside, accused, AreInOrder, IsAccused, IsLeast, IsVerdict}
-use Rattle.simplex_rules.specs.Tally.{HoldsReports, IsGathered, vote_of, nullify_suspect, suspect_of, nullify_of, conflict_in, least_in, nullify_in, both_of, reported, evidence_at}
-use Rattle.simplex_rules.proofs.Lists.{no_element, only_element, first_element, Contains-flat_map, in-flat_map, AllPairs-nil, AllPairs-append}
+use Rattle.simplex_rules.specs.Tally.{HoldsReports, IsBesideIn, IsBesideOf, IsGathered, vote_of, nullify_suspect, suspect_of, conflict_in, reported, evidence_at}
+use Rattle.simplex_rules.proofs.Lists.{no_element, only_element, first_element, later_element, Contains-map, in-map, Contains-flat_map, in-flat_map, AllPairs-nil, AllPairs-append}
+use Rattle.simplex_rules.proofs.Pieces.{Pieces, piece}
 use Rattle.simplex_rules.proofs.Suspects.{suspects_total, suspects_exact, accusation_of, StandsBefore-from_less}
-use Rattle.simplex_rules.proofs.Judging.{suspect_from, IsLeastEvidence-from_two, guilty_are_kept, voters_are_kept, IsLeastVote, IsLeastVote-from_one, IsLeastVote-from_two, IsFirstNullify-from_kept, nullifiers_are_kept}
+use Rattle.simplex_rules.proofs.Judging.{suspect_from, IsLeastEvidence-from_two, guilty_are_kept, voters_are_kept, nullifiers_are_kept}
 
 module _ {S D P G C : Type 0} where
   -- each of these accuses the suspect of the offence
@@ -36,19 +38,27 @@ module _ {S D P G C : Type 0} where
 
   conflict_notarize-AreOf : (q : Suspect) (k : Option (Kept D G)) → AreOf q TwoNotarizes (reported conflicting_notarize_report (conflict_in q k))
   conflict_notarize-AreOf q None a there = absurd (no_element a there)
+  conflict_notarize-AreOf q (Some (Claim b)) a there = absurd (no_element a there)
   conflict_notarize-AreOf q (Some (One b)) a there = absurd (no_element a there)
   conflict_notarize-AreOf q (Some (Two b c)) a there = ap (λ (x : Activity S D P G C). accused x) (sym (only_element _ a there))
 
   conflict_finalize-AreOf : (q : Suspect) (k : Option (Kept D G)) → AreOf q TwoFinalizes (reported conflicting_finalize_report (conflict_in q k))
   conflict_finalize-AreOf q None a there = absurd (no_element a there)
+  conflict_finalize-AreOf q (Some (Claim b)) a there = absurd (no_element a there)
   conflict_finalize-AreOf q (Some (One b)) a there = absurd (no_element a there)
   conflict_finalize-AreOf q (Some (Two b c)) a there = ap (λ (x : Activity S D P G C). accused x) (sym (only_element _ a there))
 
-  beside-AreOf : (q : Suspect) (n : Option G) (k : Option (Kept D G)) → AreOf q NullifyBeside (reported nullify_finalize_report (both_of (nullify_in q n) (least_in q k)))
-  beside-AreOf q None k a there = absurd (no_element a there)
-  beside-AreOf q (Some s) None a there = absurd (no_element a there)
-  beside-AreOf q (Some s) (Some (One b)) a there = ap (λ (x : Activity S D P G C). accused x) (sym (only_element _ a there))
-  beside-AreOf q (Some s) (Some (Two b c)) a there = ap (λ (x : Activity S D P G C). accused x) (sym (only_element _ a there))
+  -- a nullify beside a finalize, if there are such, is the suspect's
+  abbrev IsOwn : Suspect → Option (Nullify S D P G C × Finalize S D P G C) → Type 0
+  IsOwn q None = ⊤
+  IsOwn q (Some x) = nullify_suspect x.0 ≡ q
+
+  own_accusation : (q : Suspect) (x : Nullify S D P G C × Finalize S D P G C) → nullify_suspect x.0 ≡ q → accused {S = S} {D = D} {P = P} {G = G} {C = C} (nullify_finalize_report x) ≡ Some (accusation_of q NullifyBeside)
+  own_accusation q x own = ap (λ (y : Suspect). Some (accusation_of y NullifyBeside)) own
+
+  beside-AreOf : (q : Suspect) (b : Option (Nullify S D P G C × Finalize S D P G C)) → IsOwn q b → AreOf q NullifyBeside (reported nullify_finalize_report b)
+  beside-AreOf q None own a there = absurd (no_element a there)
+  beside-AreOf q (Some x) own a there = ap (λ (y : Activity S D P G C). accused y) (sym (only_element _ a there)) ∙ own_accusation q x own
 
   -- evidence in the order of its accusations
   abbrev InOrder : Activity S D P G C → Activity S D P G C → Type 0
@@ -61,127 +71,141 @@ module _ {S D P G C : Type 0} where
   at_most_one report None = AllPairs-nil InOrder
   at_most_one report (Some x) = λ i j d lt small. absurd (omega arith)
 
+  abbrev notarized : Tally S D P G C → Suspect → List (Activity S D P G C)
+  notarized t q = reported conflicting_notarize_report (conflict_in q (get suspect_cmp t.notarizes.kept q))
+
+  abbrev finalized : Tally S D P G C → Suspect → List (Activity S D P G C)
+  finalized t q = reported conflicting_finalize_report (conflict_in q (get suspect_cmp t.finalizes.kept q))
+
   -- a suspect's evidence stands in the order of offences
-  evidence_at-sorted : (t : Tally S D P G C) (q : Suspect) → AllPairs InOrder (evidence_at t q)
-  evidence_at-sorted t q =
-      let notarized = reported conflicting_notarize_report (conflict_in {S = S} {P = P} {C = C} q (get suspect_cmp t.notarizes.kept q)) in
-      let finalized = reported conflicting_finalize_report (conflict_in {S = S} {P = P} {C = C} q (get suspect_cmp t.finalizes.kept q)) in
-      let nullified = reported nullify_finalize_report (both_of (nullify_in q (get suspect_cmp t.nullifies.kept q)) (least_in q (get suspect_cmp t.finalizes.kept q))) in
+  evidence_at-sorted : (t : Tally S D P G C) (q : Suspect) (b : Option (Nullify S D P G C × Finalize S D P G C)) → IsOwn q b → AllPairs InOrder (evidence_at t q b)
+  evidence_at-sorted t q b own =
+      let nullified = reported nullify_finalize_report b in
       let one = conflict_notarize-AreOf q (get suspect_cmp t.notarizes.kept q) in
       let two = conflict_finalize-AreOf q (get suspect_cmp t.finalizes.kept q) in
-      let three = beside-AreOf q (get suspect_cmp t.nullifies.kept q) (get suspect_cmp t.finalizes.kept q) in
-      AllPairs-append InOrder notarized (finalized ++ nullified) (at_most_one conflicting_notarize_report (conflict_in q (get suspect_cmp t.notarizes.kept q)))
-      (AllPairs-append InOrder finalized nullified (at_most_one conflicting_finalize_report (conflict_in q (get suspect_cmp t.finalizes.kept q)))
-      (at_most_one nullify_finalize_report (both_of (nullify_in q (get suspect_cmp t.nullifies.kept q)) (least_in q (get suspect_cmp t.finalizes.kept q))))
-      (λ a b first second. in_order a b (accusation_of q TwoFinalizes) (accusation_of q NullifyBeside) (two a first) (three b second) (inr (refl, inr (refl, inr (refl, omega arith))))))
-      (λ a b first second. elim (Contains-append_cases finalized nullified b second) [
-        | inl left ↦ in_order a b (accusation_of q TwoNotarizes) (accusation_of q TwoFinalizes) (one a first) (two b left) (inr (refl, inr (refl, inr (refl, omega arith))))
-        | inr right ↦ in_order a b (accusation_of q TwoNotarizes) (accusation_of q NullifyBeside) (one a first) (three b right) (inr (refl, inr (refl, inr (refl, omega arith))))
+      let three = beside-AreOf q b own in
+      AllPairs-append InOrder (notarized t q) (finalized t q ++ nullified) (at_most_one conflicting_notarize_report (conflict_in q (get suspect_cmp t.notarizes.kept q)))
+      (AllPairs-append InOrder (finalized t q) nullified (at_most_one conflicting_finalize_report (conflict_in q (get suspect_cmp t.finalizes.kept q)))
+      (at_most_one nullify_finalize_report b)
+      (λ x y first second. in_order x y (accusation_of q TwoFinalizes) (accusation_of q NullifyBeside) (two x first) (three y second) (inr (refl, inr (refl, inr (refl, omega arith))))))
+      (λ x y first second. elim (Contains-append_cases (finalized t q) nullified y second) [
+        | inl left ↦ in_order x y (accusation_of q TwoNotarizes) (accusation_of q TwoFinalizes) (one x first) (two y left) (inr (refl, inr (refl, inr (refl, omega arith))))
+        | inr right ↦ in_order x y (accusation_of q TwoNotarizes) (accusation_of q NullifyBeside) (one x first) (three y right) (inr (refl, inr (refl, inr (refl, omega arith))))
       ])
 
   -- a suspect's evidence is against the suspect
-  evidence_at-own : (t : Tally S D P G C) (q : Suspect) (a : Activity S D P G C) → Contains (evidence_at t q) a → (o : Offence) × (accused a ≡ Some (accusation_of q o))
-  evidence_at-own t q a there = elim (Contains-append_cases (reported conflicting_notarize_report (conflict_in q (get suspect_cmp t.notarizes.kept q))) (reported conflicting_finalize_report (conflict_in q (get suspect_cmp t.finalizes.kept q)) ++ reported nullify_finalize_report (both_of (nullify_in q (get suspect_cmp t.nullifies.kept q)) (least_in q (get suspect_cmp t.finalizes.kept q)))) a there) [
+  evidence_at-own : (t : Tally S D P G C) (q : Suspect) (b : Option (Nullify S D P G C × Finalize S D P G C)) → IsOwn q b → (a : Activity S D P G C) → Contains (evidence_at t q b) a → (o : Offence) × (accused a ≡ Some (accusation_of q o))
+  evidence_at-own t q b own a there = elim (Contains-append_cases (notarized t q) (finalized t q ++ reported nullify_finalize_report b) a there) [
     | inl first ↦ (TwoNotarizes, conflict_notarize-AreOf q (get suspect_cmp t.notarizes.kept q) a first)
-    | inr later ↦ elim (Contains-append_cases (reported conflicting_finalize_report (conflict_in q (get suspect_cmp t.finalizes.kept q))) (reported nullify_finalize_report (both_of (nullify_in q (get suspect_cmp t.nullifies.kept q)) (least_in q (get suspect_cmp t.finalizes.kept q)))) a later) [
+    | inr later ↦ elim (Contains-append_cases (finalized t q) (reported nullify_finalize_report b) a later) [
       | inl second ↦ (TwoFinalizes, conflict_finalize-AreOf q (get suspect_cmp t.finalizes.kept q) a second)
-      | inr third ↦ (NullifyBeside, beside-AreOf q (get suspect_cmp t.nullifies.kept q) (get suspect_cmp t.finalizes.kept q) a third)
+      | inr third ↦ (NullifyBeside, beside-AreOf q b own a third)
     ]
   ]
 
   -- the evidence stands in the order of suspects
-  evidence-sorted : (t : Tally S D P G C) (qs : List Suspect) → IsStrictlySortedBy suspect_cmp qs → AllPairs InOrder (flat_map (evidence_at t) qs)
-  evidence-sorted t [] ordered = AllPairs-nil InOrder
-  evidence-sorted t (q ∷ qs) ordered =
-      AllPairs-append InOrder (evidence_at t q) (flat_map (evidence_at t) qs) (evidence_at-sorted t q) (evidence-sorted t qs (sorted_tail suspect_cmp q qs ordered))
+  evidence-sorted : (t : Tally S D P G C) (ps : List (Suspect × Option (Nullify S D P G C × Finalize S D P G C))) → IsStrictlySortedBy suspect_cmp (map (λ p. p.0) ps) → ((p : Suspect × Option (Nullify S D P G C × Finalize S D P G C)) → Contains ps p → IsOwn p.0 p.1) → AllPairs InOrder (flat_map (piece t) ps)
+  evidence-sorted t [] ordered own = AllPairs-nil InOrder
+  evidence-sorted t (p ∷ ps) ordered own =
+      let here : IsOwn p.0 p.1 = own p (first_element p ps) in
+      let qs = map (λ (r : Suspect × Option (Nullify S D P G C × Finalize S D P G C)). r.0) ps in
+      AllPairs-append InOrder (piece t p) (flat_map (piece t) ps) (evidence_at-sorted t p.0 p.1 here) (evidence-sorted t ps (sorted_tail suspect_cmp p.0 qs ordered) (λ r there. own r (later_element p r ps there)))
       (λ a b first later.
-      let own = evidence_at-own t q a first in
-      let found = Contains-flat_map (evidence_at t) qs b later in
-      let other = evidence_at-own t found.0 b found.2 in
-      let below : suspect_cmp q found.0 ≡ Less = All-contains (λ r. suspect_cmp q r ≡ Less) qs found.0 (All-after_first suspect_cmp q qs ordered) found.1 in
-      in_order a b (accusation_of q own.0) (accusation_of found.0 other.0) own.1 other.1 (StandsBefore-from_less q found.0 own.0 other.0 below))
+      let mine = evidence_at-own t p.0 p.1 here a first in
+      let found = Contains-flat_map (piece t) ps b later in
+      let other = evidence_at-own t found.0.0 found.0.1 (own found.0 (later_element p found.0 ps found.1)) b found.2 in
+      let below : suspect_cmp p.0 found.0.0 ≡ Less = All-contains (λ r. suspect_cmp p.0 r ≡ Less) qs found.0.0 (All-after_first suspect_cmp p.0 qs ordered) (in-map (λ (r : Suspect × Option (Nullify S D P G C × Finalize S D P G C)). r.0) ps found.0 found.1) in
+      in_order a b (accusation_of p.0 mine.0) (accusation_of found.0.0 other.0) mine.1 other.1 (StandsBefore-from_less p.0 found.0.0 mine.0 other.0 below))
 
   module _ (lists : C → List (Attestation G)) (attests : ℕ → Statement D → G → Type 0) (cmp : D → D → Ordering) (order : IsTotalOrder cmp) (reports : List (Activity S D P G C)) (t : Tally S D P G C) (h : HoldsReports lists attests cmp reports t) where
     two_notarizes-least : (q : Suspect) (k : Option (Kept D G)) → get suspect_cmp t.notarizes.kept q ≡ k → (a : Activity S D P G C) → Contains (reported conflicting_notarize_report (conflict_in q k)) a → IsLeast lists attests cmp reports a
     two_notarizes-least q None found a there = absurd (no_element a there)
+    two_notarizes-least q (Some (Claim b)) found a there = absurd (no_element a there)
     two_notarizes-least q (Some (One b)) found a there = absurd (no_element a there)
-    two_notarizes-least q (Some (Two b c)) found a there = subst (λ (x : Activity S D P G C). IsLeast lists attests cmp reports x) (only_element _ a there) (IsLeastEvidence-from_two notarize attests cmp (notarizes_of lists reports) t.notarizes.kept h.notarizes order q b c found)
+    two_notarizes-least q (Some (Two b c)) found a there = subst (λ (x : Activity S D P G C). IsLeast lists attests cmp reports x) (only_element _ a there) (IsLeastEvidence-from_two notarize attests (notarizes_of lists reports) cmp t.notarizes.kept h.notarizes order q b c found)
 
     two_finalizes-least : (q : Suspect) (k : Option (Kept D G)) → get suspect_cmp t.finalizes.kept q ≡ k → (a : Activity S D P G C) → Contains (reported conflicting_finalize_report (conflict_in q k)) a → IsLeast lists attests cmp reports a
     two_finalizes-least q None found a there = absurd (no_element a there)
+    two_finalizes-least q (Some (Claim b)) found a there = absurd (no_element a there)
     two_finalizes-least q (Some (One b)) found a there = absurd (no_element a there)
-    two_finalizes-least q (Some (Two b c)) found a there = subst (λ (x : Activity S D P G C). IsLeast lists attests cmp reports x) (only_element _ a there) (IsLeastEvidence-from_two finalize attests cmp (finalizes_of lists reports) t.finalizes.kept h.finalizes order q b c found)
+    two_finalizes-least q (Some (Two b c)) found a there = subst (λ (x : Activity S D P G C). IsLeast lists attests cmp reports x) (only_element _ a there) (IsLeastEvidence-from_two finalize attests (finalizes_of lists reports) cmp t.finalizes.kept h.finalizes order q b c found)
 
-    beside-from_least : (q : Suspect) (s : G) (b : Cast D G) → get suspect_cmp t.nullifies.kept q ≡ Some s → IsLeastVote finalize attests cmp (finalizes_of lists reports) t.finalizes.kept h.finalizes q b
-        → IsLeastBeside attests cmp (nullifies_of lists reports) (finalizes_of lists reports) (nullify_of q s) (vote_of q b)
-    beside-from_least q s b nullified l = record {
-      beside = record { one_round = refl; one_signer = refl };
-      first = IsFirstNullify-from_kept attests (nullifies_of lists reports) t.nullifies.kept h.nullifies q s nullified;
-      second = l.first;
-      least = λ v there verifies theirs. l.least v there verifies theirs.round_is theirs.signer_is;
-    }
+    beside-least : (q : Suspect) (b : Option (Nullify S D P G C × Finalize S D P G C)) → IsBesideOf attests cmp (nullifies_of lists reports) (finalizes_of lists reports) q b → (a : Activity S D P G C) → Contains (reported nullify_finalize_report b) a → IsLeast lists attests cmp reports a
+    beside-least q None beside a there = absurd (no_element a there)
+    beside-least q (Some x) beside a there = subst (λ (y : Activity S D P G C). IsLeast lists attests cmp reports y) (only_element _ a there) beside.1
 
-    beside-least : (q : Suspect) (n : Option G) (k : Option (Kept D G)) → get suspect_cmp t.nullifies.kept q ≡ n → get suspect_cmp t.finalizes.kept q ≡ k → (a : Activity S D P G C) → Contains (reported nullify_finalize_report (both_of (nullify_in q n) (least_in q k))) a → IsLeast lists attests cmp reports a
-    beside-least q None k nullified found a there = absurd (no_element a there)
-    beside-least q (Some s) None nullified found a there = absurd (no_element a there)
-    beside-least q (Some s) (Some (One b)) nullified found a there = subst (λ (x : Activity S D P G C). IsLeast lists attests cmp reports x) (only_element _ a there)
-        (beside-from_least q s b nullified (IsLeastVote-from_one finalize attests cmp (finalizes_of lists reports) t.finalizes.kept h.finalizes q b found))
-    beside-least q (Some s) (Some (Two b c)) nullified found a there = subst (λ (x : Activity S D P G C). IsLeast lists attests cmp reports x) (only_element _ a there)
-        (beside-from_least q s b nullified (IsLeastVote-from_two finalize attests cmp (finalizes_of lists reports) t.finalizes.kept h.finalizes order q b c found))
+    beside-own : (q : Suspect) (b : Option (Nullify S D P G C × Finalize S D P G C)) → IsBesideOf attests cmp (nullifies_of lists reports) (finalizes_of lists reports) q b → IsOwn q b
+    beside-own q None beside = tt
+    beside-own q (Some x) beside = beside.0
 
     -- each piece of a suspect's evidence is the least
-    evidence_at-least : (q : Suspect) (a : Activity S D P G C) → Contains (evidence_at t q) a → IsLeast lists attests cmp reports a
-    evidence_at-least q a there = elim (Contains-append_cases (reported conflicting_notarize_report (conflict_in q (get suspect_cmp t.notarizes.kept q))) (reported conflicting_finalize_report (conflict_in q (get suspect_cmp t.finalizes.kept q)) ++ reported nullify_finalize_report (both_of (nullify_in q (get suspect_cmp t.nullifies.kept q)) (least_in q (get suspect_cmp t.finalizes.kept q)))) a there) [
+    evidence_at-least : (q : Suspect) (b : Option (Nullify S D P G C × Finalize S D P G C)) → IsBesideIn lists attests cmp t q b → (a : Activity S D P G C) → Contains (evidence_at t q b) a → IsLeast lists attests cmp reports a
+    evidence_at-least q b beside a there = elim (Contains-append_cases (notarized t q) (finalized t q ++ reported nullify_finalize_report b) a there) [
       | inl first ↦ two_notarizes-least q (get suspect_cmp t.notarizes.kept q) refl a first
-      | inr later ↦ elim (Contains-append_cases (reported conflicting_finalize_report (conflict_in q (get suspect_cmp t.finalizes.kept q))) (reported nullify_finalize_report (both_of (nullify_in q (get suspect_cmp t.nullifies.kept q)) (least_in q (get suspect_cmp t.finalizes.kept q)))) a later) [
+      | inr later ↦ elim (Contains-append_cases (finalized t q) (reported nullify_finalize_report b) a later) [
         | inl second ↦ two_finalizes-least q (get suspect_cmp t.finalizes.kept q) refl a second
-        | inr third ↦ beside-least q (get suspect_cmp t.nullifies.kept q) (get suspect_cmp t.finalizes.kept q) refl refl a third
+        | inr third ↦ beside-least q b (beside reports h) a third
       ]
     ]
 
-    module _ (guilty : BTreeSet Suspect) (gathered : IsGathered t guilty) where
-      among_guilty : (q : Suspect) → IsTrue (contains suspect_cmp guilty q) → (a : Activity S D P G C) → Contains (evidence_at t q) a → Contains (flat_map (evidence_at t) guilty.keys) a
-      among_guilty q there a own = in-flat_map (evidence_at t) guilty.keys q a ((btree_set_contains_iff suspects_total suspects_exact guilty q).0 there) own
+    -- who is guilty of a nullify beside a finalize is told
+    beside-told : (round : Round) (signer : ℕ) (b : Option (Nullify S D P G C × Finalize S D P G C)) → IsBesideOf attests cmp (nullifies_of lists reports) (finalizes_of lists reports) (suspect_from round signer) b
+        → IsGuiltyBeside attests (nullifies_of lists reports) (finalizes_of lists reports) round signer
+        → (a : Activity S D P G C) × Contains (reported nullify_finalize_report b) a × (accused a ≡ Some (accusation_of (suspect_from round signer) NullifyBeside))
+    beside-told round signer None beside g = absurd (beside g)
+    beside-told round signer (Some x) beside g = (nullify_finalize_report x, first_element (nullify_finalize_report x) [], own_accusation (suspect_from round signer) x beside.0)
 
-      two_notarizes-told : (round : Round) (signer : ℕ) → IsGuilty notarize attests (notarizes_of lists reports) round signer → IsAccused (flat_map (evidence_at t) guilty.keys) (accusation_of (suspect_from round signer) TwoNotarizes)
+    module _ (guilty : BTreeSet Suspect) (gathered : IsGathered t guilty) (evidence : List (Activity S D P G C)) (ps : Pieces lists attests cmp t guilty.keys evidence) where
+      abbrev told : List (Activity S D P G C)
+      told = flat_map (piece t) ps.pieces
+
+      -- of each suspect in the set there is a piece
+      piece_of : (q : Suspect) → IsTrue (contains suspect_cmp guilty q) → (b : Option (Nullify S D P G C × Finalize S D P G C)) × Contains ps.pieces (q, b)
+      piece_of q there =
+          let key : Contains guilty.keys q = (btree_set_contains_iff suspects_total suspects_exact guilty q).0 there in
+          let found = Contains-map (λ (p : Suspect × Option (Nullify S D P G C × Finalize S D P G C)). p.0) ps.pieces q (subst (λ (qs : List Suspect). Contains qs q) (sym ps.suspects_are) key) in
+          (found.0.1, subst (λ (x : Suspect). Contains ps.pieces (x, found.0.1)) found.2 found.1)
+
+      two_notarizes-told : (round : Round) (signer : ℕ) → IsGuilty notarize attests (notarizes_of lists reports) round signer → IsAccused told (accusation_of (suspect_from round signer) TwoNotarizes)
       two_notarizes-told round signer g =
           let q = suspect_from round signer in
-          let kept = guilty_are_kept notarize attests cmp (notarizes_of lists reports) t.notarizes.kept h.notarizes round signer g in
+          let kept = guilty_are_kept notarize attests (notarizes_of lists reports) cmp t.notarizes.kept h.notarizes round signer g in
           let report = conflicting_notarize_report (vote_of q kept.0, vote_of q kept.1.value) in
-          let own : Contains (reported conflicting_notarize_report (conflict_in q (get suspect_cmp t.notarizes.kept q))) report = rw kept.2 (first_element report []) in
-          (report, among_guilty q (gathered.notarized q (Two kept.0 kept.1) kept.2 tt) report (Contains-append_left (reported conflicting_notarize_report (conflict_in q (get suspect_cmp t.notarizes.kept q))) _ report own), refl)
+          let own : Contains (notarized t q) report = rw kept.2 (first_element report []) in
+          let p = piece_of q (gathered.notarized q (Two kept.0 kept.1) kept.2 tt) in
+          (report, in-flat_map (piece t) ps.pieces (q, p.0) report p.1 (Contains-append_left (notarized t q) _ report own), refl)
 
-      two_finalizes-told : (round : Round) (signer : ℕ) → IsGuilty finalize attests (finalizes_of lists reports) round signer → IsAccused (flat_map (evidence_at t) guilty.keys) (accusation_of (suspect_from round signer) TwoFinalizes)
+      two_finalizes-told : (round : Round) (signer : ℕ) → IsGuilty finalize attests (finalizes_of lists reports) round signer → IsAccused told (accusation_of (suspect_from round signer) TwoFinalizes)
       two_finalizes-told round signer g =
           let q = suspect_from round signer in
-          let kept = guilty_are_kept finalize attests cmp (finalizes_of lists reports) t.finalizes.kept h.finalizes round signer g in
+          let kept = guilty_are_kept finalize attests (finalizes_of lists reports) cmp t.finalizes.kept h.finalizes round signer g in
           let report = conflicting_finalize_report (vote_of q kept.0, vote_of q kept.1.value) in
-          let own : Contains (reported conflicting_finalize_report (conflict_in q (get suspect_cmp t.finalizes.kept q))) report = rw kept.2 (first_element report []) in
-          (report, among_guilty q (gathered.finalized q (Two kept.0 kept.1) kept.2 tt) report (Contains-append_right (reported conflicting_notarize_report (conflict_in q (get suspect_cmp t.notarizes.kept q))) _ report (Contains-append_left (reported conflicting_finalize_report (conflict_in q (get suspect_cmp t.finalizes.kept q))) _ report own)), refl)
+          let own : Contains (finalized t q) report = rw kept.2 (first_element report []) in
+          let p = piece_of q (gathered.finalized q (Two kept.0 kept.1) kept.2 tt) in
+          (report, in-flat_map (piece t) ps.pieces (q, p.0) report p.1 (Contains-append_right (notarized t q) _ report (Contains-append_left (finalized t q) _ report own)), refl)
 
-      -- where both are kept, evidence is
-      both_told : (q : Suspect) (n : Option G) (k : Option (Kept D G)) → IsSome n → IsSome k → (a : Activity S D P G C) × Contains (reported nullify_finalize_report (both_of (nullify_in q n) (least_in q k))) a × (accused a ≡ Some (accusation_of q NullifyBeside))
-      both_told q None k nullified finalized = absurd (let never : false ≡ true = nullified in cc)
-      both_told q (Some s) None nullified finalized = absurd (let never : false ≡ true = finalized in cc)
-      both_told q (Some s) (Some (One b)) nullified finalized = (nullify_finalize_report (nullify_of q s, vote_of q b), first_element (nullify_finalize_report (nullify_of q s, vote_of q b)) [], refl)
-      both_told q (Some s) (Some (Two b c)) nullified finalized = (nullify_finalize_report (nullify_of q s, vote_of q b), first_element (nullify_finalize_report (nullify_of q s, vote_of q b)) [], refl)
-
-      nullify_beside-told : (round : Round) (signer : ℕ) → IsGuiltyBeside attests (nullifies_of lists reports) (finalizes_of lists reports) round signer → IsAccused (flat_map (evidence_at t) guilty.keys) (accusation_of (suspect_from round signer) NullifyBeside)
+      nullify_beside-told : (round : Round) (signer : ℕ) → IsGuiltyBeside attests (nullifies_of lists reports) (finalizes_of lists reports) round signer → IsAccused told (accusation_of (suspect_from round signer) NullifyBeside)
       nullify_beside-told round signer g =
           let q = suspect_from round signer in
           let first_is : nullify_suspect g.first ≡ q = ap (λ (r : Round). suspect_from r g.first.attestation.signer) g.round_is ∙ ap (λ (i : ℕ). suspect_from round i) g.signer_is in
           let second_is : suspect_of g.second ≡ q = ap (λ (r : Round). suspect_from r g.second.attestation.signer) (sym g.beside.one_round) ∙ ap (λ (i : ℕ). suspect_from g.first.round i) (sym g.beside.one_signer) ∙ first_is in
-          let nullified : IsSome (get suspect_cmp t.nullifies.kept q) = subst (λ (x : Suspect). IsSome (get suspect_cmp t.nullifies.kept x)) first_is (nullifiers_are_kept attests (nullifies_of lists reports) t.nullifies.kept h.nullifies g.first g.first_is_there g.first_verifies) in
-          let finalized : IsSome (get suspect_cmp t.finalizes.kept q) = subst (λ (x : Suspect). IsSome (get suspect_cmp t.finalizes.kept x)) second_is (voters_are_kept finalize attests cmp (finalizes_of lists reports) t.finalizes.kept h.finalizes g.second g.second_is_there g.second_verifies) in
-          let told = both_told q (get suspect_cmp t.nullifies.kept q) (get suspect_cmp t.finalizes.kept q) nullified finalized in
-          (told.0, among_guilty q (gathered.nullified q nullified finalized) told.0 (Contains-append_right (reported conflicting_notarize_report (conflict_in q (get suspect_cmp t.notarizes.kept q))) _ told.0 (Contains-append_right (reported conflicting_finalize_report (conflict_in q (get suspect_cmp t.finalizes.kept q))) _ told.0 told.1)), told.2)
+          let nullify_kept : IsSome (get suspect_cmp t.nullifies.kept q) = subst (λ (x : Suspect). IsSome (get suspect_cmp t.nullifies.kept x)) first_is (nullifiers_are_kept attests (nullifies_of lists reports) t.nullifies.kept h.nullifies g.first g.first_is_there) in
+          let finalize_kept : IsSome (get suspect_cmp t.finalizes.kept q) = subst (λ (x : Suspect). IsSome (get suspect_cmp t.finalizes.kept x)) second_is (voters_are_kept finalize attests (finalizes_of lists reports) cmp t.finalizes.kept h.finalizes g.second g.second_is_there) in
+          let p = piece_of q (gathered.nullified q nullify_kept finalize_kept) in
+          let found = beside-told round signer p.0 (ps.besides (q, p.0) p.1 reports h) g in
+          (found.0, in-flat_map (piece t) ps.pieces (q, p.0) found.0 p.1 (Contains-append_right (notarized t q) _ found.0 (Contains-append_right (finalized t q) _ found.0 found.1)), found.2)
+
+      told_least : (a : Activity S D P G C) → Contains told a → IsLeast lists attests cmp reports a
+      told_least a there =
+          let found = Contains-flat_map (piece t) ps.pieces a there in
+          evidence_at-least found.0.0 found.0.1 (ps.besides found.0 found.1) a found.2
 
       -- the evidence that is kept of the suspects in the set is the verdict
-      pub IsVerdict-from_gathered : IsOrdered suspect_cmp guilty → IsVerdict lists attests cmp reports (flat_map (evidence_at t) guilty.keys)
-      IsVerdict-from_gathered ordered = record {
-        sound = λ a there. let found = Contains-flat_map (evidence_at t) guilty.keys a there in evidence_at-least found.0 a found.2;
+      pub IsVerdict-from_gathered : IsOrdered suspect_cmp guilty → IsVerdict lists attests cmp reports evidence
+      IsVerdict-from_gathered ordered = subst (λ (xs : List (Activity S D P G C)). IsVerdict lists attests cmp reports xs) (sym ps.whole) (record {
+        sound = told_least;
         two_notarizes = two_notarizes-told;
         two_finalizes = two_finalizes-told;
         nullify_beside = nullify_beside-told;
-        sorted = evidence-sorted t guilty.keys ordered;
-      }
+        sorted = evidence-sorted t ps.pieces (subst (λ (qs : List Suspect). IsStrictlySortedBy suspect_cmp qs) (sym ps.suspects_are) ordered) (λ p there. beside-own p.0 p.1 (ps.besides p there reports h));
+      })

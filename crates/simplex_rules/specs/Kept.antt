@@ -1,5 +1,5 @@
 -- What a map keeps of the votes that were counted.
-use Rattle.std.specs.Prelude.{◌≡◌, ◌↔◌, Bool, IsTrue, List, [], ◌∷◌, map, Contains, if◌then◌else◌, MatchOption}
+use Rattle.std.specs.Prelude.{◌≡◌, List, [], ◌∷◌, map, if◌then◌else◌, MatchOption}
 use Rattle.std.specs.Ordering.{is_eq, ordering_then, nat_cmp}
 use Rattle.std.specs.BTreeMap.{BTreeMap, get}
 use Rattle.std.specs.declared.cmp.Ordering.{Ordering}
@@ -17,18 +17,11 @@ module _ {X : Type 0} where
 
 module _ {X Y : Type 0} where
   -- of each suspect the map keeps what there is to keep
-  abbrev pub Tallies : (List X → Y → Type 0) → List (Suspect × X) → BTreeMap Suspect Y → Type 0
-  Tallies Keeps counted kept = (q : Suspect) → MatchOption (get suspect_cmp kept q) (casts_of q counted ≡ []) (Keeps (casts_of q counted))
+  abbrev pub Tallies : (Suspect → List X → Y → Type 0) → List (Suspect × X) → BTreeMap Suspect Y → Type 0
+  Tallies Keeps counted kept = (q : Suspect) → MatchOption (get suspect_cmp kept q) (casts_of q counted ≡ []) (Keeps q (casts_of q counted))
 
-module _ {V X : Type 0} where
-  -- of votes and whether each verifies, those that do, each in its suspect's name
-  abbrev pub counted_of : (V → Suspect × X) → List (V × Bool) → List (Suspect × X)
-  counted_of parts [] = []
-  counted_of parts (v ∷ vs) = if v.1 then parts v.0 ∷ counted_of parts vs else counted_of parts vs
-
--- the map keeps what there is to keep of the verifying votes among these
-pub record Holds {V X Y : Type 0} (parts : V → Suspect × X) (Verifies : V → Type 0) (Keeps : List X → Y → Type 0) (votes : List V) (kept : BTreeMap Suspect Y) : Type 0 where
-  pub tested : List (V × Bool)
-  pub votes_are : map (λ t. t.0) tested ≡ votes
-  pub truly : (t : V × Bool) → Contains tested t → IsTrue t.1 ↔ Verifies t.0
-  pub tallies : Tallies Keeps (counted_of parts tested) kept
+-- the map keeps what there is to keep of these votes, each counted in its suspect's name
+pub record Holds {V X Y : Type 0} (parts : V → Suspect × X) (Keeps : Suspect → List X → Y → Type 0) (votes : List V) (kept : BTreeMap Suspect Y) : Type 0 where
+  pub counted : List (Suspect × X)
+  pub all_counted : counted ≡ map parts votes
+  pub tallies : Tallies Keeps counted kept

@@ -1,26 +1,36 @@
 -- What the audit keeps of the reports that it has counted, and the evidence that this gives.
-use Rattle.std.specs.Prelude.{◌≡◌, ◌≢◌, ℕ, List, [], ◌∷◌, ◌++◌, Option, Some, None, Box, IsSome, IsTrue}
+use Rattle.std.specs.Prelude.{◌≡◌, ◌≢◌, ◌⊎◌, ⊤, ℕ, List, [], ◌∷◌, ◌++◌, Contains, Option, Some, None, Box, IsSome, IsTrue}
 use Rattle.std.specs.declared.alloc.Global.{Global}
 use Rattle.std.specs.BTreeMap.{BTreeMap, get}
 use Rattle.std.specs.BTreeSet.{BTreeSet, contains}
 use Rattle.std.specs.declared.cmp.Ordering.{Ordering}
 use Rattle.simplex_types.specs.declared.attestation.Attestation.{Attestation}
 use Rattle.simplex_types.specs.declared.proposal.Proposal.{Proposal}
-use Rattle.simplex_types.specs.Subject.{Statement, notarize, finalize}
+use Rattle.simplex_types.specs.Subject.{Statement, notarize, nullify, finalize}
 use Rattle.simplex_messages.specs.declared.activity.Activity.{Activity}
 use Rattle.simplex_messages.specs.declared.nullify.Nullify.{Nullify}
 use Rattle.simplex_messages.specs.declared.proposal_vote.ProposalVote.{ProposalVote}
-use Rattle.simplex_messages.specs.ProposalVote.{IsAttested}
+use Rattle.simplex_messages.specs.ProposalVote.{Finalize, IsAttested}
 use Rattle.simplex_messages.specs.Nullify.{NullifyIsAttested}
 use Rattle.simplex_messages.specs.Activity.{conflicting_notarize_report, conflicting_finalize_report, nullify_finalize_report}
-use Rattle.simplex_messages.specs.Guilt.{notarizes_of, nullifies_of, finalizes_of}
+use Rattle.simplex_messages.specs.Guilt.{notarizes_of, nullifies_of, finalizes_of, IsBelow, IsCastBy, IsFirstRead, IsFirstNullify, IsGuiltyBeside, IsLeastBeside}
 use Rattle.simplex_rules.specs.declared.cast.Cast.{Cast}
 use Rattle.simplex_rules.specs.declared.cast.Kept.{Kept}
-use Rattle.simplex_rules.specs.declared.cast.Kept.TheVariants.{One, Two}
+use Rattle.simplex_rules.specs.declared.cast.Kept.TheVariants.{Claim, One, Two}
 use Rattle.simplex_rules.specs.declared.cast.Suspect.{Suspect}
+use Rattle.simplex_rules.specs.declared.nullifies.Given.{Given}
+use Rattle.simplex_rules.specs.declared.nullifies.Given.TheVariants as given
 use Rattle.simplex_rules.specs.declared.tally.Tally.{Tally}
-use Rattle.simplex_rules.specs.Cast.{Summarizes, IsTwo}
+use Rattle.simplex_rules.specs.Cast.{IsFirst, AreNone, Summarizes, IsTwo}
 use Rattle.simplex_rules.specs.Kept.{suspect_cmp, Holds}
+
+-- the suspect's vote that was cast so is attested
+abbrev pub CastIsAttested : {D G : Type 0} → (Proposal D → Statement D) → (ℕ → Statement D → G → Type 0) → Suspect → Cast D G → Type 0
+CastIsAttested states attests q c = attests q.signer (states (record { round = q.round; parent = c.choice.parent; payload = c.choice.payload })) c.signature
+
+-- what is kept of a suspect's votes on proposals
+abbrev pub KeepsVotes : {D G : Type 0} → (Proposal D → Statement D) → (ℕ → Statement D → G → Type 0) → (D → D → Ordering) → Suspect → List (Cast D G) → Kept D G → Type 0
+KeepsVotes states attests cmp q casts kept = Summarizes (CastIsAttested states attests q) cmp casts kept
 
 -- votes of the kind K on a proposal
 module _ {K S D P G C : Type 0} where
@@ -32,39 +42,44 @@ module _ {K S D P G C : Type 0} where
   abbrev pub cast_of : ProposalVote K S D P G C → Cast D G
   cast_of v = record { choice = record { parent = v.proposal.parent; payload = v.proposal.payload }; signature = v.attestation.signature }
 
+  -- both
+  abbrev pub parts_of : ProposalVote K S D P G C → Suspect × Cast D G
+  parts_of v = (suspect_of v, cast_of v)
+
   -- the vote of a suspect that was cast so
   abbrev pub vote_of : Suspect → Cast D G → ProposalVote K S D P G C
   vote_of q c = record { proposal = record { round = q.round; parent = c.choice.parent; payload = c.choice.payload }; attestation = record { signer = q.signer; signature = c.signature }; kind = record {} }
 
-  -- the map keeps of each suspect the first that verify of these votes, for the least two proposals
+  -- the map keeps of each suspect what there is to keep of these votes
   abbrev pub HoldsVotes : (Proposal D → Statement D) → (ℕ → Statement D → G → Type 0) → (D → D → Ordering) → List (ProposalVote K S D P G C) → BTreeMap Suspect (Kept D G) → Type 0
-  HoldsVotes states attests cmp votes kept = Holds (λ (v : ProposalVote K S D P G C). (suspect_of v, cast_of v)) (IsAttested states attests) (Summarizes cmp) votes kept
+  HoldsVotes states attests cmp votes kept = Holds parts_of (KeepsVotes states attests cmp) votes kept
 
   -- the two votes that are kept of a suspect
   abbrev pub conflict_in : Suspect → Option (Kept D G) → Option (ProposalVote K S D P G C × ProposalVote K S D P G C)
   conflict_in q None = None
+  conflict_in q (Some (Claim a)) = None
   conflict_in q (Some (One a)) = None
   conflict_in q (Some (Two a b)) = Some (vote_of q a, vote_of q b.value)
 
-  -- the vote that is kept of a suspect for the least proposal
-  abbrev pub least_in : Suspect → Option (Kept D G) → Option (ProposalVote K S D P G C)
-  least_in q None = None
-  least_in q (Some (One a)) = Some (vote_of q a)
-  least_in q (Some (Two a b)) = Some (vote_of q a)
+  -- of a suspect's votes that verify the first for the least proposal
+  abbrev pub IsLeastOf : (Proposal D → Statement D) → (ℕ → Statement D → G → Type 0) → (D → D → Ordering) → List (ProposalVote K S D P G C) → Suspect → Option (ProposalVote K S D P G C) → Type 0
+  IsLeastOf states attests cmp votes q None = (v : ProposalVote K S D P G C) → Contains votes v → IsAttested states attests v → suspect_of v ≡ q → ⊥
+  IsLeastOf states attests cmp votes q (Some a) = IsFirstRead states attests votes a × ((v : ProposalVote K S D P G C) → Contains votes v → IsAttested states attests v → IsCastBy q.round q.signer v
+      → (v.proposal ≡ a.proposal) ⊎ IsBelow cmp a.proposal v.proposal)
 
 -- the two votes that are kept of a suspect are for two proposals
 abbrev pub AreApart : {D G : Type 0} → BTreeMap Suspect (Kept D G) → Type 0
 AreApart {D} {G} kept = (q : Suspect) (a : Cast D G) (b : Box (Cast D G) Global) → get suspect_cmp kept q ≡ Some (Two a b) → a.choice ≢ b.value.choice
 
--- the list begins with it
-abbrev pub IsHead : {X : Type 0} → List X → X → Type 0
-IsHead {X} xs x = (rest : List X) × (xs ≡ x ∷ rest)
+-- the suspect's nullify with this signature is attested
+abbrev pub GivenIsAttested : {D G : Type 0} → (ℕ → Statement D → G → Type 0) → Suspect → G → Type 0
+GivenIsAttested attests q signature = attests q.signer (nullify q.round) signature
 
--- both, where both are there
-abbrev pub both_of : {A B : Type 0} → Option A → Option B → Option (A × B)
-both_of None b = None
-both_of (Some x) None = None
-both_of (Some x) (Some y) = Some (x, y)
+-- what is kept of a suspect's nullifies: the first that verifies, or one that stands for all
+abbrev pub KeepsNullifies : {D G : Type 0} → (ℕ → Statement D → G → Type 0) → Suspect → List G → Given G → Type 0
+KeepsNullifies attests q signatures (given.Claim a) =
+    (GivenIsAttested attests q a → IsFirst (GivenIsAttested attests q) signatures a) × ((GivenIsAttested attests q a → ⊥) → AreNone (GivenIsAttested attests q) signatures)
+KeepsNullifies attests q signatures (given.First a) = IsFirst (GivenIsAttested attests q) signatures a
 
 module _ {S D P G C : Type 0} where
   -- in whose name a nullify is
@@ -75,14 +90,23 @@ module _ {S D P G C : Type 0} where
   abbrev pub nullify_of : Suspect → G → Nullify S D P G C
   nullify_of q signature = record { round = q.round; attestation = record { signer = q.signer; signature = signature } }
 
-  -- the map keeps of each suspect the first that verifies of these nullifies
-  abbrev pub HoldsNullifies : (ℕ → Statement D → G → Type 0) → List (Nullify S D P G C) → BTreeMap Suspect G → Type 0
-  HoldsNullifies attests votes kept = Holds (λ (v : Nullify S D P G C). (nullify_suspect v, v.attestation.signature)) (NullifyIsAttested attests) IsHead votes kept
+  -- both
+  abbrev pub nullify_parts : Nullify S D P G C → Suspect × G
+  nullify_parts v = (nullify_suspect v, v.attestation.signature)
 
-  -- the nullify that is kept of a suspect
-  abbrev pub nullify_in : Suspect → Option G → Option (Nullify S D P G C)
-  nullify_in q None = None
-  nullify_in q (Some signature) = Some (nullify_of q signature)
+  -- the map keeps of each suspect what there is to keep of these nullifies
+  abbrev pub HoldsNullifies : (ℕ → Statement D → G → Type 0) → List (Nullify S D P G C) → BTreeMap Suspect (Given G) → Type 0
+  HoldsNullifies attests votes kept = Holds nullify_parts (KeepsNullifies attests) votes kept
+
+  -- of a suspect's nullifies the first that verifies
+  abbrev pub IsFirstOf : (ℕ → Statement D → G → Type 0) → List (Nullify S D P G C) → Suspect → Option (Nullify S D P G C) → Type 0
+  IsFirstOf attests votes q None = (v : Nullify S D P G C) → Contains votes v → NullifyIsAttested attests v → nullify_suspect v ≡ q → ⊥
+  IsFirstOf attests votes q (Some a) = IsFirstNullify attests votes a
+
+  -- a suspect's nullify beside its finalize, if it is guilty of that
+  abbrev pub IsBesideOf : (ℕ → Statement D → G → Type 0) → (D → D → Ordering) → List (Nullify S D P G C) → List (Finalize S D P G C) → Suspect → Option (Nullify S D P G C × Finalize S D P G C) → Type 0
+  IsBesideOf attests cmp nullifies finalizes q None = IsGuiltyBeside attests nullifies finalizes q.round q.signer → ⊥
+  IsBesideOf attests cmp nullifies finalizes q (Some x) = (nullify_suspect x.0 ≡ q) × IsLeastBeside attests cmp nullifies finalizes x.0 x.1
 
   -- the tally keeps what there is to keep of the votes of these reports
   pub record HoldsReports (lists : C → List (Attestation G)) (attests : ℕ → Statement D → G → Type 0) (cmp : D → D → Ordering) (reports : List (Activity S D P G C)) (tally : Tally S D P G C) : Type 0 where
@@ -95,12 +119,22 @@ module _ {S D P G C : Type 0} where
   reported report None = []
   reported report (Some x) = report x ∷ []
 
-  -- the evidence that is kept against a suspect
-  abbrev pub evidence_at : Tally S D P G C → Suspect → List (Activity S D P G C)
-  evidence_at t q =
+  -- the evidence against a suspect: the two votes that are kept of a kind, and a nullify beside a finalize
+  abbrev pub evidence_at : Tally S D P G C → Suspect → Option (Nullify S D P G C × Finalize S D P G C) → List (Activity S D P G C)
+  evidence_at t q beside =
       reported conflicting_notarize_report (conflict_in q (get suspect_cmp t.notarizes.kept q))
       ++ (reported conflicting_finalize_report (conflict_in q (get suspect_cmp t.finalizes.kept q))
-      ++ reported nullify_finalize_report (both_of (nullify_in q (get suspect_cmp t.nullifies.kept q)) (least_in q (get suspect_cmp t.finalizes.kept q))))
+      ++ reported nullify_finalize_report beside)
+
+  -- this is a suspect's nullify beside its finalize by whatever reports the tally holds
+  abbrev pub IsBesideIn : (C → List (Attestation G)) → (ℕ → Statement D → G → Type 0) → (D → D → Ordering) → Tally S D P G C → Suspect → Option (Nullify S D P G C × Finalize S D P G C) → Type 0
+  IsBesideIn lists attests cmp t q beside = (reports : List (Activity S D P G C)) → HoldsReports lists attests cmp reports t → IsBesideOf attests cmp (nullifies_of lists reports) (finalizes_of lists reports) q beside
+
+  -- a list grew by a suspect's evidence, which rests on its nullify beside its finalize
+  pub record AddsEvidence (lists : C → List (Attestation G)) (attests : ℕ → Statement D → G → Type 0) (cmp : D → D → Ordering) (t : Tally S D P G C) (q : Suspect) (evidence : Option (Nullify S D P G C × Finalize S D P G C) → List (Activity S D P G C)) (old new : List (Activity S D P G C)) : Type 0 where
+    pub beside : Option (Nullify S D P G C × Finalize S D P G C)
+    pub is_beside : IsBesideIn lists attests cmp t q beside
+    pub whole : new ≡ old ++ evidence beside
 
   -- the set has each suspect of whom evidence is kept
   pub record IsGathered (t : Tally S D P G C) (guilty : BTreeSet Suspect) : Type 0 where

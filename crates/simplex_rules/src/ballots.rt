@@ -1,6 +1,6 @@
 //! What is kept of each signer's votes of each round on a proposal.
 
-ghost use Rattle.std.specs.Prelude.{◌≡◌, ◌↔◌, ◌++◌, ◌∷◌, [], List, OnOk, IsTrue, IsSome, Some};
+ghost use Rattle.std.specs.Prelude.{◌≡◌, ◌↔◌, ◌++◌, ◌∷◌, [], List, OnOk, IsTrue, IsSome, IfSome, MatchBool, Some};
 ghost use Rattle.std.specs.BTreeMap.{get};
 ghost use Rattle.std.specs.BTreeSet.{IsSubset, contains};
 ghost use Rattle.simplex_messages.specs.declared.proposal_vote.ProposalVote.{ProposalVote};
@@ -8,11 +8,11 @@ ghost use Rattle.simplex_messages.specs.Guilt.{votes_listed};
 ghost use Rattle.simplex_rules.specs.declared.cast.Cast.{Cast};
 ghost use Rattle.simplex_rules.specs.declared.cast.Kept.{Kept};
 ghost use Rattle.simplex_rules.specs.declared.cast.Suspect.{Suspect};
-ghost use Rattle.simplex_rules.specs.Cast.{IsTwo, Summarizes};
+ghost use Rattle.simplex_rules.specs.Cast.{IsSettled, IsTwo};
 ghost use Rattle.simplex_rules.specs.Kept.{suspect_cmp, Tallies};
-ghost use Rattle.simplex_rules.specs.Tally.{AreApart, HoldsVotes, conflict_in, least_in, vote_of};
+ghost use Rattle.simplex_rules.specs.Tally.{AreApart, CastIsAttested, HoldsVotes, IsLeastOf, KeepsVotes, conflict_in, suspect_of, vote_of};
 
-use crate::cast::{Cast, Choice, Kept, Suspect};
+use crate::cast::{Cast, Choice, Kept, Place, Suspect};
 use simplex_messages::{ConflictingVotes, ProposalCertificate, ProposalKind, ProposalVote};
 use simplex_types::{Attestation, Digest, Listing, Proposal, Scheme};
 use std::alloc::{AllocError, Global};
@@ -20,7 +20,7 @@ use std::collections::btree_map::Entry;
 use std::collections::{BTreeMap, BTreeSet};
 use std::marker::PhantomData;
 
-/// What is kept of each suspect's verifying votes of one kind.
+/// What is kept of each suspect's votes of one kind.
 #[derive(Drop)]
 pub(crate) struct Ballots<K: ProposalKind<D>, S: Scheme<D>, D: Digest> {
     kept: BTreeMap<Suspect, Kept<D, S::Signature>>,
@@ -40,22 +40,117 @@ impl<K: ProposalKind<D>, S: Scheme<D>, D: Digest> Ballots<K, S, D> {
         }
     }
 
+    /// Whether the suspect's vote that was cast so verifies.
+    fn verifies(scheme: &S, suspect: &Suspect, cast: &Cast<D, S::Signature>) -> bool
+        ensures { IsTrue result ↔ CastIsAttested K.states (S.attests scheme.now) suspect.now cast.now }
+    {
+        let vote: ProposalVote<K, S, D> = vote_from(suspect, cast);
+        vote.verify(scheme)
+    }
+
+    /// Verifies the claim that is kept of a suspect, where there is one and the vote read last is
+    /// another. Whether that vote is still to be weighed: it isn't where it is the claim's own, or takes
+    /// the place of one that failed.
+    fn challenge(
+        scheme: &S,
+        suspect: &Suspect,
+        kept: &mut Kept<D, S::Signature>,
+        cast: &Cast<D, S::Signature>,
+    ) -> bool
+        ensures { (casts : List (Cast D S.Signature)) → KeepsVotes K.states (S.attests scheme.now) D.cmp suspect.now casts kept.old → MatchBool result
+            (IsSettled kept.new × KeepsVotes K.states (S.attests scheme.now) D.cmp suspect.now casts kept.new)
+            (KeepsVotes K.states (S.attests scheme.now) D.cmp suspect.now (casts ++ cast.now ∷ []) kept.new) }
+    {
+        let claim = match kept {
+            Kept::Claim(claim) => *claim,
+            Kept::One(_) | Kept::Two(_, _) => return true,
+        };
+        if claim.is_same(cast) {
+            return false;
+        }
+        if !Self::verifies(scheme, suspect, &claim) {
+            *kept = Kept::Claim(*cast);
+            return false;
+        }
+        *kept = Kept::One(claim);
+        true
+    }
+
+    /// Keeps what there is to keep of a suspect's verified votes and one more, which was read last. That
+    /// one is verified only where it would then be kept.
+    fn add(
+        alloc: Global,
+        scheme: &S,
+        suspect: &Suspect,
+        kept: &mut Kept<D, S::Signature>,
+        cast: Cast<D, S::Signature>,
+    ) -> Result<(), AllocError>
+        ensures { OnOk result ((casts : List (Cast D S.Signature)) → IsSettled kept.old → KeepsVotes K.states (S.attests scheme.now) D.cmp suspect.now casts kept.old → KeepsVotes K.states (S.attests scheme.now) D.cmp suspect.now (casts ++ cast ∷ []) kept.new) }
+    {
+        let place = match kept.place_of(&cast) {
+            None => return Ok(()),
+            Some(place) => place,
+        };
+        if !Self::verifies(scheme, suspect, &cast) {
+            return Ok(());
+        }
+        match kept {
+            Kept::Claim(_) => {}
+            Kept::One(only) => {
+                let only = *only;
+                match place {
+                    Place::First => *kept = Kept::Two(cast, Box::new(alloc, only)?),
+                    Place::Second => *kept = Kept::Two(only, Box::new(alloc, cast)?),
+                }
+            }
+            Kept::Two(least, next) => match place {
+                Place::First => {
+                    **next = *least;
+                    *least = cast;
+                }
+                Place::Second => **next = cast,
+            },
+        }
+        Ok(())
+    }
+
+    /// Keeps what there is to keep of a suspect's votes and one more, which was read last.
+    fn weigh(
+        alloc: Global,
+        scheme: &S,
+        suspect: &Suspect,
+        kept: &mut Kept<D, S::Signature>,
+        cast: Cast<D, S::Signature>,
+    ) -> Result<(), AllocError>
+        ensures { OnOk result ((casts : List (Cast D S.Signature)) → KeepsVotes K.states (S.attests scheme.now) D.cmp suspect.now casts kept.old → KeepsVotes K.states (S.attests scheme.now) D.cmp suspect.now (casts ++ cast ∷ []) kept.new) }
+    {
+        if Self::challenge(scheme, suspect, kept, &cast) {
+            Self::add(alloc, scheme, suspect, kept, cast)?;
+        }
+        Ok(())
+    }
+
     /// Keeps what there is to keep of one more vote.
-    fn keep(&mut self, suspect: Suspect, cast: Cast<D, S::Signature>) -> Result<(), AllocError>
-        ensures { OnOk result ((counted : List (Suspect × Cast D S.Signature)) → Tallies (Summarizes D.cmp) counted self.old.kept → Tallies (Summarizes D.cmp) (counted ++ (suspect, cast) ∷ []) self.new.kept) }
+    fn keep(
+        &mut self,
+        scheme: &S,
+        suspect: Suspect,
+        cast: Cast<D, S::Signature>,
+    ) -> Result<(), AllocError>
+        ensures { OnOk result ((counted : List (Suspect × Cast D S.Signature)) → Tallies (KeepsVotes K.states (S.attests scheme.now) D.cmp) counted self.old.kept → Tallies (KeepsVotes K.states (S.attests scheme.now) D.cmp) (counted ++ (suspect, cast) ∷ []) self.new.kept) }
     {
         match self.kept.entry(suspect)? {
             Entry::Vacant(entry) => {
-                let _entry = entry.insert_entry(Kept::One(cast));
+                let _entry = entry.insert_entry(Kept::Claim(cast));
             }
             Entry::Occupied(mut entry) => {
-                entry.get_mut().add(self.alloc, cast)?;
+                Self::weigh(self.alloc, scheme, &suspect, entry.get_mut(), cast)?;
             }
         }
         Ok(())
     }
 
-    /// Counts a vote, if it verifies.
+    /// Counts a vote.
     pub(crate) fn count(
         &mut self,
         scheme: &S,
@@ -63,9 +158,6 @@ impl<K: ProposalKind<D>, S: Scheme<D>, D: Digest> Ballots<K, S, D> {
     ) -> Result<(), AllocError>
         ensures { OnOk result ((votes : List (ProposalVote K S D S.PublicKey S.Signature S.Certificate)) → HoldsVotes K.states (S.attests scheme.now) D.cmp votes self.old.kept → HoldsVotes K.states (S.attests scheme.now) D.cmp (votes ++ vote.now ∷ []) self.new.kept) }
     {
-        if !vote.verify(scheme) {
-            return Ok(());
-        }
         let suspect = Suspect {
             round: vote.proposal.round,
             signer: vote.attestation.signer,
@@ -75,11 +167,11 @@ impl<K: ProposalKind<D>, S: Scheme<D>, D: Digest> Ballots<K, S, D> {
             payload: vote.proposal.payload,
         };
         let signature = vote.attestation.signature;
-        self.keep(suspect, Cast { choice, signature })?;
+        self.keep(scheme, suspect, Cast { choice, signature })?;
         Ok(())
     }
 
-    /// Counts both votes of evidence, those that verify.
+    /// Counts both votes of evidence.
     pub(crate) fn count_both(
         &mut self,
         scheme: &S,
@@ -98,7 +190,7 @@ impl<K: ProposalKind<D>, S: Scheme<D>, D: Digest> Ballots<K, S, D> {
         self.kept.contains_key(suspect)
     }
 
-    /// Adds each suspect whose votes are for two proposals.
+    /// Adds each suspect of whom votes for two proposals are kept.
     pub(crate) fn gather(&self, guilty: &mut BTreeSet<Suspect>) -> Result<(), AllocError>
         ensures stay { OnOk result (IsSubset suspect_cmp guilty.old guilty.new) }
         ensures added { OnOk result ((q : Suspect) (kept : Kept D S.Signature) → get suspect_cmp self.now.kept q ≡ Some kept → IsTwo kept → IsTrue (contains suspect_cmp guilty.new q)) }
@@ -111,12 +203,13 @@ impl<K: ProposalKind<D>, S: Scheme<D>, D: Digest> Ballots<K, S, D> {
         Ok(())
     }
 
-    /// The two votes that are kept of the suspect, if its votes are for two proposals.
+    /// The two votes that are kept of the suspect, if there are two.
     pub(crate) fn conflict(&self, suspect: &Suspect) -> Option<ConflictingVotes<K, S, D>>
         requires { AreApart self.now.kept }
         ensures { result ≡ conflict_in suspect.now (get suspect_cmp self.now.kept suspect.now) }
     {
         match self.kept.get(suspect)? {
+            Kept::Claim(_) => None,
             Kept::One(_) => None,
             Kept::Two(least, next) => Some(ConflictingVotes::new(
                 vote_from(suspect, least),
@@ -125,11 +218,18 @@ impl<K: ProposalKind<D>, S: Scheme<D>, D: Digest> Ballots<K, S, D> {
         }
     }
 
-    /// The vote that is kept of the suspect for the least proposal.
-    pub(crate) fn least(&self, suspect: &Suspect) -> Option<ProposalVote<K, S, D>>
-        ensures { result ≡ least_in suspect.now (get suspect_cmp self.now.kept suspect.now) }
+    /// Of the suspect's votes that verify the first for the least proposal.
+    pub(crate) fn least(&self, scheme: &S, suspect: &Suspect) -> Option<ProposalVote<K, S, D>>
+        ensures own { IfSome result (λ v. suspect_of v ≡ suspect.now) }
+        ensures least { (votes : List (ProposalVote K S D S.PublicKey S.Signature S.Certificate)) → HoldsVotes K.states (S.attests scheme.now) D.cmp votes self.now.kept → IsLeastOf K.states (S.attests scheme.now) D.cmp votes suspect.now result }
     {
         match self.kept.get(suspect)? {
+            Kept::Claim(claim) => {
+                if !Self::verifies(scheme, suspect, claim) {
+                    return None;
+                }
+                Some(vote_from(suspect, claim))
+            }
             Kept::One(only) => Some(vote_from(suspect, only)),
             Kept::Two(least, _) => Some(vote_from(suspect, least)),
         }
@@ -137,7 +237,7 @@ impl<K: ProposalKind<D>, S: Scheme<D>, D: Digest> Ballots<K, S, D> {
 }
 
 impl<K: ProposalKind<D>, S: Listing<D>, D: Digest> Ballots<K, S, D> {
-    /// Counts the votes that a certificate lists, those that verify.
+    /// Counts the votes that a certificate lists.
     pub(crate) fn count_listed(
         &mut self,
         scheme: &S,

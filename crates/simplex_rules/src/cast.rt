@@ -1,9 +1,6 @@
 //! What the audit keeps of one signer's votes of one round.
 
-ghost use Rattle.std.specs.Prelude.{◌≡◌, ◌++◌, ◌∷◌, [], List, OnOk};
-
-use simplex_types::{Digest, Participant, Round, View};
-use std::alloc::{AllocError, Global};
+use simplex_types::{Digest, Participant, Round, Signature, View};
 use std::cmp::Ordering;
 
 /// A signer in a round.
@@ -47,11 +44,33 @@ impl<D: Digest, G> Cast<D, G> {
     }
 }
 
-/// What is kept of one signer's votes of one round: of the first that were read for the least two
-/// proposals, one or both.
+impl<D: Digest, G: Signature> Cast<D, G> {
+    ghost use Rattle.std.specs.Prelude.{◌≡◌, ◌↔◌, IsTrue};
+
+    /// Whether the two are one vote, to the last byte.
+    pub(crate) fn is_same(&self, other: &Self) -> bool
+        ensures { IsTrue result → self.now ≡ other.now }
+    {
+        self.signature == other.signature && self.choice == other.choice
+    }
+}
+
+/// Where a vote stands among the two that are kept.
+#[derive(Clone, Copy)]
+pub(crate) enum Place {
+    /// It is for the least proposal.
+    First,
+    /// It is for the next.
+    Second,
+}
+
+/// What is kept of one signer's votes of one round: of the first that verify for the least two
+/// proposals, one or both, and before one had to be verified the vote that stands for them.
 #[derive(Drop)]
 pub(crate) enum Kept<D: Digest, G> {
-    /// All votes are for one proposal.
+    /// A vote that was not verified yet. All before it failed, and all behind it are the same.
+    Claim(Cast<D, G>),
+    /// All that verify are for one proposal.
     One(Cast<D, G>),
     /// The least two of several proposals, the lesser first. Few signers vote so, so the second is kept
     /// apart and takes no room where there is none.
@@ -59,35 +78,27 @@ pub(crate) enum Kept<D: Digest, G> {
 }
 
 impl<D: Digest, G: Copy> Kept<D, G> {
-    ghost use Rattle.std.specs.Prelude.{◌++◌, ◌∷◌, [], List, OnOk};
-    ghost use Rattle.simplex_rules.specs.declared.cast.Cast.{Cast};
-    ghost use Rattle.simplex_rules.specs.Cast.{Summarizes};
+    ghost use Rattle.simplex_rules.specs.Cast.{IsPlacedAt, IsSettled};
 
-    /// Keeps what there is to keep of these votes and one more, which was read last.
-    pub(crate) fn add(&mut self, alloc: Global, cast: Cast<D, G>) -> Result<(), AllocError>
-        ensures { OnOk result ((casts : List (Cast D G)) → Summarizes D.cmp casts self.old → Summarizes D.cmp (casts ++ cast ∷ []) self.new) }
+    /// Where one more vote that verifies stands among the verified ones that are kept, if it is kept.
+    pub(crate) fn place_of(&self, cast: &Cast<D, G>) -> Option<Place>
+        ensures { IsSettled self.now → IsPlacedAt D.cmp self.now cast.now.choice result }
     {
         match self {
-            Kept::One(only) => {
-                let only = *only;
-                match cast.compare(&only) {
-                    Ordering::Less => *self = Kept::Two(cast, Box::new(alloc, only)?),
-                    Ordering::Equal => {}
-                    Ordering::Greater => *self = Kept::Two(only, Box::new(alloc, cast)?),
-                }
-            }
+            Kept::Claim(_) => None,
+            Kept::One(only) => match cast.compare(only) {
+                Ordering::Less => Some(Place::First),
+                Ordering::Equal => None,
+                Ordering::Greater => Some(Place::Second),
+            },
             Kept::Two(least, next) => match cast.compare(least) {
-                Ordering::Less => {
-                    **next = *least;
-                    *least = cast;
-                }
-                Ordering::Equal => {}
+                Ordering::Less => Some(Place::First),
+                Ordering::Equal => None,
                 Ordering::Greater => match cast.compare(next) {
-                    Ordering::Less => **next = cast,
-                    Ordering::Equal | Ordering::Greater => {}
+                    Ordering::Less => Some(Place::Second),
+                    Ordering::Equal | Ordering::Greater => None,
                 },
             },
         }
-        Ok(())
     }
 }

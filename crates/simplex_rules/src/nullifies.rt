@@ -1,12 +1,11 @@
 //! What is kept of each signer's votes to give a round up.
 
-ghost use Rattle.std.specs.Prelude.{◌≡◌, ◌++◌, ◌∷◌, [], List, OnOk, IsTrue, IsSome};
-ghost use Rattle.std.specs.BTreeMap.{get};
+ghost use Rattle.std.specs.Prelude.{◌≡◌, ◌↔◌, ◌++◌, ◌∷◌, [], List, OnOk, IsTrue, IfSome};
 ghost use Rattle.simplex_messages.specs.declared.nullify.Nullify.{Nullify};
 ghost use Rattle.simplex_messages.specs.Guilt.{nullifies_listed};
 ghost use Rattle.simplex_rules.specs.declared.cast.Suspect.{Suspect};
-ghost use Rattle.simplex_rules.specs.Kept.{suspect_cmp, Tallies};
-ghost use Rattle.simplex_rules.specs.Tally.{HoldsNullifies, IsHead, nullify_in};
+ghost use Rattle.simplex_rules.specs.Kept.{Tallies};
+ghost use Rattle.simplex_rules.specs.Tally.{GivenIsAttested, HoldsNullifies, IsFirstOf, KeepsNullifies, nullify_of, nullify_suspect};
 
 use crate::cast::Suspect;
 use simplex_messages::{Nullification, Nullify};
@@ -15,10 +14,19 @@ use std::alloc::{AllocError, Global};
 use std::collections::BTreeMap;
 use std::collections::btree_map::Entry;
 
-/// The signature of each suspect's first nullify that verifies.
+/// What is kept of one signer's nullifies of one round, by its signature.
+#[derive(Drop)]
+pub(crate) enum Given<G> {
+    /// One that was not verified yet. All before it failed, and all behind it are the same.
+    Claim(G),
+    /// The first that verifies.
+    First(G),
+}
+
+/// What is kept of each suspect's nullifies.
 #[derive(Drop)]
 pub(crate) struct Nullifies<S: Scheme<D>, D: Digest> {
-    pub(crate) kept: BTreeMap<Suspect, S::Signature>,
+    pub(crate) kept: BTreeMap<Suspect, Given<S::Signature>>,
 }
 
 impl<S: Scheme<D>, D: Digest> Nullifies<S, D> {
@@ -31,50 +39,88 @@ impl<S: Scheme<D>, D: Digest> Nullifies<S, D> {
         }
     }
 
-    /// Keeps the signature, if it is the suspect's first.
-    fn keep(&mut self, suspect: Suspect, signature: S::Signature) -> Result<(), AllocError>
-        ensures { OnOk result ((counted : List (Suspect × S.Signature)) → Tallies IsHead counted self.old.kept → Tallies IsHead (counted ++ (suspect, signature) ∷ []) self.new.kept) }
+    /// Whether the suspect's nullify with this signature verifies.
+    fn verifies(scheme: &S, suspect: &Suspect, signature: &S::Signature) -> bool
+        ensures { IsTrue result ↔ GivenIsAttested (S.attests scheme.now) suspect.now signature.now }
+    {
+        let vote: Nullify<S, D> = nullify_from(suspect, signature);
+        vote.verify(scheme)
+    }
+
+    /// Keeps what there is to keep of a suspect's nullifies and one more, which was read last.
+    fn weigh(
+        scheme: &S,
+        suspect: &Suspect,
+        given: &mut Given<S::Signature>,
+        signature: S::Signature,
+    )
+        ensures { (signatures : List S.Signature) → KeepsNullifies (S.attests scheme.now) suspect.now signatures given.old → KeepsNullifies (S.attests scheme.now) suspect.now (signatures ++ signature ∷ []) given.new }
+    {
+        let claim = match given {
+            Given::Claim(claim) => *claim,
+            Given::First(_) => return,
+        };
+        if claim == signature {
+            return;
+        }
+        if Self::verifies(scheme, suspect, &claim) {
+            *given = Given::First(claim);
+            return;
+        }
+        *given = Given::Claim(signature);
+    }
+
+    /// Keeps what there is to keep of one more nullify.
+    fn keep(
+        &mut self,
+        scheme: &S,
+        suspect: Suspect,
+        signature: S::Signature,
+    ) -> Result<(), AllocError>
+        ensures { OnOk result ((counted : List (Suspect × S.Signature)) → Tallies (KeepsNullifies (S.attests scheme.now)) counted self.old.kept → Tallies (KeepsNullifies (S.attests scheme.now)) (counted ++ (suspect, signature) ∷ []) self.new.kept) }
     {
         match self.kept.entry(suspect)? {
             Entry::Vacant(entry) => {
-                let _entry = entry.insert_entry(signature);
+                let _entry = entry.insert_entry(Given::Claim(signature));
             }
-            Entry::Occupied(_entry) => {}
+            Entry::Occupied(mut entry) => {
+                Self::weigh(scheme, &suspect, entry.get_mut(), signature);
+            }
         }
         Ok(())
     }
 
-    /// Counts a nullify, if it verifies.
+    /// Counts a nullify.
     pub(crate) fn count(&mut self, scheme: &S, vote: &Nullify<S, D>) -> Result<(), AllocError>
         ensures { OnOk result ((votes : List (Nullify S D S.PublicKey S.Signature S.Certificate)) → HoldsNullifies (S.attests scheme.now) votes self.old.kept → HoldsNullifies (S.attests scheme.now) (votes ++ vote.now ∷ []) self.new.kept) }
     {
-        if !vote.verify(scheme) {
-            return Ok(());
-        }
         let suspect = Suspect {
             round: vote.round,
             signer: vote.attestation.signer,
         };
-        self.keep(suspect, vote.attestation.signature)?;
+        self.keep(scheme, suspect, vote.attestation.signature)?;
         Ok(())
     }
 
-    /// The nullify that is kept of the suspect.
-    pub(crate) fn first(&self, suspect: &Suspect) -> Option<Nullify<S, D>>
-        ensures { result ≡ nullify_in suspect.now (get suspect_cmp self.now.kept suspect.now) }
+    /// Of the suspect's nullifies the first that verifies.
+    pub(crate) fn first(&self, scheme: &S, suspect: &Suspect) -> Option<Nullify<S, D>>
+        ensures own { IfSome result (λ v. nullify_suspect v ≡ suspect.now) }
+        ensures first { (votes : List (Nullify S D S.PublicKey S.Signature S.Certificate)) → HoldsNullifies (S.attests scheme.now) votes self.now.kept → IsFirstOf (S.attests scheme.now) votes suspect.now result }
     {
-        let signature = *self.kept.get(suspect)?;
-        let attestation = Attestation {
-            signer: suspect.signer,
-            signature,
-        };
-        let round = suspect.round;
-        Some(Nullify { round, attestation })
+        match self.kept.get(suspect)? {
+            Given::Claim(claim) => {
+                if !Self::verifies(scheme, suspect, claim) {
+                    return None;
+                }
+                Some(nullify_from(suspect, claim))
+            }
+            Given::First(first) => Some(nullify_from(suspect, first)),
+        }
     }
 }
 
 impl<S: Listing<D>, D: Digest> Nullifies<S, D> {
-    /// Counts the nullifies that a nullification lists, those that verify.
+    /// Counts the nullifies that a nullification lists.
     pub(crate) fn count_listed(
         &mut self,
         scheme: &S,
@@ -90,5 +136,22 @@ impl<S: Listing<D>, D: Digest> Nullifies<S, D> {
             self.count(scheme, &vote)?;
         }
         Ok(())
+    }
+}
+
+/// The nullify of the suspect with this signature.
+fn nullify_from<S: Scheme<D>, D: Digest>(
+    suspect: &Suspect,
+    signature: &S::Signature,
+) -> Nullify<S, D>
+    ensures { result ≡ nullify_of suspect.now signature.now }
+{
+    let attestation = Attestation {
+        signer: suspect.signer,
+        signature: *signature,
+    };
+    Nullify {
+        round: suspect.round,
+        attestation,
     }
 }

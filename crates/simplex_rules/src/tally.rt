@@ -8,7 +8,7 @@ ghost use Rattle.simplex_messages.specs.declared.activity.Activity.{Activity};
 ghost use Rattle.simplex_rules.specs.declared.cast.Suspect.{Suspect};
 ghost use Rattle.simplex_rules.specs.Audit.{IsVerdict};
 ghost use Rattle.simplex_rules.specs.Kept.{suspect_cmp};
-ghost use Rattle.simplex_rules.specs.Tally.{AreApart, HoldsReports, IsGathered, both_of, conflict_in, evidence_at, least_in, nullify_in, reported};
+ghost use Rattle.simplex_rules.specs.Tally.{AddsEvidence, AreApart, HoldsReports, IsBesideIn, IsGathered, conflict_in, evidence_at, reported};
 
 use crate::ballots::Ballots;
 use crate::cast::Suspect;
@@ -18,7 +18,7 @@ use simplex_types::{Digest, Listing, Scheme};
 use std::alloc::{AllocError, Global};
 use std::collections::BTreeSet;
 
-/// What is kept of each suspect's verifying votes.
+/// What is kept of each suspect's votes.
 #[derive(Drop)]
 pub(crate) struct Tally<S: Scheme<D>, D: Digest> {
     notarizes: Ballots<Notarizing, S, D>,
@@ -50,7 +50,7 @@ impl<S: Scheme<D>, D: Digest> Tally<S, D> {
         let guilty = self.guilty(alloc)?;
         let mut evidence = Vec::new(alloc);
         for suspect in &guilty {
-            self.push_evidence(suspect, &mut evidence)?;
+            self.push_evidence(scheme, suspect, &mut evidence)?;
         }
         Ok(evidence)
     }
@@ -66,7 +66,7 @@ impl<S: Scheme<D>, D: Digest> Tally<S, D> {
         Ok(guilty)
     }
 
-    /// Adds each suspect of which both a nullify and a finalize are kept.
+    /// AddsEvidence each suspect of which both a nullify and a finalize are kept, be they claims or not.
     fn gather_beside(&self, guilty: &mut BTreeSet<Suspect>) -> Result<(), AllocError>
         ensures stay { OnOk result (IsSubset suspect_cmp guilty.old guilty.new) }
         ensures added { OnOk result ((q : Suspect) → IsSome (get suspect_cmp self.now.nullifies.kept q) → IsSome (get suspect_cmp self.now.finalizes.kept q) → IsTrue (contains suspect_cmp guilty.new q)) }
@@ -79,19 +79,20 @@ impl<S: Scheme<D>, D: Digest> Tally<S, D> {
         Ok(())
     }
 
-    /// Appends the evidence that is kept against the suspect, in the order of kinds.
+    /// Appends the evidence against the suspect, in the order of kinds.
     fn push_evidence(
         &self,
+        scheme: &S,
         suspect: &Suspect,
         evidence: &mut Vec<Activity<S, D>>,
     ) -> Result<(), AllocError>
         requires notarizes { AreApart self.now.notarizes.kept }
         requires finalizes { AreApart self.now.finalizes.kept }
-        ensures { OnOk result (evidence.new.items ≡ evidence.old.items ++ evidence_at self.now suspect.now) }
+        ensures { OnOk result (AddsEvidence S.lists (S.attests scheme.now) D.cmp self.now suspect.now (evidence_at self.now suspect.now) evidence.old.items evidence.new.items) }
     {
         self.push_notarizes(suspect, evidence)?;
         self.push_finalizes(suspect, evidence)?;
-        self.push_beside(suspect, evidence)
+        self.push_beside(scheme, suspect, evidence)
     }
 
     /// Appends the suspect's two notarizes, if they are kept.
@@ -124,32 +125,34 @@ impl<S: Scheme<D>, D: Digest> Tally<S, D> {
         }
     }
 
-    /// Appends the suspect's nullify beside its finalize, if both are kept.
+    /// Appends the suspect's nullify beside its finalize, if it is guilty of that.
     fn push_beside(
         &self,
+        scheme: &S,
         suspect: &Suspect,
         evidence: &mut Vec<Activity<S, D>>,
     ) -> Result<(), AllocError>
-        ensures { OnOk result (evidence.new.items ≡ evidence.old.items ++ reported nullify_finalize_report (both_of (nullify_in suspect.now (get suspect_cmp self.now.nullifies.kept suspect.now)) (least_in suspect.now (get suspect_cmp self.now.finalizes.kept suspect.now)))) }
+        ensures { OnOk result (AddsEvidence S.lists (S.attests scheme.now) D.cmp self.now suspect.now (reported nullify_finalize_report) evidence.old.items evidence.new.items) }
     {
-        match self.beside(suspect) {
+        match self.beside(scheme, suspect) {
             None => Ok(()),
             Some(votes) => push(evidence, Activity::NullifyFinalize(votes)),
         }
     }
 
-    /// The suspect's nullify, and beside it its finalize for the least proposal.
-    fn beside(&self, suspect: &Suspect) -> Option<NullifyFinalize<S, D>>
-        ensures { result ≡ both_of (nullify_in suspect.now (get suspect_cmp self.now.nullifies.kept suspect.now)) (least_in suspect.now (get suspect_cmp self.now.finalizes.kept suspect.now)) }
+    /// The suspect's first nullify that verifies, and beside it its first finalize for the least
+    /// proposal that does.
+    fn beside(&self, scheme: &S, suspect: &Suspect) -> Option<NullifyFinalize<S, D>>
+        ensures { IsBesideIn S.lists (S.attests scheme.now) D.cmp self.now suspect.now result }
     {
-        let nullify = self.nullifies.first(suspect)?;
-        let finalize = self.finalizes.least(suspect)?;
+        let nullify = self.nullifies.first(scheme, suspect)?;
+        let finalize = self.finalizes.least(scheme, suspect)?;
         Some(NullifyFinalize::new(nullify, finalize))
     }
 }
 
 impl<S: Listing<D>, D: Digest> Tally<S, D> {
-    /// Counts the votes of a report that verify: a loose vote, one for each attestation that a
+    /// Counts the votes of a report: a loose vote, one for each attestation that a
     /// certificate lists, and both votes of evidence.
     pub(crate) fn count_report(
         &mut self,
@@ -172,7 +175,7 @@ impl<S: Listing<D>, D: Digest> Tally<S, D> {
         }
     }
 
-    /// Counts both votes of evidence of a nullify beside a finalize, those that verify.
+    /// Counts both votes of evidence of a nullify beside a finalize.
     fn count_beside(&mut self, scheme: &S, both: &NullifyFinalize<S, D>) -> Result<(), AllocError>
         ensures { OnOk result ((reports : List (Activity S D S.PublicKey S.Signature S.Certificate)) → HoldsReports S.lists (S.attests scheme.now) D.cmp reports self.old → HoldsReports S.lists (S.attests scheme.now) D.cmp (reports ++ nullify_finalize_report both.now ∷ []) self.new) }
     {

@@ -1,10 +1,12 @@
-//! How a member of a committee is set up, and what follows from the definitions of its voter.
+//! How a member of a committee is set up, what its voter may build on and vote for, and what follows from the
+//! definitions of that.
 #![tactic(auto)]
 
 pub mod ancestry;
 pub mod config;
 pub mod knowledge;
 mod laws;
+pub mod resolver;
 pub mod votes;
 
 pub use laws::{

@@ -1,7 +1,4 @@
-use Rattle.std.proofs.Common.{◌≡◌, ◌∙◌, ◌||◌, Bool, true, false, ap, refl, sym, rules}
-use Rattle.std.specs.Option.{option_copied}
-use Rattle.std.specs.Ordering.{nat_cmp}
-use Rattle.std.specs.BTreeMap.{get}
+use Rattle.std.proofs.Common.{◌≡◌, ◌∙◌, ◌||◌, Bool, true, false, ap, refl, sym}
 use Rattle.simplex_batcher.specs.Queries.{is_backing}
 use Rattle.simplex_batcher.specs.Tracking.{passes}
 use Rattle.simplex_batcher.proofs.tracker.VoteTracker.has_backed.Goals as goal
@@ -14,12 +11,9 @@ second-of a b x y e none second = let one : x ≡ false = sym e ∙ none in rw o
 
 pub returns-then-is_for : goal.returns-then-is_for
 returns-then-is_for g c = λ votes k.
-    let found : option_copied c.get-2.result ≡ get nat_cmp c.args.self.now.notarizes c.args.signer = search rules in
-    first-of _ _ _ (c.is_for.ensures ∙ ap (passes (is_backing g.D.PartialEq.eq c.args.proposal.now)) (found ∙ k.notarizes c.args.signer)) c.if-is_for.true
+    first-of _ _ _ (c.is_for.ensures ∙ ap (passes (is_backing g.D.PartialEq.eq c.args.proposal.now)) (c.notarize_of.ensures votes k)) c.if-is_for.true
 
 pub returns-else-is_for : goal.returns-else-is_for
 returns-else-is_for g c = λ votes k.
-    let first : option_copied c.get-2.result ≡ get nat_cmp c.args.self.now.notarizes c.args.signer = search rules in
-    let second : option_copied c.get-else-is_for-2.result ≡ get nat_cmp c.args.self.now.others c.args.signer = search rules in
-    second-of _ _ _ _ (c.is_for.ensures ∙ ap (passes (is_backing g.D.PartialEq.eq c.args.proposal.now)) (first ∙ k.notarizes c.args.signer)) c.if-is_for.false
-    (c.is_for-else-is_for.ensures ∙ ap (passes (is_backing g.D.PartialEq.eq c.args.proposal.now)) (second ∙ k.others c.args.signer))
+    second-of _ _ _ _ (c.is_for.ensures ∙ ap (passes (is_backing g.D.PartialEq.eq c.args.proposal.now)) (c.notarize_of.ensures votes k)) c.if-is_for.false
+    (c.is_for-else-is_for.ensures ∙ ap (passes (is_backing g.D.PartialEq.eq c.args.proposal.now)) (c.other_of.ensures votes k))

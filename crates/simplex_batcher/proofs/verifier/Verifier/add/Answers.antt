@@ -5,7 +5,7 @@ use Rattle.simplex_batcher.specs.Votes.{vote_kind, certificate_kind}
 use Rattle.simplex_batcher.specs.History.{Taken, Cast, Certified, Led, selection, selected, proposal_of, is_complete, is_candidate}
 use Rattle.simplex_batcher.specs.Keeping.{selection_of}
 use Rattle.simplex_batcher.proofs.Folding.{selection-taken, selection-cast, selection-certified}
-use Rattle.simplex_batcher.proofs.Choosing.{pool-keeps, chosen-keeps, counts-mine, counts-good, keeps-taken, keeps-cast, keeps-certified, keeps-led}
+use Rattle.simplex_batcher.proofs.Choosing.{pool-keeps, chosen-keeps, counts-mine, counts-good, keeps-taken, keeps-cast, keeps-certified, keeps-led, none-right, none-left}
 use Rattle.simplex_batcher.proofs.verifier.Verifier.add.Goals as goal
 
 pub returns-clause-waits : goal.returns-clause-waits
@@ -39,3 +39,13 @@ returns-clause-verified g c = λ s h k own allowed.
     (keeps-cast same s Notarization h v c.counts-held.result old.proposal c.select-next.result old.pools.notarizes _ _ k.notarizes (rw own at c.in_ok-push.ensures.notarizes) is.notarizes k.selection_is one (mine Notarization) good)
     (keeps-cast same s Nullification h v c.counts-held.result old.proposal c.select-next.result old.pools.nullifies _ _ k.nullifies (rw own at c.in_ok-push.ensures.nullifies) is.nullifies k.selection_is one (mine Nullification) good)
     (keeps-cast same s Finalization h v c.counts-held.result old.proposal c.select-next.result old.pools.finalizes _ _ k.finalizes (rw own at c.in_ok-push.ensures.finalizes) is.finalizes k.selection_is one (mine Finalization) good)
+
+pub returns-then-not-may_select-clause-waits : goal.returns-then-not-may_select-clause-waits
+returns-then-not-may_select-clause-waits g c = λ s h k waits allowed.
+    let none = sym c.may_select.ensures ∙ c.if-not-may_select.true in
+    c.in_ok-hold.ensures.waits s h k waits (none-right _ _ none) allowed
+
+pub returns-then-not-may_select-clause-verified : goal.returns-then-not-may_select-clause-verified
+returns-then-not-may_select-clause-verified g c = λ s h k own allowed.
+    let none = sym c.may_select.ensures ∙ c.if-not-may_select.true in
+    c.in_ok-hold.ensures.verified s h k own (none-left _ _ (rw own at none)) (none-right _ _ none) allowed

@@ -4,7 +4,7 @@ use Rattle.std.proofs.lemmas.Map.Iter.{iter_end}
 use Rattle.std.proofs.lemmas.Map.Views.{Contains-from_lookup, tells_apart}
 use Rattle.simplex_rules.specs.Cast.{IsTwo}
 use Rattle.simplex_rules.proofs.Suspects.{suspects_exact}
-use Rattle.simplex_rules.proofs.Gathering.{Gathers-turn, inserted_stay, inserted_there}
+use Rattle.simplex_rules.proofs.Gathering.{Gathers-turn, inserted_stay, inserted_there, not_two}
 use Rattle.simplex_rules.proofs.ballots.Ballots.gather.Goals as goal
 
 pub loop-suspect-preserved-in_ok-insert : goal.loop-suspect-preserved-in_ok-insert
@@ -19,7 +19,7 @@ loop-suspect-preserved-in_ok-insert g c =
 pub loop-suspect-preserved : goal.loop-suspect-preserved
 loop-suspect-preserved g c = record {
   stay = c.loop-suspect.invariant.stay;
-  added = Gathers-turn deref_pair (λ e. e.0) (λ e. IsTwo e.1) c.loop-suspect.yielded (c.in-Some.suspect, c.in-Some.kept) c.loop-suspect.guilty c.loop-suspect.guilty c.loop-suspect.invariant.added (λ q there. there) (λ two. absurd (rw c.in_default.is at two));
+  added = Gathers-turn deref_pair (λ e. e.0) (λ e. IsTwo e.1) c.loop-suspect.yielded (c.in-Some.suspect, c.in-Some.kept) c.loop-suspect.guilty c.loop-suspect.guilty c.loop-suspect.invariant.added (λ q there. there) (λ two. absurd (not_two c.in-Some.kept.now c.in_default.not-Two two));
 }
 
 pub returns-clause-added : goal.returns-clause-added

@@ -1,7 +1,7 @@
 use Rattle.std.specs.Prelude.{Contains, IsSome}
 use Rattle.std.specs.BTreeMap.{get, keys}
 use Rattle.std.specs.Map.Iter.{deref}
-use Rattle.std.proofs.Common.{◌∙◌}
+use Rattle.std.proofs.Common.{◌≡◌, true, false, sym, ◌∙◌}
 use Rattle.std.proofs.lemmas.Map.Iter.{iter_end}
 use Rattle.std.proofs.lemmas.Map.Views.{Contains-keys_from_lookup, tells_apart}
 use Rattle.simplex_rules.specs.Kept.{suspect_cmp}
@@ -17,6 +17,13 @@ loop-suspect-preserved-in_ok-insert g c =
       stay = λ q before. stay q (c.loop-suspect.invariant.stay q before);
       added = Gathers-turn deref (λ q. q) (λ q. IsSome (get suspect_cmp c.args.self.now.finalizes.kept q)) c.loop-suspect.yielded c.in-Some.suspect c.loop-suspect.guilty c.insert.new.self c.loop-suspect.invariant.added stay (λ _. there);
     }
+
+pub loop-suspect-preserved : goal.loop-suspect-preserved
+loop-suspect-preserved g c = record {
+  stay = c.loop-suspect.invariant.stay;
+  added = Gathers-turn deref (λ q. q) (λ q. IsSome (get suspect_cmp c.args.self.now.finalizes.kept q)) c.loop-suspect.yielded c.in-Some.suspect c.loop-suspect.guilty c.loop-suspect.guilty c.loop-suspect.invariant.added (λ q there. there)
+      (λ some. absurd (let never : false ≡ true = sym c.if-contains.false ∙ c.contains.ensures.1 some in cc));
+}
 
 pub returns-clause-added : goal.returns-clause-added
 returns-clause-added g c = λ q nullified finalized.
