@@ -3,9 +3,12 @@ mod Closed
 mod Grounding
 mod Growing
 mod Matched
+mod Preferring
 mod Pruning
 mod Quiet
 mod Recordable
 mod Single
 mod Steady
+mod Voting
+mod Walking
 mod Windowing

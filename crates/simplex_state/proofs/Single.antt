@@ -5,11 +5,12 @@ use Rattle.std.proofs.lemmas.Bool.{cases_lt}
 use Rattle.std.proofs.lemmas.Bool.Decides.{nat_tests}
 use Rattle.std.proofs.lemmas.Option.{none-some, same_Some}
 use Rattle.std.specs.Prelude.{◌==◌, Bool, Some}
+use Rattle.std.specs.Option.{ForSome}
 use Rattle.simplex_types.specs.declared.proposal.Proposal.{Proposal}
 use Rattle.simplex_types.specs.Positions.{term_start}
 use Rattle.simplex_rules.specs.Windows.{issuance_floor}
 use Rattle.simplex_views.specs.Known.{Known}
-use Rattle.simplex_state.specs.Ancestry.{Member, has_certificate, certificate_payload, explicit, InWindow, IsVotedFor, Optimistic, at_start, by_certificate, by_own_vote, Supports, IsLastCertified, IsPreferred}
+use Rattle.simplex_state.specs.Ancestry.{Member, has_certificate, certificate_payload, explicit, InWindow, HasFailed, IsVotedFor, Optimistic, at_start, by_certificate, by_own_vote, Supports, IsLastCertified, IsPreferred}
 
 -- a test is passed or not
 either : (b : Bool) → (b ≡ true) ⊎ (b ≡ false)
@@ -59,14 +60,14 @@ module _ {D : Type 0} (m : Member) (k : Known D) where
   -- why a payload is supported
   abbrev pub Why : ℕ → D → Type 0
   Why view a = ((view ≡ 0) × (k.genesis ≡ Some a))
-      ⊎ (((view ≢ 0) × (has_certificate m k view ≡ true) × (certificate_payload m k view ≡ Some a))
-      ⊎ ((p : Proposal D) × (view ≢ 0) × IsVotedFor m k view p × (p.payload ≡ a)))
+      ⊎ (((view ≢ 0) × (has_certificate m k view ≡ true) × (certificate_payload m k view ≡ Some a) × ¬ HasFailed m k view)
+      ⊎ ((p : Proposal D) × (view ≢ 0) × IsVotedFor m k view p × (p.payload ≡ a) × ((x : D) × Optimistic m k p.parent x × ForSome (k.binding view) (λ b. b.1 ≡ x))))
 
-  why : (view : ℕ) (a : D) → Optimistic m k view a → Why view a
+  pub why : (view : ℕ) (a : D) → Optimistic m k view a → Why view a
   why view a o = elim o as (λ view a o. Why view a) [
     | at_start start ↦ inl (refl, start)
-    | by_certificate some direct sound payload ↦ inr (inl (some, direct, payload))
-    | by_own_vote {p = p} some voted below bound ↦ inr (inr (p, some, voted, refl))
+    | by_certificate some direct sound payload ↦ inr (inl (some, direct, payload, sound))
+    | by_own_vote {p = p} {payload = x} some voted below bound ↦ inr (inr (p, some, voted, refl, (x, below, bound)))
   ]
 
   -- only one payload is
@@ -84,7 +85,7 @@ module _ {D : Type 0} (m : Member) (k : Known D) where
       same (inr (inr x)) (inr (inl y)) = absurd (true≢false (sym y.1 ∙ x.2.undecided))
       same (inr (inr x)) (inr (inr y)) = sym x.3 ∙ (ap (λ (p : Proposal D). p.payload) (same_Some x.0 y.0 (sym x.2.held ∙ y.2.held)) ∙ y.3)
 
-  one_supports : (view parent : ℕ) (a b : D) → Supports m k view parent a → Supports m k view parent b → a ≡ b
+  pub one_supports : (view parent : ℕ) (a b : D) → Supports m k view parent a → Supports m k view parent b → a ≡ b
   one_supports view parent a b one other = by (window_or_not view)
     where
       by : InWindow m k view ⊎ ¬ InWindow m k view → a ≡ b

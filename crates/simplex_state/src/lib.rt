@@ -1,9 +1,13 @@
-//! How a member of a committee is set up, and what follows from the definitions of its voter.
+//! How a member of a committee is set up, what its voter may build on and vote for, and what follows from the
+//! definitions of that.
 #![tactic(auto)]
 
+pub mod ancestry;
 pub mod config;
+pub mod knowledge;
 mod laws;
 pub mod resolver;
+pub mod votes;
 
 pub use laws::{
     a_latch_changes_nothing_due, a_look_leaves_nothing_to_ask, a_prune_changes_nothing_due,
