@@ -1,15 +1,15 @@
 -- Which views a nullification covers, as a span from its view to the end of its term.
-use Rattle.std.proofs.Common.{ℕ, zero, suc, ◌≡◌, ◌≤◌, ◌<◌, ◌+◌, ◌*◌, ◌/◌, ◌↔◌, ◌⊎◌, ◌==◌, true, false, ⊎_elim, inl, inr, refl, sym, ◌∙◌, subst, arith}
-use Rattle.std.specs.Prelude.{Bool, ◌||◌, List, [], ◌∷◌}
+use Rattle.std.proofs.Common.{ℕ, zero, suc, ◌≡◌, ◌≤◌, ◌<◌, ◌+◌, ◌*◌, ◌/◌, ◌↔◌, ◌⊎◌, ◌==◌, ⊎_elim, inl, inr, refl, sym, subst, arith}
+use Rattle.std.specs.Prelude.{List, ◌∷◌, Option, Some, None, IfSome, IfNone, MatchOption}
 use Rattle.std.proofs.Math.Nat.{div-lt_iff_lt-mul, le-div_iff_mul-le}
 use Rattle.std.proofs.lemmas.Grind.{common_steps}
 use Rattle.std.proofs.lemmas.Bool.{or_cases, or_left, or_right, eqb-true, eq-eqb}
-use Rattle.simplex_types.specs.Positions.{term_start, term_end, next_term_start, InCoveringRange}
+use Rattle.simplex_types.specs.Positions.{term_start, term_end, InCoveringRange}
 use Rattle.simplex_messages.specs.declared.nullification.Nullification.{Nullification}
 use Rattle.simplex_record.specs.Coverage as spans
 use Rattle.simplex_record.specs.Coverage.{LiesIn}
 use Rattle.simplex_views.specs.History.{Setup, Point, nullified, was_nullified}
-use Rattle.simplex_views.specs.Views.{IsCovered}
+use Rattle.simplex_views.specs.Views.{IsCovered, AreCoveredBetween, IsFirstUncovered}
 
 -- a view up to the end of a term is of that term or of an earlier one
 term_end-le : (views u v : ℕ) → 0 < views → (suc v ≤ term_end views (suc u)) ↔ (v / views ≤ u / views)
@@ -61,3 +61,15 @@ module _ {S D P G C : Type 0} where
             (λ was. step.1 (inl (before.1 (there.0, there.1, was))))
             (or_cases (c.round.view == there.0) (was_nullified h there.0) there.2),
       )
+
+  -- the first view that the spans leave bare is the first that isn't covered
+  pub first-uncovered : (s : Setup S C) (h : List (Point S D P G C)) (all : List (ℕ × ℕ)) (parent view : ℕ) (o : Option ℕ) → ((u : ℕ) → spans.IsCovered all u ↔ IsCovered s h u)
+      → IfSome o (λ first. spans.IsFirstUncovered all parent view first) → IfNone o (spans.AreCoveredBetween all parent view)
+      → MatchOption o (AreCoveredBetween s h parent view) (λ first. IsFirstUncovered s h parent view first)
+  first-uncovered s h all parent view None same some none = λ u after before. (same u).0 (none u after before)
+  first-uncovered s h all parent view (Some first) same some none = record {
+    after = some.after;
+    before = some.before;
+    bare = λ is. some.bare ((same first).1 is);
+    least = λ u after before. (same u).0 (some.least u after before);
+  }

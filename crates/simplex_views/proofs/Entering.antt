@@ -1,6 +1,6 @@
 -- What a point leaves as it was.
-use Rattle.std.proofs.Common.{◌≡◌, ℕ, zero, suc, true, false, ◌==◌, ◌<◌, ◌≤◌, ◌+◌, ⊎_elim, List, [], ◌∷◌, refl, sym, ap, ◌∙◌, inl, inr, arith, if◌then◌else◌}
-use Rattle.std.specs.Prelude.{Option, Some, None, Bool, is_some, ◌||◌, nat_lt}
+use Rattle.std.proofs.Common.{◌≡◌, ℕ, true, false, ◌==◌, ◌+◌, ⊎_elim, List, ◌∷◌, refl, ◌∙◌, arith, if◌then◌else◌}
+use Rattle.std.specs.Prelude.{Option, Some, None, is_some, ◌||◌, nat_lt}
 use Rattle.std.specs.Option.{option_or}
 use Rattle.std.proofs.lemmas.Grind.{common_steps}
 use Rattle.std.proofs.lemmas.Bool.{cases_eq, or_left, or_right}

@@ -1,12 +1,13 @@
 -- Who leads by a history, and that nothing is left to be handed on.
-use Rattle.std.proofs.Common.{◌≡◌, ◌≢◌, ◌≤◌, ◌<◌, ◌+◌, ◌-◌, ◌==◌, ℕ, zero, suc, Bool, true, false, List, [], ◌∷◌, ⊎_elim, inl, inr, refl, sym, ap, subst, ◌∙◌, arith, if◌then◌else◌}
-use Rattle.std.specs.Prelude.{Option, Some, None, ◌||◌, nat_lt}
+use Rattle.std.proofs.Common.{◌≡◌, ◌+◌, ◌-◌, ◌==◌, ℕ, suc, Bool, true, false, List, [], ◌∷◌, ⊎_elim, inl, inr, refl, sym, ap, subst, ◌∙◌, arith, if◌then◌else◌}
+use Rattle.std.specs.Prelude.{Option, Some, None, nat_lt}
 use Rattle.std.specs.Option.{option_or}
 use Rattle.std.proofs.lemmas.Grind.{common_steps}
 use Rattle.std.proofs.lemmas.Bool.Decides.{nat_tests}
-use Rattle.std.proofs.lemmas.Bool.{cases_lt, cases_eq, or_cases, or_left, or_right}
+use Rattle.std.proofs.lemmas.Bool.{cases_eq, or_cases, or_left, or_right}
 use Rattle.simplex_types.specs.Positions.{next_term_start}
 use Rattle.simplex_messages.specs.declared.nullification.Nullification.{Nullification}
+use Rattle.simplex_messages.specs.ProposalCertificate.{Notarization, Finalization}
 use Rattle.simplex_round.specs.Past as past
 use Rattle.simplex_round.specs.Past.{Item, has_notarized}
 use Rattle.simplex_views.specs.History as History
@@ -15,9 +16,9 @@ use Rattle.simplex_views.specs.declared.tracked.Tracked.{Tracked}
 use Rattle.simplex_views.specs.History.{Setup, Point, forget, is_direct, min_active, seen, put, enter, current}
 use Rattle.simplex_views.specs.Leaders.{extend, named, named_early, inherits, leader, was_forwarded}
 use Rattle.simplex_views.specs.Progress.{frame_of, tables}
-use Rattle.simplex_views.specs.Tracked.{Frame, Tables, Inherits, IsClosedAt, IsKept, Holds, inherits_by, is_spoken, direct}
+use Rattle.simplex_views.specs.Tracked.{Tables, Inherits, IsClosedAt, IsKept, Holds, inherits_by}
 use Rattle.simplex_views.proofs.Choices.{answers}
-use Rattle.simplex_views.proofs.Leading.{or_none, inherits_from, inherits_says, Holds-led}
+use Rattle.simplex_views.proofs.Leading.{or_none, extend-above, inherits_from, inherits_says, Holds-led}
 
 -- what was taken in already doesn't count again
 or-again : {A : Type 0} (a b c : Option A) → option_or (option_or a (option_or b c)) c ≡ option_or a (option_or b c)
@@ -117,6 +118,17 @@ module _ {S D P G C : Type 0} where
   leader-closed s (History.polled now ∷ h) u so = closed-behind s h (History.polled now) refl u so
 
 module _ {S D P G C : Type 0} where
+  -- who leads is as it was where a point names nobody, and leaves alone what leaders rest on
+  pub leader-same : (s : Setup S C) (h : List (Point S D P G C)) (x : Point S D P G C)
+      → leader s (x ∷ h) ≡ extend (λ view. option_or (named s x view) (named_early s (x ∷ h) view)) (inherits s (x ∷ h)) (leader s h)
+      → ((u : ℕ) → named s x u ≡ None) → ((u : ℕ) → inherits_by (frame_of s) (tables s (x ∷ h)) u ≡ inherits_by (frame_of s) (tables s h) u)
+      → (u : ℕ) → leader s (x ∷ h) u ≡ leader s h u
+  leader-same s h x e nobody same u = ap (λ l. l u) e
+      ∙ extend-above (λ view. option_or (named s x view) (named_early s (x ∷ h) view)) (inherits s (x ∷ h)) (leader s h) 0 u refl
+      (λ w _. rw (nobody w) refl)
+      (λ w _ _ so. leader-closed s h w (sym (same (suc w)) ∙ so))
+      (omega arith)
+
   -- what is known of each view behind a nullification that enters this view, whose leader is named so
   abbrev nullified-tables : Setup S C → List (Point S D P G C) → ℕ → Nullification S D P G C → ℕ → ℕ → Tables S D P G C
   nullified-tables s h now c led next =
@@ -138,3 +150,66 @@ module _ {S D P G C : Type 0} where
       (λ u fits. named-leader start led s.elect c.certificate
       (inherits_by (frame_of s) (record { led = leader s h; past = put c.round.view (past.nullified c) (enter s (current s h) now start (seen s h)); noted = was_forwarded s h }))
       (leader s h) (f ∙ ap (λ n. s.elect n (Some c.certificate)) e) u)
+
+  -- the same behind a notarization
+  abbrev notarized-tables : Setup S C → List (Point S D P G C) → Notarization S D P G C → ℕ → ℕ → Tables S D P G C
+  notarized-tables s h c led next =
+      let past_next : ℕ → List (Item S D P G C) = put c.proposal.round.view (past.notarized c) (seen s h) in
+      record {
+        led = extend (λ u. if u == next then Some led else None) (inherits_by (frame_of s) (record { led = leader s h; past = past_next; noted = was_forwarded s h })) (leader s h);
+        past = past_next;
+        noted = was_forwarded s h;
+      }
+
+  pub notarized-at : (g : Ghosts S D P G C) (x : Tracked S D P G C) (s : Setup S C) (h : List (Point S D P G C)) (c : Notarization S D P G C) (next led : ℕ)
+      → next ≡ c.proposal.round.view + 1 → led ≡ s.elect next (Some c.certificate)
+      → Holds g (frame_of s) x (notarized-tables s h c led next) → Holds g (frame_of s) x (tables s (History.notarized c ∷ h))
+  unfolding Holds
+  notarized-at g x s h c next led e f k =
+      let start : ℕ = c.proposal.round.view + 1 in
+      let moved : IsKept g (frame_of s) x (notarized-tables s h c led start) = subst (λ n. IsKept g (frame_of s) x (notarized-tables s h c led n)) e k in
+      Holds-led (leader s (History.notarized c ∷ h)) moved
+      (λ u fits. named-leader start led s.elect c.certificate
+      (inherits_by (frame_of s) (record { led = leader s h; past = put c.proposal.round.view (past.notarized c) (seen s h); noted = was_forwarded s h }))
+      (leader s h) (f ∙ ap (λ n. s.elect n (Some c.certificate)) e) u)
+
+  -- and behind a finalization, which enters the next view
+  abbrev finalized-tables : Setup S C → List (Point S D P G C) → ℕ → Finalization S D P G C → ℕ → ℕ → Tables S D P G C
+  finalized-tables s h now c led next =
+      let past_next : ℕ → List (Item S D P G C) = put c.proposal.round.view (past.finalized c) (enter s (current s h) now next (seen s h)) in
+      record {
+        led = extend (λ u. if u == next then Some led else None) (inherits_by (frame_of s) (record { led = leader s h; past = past_next; noted = was_forwarded s h })) (leader s h);
+        past = past_next;
+        noted = was_forwarded s h;
+      }
+
+  pub finalized-at : (g : Ghosts S D P G C) (x : Tracked S D P G C) (s : Setup S C) (h : List (Point S D P G C)) (now : ℕ) (c : Finalization S D P G C) (next led : ℕ)
+      → next ≡ c.proposal.round.view + 1 → led ≡ s.elect next (Some c.certificate)
+      → Holds g (frame_of s) x (finalized-tables s h now c led next) → Holds g (frame_of s) x (tables s (History.finalized now c ∷ h))
+  unfolding Holds
+  finalized-at g x s h now c next led e f k =
+      let start : ℕ = c.proposal.round.view + 1 in
+      let moved : IsKept g (frame_of s) x (finalized-tables s h now c led start) = subst (λ n. IsKept g (frame_of s) x (finalized-tables s h now c led n)) e k in
+      Holds-led (leader s (History.finalized now c ∷ h)) moved
+      (λ u fits. named-leader start led s.elect c.certificate
+      (inherits_by (frame_of s) (record { led = leader s h; past = put c.proposal.round.view (past.finalized c) (enter s (current s h) now start (seen s h)); noted = was_forwarded s h }))
+      (leader s h) (f ∙ ap (λ n. s.elect n (Some c.certificate)) e) u)
+
+  -- and behind the start, which enters view 1
+  abbrev started-tables : Setup S C → List (Point S D P G C) → ℕ → ℕ → ℕ → Tables S D P G C
+  started-tables s h now led first =
+      let past_next : ℕ → List (Item S D P G C) = enter s (current s h) now first (seen s h) in
+      record {
+        led = extend (λ u. if u == first then Some led else None) (inherits_by (frame_of s) (record { led = leader s h; past = past_next; noted = was_forwarded s h })) (leader s h);
+        past = past_next;
+        noted = was_forwarded s h;
+      }
+
+  pub started-at : (g : Ghosts S D P G C) (x : Tracked S D P G C) (s : Setup S C) (h : List (Point S D P G C)) (now : ℕ) (payload : D) (first led : ℕ) → first ≡ 1 → led ≡ s.elect 1 None
+      → Holds g (frame_of s) x (started-tables s h now led first) → Holds g (frame_of s) x (tables s (History.started now payload ∷ h))
+  unfolding Holds
+  started-at g x s h now payload first led e f k =
+      let moved : IsKept g (frame_of s) x (started-tables s h now (s.elect 1 None) 1) = subst (λ n. IsKept g (frame_of s) x (started-tables s h now n 1)) f (subst (λ n. IsKept g (frame_of s) x (started-tables s h now led n)) e k) in
+      Holds-led (leader s (History.started now payload ∷ h)) moved
+      (λ u fits. let named_once = λ (w : ℕ). sym (or_none (if w == 1 then Some (s.elect 1 None) else None)) in
+      λ i. extend (λ w. named_once w i) (inherits_by (frame_of s) (record { led = leader s h; past = enter s (current s h) now 1 (seen s h); noted = was_forwarded s h })) (leader s h) u)

@@ -1,5 +1,5 @@
 -- Who leads, view by view.
-use Rattle.std.proofs.Common.{◌≡◌, ◌≢◌, ◌≤◌, ◌<◌, ◌+◌, ◌-◌, ◌↔◌, ◌⊎◌, ◌==◌, ◌^◌, ℕ, zero, suc, Bool, List, true, false, ⊎_elim, inl, inr, refl, sym, ap, ◌∙◌, subst, arith, if◌then◌else◌}
+use Rattle.std.proofs.Common.{◌≡◌, ◌≢◌, ◌≤◌, ◌<◌, ◌+◌, ◌-◌, ◌==◌, ◌^◌, ℕ, zero, suc, Bool, List, true, false, ⊎_elim, inl, inr, refl, sym, ap, ◌∙◌, subst, arith, if◌then◌else◌}
 use Rattle.std.specs.Prelude.{Option, Some, None, ◌&&◌, ◌||◌, not, nat_lt, nat_le}
 use Rattle.std.specs.Option.{option_or}
 use Rattle.std.proofs.lemmas.Grind.{common_steps}
@@ -10,13 +10,12 @@ use Rattle.simplex_round.specs.Past.{Item}
 use Rattle.simplex_views.specs.declared.rounds.Rounds.{Rounds}
 use Rattle.simplex_rules.specs.Windows.{issuance_floor}
 use Rattle.simplex_views.specs.Leaders.{any_from, extend}
-use Rattle.simplex_views.specs.Marks.{IsMarkedWithin}
 use Rattle.simplex_types.specs.declared.scheme.Scheme.{Ghosts}
 use Rattle.simplex_views.specs.declared.tracked.Tracked.{Tracked}
 use Rattle.simplex_views.specs.Rounds.{Keep, learn}
 use Rattle.simplex_views.specs.Rounds as rounds
-use Rattle.simplex_views.specs.Tracked.{Frame, Tables, Inherits, IsBegun, IsClosedAt, IsKept, Holds, inherits_by, handed_on, is_spoken, direct}
-use Rattle.simplex_views.proofs.Choices.{answers, is_itself}
+use Rattle.simplex_views.specs.Tracked.{Frame, Tables, Inherits, IsClosedAt, IsKept, inherits_by, handed_on, is_spoken, direct}
+use Rattle.simplex_views.proofs.Choices.{is_itself}
 
 -- some of so many numbers passes exactly where there is one
 pub any_from-there : (test : ℕ → Bool) (low n : ℕ) → any_from test low n ≡ true → (u : ℕ) × (low ≤ u) × (u < low + n) × (test u ≡ true)
@@ -134,12 +133,12 @@ itself_or (Some x) b = refl
 
 module _ (here : ℕ → Option ℕ) (from_before : ℕ → Bool) (known : ℕ → Option ℕ) where
   -- where a view learns nothing, no view above it does, if nothing is named above it and nothing is left to be handed on
-  pub extend-above : (v : ℕ) → extend here from_before known v ≡ known v → ((u : ℕ) → v < u → here u ≡ None) → ((u : ℕ) → v ≤ u → IsClosedAt from_before known u)
-      → (w : ℕ) → v ≤ w → extend here from_before known w ≡ known w
-  extend-above v at none closed zero le = refl
-  extend-above v at none closed (suc w) le = ⊎_elim
+  pub extend-above : (v w : ℕ) → extend here from_before known v ≡ known v → ((u : ℕ) → v < u → here u ≡ None) → ((u : ℕ) → v ≤ u → u < w → IsClosedAt from_before known u)
+      → v ≤ w → extend here from_before known w ≡ known w
+  extend-above v zero at none closed le = refl
+  extend-above v (suc w) at none closed le = ⊎_elim
       (λ lt. one_more (known (suc w)) (here (suc w)) (from_before (suc w)) (extend here from_before known w) (known w) (none (suc w) (omega (arith, lt)))
-      (extend-above v at none closed w (omega (arith, lt))) (closed w (omega (arith, lt))))
+      (extend-above v w at none (λ u from below. closed u from (omega (arith, below))) (omega (arith, lt))) (closed w (omega (arith, lt)) (omega arith)))
       (λ ge. let e : v ≡ suc w = omega (arith, le, ge) in subst (λ n. extend here from_before known n ≡ known n) e at)
       (cases_lt v (suc w))
 
@@ -149,6 +148,16 @@ module _ (here : ℕ → Option ℕ) (from_before : ℕ → Bool) (known : ℕ �
   extend-below first none closed zero lt = refl
   extend-below first none closed (suc w) lt = one_more (known (suc w)) (here (suc w)) (from_before (suc w)) (extend here from_before known w) (known w) (none (suc w) lt)
       (extend-below first none closed w (omega (arith, lt))) (closed w (omega (arith, lt)))
+
+  -- where only behind one view something may be left to be handed on, no view up to it learns anything
+  pub extend-upto : (view w : ℕ) → w ≤ view → ((u : ℕ) → here u ≡ None) → ((u : ℕ) → (view == u) ≡ false → IsClosedAt from_before known u) → extend here from_before known w ≡ known w
+  extend-upto view w le none closed = extend-above 0 w refl (λ u _. none u) (λ u _ below. closed u (ne_eqb view u (λ e. omega (arith, e, below, le)))) (omega arith)
+
+  pub handed-on-upto : (view u : ℕ) → ((v : ℕ) → here v ≡ None) → ((v : ℕ) → (view == v) ≡ false → IsClosedAt from_before known v) → known u ≡ handed_on here from_before known (view + 1) u
+  handed-on-upto view u none closed = ⊎_elim
+      (λ lt. let within : nat_lt u (view + 1) ≡ true = grind (arith, nat_tests, lt) in rw within (sym (extend-upto view u (omega (arith, lt)) none closed)))
+      (λ ge. let beyond : nat_lt u (view + 1) ≡ false = grind (arith, nat_tests, ge) in rw beyond refl)
+      (cases_lt u (view + 1))
 
   -- one view further
   pub handed-on-next : (view : ℕ) → here view ≡ None → (w : ℕ)
@@ -179,13 +188,13 @@ module _ (here : ℕ → Option ℕ) (from_before : ℕ → Bool) (known : ℕ �
       (cases_eq (suc v) w)
 
   -- where the last view that was looked at learnt nothing, leaders are handed on as far as they are
-  pub handed-on-all : (first last view : ℕ) → first ≤ view → last ≤ view → ((u : ℕ) → first ≤ u → here u ≡ None) → ((u : ℕ) → last ≤ u → IsClosedAt from_before known u)
-      → extend here from_before known view ≡ known view → (w : ℕ) → handed_on here from_before known (view + 1) w ≡ extend here from_before known w
-  handed-on-all first last view after behind none closed still w = ⊎_elim
+  pub handed-on-all : (first last view w : ℕ) → first ≤ view → last ≤ view → ((u : ℕ) → first ≤ u → here u ≡ None) → ((u : ℕ) → last ≤ u → u < w → IsClosedAt from_before known u)
+      → extend here from_before known view ≡ known view → handed_on here from_before known (view + 1) w ≡ extend here from_before known w
+  handed-on-all first last view w after behind none closed still = ⊎_elim
       (λ lt. let within : nat_lt w (view + 1) ≡ true = grind (arith, nat_tests, lt) in rw within refl)
       (λ ge.
       let beyond : nat_lt w (view + 1) ≡ false = grind (arith, nat_tests, ge) in
-      rw beyond (sym (extend-above view still (λ u lt. none u (omega (arith, lt, after))) (λ u le. closed u (omega (arith, le, behind))) w (omega (arith, ge)))))
+      rw beyond (sym (extend-above view w still (λ u lt. none u (omega (arith, lt, after))) (λ u le below. closed u (omega (arith, le, behind)) below) (omega (arith, ge)))))
       (cases_lt w (view + 1))
 
   -- what the view at hand has then
@@ -250,3 +259,19 @@ module _ {S D P G C : Type 0} where
     noted = k.noted;
     members = λ view i fits is. k.members view i fits (same view fits ∙ is);
   }
+
+  -- a view that has the leader of the view before, where no more is known than before of certificates in its window, and of the
+  -- proposal of the view before, had it before
+  pub inherits-less : (f : Frame S) (t t' : Tables S D P G C) (view : ℕ)
+      → ((u : ℕ) → issuance_floor f.optimistic_views view ≤ u → u < view → direct t' u ≡ true → direct t u ≡ true)
+      → (is_spoken t' (view - 1) ≡ true → is_spoken t (view - 1) ≡ true) → inherits_by f t' view ≡ true → inherits_by f t view ≡ true
+  inherits-less f t t' view certified spoken so =
+      let i = inherits_says f t' view so in
+      inherits_from f t view (record {
+        optimism = i.optimism;
+        inside = i.inside;
+        why = ⊎_elim
+            (λ there. inl (there.0, there.1, there.2, there.3, certified there.0 there.2 there.3 there.4))
+            (λ window. inr (spoken window.0, ⊎_elim (λ first. inl first) (λ there. inr (there.0, there.1, there.2, certified there.0 there.1 there.2 there.3)) window.1))
+            i.why;
+      })

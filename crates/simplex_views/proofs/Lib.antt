@@ -1,7 +1,12 @@
 pub mod Choices
 pub mod Covering
+pub mod Dropping
 pub mod Entering
 pub mod Following
+pub mod Forwarding
 pub mod Leading
 pub mod Marking
+pub mod Recalling
+pub mod Replaying
+pub mod Stepping
 pub mod Tables

@@ -1,5 +1,5 @@
 -- A change of one round among many.
-use Rattle.std.proofs.Common.{◌≡◌, ℕ, true, false, ◌==◌, ◌<◌, ◌^◌, ◌⊎◌, ⊎_elim, inl, inr, List, [], ◌∷◌, refl, sym, ap, subst, arith, if◌then◌else◌}
+use Rattle.std.proofs.Common.{◌≡◌, ℕ, true, false, ◌==◌, ◌<◌, ◌^◌, ⊎_elim, inl, inr, List, [], ◌∷◌, refl, sym, ap, arith, if◌then◌else◌}
 use Rattle.std.specs.Option.{option_or}
 use Rattle.std.specs.Prelude.{Option, Some, None, Bool, MatchOption, IsSome}
 use Rattle.simplex_types.specs.declared.position.Round as position
@@ -40,6 +40,13 @@ module _ {S D P G C : Type 0} {key_of : S → ℕ → P} {s : Common S} {m : BTr
   -- an open round stands where its leader and its past say
   pub AreOpen-at : {view : ℕ} {round : Round S D P G C} → AreOpen key_of s m led past view → Some round ≡ get nat_cmp m view → one.Keeps key_of (setup_of s view) round (led view) (past view)
   AreOpen-at k e = rw (sym e) at k.here
+
+  -- something is known of a view that has a round, and nothing of one that has none
+  pub AreKept-tracked : (view : ℕ) {round : Round S D P G C} → AreKept key_of s m led past → view < 2 ^ 64 → Some round ≡ get nat_cmp m view → IsTracked (past view) (led view)
+  AreKept-tracked view k fits e = (rw (sym e) at (k.at view fits)).0
+
+  pub AreKept-untracked : (view : ℕ) → AreKept key_of s m led past → view < 2 ^ 64 → None ≡ get nat_cmp m view → past view ≡ []
+  AreKept-untracked view k fits e = (rw (sym e) at (k.at view fits)).0
 
   -- the round of a view that has one is open
   pub AreOpen-there : (view : ℕ) → AreKept key_of s m led past → view < 2 ^ 64 → IsSome (get nat_cmp m view) → AreOpen key_of s m led past view
@@ -91,6 +98,13 @@ module _ {S D P G C : Type 0} {key_of : S → ℕ → P} {s : Common S} {m m' : 
       → (b ≡ true → IsTracked (past view) (led view)) → AreKept key_of s m' led (if b then past else put view x past)
   AreKept-unless view x false k up here known = AreKept-put view x k up here
   AreKept-unless view x true k up here known = AreKept-step led past view k up here (known refl) (λ u apart. (refl, refl))
+
+  -- one more thing happened to a view of which something is known, or nothing did
+  pub AreKept-if : (view : ℕ) (x : Item S D P G C) (b : Bool) {round : Round S D P G C}
+      → AreOpen key_of s m led past view → UpdatesBy nat_cmp (nat_cmp view) m m' (Some round) → one.Keeps key_of (setup_of s view) round (led view) (if b then x ∷ past view else past view)
+      → IsTracked (past view) (led view) → AreKept key_of s m' led (if b then put view x past else past)
+  AreKept-if view x true k up here known = AreKept-put view x k up here
+  AreKept-if view x false k up here known = AreKept-step led past view k up here known (λ u apart. (refl, refl))
 
   -- a round was opened of which nothing is known
   pub AreOpen-new : (view : ℕ) {round : Round S D P G C}

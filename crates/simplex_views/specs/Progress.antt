@@ -1,5 +1,5 @@
 -- How far a voter is: its current view, and what is known of all views.
-use Rattle.std.specs.Prelude.{◌≡◌, ◌+◌, ◌<◌, ◌^◌, ℕ, List, Option}
+use Rattle.std.specs.Prelude.{◌≡◌, ◌+◌, ◌<◌, ◌^◌, ℕ, List}
 use Rattle.std.specs.Option.{ForSome}
 use Rattle.simplex_types.specs.declared.scheme.Scheme.{Ghosts}
 use Rattle.simplex_views.specs.declared.progress.Progress.{Progress}

@@ -1,12 +1,17 @@
 -- What the rounds of all views keep.
-use Rattle.std.specs.Prelude.{◌≡◌, ◌≢◌, ◌⊎◌, ◌<◌, ◌^◌, ◌==◌, ℕ, false, List, [], Option, Some, None, IsSome, MatchOption, if◌then◌else◌}
+use Rattle.std.specs.Prelude.{◌≡◌, ◌≢◌, ◌⊎◌, ◌↔◌, ◌<◌, ◌≤◌, ◌^◌, ◌==◌, ℕ, Bool, false, List, [], Option, Some, None, IsSome, IsTrue, MatchOption, if◌then◌else◌, ⊤}
 use Rattle.std.specs.Option.{option_or}
 use Rattle.std.specs.Ordering.{nat_cmp}
 use Rattle.std.specs.BTreeMap.{BTreeMap, get}
-use Rattle.simplex_types.specs.declared.position.Round as position
+use Rattle.simplex_messages.specs.declared.artifact.Artifact.{Artifact}
+use Rattle.simplex_messages.specs.declared.artifact.Artifact.TheVariants as artifact
 use Rattle.simplex_round.specs.declared.round.Round.{Round}
 use Rattle.simplex_round.specs.Round as one
-use Rattle.simplex_round.specs.Past.{Item}
+use Rattle.simplex_round.specs.Held as offer
+use Rattle.simplex_round.specs.Held.{held, Agrees}
+use Rattle.simplex_round.specs.Past as past
+use Rattle.simplex_round.specs.Past.{Item, offers}
+use Rattle.simplex_views.specs.History.{put}
 use Rattle.simplex_views.specs.declared.rounds.Rounds.{Rounds}
 
 -- what stays the same of all rounds
@@ -39,6 +44,28 @@ module _ {S D P G C : Type 0} where
   pub record AreOpen (key_of : S → ℕ → P) (s : Common S) (m : BTreeMap ℕ (Round S D P G C)) (led : ℕ → Option ℕ) (past : ℕ → List (Item S D P G C)) (view : ℕ) : Type 0 where
     pub here : MatchOption (get nat_cmp m view) ⊥ (λ r. one.Keeps key_of (setup_of s view) r (led view) (past view))
     pub others : (u : ℕ) → u < 2 ^ 64 → (view == u) ≡ false → IsRight key_of s u (get nat_cmp m u) (led u) (past u)
+
+  -- these are the rounds of the views below the floor, and no others
+  pub record AreBelow (key_of : S → ℕ → P) (s : Common S) (floor : ℕ) (m : BTreeMap ℕ (Round S D P G C)) (led : ℕ → Option ℕ) (past : ℕ → List (Item S D P G C)) : Type 0 where
+    pub below : (view : ℕ) → view < floor → IsRight key_of s view (get nat_cmp m view) (led view) (past view)
+    pub above : (view : ℕ) → floor ≤ view → get nat_cmp m view ≡ None
+
+  -- of an own notarize in a record, its view takes its proposal exactly where it holds none or the same
+  abbrev pub Takes : (ℕ → List (Item S D P G C)) → Artifact S D P G C → Bool → Type 0
+  Takes t (artifact.Notarize v) taken = IsTrue taken ↔ Agrees (held (offers (t v.proposal.round.view))) v.proposal
+  Takes t x taken = ⊤
+
+  -- what an artifact of the member's record leaves of each view: a vote, with its proposal where that is taken; a verdict; or that
+  -- a certificate was handed out
+  abbrev pub recalled : Bool → Artifact S D P G C → (ℕ → List (Item S D P G C)) → ℕ → List (Item S D P G C)
+  recalled taken (artifact.Notarize v) t =
+      put v.proposal.round.view past.voted_notarize (if taken then put v.proposal.round.view (past.offered (offer.recorded v.proposal)) t else t)
+  recalled taken (artifact.Notarization c) t = put c.proposal.round.view past.sent_notarization t
+  recalled taken (artifact.Certification round ok) t = put round.view (past.judged ok) t
+  recalled taken (artifact.Nullify v) t = put v.round.view past.voted_nullify t
+  recalled taken (artifact.Nullification c) t = put c.round.view past.sent_nullification t
+  recalled taken (artifact.Finalize v) t = put v.proposal.round.view past.voted_finalize t
+  recalled taken (artifact.Finalization c) t = put c.proposal.round.view past.sent_finalization t
 
   pub record IsKept (key_of : S → ℕ → P) (s : Common S) (r : Rounds S D P G C) (led : ℕ → Option ℕ) (past : ℕ → List (Item S D P G C)) : Type 0 where
     pub scheme : r.scheme.value ≡ s.scheme

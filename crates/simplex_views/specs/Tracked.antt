@@ -1,13 +1,15 @@
 -- What is kept of all views together: their rounds, who leads them, and what that rests on.
-use Rattle.std.specs.Prelude.{◌≡◌, ◌≢◌, ◌⊎◌, ◌<◌, ◌≤◌, ◌+◌, ◌-◌, ◌^◌, ◌==◌, ◌&&◌, ◌||◌, not, nat_lt, nat_le, ℕ, suc, Bool, true, List, Option, Some, None, if◌then◌else◌}
+use Rattle.std.specs.Prelude.{◌≡◌, ◌≢◌, ◌⊎◌, ◌<◌, ◌≤◌, ◌+◌, ◌-◌, ◌^◌, ◌==◌, ◌&&◌, ◌||◌, not, nat_lt, nat_le, ℕ, suc, Bool, true, false, List, Option, Some, None, if◌then◌else◌}
 use Rattle.std.specs.Option.{option_or}
 use Rattle.simplex_types.specs.Positions.{term_start}
+use Rattle.simplex_types.specs.declared.proposal.Proposal.{Proposal}
 use Rattle.simplex_types.specs.declared.scheme.Scheme.{Ghosts}
 use Rattle.simplex_rules.specs.Windows.{issuance_floor}
+use Rattle.simplex_round.specs.Held as offer
 use Rattle.simplex_round.specs.Past as past
 use Rattle.simplex_round.specs.Past.{Item}
 use Rattle.simplex_views.specs.declared.tracked.Tracked.{Tracked}
-use Rattle.simplex_views.specs.History.{is_direct}
+use Rattle.simplex_views.specs.History.{forget, is_direct, put}
 use Rattle.simplex_views.specs.Leaders.{any_from, extend}
 use Rattle.simplex_views.specs.Marks.{Shows, IsMarkedWithin}
 use Rattle.simplex_views.specs.Rounds.{Common, Keep}
@@ -57,6 +59,21 @@ module _ {S D P G C : Type 0} where
   abbrev pub inherits_by : Frame S → Tables S D P G C → ℕ → Bool
   inherits_by f t view = inherits_of f (direct t) (is_spoken t) view
 
+  -- behind a proposal of the view that its leader forwarded; behind an own nullify that is not taken
+  abbrev pub proposed : Frame S → Tables S D P G C → ℕ → Proposal D → Tables S D P G C
+  proposed f t view p =
+      let grown : ℕ → List (Item S D P G C) = if past.has_nullified (t.past view) then t.past else put view (past.offered (offer.forwarded p)) t.past in
+      let known : ℕ → Bool = λ u. (view == u) || t.noted u in
+      record { led = extend (λ u. None) (inherits_by f (record { led = t.led; past = grown; noted = known })) t.led; past = grown; noted = known }
+
+  -- where of the views below the floor nothing is known any more
+  abbrev pub forgotten : ℕ → Tables S D P G C → Tables S D P G C
+  forgotten floor t = record {
+    led = λ view. if nat_lt view floor then None else t.led view;
+    past = forget floor t.past;
+    noted = λ view. if nat_lt view floor then false else t.noted view;
+  }
+
   -- the same in words: the view starts no term, views are optimistic, and its window has a certificate in its term, or else it
   -- reaches the start or a certificate, and the proposal of the view before is known of
   pub record Inherits (f : Frame S) (t : Tables S D P G C) (view : ℕ) : Type 0 where
@@ -70,7 +87,7 @@ module _ {S D P G C : Type 0} where
   pub record IsBegun (f : Frame S) (t : Tables S D P G C) (here known : ℕ → Option ℕ) (first last : ℕ) : Type 0 where
     pub led : (u : ℕ) → t.led u ≡ handed_on here (inherits_by f t) known first u
     pub unnamed : (u : ℕ) → first ≤ u → here u ≡ None
-    pub closed : (u : ℕ) → last ≤ u → IsClosedAt (inherits_by f t) known u
+    pub closed : (u : ℕ) → last ≤ u → u + 1 < 2 ^ 64 → IsClosedAt (inherits_by f t) known u
 
 module _ {S D P G C : Type 0} where
   -- what is kept is this

@@ -1,21 +1,63 @@
 -- At which history the views of a voter stand.
-use Rattle.std.specs.Prelude.{◌≡◌, ◌↔◌, ◌<◌, ℕ, Bool, true, List, Option}
+use Rattle.std.specs.Prelude.{◌≡◌, ◌≢◌, ◌↔◌, ◌⊎◌, ◌<◌, ℕ, Bool, true, List, [], AllPairs, Contains, Option, IsSome}
 use Rattle.std.specs.Option.{option_or}
 use Rattle.std.specs.BTreeMap.{get}
 use Rattle.std.specs.Ordering.{nat_cmp}
 use Rattle.simplex_types.specs.Positions.{InCoveringRange}
 use Rattle.simplex_types.specs.declared.position.Round.{Round}
 use Rattle.simplex_types.specs.declared.scheme.Scheme.{Ghosts}
+use Rattle.simplex_messages.specs.declared.artifact.Artifact.{Artifact}
+use Rattle.simplex_messages.specs.declared.artifact.Artifact.TheVariants as artifact
+use Rattle.simplex_rules.specs.declared.kind.Kind.TheVariants as kind
 use Rattle.simplex_record.specs.Coverage as spans
 use Rattle.simplex_round.specs.Past as past
+use Rattle.simplex_round.specs.Round as one
 use Rattle.simplex_views.specs.declared.views.Views.{Views}
-use Rattle.simplex_views.specs.History.{Setup, Point, current, last_finalized, genesis, seen, was_nullified, nullification}
-use Rattle.simplex_views.specs.Progress.{IsAt, tables}
+use Rattle.simplex_views.specs.History.{Setup, Point, recalled_notarize, recalled_nullify, recalled_finalize, recalled_verdict, sent, current, last_finalized, min_active, genesis, is_marked, seen, was_nullified, nullification}
+use Rattle.simplex_views.specs.Known.{backs, waits}
+use Rattle.simplex_views.specs.Leaders.{leader}
+use Rattle.simplex_views.specs.Marks.{Shows}
+use Rattle.simplex_views.specs.Progress.{IsAt, frame_of, tables}
+use Rattle.simplex_views.specs.Rounds.{setup_of}
+
+-- what stays the same of a view's round
+abbrev pub round_of : {S C : Type 0} → Setup S C → ℕ → one.Setup S
+round_of s view = setup_of (frame_of s).common view
 
 module _ {S D P G C : Type 0} where
   -- a view is covered: it was nullified, or an earlier view of its term was
   abbrev pub IsCovered : Setup S C → List (Point S D P G C) → ℕ → Type 0
   IsCovered s h view = (u : ℕ) × InCoveringRange s.length view u × (was_nullified h u ≡ true)
+
+  -- each view strictly between is covered
+  abbrev pub AreCoveredBetween : Setup S C → List (Point S D P G C) → ℕ → ℕ → Type 0
+  AreCoveredBetween s h parent view = (u : ℕ) → parent < u → u < view → IsCovered s h u
+
+  -- the least view strictly between that isn't covered
+  pub record IsFirstUncovered (s : Setup S C) (h : List (Point S D P G C)) (parent view first : ℕ) : Type 0 where
+    pub after : parent < first
+    pub before : first < view
+    pub bare : ¬ IsCovered s h first
+    pub least : AreCoveredBetween s h parent first
+
+  -- a view is tracked: something happened to it, or its leader is known
+  abbrev pub IsTracked : Setup S C → List (Point S D P G C) → ℕ → Type 0
+  IsTracked s h view = (seen s h view ≢ []) ⊎ IsSome (leader s h view)
+
+  -- the views that are dropped by a prune: those that are tracked and need not be kept
+  pub record AreDropped (s : Setup S C) (h : List (Point S D P G C)) (views : List ℕ) : Type 0 where
+    pub exact : (view : ℕ) → Contains views view ↔ ((view < min_active s h) × IsTracked s h view)
+    pub ascend : AllPairs (λ (u w : ℕ). u < w) views
+
+  -- the point that an artifact of the member's record is; of a notarize, with whether its proposal is taken
+  abbrev pub recalls : Bool → Artifact S D P G C → Point S D P G C
+  recalls taken (artifact.Notarize v) = recalled_notarize v.proposal taken
+  recalls taken (artifact.Notarization c) = sent kind.Notarization c.proposal.round.view
+  recalls taken (artifact.Certification round ok) = recalled_verdict round.view ok
+  recalls taken (artifact.Nullify v) = recalled_nullify v.round.view
+  recalls taken (artifact.Nullification c) = sent kind.Nullification c.round.view
+  recalls taken (artifact.Finalize v) = recalled_finalize v.proposal
+  recalls taken (artifact.Finalization c) = sent kind.Finalization c.proposal.round.view
 
 module _ {S L D P G C : Type 0} where
   pub record IsKept (g : Ghosts S D P G C) (leads : L → Round → Option C → ℕ) (s : Setup S C) (v : Views S L D P G C) (h : List (Point S D P G C)) : Type 0 where
@@ -31,6 +73,8 @@ module _ {S L D P G C : Type 0} where
     pub last_finalized : v.last_finalized ≡ last_finalized h
     pub genesis : v.genesis ≡ genesis h
     pub coverage : (view : ℕ) → spans.IsCovered v.coverage view ↔ IsCovered s h view
+    pub backed : Shows v.backed (is_marked s backs h)
+    pub waiting : Shows v.waiting (is_marked s waits h)
     pub nullifications : (view : ℕ) → nullification s h view ≡ option_or (get nat_cmp v.reaching view) (past.nullification (seen s h view))
 
   -- the views stand where this history leads, closed for those who stand above

@@ -1,22 +1,23 @@
 //! The rounds of all views of which something is known.
 #![tactic(auto, unfolding(crate::specs::Rounds::Keep))]
 
-ghost use Rattle.std.specs.Prelude.{◌≡◌, ◌↔◌, ◌<◌, ◌==◌, if◌then◌else◌, ℕ, false, true, List, [], ◌∷◌, Option, Some, None, is_none, IsSome, IsTrue, IfOk, OnOk, MatchOption, option_map};
+ghost use Rattle.std.specs.Prelude.{◌≡◌, ◌↔◌, ◌<◌, ◌==◌, if◌then◌else◌, nat_lt, ℕ, Bool, false, true, List, [], ◌∷◌, Option, Some, None, is_none, IsSome, IsTrue, IfOk, OnOk, MatchOption, option_map};
 ghost use Rattle.std.specs.Ordering.{nat_cmp};
 ghost use Rattle.std.specs.BTreeMap.{get};
 ghost use Rattle.simplex_round.specs.Held.{held, forwarded, Agrees, Differs};
 ghost use Rattle.simplex_round.specs.Past.{offered, entered, armed, latched, notarized, nullified, finalized, judged, notarization, nullification, finalization, offers, has_nullified};
 ghost use Rattle.simplex_round.specs.Round as one;
-ghost use Rattle.simplex_views.specs.History.{put};
-ghost use Rattle.simplex_views.specs.Rounds.{Common, Keep, AtEach, IsOpen, IsTracked, learn, setup_of};
+ghost use Rattle.simplex_views.specs.History.{bind, forget, put};
+ghost use Rattle.simplex_views.specs.Rounds.{Common, Keep, AreBelow, AtEach, IsOpen, IsTracked, Takes, learn, recalled, setup_of};
 
-use simplex_messages::{Finalization, Notarization, Nullification};
+use simplex_messages::{Artifact, Finalization, Notarization, Nullification};
 use simplex_round::{Round, TimeoutReason};
 use simplex_types::{
     Digest, Epoch, Participant, Proposal, Round as Position, Scheme, View, Viewable,
 };
 use std::alloc::{AllocError, Global};
 use std::collections::BTreeMap;
+use std::mem;
 use std::rc::Rc;
 
 /// The rounds of all views of which something is known.
@@ -24,7 +25,7 @@ use std::rc::Rc;
 pub(crate) struct Rounds<S: Scheme<D>, D: Digest> {
     scheme: Rc<S>,
     epoch: Epoch,
-    by_view: BTreeMap<View, Round<S, D>>,
+    pub(crate) by_view: BTreeMap<View, Round<S, D>>,
 }
 
 impl<S: Scheme<D> + Drop, D: Digest> Rounds<S, D> {
@@ -195,5 +196,50 @@ impl<S: Scheme<D> + Drop, D: Digest> Rounds<S, D> {
             }
             None => Ok(false),
         }
+    }
+
+    /// Takes in an artifact of this member's record.
+    pub(crate) fn replay(&mut self, artifact: &Artifact<S, D>) -> Result<(), AllocError>
+        ensures { OnOk result (AtEach S.key_of self.old (λ s led past. (taken : Bool) × Takes past artifact.now taken × Keep S.key_of s self.new led (recalled taken artifact.now past))) }
+    {
+        let view = artifact.view();
+        self.open(view)?;
+        if let Some(round) = self.by_view.get_mut(&view) {
+            round.replay(artifact);
+        }
+        Ok(())
+    }
+
+    /// Binds the proposal to its parent's payload, where there is one.
+    pub(crate) fn bind(
+        &mut self,
+        proposal: Proposal<D>,
+        payload: Option<D>,
+    ) -> Result<(), AllocError>
+        ensures { OnOk result (AtEach S.key_of self.old (λ s led past. Keep S.key_of s self.new led (bind payload proposal past))) }
+    {
+        let Some(payload) = payload else {
+            return Ok(());
+        };
+        let view = proposal.view();
+        self.open(view)?;
+        if let Some(round) = self.by_view.get_mut(&view) {
+            round.set_verifying(proposal, payload);
+        }
+        Ok(())
+    }
+
+    /// Takes out the rounds of the views below the floor.
+    pub(crate) fn drop_below(
+        &mut self,
+        floor: View,
+    ) -> Result<BTreeMap<View, Round<S, D>>, AllocError>
+        ensures keeps { OnOk result (AtEach S.key_of self.old (λ s led past. Keep S.key_of s self.new (λ view. if nat_lt view floor then None else led view) (forget floor past))) }
+        ensures dropped { IfOk result (λ rounds. AtEach S.key_of self.old (λ s led past. AreBelow S.key_of s floor rounds led past)) }
+    {
+        // The proof takes from the number that it has 64 bits.
+        let _number = floor.get();
+        let kept = self.by_view.split_off(&floor)?;
+        Ok(mem::replace(&mut self.by_view, kept))
     }
 }

@@ -4,27 +4,28 @@
 ghost use Rattle.std.specs.Prelude.{◌≡◌, ◌≢◌, ◌↔◌, ◌⊎◌, ◌<◌, ◌≤◌, ◌+◌, ◌-◌, ◌^◌, ◌==◌, if◌then◌else◌, ℕ, false, true, List, [], ◌∷◌, Option, Some, None, is_none, IsSome, IsTrue, IfOk, OnOk, MatchOption, option_map};
 ghost use Rattle.std.specs.Option.{option_or};
 ghost use Rattle.simplex_round.specs.Held.{held, Agrees, Differs};
-ghost use Rattle.simplex_round.specs.Past.{entered, armed, notarized, nullified, finalized, notarization, nullification, finalization, offers};
+ghost use Rattle.simplex_round.specs.Past.{entered, armed, notarized, nullified, finalized, notarization, nullification, finalization, offers, has_nullified};
 ghost use Rattle.simplex_round.specs.Round as one;
 ghost use Rattle.simplex_views.specs.History.{put};
 ghost use Rattle.simplex_views.specs.Leaders.{extend};
-ghost use Rattle.simplex_views.specs.Rounds.{IsTracked, setup_of};
-ghost use Rattle.simplex_views.specs.Tracked.{Frame, Tables, Holds, AtEach, Inherits, IsBegun, IsClosedAt, inherits_by, is_spoken};
+ghost use Rattle.simplex_views.specs.Rounds.{AreBelow, IsTracked, setup_of};
+ghost use Rattle.simplex_views.specs.Tracked.{Frame, Tables, Holds, AtEach, Inherits, IsBegun, IsClosedAt, forgotten, inherits_by, is_spoken, proposed};
 
 use crate::marks::Marks;
 use crate::rounds::Rounds;
 use simplex_messages::{Finalization, Notarization, Nullification};
 use simplex_round::Round;
 use simplex_rules::Lookahead;
-use simplex_types::{Digest, Epoch, Participant, Scheme, View, Viewable};
+use simplex_types::{Digest, Epoch, Participant, Proposal, Scheme, View, Viewable};
 use std::alloc::{AllocError, Global};
+use std::collections::BTreeMap;
 use std::rc::Rc;
 
 /// What is known of all views.
 #[derive(Drop)]
 pub(crate) struct Tracked<S: Scheme<D>, D: Digest> {
     lookahead: Lookahead,
-    rounds: Rounds<S, D>,
+    pub(crate) rounds: Rounds<S, D>,
     /// The views that have a notarization or finalization.
     direct: Marks,
     /// The views whose leader's proposal was forwarded.
@@ -135,7 +136,7 @@ impl<S: Scheme<D> + Drop, D: Digest> Tracked<S, D> {
         last: View,
     ) -> Result<(), AllocError>
         requires { first + 1 < 2 ^ 64 }
-        ensures { OnOk result (AtEach S.Scheme self.old (λ f t. 0 < first → leader < S.size f.common.scheme → ((u : ℕ) → (u + 1 < first) ⊎ (last ≤ u) → IsClosedAt (inherits_by f t) t.led u) → Holds S.Scheme f self.new (record t { led = extend (λ u. if u == first then Some leader else None) (inherits_by f t) t.led }))) }
+        ensures { OnOk result (AtEach S.Scheme self.old (λ f t. 0 < first → leader < S.size f.common.scheme → ((u : ℕ) → (u + 1 < first) ⊎ (last ≤ u) → u + 1 < 2 ^ 64 → IsClosedAt (inherits_by f t) t.led u) → Holds S.Scheme f self.new (record t { led = extend (λ u. if u == first then Some leader else None) (inherits_by f t) t.led }))) }
     {
         let _new = self.rounds.learn(first, leader)?;
         self.hand_on(first.next(), last)?;
@@ -198,6 +199,51 @@ impl<S: Scheme<D> + Drop, D: Digest> Tracked<S, D> {
         Ok(key)
     }
 
+    /// The last view whose window reaches back to this one, or the last view that there is.
+    pub(crate) fn last_reached(&self, view: View) -> View
+        ensures { AtEach S.Scheme self.now (λ f t. (u : ℕ) → result ≤ u → u + 1 < 2 ^ 64 → view + f.optimistic_views < u) }
+    {
+        let optimistic = self.lookahead.optimistic_views.get();
+        View::new(view.get().saturating_add(optimistic).saturating_add(1))
+    }
+
+    /// Hands leaders on from this view, where more is known of it now.
+    pub(crate) fn follow(&mut self, view: View) -> Result<(), AllocError>
+        ensures { OnOk result (AtEach S.Scheme self.old (λ f t. ((u : ℕ) → (view == u) ≡ false → IsClosedAt (inherits_by f t) t.led u) → Holds S.Scheme f self.new (record t { led = extend (λ u. None) (inherits_by f t) t.led }))) }
+    {
+        if view.get() == u64::MAX {
+            return Ok(());
+        }
+        let next = view.next();
+        self.hand_on(next, next)?;
+        Ok(())
+    }
+
+    /// Offers the leader's proposal of a view: whether it is the first there. Behind an own nullify it is not taken.
+    pub(crate) fn forward(&mut self, view: View, proposal: &Proposal<D>) -> Result<bool, AllocError>
+        ensures keeps { OnOk result (AtEach S.Scheme self.old (λ f t. ((u : ℕ) → IsClosedAt (inherits_by f t) t.led u) → Holds S.Scheme f self.new (proposed f t view proposal.now))) }
+        ensures answer { IfOk result (λ first. AtEach S.Scheme self.old (λ f t. IsTrue first ↔ ((has_nullified (t.past view) ≡ false) × (held (offers (t.past view)) ≡ None)))) }
+    {
+        let first = self.rounds.forward(view, proposal)?;
+        self.noted.mark(view)?;
+        self.follow(view)?;
+        Ok(first)
+    }
+
+    /// Drops what is known of the views below the floor, and answers their rounds.
+    pub(crate) fn drop_below(
+        &mut self,
+        floor: View,
+    ) -> Result<BTreeMap<View, Round<S, D>>, AllocError>
+        ensures keeps { OnOk result (AtEach S.Scheme self.old (λ f t. Holds S.Scheme f self.new (forgotten floor t))) }
+        ensures dropped { IfOk result (λ rounds. AtEach S.Scheme self.old (λ f t. AreBelow S.key_of f.common floor rounds t.led t.past)) }
+    {
+        let dropped = self.rounds.drop_below(floor)?;
+        self.direct.forget_below(floor);
+        self.noted.forget_below(floor);
+        Ok(dropped)
+    }
+
     /// What is known of a view, where something is.
     pub(crate) fn round(&self, view: View) -> Option<&Round<S, D>>
         ensures { AtEach S.Scheme self.now (λ f t. MatchOption result ((t.past view ≡ []) × (t.led view ≡ None)) (λ r. IsTracked (t.past view) (t.led view) × one.Keeps S.key_of (setup_of f.common view) r.now (t.led view) (t.past view))) }
@@ -207,7 +253,7 @@ impl<S: Scheme<D> + Drop, D: Digest> Tracked<S, D> {
 }
 
 /// The later one of two views.
-fn later(one: View, other: View) -> View
+pub(crate) fn later(one: View, other: View) -> View
     ensures one { one ≤ result }
     ensures other { other ≤ result }
     ensures least { (view : ℕ) → one ≤ view → other ≤ view → result ≤ view }

@@ -1,20 +1,26 @@
 //! What a voter has learnt of its views.
 #![tactic(auto, unfolding(crate::specs::Views::Keeps))]
 
-ghost use Rattle.std.specs.Prelude.{◌≡◌, ◌↔◌, ◌<◌, ◌≤◌, if◌then◌else◌, ℕ, [], ◌∷◌, Some, None, IsTrue, IfOk, is_some};
-ghost use Rattle.simplex_types.specs.Positions.{HasRoom};
-ghost use Rattle.simplex_rules.specs.Windows.{Admits, Retains};
-ghost use Rattle.simplex_views.specs.History.{nullified, current, last_finalized, min_active, nullification, seen};
-ghost use Rattle.simplex_views.specs.Leaders.{leader};
-ghost use Rattle.simplex_views.specs.Progress.{InTime};
-ghost use Rattle.simplex_views.specs.Views.{Keeps, AtEach};
+mod learning;
+mod recalling;
+mod sending;
 
+ghost use Rattle.std.specs.Prelude.{◌≡◌, ◌↔◌, ◌<◌, ◌≤◌, ℕ, [], Some, IsTrue, IfOk, MatchOption, option_copied};
+ghost use Rattle.simplex_rules.specs.Windows.{Admits, Retains};
+ghost use Rattle.simplex_round.specs.Past as past;
+ghost use Rattle.simplex_round.specs.Round as one;
+ghost use Rattle.simplex_views.specs.History.{current, last_finalized, min_active, genesis, nullification, seen};
+ghost use Rattle.simplex_views.specs.Leaders.{leader};
+ghost use Rattle.simplex_views.specs.Views.{Keeps, AtEach, AreCoveredBetween, IsFirstUncovered, IsTracked, round_of};
+
+use crate::marks::Marks;
 use crate::progress::Progress;
 use crate::tracked::Tracked;
-use simplex_messages::Nullification;
+use simplex_messages::{Finalization, Notarization, Nullification};
 use simplex_record::Coverage;
+use simplex_round::Round;
 use simplex_rules::{Elector, Lookahead, Viewport};
-use simplex_types::{Digest, Epoch, Participant, Round, Scheme, View, ViewDelta, Viewable};
+use simplex_types::{Digest, Epoch, Participant, Proposal, Scheme, View, ViewDelta};
 use std::alloc::{AllocError, Global};
 use std::collections::BTreeMap;
 use std::rc::Rc;
@@ -31,6 +37,10 @@ pub struct Views<S: Scheme<D>, L: Elector<S, D>, D: Digest> {
     last_finalized: View,
     genesis: Option<D>,
     coverage: Coverage,
+    /// The views whose own notarize was made here, or recalled with its proposal.
+    backed: Marks,
+    /// The views whose verdict was put off.
+    waiting: Marks,
     /// The nullifications of dropped views that cover views above the last finalized one.
     reaching: BTreeMap<View, Nullification<S, D>>,
 }
@@ -72,6 +82,8 @@ impl<S: Scheme<D> + Drop, L: Elector<S, D>, D: Digest> Views<S, L, D> {
             last_finalized: View::zero(),
             genesis: None,
             coverage: Coverage::new(alloc),
+            backed: Marks::new(alloc),
+            waiting: Marks::new(alloc),
             reaching: BTreeMap::new(alloc),
         })
     }
@@ -147,49 +159,74 @@ impl<S: Scheme<D> + Drop, L: Elector<S, D>, D: Digest> Views<S, L, D> {
         self.progress.tracked.leader(view)
     }
 
-    /// Takes a nullification that certifies, and enters the next term: whether it is the first of its view. One of a view
-    /// without room is not taken.
-    ///
-    /// # Errors
-    ///
-    /// `AllocError` where memory ran out.
-    pub fn add_nullification(
-        &mut self,
-        now: u64,
-        certificate: Nullification<S, D>,
-    ) -> Result<bool, AllocError>
-        ensures keeps { IfOk result (λ new. AtEach S.Scheme L.leader self.old (λ s h. InTime s now → Keeps S.Scheme L.leader s self.new (if new then nullified now certificate ∷ h else h))) }
-        ensures answer { IfOk result (λ new. AtEach S.Scheme L.leader self.old (λ s h. IsTrue new ↔ (HasRoom s.length certificate.round.view × (nullification s h certificate.round.view ≡ None)))) }
+    /// The payload at the start, behind it.
+    pub fn genesis(&self) -> Option<D>
+        ensures { AtEach S.Scheme L.leader self.now (λ s h. result ≡ genesis h) }
     {
-        let view = certificate.view();
-        // The proof takes from the number that a term has at least one view.
-        let _views = self.lookahead.length.get();
-        if !view.has_room(self.lookahead.length) || self.is_nullified(view) {
-            return Ok(false);
-        }
-        let next = view.next_term_start(self.lookahead.length);
-        let leader = self.elector.elect(
-            Round::new(self.epoch, next),
-            Some(&certificate.certificate),
-        );
-        self.progress.enter(now, next)?;
-        self.progress.tracked.add_nullification(certificate)?;
-        self.progress.tracked.lead(next, leader, next)?;
-        self.coverage
-            .cover(view, view.term_end(self.lookahead.length))?;
-        Ok(true)
+        self.genesis
     }
 
-    /// Whether the nullification of the view is kept.
-    fn is_nullified(&self, view: View) -> bool
-        ensures { AtEach S.Scheme L.leader self.now (λ s h. result ≡ is_some (nullification s h view)) }
+    /// What is known of a view, where something is.
+    pub fn round(&self, view: View) -> Option<&Round<S, D>>
+        ensures { AtEach S.Scheme L.leader self.now (λ s h. MatchOption result ((seen s h view ≡ []) × (leader s h view ≡ None)) (λ r. IsTracked s h view × one.Keeps S.key_of (round_of s view) r.now (leader s h view) (seen s h view))) }
     {
-        if self.reaching.contains_key(&view) {
-            return true;
+        self.progress.tracked.round(view)
+    }
+
+    /// Whether something is known of the view.
+    pub fn is_tracked(&self, view: View) -> bool
+        ensures { AtEach S.Scheme L.leader self.now (λ s h. IsTrue result ↔ IsTracked s h view) }
+    {
+        self.progress.tracked.round(view).is_some()
+    }
+
+    /// The notarization of the view.
+    pub fn notarization(&self, view: View) -> Option<&Notarization<S, D>>
+        ensures { AtEach S.Scheme L.leader self.now (λ s h. option_copied result ≡ past.notarization (seen s h view)) }
+    {
+        match self.progress.tracked.round(view) {
+            Some(round) => round.notarization(),
+            None => None,
+        }
+    }
+
+    /// The nullification of the view: it stays behind a prune while its term ends above the last finalized view.
+    pub fn nullification(&self, view: View) -> Option<&Nullification<S, D>>
+        ensures { AtEach S.Scheme L.leader self.now (λ s h. option_copied result ≡ nullification s h view) }
+    {
+        if let Some(certificate) = self.reaching.get(&view) {
+            return Some(certificate);
         }
         match self.progress.tracked.round(view) {
-            Some(round) => round.nullification().is_some(),
-            None => false,
+            Some(round) => round.nullification(),
+            None => None,
         }
+    }
+
+    /// The finalization of the view.
+    pub fn finalization(&self, view: View) -> Option<&Finalization<S, D>>
+        ensures { AtEach S.Scheme L.leader self.now (λ s h. option_copied result ≡ past.finalization (seen s h view)) }
+    {
+        match self.progress.tracked.round(view) {
+            Some(round) => round.finalization(),
+            None => None,
+        }
+    }
+
+    /// The proposal of the view that may be forwarded: the held one where its certificates support a payload.
+    pub fn forwardable_proposal(&self, view: View) -> Option<Proposal<D>>
+        ensures { AtEach S.Scheme L.leader self.now (λ s h. result ≡ past.forwardable_proposal (seen s h view)) }
+    {
+        match self.progress.tracked.round(view) {
+            Some(round) => round.forwardable_proposal(),
+            None => None,
+        }
+    }
+
+    /// The first view after the parent and before the view that isn't covered, or `None` where each of them is.
+    pub fn first_uncovered(&self, parent: View, view: View) -> Option<View>
+        ensures { AtEach S.Scheme L.leader self.now (λ s h. MatchOption result (AreCoveredBetween s h parent view) (λ first. IsFirstUncovered s h parent view first)) }
+    {
+        self.coverage.first_uncovered(parent, view)
     }
 }

@@ -1,4 +1,3 @@
-use Rattle.std.proofs.Common.{refl, sym, ◌∙◌, ◌≡◌, ap, rules, arith, List, [], ◌∷◌, ℕ}
 use Rattle.simplex_round.specs.Past.{has_nullified}
 use Rattle.simplex_views.specs.Rounds.{Keep}
 use Rattle.simplex_views.proofs.Tables.{AreOpen-at, AreKept-unless, nullified_tracked}

@@ -1,5 +1,3 @@
-use Rattle.std.proofs.Common.{refl, sym, ◌∙◌, ◌≡◌, ap, rules, arith, List, [], ◌∷◌, ℕ}
-use Rattle.simplex_round.specs.Round as one
 use Rattle.simplex_views.specs.Rounds.{Keep}
 use Rattle.simplex_views.proofs.Tables.{AreOpen-at, AreKept-put}
 use Rattle.simplex_views.proofs.rounds.Rounds.latch.Goals as goal

@@ -1,5 +1,4 @@
-use Rattle.std.proofs.Common.{refl, sym, ◌∙◌, ◌≡◌, ap, rules, arith, List, [], ◌∷◌, ℕ}
-use Rattle.simplex_round.specs.Round as one
+use Rattle.std.proofs.Common.{refl, ◌∙◌}
 use Rattle.simplex_views.specs.Rounds.{Keep}
 use Rattle.simplex_views.proofs.Choices.{none_from_test}
 use Rattle.simplex_views.proofs.Tables.{AreOpen-new, AreOpen-there, same_setup}

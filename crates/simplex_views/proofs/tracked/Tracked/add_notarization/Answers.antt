@@ -1,5 +1,4 @@
-use Rattle.std.proofs.Common.{refl, sym, ◌∙◌, ℕ, List}
-use Rattle.simplex_views.specs.History.{put, is_direct}
+use Rattle.std.proofs.Common.{◌∙◌}
 use Rattle.simplex_views.specs.Marks.{Shows}
 use Rattle.simplex_views.specs.Tracked.{Holds, direct}
 use Rattle.simplex_views.proofs.Entering.{put-notarized}

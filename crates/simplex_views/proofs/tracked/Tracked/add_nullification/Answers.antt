@@ -1,6 +1,6 @@
-use Rattle.std.proofs.Common.{refl, sym, ◌∙◌, ℕ, List}
+use Rattle.std.proofs.Common.{refl, sym, ◌∙◌}
 use Rattle.simplex_round.specs.Past.{nullified}
-use Rattle.simplex_views.specs.History.{put, is_direct}
+use Rattle.simplex_views.specs.History.{is_direct}
 use Rattle.simplex_views.specs.Marks.{Shows}
 use Rattle.simplex_views.specs.Tracked.{Holds}
 use Rattle.simplex_views.proofs.Entering.{put-fact}

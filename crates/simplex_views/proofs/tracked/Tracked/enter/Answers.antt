@@ -1,4 +1,4 @@
-use Rattle.std.proofs.Common.{refl, sym, ◌∙◌, ℕ, List}
+use Rattle.std.proofs.Common.{refl, sym, ◌∙◌}
 use Rattle.simplex_round.specs.Past.{entered, armed}
 use Rattle.simplex_views.specs.History.{put, is_direct}
 use Rattle.simplex_views.specs.Marks.{Shows}

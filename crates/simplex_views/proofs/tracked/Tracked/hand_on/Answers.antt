@@ -1,6 +1,6 @@
-use Rattle.std.proofs.Common.{◌≡◌, ◌≤◌, ◌<◌, ◌+◌, ◌-◌, ◌^◌, refl, sym, ◌∙◌, arith, ℕ}
+use Rattle.std.proofs.Common.{◌+◌, ◌∙◌, arith}
 use Rattle.std.proofs.lemmas.Bool.Decides.{nat_tests}
-use Rattle.simplex_views.specs.Tracked.{Tables, Holds, inherits_by, handed_on}
+use Rattle.simplex_views.specs.Tracked.{Holds, inherits_by, handed_on}
 use Rattle.simplex_views.specs.Leaders.{extend}
 use Rattle.simplex_views.proofs.Leading.{Holds-led, handed-on-next, handed-on-all, handed-on-still, handed-on-within}
 use Rattle.simplex_views.proofs.tracked.Tracked.hand_on.Goals as goal
@@ -29,7 +29,8 @@ returns-then-le g c = λ f t k here known b.
     let still = c.in_ok-learnt.ensures.answer f (record t { led = handed_on here (inherits_by f t) known c.views.view }) so_far c.if-not-learnt.true in
     Holds-led (extend here (inherits_by f t) known) kept
     (λ u fits. handed-on-next here (inherits_by f t) known c.views.view none u
-    ∙ handed-on-all here (inherits_by f t) known c.args.first c.args.last c.views.view c.views.invariant.after (grind (arith, nat_tests, c.le.ensures, c.if-le.true)) b.unnamed b.closed (handed-on-still here (inherits_by f t) known c.views.view none still) u)
+    ∙ handed-on-all here (inherits_by f t) known c.args.first c.args.last c.views.view u c.views.invariant.after (grind (arith, nat_tests, c.le.ensures, c.if-le.true)) b.unnamed
+    (λ w from below. b.closed w from (omega (arith, below, fits))) (handed-on-still here (inherits_by f t) known c.views.view none still))
 
 pub returns : goal.returns
 unfolding Holds

@@ -1,4 +1,4 @@
-use Rattle.std.proofs.Common.{◌≡◌, ◌≤◌, ◌-◌, ◌^◌, ℕ}
+use Rattle.std.proofs.Common.{◌≤◌, ◌-◌, ◌^◌, ℕ}
 use Rattle.std.specs.Prelude.{Option}
 use Rattle.simplex_views.specs.Tracked.{Frame, Tables, Holds, IsBegun, inherits_by, handed_on}
 use Rattle.simplex_views.proofs.tracked.Tracked.hand_on.Given as goal

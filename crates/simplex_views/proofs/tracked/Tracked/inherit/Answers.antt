@@ -1,8 +1,6 @@
-use Rattle.std.proofs.Common.{◌≡◌, ◌-◌, ◌==◌, true, false, ⊎_elim, refl, sym, ◌∙◌, arith, ℕ, if◌then◌else◌}
-use Rattle.std.specs.Prelude.{Option, Some, None}
-use Rattle.std.specs.Option.{option_or}
-use Rattle.std.proofs.lemmas.Bool.{cases_eq, false_from_ne_true}
-use Rattle.std.proofs.lemmas.Grind.{common_steps}
+use Rattle.std.proofs.Common.{◌≡◌, ◌-◌, true, false, sym}
+use Rattle.std.specs.Prelude.{Some, None}
+use Rattle.std.proofs.lemmas.Bool.{false_from_ne_true}
 use Rattle.simplex_views.specs.Tracked.{Holds, inherits_by}
 use Rattle.simplex_views.proofs.Choices.{false_is_not}
 use Rattle.simplex_views.proofs.Tables.{learn-members}

@@ -1,4 +1,4 @@
-use Rattle.std.proofs.Common.{◌≡◌, ◌≤◌, ◌-◌, ◌∙◌, ⊎_elim, true, inl, inr, arith}
+use Rattle.std.proofs.Common.{◌≡◌, ◌-◌, ◌∙◌, ⊎_elim, true, inl, inr}
 use Rattle.simplex_types.specs.Positions.{term_start}
 use Rattle.simplex_rules.specs.Windows.{issuance_floor}
 use Rattle.simplex_views.specs.Tracked.{Holds, direct, is_spoken}

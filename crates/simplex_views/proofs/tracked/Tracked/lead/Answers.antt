@@ -1,5 +1,5 @@
-use Rattle.std.proofs.Common.{◌≡◌, ◌≤◌, ◌+◌, ◌==◌, false, refl, sym, ◌∙◌, inl, inr, arith, ℕ, if◌then◌else◌}
-use Rattle.std.specs.Prelude.{Option, Some, None}
+use Rattle.std.proofs.Common.{◌==◌, refl, inl, inr, arith, if◌then◌else◌}
+use Rattle.std.specs.Prelude.{Some, None}
 use Rattle.simplex_views.specs.Rounds.{learn}
 use Rattle.simplex_views.specs.Tracked.{Holds, inherits_by}
 use Rattle.simplex_views.proofs.Tables.{learn-members}
@@ -20,7 +20,7 @@ returns g c = λ f t k some member closed.
     })
     (λ u. if u == c.args.first then Some c.args.leader else None) t.led
     (record {
-      led = λ u. rw c.next.ensures (named-first c.args.first c.args.leader (inherits_by f t) t.led some (λ v lt. closed v (inl lt)) u);
+      led = λ u. rw c.next.ensures (named-first c.args.first c.args.leader (inherits_by f t) t.led some (λ v lt. closed v (inl lt) (omega (arith, lt, c.requires))) u);
       unnamed = λ u le. rw (behind_first c.args.first c.next.result u c.next.ensures le) refl;
-      closed = λ u le. closed u (inr le);
+      closed = λ u le fits. closed u (inr le) fits;
     })

@@ -1,15 +1,15 @@
-use Rattle.std.proofs.Common.{suc, refl, sym, ◌∙◌, ◌≡◌, ◌<◌, ◌≤◌, ap, arith, List, ℕ, max}
-use Rattle.std.specs.Prelude.{Option, Some, None, ◌||◌}
+use Rattle.std.proofs.Common.{suc, refl, sym, ◌∙◌, ◌≡◌, ap, arith}
+use Rattle.std.specs.Prelude.{Some, None, ◌||◌}
 use Rattle.std.specs.Ordering.{nat_cmp}
 use Rattle.std.specs.BTreeMap.{get}
-use Rattle.simplex_types.specs.Positions.{next_term_start, term_end, HasRoom}
+use Rattle.simplex_types.specs.Positions.{next_term_start}
 use Rattle.simplex_round.specs.Past.{has_notarized}
 use Rattle.simplex_round.specs.Past as past
 use Rattle.simplex_views.specs.History.{current, seen, put, enter, is_direct, nullification}
-use Rattle.simplex_views.specs.Leaders.{leader, was_forwarded}
+use Rattle.simplex_views.specs.Leaders.{was_forwarded}
 use Rattle.simplex_views.specs.Progress.{frame_of, tables}
 use Rattle.simplex_views.specs.Views.{Keeps}
-use Rattle.simplex_views.proofs.Choices.{none_from_test, or_neither}
+use Rattle.simplex_views.proofs.Choices.{copied-none, or_neither}
 use Rattle.simplex_views.proofs.Covering.{term_end-above, covered-next}
 use Rattle.simplex_views.proofs.Entering.{put-fact, enter-fact, inherits-same, nullification-next}
 use Rattle.simplex_views.proofs.Following.{leader-closed, nullified-at}
@@ -25,7 +25,7 @@ returns-clause-keeps g c = λ s h k time.
     let next : c.next_term_start-next.result ≡ next_term_start s.length at = rw (← k.length, ← c.view-view.ensures) c.next_term_start-next.ensures in
     let round : c.new.result ≡ record { epoch = s.epoch; view = c.next_term_start-next.result } = λ i. record { epoch = (c.new.ensures.epoch ∙ k.epoch) i; view = c.new.ensures.view i } in
     let led : c.elect-leader.result ≡ s.elect c.next_term_start-next.result (Some c.args.certificate.certificate) = rw round at c.elect-leader.ensures ∙ k.elects c.next_term_start-next.result (Some c.args.certificate.certificate) in
-    let new : nullification s h at ≡ None = none_from_test (rw c.view-view.ensures at (c.if-is_nullified.ensures s h k)) in
+    let new : nullification s h at ≡ None = copied-none c.nullification.result (rw c.view-view.ensures at (c.nullification.ensures s h k)) c.if-is_some.ensures in
     let fresh : past.nullification (seen s h at) ≡ None = or_neither (get nat_cmp c.args.self.now.reaching at) (past.nullification (seen s h at)) (sym (k.nullifications at) ∙ new) in
     let entered = c.in_ok-enter.ensures s (current s h) (tables s h) k.progress time in
     let inside = enter s (current s h) c.args.now c.next_term_start-next.result (seen s h) in
@@ -33,7 +33,7 @@ returns-clause-keeps g c = λ s h k time.
     let added = c.in_ok-add_nullification.ensures (frame_of s) (record (tables s h) { past = inside }) entered.tracked unseen in
     let then = record (tables s h) { past = put at (past.nullified c.args.certificate) inside } in
     let handed = c.in_ok-lead.ensures (frame_of s) then added (omega (arith, next)) (rw led (k.members _ _))
-    (λ u _ so. leader-closed s h u (inherits-same (frame_of s) (tables s h) then
+    (λ u _ _ so. leader-closed s h u (inherits-same (frame_of s) (tables s h) then
     (λ w. sym (put-fact is_direct (past.nullified c.args.certificate) (λ l. refl) at inside w ∙ enter-fact is_direct (λ m l. refl) (λ a b o l. refl) s (current s h) c.args.now c.next_term_start-next.result (seen s h) w))
     (λ w. ap (λ b. was_forwarded s h w || b) (sym (put-fact has_notarized (past.nullified c.args.certificate) (λ l. refl) at inside w ∙ enter-fact has_notarized (λ m l. refl) (λ a b o l. refl) s (current s h) c.args.now c.next_term_start-next.result (seen s h) w)))
     (suc u) ∙ so)) in
@@ -56,5 +56,7 @@ returns-clause-keeps g c = λ s h k time.
       last_finalized = k.last_finalized;
       genesis = k.genesis;
       coverage = λ w. covered-next s h c.args.now c.args.certificate _ _ w (rw (← k.length) c.get-views.ensures.at_least_one) (rw (← k.length, ← c.view-view.ensures, ← c.term_end.ensures) (c.in_ok-cover.ensures.ok w)) (k.coverage w);
+      backed = k.backed;
+      waiting = k.waiting;
       nullifications = λ w. nullification-next s (current s h) c.args.now (next_term_start s.length at) c.args.certificate at (seen s h) (nullification s h) (λ v. get nat_cmp c.args.self.now.reaching v) w (k.nullifications w);
     }

@@ -1,11 +1,11 @@
-use Rattle.std.proofs.Common.{◌≡◌, refl, ap, ◌∙◌, ℕ}
-use Rattle.std.specs.Prelude.{Option}
+use Rattle.std.proofs.Common.{◌≡◌, refl, ap, ◌∙◌}
 use Rattle.simplex_rules.specs.Terms.{Timing}
+use Rattle.simplex_views.specs.Marks.{Shows}
 use Rattle.simplex_views.specs.Views.{Keeps}
 use Rattle.simplex_views.proofs.views.Views.new.Goals as goal
 
 pub returns : goal.returns
-unfolding Keeps
+unfolding Keeps Shows
 returns g c = λ retry budget.
     let length : c.new.result.length ≡ (g.L.Elector.terms_of c.args.elector).length = c.new.ensures.length ∙ ap (λ (t : Timing). t.length) c.terms-terms.ensures in
     let optimistic : c.new.result.optimistic_views ≡ (g.L.Elector.terms_of c.args.elector).optimistic_views = c.new.ensures.optimistic_views ∙ ap (λ (t : Timing). t.optimistic_views) c.terms-terms.ensures in
@@ -28,5 +28,7 @@ returns g c = λ retry budget.
       last_finalized = c.zero-2.ensures;
       genesis = refl;
       coverage = λ view. (λ is. absurd (c.new-3.ensures view is), λ there. absurd (cc there.2));
-      nullifications = λ view. rw c.new-4.ensures.empty refl;
+      backed = c.new-4.ensures;
+      waiting = c.new-5.ensures;
+      nullifications = λ view. rw c.new-6.ensures.empty refl;
     }

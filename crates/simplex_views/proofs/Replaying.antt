@@ -1,0 +1,219 @@
+-- What an artifact of a record leaves of the voter.
+use Rattle.std.proofs.Common.{◌≡◌, ◌-◌, ◌==◌, ℕ, suc, true, false, List, ◌∷◌, refl, sym, ap, subst, ◌∙◌, arith, if◌then◌else◌}
+use Rattle.std.specs.Prelude.{Option, Some, None, Bool, ◌||◌, ⊤}
+use Rattle.std.specs.Option.{option_or}
+use Rattle.std.specs.Ordering.{nat_cmp}
+use Rattle.std.specs.BTreeMap.{get}
+use Rattle.simplex_types.specs.declared.position.Round.{Round}
+use Rattle.simplex_types.specs.declared.proposal.Proposal.{Proposal}
+use Rattle.simplex_types.specs.declared.scheme.Scheme.{Ghosts}
+use Rattle.simplex_messages.specs.declared.artifact.Artifact.{Artifact}
+use Rattle.simplex_messages.specs.declared.artifact.Artifact.TheVariants as artifact
+use Rattle.simplex_rules.specs.declared.kind.Kind.TheVariants as kind
+use Rattle.simplex_round.specs.Held.{recorded}
+use Rattle.simplex_round.specs.Past as past
+use Rattle.simplex_round.specs.Past.{Item, has_notarized}
+use Rattle.simplex_messages.specs.ProposalVote.{Notarize}
+use Rattle.simplex_views.specs.declared.marks.Marks.{Marks}
+use Rattle.simplex_views.specs.declared.rounds.Rounds.{Rounds}
+use Rattle.simplex_views.specs.declared.tracked.Tracked.{Tracked}
+use Rattle.simplex_views.specs.declared.views.Views.{Views}
+use Rattle.simplex_views.specs.History as History
+use Rattle.simplex_views.specs.History.{Setup, Point, bind, current, is_direct, is_marked, put, seen, undecided_payload}
+use Rattle.simplex_views.specs.Known.{backs}
+use Rattle.simplex_views.specs.Leaders.{leader, was_forwarded}
+use Rattle.simplex_views.specs.Marks.{Shows}
+use Rattle.simplex_views.specs.Progress.{frame_of, tables}
+use Rattle.simplex_views.specs.Rounds.{Keep, recalled}
+use Rattle.simplex_views.specs.Tracked.{Tables, IsClosedAt, Holds, inherits_by, is_spoken}
+use Rattle.simplex_views.specs.Views.{IsKept, recalls}
+use Rattle.simplex_views.proofs.Entering.{put-fact}
+use Rattle.simplex_views.proofs.Following.{leader-closed}
+use Rattle.simplex_views.proofs.Leading.{inherits-less}
+use Rattle.simplex_views.proofs.Stepping.{IsQuiet, sent-quiet}
+
+module _ {S D P G C : Type 0} where
+  -- what is offered, or bound, changes no other fact
+  taken-fact : {X : Type 0} (q : List (Item S D P G C) → X) (x : Item S D P G C) → ((l : List (Item S D P G C)) → q (x ∷ l) ≡ q l)
+      → (b : Bool) (view : ℕ) (t : ℕ → List (Item S D P G C)) (u : ℕ) → q ((if b then put view x t else t) u) ≡ q (t u)
+  taken-fact q x same true view t u = put-fact q x same view t u
+  taken-fact q x same false view t u = refl
+
+  bind-fact : {X : Type 0} (q : List (Item S D P G C) → X) → ((p : Proposal D) (payload : D) (l : List (Item S D P G C)) → q (past.bound p payload ∷ l) ≡ q l)
+      → (o : Option D) (p : Proposal D) (t : ℕ → List (Item S D P G C)) (u : ℕ) → q (bind o p t u) ≡ q (t u)
+  bind-fact q same None p t u = refl
+  bind-fact q same (Some payload) p t u = put-fact q (past.bound p payload) (same p payload) p.round.view t u
+
+  -- what happened to each view behind an own notarize
+  abbrev pub recalled-past : Option D → Proposal D → Bool → (ℕ → List (Item S D P G C)) → ℕ → List (Item S D P G C)
+  recalled-past o p taken t = bind o p (put p.round.view past.voted_notarize (if taken then put p.round.view (past.offered (recorded p)) t else t))
+
+  recalled-fact : {X : Type 0} (q : List (Item S D P G C) → X) → ((p : Proposal D) (payload : D) (l : List (Item S D P G C)) → q (past.bound p payload ∷ l) ≡ q l)
+      → ((l : List (Item S D P G C)) → q (past.voted_notarize ∷ l) ≡ q l) → ((p : Proposal D) (l : List (Item S D P G C)) → q (past.offered (recorded p) ∷ l) ≡ q l)
+      → (o : Option D) (p : Proposal D) (taken : Bool) (t : ℕ → List (Item S D P G C)) (u : ℕ) → q (recalled-past o p taken t u) ≡ q (t u)
+  recalled-fact q bound voted offered o p taken t u =
+      bind-fact q bound o p (put p.round.view past.voted_notarize (if taken then put p.round.view (past.offered (recorded p)) t else t)) u
+      ∙ put-fact q past.voted_notarize voted p.round.view (if taken then put p.round.view (past.offered (recorded p)) t else t) u
+      ∙ taken-fact q (past.offered (recorded p)) (offered p) taken p.round.view t u
+
+  recalled-votes : (o : Option D) (p : Proposal D) (taken : Bool) (t : ℕ → List (Item S D P G C)) (u : ℕ) → (p.round.view == u) ≡ false
+      → has_notarized (recalled-past o p taken t u) ≡ has_notarized (t u)
+  recalled-votes o p taken t u apart =
+      bind-fact has_notarized (λ p payload l. refl) o p (put p.round.view past.voted_notarize (if taken then put p.round.view (past.offered (recorded p)) t else t)) u
+      ∙ rw apart (taken-fact has_notarized (past.offered (recorded p)) (λ l. refl) taken p.round.view t u)
+
+module _ {S D P G C : Type 0} (s : Setup S C) (h : List (Point S D P G C)) (p : Proposal D) (taken : Bool) where
+  -- what is known of each view then, but for leaders that are handed on
+  abbrev pub recalled-tables : Tables S D P G C
+  recalled-tables = record { led = leader s h; past = recalled-past (undecided_payload (seen s h p.parent)) p taken (seen s h); noted = was_forwarded s h }
+
+  pub recalled-direct : (u : ℕ) → is_direct (recalled-past (undecided_payload (seen s h p.parent)) p taken (seen s h) u) ≡ is_direct (seen s h u)
+  recalled-direct u = recalled-fact is_direct (λ p payload l. refl) (λ l. refl) (λ p l. refl) (undecided_payload (seen s h p.parent)) p taken (seen s h) u
+
+  pub recalled-nullification : (u : ℕ) → past.nullification (recalled-past (undecided_payload (seen s h p.parent)) p taken (seen s h) u) ≡ past.nullification (seen s h u)
+  recalled-nullification u = recalled-fact past.nullification (λ p payload l. refl) (λ l. refl) (λ p l. refl) (undecided_payload (seen s h p.parent)) p taken (seen s h) u
+
+  -- behind another view nothing is left to be handed on
+  pub recalled-closed : (u : ℕ) → (p.round.view == u) ≡ false → IsClosedAt (inherits_by (frame_of s) recalled-tables) (leader s h) u
+  recalled-closed u apart so =
+      let back : suc u - 1 ≡ u = omega arith in
+      let votes = recalled-votes (undecided_payload (seen s h p.parent)) p taken (seen s h) u apart in
+      leader-closed s h u (inherits-less (frame_of s) (tables s h) recalled-tables (suc u)
+      (λ w _ _ d. sym (recalled-direct w) ∙ d)
+      (λ spoken. subst (λ n. is_spoken (tables s h) n ≡ true) (sym back) (ap (λ b. was_forwarded s h u || b) (sym votes) ∙ subst (λ n. is_spoken recalled-tables n ≡ true) back spoken))
+      so)
+
+module _ {S D P G C : Type 0} (g : Ghosts S D P G C) (s : Setup S C) (h : List (Point S D P G C)) (x : Tracked S D P G C) where
+  -- the rounds stand where the own notarize leads
+  pub recalled-holds : (p : Proposal D) (taken : Bool) (r : Rounds S D P G C) → Holds g (frame_of s) x (tables s h)
+      → Keep g.key_of (frame_of s).common r (leader s h) (recalled-past (undecided_payload (seen s h p.parent)) p taken (seen s h)) → Holds g (frame_of s) (record x { rounds = r }) (recalled-tables s h p taken)
+  unfolding Holds Shows
+  recalled-holds p taken r k kept = record {
+    length = k.length;
+    optimistic_views = k.optimistic_views;
+    rounds = kept;
+    direct = λ u. k.direct u ∙ sym (recalled-direct s h p taken u);
+    noted = k.noted;
+    members = k.members;
+  }
+
+module _ {S L D P G C : Type 0} {g : Ghosts S D P G C} {leads : L → Round → Option C → ℕ} {s : Setup S C} {v : Views S L D P G C} {h : List (Point S D P G C)} where
+  -- the voter stands where the own notarize leads
+  pub recalled-notarize : (p : Proposal D) (taken : Bool) (x : Tracked S D P G C) (marks : Marks) → IsKept g leads s v h
+      → Holds g (frame_of s) x (tables s (History.recalled_notarize p taken ∷ h)) → Shows marks (is_marked s backs (History.recalled_notarize p taken ∷ h))
+      → IsKept g leads s (record v { progress = record v.progress { tracked = x }; backed = marks }) (History.recalled_notarize p taken ∷ h)
+  recalled-notarize p taken x marks k holds backed = record {
+    scheme = k.scheme;
+    me = k.me;
+    epoch = k.epoch;
+    length = k.length;
+    optimistic_views = k.optimistic_views;
+    retention = k.retention;
+    elects = k.elects;
+    members = k.members;
+    progress = record {
+      view = k.progress.view;
+      leader_timeout = k.progress.leader_timeout;
+      certification_timeout = k.progress.certification_timeout;
+      stall_timeout = k.progress.stall_timeout;
+      tracked = holds;
+    };
+    last_finalized = k.last_finalized;
+    genesis = k.genesis;
+    coverage = k.coverage;
+    backed = backed;
+    waiting = k.waiting;
+    nullifications = λ u. k.nullifications u ∙ ap (λ n. option_or (get nat_cmp v.reaching u) n) (sym (recalled-nullification s h p taken u));
+  }
+
+module _ {S D P G C : Type 0} where
+  -- an artifact is no own notarize
+  abbrev pub IsOther : Artifact S D P G C → Type 0
+  IsOther (artifact.Notarize v) = ⊥
+  IsOther x = ⊤
+
+  pub is-other : (a : Artifact S D P G C) → ((v : Notarize S D P G C) → ¬ (a ≡ artifact.Notarize v)) → IsOther a
+  is-other (artifact.Notarize v) never = never v refl
+  is-other (artifact.Notarization c) never = tt
+  is-other (artifact.Certification round ok) never = tt
+  is-other (artifact.Nullify v) never = tt
+  is-other (artifact.Nullification c) never = tt
+  is-other (artifact.Finalize v) never = tt
+  is-other (artifact.Finalization c) never = tt
+
+module _ {S D P G C : Type 0} (s : Setup S C) (h : List (Point S D P G C)) where
+  verdict-quiet : (view : ℕ) (ok : Bool) → IsQuiet s h (History.recalled_verdict view ok)
+  verdict-quiet view ok = record {
+    finalizes = refl;
+    begins = refl;
+    covers = λ u. refl;
+    nullifies = λ u. refl;
+    notes = λ u. refl;
+    backs_none = λ u. refl;
+    waits_none = λ u. refl;
+    leads = refl;
+    nobody = λ u. refl;
+    kept_nullification = put-fact past.nullification (past.judged ok) (λ l. refl) view (seen s h);
+    certificates = put-fact is_direct (past.judged ok) (λ l. refl) view (seen s h);
+    votes = put-fact has_notarized (past.judged ok) (λ l. refl) view (seen s h);
+  }
+
+  nullify-quiet : (view : ℕ) → IsQuiet s h (History.recalled_nullify view)
+  nullify-quiet view = record {
+    finalizes = refl;
+    begins = refl;
+    covers = λ u. refl;
+    nullifies = λ u. refl;
+    notes = λ u. refl;
+    backs_none = λ u. refl;
+    waits_none = λ u. refl;
+    leads = refl;
+    nobody = λ u. refl;
+    kept_nullification = put-fact past.nullification (past.voted_nullify) (λ l. refl) view (seen s h);
+    certificates = put-fact is_direct (past.voted_nullify) (λ l. refl) view (seen s h);
+    votes = put-fact has_notarized (past.voted_nullify) (λ l. refl) view (seen s h);
+  }
+
+  finalize-quiet : (p : Proposal D) → IsQuiet s h (History.recalled_finalize p)
+  finalize-quiet p = record {
+    finalizes = refl;
+    begins = refl;
+    covers = λ u. refl;
+    nullifies = λ u. refl;
+    notes = λ u. refl;
+    backs_none = λ u. refl;
+    waits_none = λ u. refl;
+    leads = refl;
+    nobody = λ u. refl;
+    kept_nullification = put-fact past.nullification (past.voted_finalize) (λ l. refl) p.round.view (seen s h);
+    certificates = put-fact is_direct (past.voted_finalize) (λ l. refl) p.round.view (seen s h);
+    votes = put-fact has_notarized (past.voted_finalize) (λ l. refl) p.round.view (seen s h);
+  }
+
+  -- what such an artifact leaves is what its point does
+  pub other-quiet : (a : Artifact S D P G C) → IsOther a → (taken : Bool) → IsQuiet s h (recalls taken a)
+  other-quiet (artifact.Notarize v) other taken = absurd other
+  other-quiet (artifact.Notarization c) other taken = sent-quiet s h kind.Notarization c.proposal.round.view
+  other-quiet (artifact.Certification round ok) other taken = verdict-quiet round.view ok
+  other-quiet (artifact.Nullify v) other taken = nullify-quiet v.round.view
+  other-quiet (artifact.Nullification c) other taken = sent-quiet s h kind.Nullification c.round.view
+  other-quiet (artifact.Finalize v) other taken = finalize-quiet v.proposal
+  other-quiet (artifact.Finalization c) other taken = sent-quiet s h kind.Finalization c.proposal.round.view
+
+  pub other-seen : (a : Artifact S D P G C) → IsOther a → (taken : Bool) → recalled taken a (seen s h) ≡ seen s (recalls taken a ∷ h)
+  other-seen (artifact.Notarize v) other taken = absurd other
+  other-seen (artifact.Notarization c) other taken = refl
+  other-seen (artifact.Certification round ok) other taken = refl
+  other-seen (artifact.Nullify v) other taken = refl
+  other-seen (artifact.Nullification c) other taken = refl
+  other-seen (artifact.Finalize v) other taken = refl
+  other-seen (artifact.Finalization c) other taken = refl
+
+  pub other-stays : (a : Artifact S D P G C) → IsOther a → (taken : Bool) → current s (recalls taken a ∷ h) ≡ current s h
+  other-stays (artifact.Notarize v) other taken = absurd other
+  other-stays (artifact.Notarization c) other taken = refl
+  other-stays (artifact.Certification round ok) other taken = refl
+  other-stays (artifact.Nullify v) other taken = refl
+  other-stays (artifact.Nullification c) other taken = refl
+  other-stays (artifact.Finalize v) other taken = refl
+  other-stays (artifact.Finalization c) other taken = refl

@@ -1,0 +1,56 @@
+use Rattle.std.proofs.Common.{refl, sym, ◌∙◌, ◌≡◌, ◌+◌, ap, arith, ⊎_elim, inl, inr}
+use Rattle.std.specs.Prelude.{Some, None}
+use Rattle.std.specs.Option.{option_or}
+use Rattle.std.specs.Ordering.{nat_cmp}
+use Rattle.std.specs.BTreeMap.{get}
+use Rattle.simplex_round.specs.Past.{has_notarized}
+use Rattle.simplex_round.specs.Past as past
+use Rattle.simplex_views.specs.History.{seen, put}
+use Rattle.simplex_views.specs.Progress.{frame_of, tables}
+use Rattle.simplex_views.specs.Views.{Keeps}
+use Rattle.simplex_views.proofs.Choices.{copied-none}
+use Rattle.simplex_views.proofs.Entering.{put-fact}
+use Rattle.simplex_views.proofs.Following.{notarized-at}
+use Rattle.simplex_views.proofs.Stepping.{reached-closed}
+use Rattle.simplex_views.proofs.views.Views.add_notarization.Goals as goal
+
+pub returns-clause-keeps : goal.returns-clause-keeps
+unfolding Keeps
+returns-clause-keeps g c = λ s h k.
+    let at = c.args.certificate.proposal.round.view in
+    let next : c.next-next.result ≡ at + 1 = rw (← c.view-view.ensures) c.next-next.ensures in
+    let round : c.new.result ≡ record { epoch = s.epoch; view = c.next-next.result } = λ i. record { epoch = (c.new.ensures.epoch ∙ k.epoch) i; view = c.new.ensures.view i } in
+    let led : c.elect-leader.result ≡ s.elect c.next-next.result (Some c.args.certificate.certificate) = rw round at c.elect-leader.ensures ∙ k.elects c.next-next.result (Some c.args.certificate.certificate) in
+    let fresh : past.notarization (seen s h at) ≡ None = copied-none c.notarization.result (rw c.view-view.ensures at (c.notarization.ensures s h k)) c.if-is_some.ensures in
+    let grown = put at (past.notarized c.args.certificate) (seen s h) in
+    let added = c.in_ok-key.ensures.keeps (frame_of s) (tables s h) k.progress.tracked fresh in
+    let table = record (tables s h) { past = grown } in
+    let handed = c.in_ok-lead.ensures (frame_of s) table added (omega (arith, next)) (rw led (k.members _ _))
+    (λ u far fits. reached-closed s h grown at
+    (λ w apart. rw apart refl)
+    (λ w. put-fact has_notarized (past.notarized c.args.certificate) (λ l. refl) at (seen s h) w)
+    u
+    (⊎_elim (λ lt. inl (omega (arith, lt, next))) (λ le. inr (rw (← c.view-view.ensures) (c.last_reached-last.ensures (frame_of s) table added u le fits))) far)) in
+    record {
+      scheme = k.scheme;
+      me = k.me;
+      epoch = k.epoch;
+      length = k.length;
+      optimistic_views = k.optimistic_views;
+      retention = k.retention;
+      elects = k.elects;
+      members = k.members;
+      progress = record {
+        view = k.progress.view;
+        leader_timeout = k.progress.leader_timeout;
+        certification_timeout = k.progress.certification_timeout;
+        stall_timeout = k.progress.stall_timeout;
+        tracked = notarized-at g.S.Scheme _ s h c.args.certificate c.next-next.result c.elect-leader.result next led handed;
+      };
+      last_finalized = k.last_finalized;
+      genesis = k.genesis;
+      coverage = k.coverage;
+      backed = k.backed;
+      waiting = k.waiting;
+      nullifications = λ w. k.nullifications w ∙ ap (λ n. option_or (get nat_cmp c.args.self.now.reaching w) n) (sym (put-fact past.nullification (past.notarized c.args.certificate) (λ l. refl) at (seen s h) w));
+    }

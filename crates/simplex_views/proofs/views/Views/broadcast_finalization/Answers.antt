@@ -1,0 +1,42 @@
+use Rattle.std.proofs.Common.{refl, ◌≡◌, []}
+use Rattle.std.specs.Prelude.{is_some}
+use Rattle.simplex_rules.specs.declared.kind.Kind.TheVariants as kind
+use Rattle.simplex_round.specs.Past as past
+use Rattle.simplex_views.specs.History as History
+use Rattle.simplex_views.specs.History.{seen}
+use Rattle.simplex_views.specs.Rounds.{Keep}
+use Rattle.simplex_views.specs.Tracked.{Holds}
+use Rattle.simplex_views.specs.Views.{Keeps}
+use Rattle.simplex_views.proofs.Choices.{some-is}
+use Rattle.simplex_views.proofs.Stepping.{quiet-if, sent-quiet}
+use Rattle.simplex_views.proofs.Tables.{AreOpen-at, AreOpen-there, AreKept-if, AreKept-tracked, AreKept-untracked}
+use Rattle.simplex_views.proofs.views.Views.broadcast_finalization.Goals as goal
+
+pub returns-in_ok-broadcast_finalization-in-Some-clause-keeps : goal.returns-in_ok-broadcast_finalization-in-Some-clause-keeps
+unfolding Keeps Holds Keep
+returns-in_ok-broadcast_finalization-in-Some-clause-keeps g c = λ s h k.
+    let rounds = k.progress.tracked.rounds in
+    let fits = c.get-number.ensures.fits in
+    let found = c.in-Some.ensures.value in
+    let opened = AreOpen-there c.args.view rounds.rounds fits (some-is found) in
+    let kept = c.in_ok-broadcast_finalization-in-Some.ensures.keeps _ _ _ (AreOpen-at opened found) in
+    let held = c.get_mut.follows.holds c.broadcast_finalization.new.self in
+    quiet-if (is_some c.in_ok-broadcast_finalization-in-Some.field-0) (History.sent kind.Finalization c.args.view) _ k (sent-quiet s h kind.Finalization c.args.view) refl
+    (record {
+      scheme = rounds.scheme;
+      epoch = rounds.epoch;
+      rounds = AreKept-if c.args.view past.sent_finalization (is_some c.in_ok-broadcast_finalization-in-Some.field-0) opened (held.3 (some-is found)) kept (AreKept-tracked c.args.view rounds.rounds fits found);
+    })
+
+pub returns-in_ok-broadcast_finalization-in-Some-clause-answer : goal.returns-in_ok-broadcast_finalization-in-Some-clause-answer
+unfolding Keeps Holds Keep
+returns-in_ok-broadcast_finalization-in-Some-clause-answer g c = λ s h k.
+    let rounds = k.progress.tracked.rounds in
+    let found = c.in-Some.ensures.value in
+    c.in_ok-broadcast_finalization-in-Some.ensures.answer _ _ _ (AreOpen-at (AreOpen-there c.args.view rounds.rounds c.get-number.ensures.fits (some-is found)) found)
+
+pub returns-in-None-clause-answer : goal.returns-in-None-clause-answer
+unfolding Keeps Holds Keep
+returns-in-None-clause-answer g c = λ s h k.
+    let nothing : seen s h c.args.view ≡ [] = AreKept-untracked c.args.view k.progress.tracked.rounds.rounds c.get-number.ensures.fits c.in-None.ensures.value in
+    rw nothing refl
