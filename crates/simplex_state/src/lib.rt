@@ -7,6 +7,7 @@ pub mod config;
 pub mod knowledge;
 mod laws;
 pub mod resolver;
+pub mod timing;
 pub mod votes;
 
 pub use laws::{
