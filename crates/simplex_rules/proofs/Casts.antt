@@ -1,6 +1,5 @@
 -- One more vote of a signer in a round.
 use Rattle.std.proofs.Common.{◌≡◌, ◌≢◌, ◌⊎◌, List, [], ◌∷◌, ◌++◌, refl, sym, ap, ◌∙◌, subst, inl, inr, append_assoc, arith}
-use Rattle.std.specs.Prelude.{Contains}
 use Rattle.std.specs.Cmp.{IsTotalOrder}
 use Rattle.std.specs.Ordering.{ordering_reverse}
 use Rattle.std.specs.declared.cmp.Ordering.{Ordering}
@@ -11,7 +10,7 @@ use Rattle.std.specs.Prelude.{None}
 use Rattle.simplex_rules.specs.declared.cast.Kept.{Kept}
 use Rattle.simplex_rules.specs.declared.cast.Kept.TheVariants.{Claim, One, Two}
 use Rattle.simplex_rules.specs.Cast.{IsLower, IsFirst, AreNone, IsFor, HasOne, HasTwo, StandsForAll, Summarizes, IsSettled, IsPlacedAt}
-use Rattle.simplex_rules.proofs.Lists.{no_element, only_element, each_push}
+use Rattle.simplex_rules.proofs.Lists.{no_element, each_push}
 
 module _ {D : Type 0} {cmp : D → D → Ordering} (order : IsTotalOrder cmp) where
   pub IsLower-trans : (p q r : Choice D) → IsLower cmp p q → IsLower cmp q r → IsLower cmp p r

@@ -28,10 +28,3 @@ module _ {D G : Type 0} (attests : ℕ → Statement D → G → Type 0) (q : Su
     -- the one behind it takes its place where it fails
     pub given_next : KeepsNullifies attests q signatures (given.Claim a) → (Verifies a → ⊥) → KeepsNullifies attests q (signatures ++ b ∷ []) (given.Claim b)
     given_next s fails = given_last signatures b (s.1 fails)
-
-    -- and it stays where it verifies
-    pub given_true : KeepsNullifies attests q signatures (given.Claim a) → Verifies a → KeepsNullifies attests q (signatures ++ b ∷ []) (given.First a)
-    given_true s verifies = IsFirst-push Verifies signatures a b (s.0 verifies)
-
-    pub given_stays : KeepsNullifies attests q signatures (given.First a) → KeepsNullifies attests q (signatures ++ b ∷ []) (given.First a)
-    given_stays s = IsFirst-push Verifies signatures a b s

@@ -1,5 +1,5 @@
 -- What is kept of the votes is the verdict on them.
-use Rattle.std.proofs.Common.{◌≡◌, ◌⊎◌, ℕ, List, [], Option, Some, None, Box, refl, sym, ap, ◌∙◌, subst, inl, inr, map}
+use Rattle.std.proofs.Common.{◌≡◌, ℕ, List, [], Option, Some, None, Box, refl, sym, ap, ◌∙◌, subst, inl, inr, map}
 use Rattle.std.specs.Prelude.{Contains, IsSome}
 use Rattle.std.specs.Cmp.{IsTotalOrder}
 use Rattle.std.specs.BTreeMap.{BTreeMap, get}
@@ -12,7 +12,7 @@ use Rattle.simplex_messages.specs.declared.nullify.Nullify.{Nullify}
 use Rattle.simplex_messages.specs.declared.proposal_vote.ProposalVote.{ProposalVote}
 use Rattle.simplex_messages.specs.ProposalVote.{IsAttested}
 use Rattle.simplex_messages.specs.Nullify.{NullifyIsAttested}
-use Rattle.simplex_messages.specs.Guilt.{IsGuilty, IsFirstRead, IsLeastEvidence, IsBelow, IsCastBy, IsFirstNullify}
+use Rattle.simplex_messages.specs.Guilt.{IsGuilty, IsFirstRead, IsLeastEvidence, IsFirstNullify}
 use Rattle.simplex_rules.specs.declared.cast.Choice.{Choice}
 use Rattle.simplex_rules.specs.declared.cast.Cast.{Cast}
 use Rattle.simplex_rules.specs.declared.cast.Kept.{Kept}

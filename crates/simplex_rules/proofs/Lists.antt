@@ -2,8 +2,6 @@
 use Rattle.std.proofs.Common.{◌≡◌, ◌⊎◌, zero, suc, List, [], ◌∷◌, ◌++◌, get_or, refl, sym, ap, ◌∙◌, subst, inl, inr, map, append_assoc, arith}
 use Rattle.std.specs.Prelude.{Contains, AllPairs}
 use Rattle.std.specs.List.{flat_map}
-use Rattle.std.proofs.lemmas.List.{map-append, append-nil}
-use Rattle.std.proofs.lemmas.List.Concat.{flat_map-append}
 use Rattle.std.proofs.lemmas.List.Elements.{Contains-append_left, Contains-append_right, Contains-append_cases, Contains-get_or}
 use Rattle.std.proofs.lemmas.List.Kept.{AllPairs-cons}
 
@@ -90,8 +88,3 @@ module _ {Y : Type 0} (R : Y → Y → Type 0) where
 pub appended_three : {X : Type 0} (xs ys zs us one two three : List X) → ys ≡ xs ++ one → zs ≡ ys ++ two → us ≡ zs ++ three → us ≡ xs ++ (one ++ (two ++ three))
 appended_three {X} xs ys zs us one two three first second third =
     third ∙ ap (λ (l : List X). l ++ three) (second ∙ ap (λ (l : List X). l ++ two) first) ∙ append_assoc (xs ++ one) two three ∙ append_assoc xs one (two ++ three)
-
--- what a list of items gives, and one item more
-pub flat_map-turn : {A X Y : Type 0} (shows : A → X) (f : X → List Y) (xs : List A) (x : A) → flat_map f (map shows (xs ++ x ∷ [])) ≡ flat_map f (map shows xs) ++ f (shows x)
-flat_map-turn {A} {X} {Y} shows f xs x =
-    ap (λ (ys : List X). flat_map f ys) (map-append shows xs (x ∷ [])) ∙ flat_map-append f (map shows xs) (shows x ∷ []) ∙ ap (λ (ys : List Y). flat_map f (map shows xs) ++ ys) (append-nil (f (shows x)))
