@@ -86,7 +86,7 @@ impl<S: Listing<Sha256Digest> + Drop> Table<S> {
         vote: &Vote<S, Sha256Digest>,
     ) -> Result<Admission<S, Sha256Digest>, BatcherFault> {
         let copy = vote.duplicate(self.alloc)?;
-        self.votes.add_network(self.alloc, vote.signer(), copy)
+        self.votes.add_network(vote.signer(), copy)
     }
 
     /// Each of these votes is handed in by its member, and what is told of it is counted.

@@ -1,26 +1,31 @@
 -- What is accepted is not blocked.
-use Rattle.std.proofs.Common.{◌≡◌, inl, inr, ℕ, zero, suc, Bool, true, false, ◌==◌, ◌&&◌, List, [], ◌∷◌, arith, refl, nat_lt}
-use Rattle.std.specs.Prelude.{Option, None, Some, MatchOption, is_none, is_some, find, if◌then◌else◌}
+use Rattle.std.proofs.Common.{◌≡◌, ◌<◌, inl, inr, ℕ, zero, suc, Bool, true, false, ◌==◌, ◌&&◌, List, [], ◌∷◌, arith, refl, nat_lt}
+use Rattle.std.specs.Prelude.{Option, None, Some, IfSome, MatchOption, is_none, is_some, find, if◌then◌else◌}
 use Rattle.std.specs.List.{Contains}
 use Rattle.std.specs.Option.{option_and_then}
 use Rattle.std.proofs.lemmas.List.Elements.{Contains-append_right}
+use Rattle.simplex_types.specs.declared.proposal.Proposal.{Proposal}
 use Rattle.simplex_messages.specs.declared.vote.Vote.{Vote}
 use Rattle.simplex_messages.specs.declared.vote.Vote.TheVariants as vote
 use Rattle.simplex_messages.specs.declared.certificate.Certificate.{Certificate}
 use Rattle.simplex_messages.specs.VoteParts.{vote_signer, vote_round}
-use Rattle.simplex_batcher.specs.History.{History, Event, Setup, accepted, takes, recorded}
-use Rattle.simplex_batcher.specs.Lawful.{IsNew}
+use Rattle.simplex_verifier.specs.History.{History, Event, Setup, accepted, takes, recorded, forwardable, has_forwarded}
+use Rattle.simplex_verifier.specs.Lawful.{IsNew}
 use Rattle.simplex_batcher.specs.Admission.{IsBlocked, Offends, evidence, contradicts, AgreesWithOwn}
-use Rattle.simplex_batcher.specs.Votes.{is_in_way}
+use Rattle.simplex_verifier.specs.Votes.{is_in_way}
 
 -- nothing is there
 pub none-there : {X : Type 0} (P : X → Type 0) (o : Option X) → is_none o ≡ true → MatchOption o ⊥ P → ⊥
 none-there P None e here = here
 none-there P (Some x) e here = absurd (cc e)
 
-nothing : {X : Type 0} (o : Option X) → is_none o ≡ true → o ≡ None
+pub nothing : {X : Type 0} (o : Option X) → is_none o ≡ true → o ≡ None
 nothing None e = refl
 nothing (Some x) e = absurd (cc e)
+
+-- what is said of one that is there, of this one
+pub some-at : {B : Type 0} (P : B → Type 0) (made : Option B) (b : B) → IfSome made P → made ≡ Some b → P b
+some-at P made b all e = rw e at all
 
 -- three tests that all passed
 all-three : (a b c : Bool) → a && (b && c) ≡ true → (a ≡ true) × (b ≡ true) × (c ≡ true)
@@ -33,6 +38,12 @@ module _ {S D P G C : Type 0} where
   pub taken-not-blocked : (s : Setup S) (h : History S D P G C) (sender : ℕ) (v : Vote S D P G C) → takes s h sender v ≡ true → IsBlocked s h sender v → ⊥
   taken-not-blocked s h sender v taken (inl differs) = differs (grind (arith, (all-three (sender == vote_signer v) (nat_lt sender s.members) (is_none (recorded h v)) taken).0))
   taken-not-blocked s h sender v taken (inr b) = none-there (λ u. Offends s h u v) (recorded h v) (all-three (sender == vote_signer v) (nat_lt sender s.members) (is_none (recorded h v)) taken).2 b.2
+
+  -- what is accepted is a member's
+  pub taken-member : (s : Setup S) (h : History S D P G C) (sender : ℕ) (v : Vote S D P G C) → takes s h sender v ≡ true → vote_signer v < s.members
+  taken-member s h sender v taken =
+      let all = all-three (sender == vote_signer v) (nat_lt sender s.members) (is_none (recorded h v)) taken in
+      grind (arith, all.0, all.1)
 
   -- what is accepted is new
   pub taken-new : (s : Setup S) (h : History S D P G C) (sender : ℕ) (v : Vote S D P G C) → takes s h sender v ≡ true → vote_round v ≡ s.round → IsNew s h v
@@ -74,3 +85,11 @@ module _ {S D P G C : Type 0} where
           let there = found-there (is_in_way v) (accepted h) u e in
           let one = signer-in-way v u there.1 in
           rw (own.agrees u (own.own_alone u there.0 one) one) refl
+
+-- what is to be forwarded was not forwarded
+pub not-yet : {S D P G C : Type 0} (h : History S D P G C) (me : ℕ) (p : Proposal D) → forwardable h me ≡ Some p → has_forwarded h ≡ false
+not-yet h me p e = go (has_forwarded h) refl
+  where
+    go : (b : Bool) → has_forwarded h ≡ b → has_forwarded h ≡ false
+    go false is = is
+    go true is = let none : forwardable h me ≡ None = rw is refl in absurd (cc (e, none))

@@ -1,16 +1,6 @@
-pub mod Backers
-pub mod Folding
-pub mod Choosing
 pub mod Admitting
-pub mod Lawfully
-pub mod Stating
 pub mod Single
-pub mod Slots
 pub mod Rows
-pub mod Kept
-pub mod Rightly
-pub mod Constructing
 pub mod Reaching
-pub mod Finishing
 pub mod Summing
 pub mod Ending

@@ -5,7 +5,7 @@ use Rattle.std.proofs.lemmas.List.Elements.{All-head, All-tail}
 use Rattle.simplex_types.specs.declared.scheme.Scheme.{Ghosts}
 use Rattle.simplex_batcher.specs.declared.call.Call.{Call}
 use Rattle.simplex_batcher.specs.declared.call.Answer.{Answer}
-use Rattle.simplex_batcher.specs.History.{History, Setup}
+use Rattle.simplex_verifier.specs.History.{History, Setup}
 use Rattle.simplex_batcher.specs.Run.{IsAsked, Answers, AnswersAre, after_call, after_all}
 
 module _ {S D P G C : Type 0} (g : Ghosts S D P G C) (same : D → D → Bool) where

@@ -9,10 +9,10 @@ use Rattle.simplex_messages.specs.declared.activity.Activity.TheVariants as acti
 use Rattle.simplex_messages.specs.ProposalVote.{contradict}
 use Rattle.simplex_messages.specs.NullifyFinalize.{stands_beside}
 use Rattle.simplex_messages.specs.VoteParts.{vote_signer, vote_round}
-use Rattle.simplex_batcher.specs.declared.fault.BatcherFault.{BatcherFault}
-use Rattle.simplex_batcher.specs.declared.fault.BatcherFault.TheVariants.{WrongRound, OtherLeader, Contradicts, Memory}
-use Rattle.simplex_batcher.specs.Votes.{vote_kind}
-use Rattle.simplex_batcher.specs.History.{History, Event, Setup, accepted, given, recorded, takes, is_kept_in_full}
+use Rattle.simplex_verifier.specs.declared.fault.BatcherFault.{BatcherFault}
+use Rattle.simplex_verifier.specs.declared.fault.BatcherFault.TheVariants.{WrongRound, OtherLeader, Contradicts, Memory}
+use Rattle.simplex_verifier.specs.Votes.{vote_kind}
+use Rattle.simplex_verifier.specs.History.{History, Event, Setup, accepted, given, recorded, takes, is_kept_in_full}
 
 module _ {S D P G C : Type 0} where
   -- the vote as a report

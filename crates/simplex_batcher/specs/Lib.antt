@@ -1,13 +1,5 @@
-pub mod Judging
-pub mod Votes
-pub mod History
-pub mod Lawful
 pub mod Queries
-pub mod Pools
-pub mod Keeping
 pub mod Admission
 pub mod Tracking
 pub mod Rounds
-pub mod Construction
-pub mod Quorums
 pub mod Run

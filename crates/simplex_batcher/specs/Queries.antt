@@ -5,9 +5,9 @@ use Rattle.simplex_types.specs.declared.proposal.Proposal.{Proposal}
 use Rattle.simplex_messages.specs.declared.vote.Vote.{Vote}
 use Rattle.simplex_messages.specs.declared.vote.Vote.TheVariants as vote
 use Rattle.simplex_messages.specs.VoteParts.{vote_signer}
-use Rattle.simplex_batcher.specs.declared.kind.Kind.TheVariants.{Nullification}
-use Rattle.simplex_batcher.specs.Votes.{is_kind, is_proposal, vote_kind}
-use Rattle.simplex_batcher.specs.History.{History, Setup, accepted}
+use Rattle.simplex_verifier.specs.declared.kind.Kind.TheVariants.{Nullification}
+use Rattle.simplex_verifier.specs.Votes.{is_kind, is_proposal, vote_kind}
+use Rattle.simplex_verifier.specs.History.{History, Setup, accepted}
 
 module _ {S D P G C : Type 0} where
   -- the vote is a nullify

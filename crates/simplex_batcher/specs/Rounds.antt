@@ -2,15 +2,16 @@
 use Rattle.std.specs.Prelude.{◌≡◌, ℕ, Bool, List}
 use Rattle.simplex_types.specs.declared.scheme.Scheme.{Ghosts}
 use Rattle.simplex_batcher.specs.declared.round.Round.{Round}
-use Rattle.simplex_batcher.specs.History.{History, Setup, accepted, has_forwarded}
+use Rattle.simplex_verifier.specs.History.{History, Setup, accepted, has_forwarded}
 use Rattle.simplex_batcher.specs.Tracking.{TrackerKeeps}
-use Rattle.simplex_batcher.specs.Keeping.{VerifierKeeps}
+use Rattle.simplex_verifier.specs.Keeping.{VerifierKeeps}
 
 module _ {S D P G C : Type 0} (same : D → D → Bool) (g : Ghosts S D P G C) (batchable : S → Bool) where
   -- the round stands where this history leads
   pub record IsRoundKept (s : Setup S) (r : Round S D P G C) (h : History S D P G C) : Type 0 where
     pub verifier : VerifierKeeps same g batchable s r.verifier h
     pub tracker : TrackerKeeps r.tracker (accepted h)
+    pub members_are : r.tracker.members ≡ s.members
     pub tracks_is : r.tracks ≡ s.tracks
     pub forwarded_is : r.forwarded ≡ has_forwarded h
 

@@ -1,13 +1,13 @@
 //! What is answered to votes.
 
-ghost use Rattle.std.specs.Prelude.{◌≡◌, ◌↔◌, IsTrue, IfOk, None, false, is_some};
+ghost use Rattle.std.specs.Prelude.{◌≡◌, ◌↔◌, IsTrue, Some, None, false, is_some, if◌then◌else◌};
+ghost use Rattle.simplex_messages.specs.declared.activity.Activity.TheVariants as activity;
+ghost use Rattle.simplex_messages.specs.NullifyFinalize.{stands_beside};
 ghost use Rattle.simplex_batcher.specs.Admission.{as_report, AreForTwo, evidence};
 
-use simplex_messages::{
-    Activity, ConflictingFinalize, ConflictingNotarize, ConflictingVotes, NullifyFinalize, Vote,
-};
-use simplex_types::{Digest, Duplicate, Scheme};
-use std::alloc::{AllocError, Global};
+use crate::votes::{again, nullify_again};
+use simplex_messages::{Activity, ConflictingVotes, Finalize, Nullify, NullifyFinalize, Vote};
+use simplex_types::{Digest, Scheme};
 
 /// What came of a vote from the network.
 #[derive(Drop)]
@@ -36,58 +36,56 @@ impl<S: Scheme<D>, D: Digest> Admission<S, D> {
 }
 
 /// The vote as a report.
-pub(crate) fn report<S: Scheme<D>, D: Digest>(
-    alloc: Global,
-    vote: &Vote<S, D>,
-) -> Result<Activity<S, D>, AllocError>
-    ensures { IfOk result (λ activity. activity ≡ as_report vote.now) }
+pub(crate) fn report<S: Scheme<D>, D: Digest>(vote: &Vote<S, D>) -> Activity<S, D>
+    ensures { result ≡ as_report vote.now }
 {
     match vote {
-        Vote::Notarize(vote) => Ok(Activity::Notarize(vote.duplicate(alloc)?)),
-        Vote::Nullify(vote) => Ok(Activity::Nullify(vote.duplicate(alloc)?)),
-        Vote::Finalize(vote) => Ok(Activity::Finalize(vote.duplicate(alloc)?)),
+        Vote::Notarize(vote) => Activity::Notarize(again(vote)),
+        Vote::Nullify(vote) => Activity::Nullify(nullify_again(vote)),
+        Vote::Finalize(vote) => Activity::Finalize(again(vote)),
     }
 }
 
 /// The evidence of two votes, where they contradict each other.
 pub(crate) fn evidence_of<S: Scheme<D>, D: Digest>(
-    alloc: Global,
     first: &Vote<S, D>,
     second: &Vote<S, D>,
-) -> Result<Option<Activity<S, D>>, AllocError>
-    ensures { IfOk result (λ given. given ≡ evidence D.PartialEq.eq first.now second.now) }
+) -> Option<Activity<S, D>>
+    ensures { result ≡ evidence D.PartialEq.eq first.now second.now }
 {
     match (first, second) {
         (Vote::Notarize(first), Vote::Notarize(second)) => {
             if !first.contradicts(second) {
-                return Ok(None);
+                return None;
             }
-            let evidence = ConflictingVotes::new(first.duplicate(alloc)?, second.duplicate(alloc)?);
-            Ok(Some(Activity::ConflictingNotarize(evidence)))
+            let evidence = ConflictingVotes::new(again(first), again(second));
+            Some(Activity::ConflictingNotarize(evidence))
         }
         (Vote::Finalize(first), Vote::Finalize(second)) => {
             if !first.contradicts(second) {
-                return Ok(None);
+                return None;
             }
-            let evidence = ConflictingVotes::new(first.duplicate(alloc)?, second.duplicate(alloc)?);
-            Ok(Some(Activity::ConflictingFinalize(evidence)))
+            let evidence = ConflictingVotes::new(again(first), again(second));
+            Some(Activity::ConflictingFinalize(evidence))
         }
-        (Vote::Nullify(first), Vote::Finalize(second)) => {
-            if !first.stands_beside(second) {
-                return Ok(None);
-            }
-            let evidence = NullifyFinalize::new(first.duplicate(alloc)?, second.duplicate(alloc)?);
-            Ok(Some(Activity::NullifyFinalize(evidence)))
-        }
-        (Vote::Finalize(first), Vote::Nullify(second)) => {
-            if !second.stands_beside(first) {
-                return Ok(None);
-            }
-            let evidence = NullifyFinalize::new(second.duplicate(alloc)?, first.duplicate(alloc)?);
-            Ok(Some(Activity::NullifyFinalize(evidence)))
-        }
-        _ => Ok(None),
+        (Vote::Nullify(first), Vote::Finalize(second)) => beside(first, second),
+        (Vote::Finalize(first), Vote::Nullify(second)) => beside(second, first),
+        _ => None,
     }
+}
+
+/// The evidence of a nullify beside a finalize, where they are of one signer and one round.
+fn beside<S: Scheme<D>, D: Digest>(
+    nullify: &Nullify<S, D>,
+    finalize: &Finalize<S, D>,
+) -> Option<Activity<S, D>>
+    ensures { result ≡ (if stands_beside nullify.now finalize.now then Some (activity.NullifyFinalize (nullify.now, finalize.now)) else None) }
+{
+    if !nullify.stands_beside(finalize) {
+        return None;
+    }
+    let evidence = NullifyFinalize::new(nullify_again(nullify), again(finalize));
+    Some(Activity::NullifyFinalize(evidence))
 }
 
 /// Whether two votes of one kind are for different proposals.

@@ -1,11 +1,9 @@
 //! Calls on a round, and their answers, as values.
 
 use crate::admission::Admission;
-use crate::batch::Batch;
-use crate::fault::BatcherFault;
-use crate::kind::Kind;
 use simplex_messages::{Activity, Certificate, Vote};
 use simplex_types::{Digest, Participant, Proposal, Scheme};
+use simplex_verifier::{Batch, BatcherFault, Kind};
 
 /// A call on a round.
 #[derive(Drop)]

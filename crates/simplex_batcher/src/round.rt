@@ -5,25 +5,25 @@ ghost use Rattle.std.specs.Option.{option_copied};
 ghost use Rattle.simplex_types.specs.Quorum.{quorum};
 ghost use Rattle.simplex_messages.specs.VoteParts.{vote_round, vote_signer};
 ghost use Rattle.simplex_messages.specs.Certificate.{certificate_round};
-ghost use Rattle.simplex_batcher.specs.declared.fault.BatcherFault.TheVariants.{WrongRound, OtherLeader, Contradicts, Memory};
-ghost use Rattle.simplex_batcher.specs.declared.kind.Kind.TheVariants.{Notarization};
-ghost use Rattle.simplex_batcher.specs.Votes.{vote_kind, certificate_kind};
-ghost use Rattle.simplex_batcher.specs.History.{Taken, Cast, Certified, Led, Forwarded, recorded, selected, leader_of, takes, is_kept_in_full, is_complete, forwardable, is_another, next_kind};
-ghost use Rattle.simplex_batcher.specs.Lawful.{IsNew, VoteAttests, Allowed};
-ghost use Rattle.simplex_batcher.specs.Quorums.{AllCertified};
+ghost use Rattle.simplex_verifier.specs.declared.fault.BatcherFault.TheVariants.{WrongRound, OtherLeader, Contradicts, Memory};
+ghost use Rattle.simplex_verifier.specs.declared.kind.Kind.TheVariants.{Notarization};
+ghost use Rattle.simplex_verifier.specs.Votes.{vote_kind, certificate_kind};
+ghost use Rattle.simplex_verifier.specs.History.{Taken, Cast, Certified, Led, Forwarded, recorded, selected, leader_of, takes, is_kept_in_full, is_complete, forwardable, is_another, next_kind};
+ghost use Rattle.simplex_verifier.specs.Lawful.{IsNew, VoteAttests, Allowed};
+ghost use Rattle.simplex_verifier.specs.Quorums.{AllCertified};
 ghost use Rattle.simplex_batcher.specs.Admission.{as_report, evidence, contradicts, IsBlocked, report_of, AgreesWithOwn, IsAdmissionFault, IsCastFault};
-ghost use Rattle.simplex_batcher.specs.Construction.{after, after_construction, kinds_left, IsBatch};
+ghost use Rattle.simplex_verifier.specs.Construction.{after, after_construction, kinds_left, IsBatch};
 ghost use Rattle.simplex_batcher.specs.Rounds.{RoundKeeps, AtEach};
 
 use crate::admission::{Admission, are_against, are_for_two, are_one, evidence_of, report};
-use crate::batch::Batch;
-use crate::fault::BatcherFault;
-use crate::kind::Kind;
 use crate::tracker::VoteTracker;
-use crate::verifier::Verifier;
-use crate::votes::{is_notarize, kind_of, kind_of_certificate, round_of, round_of_certificate};
+use crate::votes::{copied, round_of, round_of_certificate};
 use simplex_messages::{Activity, Certificate, Vote};
-use simplex_types::{Attributable, Digest, Duplicate, Participant, Proposal, Round as Rnd, Scheme};
+use simplex_types::{Attributable, Digest, Participant, Proposal, Round as Rnd, Scheme};
+use simplex_verifier::{
+    Batch, BatcherFault, Kind, Verifier, constructions_end, forwarding_changes_no_votes, kind_of,
+    kind_of_certificate, no_quorum_is_lost,
+};
 use std::alloc::{AllocError, Global};
 use std::rc::Rc;
 
@@ -93,35 +93,29 @@ impl<S: Scheme<D>, D: Digest> Round<S, D> {
     }
 
     /// What is answered to a vote from the network that is not accepted; nothing where it is accepted.
-    fn refusal(
-        &self,
-        alloc: Global,
-        sender: Participant,
-        vote: &Vote<S, D>,
-    ) -> Result<Option<Admission<S, D>>, AllocError>
-        ensures takes { IfOk result (λ refused. AtEach D.PartialEq.eq S.Scheme S.batchable self.now (λ s h. is_none refused ≡ takes s h sender vote.now)) }
-        ensures added { IfOk result (λ refused. IfSome refused (λ a. a.added ≡ false)) }
-        ensures block { IfOk result (λ refused. IfSome refused (λ a. AtEach D.PartialEq.eq S.Scheme S.batchable self.now (λ s h. IsTrue a.block ↔ IsBlocked s h sender vote.now))) }
-        ensures report { IfOk result (λ refused. IfSome refused (λ a. AtEach D.PartialEq.eq S.Scheme S.batchable self.now (λ s h. a.report ≡ report_of D.PartialEq.eq s h sender vote.now))) }
+    fn refusal(&self, sender: Participant, vote: &Vote<S, D>) -> Option<Admission<S, D>>
+        ensures takes { AtEach D.PartialEq.eq S.Scheme S.batchable self.now (λ s h. is_none result ≡ takes s h sender vote.now) }
+        ensures added { IfSome result (λ a. a.added ≡ false) }
+        ensures block { IfSome result (λ a. AtEach D.PartialEq.eq S.Scheme S.batchable self.now (λ s h. IsTrue a.block ↔ IsBlocked s h sender vote.now)) }
+        ensures report { IfSome result (λ a. AtEach D.PartialEq.eq S.Scheme S.batchable self.now (λ s h. a.report ≡ report_of D.PartialEq.eq s h sender vote.now)) }
     {
         if sender != vote.signer() {
-            return Ok(Some(Admission::without_evidence(true)));
+            return Some(Admission::without_evidence(true));
         }
         if sender.get() >= self.verifier.participants() {
-            return Ok(Some(Admission::without_evidence(false)));
+            return Some(Admission::without_evidence(false));
         }
         let Some(recorded) = self.tracker.recorded(vote) else {
-            return Ok(None);
+            return None;
         };
         if !self.is_kept_in_full(kind_of(recorded)) {
-            return Ok(Some(Admission::without_evidence(are_for_two(recorded, vote))));
+            return Some(Admission::without_evidence(are_for_two(recorded, vote)));
         }
-        let report = evidence_of(alloc, recorded, vote)?;
-        Ok(Some(Admission {
+        Some(Admission {
             added: false,
             block: !are_one(recorded, vote),
-            report,
-        }))
+            report: evidence_of(recorded, vote),
+        })
     }
 
     /// Takes a vote from the network. Its sender is blocked where it names another, or where the vote offends one that was
@@ -133,7 +127,6 @@ impl<S: Scheme<D>, D: Digest> Round<S, D> {
     /// Nothing is changed then.
     pub fn add_network(
         &mut self,
-        alloc: Global,
         sender: Participant,
         vote: Vote<S, D>,
     ) -> Result<Admission<S, D>, BatcherFault>
@@ -149,34 +142,27 @@ impl<S: Scheme<D>, D: Digest> Round<S, D> {
         if !self.belongs(&vote) {
             return Err(BatcherFault::WrongRound);
         }
-        if let Some(admission) = self.refusal(alloc, sender, &vote)? {
+        if let Some(admission) = self.refusal(sender, &vote) {
             return Ok(admission);
         }
-        let report = report(alloc, &vote)?;
-        self.put(alloc, vote, false)?;
+        self.put(&vote, false)?;
         Ok(Admission {
             added: true,
             block: false,
-            report: Some(report),
+            report: Some(report(&vote)),
         })
     }
 
     /// Puts down a vote that nothing stands in the way of.
-    fn put(&mut self, alloc: Global, vote: Vote<S, D>, own: bool) -> Result<(), AllocError>
-        ensures taken { OnOk result (AtEach D.PartialEq.eq S.Scheme S.batchable self.old (λ s h. own ≡ false → IsNew s h vote → RoundKeeps D.PartialEq.eq S.Scheme S.batchable s self.new (Taken vote ∷ h))) }
-        ensures cast { OnOk result (AtEach D.PartialEq.eq S.Scheme S.batchable self.old (λ s h. own ≡ true → IsNew s h vote → VoteAttests S.attests s vote → RoundKeeps D.PartialEq.eq S.Scheme S.batchable s self.new (Cast vote ∷ h))) }
-        ensures err { OnErr result (AtEach D.PartialEq.eq S.Scheme S.batchable self.old (λ s h. IsNew s h vote → RoundKeeps D.PartialEq.eq S.Scheme S.batchable s self.new h)) }
+    fn put(&mut self, vote: &Vote<S, D>, own: bool) -> Result<(), AllocError>
+        ensures taken { OnOk result (AtEach D.PartialEq.eq S.Scheme S.batchable self.old (λ s h. own ≡ false → vote_signer vote.now < s.members → IsNew s h vote.now → RoundKeeps D.PartialEq.eq S.Scheme S.batchable s self.new (Taken vote.now ∷ h))) }
+        ensures cast { OnOk result (AtEach D.PartialEq.eq S.Scheme S.batchable self.old (λ s h. own ≡ true → vote_signer vote.now < s.members → IsNew s h vote.now → VoteAttests S.attests s vote.now → RoundKeeps D.PartialEq.eq S.Scheme S.batchable s self.new (Cast vote.now ∷ h))) }
+        ensures err { OnErr result (AtEach D.PartialEq.eq S.Scheme S.batchable self.old (λ s h. RoundKeeps D.PartialEq.eq S.Scheme S.batchable s self.new h)) }
     {
-        let signer = vote.signer();
-        let notarize = is_notarize(&vote);
-        self.tracker.put(vote.duplicate(alloc)?)?;
-        match self.verifier.add(vote, own) {
-            Ok(()) => Ok(()),
-            Err(AllocError) => {
-                self.tracker.take_back(signer, notarize);
-                Err(AllocError)
-            }
-        }
+        self.tracker.reach()?;
+        self.verifier.add(copied(vote), own)?;
+        self.tracker.put(vote);
+        Ok(())
     }
 
     /// Takes an own vote, which attests: its report where it is new, and nothing where one of its kind, or of nullify and
@@ -187,11 +173,7 @@ impl<S: Scheme<D>, D: Digest> Round<S, D> {
     ///
     /// [`BatcherFault::WrongRound`] where it is of another round, [`BatcherFault::Contradicts`] where it contradicts a
     /// recorded vote, and [`BatcherFault::Memory`] where memory ran out. Nothing is changed then.
-    pub fn accept_vote(
-        &mut self,
-        alloc: Global,
-        vote: Vote<S, D>,
-    ) -> Result<Option<Activity<S, D>>, BatcherFault>
+    pub fn accept_vote(&mut self, vote: Vote<S, D>) -> Result<Option<Activity<S, D>>, BatcherFault>
         ensures foreign { AtEach D.PartialEq.eq S.Scheme S.batchable self.old (λ s h. vote_round vote ≢ s.round → (result ≡ Err WrongRound)) }
         ensures against { AtEach D.PartialEq.eq S.Scheme S.batchable self.old (λ s h. vote_round vote ≡ s.round → contradicts D.PartialEq.eq h vote ≡ true → (result ≡ Err Contradicts)) }
         ensures refused { IfErr result (λ e. AtEach D.PartialEq.eq S.Scheme S.batchable self.old (λ s h. IsCastFault D.PartialEq.eq s h vote e)) }
@@ -211,9 +193,8 @@ impl<S: Scheme<D>, D: Digest> Round<S, D> {
             }
             return Ok(None);
         }
-        let report = report(alloc, &vote)?;
-        self.put(alloc, vote, true)?;
-        Ok(Some(report))
+        self.put(&vote, true)?;
+        Ok(Some(report(&vote)))
     }
 
     /// Records a certificate: whether it is a notarization that selects a new proposal.
@@ -274,6 +255,8 @@ impl<S: Scheme<D>, D: Digest> Round<S, D> {
         ensures ok { IfOk result (λ made. AtEach D.PartialEq.eq S.Scheme S.batchable self.old (λ s h. RoundKeeps D.PartialEq.eq S.Scheme S.batchable s self.new (after_construction (next_kind D.PartialEq.eq s h) made h))) }
         ensures err { OnErr result (AtEach D.PartialEq.eq S.Scheme S.batchable self.old (λ s h. RoundKeeps D.PartialEq.eq S.Scheme S.batchable s self.new h)) }
     {
+        no_quorum_is_lost::<S, D>();
+        constructions_end::<S, D>();
         let made = self.construct_first(alloc)?;
         Ok(made)
     }
@@ -309,6 +292,7 @@ impl<S: Scheme<D>, D: Digest> Round<S, D> {
     {
         match self.forwardable(me) {
             Some(proposal) => {
+                forwarding_changes_no_votes::<S, D>();
                 self.forwarded = true;
                 Some(proposal)
             }

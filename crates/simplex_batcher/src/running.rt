@@ -1,15 +1,17 @@
 //! Lists of calls.
 
 ghost use Rattle.std.specs.Prelude.{◌≡◌, ◌≤◌, List, All, IfOk, OnErr, length, false};
-ghost use Rattle.simplex_batcher.specs.History.{taken};
-ghost use Rattle.simplex_batcher.specs.Quorums.{AllCertified};
+ghost use Rattle.simplex_verifier.specs.History.{taken};
+ghost use Rattle.simplex_verifier.specs.Quorums.{AllCertified};
 ghost use Rattle.simplex_batcher.specs.Rounds.{RoundKeeps, AtEach};
 ghost use Rattle.simplex_batcher.specs.Run.{IsAsked, AnswersQuestion, Answers, AnswersAre, after_call, after_all, processed_in, EndsInConstructions};
 
 use crate::call::{Answer, Call, Question};
-use crate::fault::BatcherFault;
 use crate::round::Round;
 use simplex_types::{Digest, Scheme};
+use simplex_verifier::{
+    BatcherFault, constructions_end, no_more_are_judged_than_came, no_quorum_is_lost,
+};
 use std::alloc::{AllocError, Global};
 
 /// Answers a question.
@@ -47,11 +49,11 @@ fn make<S: Scheme<D>, D: Digest>(
     ensures keeps { AtEach D.PartialEq.eq S.Scheme S.batchable round.old (λ s h. IsAsked S.attests s call → RoundKeeps D.PartialEq.eq S.Scheme S.batchable s round.new (after_call D.PartialEq.eq s h call result)) }
 {
     match call {
-        Call::AddNetwork(sender, vote) => match round.add_network(alloc, sender, vote) {
+        Call::AddNetwork(sender, vote) => match round.add_network(sender, vote) {
             Ok(admission) => Answer::Admitted(admission),
             Err(fault) => Answer::Refused(fault),
         },
-        Call::AcceptVote(vote) => match round.accept_vote(alloc, vote) {
+        Call::AcceptVote(vote) => match round.accept_vote(vote) {
             Ok(report) => Answer::Cast(report),
             Err(fault) => Answer::Refused(fault),
         },
@@ -86,6 +88,9 @@ pub fn run<S: Scheme<D>, D: Digest>(
     ensures certified { IfOk result (λ answers. AtEach D.PartialEq.eq S.Scheme S.batchable round.old (λ s h. All (IsAsked S.attests s) calls.items → s.is_skipped ≡ false → EndsInConstructions calls.items answers.items → AllCertified S.attests s (after_all D.PartialEq.eq s h calls.items answers.items))) }
     ensures err { OnErr result (round.new ≡ round.old) }
 {
+    no_quorum_is_lost::<S, D>();
+    constructions_end::<S, D>();
+    no_more_are_judged_than_came::<S, D>();
     let mut answers = Vec::with_capacity(alloc, calls.len())?;
     for call in calls {
         let answer = make(alloc, round, call);

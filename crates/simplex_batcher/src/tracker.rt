@@ -1,14 +1,14 @@
 //! The accepted votes of each member.
 
-ghost use Rattle.std.specs.Prelude.{◌≡◌, ◌∷◌, ◌||◌, ◌&&◌, ◌==◌, ◌<◌, ◌+◌, [], ℕ, List, Option, OnOk, OnErr, None, find, length, not, if◌then◌else◌};
+ghost use Rattle.std.specs.Prelude.{◌≡◌, ◌∷◌, ◌||◌, ◌&&◌, ◌==◌, ◌<◌, ◌+◌, [], ℕ, Bool, List, Option, OnOk, OnErr, Some, None, find, length, max, if◌then◌else◌};
 ghost use Rattle.std.specs.Option.{option_copied, option_and_then};
 ghost use Rattle.simplex_messages.specs.declared.vote.Vote.{Vote};
 ghost use Rattle.simplex_messages.specs.VoteParts.{vote_signer};
-ghost use Rattle.simplex_batcher.specs.Votes.{is_in_way, is_notarize_of, is_other_of, notarized_proposal};
+ghost use Rattle.simplex_verifier.specs.Votes.{is_in_way, is_notarize_of, is_other_of, notarized_proposal};
 ghost use Rattle.simplex_batcher.specs.Queries.{is_nullify, is_backing};
-ghost use Rattle.simplex_batcher.specs.Tracking.{TrackerKeeps, notarize_at, other_at, passes};
+ghost use Rattle.simplex_batcher.specs.Tracking.{TrackerKeeps, is_of, is_same, vote_at, passes};
 
-use crate::votes::{is_backing, is_notarize, is_nullify};
+use crate::votes::{copied, is_backing, is_notarize, is_nullify};
 use simplex_messages::Vote;
 use simplex_types::{Attributable, Digest, Participant, Proposal, Scheme};
 use std::alloc::{AllocError, Global};
@@ -30,9 +30,10 @@ pub(crate) struct VoteTracker<S: Scheme<D>, D: Digest> {
 }
 
 impl<S: Scheme<D>, D: Digest> VoteTracker<S, D> {
-    /// No votes. The rows of so many members are made with the first.
+    /// No votes of a committee of so many. Its rows are made with the first.
     pub(crate) fn new(alloc: Global, members: u32) -> Self
-        ensures { TrackerKeeps result [] }
+        ensures keeps { TrackerKeeps result [] }
+        ensures members { result.members ≡ members }
     {
         VoteTracker {
             members,
@@ -40,22 +41,18 @@ impl<S: Scheme<D>, D: Digest> VoteTracker<S, D> {
         }
     }
 
-    /// This member's notarize.
-    fn notarize_of(&self, signer: Participant) -> Option<&Vote<S, D>>
-        ensures { (votes : List (Vote S D S.PublicKey S.Signature S.Certificate)) → TrackerKeeps self.now votes → option_copied result ≡ find (is_notarize_of signer) votes }
+    /// This member's notarize, or its nullify or finalize.
+    fn vote_of(&self, signer: Participant, notarize: bool) -> Option<&Vote<S, D>>
+        ensures { (votes : List (Vote S D S.PublicKey S.Signature S.Certificate)) → TrackerKeeps self.now votes → option_copied result ≡ find (is_of notarize signer) votes }
     {
         match self.rows.get(signer.get() as usize) {
-            Some(row) => row.notarize.as_ref(),
-            None => None,
-        }
-    }
-
-    /// This member's nullify or finalize.
-    fn other_of(&self, signer: Participant) -> Option<&Vote<S, D>>
-        ensures { (votes : List (Vote S D S.PublicKey S.Signature S.Certificate)) → TrackerKeeps self.now votes → option_copied result ≡ find (is_other_of signer) votes }
-    {
-        match self.rows.get(signer.get() as usize) {
-            Some(row) => row.other.as_ref(),
+            Some(row) => {
+                if notarize {
+                    row.notarize.as_ref()
+                } else {
+                    row.other.as_ref()
+                }
+            }
             None => None,
         }
     }
@@ -64,7 +61,7 @@ impl<S: Scheme<D>, D: Digest> VoteTracker<S, D> {
     pub(crate) fn notarized_by(&self, signer: Participant) -> Option<Proposal<D>>
         ensures { (votes : List (Vote S D S.PublicKey S.Signature S.Certificate)) → TrackerKeeps self.now votes → result ≡ option_and_then notarized_proposal (find (is_notarize_of signer) votes) }
     {
-        match self.notarize_of(signer) {
+        match self.vote_of(signer, true) {
             Some(vote) => notarized_in(vote),
             None => None,
         }
@@ -74,7 +71,7 @@ impl<S: Scheme<D>, D: Digest> VoteTracker<S, D> {
     pub(crate) fn has_nullify(&self, signer: Participant) -> bool
         ensures { (votes : List (Vote S D S.PublicKey S.Signature S.Certificate)) → TrackerKeeps self.now votes → result ≡ passes is_nullify (find (is_other_of signer) votes) }
     {
-        match self.other_of(signer) {
+        match self.vote_of(signer, false) {
             Some(vote) => is_nullify(vote),
             None => false,
         }
@@ -84,7 +81,8 @@ impl<S: Scheme<D>, D: Digest> VoteTracker<S, D> {
     pub(crate) fn has_backed(&self, signer: Participant, proposal: &Proposal<D>) -> bool
         ensures { (votes : List (Vote S D S.PublicKey S.Signature S.Certificate)) → TrackerKeeps self.now votes → result ≡ (passes (is_backing D.PartialEq.eq proposal.now) (find (is_notarize_of signer) votes) || passes (is_backing D.PartialEq.eq proposal.now) (find (is_other_of signer) votes)) }
     {
-        is_for(self.notarize_of(signer), proposal) || is_for(self.other_of(signer), proposal)
+        is_for(self.vote_of(signer, true), proposal)
+            || is_for(self.vote_of(signer, false), proposal)
     }
 
     /// The accepted vote that stands in the way of this one.
@@ -92,15 +90,16 @@ impl<S: Scheme<D>, D: Digest> VoteTracker<S, D> {
         ensures { (votes : List (Vote S D S.PublicKey S.Signature S.Certificate)) → TrackerKeeps self.now votes → option_copied result ≡ find (is_in_way vote.now) votes }
     {
         match vote {
-            Vote::Notarize(vote) => self.notarize_of(vote.attestation.signer),
-            Vote::Nullify(vote) => self.other_of(vote.attestation.signer),
-            Vote::Finalize(vote) => self.other_of(vote.attestation.signer),
+            Vote::Notarize(vote) => self.vote_of(vote.attestation.signer, true),
+            Vote::Nullify(vote) => self.vote_of(vote.attestation.signer, false),
+            Vote::Finalize(vote) => self.vote_of(vote.attestation.signer, false),
         }
     }
 
     /// Makes one row more.
     fn extend(&mut self) -> Result<(), AllocError>
         ensures len { OnOk result (length self.new.rows.items ≡ length self.old.rows.items + 1) }
+        ensures members { self.new.members ≡ self.old.members }
         ensures keeps { (votes : List (Vote S D S.PublicKey S.Signature S.Certificate)) → TrackerKeeps self.old votes → TrackerKeeps self.new votes }
     {
         self.rows.push(Row {
@@ -110,16 +109,17 @@ impl<S: Scheme<D>, D: Digest> VoteTracker<S, D> {
         Ok(())
     }
 
-    /// Makes the rows up to this member's, and with the first those of all members.
-    fn reach(&mut self, signer: Participant) -> Result<(), AllocError>
-        ensures there { OnOk result (signer < length self.new.rows.items) }
+    /// Makes a row for each member that has none, and for nobody else.
+    pub(crate) fn reach(&mut self) -> Result<(), AllocError>
+        ensures len { OnOk result (length self.new.rows.items ≡ max (length self.old.rows.items) self.old.members) }
+        ensures members { self.new.members ≡ self.old.members }
         ensures keeps { (votes : List (Vote S D S.PublicKey S.Signature S.Certificate)) → TrackerKeeps self.old votes → TrackerKeeps self.new votes }
     {
         let reached = self.rows.len();
-        if (signer.get() as usize) < reached {
+        let missing = (self.members as usize).saturating_sub(reached);
+        if missing == 0 {
             return Ok(());
         }
-        let missing = (signer.get() as usize + 1).max(self.members as usize) - reached;
         self.rows.reserve(missing)?;
         for _ in 0..missing {
             self.extend()?;
@@ -127,43 +127,32 @@ impl<S: Scheme<D>, D: Digest> VoteTracker<S, D> {
         Ok(())
     }
 
-    /// Writes a member's notarize, or its other vote, into its row.
-    fn write(&mut self, signer: Participant, notarize: bool, vote: Option<Vote<S, D>>)
-        ensures notarizes { signer < length self.old.rows.items → (i : ℕ) → notarize_at self.new.rows.items i ≡ (if notarize && (signer == i) then vote else notarize_at self.old.rows.items i) }
-        ensures others { signer < length self.old.rows.items → (i : ℕ) → other_at self.new.rows.items i ≡ (if not notarize && (signer == i) then vote else other_at self.old.rows.items i) }
+    /// Puts a vote down that nothing stands in the way of, if its member has a row.
+    pub(crate) fn put(&mut self, vote: &Vote<S, D>)
+        ensures members { self.new.members ≡ self.old.members }
+        ensures keeps { vote_signer vote.now < length self.old.rows.items → (votes : List (Vote S D S.PublicKey S.Signature S.Certificate)) → TrackerKeeps self.old votes → TrackerKeeps self.new (vote.now ∷ votes) }
+    {
+        self.write(vote, vote.signer(), is_notarize(vote));
+    }
+
+    /// Writes a vote into a member's row, as its notarize or as its other vote.
+    fn write(&mut self, vote: &Vote<S, D>, signer: Participant, notarize: bool)
+        ensures members { self.new.members ≡ self.old.members }
+        ensures written { signer < length self.old.rows.items → (side : Bool) (i : ℕ) → vote_at side self.new.rows.items i ≡ (if is_same notarize side && (signer == i) then Some vote.now else vote_at side self.old.rows.items i) }
     {
         let index = signer.get() as usize;
         if index < self.rows.len() {
             if notarize {
-                self.rows[index].notarize = vote;
+                self.rows[index].notarize = Some(copied(vote));
             } else {
-                self.rows[index].other = vote;
+                self.rows[index].other = Some(copied(vote));
             }
         }
-    }
-
-    /// Puts a vote down that nothing stands in the way of.
-    pub(crate) fn put(&mut self, vote: Vote<S, D>) -> Result<(), AllocError>
-        ensures ok { OnOk result ((votes : List (Vote S D S.PublicKey S.Signature S.Certificate)) → TrackerKeeps self.old votes → TrackerKeeps self.new (vote ∷ votes)) }
-        ensures err { OnErr result ((votes : List (Vote S D S.PublicKey S.Signature S.Certificate)) → TrackerKeeps self.old votes → TrackerKeeps self.new votes) }
-    {
-        let signer = vote.signer();
-        let notarize = is_notarize(&vote);
-        self.reach(signer)?;
-        self.write(signer, notarize, Some(vote));
-        Ok(())
-    }
-
-    /// Takes back the vote that was put down last: this member's notarize, or its other vote.
-    pub(crate) fn take_back(&mut self, signer: Participant, notarize: bool)
-        ensures { (votes : List (Vote S D S.PublicKey S.Signature S.Certificate)) (v : Vote S D S.PublicKey S.Signature S.Certificate) → vote_signer v ≡ signer → is_notarize_of (vote_signer v) v ≡ notarize → find (is_in_way v) votes ≡ None → TrackerKeeps self.old (v ∷ votes) → TrackerKeeps self.new votes }
-    {
-        self.write(signer, notarize, None);
     }
 }
 
 /// The proposal that a notarize is for.
-pub(crate) fn notarized_in<S: Scheme<D>, D: Digest>(vote: &Vote<S, D>) -> Option<Proposal<D>>
+fn notarized_in<S: Scheme<D>, D: Digest>(vote: &Vote<S, D>) -> Option<Proposal<D>>
     ensures { result ≡ notarized_proposal vote.now }
 {
     match vote {

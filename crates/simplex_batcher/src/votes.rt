@@ -1,27 +1,13 @@
 //! What a vote or a certificate of any kind is for.
 
-ghost use Rattle.std.specs.Prelude.{◌≡◌, ◌≢◌, ◌↔◌, Option, Some, None, Bool, IsTrue, IfOk, if◌then◌else◌};
-ghost use Rattle.simplex_types.specs.Subject.{statement};
+ghost use Rattle.std.specs.Prelude.{◌≡◌};
 ghost use Rattle.simplex_messages.specs.VoteParts.{vote_round, vote_signer};
-ghost use Rattle.simplex_messages.specs.Certificate.{certificate_round, certificate_statement, certified_by};
-ghost use Rattle.simplex_batcher.specs.Votes.{is_kind, vote_kind, vote_proposal, vote_statement, vote_attestation, certificate_kind, certificate_proposal, is_notarize_of, fixed_proposal};
-ghost use Rattle.simplex_batcher.specs.History.{is_candidate};
+ghost use Rattle.simplex_messages.specs.Certificate.{certificate_round};
+ghost use Rattle.simplex_verifier.specs.Votes.{is_notarize_of};
 ghost use Rattle.simplex_batcher.specs.Queries.{is_nullify, is_backing};
 
-use crate::kind::Kind;
-use simplex_messages::{Certificate, Finalization, Notarization, Nullification, Vote};
-use simplex_types::{Attestation, Digest, Proposal, Round, Scheme, Subject};
-
-/// The kind of certificate that a vote counts for.
-pub(crate) fn kind_of<S: Scheme<D>, D: Digest>(vote: &Vote<S, D>) -> Kind
-    ensures { result ≡ vote_kind vote.now }
-{
-    match vote {
-        Vote::Notarize(_) => Kind::Notarization,
-        Vote::Nullify(_) => Kind::Nullification,
-        Vote::Finalize(_) => Kind::Finalization,
-    }
-}
+use simplex_messages::{Certificate, Nullify, ProposalKind, ProposalVote, Vote};
+use simplex_types::{Digest, Proposal, Round, Scheme};
 
 /// The round that a vote is of.
 pub(crate) fn round_of<S: Scheme<D>, D: Digest>(vote: &Vote<S, D>) -> Round
@@ -31,30 +17,6 @@ pub(crate) fn round_of<S: Scheme<D>, D: Digest>(vote: &Vote<S, D>) -> Round
         Vote::Notarize(vote) => vote.proposal.round,
         Vote::Nullify(vote) => vote.round,
         Vote::Finalize(vote) => vote.proposal.round,
-    }
-}
-
-/// The attestation of a vote.
-pub(crate) fn attestation_of<S: Scheme<D>, D: Digest>(
-    vote: &Vote<S, D>,
-) -> Attestation<S::Signature>
-    ensures { result ≡ vote_attestation vote.now }
-{
-    match vote {
-        Vote::Notarize(vote) => vote.attestation,
-        Vote::Nullify(vote) => vote.attestation,
-        Vote::Finalize(vote) => vote.attestation,
-    }
-}
-
-/// What a vote states.
-pub(crate) fn subject_of<'a, S: Scheme<D>, D: Digest>(vote: &'a Vote<S, D>) -> Subject<'a, D>
-    ensures { statement result ≡ vote_statement vote.now }
-{
-    match vote {
-        Vote::Notarize(vote) => Subject::Notarize(&vote.proposal),
-        Vote::Nullify(vote) => Subject::Nullify(vote.round),
-        Vote::Finalize(vote) => Subject::Finalize(&vote.proposal),
     }
 }
 
@@ -91,42 +53,6 @@ pub(crate) fn is_backing<S: Scheme<D>, D: Digest>(vote: &Vote<S, D>, proposal: &
     }
 }
 
-/// Whether the vote is a nullify, or for this proposal.
-pub(crate) fn is_for<S: Scheme<D>, D: Digest>(vote: &Vote<S, D>, proposal: &Proposal<D>) -> bool
-    ensures { result ≡ is_candidate D.PartialEq.eq (Some proposal.now) vote.now }
-{
-    match vote {
-        Vote::Notarize(vote) => vote.proposal == *proposal,
-        Vote::Nullify(_) => true,
-        Vote::Finalize(vote) => vote.proposal == *proposal,
-    }
-}
-
-/// The proposal that a vote fixes: that of a finalize, if it is this member's own.
-pub(crate) fn fixed_by<S: Scheme<D>, D: Digest>(vote: &Vote<S, D>, own: bool) -> Option<Proposal<D>>
-    ensures { result ≡ (if own then fixed_proposal vote.now else None) }
-{
-    if !own {
-        return None;
-    }
-    match vote {
-        Vote::Notarize(_) => None,
-        Vote::Nullify(_) => None,
-        Vote::Finalize(vote) => Some(vote.proposal),
-    }
-}
-
-/// The kind of a certificate.
-pub(crate) fn kind_of_certificate<S: Scheme<D>, D: Digest>(certificate: &Certificate<S, D>) -> Kind
-    ensures { result ≡ certificate_kind certificate.now }
-{
-    match certificate {
-        Certificate::Notarization(_) => Kind::Notarization,
-        Certificate::Nullification(_) => Kind::Nullification,
-        Certificate::Finalization(_) => Kind::Finalization,
-    }
-}
-
 /// The round that a certificate is of.
 pub(crate) fn round_of_certificate<S: Scheme<D>, D: Digest>(
     certificate: &Certificate<S, D>,
@@ -140,37 +66,32 @@ pub(crate) fn round_of_certificate<S: Scheme<D>, D: Digest>(
     }
 }
 
-/// The proposal that a certificate is for.
-pub(crate) fn proposal_of_certificate<S: Scheme<D>, D: Digest>(
-    certificate: &Certificate<S, D>,
-) -> Option<Proposal<D>>
-    ensures { result ≡ certificate_proposal certificate.now }
+/// The same vote on a proposal again: it owns no memory.
+pub(crate) fn again<K: ProposalKind<D>, S: Scheme<D>, D: Digest>(
+    vote: &ProposalVote<K, S, D>,
+) -> ProposalVote<K, S, D>
+    ensures { result ≡ vote.now }
 {
-    match certificate {
-        Certificate::Notarization(certificate) => Some(certificate.proposal),
-        Certificate::Nullification(_) => None,
-        Certificate::Finalization(certificate) => Some(certificate.proposal),
+    ProposalVote::new(vote.proposal, vote.attestation)
+}
+
+/// The same nullify again.
+pub(crate) fn nullify_again<S: Scheme<D>, D: Digest>(vote: &Nullify<S, D>) -> Nullify<S, D>
+    ensures { result ≡ vote.now }
+{
+    Nullify {
+        round: vote.round,
+        attestation: vote.attestation,
     }
 }
 
-/// The certificate of the subject.
-pub(crate) fn certificate_on<S: Scheme<D>, D: Digest>(
-    subject: &Subject<'_, D>,
-    certificate: S::Certificate,
-) -> Certificate<S, D>
-    ensures states { certificate_statement result ≡ statement subject.now }
-    ensures made { certified_by result ≡ certificate }
+/// The same vote again.
+pub(crate) fn copied<S: Scheme<D>, D: Digest>(vote: &Vote<S, D>) -> Vote<S, D>
+    ensures { result ≡ vote.now }
 {
-    match subject {
-        Subject::Notarize(proposal) => {
-            Certificate::Notarization(Notarization::new(**proposal, certificate))
-        }
-        Subject::Nullify(round) => Certificate::Nullification(Nullification {
-            round: *round,
-            certificate,
-        }),
-        Subject::Finalize(proposal) => {
-            Certificate::Finalization(Finalization::new(**proposal, certificate))
-        }
+    match vote {
+        Vote::Notarize(vote) => Vote::Notarize(again(vote)),
+        Vote::Nullify(vote) => Vote::Nullify(nullify_again(vote)),
+        Vote::Finalize(vote) => Vote::Finalize(again(vote)),
     }
 }

@@ -1,14 +1,14 @@
 -- Which views a nullification covers, as a span from its view to the end of its term.
-use Rattle.std.proofs.Common.{ℕ, zero, suc, ◌≡◌, ◌≤◌, ◌<◌, ◌+◌, ◌*◌, ◌/◌, ◌↔◌, ◌⊎◌, ◌==◌, ⊎_elim, inl, inr, refl, sym, subst, arith}
+use Rattle.std.proofs.Common.{ℕ, zero, suc, ◌≡◌, ◌≤◌, ◌<◌, ◌+◌, ◌*◌, ◌/◌, ◌↔◌, ◌⊎◌, ◌==◌, ⊎_elim, inl, inr, refl, sym, ap, subst, arith}
 use Rattle.std.specs.Prelude.{List, ◌∷◌, Option, Some, None, IfSome, IfNone, MatchOption}
 use Rattle.std.proofs.Math.Nat.{div-lt_iff_lt-mul, le-div_iff_mul-le}
 use Rattle.std.proofs.lemmas.Grind.{common_steps}
-use Rattle.std.proofs.lemmas.Bool.{or_cases, or_left, or_right, eqb-true, eq-eqb}
+use Rattle.std.proofs.lemmas.Bool.{cases_lt, or_cases, or_left, or_right, eqb-true, eq-eqb}
 use Rattle.simplex_types.specs.Positions.{term_start, term_end, InCoveringRange}
 use Rattle.simplex_messages.specs.declared.nullification.Nullification.{Nullification}
 use Rattle.simplex_record.specs.Coverage as spans
 use Rattle.simplex_record.specs.Coverage.{LiesIn}
-use Rattle.simplex_views.specs.History.{Setup, Point, nullified, was_nullified}
+use Rattle.simplex_views.specs.History.{Setup, Point, last_finalized, nullified, was_nullified}
 use Rattle.simplex_views.specs.Views.{IsCovered, AreCoveredBetween, IsFirstUncovered}
 
 -- a view up to the end of a term is of that term or of an earlier one
@@ -46,6 +46,18 @@ covers-span views (suc v) (suc u) some =
       λ range. (range.1, end.1 (start.0 range.0)),
     )
 
+-- the views before the term that begins or goes on behind a view are those whose terms end up to it
+pub ends-before : (views last view : ℕ) → 0 < views → (view < term_start views (last + 1)) ↔ (term_end views view ≤ last)
+ends-before views last zero some = (λ _. let none : term_end views zero ≡ 0 = grind (arith, common_steps) in omega (arith, none), λ _. let first : term_start views (last + 1) ≡ last / views * views + 1 = grind (arith, common_steps) in omega (arith, first))
+ends-before views last (suc u) some =
+    let start = term_start-le views u last some in
+    let end = term_end-le views u last some in
+    let next : last + 1 ≡ suc last = omega arith in
+    let same : term_start views (last + 1) ≡ term_start views (suc last) = ap (λ n. term_start views n) next in (
+      λ before. ⊎_elim (λ lt. let begins = start.1 (end.0 (omega (arith, lt))) in absurd (omega (arith, begins, before, same))) (λ le. le) (cases_lt last (term_end views (suc u))),
+      λ ends. ⊎_elim (λ lt. lt) (λ le. let later = end.1 (start.0 (omega (arith, le, same))) in absurd (omega (arith, later, ends))) (cases_lt (suc u) (term_start views (last + 1))),
+    )
+
 module _ {S D P G C : Type 0} where
   -- one more nullification covers what lies in its span
   pub covered-next : (s : Setup S C) (h : List (Point S D P G C)) (now : ℕ) (c : Nullification S D P G C) (covered covers : Type 0) (view : ℕ) → 0 < s.length
@@ -63,13 +75,15 @@ module _ {S D P G C : Type 0} where
       )
 
   -- the first view that the spans leave bare is the first that isn't covered
-  pub first-uncovered : (s : Setup S C) (h : List (Point S D P G C)) (all : List (ℕ × ℕ)) (parent view : ℕ) (o : Option ℕ) → ((u : ℕ) → spans.IsCovered all u ↔ IsCovered s h u)
+  pub first-uncovered : (s : Setup S C) (h : List (Point S D P G C)) (all : List (ℕ × ℕ)) (parent view : ℕ) (o : Option ℕ) → ((u : ℕ) → last_finalized h < u → spans.IsCovered all u ↔ IsCovered s h u) → last_finalized h ≤ parent
       → IfSome o (λ first. spans.IsFirstUncovered all parent view first) → IfNone o (spans.AreCoveredBetween all parent view)
       → MatchOption o (AreCoveredBetween s h parent view) (λ first. IsFirstUncovered s h parent view first)
-  first-uncovered s h all parent view None same some none = λ u after before. (same u).0 (none u after before)
-  first-uncovered s h all parent view (Some first) same some none = record {
-    after = some.after;
-    before = some.before;
-    bare = λ is. some.bare ((same first).1 is);
-    least = λ u after before. (same u).0 (some.least u after before);
-  }
+  first-uncovered s h all parent view None same from some none = λ u after before. (same u (omega (arith, from, after))).0 (none u after before)
+  first-uncovered s h all parent view (Some first) same from some none =
+      let behind : parent < first = some.after in
+      record {
+        after = some.after;
+        before = some.before;
+        bare = λ is. some.bare ((same first (omega (arith, from, behind))).1 is);
+        least = λ u after before. (same u (omega (arith, from, after))).0 (some.least u after before);
+      }

@@ -6,6 +6,7 @@ pub mod Following
 pub mod Forwarding
 pub mod Leading
 pub mod Marking
+pub mod Pruning
 pub mod Recalling
 pub mod Replaying
 pub mod Stepping

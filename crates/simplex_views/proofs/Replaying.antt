@@ -1,9 +1,6 @@
 -- What an artifact of a record leaves of the voter.
-use Rattle.std.proofs.Common.{◌≡◌, ◌-◌, ◌==◌, ℕ, suc, true, false, List, ◌∷◌, refl, sym, ap, subst, ◌∙◌, arith, if◌then◌else◌}
-use Rattle.std.specs.Prelude.{Option, Some, None, Bool, ◌||◌, ⊤}
-use Rattle.std.specs.Option.{option_or}
-use Rattle.std.specs.Ordering.{nat_cmp}
-use Rattle.std.specs.BTreeMap.{get}
+use Rattle.std.proofs.Common.{◌≡◌, ◌==◌, ℕ, true, false, List, ◌∷◌, refl, ◌∙◌, if◌then◌else◌}
+use Rattle.std.specs.Prelude.{Option, Some, None, Bool, ⊤}
 use Rattle.simplex_types.specs.declared.position.Round.{Round}
 use Rattle.simplex_types.specs.declared.proposal.Proposal.{Proposal}
 use Rattle.simplex_types.specs.declared.scheme.Scheme.{Ghosts}
@@ -15,7 +12,6 @@ use Rattle.simplex_round.specs.Past as past
 use Rattle.simplex_round.specs.Past.{Item, has_notarized}
 use Rattle.simplex_messages.specs.ProposalVote.{Notarize}
 use Rattle.simplex_views.specs.declared.marks.Marks.{Marks}
-use Rattle.simplex_views.specs.declared.rounds.Rounds.{Rounds}
 use Rattle.simplex_views.specs.declared.tracked.Tracked.{Tracked}
 use Rattle.simplex_views.specs.declared.views.Views.{Views}
 use Rattle.simplex_views.specs.History as History
@@ -24,13 +20,11 @@ use Rattle.simplex_views.specs.Known.{backs}
 use Rattle.simplex_views.specs.Leaders.{leader, was_forwarded}
 use Rattle.simplex_views.specs.Marks.{Shows}
 use Rattle.simplex_views.specs.Progress.{frame_of, tables}
-use Rattle.simplex_views.specs.Rounds.{Keep, recalled}
-use Rattle.simplex_views.specs.Tracked.{Tables, IsClosedAt, Holds, inherits_by, is_spoken}
+use Rattle.simplex_views.specs.Rounds.{recalled}
+use Rattle.simplex_views.specs.Tracked.{Tables, IsClosedAt, Holds, inherits_by}
 use Rattle.simplex_views.specs.Views.{IsKept, recalls}
 use Rattle.simplex_views.proofs.Entering.{put-fact}
-use Rattle.simplex_views.proofs.Following.{leader-closed}
-use Rattle.simplex_views.proofs.Leading.{inherits-less}
-use Rattle.simplex_views.proofs.Stepping.{IsQuiet, sent-quiet}
+use Rattle.simplex_views.proofs.Stepping.{IsQuiet, like-put, like-seen, quiet-from, sent-quiet, spoken-closed, still-kept}
 
 module _ {S D P G C : Type 0} where
   -- what is offered, or bound, changes no other fact
@@ -75,56 +69,24 @@ module _ {S D P G C : Type 0} (s : Setup S C) (h : List (Point S D P G C)) (p : 
 
   -- behind another view nothing is left to be handed on
   pub recalled-closed : (u : ℕ) → (p.round.view == u) ≡ false → IsClosedAt (inherits_by (frame_of s) recalled-tables) (leader s h) u
-  recalled-closed u apart so =
-      let back : suc u - 1 ≡ u = omega arith in
-      let votes = recalled-votes (undecided_payload (seen s h p.parent)) p taken (seen s h) u apart in
-      leader-closed s h u (inherits-less (frame_of s) (tables s h) recalled-tables (suc u)
-      (λ w _ _ d. sym (recalled-direct w) ∙ d)
-      (λ spoken. subst (λ n. is_spoken (tables s h) n ≡ true) (sym back) (ap (λ b. was_forwarded s h u || b) (sym votes) ∙ subst (λ n. is_spoken recalled-tables n ≡ true) back spoken))
-      so)
-
-module _ {S D P G C : Type 0} (g : Ghosts S D P G C) (s : Setup S C) (h : List (Point S D P G C)) (x : Tracked S D P G C) where
-  -- the rounds stand where the own notarize leads
-  pub recalled-holds : (p : Proposal D) (taken : Bool) (r : Rounds S D P G C) → Holds g (frame_of s) x (tables s h)
-      → Keep g.key_of (frame_of s).common r (leader s h) (recalled-past (undecided_payload (seen s h p.parent)) p taken (seen s h)) → Holds g (frame_of s) (record x { rounds = r }) (recalled-tables s h p taken)
-  unfolding Holds Shows
-  recalled-holds p taken r k kept = record {
-    length = k.length;
-    optimistic_views = k.optimistic_views;
-    rounds = kept;
-    direct = λ u. k.direct u ∙ sym (recalled-direct s h p taken u);
-    noted = k.noted;
-    members = k.members;
-  }
+  recalled-closed = spoken-closed s h (recalled-past (undecided_payload (seen s h p.parent)) p taken (seen s h)) p.round.view recalled-direct
+      (recalled-votes (undecided_payload (seen s h p.parent)) p taken (seen s h))
 
 module _ {S L D P G C : Type 0} {g : Ghosts S D P G C} {leads : L → Round → Option C → ℕ} {s : Setup S C} {v : Views S L D P G C} {h : List (Point S D P G C)} where
   -- the voter stands where the own notarize leads
   pub recalled-notarize : (p : Proposal D) (taken : Bool) (x : Tracked S D P G C) (marks : Marks) → IsKept g leads s v h
       → Holds g (frame_of s) x (tables s (History.recalled_notarize p taken ∷ h)) → Shows marks (is_marked s backs (History.recalled_notarize p taken ∷ h))
       → IsKept g leads s (record v { progress = record v.progress { tracked = x }; backed = marks }) (History.recalled_notarize p taken ∷ h)
-  recalled-notarize p taken x marks k holds backed = record {
-    scheme = k.scheme;
-    me = k.me;
-    epoch = k.epoch;
-    length = k.length;
-    optimistic_views = k.optimistic_views;
-    retention = k.retention;
-    elects = k.elects;
-    members = k.members;
-    progress = record {
-      view = k.progress.view;
-      leader_timeout = k.progress.leader_timeout;
-      certification_timeout = k.progress.certification_timeout;
-      stall_timeout = k.progress.stall_timeout;
-      tracked = holds;
-    };
-    last_finalized = k.last_finalized;
-    genesis = k.genesis;
-    coverage = k.coverage;
-    backed = backed;
-    waiting = k.waiting;
-    nullifications = λ u. k.nullifications u ∙ ap (λ n. option_or (get nat_cmp v.reaching u) n) (sym (recalled-nullification s h p taken u));
-  }
+  recalled-notarize p taken x marks k holds backed = still-kept (History.recalled_notarize p taken) (record v.progress { tracked = x }) marks v.waiting k
+      (record { finalizes = refl; begins = refl; covers = λ u. refl; nullifies = λ u. refl; kept_nullification = recalled-nullification s h p taken })
+      (record {
+        view = k.progress.view;
+        leader_timeout = k.progress.leader_timeout;
+        certification_timeout = k.progress.certification_timeout;
+        stall_timeout = k.progress.stall_timeout;
+        tracked = holds;
+      })
+      backed k.waiting
 
 module _ {S D P G C : Type 0} where
   -- an artifact is no own notarize
@@ -143,61 +105,25 @@ module _ {S D P G C : Type 0} where
 
 module _ {S D P G C : Type 0} (s : Setup S C) (h : List (Point S D P G C)) where
   verdict-quiet : (view : ℕ) (ok : Bool) → IsQuiet s h (History.recalled_verdict view ok)
-  verdict-quiet view ok = record {
-    finalizes = refl;
-    begins = refl;
-    covers = λ u. refl;
-    nullifies = λ u. refl;
-    notes = λ u. refl;
-    backs_none = λ u. refl;
-    waits_none = λ u. refl;
-    leads = refl;
-    nobody = λ u. refl;
-    kept_nullification = put-fact past.nullification (past.judged ok) (λ l. refl) view (seen s h);
-    certificates = put-fact is_direct (past.judged ok) (λ l. refl) view (seen s h);
-    votes = put-fact has_notarized (past.judged ok) (λ l. refl) view (seen s h);
-  }
+  verdict-quiet view ok = quiet-from s h (History.recalled_verdict view ok) (refl, refl, λ u. refl, λ u. refl, λ u. refl, λ u. refl, λ u. refl, refl, λ u. refl)
+      (like-put s h view (past.judged ok) (seen s h) (λ l. refl, λ l. refl, λ l. refl) (like-seen s h))
 
-  nullify-quiet : (view : ℕ) → IsQuiet s h (History.recalled_nullify view)
-  nullify-quiet view = record {
-    finalizes = refl;
-    begins = refl;
-    covers = λ u. refl;
-    nullifies = λ u. refl;
-    notes = λ u. refl;
-    backs_none = λ u. refl;
-    waits_none = λ u. refl;
-    leads = refl;
-    nobody = λ u. refl;
-    kept_nullification = put-fact past.nullification (past.voted_nullify) (λ l. refl) view (seen s h);
-    certificates = put-fact is_direct (past.voted_nullify) (λ l. refl) view (seen s h);
-    votes = put-fact has_notarized (past.voted_nullify) (λ l. refl) view (seen s h);
-  }
+  recalled_nullify-quiet : (view : ℕ) → IsQuiet s h (History.recalled_nullify view)
+  recalled_nullify-quiet view = quiet-from s h (History.recalled_nullify view) (refl, refl, λ u. refl, λ u. refl, λ u. refl, λ u. refl, λ u. refl, refl, λ u. refl)
+      (like-put s h view past.voted_nullify (seen s h) (λ l. refl, λ l. refl, λ l. refl) (like-seen s h))
 
-  finalize-quiet : (p : Proposal D) → IsQuiet s h (History.recalled_finalize p)
-  finalize-quiet p = record {
-    finalizes = refl;
-    begins = refl;
-    covers = λ u. refl;
-    nullifies = λ u. refl;
-    notes = λ u. refl;
-    backs_none = λ u. refl;
-    waits_none = λ u. refl;
-    leads = refl;
-    nobody = λ u. refl;
-    kept_nullification = put-fact past.nullification (past.voted_finalize) (λ l. refl) p.round.view (seen s h);
-    certificates = put-fact is_direct (past.voted_finalize) (λ l. refl) p.round.view (seen s h);
-    votes = put-fact has_notarized (past.voted_finalize) (λ l. refl) p.round.view (seen s h);
-  }
+  recalled_finalize-quiet : (p : Proposal D) → IsQuiet s h (History.recalled_finalize p)
+  recalled_finalize-quiet p = quiet-from s h (History.recalled_finalize p) (refl, refl, λ u. refl, λ u. refl, λ u. refl, λ u. refl, λ u. refl, refl, λ u. refl)
+      (like-put s h p.round.view past.voted_finalize (seen s h) (λ l. refl, λ l. refl, λ l. refl) (like-seen s h))
 
   -- what such an artifact leaves is what its point does
   pub other-quiet : (a : Artifact S D P G C) → IsOther a → (taken : Bool) → IsQuiet s h (recalls taken a)
   other-quiet (artifact.Notarize v) other taken = absurd other
   other-quiet (artifact.Notarization c) other taken = sent-quiet s h kind.Notarization c.proposal.round.view
   other-quiet (artifact.Certification round ok) other taken = verdict-quiet round.view ok
-  other-quiet (artifact.Nullify v) other taken = nullify-quiet v.round.view
+  other-quiet (artifact.Nullify v) other taken = recalled_nullify-quiet v.round.view
   other-quiet (artifact.Nullification c) other taken = sent-quiet s h kind.Nullification c.round.view
-  other-quiet (artifact.Finalize v) other taken = finalize-quiet v.proposal
+  other-quiet (artifact.Finalize v) other taken = recalled_finalize-quiet v.proposal
   other-quiet (artifact.Finalization c) other taken = sent-quiet s h kind.Finalization c.proposal.round.view
 
   pub other-seen : (a : Artifact S D P G C) → IsOther a → (taken : Bool) → recalled taken a (seen s h) ≡ seen s (recalls taken a ∷ h)

@@ -1,9 +1,10 @@
 -- What the rounds of all views keep.
-use Rattle.std.specs.Prelude.{◌≡◌, ◌≢◌, ◌⊎◌, ◌↔◌, ◌<◌, ◌≤◌, ◌^◌, ◌==◌, ℕ, Bool, false, List, [], Option, Some, None, IsSome, IsTrue, MatchOption, if◌then◌else◌, ⊤}
+use Rattle.std.specs.Prelude.{◌≡◌, ◌≢◌, ◌⊎◌, ◌↔◌, ◌<◌, ◌≤◌, ◌^◌, ◌==◌, nat_lt, ℕ, Bool, false, List, [], Option, Some, None, IsSome, IsTrue, MatchOption, if◌then◌else◌, ⊤}
 use Rattle.std.specs.Option.{option_or}
 use Rattle.std.specs.Ordering.{nat_cmp}
 use Rattle.std.specs.BTreeMap.{BTreeMap, get}
 use Rattle.simplex_messages.specs.declared.artifact.Artifact.{Artifact}
+use Rattle.simplex_messages.specs.declared.nullification.Nullification.{Nullification}
 use Rattle.simplex_messages.specs.declared.artifact.Artifact.TheVariants as artifact
 use Rattle.simplex_round.specs.declared.round.Round.{Round}
 use Rattle.simplex_round.specs.Round as one
@@ -12,6 +13,8 @@ use Rattle.simplex_round.specs.Held.{held, Agrees}
 use Rattle.simplex_round.specs.Past as past
 use Rattle.simplex_round.specs.Past.{Item, offers}
 use Rattle.simplex_views.specs.History.{put}
+use Rattle.simplex_views.specs.declared.notice.Notice.{Notice}
+use Rattle.simplex_views.specs.declared.notice.Notice.TheVariants as notice
 use Rattle.simplex_views.specs.declared.rounds.Rounds.{Rounds}
 
 -- what stays the same of all rounds
@@ -50,6 +53,11 @@ module _ {S D P G C : Type 0} where
     pub below : (view : ℕ) → view < floor → IsRight key_of s view (get nat_cmp m view) (led view) (past view)
     pub above : (view : ℕ) → floor ≤ view → get nat_cmp m view ≡ None
 
+  -- what is kept of a view's nullification where the views below the floor are dropped: what was kept, or of one of these from the
+  -- first on its own
+  abbrev pub kept_from : ℕ → ℕ → Option (Nullification S D P G C) → List (Item S D P G C) → ℕ → Option (Nullification S D P G C)
+  kept_from first floor kept x view = if nat_lt view floor then option_or kept (if nat_lt view first then None else past.nullification x) else kept
+
   -- of an own notarize in a record, its view takes its proposal exactly where it holds none or the same
   abbrev pub Takes : (ℕ → List (Item S D P G C)) → Artifact S D P G C → Bool → Type 0
   Takes t (artifact.Notarize v) taken = IsTrue taken ↔ Agrees (held (offers (t v.proposal.round.view))) v.proposal
@@ -66,6 +74,14 @@ module _ {S D P G C : Type 0} where
   recalled taken (artifact.Nullification c) t = put c.round.view past.sent_nullification t
   recalled taken (artifact.Finalize v) t = put v.proposal.round.view past.voted_finalize t
   recalled taken (artifact.Finalization c) t = put c.proposal.round.view past.sent_finalization t
+
+  -- what a notice tells of a view
+  abbrev pub told : Notice → Item S D P G C
+  told (notice.Latched now why) = past.latched now why
+  told notice.Unbound = past.unbound
+  told notice.BuildReleased = past.offered offer.released
+  told (notice.AncestryAsked missing) = past.asked missing
+  told (notice.CertifyAsked handle) = past.certifying handle
 
   pub record IsKept (key_of : S → ℕ → P) (s : Common S) (r : Rounds S D P G C) (led : ℕ → Option ℕ) (past : ℕ → List (Item S D P G C)) : Type 0 where
     pub scheme : r.scheme.value ≡ s.scheme

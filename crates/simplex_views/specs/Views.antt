@@ -1,5 +1,5 @@
 -- At which history the views of a voter stand.
-use Rattle.std.specs.Prelude.{◌≡◌, ◌≢◌, ◌↔◌, ◌⊎◌, ◌<◌, ℕ, Bool, true, List, [], AllPairs, Contains, Option, IsSome}
+use Rattle.std.specs.Prelude.{◌≡◌, ◌≢◌, ◌↔◌, ◌⊎◌, ◌+◌, ◌<◌, ◌^◌, ℕ, Bool, true, List, [], AllPairs, Contains, Option, IsSome}
 use Rattle.std.specs.Option.{option_or}
 use Rattle.std.specs.BTreeMap.{get}
 use Rattle.std.specs.Ordering.{nat_cmp}
@@ -12,8 +12,11 @@ use Rattle.simplex_rules.specs.declared.kind.Kind.TheVariants as kind
 use Rattle.simplex_record.specs.Coverage as spans
 use Rattle.simplex_round.specs.Past as past
 use Rattle.simplex_round.specs.Round as one
+use Rattle.simplex_views.specs.declared.notice.Notice.{Notice}
+use Rattle.simplex_views.specs.declared.notice.Notice.TheVariants as notice
 use Rattle.simplex_views.specs.declared.views.Views.{Views}
-use Rattle.simplex_views.specs.History.{Setup, Point, recalled_notarize, recalled_nullify, recalled_finalize, recalled_verdict, sent, current, last_finalized, min_active, genesis, is_marked, seen, was_nullified, nullification}
+use Rattle.simplex_views.specs.History as History
+use Rattle.simplex_views.specs.History.{Setup, Point, latched, unbound, build_released, ancestry_asked, certify_asked, recalled_notarize, recalled_nullify, recalled_finalize, recalled_verdict, sent, current, last_finalized, min_active, genesis, is_marked, seen, was_nullified, nullification}
 use Rattle.simplex_views.specs.Known.{backs, waits}
 use Rattle.simplex_views.specs.Leaders.{leader}
 use Rattle.simplex_views.specs.Marks.{Shows}
@@ -59,6 +62,14 @@ module _ {S D P G C : Type 0} where
   recalls taken (artifact.Finalize v) = recalled_finalize v.proposal
   recalls taken (artifact.Finalization c) = sent kind.Finalization c.proposal.round.view
 
+  -- the point that a notice of a view is
+  abbrev pub noticed : ℕ → Notice → Point S D P G C
+  noticed view (notice.Latched now why) = latched now view why
+  noticed view notice.Unbound = unbound view
+  noticed view notice.BuildReleased = build_released view
+  noticed view (notice.AncestryAsked missing) = ancestry_asked view missing
+  noticed view (notice.CertifyAsked handle) = certify_asked view handle
+
 module _ {S L D P G C : Type 0} where
   pub record IsKept (g : Ghosts S D P G C) (leads : L → Round → Option C → ℕ) (s : Setup S C) (v : Views S L D P G C) (h : List (Point S D P G C)) : Type 0 where
     pub scheme : v.scheme.value ≡ s.scheme
@@ -71,8 +82,9 @@ module _ {S L D P G C : Type 0} where
     pub members : (view : ℕ) (c : Option C) → s.elect view c < g.size s.scheme
     pub progress : IsAt g s v.progress (current s h) (tables s h)
     pub last_finalized : v.last_finalized ≡ last_finalized h
+    pub behind : History.last_finalized h + 1 < 2 ^ 64
     pub genesis : v.genesis ≡ genesis h
-    pub coverage : (view : ℕ) → spans.IsCovered v.coverage view ↔ IsCovered s h view
+    pub coverage : (view : ℕ) → History.last_finalized h < view → spans.IsCovered v.coverage view ↔ IsCovered s h view
     pub backed : Shows v.backed (is_marked s backs h)
     pub waiting : Shows v.waiting (is_marked s waits h)
     pub nullifications : (view : ℕ) → nullification s h view ≡ option_or (get nat_cmp v.reaching view) (past.nullification (seen s h view))

@@ -2,6 +2,7 @@
 #![tactic(auto)]
 
 mod marks;
+mod notice;
 mod progress;
 mod rounds;
 mod tracked;

@@ -1,15 +1,16 @@
 //! The rounds of all views of which something is known.
 #![tactic(auto, unfolding(crate::specs::Rounds::Keep))]
 
-ghost use Rattle.std.specs.Prelude.{◌≡◌, ◌↔◌, ◌<◌, ◌==◌, if◌then◌else◌, nat_lt, ℕ, Bool, false, true, List, [], ◌∷◌, Option, Some, None, is_none, IsSome, IsTrue, IfOk, OnOk, MatchOption, option_map};
+ghost use Rattle.std.specs.Prelude.{◌≡◌, ◌↔◌, ◌<◌, ◌+◌, ◌^◌, ◌==◌, if◌then◌else◌, nat_lt, ℕ, Bool, false, true, List, [], ◌∷◌, Option, Some, None, is_none, is_some, IsSome, IsTrue, IfOk, OnOk, MatchOption, option_map};
 ghost use Rattle.std.specs.Ordering.{nat_cmp};
 ghost use Rattle.std.specs.BTreeMap.{get};
-ghost use Rattle.simplex_round.specs.Held.{held, forwarded, Agrees, Differs};
-ghost use Rattle.simplex_round.specs.Past.{offered, entered, armed, latched, notarized, nullified, finalized, judged, notarization, nullification, finalization, offers, has_nullified};
+ghost use Rattle.simplex_round.specs.Held.{held, forwarded, confirmed, verifying, Agrees, Differs, IsUnverified};
+ghost use Rattle.simplex_round.specs.Past.{offered, entered, armed, notarized, nullified, finalized, judged, bound, built, polled, voted_finalize, voted_notarize, voted_nullify, notarization, nullification, finalization, offers, has_finalized, has_nullified, next_timeout, MayFinalize, MayNotarize, MayVerify};
 ghost use Rattle.simplex_round.specs.Round as one;
 ghost use Rattle.simplex_views.specs.History.{bind, forget, put};
-ghost use Rattle.simplex_views.specs.Rounds.{Common, Keep, AreBelow, AtEach, IsOpen, IsTracked, Takes, learn, recalled, setup_of};
+ghost use Rattle.simplex_views.specs.Rounds.{Common, Keep, AreBelow, AtEach, IsOpen, IsTracked, Takes, learn, recalled, setup_of, told};
 
+use crate::notice::Notice;
 use simplex_messages::{Artifact, Finalization, Notarization, Nullification};
 use simplex_round::{Round, TimeoutReason};
 use simplex_types::{
@@ -167,20 +168,102 @@ impl<S: Scheme<D> + Drop, D: Digest> Rounds<S, D> {
         Ok(())
     }
 
-    /// Takes a reason to give the view up.
-    pub(crate) fn latch(
-        &mut self,
-        view: View,
-        now: u64,
-        reason: TimeoutReason,
-    ) -> Result<(), AllocError>
-        ensures { OnOk result (AtEach S.key_of self.old (λ s led past. Keep S.key_of s self.new led (put view (latched now reason) past))) }
+    /// Takes in what needs no answer.
+    pub(crate) fn tell(&mut self, view: View, notice: Notice) -> Result<(), AllocError>
+        ensures { OnOk result (AtEach S.key_of self.old (λ s led past. Keep S.key_of s self.new led (put view (told notice) past))) }
     {
         self.open(view)?;
         if let Some(round) = self.by_view.get_mut(&view) {
-            round.latch_timeout(now, reason);
+            tell(round, notice);
         }
         Ok(())
+    }
+
+    /// Takes it that the held proposal was found good: whether it became verified. Behind an own nullify nothing changes.
+    pub(crate) fn verified(&mut self, view: View) -> Result<bool, AllocError>
+        ensures keeps { OnOk result (AtEach S.key_of self.old (λ s led past. Keep S.key_of s self.new led (if has_nullified (past view) then past else put view (offered confirmed) past))) }
+        ensures answer { IfOk result (λ became. AtEach S.key_of self.old (λ s led past. IsTrue became ↔ ((has_nullified (past view) ≡ false) × IsUnverified (offers (past view))))) }
+    {
+        self.open(view)?;
+        match self.by_view.get_mut(&view) {
+            Some(round) => Ok(round.verified()),
+            None => Ok(false),
+        }
+    }
+
+    /// Records an own build over its parent's payload: whether it is taken. Else nothing changes.
+    pub(crate) fn proposed(
+        &mut self,
+        now: u64,
+        proposal: Proposal<D>,
+        payload: D,
+    ) -> Result<bool, AllocError>
+        ensures keeps { IfOk result (λ taken. AtEach S.key_of self.old (λ s led past. Keep S.key_of s self.new led (if taken then put proposal.round.view (bound proposal payload) (put proposal.round.view (built now proposal) past) else past))) }
+        ensures answer { IfOk result (λ taken. AtEach S.key_of self.old (λ s led past. IsTrue taken ↔ ((has_nullified (past proposal.round.view) ≡ false) × Agrees (held (offers (past proposal.round.view))) proposal))) }
+    {
+        let view = proposal.view();
+        self.open(view)?;
+        match self.by_view.get_mut(&view) {
+            Some(round) => Ok(record_build(round, now, proposal, payload)),
+            None => Ok(false),
+        }
+    }
+
+    /// Votes to notarize the view, where it allows that: the held proposal.
+    pub(crate) fn construct_notarize(&mut self, view: View) -> Option<Proposal<D>>
+        ensures keeps { AtEach S.key_of self.old (λ s led past. Keep S.key_of s self.new led (if is_some result then put view voted_notarize past else past)) }
+        ensures answer { AtEach S.key_of self.old (λ s led past. MatchOption result (¬ MayNotarize (past view)) (λ p. MayNotarize (past view) × (held (offers (past view)) ≡ Some p))) }
+    {
+        // The proof takes from the number that it has 64 bits.
+        let _number = view.get();
+        match self.by_view.get_mut(&view) {
+            Some(round) => round.construct_notarize(),
+            None => None,
+        }
+    }
+
+    /// Votes to finalize the view, where it allows that: the held proposal.
+    pub(crate) fn construct_finalize(&mut self, view: View) -> Option<Proposal<D>>
+        ensures keeps { AtEach S.key_of self.old (λ s led past. Keep S.key_of s self.new led (if is_some result then put view voted_finalize past else past)) }
+        ensures answer { AtEach S.key_of self.old (λ s led past. MatchOption result (¬ MayFinalize (past view)) (λ p. MayFinalize (past view) × (held (offers (past view)) ≡ Some p))) }
+    {
+        // The proof takes from the number that it has 64 bits.
+        let _number = view.get();
+        match self.by_view.get_mut(&view) {
+            Some(round) => round.construct_finalize(),
+            None => None,
+        }
+    }
+
+    /// Votes to nullify the view, unless this member voted to finalize it: whether it did before.
+    pub(crate) fn construct_nullify(&mut self, view: View) -> Result<Option<bool>, AllocError>
+        ensures keeps { IfOk result (λ voted. AtEach S.key_of self.old (λ s led past. Keep S.key_of s self.new led (if is_some voted then put view voted_nullify past else past))) }
+        ensures answer { IfOk result (λ voted. AtEach S.key_of self.old (λ s led past. voted ≡ (if has_finalized (past view) then None else Some (has_nullified (past view))))) }
+    {
+        self.open(view)?;
+        match self.by_view.get_mut(&view) {
+            Some(round) => Ok(round.construct_nullify()),
+            None => Ok(None),
+        }
+    }
+
+    /// When and why the view is given up next, where a nullify that was voted is due again an interval after this look.
+    pub(crate) fn next_timeout(
+        &mut self,
+        view: View,
+        now: u64,
+        retry_interval: u64,
+        allow_latched_timeout: bool,
+    ) -> Result<Option<(u64, TimeoutReason)>, AllocError>
+        requires { now + retry_interval < 2 ^ 64 }
+        ensures keeps { OnOk result (AtEach S.key_of self.old (λ s led past. Keep S.key_of s self.new led (put view (polled (now + retry_interval)) past))) }
+        ensures answer { IfOk result (λ timeout. AtEach S.key_of self.old (λ s led past. timeout ≡ next_timeout (polled (now + retry_interval) ∷ past view) allow_latched_timeout)) }
+    {
+        self.open(view)?;
+        match self.by_view.get_mut(&view) {
+            Some(round) => Ok(round.next_timeout(now, retry_interval, allow_latched_timeout)),
+            None => Ok(None),
+        }
     }
 
     /// Offers the leader's proposal of a view: whether it is the first there. Behind an own nullify nothing changes.
@@ -242,4 +325,52 @@ impl<S: Scheme<D> + Drop, D: Digest> Rounds<S, D> {
         let kept = self.by_view.split_off(&floor)?;
         Ok(mem::replace(&mut self.by_view, kept))
     }
+}
+
+/// Takes in what needs no answer.
+fn tell<S: Scheme<D>, D: Digest>(round: &mut Round<S, D>, notice: Notice)
+    ensures { one.Becomes S.key_of round.old round.new (λ h. told notice ∷ h) }
+{
+    match notice {
+        Notice::Latched(now, reason) => round.latch_timeout(now, reason),
+        Notice::Unbound => round.clear_verifying(),
+        Notice::BuildReleased => round.clear_proposal_request(),
+        Notice::AncestryAsked(missing) => {
+            let _first = round.request(missing);
+        }
+        Notice::CertifyAsked(handle) => round.set_certify_handle(handle),
+    }
+}
+
+/// Records an own build over its parent's payload: whether it is taken.
+fn record_build<S: Scheme<D>, D: Digest>(
+    round: &mut Round<S, D>,
+    now: u64,
+    proposal: Proposal<D>,
+    payload: D,
+) -> bool
+    ensures keeps { one.Becomes S.key_of round.old round.new (λ h. if result then bound proposal payload ∷ built now proposal ∷ h else h) }
+    ensures answer { one.AtEach S.key_of round.old (λ s l h. IsTrue result ↔ ((has_nullified h ≡ false) × Agrees (held (offers h)) proposal)) }
+{
+    if !round.proposed(now, proposal) {
+        return false;
+    }
+    round.set_verifying(proposal, payload);
+    true
+}
+
+/// Asks for a verification of the proposal over its parent's payload, and binds it to that: whether one may be asked for.
+pub(crate) fn request_verify<S: Scheme<D>, D: Digest>(
+    round: &mut Round<S, D>,
+    proposal: Proposal<D>,
+    payload: D,
+) -> bool
+    ensures keeps { one.Becomes S.key_of round.old round.new (λ h. if result then bound proposal payload ∷ offered verifying ∷ h else h) }
+    ensures answer { one.AtEach S.key_of round.old (λ s l h. IsTrue result ↔ MayVerify (S.own s.scheme) l h) }
+{
+    if !round.request_verify() {
+        return false;
+    }
+    round.set_verifying(proposal, payload);
+    true
 }

@@ -1,19 +1,25 @@
 //! What a voter has learnt of its views.
 #![tactic(auto, unfolding(crate::specs::Views::Keeps))]
 
+mod asking;
 mod learning;
+mod proposing;
+mod pruning;
 mod recalling;
 mod sending;
+mod timing;
+mod voting;
 
-ghost use Rattle.std.specs.Prelude.{◌≡◌, ◌↔◌, ◌<◌, ◌≤◌, ℕ, [], Some, IsTrue, IfOk, MatchOption, option_copied};
+ghost use Rattle.std.specs.Prelude.{◌≡◌, ◌↔◌, ◌+◌, ◌<◌, ◌≤◌, ◌^◌, ◌∷◌, ℕ, [], Some, IsTrue, IfOk, OnOk, MatchOption, option_copied};
 ghost use Rattle.simplex_rules.specs.Windows.{Admits, Retains};
 ghost use Rattle.simplex_round.specs.Past as past;
 ghost use Rattle.simplex_round.specs.Round as one;
 ghost use Rattle.simplex_views.specs.History.{current, last_finalized, min_active, genesis, nullification, seen};
 ghost use Rattle.simplex_views.specs.Leaders.{leader};
-ghost use Rattle.simplex_views.specs.Views.{Keeps, AtEach, AreCoveredBetween, IsFirstUncovered, IsTracked, round_of};
+ghost use Rattle.simplex_views.specs.Views.{Keeps, AtEach, AreCoveredBetween, IsFirstUncovered, IsTracked, noticed, round_of};
 
 use crate::marks::Marks;
+use crate::notice::Notice;
 use crate::progress::Progress;
 use crate::tracked::Tracked;
 use simplex_messages::{Finalization, Notarization, Nullification};
@@ -97,7 +103,8 @@ impl<S: Scheme<D> + Drop, L: Elector<S, D>, D: Digest> Views<S, L, D> {
 
     /// The last finalized view, or 0.
     pub fn last_finalized(&self) -> View
-        ensures { AtEach S.Scheme L.leader self.now (λ s h. result ≡ last_finalized h) }
+        ensures value { AtEach S.Scheme L.leader self.now (λ s h. result ≡ last_finalized h) }
+        ensures behind { AtEach S.Scheme L.leader self.now (λ s h. result + 1 < 2 ^ 64) }
     {
         self.last_finalized
     }
@@ -223,10 +230,19 @@ impl<S: Scheme<D> + Drop, L: Elector<S, D>, D: Digest> Views<S, L, D> {
         }
     }
 
-    /// The first view after the parent and before the view that isn't covered, or `None` where each of them is.
+    /// The first view after the parent and before the view that isn't covered, or `None` where each of them is. It is told of
+    /// a parent that does not lie below the last finalized view: of what covers only what lies above that one is kept.
     pub fn first_uncovered(&self, parent: View, view: View) -> Option<View>
-        ensures { AtEach S.Scheme L.leader self.now (λ s h. MatchOption result (AreCoveredBetween s h parent view) (λ first. IsFirstUncovered s h parent view first)) }
+        ensures { AtEach S.Scheme L.leader self.now (λ s h. last_finalized h ≤ parent → MatchOption result (AreCoveredBetween s h parent view) (λ first. IsFirstUncovered s h parent view first)) }
     {
         self.coverage.first_uncovered(parent, view)
+    }
+
+    /// Takes in what is told of a view and needs no answer.
+    fn tell(&mut self, view: View, notice: Notice) -> Result<(), AllocError>
+        ensures { OnOk result (AtEach S.Scheme L.leader self.old (λ s h. Keeps S.Scheme L.leader s self.new (noticed view notice ∷ h))) }
+    {
+        self.progress.tracked.rounds.tell(view, notice)?;
+        Ok(())
     }
 }

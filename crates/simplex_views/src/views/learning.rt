@@ -10,6 +10,7 @@ ghost use Rattle.simplex_views.specs.Leaders.{leader};
 ghost use Rattle.simplex_views.specs.Progress.{InTime};
 ghost use Rattle.simplex_views.specs.Views.{Keeps, AtEach};
 
+use crate::notice::Notice;
 use crate::tracked::later;
 use crate::views::Views;
 use simplex_messages::{Finalization, Notarization, Nullification};
@@ -128,6 +129,8 @@ impl<S: Scheme<D> + Drop, L: Elector<S, D>, D: Digest> Views<S, L, D> {
             return Ok((false, None));
         }
         let next = view.next();
+        // The proof takes from the number that it has 64 bits.
+        let _number = next.get();
         let leader = self.elector.elect(
             Round::new(self.epoch, next),
             Some(&certificate.certificate),
@@ -175,10 +178,8 @@ impl<S: Scheme<D> + Drop, L: Elector<S, D>, D: Digest> Views<S, L, D> {
         if view < self.progress.view {
             return Ok(Some(copy));
         }
-        self.progress
-            .tracked
-            .rounds
-            .latch(view, now, TimeoutReason::FailedCertification)?;
+        let notice = Notice::Latched(now, TimeoutReason::FailedCertification);
+        self.progress.tracked.rounds.tell(view, notice)?;
         Ok(Some(copy))
     }
 

@@ -1,8 +1,9 @@
 use Rattle.std.proofs.Common.{◌≡◌, refl}
 use Rattle.std.specs.Prelude.{Option, None, Some, MatchOption, IfSome, is_none}
-use Rattle.simplex_batcher.specs.declared.kind.Kind.{Kind}
-use Rattle.simplex_batcher.specs.History.{next_kind}
-use Rattle.simplex_batcher.specs.Construction.{IsBatch}
+use Rattle.simplex_verifier.specs.declared.kind.Kind.{Kind}
+use Rattle.simplex_verifier.specs.History.{next_kind}
+use Rattle.simplex_verifier.specs.Construction.{IsBatch}
+use Rattle.simplex_batcher.proofs.Admitting.{some-at}
 use Rattle.simplex_batcher.proofs.running.make.Goals as goal
 
 -- what comes of a construction, by the kind that is due
@@ -11,9 +12,6 @@ made-of P None None e batch = refl
 made-of P None (Some b) e batch = absurd (batch b refl)
 made-of P (Some kind) None e batch = absurd (cc e)
 made-of P (Some kind) (Some b) e batch = batch b refl
-
-some-at : {B : Type 0} (P : B → Type 0) (made : Option B) (b : B) → IfSome made P → made ≡ Some b → P b
-some-at P made b all e = rw e at all
 
 pub returns-in-Ok-clause-answer : goal.returns-in-Ok-clause-answer
 returns-in-Ok-clause-answer g c = λ s h k. rw c.in-AddNetwork.is (record {

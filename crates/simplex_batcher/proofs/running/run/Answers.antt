@@ -4,6 +4,7 @@ use Rattle.simplex_batcher.specs.Run.{after_call}
 use Rattle.simplex_batcher.proofs.Reaching.{Reached-start, Reached-asked, Reached-step, Reached-end}
 use Rattle.simplex_batcher.proofs.Summing.{processed-taken}
 use Rattle.simplex_batcher.proofs.Ending.{three-enough}
+use Rattle.simplex_verifier.specs.Keeping.{kept-lawful, kept-needed}
 use Rattle.simplex_batcher.specs.Rounds.{RoundKeeps}
 use Rattle.simplex_batcher.proofs.running.run.Goals as goal
 
@@ -42,7 +43,7 @@ pub returns-clause-processed : goal.returns-clause-processed
 returns-clause-processed g c = λ s first k all.
     let i = c.loop-call.invariant.1 s first k all in
     let none = nil_from_length _ (sym c.loop-call.call-iterator.rest.ok.0 ∙ c.in-None.ensures.steps.0) in
-    processed-taken g.S.Scheme g.D.PartialEq.eq s first _ _ (Reached-end _ _ _ _ _ _ _ _ i.2 none).0
+    processed-taken g.S.Scheme g.D.PartialEq.eq s (λ h e. c.no_more_are_judged_than_came.ensures.events s h e) (λ h kind batch. c.no_more_are_judged_than_came.ensures.batches s h kind batch) (λ h. c.no_more_are_judged_than_came.ensures.waiting s h) first _ _ (Reached-end _ _ _ _ _ _ _ _ i.2 none).0
 
 pub returns-clause-certified : goal.returns-clause-certified
 unfolding RoundKeeps
@@ -50,4 +51,5 @@ returns-clause-certified g c = λ s first k all live ends.
     let i = c.loop-call.invariant.1 s first k all in
     let none = nil_from_length _ (sym c.loop-call.call-iterator.rest.ok.0 ∙ c.in-None.ensures.steps.0) in
     let reached = Reached-end _ _ _ _ _ _ _ _ i.2 none in
-    three-enough g.S.Scheme g.D.PartialEq.eq s g.met.D.Digest.equal_is_same i.1.verifier.some_needed first _ _ live reached.0 ends (rw reached.1 i.1.verifier.lawful)
+    let kept = i.1.verifier in
+    three-enough g.S.Scheme g.D.PartialEq.eq s (λ h kind batch. c.constructions_end.ensures s h kind batch) (kept-needed g.D.PartialEq.eq g.S.Scheme g.S.Scheme.batchable s _ _ kept) (λ h. c.no_quorum_is_lost.ensures s h) first _ _ live reached.0 ends (rw reached.1 (kept-lawful g.D.PartialEq.eq g.S.Scheme g.S.Scheme.batchable s _ _ kept))

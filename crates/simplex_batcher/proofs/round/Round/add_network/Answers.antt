@@ -1,7 +1,6 @@
 use Rattle.std.proofs.Common.{◌≡◌, sym, refl, true}
-use Rattle.std.proofs.lemmas.Result.{err_from_is_err_and}
-use Rattle.simplex_batcher.specs.History.{takes}
-use Rattle.simplex_batcher.proofs.Admitting.{taken-new}
+use Rattle.simplex_verifier.specs.History.{takes}
+use Rattle.simplex_batcher.proofs.Admitting.{taken-new, taken-member}
 use Rattle.simplex_batcher.proofs.round.Round.add_network.Goals as goal
 
 pub returns-in-Some-clause-foreign : goal.returns-in-Some-clause-foreign
@@ -9,9 +8,6 @@ returns-in-Some-clause-foreign g c = λ s h k differs. absurd (differs ((c.belon
 
 pub returns-in-Some-clause-ours : goal.returns-in-Some-clause-ours
 returns-in-Some-clause-ours g c = λ s h k. (c.belongs.ensures s h k).0 c.if-not-belongs.false
-
-pub returns-in_err-report-clause-foreign : goal.returns-in_err-report-clause-foreign
-returns-in_err-report-clause-foreign g c = λ s h k differs. absurd (differs ((c.belongs.ensures s h k).0 c.if-not-belongs.false))
 
 pub returns-in_err-put-clause-foreign : goal.returns-in_err-put-clause-foreign
 returns-in_err-put-clause-foreign g c = λ s h k differs. absurd (differs ((c.belongs.ensures s h k).0 c.if-not-belongs.false))
@@ -25,14 +21,7 @@ returns-then-not-belongs-clause-refused g c = λ s h k ours. absurd (cc ((c.belo
 pub returns-clause-ours : goal.returns-clause-ours
 returns-clause-ours g c = λ s h k. (c.belongs.ensures s h k).0 c.if-not-belongs.false
 
-pub returns-in_err-put-clause-err : goal.returns-in_err-put-clause-err
-returns-in_err-put-clause-err g c =
-    let fault = err_from_is_err_and c.from_residual-in_err-put.result c.from_residual-in_err-put.ensures.1 in
-    rw fault.1 (λ s h k.
-    let taken = sym (rw c.in_default.is at (c.in_ok-admission.ensures.takes s h k)) in
-    c.in_err-put.ensures.err s h k (taken-new s h c.args.sender c.args.vote taken ((c.belongs.ensures s h k).0 c.if-not-belongs.false)))
-
 pub returns-clause-ok : goal.returns-clause-ok
 returns-clause-ok g c = λ s h k.
-    let taken : takes s h c.args.sender c.args.vote ≡ true = sym (rw c.in_default.is at (c.in_ok-admission.ensures.takes s h k)) in
-    rw taken (c.in_ok-put.ensures.taken s h k refl (taken-new s h c.args.sender c.args.vote taken ((c.belongs.ensures s h k).0 c.if-not-belongs.false)))
+    let taken : takes s h c.args.sender c.args.vote ≡ true = sym (rw c.in_default.is at (c.refusal.ensures.takes s h k)) in
+    rw taken (c.in_ok-put.ensures.taken s h k refl (taken-member s h c.args.sender c.args.vote taken) (taken-new s h c.args.sender c.args.vote taken ((c.belongs.ensures s h k).0 c.if-not-belongs.false)))

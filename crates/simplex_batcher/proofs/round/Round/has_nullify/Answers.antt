@@ -1,9 +1,10 @@
 use Rattle.std.proofs.Common.{◌∙◌}
-use Rattle.simplex_batcher.specs.History.{accepted}
+use Rattle.simplex_verifier.specs.History.{accepted}
 use Rattle.simplex_batcher.proofs.Single.{nullify-found}
+use Rattle.simplex_verifier.specs.Keeping.{kept-lawful}
 use Rattle.simplex_batcher.specs.Rounds.{RoundKeeps}
 use Rattle.simplex_batcher.proofs.round.Round.has_nullify.Goals as goal
 
 pub returns : goal.returns
 unfolding RoundKeeps
-returns g c = λ s h k. c.has_nullify.ensures (accepted h) k.tracker ∙ nullify-found g.D.PartialEq.eq g.S.Scheme.attests s h c.args.signer k.verifier.lawful
+returns g c = λ s h k. c.has_nullify.ensures (accepted h) k.tracker ∙ nullify-found g.D.PartialEq.eq g.S.Scheme.attests s h c.args.signer (kept-lawful g.D.PartialEq.eq g.S.Scheme g.S.Scheme.batchable s c.args.self.now.verifier h k.verifier)

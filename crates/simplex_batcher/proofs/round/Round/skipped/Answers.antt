@@ -1,4 +1,4 @@
-use Rattle.std.proofs.Common.{◌≡◌, refl, arith, max, false, true}
+use Rattle.std.proofs.Common.{◌≡◌, ◌∙◌, refl, arith, max, false, true}
 use Rattle.simplex_types.specs.Quorum.{quorum}
 use Rattle.simplex_batcher.specs.Rounds.{RoundKeeps}
 use Rattle.simplex_batcher.proofs.round.Round.skipped.Goals as goal
@@ -8,7 +8,8 @@ unfolding RoundKeeps
 returns g c =
     let e : max 0 (quorum (g.S.Scheme.size c.args.scheme.value)) ≡ quorum (g.S.Scheme.size c.args.scheme.value) = grind arith in record {
       verifier = rw e at (c.open.ensures false);
-      tracker = c.new.ensures;
+      tracker = c.new.ensures.keeps;
+      members_are = rw c.deref.ensures at (c.new.ensures.members ∙ c.participants.ensures.value);
       tracks_is = refl;
       forwarded_is = refl;
     }

@@ -1,32 +1,26 @@
 use Rattle.std.proofs.Common.{◌≡◌, ◌∙◌, refl, sym, true}
 use Rattle.std.specs.Prelude.{Option, None, Some, MatchOption, IfSome, is_none}
 use Rattle.simplex_messages.specs.declared.certificate.Certificate.{Certificate}
-use Rattle.simplex_batcher.specs.declared.kind.Kind.{Kind}
-use Rattle.simplex_batcher.specs.declared.batch.Batch.{Batch}
-use Rattle.simplex_batcher.specs.History.{History, next_kind}
-use Rattle.simplex_batcher.specs.Construction.{after, after_construction}
+use Rattle.simplex_verifier.specs.declared.kind.Kind.{Kind}
+use Rattle.simplex_verifier.specs.declared.batch.Batch.{Batch}
+use Rattle.simplex_verifier.specs.History.{History, next_kind}
+use Rattle.simplex_verifier.specs.Construction.{after, after_construction}
 use Rattle.simplex_batcher.specs.Rounds.{RoundKeeps}
-use Rattle.simplex_batcher.proofs.Kept.{none-lost}
-use Rattle.simplex_batcher.proofs.Finishing.{made-fewer}
+use Rattle.simplex_verifier.specs.Keeping.{kept-lawful, kept-needed}
+use Rattle.simplex_batcher.proofs.Admitting.{nothing, some-at}
+use Rattle.simplex_batcher.proofs.Ending.{made-fewer}
 use Rattle.simplex_batcher.proofs.round.Round.try_construct.Goals as goal
 
 after-of : {S D P G C : Type 0} (R : History S D P G C → Type 0) (h : History S D P G C) (made : Option (Batch (Certificate S D P G C))) (next : Option Kind) → MatchOption next (R h) (λ kind. R (after kind made h)) → R (after_construction next made h)
 after-of R h made None m = m
 after-of R h made (Some kind) m = m
 
-nothing : {X : Type 0} (o : Option X) → is_none o ≡ true → o ≡ None
-nothing None e = refl
-nothing (Some x) e = absurd (cc e)
-
-some-at : {B : Type 0} (P : B → Type 0) (made : Option B) (b : B) → IfSome made P → made ≡ Some b → P b
-some-at P made b all e = rw e at all
-
 pub returns-clause-certified : goal.returns-clause-certified
 unfolding RoundKeeps
 returns-clause-certified g c = λ none s h k live.
     let same = g.D.PartialEq.eq in
     let next : next_kind same s h ≡ None = nothing (next_kind same s h) (sym (c.in_ok-made.ensures.none s h k) ∙ rw none refl) in
-    none-lost same g.met.D.Digest.equal_is_same g.S.Scheme.attests s h live k.verifier.lawful next
+    c.no_quorum_is_lost.ensures s h live (kept-lawful g.D.PartialEq.eq g.S.Scheme g.S.Scheme.batchable s c.args.self.now.verifier h k.verifier) next
 
 pub returns-clause-last : goal.returns-clause-last
 unfolding RoundKeeps
@@ -34,13 +28,14 @@ returns-clause-last g c = λ s h k live none.
     let same = g.D.PartialEq.eq in
     let later = after_construction (next_kind same s h) c.in_ok-made.made h in
     let kept = after-of (RoundKeeps same g.S.Scheme g.S.Scheme.batchable s c.construct_first.new.self) h c.in_ok-made.made (next_kind same s h) (c.in_ok-made.ensures.ok s h k) in
-    none-lost same g.met.D.Digest.equal_is_same g.S.Scheme.attests s later live kept.verifier.lawful none
+    c.no_quorum_is_lost.ensures s later live (kept-lawful g.D.PartialEq.eq g.S.Scheme g.S.Scheme.batchable s c.construct_first.new.self.verifier later kept.verifier) none
 
 pub returns-clause-fewer : goal.returns-clause-fewer
 unfolding RoundKeeps
 returns-clause-fewer g c = λ s h k some.
     let same = g.D.PartialEq.eq in
-    made-fewer g.S.Scheme same g.met.D.Digest.equal_is_same s k.verifier.some_needed h k.verifier.lawful c.in_ok-made.made (next_kind same s h) refl some (c.in_ok-made.ensures.none s h k)
+    let v = c.args.self.now.verifier in
+    made-fewer g.S.Scheme same s (λ h kind batch. c.constructions_end.ensures s h kind batch) (kept-needed same g.S.Scheme g.S.Scheme.batchable s v h k.verifier) h (kept-lawful same g.S.Scheme g.S.Scheme.batchable s v h k.verifier) c.in_ok-made.made (next_kind same s h) refl some (c.in_ok-made.ensures.none s h k)
     (λ batch e. some-at _ c.in_ok-made.made batch c.in_ok-made.ensures.batch e s h k)
 
 pub returns-clause-ok : goal.returns-clause-ok

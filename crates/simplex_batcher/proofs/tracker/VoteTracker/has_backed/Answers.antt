@@ -11,9 +11,9 @@ second-of a b x y e none second = let one : x ≡ false = sym e ∙ none in rw o
 
 pub returns-then-is_for : goal.returns-then-is_for
 returns-then-is_for g c = λ votes k.
-    first-of _ _ _ (c.is_for.ensures ∙ ap (passes (is_backing g.D.PartialEq.eq c.args.proposal.now)) (c.notarize_of.ensures votes k)) c.if-is_for.true
+    first-of _ _ _ (c.is_for.ensures ∙ ap (passes (is_backing g.D.PartialEq.eq c.args.proposal.now)) (c.vote_of.ensures votes k)) c.if-is_for.true
 
 pub returns-else-is_for : goal.returns-else-is_for
 returns-else-is_for g c = λ votes k.
-    second-of _ _ _ _ (c.is_for.ensures ∙ ap (passes (is_backing g.D.PartialEq.eq c.args.proposal.now)) (c.notarize_of.ensures votes k)) c.if-is_for.false
-    (c.is_for-else-is_for.ensures ∙ ap (passes (is_backing g.D.PartialEq.eq c.args.proposal.now)) (c.other_of.ensures votes k))
+    second-of _ _ _ _ (c.is_for.ensures ∙ ap (passes (is_backing g.D.PartialEq.eq c.args.proposal.now)) (c.vote_of.ensures votes k)) c.if-is_for.false
+    (c.is_for-else-is_for.ensures ∙ ap (passes (is_backing g.D.PartialEq.eq c.args.proposal.now)) (c.vote_of-else-is_for.ensures votes k))

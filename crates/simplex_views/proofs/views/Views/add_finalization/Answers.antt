@@ -1,4 +1,4 @@
-use Rattle.std.proofs.Common.{refl, sym, ◌∙◌, ◌≡◌, ◌+◌, ap, arith, max, subst, ⊎_elim, inl, inr}
+use Rattle.std.proofs.Common.{refl, sym, ◌∙◌, ◌≡◌, ◌<◌, ◌+◌, ◌^◌, ap, arith, max, subst, ⊎_elim, inl, inr}
 use Rattle.std.specs.Prelude.{Some, None}
 use Rattle.std.specs.Option.{option_or}
 use Rattle.std.specs.Ordering.{nat_cmp}
@@ -20,6 +20,8 @@ unfolding Keeps
 returns-clause-keeps g c = λ s h k time.
     let at = c.args.certificate.proposal.round.view in
     let next : c.next-next.result ≡ at + 1 = rw (← c.view-view.ensures) c.next-next.ensures in
+    let fits : at + 1 < 2 ^ 64 = rw next at c.get-number.ensures.fits in
+    let was = k.behind in
     let round : c.new.result ≡ record { epoch = s.epoch; view = c.next-next.result } = λ i. record { epoch = (c.new.ensures.epoch ∙ k.epoch) i; view = c.new.ensures.view i } in
     let led : c.elect-leader.result ≡ s.elect c.next-next.result (Some c.args.certificate.certificate) = rw round at c.elect-leader.ensures ∙ k.elects c.next-next.result (Some c.args.certificate.certificate) in
     let fresh : past.finalization (seen s h at) ≡ None = copied-none c.finalization.result (rw c.view-view.ensures at (c.finalization.ensures s h k)) c.if-is_some.ensures in
@@ -53,8 +55,9 @@ returns-clause-keeps g c = λ s h k time.
       };
       last_finalized = later-max c.args.self.now.last_finalized c.view-view.result c.later-self.result c.later-self.ensures.one c.later-self.ensures.other c.later-self.ensures.least
           ∙ (λ i. max (c.view-view.ensures i) (k.last_finalized i));
+      behind = omega (arith, fits, was);
       genesis = k.genesis;
-      coverage = k.coverage;
+      coverage = λ u above. k.coverage u (omega (arith, above));
       backed = k.backed;
       waiting = k.waiting;
       nullifications = λ w. k.nullifications w ∙ ap (λ n. option_or (get nat_cmp c.args.self.now.reaching w) n)

@@ -1,17 +1,15 @@
-use Rattle.std.proofs.Common.{refl, sym, ◌∙◌, ◌≡◌, ◌+◌, ap, arith, ⊎_elim, inl, inr}
+use Rattle.std.proofs.Common.{refl, ◌∙◌, ◌≡◌, ◌+◌, arith, ⊎_elim, inl, inr}
 use Rattle.std.specs.Prelude.{Some, None}
-use Rattle.std.specs.Option.{option_or}
-use Rattle.std.specs.Ordering.{nat_cmp}
-use Rattle.std.specs.BTreeMap.{get}
 use Rattle.simplex_round.specs.Past.{has_notarized}
 use Rattle.simplex_round.specs.Past as past
+use Rattle.simplex_views.specs.History as History
 use Rattle.simplex_views.specs.History.{seen, put}
 use Rattle.simplex_views.specs.Progress.{frame_of, tables}
 use Rattle.simplex_views.specs.Views.{Keeps}
 use Rattle.simplex_views.proofs.Choices.{copied-none}
 use Rattle.simplex_views.proofs.Entering.{put-fact}
 use Rattle.simplex_views.proofs.Following.{notarized-at}
-use Rattle.simplex_views.proofs.Stepping.{reached-closed}
+use Rattle.simplex_views.proofs.Stepping.{reached-closed, still-kept}
 use Rattle.simplex_views.proofs.views.Views.add_notarization.Goals as goal
 
 pub returns-clause-keeps : goal.returns-clause-keeps
@@ -31,26 +29,13 @@ returns-clause-keeps g c = λ s h k.
     (λ w. put-fact has_notarized (past.notarized c.args.certificate) (λ l. refl) at (seen s h) w)
     u
     (⊎_elim (λ lt. inl (omega (arith, lt, next))) (λ le. inr (rw (← c.view-view.ensures) (c.last_reached-last.ensures (frame_of s) table added u le fits))) far)) in
-    record {
-      scheme = k.scheme;
-      me = k.me;
-      epoch = k.epoch;
-      length = k.length;
-      optimistic_views = k.optimistic_views;
-      retention = k.retention;
-      elects = k.elects;
-      members = k.members;
-      progress = record {
-        view = k.progress.view;
-        leader_timeout = k.progress.leader_timeout;
-        certification_timeout = k.progress.certification_timeout;
-        stall_timeout = k.progress.stall_timeout;
-        tracked = notarized-at g.S.Scheme _ s h c.args.certificate c.next-next.result c.elect-leader.result next led handed;
-      };
-      last_finalized = k.last_finalized;
-      genesis = k.genesis;
-      coverage = k.coverage;
-      backed = k.backed;
-      waiting = k.waiting;
-      nullifications = λ w. k.nullifications w ∙ ap (λ n. option_or (get nat_cmp c.args.self.now.reaching w) n) (sym (put-fact past.nullification (past.notarized c.args.certificate) (λ l. refl) at (seen s h) w));
-    }
+    still-kept (History.notarized c.args.certificate) _ c.args.self.now.backed c.args.self.now.waiting k
+    (record { finalizes = refl; begins = refl; covers = λ u. refl; nullifies = λ u. refl; kept_nullification = put-fact past.nullification (past.notarized c.args.certificate) (λ l. refl) at (seen s h) })
+    (record {
+      view = k.progress.view;
+      leader_timeout = k.progress.leader_timeout;
+      certification_timeout = k.progress.certification_timeout;
+      stall_timeout = k.progress.stall_timeout;
+      tracked = notarized-at g.S.Scheme _ s h c.args.certificate c.next-next.result c.elect-leader.result next led handed;
+    })
+    k.backed k.waiting

@@ -54,8 +54,9 @@ returns-clause-keeps g c = λ s h k time.
         tracked = nullified-at g.S.Scheme _ s h c.args.now c.args.certificate c.next_term_start-next.result c.elect-leader.result next led handed;
       };
       last_finalized = k.last_finalized;
+      behind = k.behind;
       genesis = k.genesis;
-      coverage = λ w. covered-next s h c.args.now c.args.certificate _ _ w (rw (← k.length) c.get-views.ensures.at_least_one) (rw (← k.length, ← c.view-view.ensures, ← c.term_end.ensures) (c.in_ok-cover.ensures.ok w)) (k.coverage w);
+      coverage = λ w above. covered-next s h c.args.now c.args.certificate _ _ w (rw (← k.length) c.get-views.ensures.at_least_one) (rw (← k.length, ← c.view-view.ensures, ← c.term_end.ensures) (c.in_ok-cover.ensures.ok w)) (k.coverage w above);
       backed = k.backed;
       waiting = k.waiting;
       nullifications = λ w. nullification-next s (current s h) c.args.now (next_term_start s.length at) c.args.certificate at (seen s h) (nullification s h) (λ v. get nat_cmp c.args.self.now.reaching v) w (k.nullifications w);

@@ -7,9 +7,8 @@ use Rattle.simplex_views.specs.History.{seen}
 use Rattle.simplex_views.specs.Rounds.{Keep}
 use Rattle.simplex_views.specs.Tracked.{Holds}
 use Rattle.simplex_views.specs.Views.{Keeps}
-use Rattle.simplex_views.proofs.Choices.{some-is}
 use Rattle.simplex_views.proofs.Stepping.{quiet-if, sent-quiet}
-use Rattle.simplex_views.proofs.Tables.{AreOpen-at, AreOpen-there, AreKept-if, AreKept-tracked, AreKept-untracked}
+use Rattle.simplex_views.proofs.Tables.{AreKept-at, AreKept-turn, AreKept-untracked}
 use Rattle.simplex_views.proofs.views.Views.broadcast_notarization.Goals as goal
 
 pub returns-in_ok-broadcast_notarization-in-Some-clause-keeps : goal.returns-in_ok-broadcast_notarization-in-Some-clause-keeps
@@ -18,22 +17,19 @@ returns-in_ok-broadcast_notarization-in-Some-clause-keeps g c = λ s h k.
     let rounds = k.progress.tracked.rounds in
     let fits = c.get-number.ensures.fits in
     let found = c.in-Some.ensures.value in
-    let opened = AreOpen-there c.args.view rounds.rounds fits (some-is found) in
-    let kept = c.in_ok-broadcast_notarization-in-Some.ensures.keeps _ _ _ (AreOpen-at opened found) in
+    let kept = c.in_ok-broadcast_notarization-in-Some.ensures.keeps _ _ _ (AreKept-at rounds.rounds fits found) in
     let held = c.get_mut.follows.holds c.broadcast_notarization.new.self in
     quiet-if (is_some c.in_ok-broadcast_notarization-in-Some.field-0) (History.sent kind.Notarization c.args.view) _ k (sent-quiet s h kind.Notarization c.args.view) refl
     (record {
       scheme = rounds.scheme;
       epoch = rounds.epoch;
-      rounds = AreKept-if c.args.view past.sent_notarization (is_some c.in_ok-broadcast_notarization-in-Some.field-0) opened (held.3 (some-is found)) kept (AreKept-tracked c.args.view rounds.rounds fits found);
+      rounds = AreKept-turn c.args.view past.sent_notarization (is_some c.in_ok-broadcast_notarization-in-Some.field-0) rounds.rounds fits found held.3 kept;
     })
 
 pub returns-in_ok-broadcast_notarization-in-Some-clause-answer : goal.returns-in_ok-broadcast_notarization-in-Some-clause-answer
 unfolding Keeps Holds Keep
 returns-in_ok-broadcast_notarization-in-Some-clause-answer g c = λ s h k.
-    let rounds = k.progress.tracked.rounds in
-    let found = c.in-Some.ensures.value in
-    c.in_ok-broadcast_notarization-in-Some.ensures.answer _ _ _ (AreOpen-at (AreOpen-there c.args.view rounds.rounds c.get-number.ensures.fits (some-is found)) found)
+    c.in_ok-broadcast_notarization-in-Some.ensures.answer _ _ _ (AreKept-at k.progress.tracked.rounds.rounds c.get-number.ensures.fits c.in-Some.ensures.value)
 
 pub returns-in-None-clause-answer : goal.returns-in-None-clause-answer
 unfolding Keeps Holds Keep

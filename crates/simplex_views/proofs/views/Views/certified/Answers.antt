@@ -47,7 +47,7 @@ returns-clause-keeps g c = λ s h k time.
     let ahead : nat_le (current s h) at ≡ true = grind (arith, nat_tests, view, c.lt.ensures, c.if-lt.false) in
     let grown = put at (past.judged ok) (seen s h) in
     let judged = c.in_ok-judge.ensures (frame_of s).common (leader s h) (seen s h) k.progress.tracked.rounds in
-    let latched = c.in_ok-latch.ensures (frame_of s).common (leader s h) grown judged in
-    let kept : Keep g.S.Scheme.key_of (frame_of s).common c.latch.new.self (leader s h) (seen s (History.judged c.args.now at ok ∷ h)) =
-    subst (λ t. Keep g.S.Scheme.key_of (frame_of s).common c.latch.new.self (leader s h) t) (judged-ahead s h c.args.now at ok bad ahead) latched in
-    quiet (History.judged c.args.now at ok) c.latch.new.self k (judged-quiet s h c.args.now at ok) (judged-stays s h c.args.now at ok bad) kept
+    let latched = c.in_ok-tell.ensures (frame_of s).common (leader s h) grown judged in
+    let kept : Keep g.S.Scheme.key_of (frame_of s).common c.tell.new.self (leader s h) (seen s (History.judged c.args.now at ok ∷ h)) =
+    subst (λ t. Keep g.S.Scheme.key_of (frame_of s).common c.tell.new.self (leader s h) t) (judged-ahead s h c.args.now at ok bad ahead) latched in
+    quiet (History.judged c.args.now at ok) c.tell.new.self k (judged-quiet s h c.args.now at ok) (judged-stays s h c.args.now at ok bad) kept

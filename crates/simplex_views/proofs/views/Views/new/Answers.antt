@@ -1,4 +1,4 @@
-use Rattle.std.proofs.Common.{◌≡◌, refl, ap, ◌∙◌}
+use Rattle.std.proofs.Common.{◌≡◌, refl, ap, ◌∙◌, arith}
 use Rattle.simplex_rules.specs.Terms.{Timing}
 use Rattle.simplex_views.specs.Marks.{Shows}
 use Rattle.simplex_views.specs.Views.{Keeps}
@@ -26,8 +26,9 @@ returns g c = λ retry budget.
         tracked = rw (← c.in_ok-shared.ensures.cases, ← length, ← optimistic) c.new-tracked.ensures;
       };
       last_finalized = c.zero-2.ensures;
+      behind = omega arith;
       genesis = refl;
-      coverage = λ view. (λ is. absurd (c.new-3.ensures view is), λ there. absurd (cc there.2));
+      coverage = λ view _. (λ is. absurd (c.new-3.ensures view is), λ there. absurd (cc there.2));
       backed = c.new-4.ensures;
       waiting = c.new-5.ensures;
       nullifications = λ view. rw c.new-6.ensures.empty refl;

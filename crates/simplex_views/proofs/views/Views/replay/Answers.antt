@@ -13,8 +13,8 @@ use Rattle.simplex_views.specs.Rounds.{Keep}
 use Rattle.simplex_views.specs.Tracked.{Holds}
 use Rattle.simplex_views.specs.Views.{Keeps, recalls}
 use Rattle.simplex_views.proofs.Choices.{answers}
-use Rattle.simplex_views.proofs.Replaying.{is-other, other-quiet, other-seen, other-stays, recalled-closed, recalled-holds, recalled-tables, recalled-notarize}
-use Rattle.simplex_views.proofs.Stepping.{quiet}
+use Rattle.simplex_views.proofs.Replaying.{is-other, other-quiet, other-seen, other-stays, recalled-closed, recalled-direct, recalled-past, recalled-tables, recalled-notarize}
+use Rattle.simplex_views.proofs.Stepping.{quiet, rounds-at}
 use Rattle.simplex_views.proofs.views.Views.replay.Goals as goal
 
 pub returns-in_default : goal.returns-in_default
@@ -36,7 +36,7 @@ returns-in_ok-mark g c = λ s h k.
     let replayed : Keep g.S.Scheme.key_of (frame_of s).common c.replay-2.new.self (leader s h) (put p.round.view past.voted_notarize (if kept.0 then put p.round.view (past.offered (recorded p)) (seen s h) else seen s h)) =
     rw c.in-Notarize.is at kept.2 in
     let bound = rw (c.undecided_payload-payload.ensures s h k) at (c.in_ok-bind.ensures (frame_of s).common (leader s h) (put p.round.view past.voted_notarize (if kept.0 then put p.round.view (past.offered (recorded p)) (seen s h) else seen s h)) replayed) in
-    let followed = c.in_ok-follow.ensures (frame_of s) (recalled-tables s h p kept.0) (recalled-holds g.S.Scheme s h c.args.self.now.progress.tracked p kept.0 c.bind.new.self k.progress.tracked bound) (λ u apart. recalled-closed s h p kept.0 u (rw view at apart)) in
+    let followed = c.in_ok-follow.ensures (frame_of s) (recalled-tables s h p kept.0) (rounds-at c.bind.new.self (recalled-past (undecided_payload (seen s h p.parent)) p kept.0 (seen s h)) k bound (recalled-direct s h p kept.0)).tracked (λ u apart. recalled-closed s h p kept.0 u (rw view at apart)) in
     let is_taken : kept.0 ≡ true = takes.1 ((c.takes-is_taken.ensures s h k).0 c.if-is_taken.true) in
     let marked : Shows c.mark.new.self (is_marked s backs (History.recalled_notarize p kept.0 ∷ h)) = λ u. rw is_taken (rw view at (c.in_ok-mark.ensures (is_marked s backs h) k.backed u)) in
     (kept.0, kept.1, rw c.in-Notarize.is (recalled-notarize p kept.0 c.follow.new.self c.mark.new.self k followed marked))
@@ -51,7 +51,7 @@ returns-else-is_taken g c = λ s h k.
     let replayed : Keep g.S.Scheme.key_of (frame_of s).common c.replay-2.new.self (leader s h) (put p.round.view past.voted_notarize (if kept.0 then put p.round.view (past.offered (recorded p)) (seen s h) else seen s h)) =
     rw c.in-Notarize.is at kept.2 in
     let bound = rw (c.undecided_payload-payload.ensures s h k) at (c.in_ok-bind.ensures (frame_of s).common (leader s h) (put p.round.view past.voted_notarize (if kept.0 then put p.round.view (past.offered (recorded p)) (seen s h) else seen s h)) replayed) in
-    let followed = c.in_ok-follow.ensures (frame_of s) (recalled-tables s h p kept.0) (recalled-holds g.S.Scheme s h c.args.self.now.progress.tracked p kept.0 c.bind.new.self k.progress.tracked bound) (λ u apart. recalled-closed s h p kept.0 u (rw view at apart)) in
+    let followed = c.in_ok-follow.ensures (frame_of s) (recalled-tables s h p kept.0) (rounds-at c.bind.new.self (recalled-past (undecided_payload (seen s h p.parent)) p kept.0 (seen s h)) k bound (recalled-direct s h p kept.0)).tracked (λ u apart. recalled-closed s h p kept.0 u (rw view at apart)) in
     let isnt_taken : kept.0 ≡ false = ⊎_elim (λ is. absurd (let agrees = (c.takes-is_taken.ensures s h k).1 (takes.0 is) in let never = c.if-is_taken.false in cc)) (λ isnt. isnt) (answers kept.0) in
     let marked : Shows c.args.self.now.backed (is_marked s backs (History.recalled_notarize p kept.0 ∷ h)) = λ u. rw isnt_taken (k.backed u) in
     (kept.0, kept.1, rw c.in-Notarize.is (recalled-notarize p kept.0 c.follow.new.self c.args.self.now.backed k followed marked))

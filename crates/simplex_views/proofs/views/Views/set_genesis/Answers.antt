@@ -44,6 +44,7 @@ returns g c = λ s h k time.
         tracked = started-at g.S.Scheme _ s h c.args.now c.args.payload c.next-first.result c.elect-leader.result first led handed;
       };
       last_finalized = k.last_finalized;
+      behind = k.behind;
       genesis = refl;
       coverage = k.coverage;
       backed = k.backed;

@@ -1,0 +1,9 @@
+pub mod Folding
+pub mod Choosing
+pub mod Lawfully
+pub mod Stating
+pub mod Kept
+pub mod Rightly
+pub mod Constructing
+pub mod Finishing
+pub mod Spending

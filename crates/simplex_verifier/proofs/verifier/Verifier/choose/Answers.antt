@@ -1,0 +1,24 @@
+use Rattle.std.proofs.Common.{◌≡◌, ◌∙◌, refl, sym, ap}
+use Rattle.std.specs.Prelude.{Option, None}
+use Rattle.std.specs.Option.{option_copied}
+use Rattle.simplex_types.specs.declared.proposal.Proposal.{Proposal}
+use Rattle.simplex_verifier.specs.History.{proposal_of}
+use Rattle.simplex_verifier.specs.Keeping.{selection_of}
+use Rattle.simplex_verifier.proofs.Choosing.{none-goes}
+use Rattle.simplex_verifier.proofs.verifier.Verifier.choose.Goals as goal
+
+pub returns-in-None-clause-chosen : goal.returns-in-None-clause-chosen
+returns-in-None-clause-chosen g c =
+    let nothing : Option (Proposal g.row.D.Denot) = None in
+    let none : proposal_of (selection_of c.args.next) ≡ nothing = sym c.proposal.ensures ∙ ap option_copied c.in-None.is in
+    let same = g.D.PartialEq.eq in record {
+      round_stays = refl;
+      scheme_stays = refl;
+      needed_stays = refl;
+      skipped_stays = refl;
+      leader_stays = refl;
+      selects = refl;
+      notarizes = λ w v. none-goes same c.args.next c.args.self.now.pools.notarizes none;
+      nullifies = λ w v. none-goes same c.args.next c.args.self.now.pools.nullifies none;
+      finalizes = λ w v. none-goes same c.args.next c.args.self.now.pools.finalizes none;
+    }

@@ -1,0 +1,67 @@
+use Rattle.std.proofs.Common.{◌≡◌, refl, sym, ◌∙◌, ap, length}
+use Rattle.std.specs.Prelude.{Option, Some, None}
+use Rattle.simplex_types.specs.Subject.{statement}
+use Rattle.simplex_judging.specs.declared.judging.Judged.{Judged}
+use Rattle.simplex_verifier.proofs.Choosing.{pool-keeps}
+use Rattle.simplex_verifier.proofs.Constructing.{judged-of, judged-on, judged-failing, settled-keeps}
+use Rattle.simplex_verifier.specs.Keeping.{VerifierKeeps}
+use Rattle.simplex_verifier.proofs.verifier.Verifier.judge.Goals as goal
+
+pub returns-in-Some-clause-batch : goal.returns-in-Some-clause-batch
+unfolding VerifierKeeps
+returns-in-Some-clause-batch g c = λ s h k on.
+    let same = g.D.PartialEq.eq in
+    let law = g.met.D.Digest.equal_is_same in
+    let batchable = g.S.Scheme.batchable in
+    let x = statement c.args.subject.now in
+    let p = pool-keeps same g.S.Scheme batchable s c.args.self.now h c.args.kind k in
+    let f = rw c.deref.ensures at c.in_ok-certificate.ensures in
+    let verdict = judged-of same g.S.Scheme batchable law s h c.args.kind c.args.self.now c.of-pool.result.now x c.in_ok-certificate.field-0 k c.of-pool.ensures on f in
+    let same_certificate : c.in_ok-certificate.field-0.certificate ≡ Some c.in-Some.certificate = c.in-Some.is in record {
+      processed_are = ap length (c.as_slice-processed.ensures.value ∙ rw c.of-pool.ensures p.waiting_are);
+      states = x;
+      context_is = on;
+      certificate_is = judged-on same g.S.Scheme batchable law s h c.args.kind c.certificate_on-certificate.result x k.lawful on c.certificate_on-certificate.ensures.states;
+      judged = rw (c.certificate_on-certificate.ensures.made, ← same_certificate) verdict;
+    }
+
+pub returns-in-Some-clause-keeps : goal.returns-in-Some-clause-keeps
+unfolding VerifierKeeps
+returns-in-Some-clause-keeps g c = λ s h k on.
+    let same = g.D.PartialEq.eq in
+    let law = g.met.D.Digest.equal_is_same in
+    let batchable = g.S.Scheme.batchable in
+    let here = judged-on same g.S.Scheme batchable law s h c.args.kind c.certificate_on-certificate.result (statement c.args.subject.now) k.lawful on c.certificate_on-certificate.ensures.states in
+    c.record-changed.ensures.keeps s h k here.round_is
+
+pub returns-in_ok-settle-in-None-clause-batch : goal.returns-in_ok-settle-in-None-clause-batch
+unfolding VerifierKeeps
+returns-in_ok-settle-in-None-clause-batch g c = λ s h k on.
+    let same = g.D.PartialEq.eq in
+    let law = g.met.D.Digest.equal_is_same in
+    let batchable = g.S.Scheme.batchable in
+    let x = statement c.args.subject.now in
+    let p = pool-keeps same g.S.Scheme batchable s c.args.self.now h c.args.kind k in
+    let f = rw c.deref.ensures at c.in_ok-certificate.ensures in
+    let verdict = judged-of same g.S.Scheme batchable law s h c.args.kind c.args.self.now c.of-pool.result.now x c.in_ok-certificate.field-0 k c.of-pool.ensures on f in
+    let nothing : Option g.row.S-Certificate.Denot = None in
+    let none : c.in_ok-certificate.field-0.certificate ≡ nothing = c.in-None.is in record {
+      processed_are = ap length (c.as_slice-processed.ensures.value ∙ rw c.of-pool.ensures p.waiting_are);
+      states = x;
+      context_is = on;
+      certificate_is = tt;
+      judged = rw (← none) verdict;
+    }
+
+pub returns-in_ok-settle-in-None-clause-keeps : goal.returns-in_ok-settle-in-None-clause-keeps
+unfolding VerifierKeeps
+returns-in_ok-settle-in-None-clause-keeps g c = λ s h k on.
+    let same = g.D.PartialEq.eq in
+    let law = g.met.D.Digest.equal_is_same in
+    let batchable = g.S.Scheme.batchable in
+    let x = statement c.args.subject.now in
+    let f = rw c.deref.ensures at c.in_ok-certificate.ensures in
+    let verdict = judged-of same g.S.Scheme batchable law s h c.args.kind c.args.self.now c.of-pool.result.now x c.in_ok-certificate.field-0 k c.of-pool.ensures on f in
+    let failing = judged-failing _ _ _ _ _ _ _ _ c.in_ok-certificate.field-0 verdict c.in-None.is in
+    settled-keeps same g.S.Scheme batchable law s h c.args.kind c.in_ok-certificate.field-0.invalid.items x c.args.self.now _ k refl refl refl refl refl refl
+    (rw c.deref-in-None.ensures.value at c.in_ok-settle-in-None.ensures.notarizes) (rw c.deref-in-None.ensures.value at c.in_ok-settle-in-None.ensures.nullifies) (rw c.deref-in-None.ensures.value at c.in_ok-settle-in-None.ensures.finalizes) on failing

@@ -1,0 +1,19 @@
+use Rattle.std.proofs.Common.{◌≡◌, ◌∷◌, refl, sym, ◌∙◌}
+use Rattle.simplex_verifier.specs.declared.kind.Kind.TheVariants.{Notarization, Nullification, Finalization}
+use Rattle.simplex_verifier.specs.History.{Led, selection}
+use Rattle.simplex_verifier.specs.Keeping.{selection_of, VerifierKeeps}
+use Rattle.simplex_verifier.proofs.Choosing.{chosen-keeps, keeps-led}
+use Rattle.simplex_verifier.proofs.verifier.Verifier.lead.Goals as goal
+
+pub returns-in-None-clause-first : goal.returns-in-None-clause-first
+unfolding VerifierKeeps
+returns-in-None-clause-first g c = λ s h k none led.
+    let same = g.D.PartialEq.eq in
+    let e = Led c.args.leader in
+    let old = c.args.self.now in
+    let one : selection_of c.select-next.result ≡ selection (e ∷ h) = c.select-next.ensures ∙ rw (led, k.selection_is) refl in
+    let is = c.choose-changed.ensures.chosen in
+    chosen-keeps same g.S.Scheme g.S.Scheme.batchable s h e c.select-next.result old _ c.choose-changed.new.self k refl refl refl refl refl is one none
+    (keeps-led same s Notarization h c.args.leader old.proposal c.select-next.result old.pools.notarizes _ k.notarizes is.notarizes k.selection_is one)
+    (keeps-led same s Nullification h c.args.leader old.proposal c.select-next.result old.pools.nullifies _ k.nullifies is.nullifies k.selection_is one)
+    (keeps-led same s Finalization h c.args.leader old.proposal c.select-next.result old.pools.finalizes _ k.finalizes is.finalizes k.selection_is one)

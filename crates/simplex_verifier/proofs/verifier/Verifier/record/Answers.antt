@@ -1,0 +1,30 @@
+use Rattle.std.proofs.Common.{◌≡◌, ◌≢◌, ◌∷◌, ◌&&◌, ◌||◌, not, refl, sym, ◌∙◌, ap, true, false}
+use Rattle.std.specs.Prelude.{Option, None, Some}
+use Rattle.simplex_verifier.specs.declared.kind.Kind.TheVariants.{Notarization, Nullification, Finalization}
+use Rattle.simplex_verifier.specs.Votes.{vote_kind, certificate_kind}
+use Rattle.simplex_verifier.specs.History.{Taken, Cast, Certified, Led, selection, selected, proposal_of, is_complete, is_candidate}
+use Rattle.simplex_verifier.specs.Keeping.{selection_of, VerifierKeeps}
+use Rattle.simplex_verifier.proofs.Folding.{selection-taken, selection-cast, selection-certified}
+use Rattle.simplex_verifier.proofs.Choosing.{pool-keeps, chosen-keeps, counts-mine, counts-good, keeps-taken, keeps-cast, keeps-certified, keeps-led}
+use Rattle.simplex_verifier.proofs.verifier.Verifier.record.Goals as goal
+
+pub returns-clause-changed : goal.returns-clause-changed
+unfolding VerifierKeeps
+returns-clause-changed g c = λ s h k.
+    let one : selection_of c.select-next.result ≡ selection (Certified c.args.certificate.now ∷ h) = c.select-next.ensures ∙ rw (c.proposal_of_certificate.ensures, k.selection_is) (sym (selection-certified h c.args.certificate.now)) in
+    rw (one, k.selection_is) at c.choose.ensures.changed
+
+pub returns-clause-keeps : goal.returns-clause-keeps
+unfolding VerifierKeeps
+returns-clause-keeps g c = λ s h k ours.
+    let same = g.D.PartialEq.eq in
+    let x = c.args.certificate.now in
+    let e = Certified x in
+    let old = c.args.self.now in
+    let one : selection_of c.select-next.result ≡ selection (e ∷ h) = c.select-next.ensures ∙ rw (c.proposal_of_certificate.ensures, k.selection_is) (sym (selection-certified h x)) in
+    let is = c.choose.ensures.chosen in
+    let kind = c.kind_of_certificate.ensures in
+    chosen-keeps same g.S.Scheme g.S.Scheme.batchable s h e c.select-next.result old _ c.choose.new.self k refl refl refl refl k.leader_is is one ours
+    (keeps-certified same s Notarization h x old.proposal c.select-next.result old.pools.notarizes _ _ k.notarizes (rw kind at c.finish.ensures.notarizes) is.notarizes k.selection_is one)
+    (keeps-certified same s Nullification h x old.proposal c.select-next.result old.pools.nullifies _ _ k.nullifies (rw kind at c.finish.ensures.nullifies) is.nullifies k.selection_is one)
+    (keeps-certified same s Finalization h x old.proposal c.select-next.result old.pools.finalizes _ _ k.finalizes (rw kind at c.finish.ensures.finalizes) is.finalizes k.selection_is one)

@@ -1,0 +1,21 @@
+//! The votes of one round that count for certificates.
+#![tactic(auto, unfolding(crate::specs::Keeping::VerifierKeeps))]
+
+mod batch;
+mod fault;
+mod kind;
+mod laws;
+mod pool;
+mod pools;
+mod proposal_state;
+mod verifier;
+mod votes;
+
+pub use batch::Batch;
+pub use fault::BatcherFault;
+pub use kind::Kind;
+pub use laws::{
+    constructions_end, forwarding_changes_no_votes, no_more_are_judged_than_came, no_quorum_is_lost,
+};
+pub use verifier::Verifier;
+pub use votes::{kind_of, kind_of_certificate};

@@ -1,0 +1,57 @@
+use Rattle.std.proofs.Common.{◌≡◌, ◌<◌, subst, sym}
+use Rattle.std.specs.Ordering.{nat_cmp}
+use Rattle.std.specs.BTreeMap.{get}
+use Rattle.simplex_views.specs.History as History
+use Rattle.simplex_views.specs.History.{is_marked, min_active, nullification, seen}
+use Rattle.simplex_views.specs.Known.{backs, waits}
+use Rattle.simplex_views.specs.Leaders.{leader}
+use Rattle.simplex_views.specs.Progress.{frame_of, tables}
+use Rattle.simplex_views.specs.Views.{Keeps}
+use Rattle.simplex_views.proofs.Pruning.{dropped-exact, keys-ascend, pruned-nullification}
+use Rattle.simplex_views.proofs.views.Views.prune.Goals as goal
+
+pub returns-clause-keeps : goal.returns-clause-keeps
+unfolding Keeps
+returns-clause-keeps g c = λ s h k.
+    let floor : c.min_active-floor.result ≡ min_active s h = c.min_active-floor.ensures s h k in
+    let first = c.first_reaching-first.result in
+    let dropped = c.in_ok-rounds.ensures.keeps (frame_of s) (tables s h) k.progress.tracked in
+    let below = c.in_ok-rounds.ensures.dropped (frame_of s) (tables s h) k.progress.tracked in
+    let kept = c.in_ok-views.ensures.keeps (frame_of s).common c.min_active-floor.result (leader s h) (seen s h) below in
+    record {
+      scheme = k.scheme;
+      me = k.me;
+      epoch = k.epoch;
+      length = k.length;
+      optimistic_views = k.optimistic_views;
+      retention = k.retention;
+      elects = k.elects;
+      members = k.members;
+      progress = record {
+        view = k.progress.view;
+        leader_timeout = k.progress.leader_timeout;
+        certification_timeout = k.progress.certification_timeout;
+        stall_timeout = k.progress.stall_timeout;
+        tracked = rw floor at dropped;
+      };
+      last_finalized = k.last_finalized;
+      behind = k.behind;
+      genesis = k.genesis;
+      coverage = λ u above.
+          let was = k.coverage u above in
+          let same = c.forget_up_to.ensures.above u (subst (λ n. n < u) (sym k.last_finalized) above) in (λ is. was.0 (same.0 is), λ there. same.1 (was.1 there));
+      backed = rw floor at (c.forget_below.ensures (is_marked s backs h) k.backed);
+      waiting = rw floor at (c.forget_below-2.ensures (is_marked s waits h) k.waiting);
+      nullifications = λ u. rw floor at (pruned-nullification s.length (History.last_finalized h) c.min_active-floor.result first u (nullification s h u) (get nat_cmp c.args.self.now.reaching u) _ _ (seen s h u)
+          c.first_reaching-first.ensures.up_to_floor (c.first_reaching-first.ensures.reaches s h k u) (k.nullifications u) (c.drop_before.ensures u) (kept u));
+    }
+
+pub returns-clause-dropped : goal.returns-clause-dropped
+unfolding Keeps
+returns-clause-dropped g c = λ s h k.
+    let floor : c.min_active-floor.result ≡ min_active s h = c.min_active-floor.ensures s h k in
+    let below = c.in_ok-rounds.ensures.dropped (frame_of s) (tables s h) k.progress.tracked in
+    rw c.in_ok-views.ensures.views (record {
+      exact = rw floor at (dropped-exact c.min_active-floor.result c.in_ok-rounds.rounds below);
+      ascend = keys-ascend c.in_ok-rounds.rounds c.in_ok-views.ensures.ordered;
+    })

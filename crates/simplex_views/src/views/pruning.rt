@@ -1,0 +1,116 @@
+//! What a voter drops.
+
+ghost use Rattle.std.specs.Prelude.{◌≡◌, ◌↔◌, ◌<◌, ◌≤◌, ◌==◌, if◌then◌else◌, nat_lt, ℕ, ◌∷◌, ◌++◌, [], List, None, Option, IfOk, OnOk};
+ghost use Rattle.std.specs.Option.{option_or};
+ghost use Rattle.std.specs.Ordering.{nat_cmp};
+ghost use Rattle.std.specs.BTreeMap.{get, keys, IsOrdered};
+ghost use Rattle.simplex_round.specs.Past as past;
+ghost use Rattle.simplex_round.specs.Past.{Item};
+ghost use Rattle.simplex_round.specs.Round as one;
+ghost use Rattle.simplex_types.specs.Positions.{term_end};
+ghost use Rattle.simplex_views.specs.History.{last_finalized, pruned};
+ghost use Rattle.simplex_views.specs.Rounds.{AreBelow, Common, kept_from};
+ghost use Rattle.simplex_views.specs.Views.{Keeps, AreDropped, AtEach};
+
+use crate::views::Views;
+use simplex_messages::Nullification;
+use simplex_round::Round;
+use simplex_rules::Elector;
+use simplex_types::{Digest, Duplicate, Scheme, View};
+use std::alloc::{AllocError, Global};
+use std::collections::BTreeMap;
+use std::ops::Bound;
+
+impl<S: Scheme<D> + Drop, L: Elector<S, D>, D: Digest> Views<S, L, D> {
+    /// Drops what is known of the views that need not be kept, and answers those of which something was known, ascending. A
+    /// nullification whose term ends above the last finalized view stays, and what covers views above that one.
+    /// The cost is that of what is dropped.
+    ///
+    /// # Errors
+    ///
+    /// `AllocError` where memory ran out.
+    pub fn prune(&mut self, alloc: Global) -> Result<Vec<View>, AllocError>
+        ensures keeps { OnOk result (AtEach S.Scheme L.leader self.old (λ s h. Keeps S.Scheme L.leader s self.new (pruned ∷ h))) }
+        ensures dropped { IfOk result (λ views. AtEach S.Scheme L.leader self.old (λ s h. AreDropped s h views.items)) }
+    {
+        let floor = self.min_active();
+        let first = self.first_reaching(floor);
+        let rounds = self.progress.tracked.drop_below(floor)?;
+        self.backed.forget_below(floor);
+        self.waiting.forget_below(floor);
+        self.coverage.forget_up_to(self.last_finalized);
+        drop_before(&mut self.reaching, first);
+        let views = keep_from(&mut self.reaching, alloc, rounds, first)?;
+        Ok(views)
+    }
+
+    /// Of the views below the floor the first whose term ends above the last finalized view, or the floor where there is none.
+    fn first_reaching(&self, floor: View) -> View
+        ensures up_to_floor { result ≤ floor }
+        ensures reaches { AtEach S.Scheme L.leader self.now (λ s h. (view : ℕ) → view < floor → (view < result) ↔ (term_end s.length view ≤ last_finalized h)) }
+    {
+        // The proof takes from the number that a term has at least one view.
+        let _views = self.lookahead.length.get();
+        let next = View::new(self.last_finalized.get().saturating_add(1));
+        let start = next.term_start(self.lookahead.length);
+        if floor < start { floor } else { start }
+    }
+}
+
+/// Drops the nullifications of the views before the first.
+fn drop_before<S: Scheme<D>, D: Digest>(
+    reaching: &mut BTreeMap<View, Nullification<S, D>>,
+    first: View,
+)
+    ensures { (view : ℕ) → get nat_cmp reaching.new view ≡ (if nat_lt view first then None else get nat_cmp reaching.old view) }
+{
+    while let Some((&view, _)) = reaching
+        .range((Bound::Unbounded, Bound::Excluded(first)))
+        .next()
+    {
+        reaching.remove(&view);
+    }
+}
+
+/// Keeps of dropped rounds the nullifications of the views from the first on, and answers the views of these rounds, ascending.
+fn keep_from<S: Scheme<D> + Drop, D: Digest>(
+    reaching: &mut BTreeMap<View, Nullification<S, D>>,
+    alloc: Global,
+    rounds: BTreeMap<View, Round<S, D>>,
+    first: View,
+) -> Result<Vec<View>, AllocError>
+    ensures views { IfOk result (λ views. views.items ≡ keys rounds) }
+    ensures ordered { IsOrdered nat_cmp rounds }
+    ensures keeps { OnOk result ((s : Common S) (floor : ℕ) (led : ℕ → Option ℕ) (t : ℕ → List (Item S D S.PublicKey S.Signature S.Certificate)) → AreBelow S.key_of s floor rounds led t → (u : ℕ) → get nat_cmp reaching.new u ≡ kept_from first floor (get nat_cmp reaching.old u) (t u) u) }
+{
+    let mut views = Vec::with_capacity(alloc, rounds.len())?;
+    let mut rest = rounds;
+    while let Some(entry) = rest.pop_first() {
+        views.push(entry.0)?;
+        keep_one(reaching, alloc, &entry, first)?;
+    }
+    Ok(views)
+}
+
+/// Keeps the nullification of a view from the first on, where there is one and none is kept.
+fn keep_one<S: Scheme<D>, D: Digest>(
+    reaching: &mut BTreeMap<View, Nullification<S, D>>,
+    alloc: Global,
+    entry: &(View, Round<S, D>),
+    first: View,
+) -> Result<(), AllocError>
+    ensures { OnOk result (one.AtEach S.key_of entry.now.1 (λ s l h. (u : ℕ) → get nat_cmp reaching.new u ≡ (if entry.now.0 == u then option_or (get nat_cmp reaching.old u) (if nat_lt u first then None else past.nullification h) else get nat_cmp reaching.old u))) }
+{
+    let (view, round) = entry;
+    if *view < first {
+        return Ok(());
+    }
+    if reaching.contains_key(view) {
+        return Ok(());
+    }
+    if let Some(certificate) = round.nullification() {
+        let copy = certificate.duplicate(alloc)?;
+        reaching.insert(*view, copy)?;
+    }
+    Ok(())
+}

@@ -1,0 +1,59 @@
+//! When a voter gives a view up.
+
+ghost use Rattle.std.specs.Prelude.{◌≡◌, ◌+◌, ◌^◌, ◌<◌, if◌then◌else◌, nat_lt, ◌∷◌, None, IfOk, OnOk};
+ghost use Rattle.simplex_round.specs.Past as past;
+ghost use Rattle.simplex_views.specs.History.{current, latched, polled, seen};
+ghost use Rattle.simplex_views.specs.Views.{Keeps, AtEach};
+
+use crate::notice::Notice;
+use crate::views::Views;
+use simplex_round::TimeoutReason;
+use simplex_rules::Elector;
+use simplex_types::{Digest, Scheme, View};
+use std::alloc::AllocError;
+
+impl<S: Scheme<D> + Drop, L: Elector<S, D>, D: Digest> Views<S, L, D> {
+    /// Takes a reason to give the view up, which came at this moment.
+    ///
+    /// # Errors
+    ///
+    /// `AllocError` where memory ran out.
+    pub fn latch_timeout(
+        &mut self,
+        now: u64,
+        view: View,
+        reason: TimeoutReason,
+    ) -> Result<(), AllocError>
+        ensures { OnOk result (AtEach S.Scheme L.leader self.old (λ s h. Keeps S.Scheme L.leader s self.new (latched now view reason ∷ h))) }
+    {
+        self.tell(view, Notice::Latched(now, reason))
+    }
+
+    /// When and why the current view's own rules give it up next: where a nullify was voted, an interval after this look, if none
+    /// came since. Nothing before the start.
+    ///
+    /// # Errors
+    ///
+    /// `AllocError` where memory ran out.
+    pub fn next_timeout(
+        &mut self,
+        now: u64,
+        retry_interval: u64,
+        allow_latched_timeout: bool,
+    ) -> Result<Option<(u64, TimeoutReason)>, AllocError>
+        requires { now + retry_interval < 2 ^ 64 }
+        ensures keeps { OnOk result (AtEach S.Scheme L.leader self.old (λ s h. s.timeout_retry ≡ retry_interval → Keeps S.Scheme L.leader s self.new (polled now ∷ h))) }
+        ensures answer { IfOk result (λ timeout. AtEach S.Scheme L.leader self.old (λ s h. timeout ≡ (if nat_lt 0 (current s h) then past.next_timeout (past.polled (now + retry_interval) ∷ seen s h (current s h)) allow_latched_timeout else None))) }
+    {
+        let view = self.progress.view;
+        if view.is_zero() {
+            return Ok(None);
+        }
+        let timeout = self
+            .progress
+            .tracked
+            .rounds
+            .next_timeout(view, now, retry_interval, allow_latched_timeout)?;
+        Ok(timeout)
+    }
+}
