@@ -3,11 +3,11 @@
 use crate::calls::{
     A, Answer, B, Ballot, Call, Mark, OTHER_VIEW, Question, Sealed, VIEW, nullify, vote_on,
 };
-use crate::chance::Chance;
 use crate::members::{plain_table, salted_table, slow_table};
 use crate::model::{KINDS, Model};
 use crate::table::{Opening, Table};
 use simplex_batcher::Kind;
+use simplex_fakes::Chance;
 use simplex_types::{Listing, Sha256Digest};
 use std::alloc::{AllocError, Global};
 use std::process::Abort;

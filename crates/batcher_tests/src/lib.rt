@@ -7,7 +7,6 @@ mod admission;
 #[cfg(test)]
 mod calls;
 #[cfg(test)]
-mod chance;
 #[cfg(test)]
 mod clerk;
 #[cfg(test)]
@@ -21,7 +20,6 @@ mod model;
 #[cfg(test)]
 mod naming;
 #[cfg(test)]
-mod one_by_one;
 #[cfg(test)]
 mod schemes;
 #[cfg(test)]

@@ -4,8 +4,8 @@ ghost use Rattle.std.specs.Prelude.{◌<◌, ◌≤◌};
 
 use crate::calls::{Answer, Call};
 use crate::clerk::Clerk;
-use crate::one_by_one::OneByOne;
 use crate::table::{Opening, Table, plays};
+use simplex_fakes::OneByOne;
 use simplex_rules::SaltedScheme;
 use simplex_types::{Participant, PlainScheme};
 use std::alloc::{AllocError, Global};

@@ -6,7 +6,6 @@ use simplex_messages::Artifact;
 use simplex_types::{Epoch, PlainScheme, Read, Round, Sha256Digest, View};
 use std::alloc::{AllocError, Global};
 
-pub(crate) mod chance;
 pub(crate) mod sessions;
 
 /// An artifact under the plain scheme.

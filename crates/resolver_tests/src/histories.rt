@@ -3,8 +3,8 @@
 ghost use Rattle.std.specs.Prelude.{◌<◌};
 
 use crate::beside::Beside;
-use crate::chance::Chance;
 use crate::given::{Given, holds};
+use simplex_fakes::Chance;
 use std::alloc::Global;
 use std::process::Abort;
 use std::test::Fail;

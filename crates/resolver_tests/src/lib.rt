@@ -6,7 +6,6 @@ mod answers;
 #[cfg(test)]
 mod beside;
 #[cfg(test)]
-mod chance;
 #[cfg(test)]
 mod far;
 #[cfg(test)]

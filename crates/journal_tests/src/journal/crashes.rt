@@ -2,8 +2,8 @@
 
 use super::torn_disk::TornDisk;
 use super::*;
-use crate::samples::chance::Chance;
 use crate::samples::sessions::{Owed, session};
+use simplex_fakes::Chance;
 
 /// A disk to begin with, and what is owed of it.
 fn beginning(alloc: Global, seed: u64, which: u64) -> Result<(Owed, TornDisk), AllocError> {

@@ -4,8 +4,17 @@ ghost use Rattle.std.specs.Prelude.{◌≡◌, [], is_ok};
 ghost use Rattle.simplex_journal.specs.Disk.{counted};
 
 use super::*;
-use crate::samples::chance::Chance;
+use simplex_fakes::Chance;
 use simplex_journal::DiskFault;
+
+/// Any byte, and often one of a gate.
+fn byte(chance: &mut Chance) -> u8 {
+    match chance.below(3) {
+        0 => 0,
+        1 => 1,
+        _ => chance.below(256) as u8,
+    }
+}
 
 /// A write since the last sync that succeeded.
 #[derive(Clone, Copy)]
@@ -126,7 +135,7 @@ impl Content {
         };
         match left {
             Some(byte) => byte,
-            None => self.chance.byte(),
+            None => byte(&mut self.chance),
         }
     }
 }
