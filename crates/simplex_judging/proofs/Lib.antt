@@ -1,1 +1,3 @@
 pub mod Backers
+pub mod Keeping
+pub mod Searching

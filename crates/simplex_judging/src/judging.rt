@@ -22,26 +22,21 @@ pub struct Judged<C> {
     pub fallback: bool,
 }
 
-/// Whether the signer is one of these.
+/// Whether the signer is one of these, which ascend.
 pub fn is_listed(signers: &[Participant], signer: Participant) -> bool
-    ensures { result ≡ is_among signers.now signer }
+    ensures { IsStrictlyIncreasing signers.now → result ≡ is_among signers.now signer }
 {
-    for listed in signers {
-        if *listed == signer {
-            return true;
-        }
-    }
-    false
+    signers.binary_search(&signer).is_ok()
 }
 
-/// The verified attestations, and those of the waiting that are of none of these signers.
+/// The verified attestations, and those of the waiting that are of none of these signers, which ascend.
 fn backers<G: Signature>(
     alloc: Global,
     verified: &[Attestation<G>],
     waiting: &[Attestation<G>],
     invalid: &[Participant],
 ) -> Result<Vec<Attestation<G>>, AllocError>
-    ensures { IfOk result (λ v. v.items ≡ verified.now ++ without invalid.now waiting.now) }
+    ensures { IfOk result (λ v. IsStrictlyIncreasing invalid.now → v.items ≡ verified.now ++ without invalid.now waiting.now) }
 {
     let mut backers = Vec::from_slice(alloc, verified)?;
     for attestation in waiting {

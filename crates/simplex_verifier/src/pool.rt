@@ -1,6 +1,7 @@
 //! The votes of one kind that count for a certificate.
 
 ghost use Rattle.std.specs.Prelude.{◌≡◌, ◌↔◌, ◌≤◌, ◌++◌, ◌∷◌, [], ℕ, List, All, Bool, Option, Some, None, filter, map, not, length, IsTrue, IfOk, OnOk, OnErr, if◌then◌else◌, true, false};
+ghost use Rattle.std.specs.List.Sorted.{IsStrictlyIncreasing};
 ghost use Rattle.simplex_types.specs.Quorum.{AreDistinct};
 ghost use Rattle.simplex_types.specs.Subject.{statement};
 ghost use Rattle.simplex_messages.specs.VoteParts.{vote_signer};
@@ -65,9 +66,9 @@ impl<S: Scheme<D>, D: Digest> Pool<S, D> {
         self.complete = true;
     }
 
-    /// The waiting votes of all but these signers are verified now.
+    /// The waiting votes of all but these signers, which ascend, are verified now.
     pub(crate) fn settle(&mut self, failing: &[Participant]) -> Result<(), AllocError>
-        ensures ok { OnOk result (PoolIs self.new self.old.complete [] (self.old.verified.items ++ filter (λ v. not (is_among failing.now (vote_signer v))) self.old.waiting.items)) }
+        ensures ok { OnOk result (IsStrictlyIncreasing failing.now → PoolIs self.new self.old.complete [] (self.old.verified.items ++ filter (λ v. not (is_among failing.now (vote_signer v))) self.old.waiting.items)) }
         ensures err { OnErr result (PoolStays self.old self.new) }
     {
         self.verified.reserve(self.waiting.len())?;

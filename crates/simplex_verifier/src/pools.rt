@@ -1,6 +1,7 @@
 //! The votes of the three kinds that count for certificates.
 
 ghost use Rattle.std.specs.Prelude.{◌≡◌, ◌++◌, ◌∷◌, [], ◌&&◌, ◌||◌, List, All, Bool, Some, filter, map, not, length, IfOk, OnOk, OnErr, if◌then◌else◌, true, false};
+ghost use Rattle.std.specs.List.Sorted.{IsStrictlyIncreasing};
 ghost use Rattle.simplex_types.specs.Quorum.{AreDistinct};
 ghost use Rattle.simplex_types.specs.Subject.{statement};
 ghost use Rattle.simplex_messages.specs.VoteParts.{vote_signer};
@@ -99,11 +100,11 @@ impl<S: Scheme<D>, D: Digest> Pools<S, D> {
         }
     }
 
-    /// The waiting votes of a kind, of all but these signers, are verified now.
+    /// The waiting votes of a kind, of all but these signers, which ascend, are verified now.
     pub(crate) fn settle(&mut self, kind: Kind, failing: &[Participant]) -> Result<(), AllocError>
-        ensures notarizes { OnOk result (PoolIs self.new.notarizes self.old.notarizes.complete (settled_waiting Notarization kind self.old.notarizes.waiting.items) (settled_verified Notarization kind failing.now self.old.notarizes.waiting.items self.old.notarizes.verified.items)) }
-        ensures nullifies { OnOk result (PoolIs self.new.nullifies self.old.nullifies.complete (settled_waiting Nullification kind self.old.nullifies.waiting.items) (settled_verified Nullification kind failing.now self.old.nullifies.waiting.items self.old.nullifies.verified.items)) }
-        ensures finalizes { OnOk result (PoolIs self.new.finalizes self.old.finalizes.complete (settled_waiting Finalization kind self.old.finalizes.waiting.items) (settled_verified Finalization kind failing.now self.old.finalizes.waiting.items self.old.finalizes.verified.items)) }
+        ensures notarizes { OnOk result (IsStrictlyIncreasing failing.now → PoolIs self.new.notarizes self.old.notarizes.complete (settled_waiting Notarization kind self.old.notarizes.waiting.items) (settled_verified Notarization kind failing.now self.old.notarizes.waiting.items self.old.notarizes.verified.items)) }
+        ensures nullifies { OnOk result (IsStrictlyIncreasing failing.now → PoolIs self.new.nullifies self.old.nullifies.complete (settled_waiting Nullification kind self.old.nullifies.waiting.items) (settled_verified Nullification kind failing.now self.old.nullifies.waiting.items self.old.nullifies.verified.items)) }
+        ensures finalizes { OnOk result (IsStrictlyIncreasing failing.now → PoolIs self.new.finalizes self.old.finalizes.complete (settled_waiting Finalization kind self.old.finalizes.waiting.items) (settled_verified Finalization kind failing.now self.old.finalizes.waiting.items self.old.finalizes.verified.items)) }
         ensures err_notarizes { OnErr result (PoolStays self.old.notarizes self.new.notarizes) }
         ensures err_nullifies { OnErr result (PoolStays self.old.nullifies self.new.nullifies) }
         ensures err_finalizes { OnErr result (PoolStays self.old.finalizes self.new.finalizes) }

@@ -1,4 +1,4 @@
-use Rattle.std.proofs.Common.{◌≡◌, ◌++◌, ℕ, refl}
+use Rattle.std.proofs.Common.{◌≡◌, ◌++◌, ℕ}
 use Rattle.simplex_types.specs.Subject.{statement}
 use Rattle.simplex_judging.specs.Judging.{without}
 use Rattle.simplex_judging.proofs.Backers.{left-attest, left-distinct}
@@ -7,7 +7,7 @@ use Rattle.simplex_judging.proofs.judging.judge_each.Goals as goal
 pub returns : goal.returns
 returns g c = λ distinct attesting.
     let attests = λ (i : ℕ) (a : g.row.S-Signature.Denot). g.S.Scheme.attests c.args.scheme.now i (statement c.args.subject.now) a in
-    let given : c.deref-2.result.now ≡ c.args.verified.now ++ without c.in_ok-invalid.invalid.items c.args.waiting.now = rw c.deref-2.ensures.value (rw c.in_ok-given.ensures (rw c.deref.ensures.value refl)) in
+    let given : c.deref-2.result.now ≡ c.args.verified.now ++ without c.in_ok-invalid.invalid.items c.args.waiting.now = rw c.deref-2.ensures.value ((rw c.deref.ensures.value at c.in_ok-given.ensures c.in_ok-invalid.ensures.ascending)) in
     record {
       fallback_is = c.is_batchable-fallback.ensures;
       invalid_are = c.in_ok-invalid.ensures;

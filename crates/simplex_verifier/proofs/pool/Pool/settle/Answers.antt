@@ -5,7 +5,7 @@ use Rattle.simplex_judging.specs.Judging.{is_among}
 use Rattle.simplex_verifier.proofs.pool.Pool.settle.Goals as goal
 
 pub returns-clause-ok : goal.returns-clause-ok
-returns-clause-ok g c =
+returns-clause-ok g c = λ ascending.
     let kept = filter_same _ (λ v. not (is_among c.args.failing.now (vote_signer v))) _ (λ x b f' k. search rules) _ _ c.retain.ensures.filtered in record {
       complete_is = refl;
       waiting_are = search rules;
