@@ -8,7 +8,7 @@ use Rattle.simplex_types.specs.Positions.{term_start, term_end, InCoveringRange}
 use Rattle.simplex_messages.specs.declared.nullification.Nullification.{Nullification}
 use Rattle.simplex_record.specs.Coverage as spans
 use Rattle.simplex_record.specs.Coverage.{LiesIn}
-use Rattle.simplex_views.specs.History.{Setup, Point, last_finalized, nullified, was_nullified}
+use Rattle.simplex_views.specs.History.{Setup, Point, nullified, was_nullified}
 use Rattle.simplex_views.specs.Views.{IsCovered, AreCoveredBetween, IsFirstUncovered}
 
 -- a view up to the end of a term is of that term or of an earlier one
@@ -75,15 +75,13 @@ module _ {S D P G C : Type 0} where
       )
 
   -- the first view that the spans leave bare is the first that isn't covered
-  pub first-uncovered : (s : Setup S C) (h : List (Point S D P G C)) (all : List (ℕ × ℕ)) (parent view : ℕ) (o : Option ℕ) → ((u : ℕ) → last_finalized h < u → spans.IsCovered all u ↔ IsCovered s h u) → last_finalized h ≤ parent
+  pub first-uncovered : (s : Setup S C) (h : List (Point S D P G C)) (all : List (ℕ × ℕ)) (parent view : ℕ) (o : Option ℕ) → ((u : ℕ) → spans.IsCovered all u ↔ IsCovered s h u)
       → IfSome o (λ first. spans.IsFirstUncovered all parent view first) → IfNone o (spans.AreCoveredBetween all parent view)
       → MatchOption o (AreCoveredBetween s h parent view) (λ first. IsFirstUncovered s h parent view first)
-  first-uncovered s h all parent view None same from some none = λ u after before. (same u (omega (arith, from, after))).0 (none u after before)
-  first-uncovered s h all parent view (Some first) same from some none =
-      let behind : parent < first = some.after in
-      record {
-        after = some.after;
-        before = some.before;
-        bare = λ is. some.bare ((same first (omega (arith, from, behind))).1 is);
-        least = λ u after before. (same u (omega (arith, from, after))).0 (some.least u after before);
-      }
+  first-uncovered s h all parent view None same some none = λ u after before. (same u).0 (none u after before)
+  first-uncovered s h all parent view (Some first) same some none = record {
+    after = some.after;
+    before = some.before;
+    bare = λ is. some.bare ((same first).1 is);
+    least = λ u after before. (same u).0 (some.least u after before);
+  }

@@ -286,11 +286,10 @@ module _ {S L D P G C : Type 0} {g : Ghosts S D P G C} {leads : L → Round → 
     last_finalized = k.last_finalized ∙ sym q.finalizes;
     behind = subst (λ n. n + 1 < 2 ^ 64) (sym q.finalizes) k.behind;
     genesis = k.genesis ∙ sym q.begins;
-    coverage = λ u above.
-        let was = k.coverage u (subst (λ n. n < u) q.finalizes above) in (
-          λ is. let there = was.0 is in (there.0, there.1, q.covers there.0 ∙ there.2),
-          λ there. was.1 (there.0, there.1, sym (q.covers there.0) ∙ there.2),
-        );
+    coverage = λ u. (
+      λ is. let there = (k.coverage u).0 is in (there.0, there.1, q.covers there.0 ∙ there.2),
+      λ there. (k.coverage u).1 (there.0, there.1, sym (q.covers there.0) ∙ there.2),
+    );
     backed = backs_are;
     waiting = waits_are;
     nullifications = λ u. q.nullifies u ∙ k.nullifications u ∙ ap (λ n. option_or (get nat_cmp v.reaching u) n) (sym (q.kept_nullification u));

@@ -84,7 +84,7 @@ module _ {S L D P G C : Type 0} where
     pub last_finalized : v.last_finalized ≡ last_finalized h
     pub behind : History.last_finalized h + 1 < 2 ^ 64
     pub genesis : v.genesis ≡ genesis h
-    pub coverage : (view : ℕ) → History.last_finalized h < view → spans.IsCovered v.coverage view ↔ IsCovered s h view
+    pub coverage : (view : ℕ) → spans.IsCovered v.coverage view ↔ IsCovered s h view
     pub backed : Shows v.backed (is_marked s backs h)
     pub waiting : Shows v.waiting (is_marked s waits h)
     pub nullifications : (view : ℕ) → nullification s h view ≡ option_or (get nat_cmp v.reaching view) (past.nullification (seen s h view))

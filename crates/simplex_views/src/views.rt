@@ -42,6 +42,7 @@ pub struct Views<S: Scheme<D>, L: Elector<S, D>, D: Digest> {
     progress: Progress<S, D>,
     last_finalized: View,
     genesis: Option<D>,
+    /// What was ever covered.
     coverage: Coverage,
     /// The views whose own notarize was made here, or recalled with its proposal.
     backed: Marks,
@@ -230,10 +231,9 @@ impl<S: Scheme<D> + Drop, L: Elector<S, D>, D: Digest> Views<S, L, D> {
         }
     }
 
-    /// The first view after the parent and before the view that isn't covered, or `None` where each of them is. It is told of
-    /// a parent that does not lie below the last finalized view: of what covers only what lies above that one is kept.
+    /// The first view after the parent and before the view that isn't covered, or `None` where each of them is.
     pub fn first_uncovered(&self, parent: View, view: View) -> Option<View>
-        ensures { AtEach S.Scheme L.leader self.now (λ s h. last_finalized h ≤ parent → MatchOption result (AreCoveredBetween s h parent view) (λ first. IsFirstUncovered s h parent view first)) }
+        ensures { AtEach S.Scheme L.leader self.now (λ s h. MatchOption result (AreCoveredBetween s h parent view) (λ first. IsFirstUncovered s h parent view first)) }
     {
         self.coverage.first_uncovered(parent, view)
     }

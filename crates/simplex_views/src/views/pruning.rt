@@ -23,8 +23,8 @@ use std::ops::Bound;
 
 impl<S: Scheme<D> + Drop, L: Elector<S, D>, D: Digest> Views<S, L, D> {
     /// Drops what is known of the views that need not be kept, and answers those of which something was known, ascending. A
-    /// nullification whose term ends above the last finalized view stays, and what covers views above that one.
-    /// The cost is that of what is dropped.
+    /// nullification whose term ends above the last finalized view stays, and so does what is covered: a view that is kept may
+    /// still be notarized over any parent below it. The cost is that of what is dropped.
     ///
     /// # Errors
     ///
@@ -38,7 +38,6 @@ impl<S: Scheme<D> + Drop, L: Elector<S, D>, D: Digest> Views<S, L, D> {
         let rounds = self.progress.tracked.drop_below(floor)?;
         self.backed.forget_below(floor);
         self.waiting.forget_below(floor);
-        self.coverage.forget_up_to(self.last_finalized);
         drop_before(&mut self.reaching, first);
         let views = keep_from(&mut self.reaching, alloc, rounds, first)?;
         Ok(views)

@@ -57,7 +57,7 @@ returns-clause-keeps g c = λ s h k time.
           ∙ (λ i. max (c.view-view.ensures i) (k.last_finalized i));
       behind = omega (arith, fits, was);
       genesis = k.genesis;
-      coverage = λ u above. k.coverage u (omega (arith, above));
+      coverage = k.coverage;
       backed = k.backed;
       waiting = k.waiting;
       nullifications = λ w. k.nullifications w ∙ ap (λ n. option_or (get nat_cmp c.args.self.now.reaching w) n)

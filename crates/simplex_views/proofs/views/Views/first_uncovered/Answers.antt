@@ -4,4 +4,4 @@ use Rattle.simplex_views.proofs.views.Views.first_uncovered.Goals as goal
 
 pub returns : goal.returns
 unfolding Keeps
-returns g c = λ s h k from. first-uncovered s h c.args.self.now.coverage c.args.parent c.args.view c.first_uncovered.result k.coverage from c.first_uncovered.ensures.first c.first_uncovered.ensures.none
+returns g c = λ s h k. first-uncovered s h c.args.self.now.coverage c.args.parent c.args.view c.first_uncovered.result k.coverage c.first_uncovered.ensures.first c.first_uncovered.ensures.none
