@@ -9,7 +9,8 @@ ghost use Rattle.simplex_round.specs.Past.{Item};
 ghost use Rattle.simplex_round.specs.Round as one;
 ghost use Rattle.simplex_types.specs.Positions.{term_end};
 ghost use Rattle.simplex_views.specs.History.{last_finalized, pruned};
-ghost use Rattle.simplex_views.specs.Rounds.{AreBelow, Common, kept_from};
+ghost use Rattle.simplex_tracking.specs.Rounds.{AreBelow, Common};
+ghost use Rattle.simplex_views.specs.Views.{kept_from};
 ghost use Rattle.simplex_views.specs.Views.{Keeps, AreDropped, AtEach};
 
 use crate::views::Views;
@@ -30,8 +31,8 @@ impl<S: Scheme<D> + Drop, L: Elector<S, D>, D: Digest> Views<S, L, D> {
     ///
     /// `AllocError` where memory ran out.
     pub fn prune(&mut self, alloc: Global) -> Result<Vec<View>, AllocError>
-        ensures keeps { OnOk result (AtEach S.Scheme L.leader self.old (λ s h. Keeps S.Scheme L.leader s self.new (pruned ∷ h))) }
-        ensures dropped { IfOk result (λ views. AtEach S.Scheme L.leader self.old (λ s h. AreDropped s h views.items)) }
+        ensures keeps { OnOk result (AtEach S.Scheme L.Elector self.old (λ s h. Keeps S.Scheme L.Elector s self.new (pruned ∷ h))) }
+        ensures dropped { IfOk result (λ views. AtEach S.Scheme L.Elector self.old (λ s h. AreDropped s h views.items)) }
     {
         let floor = self.min_active();
         let first = self.first_reaching(floor);
@@ -46,7 +47,7 @@ impl<S: Scheme<D> + Drop, L: Elector<S, D>, D: Digest> Views<S, L, D> {
     /// Of the views below the floor the first whose term ends above the last finalized view, or the floor where there is none.
     fn first_reaching(&self, floor: View) -> View
         ensures up_to_floor { result ≤ floor }
-        ensures reaches { AtEach S.Scheme L.leader self.now (λ s h. (view : ℕ) → view < floor → (view < result) ↔ (term_end s.length view ≤ last_finalized h)) }
+        ensures reaches { AtEach S.Scheme L.Elector self.now (λ s h. (view : ℕ) → view < floor → (view < result) ↔ (term_end s.length view ≤ last_finalized h)) }
     {
         // The proof takes from the number that a term has at least one view.
         let _views = self.lookahead.length.get();

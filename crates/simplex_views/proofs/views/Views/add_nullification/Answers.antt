@@ -5,13 +5,16 @@ use Rattle.std.specs.BTreeMap.{get}
 use Rattle.simplex_types.specs.Positions.{next_term_start}
 use Rattle.simplex_round.specs.Past.{has_notarized}
 use Rattle.simplex_round.specs.Past as past
-use Rattle.simplex_views.specs.History.{current, seen, put, enter, is_direct, nullification}
+use Rattle.simplex_tracking.specs.Pasts.{put, is_direct}
+use Rattle.simplex_views.specs.History.{current, seen, enter, nullification}
 use Rattle.simplex_views.specs.Leaders.{was_forwarded}
 use Rattle.simplex_views.specs.Progress.{frame_of, tables}
 use Rattle.simplex_views.specs.Views.{Keeps}
 use Rattle.simplex_views.proofs.Choices.{copied-none, or_neither}
-use Rattle.simplex_views.proofs.Covering.{term_end-above, covered-next}
-use Rattle.simplex_views.proofs.Entering.{put-fact, enter-fact, inherits-same, nullification-next}
+use Rattle.simplex_record.specs.Spans.{term_end-above}
+use Rattle.simplex_views.proofs.Uncovering.{covered-next}
+use Rattle.simplex_tracking.specs.Laws.{put-fact, inherits-same}
+use Rattle.simplex_views.proofs.Entering.{enter-fact, nullification-next}
 use Rattle.simplex_views.proofs.Following.{leader-closed, nullified-at}
 use Rattle.simplex_views.proofs.views.Views.add_nullification.Goals as goal
 
@@ -44,6 +47,7 @@ returns-clause-keeps g c = λ s h k time.
       length = k.length;
       optimistic_views = k.optimistic_views;
       retention = k.retention;
+      mode = k.mode;
       elects = k.elects;
       members = k.members;
       progress = record {

@@ -1,5 +1,5 @@
 use Rattle.simplex_views.specs.Views.{Keeps}
-use Rattle.simplex_views.proofs.Covering.{first-uncovered}
+use Rattle.simplex_views.proofs.Uncovering.{first-uncovered}
 use Rattle.simplex_views.proofs.views.Views.first_uncovered.Goals as goal
 
 pub returns : goal.returns

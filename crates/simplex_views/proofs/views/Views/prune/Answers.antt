@@ -8,6 +8,7 @@ use Rattle.simplex_views.specs.Leaders.{leader}
 use Rattle.simplex_views.specs.Progress.{frame_of, tables}
 use Rattle.simplex_views.specs.Views.{Keeps}
 use Rattle.simplex_views.proofs.Pruning.{dropped-exact, keys-ascend, pruned-nullification}
+use Rattle.simplex_views.proofs.Advancing.{IsAt-tracked}
 use Rattle.simplex_views.proofs.views.Views.prune.Goals as goal
 
 pub returns-clause-keeps : goal.returns-clause-keeps
@@ -25,15 +26,10 @@ returns-clause-keeps g c = λ s h k.
       length = k.length;
       optimistic_views = k.optimistic_views;
       retention = k.retention;
+      mode = k.mode;
       elects = k.elects;
       members = k.members;
-      progress = record {
-        view = k.progress.view;
-        leader_timeout = k.progress.leader_timeout;
-        certification_timeout = k.progress.certification_timeout;
-        stall_timeout = k.progress.stall_timeout;
-        tracked = rw floor at dropped;
-      };
+      progress = IsAt-tracked k.progress (rw floor at dropped);
       last_finalized = k.last_finalized;
       behind = k.behind;
       genesis = k.genesis;

@@ -9,6 +9,7 @@ use Rattle.simplex_views.specs.Views.{Keeps}
 use Rattle.simplex_views.proofs.Following.{leader-closed}
 use Rattle.simplex_views.proofs.Forwarding.{unless-fact}
 use Rattle.simplex_views.proofs.Stepping.{still-kept}
+use Rattle.simplex_views.proofs.Advancing.{IsAt-tracked}
 use Rattle.simplex_views.proofs.views.Views.set_proposal.Goals as goal
 
 pub returns-clause-keeps : goal.returns-clause-keeps
@@ -23,11 +24,5 @@ returns-clause-keeps g c = λ s h k.
       nullifies = λ u. refl;
       kept_nullification = unless-fact past.nullification (past.offered (offer.forwarded c.args.proposal.now)) (λ l. refl) (has_nullified (seen s h c.args.view)) c.args.view (seen s h);
     })
-    (record {
-      view = k.progress.view;
-      leader_timeout = k.progress.leader_timeout;
-      certification_timeout = k.progress.certification_timeout;
-      stall_timeout = k.progress.stall_timeout;
-      tracked = known;
-    })
+    (IsAt-tracked k.progress known)
     k.backed k.waiting
