@@ -123,28 +123,3 @@ fn the_ends_of_the_numbers_are_views_as_any(rt: HostRuntime) -> Result<(), Alloc
     expect(&rt, &coverage, 0, MAX, None);
     Ok(())
 }
-
-// What lies above the view stays covered, also by a span that reaches over it; a span that ends there goes whole.
-#[test]
-fn spans_that_end_below_are_forgotten(rt: HostRuntime) -> Result<(), AllocError> {
-    // Up to which view is forgotten, and the views from 1 to 13 that are left bare then.
-    let rows: [(u64, &[u64]); 6] = [
-        (0, &[1, 4, 8, 13]),
-        (2, &[1, 4, 8, 13]),
-        (3, &[1, 2, 3, 4, 8, 13]),
-        (6, &[1, 2, 3, 4, 8, 13]),
-        (7, &[1, 2, 3, 4, 5, 6, 7, 8, 13]),
-        (MAX, &[1, 2, 3, 4, 5, 6, 7, 8, 9, 10, 11, 12, 13]),
-    ];
-    for (view, bare) in rows {
-        let mut coverage = covering(&rt, rt.alloc(), &[(2, 3), (5, 7), (9, 12)])?;
-        coverage.forget_up_to(View::new(view));
-        let mut parent = 0;
-        for left in bare {
-            expect(&rt, &coverage, parent, 14, Some(*left));
-            parent = *left;
-        }
-        expect(&rt, &coverage, parent, 14, None);
-    }
-    Ok(())
-}

@@ -22,7 +22,7 @@ use Rattle.simplex_record.specs.Record.{Entry, voted, taken, judged, HasTaken, H
 use Rattle.simplex_record.specs.Rules.{AreAlike, MayTake, MayJudge}
 use Rattle.simplex_record.specs.Standing.{KeepsVotes, KeepsCertificates, KeepsVerdicts, Keeps}
 use Rattle.simplex_record.specs.Told.{told, notarized_at, nullified_at, finalized_at, vote_in, certificate_in, verdict_at}
-use Rattle.simplex_record.proofs.AddingTerms.{InCoveringRange-LiesIn}
+use Rattle.simplex_record.specs.Spans.{covers-span}
 use Rattle.simplex_record.proofs.AddingTold.{greatest-push, greatest-same, KeepsSet-same, KeepsSet-push, KeepsMap-same, KeepsMap-push}
 use Rattle.simplex_record.proofs.Member.{IsVote}
 use Rattle.simplex_record.proofs.Telling.{told-nothing, of_view, certificates-nothing, notarize-none}
@@ -115,14 +115,14 @@ module _ {D : Type 0} (views : ℕ) (before : List (Entry D)) where
   -- a nullification covers the views from its own to the end of its term
   IsCovered-push : (r : Round) → 0 < views → 1 ≤ r.view → (view : ℕ) → 1 ≤ view → (IsCovered views before view ⊎ coverage.LiesIn (r.view, term_end views r.view) view) ↔ IsCovered views (before ++ taken (nullify r) ∷ []) view
   IsCovered-push r some from_one view view_from_one =
-      let spans = InCoveringRange-LiesIn views view r.view some view_from_one from_one in (
+      let spans = covers-span views view r.view some in (
         λ covered. ⊎_elim
             (λ (was : IsCovered views before view). (was.0, was.1, Contains-append_left before (taken (nullify r) ∷ []) (taken (nullify was.0)) was.2))
-            (λ lies. (r, spans.1 lies, Contains-push before (taken (nullify r))))
+            (λ lies. (r, spans.0 lies, Contains-push before (taken (nullify r))))
             covered,
         λ (t, range, here). ⊎_elim
             (λ earlier. inl (t, range, earlier))
-            (λ new. inr (spans.0 (subst (λ (u : Round). InCoveringRange views view u.view) (sym (nullify-once t new)) range)))
+            (λ new. inr (spans.1 (subst (λ (u : Round). InCoveringRange views view u.view) (sym (nullify-once t new)) range)))
             (Contains-push_cases before (taken (nullify r)) (taken (nullify t)) here),
       )
     where

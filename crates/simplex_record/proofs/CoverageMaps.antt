@@ -26,12 +26,6 @@ pub record IsLatest (spans : List (ℕ × ℕ)) (view : ℕ) (s : ℕ × ℕ) : 
   pub begins : s.0 ≤ view
   pub latest : (t : ℕ × ℕ) → Contains spans t → t.0 ≤ view → t.0 ≤ s.0
 
--- of the spans that begin at the view or before it, this one begins first
-pub record IsFirst (spans : List (ℕ × ℕ)) (view : ℕ) (s : ℕ × ℕ) : Type 0 where
-  pub there : Contains spans s
-  pub begins : s.0 ≤ view
-  pub least : (t : ℕ × ℕ) → Contains spans t → t.0 ≤ view → s.0 ≤ t.0
-
 module _ (m : BTreeMap ℕ ℕ) (ordered : IsOrdered nat_cmp m) where
   pub found : (s : ℕ × ℕ) → Contains m.entries s → get nat_cmp m s.0 ≡ Some s.1
   found s there = (btree_map_get_iff nat_cmp_total exact_unsigned m ordered s.0 s.1).1 there
@@ -51,17 +45,6 @@ module _ (m : BTreeMap ℕ ℕ) (ordered : IsOrdered nat_cmp m) where
           there = listed s inside.1;
           begins = le_from_not_gt s.0 view inside.0.1;
           latest = λ u there begins. ge_from_not_lt s.0 u.0 (range.4 s t e u.0 (tt, not_gt_from_le u.0 view begins) (is_there u there));
-        }
-
-    -- the first of the spans up to a view
-    pub IsFirst-from_range : (t : List (ℕ × ℕ)) (s : ℕ × ℕ) → r ≡ s ∷ t → IsFirst m.entries view s
-    IsFirst-from_range t s e =
-        let inside = rw e at range.1 in
-        let least = rw e at range.2 in
-        record {
-          there = listed s inside.1;
-          begins = le_from_not_gt s.0 view inside.0.1;
-          least = λ u there begins. le_from_not_gt s.0 u.0 (least u.0 (tt, not_gt_from_le u.0 view begins) (is_there u there));
         }
 
     -- no span begins up to the view

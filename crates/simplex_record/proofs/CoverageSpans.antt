@@ -5,7 +5,7 @@ use Rattle.std.specs.Ordering.{nat_cmp}
 use Rattle.std.specs.BTreeMap.{BTreeMap, IsOrdered, Updates}
 use Rattle.std.proofs.lemmas.Bool.{cases_lt}
 use Rattle.simplex_record.specs.Coverage.{AreApart, IsCovered, LiesIn}
-use Rattle.simplex_record.proofs.CoverageMaps.{IsFirst, IsLatest, inserted_beside, inserted_cases, inserted_there}
+use Rattle.simplex_record.proofs.CoverageMaps.{IsLatest, inserted_beside, inserted_cases, inserted_there}
 
 module _ (spans : List (ℕ × ℕ)) (a : AreApart spans) where
   -- spans with no view between them are one
@@ -23,28 +23,6 @@ module _ (spans : List (ℕ × ℕ)) (a : AreApart spans) where
       let ascends : s.0 ≤ s.1 = a.ascends s latest.there in
       let same = touching_are_one s t latest.there there (omega arith) (omega arith) in
       subst (λ (u : ℕ × ℕ). view ≤ u.1) (sym same) lies.1
-
-  -- where the first span that begins up to a view ends above it, each span does
-  pub all_end_above : (view : ℕ) (s : ℕ × ℕ) → IsFirst spans view s → view < s.1 → (t : ℕ × ℕ) → Contains spans t → view < t.1
-  all_end_above view s first above t there =
-      let ascends : t.0 ≤ t.1 = a.ascends t there in
-      elim (cases_lt view t.0) [
-        | inl behind ↦ omega arith
-        | inr begins ↦
-            let least : s.0 ≤ t.0 = first.least t there begins in
-            elim (a.apart s t first.there there) [
-              | inl same ↦ subst (λ (u : ℕ × ℕ). view < u.1) same above
-              | inr apart ↦ absurd (⊎_elim (λ before. omega arith) (λ behind. omega arith) apart)
-            ]
-      ]
-
-  -- some of the spans are apart as all are
-  pub AreApart-less : (less : List (ℕ × ℕ)) → ((s : ℕ × ℕ) → Contains less s → Contains spans s) → AreApart less
-  AreApart-less less from = record {
-    ascends = λ s there. a.ascends s (from s there);
-    fits = λ s there. a.fits s (from s there);
-    apart = λ s t s_there t_there. a.apart s t (from s s_there) (from t t_there);
-  }
 
   module _ (s : ℕ × ℕ) (there : Contains spans s) where
     -- the view before a span is bare
@@ -187,10 +165,3 @@ module _ (old new : List (ℕ × ℕ)) (first last start end : ℕ) (a : AreApar
   -- the new spans are apart as the old ones are
   pub AreApart-replaced : AreApart new
   AreApart-replaced = record { ascends = new_ascends; fits = new_fits; apart = new_apart }
-
--- what is covered above a view is covered by the spans that end above it
-pub covered_above : (old new : List (ℕ × ℕ)) (view : ℕ) → ((s : ℕ × ℕ) → Contains new s ↔ (Contains old s × (view < s.1))) → (above : ℕ) → view < above → IsCovered new above ↔ IsCovered old above
-covered_above old new view left above behind = (
-  λ covered. (covered.0, ((left covered.0).0 covered.1).0, covered.2),
-  λ covered. let lies : above ≤ covered.0.1 = covered.2.1 in (covered.0, (left covered.0).1 (covered.1, omega (arith, lies, behind)), covered.2),
-)

@@ -1,7 +1,7 @@
 //! The views that nullifications cover.
 
 ghost use Rattle.std.specs.Prelude.{◌≡◌, ◌↔◌, ◌⊎◌, ◌+◌, ◌^◌, ◌<◌, ◌≤◌, ℕ, Contains, IfNone, IfSome, IsNone, IsTrue, OnErr, OnOk};
-ghost use Rattle.simplex_record.specs.Coverage.{AreApart, AreCoveredBetween, IsCovered, IsFirstUncovered, LiesIn};
+ghost use Rattle.simplex_record.specs.Coverage.{AreCoveredBetween, IsCovered, IsFirstUncovered, LiesIn};
 
 use simplex_types::View;
 use std::alloc::{AllocError, Global};
@@ -52,14 +52,6 @@ impl Coverage {
         // Only the insertion takes memory: the spans inside the new one leave after it.
         remove_between(&mut self.last_by_first, start, end);
         Ok(())
-    }
-
-    /// Forgets the spans that end at `view` or before it. What is covered above it stays covered.
-    pub fn forget_up_to(&mut self, view: View)
-        ensures spans { (span : ℕ × ℕ) → Contains self.new span ↔ (Contains self.old span × (view < span.1)) }
-        ensures above { (above : ℕ) → view < above → IsCovered self.new above ↔ IsCovered self.old above }
-    {
-        remove_up_to(&mut self.last_by_first, view);
     }
 
     /// Whether each view after `parent` and before `view` is covered.
@@ -142,19 +134,6 @@ fn remove_between(last_by_first: &mut BTreeMap<View, View>, start: View, end: Vi
         .range((Bound::Excluded(start), Bound::Included(end)))
         .next()
     {
-        last_by_first.remove(&first);
-    }
-}
-
-/// Takes out the spans that end at `view` or before it.
-fn remove_up_to(last_by_first: &mut BTreeMap<View, View>, view: View)
-    requires { AreApart last_by_first.old.entries }
-    ensures { (span : ℕ × ℕ) → Contains last_by_first.new.entries span ↔ (Contains last_by_first.old.entries span × (view < span.1)) }
-{
-    while let Some((&first, &last)) = last_by_first.range(..=view).next() {
-        if view < last {
-            return;
-        }
         last_by_first.remove(&first);
     }
 }

@@ -9,8 +9,10 @@ use Rattle.simplex_types.specs.Positions.{term_start}
 use Rattle.simplex_rules.specs.Windows.{issuance_floor}
 use Rattle.simplex_round.specs.Past as past
 use Rattle.simplex_round.specs.Past.{Item}
-use Rattle.simplex_views.specs.History.{Setup, Point, pruned, is_direct, min_active, seen}
-use Rattle.simplex_views.specs.Leaders.{any_from, extend, was_forwarded, named, named_early, has_anchor, has_anchor_in_term, is_in_window, inherits, leader}
+use Rattle.simplex_tracking.specs.Pasts.{is_direct}
+use Rattle.simplex_views.specs.History.{Setup, Point, pruned, min_active, seen}
+use Rattle.simplex_tracking.specs.Handing.{any_from, extend}
+use Rattle.simplex_views.specs.Leaders.{was_forwarded, named, named_early, has_anchor, has_anchor_in_term, is_in_window, inherits, leader}
 
 -- one test is passed wherever another is
 either_still : (a b c d : Bool) → (a ≡ true → c ≡ true) → (b ≡ true → d ≡ true) → (a || b) ≡ true → (c || d) ≡ true

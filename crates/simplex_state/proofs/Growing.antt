@@ -13,7 +13,8 @@ use Rattle.simplex_round.specs.Held as offer
 use Rattle.simplex_round.specs.Held.{Offer, Agrees, held}
 use Rattle.simplex_round.specs.Past as past
 use Rattle.simplex_round.specs.Past.{Item, offers}
-use Rattle.simplex_views.specs.History.{Setup, Point, started, notarized, nullified, finalized, judged, forwarded, built, confirmed, unbound, latched, build_asked, build_released, verify_asked, ancestry_asked, certify_asked, certify_waited, voted_notarize, voted_nullify, voted_finalize, recalled_notarize, recalled_nullify, recalled_finalize, recalled_verdict, sent, polled, pruned, put, enter, bind, undecided_payload, current, last_finalized, min_active, seen}
+use Rattle.simplex_tracking.specs.Pasts.{put, bind}
+use Rattle.simplex_views.specs.History.{Setup, Point, started, notarized, nullified, finalized, judged, forwarded, built, confirmed, unbound, latched, build_asked, build_released, verify_asked, ancestry_asked, certify_asked, certify_waited, voted_notarize, voted_nullify, voted_finalize, recalled_notarize, recalled_nullify, recalled_finalize, recalled_verdict, sent, polled, pruned, enter, undecided_payload, current, last_finalized, min_active, seen}
 use Rattle.simplex_state.specs.Matching.{round_of, told, OwnWereTaken}
 
 module _ {X : Type 0} where

@@ -20,7 +20,8 @@ use Rattle.simplex_round.specs.Held as offer
 use Rattle.simplex_round.specs.Held.{Offer, Agrees, IsTainted, held}
 use Rattle.simplex_round.specs.Past as past
 use Rattle.simplex_round.specs.Past.{Item, offers}
-use Rattle.simplex_views.specs.History.{Setup, Point, started, notarized, nullified, finalized, judged, voted_notarize, voted_nullify, voted_finalize, recalled_notarize, recalled_nullify, recalled_finalize, recalled_verdict, pruned, put, enter, bind, undecided_payload, was_nullified, current, last_finalized, min_active, seen}
+use Rattle.simplex_tracking.specs.Pasts.{put, bind}
+use Rattle.simplex_views.specs.History.{Setup, Point, started, notarized, nullified, finalized, judged, voted_notarize, voted_nullify, voted_finalize, recalled_notarize, recalled_nullify, recalled_finalize, recalled_verdict, pruned, enter, undecided_payload, was_nullified, current, last_finalized, min_active, seen}
 use Rattle.simplex_state.specs.Matching.{round_of, told, record_of, OwnWereTaken, EachHistoryMatches}
 use Rattle.simplex_state.proofs.Growing.{first_or_rest, is_first, is_later, told_still, IsRecordedWell, IsFounded, founded_still, Grows, still, more, stays_kept, grows, finalized_rises, grown}
 

@@ -13,7 +13,8 @@ use Rattle.simplex_round.specs.Held as offer
 use Rattle.simplex_round.specs.Held.{Offer, held}
 use Rattle.simplex_round.specs.Past as past
 use Rattle.simplex_round.specs.Past.{Item, offers}
-use Rattle.simplex_views.specs.History.{started, nullified, judged, Setup, Point, finalized, pruned, put, enter, is_marked, current, last_finalized, min_active, seen}
+use Rattle.simplex_tracking.specs.Pasts.{put}
+use Rattle.simplex_views.specs.History.{started, nullified, judged, Setup, Point, finalized, pruned, enter, is_marked, current, last_finalized, min_active, seen}
 use Rattle.simplex_views.specs.Leaders.{leader}
 use Rattle.simplex_views.specs.Known.{known, backs, waits}
 use Rattle.simplex_state.specs.Ancestry.{member}

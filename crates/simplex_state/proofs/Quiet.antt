@@ -8,8 +8,10 @@ use Rattle.simplex_rules.specs.declared.kind.Kind.TheVariants as kind
 use Rattle.simplex_round.specs.Held.{Offer}
 use Rattle.simplex_round.specs.Past as past
 use Rattle.simplex_round.specs.Past.{Item}
-use Rattle.simplex_views.specs.History.{Setup, Point, latched, polled, sent, voted_nullify, put, is_direct, is_marked, was_nullified, current, last_finalized, floor, genesis, seen}
-use Rattle.simplex_views.specs.Leaders.{leader, inherits, extend, was_forwarded}
+use Rattle.simplex_tracking.specs.Pasts.{put, is_direct}
+use Rattle.simplex_views.specs.History.{Setup, Point, latched, polled, sent, voted_nullify, is_marked, was_nullified, current, last_finalized, floor, genesis, seen}
+use Rattle.simplex_tracking.specs.Handing.{extend}
+use Rattle.simplex_views.specs.Leaders.{leader, inherits, was_forwarded}
 use Rattle.simplex_views.specs.Known.{known, backs, waits}
 use Rattle.simplex_state.specs.Matching.{LatchChangesNothing, PollChangesNothing, SendChangesNothing, RepetitionChangesNothing, LeadersAreClosed}
 use Rattle.simplex_state.proofs.Closed.{closed, inherits_still, still_led}

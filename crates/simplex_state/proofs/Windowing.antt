@@ -9,8 +9,10 @@ use Rattle.simplex_rules.specs.Windows.{issuance_floor}
 use Rattle.simplex_messages.specs.ProposalCertificate.{Notarization, Finalization}
 use Rattle.simplex_round.specs.Past as past
 use Rattle.simplex_round.specs.Past.{Item}
-use Rattle.simplex_views.specs.History.{Setup, Point, is_direct, seen}
-use Rattle.simplex_views.specs.Leaders.{any_from, has_anchor, is_in_window}
+use Rattle.simplex_tracking.specs.Pasts.{is_direct}
+use Rattle.simplex_views.specs.History.{Setup, Point, seen}
+use Rattle.simplex_tracking.specs.Handing.{any_from}
+use Rattle.simplex_views.specs.Leaders.{has_anchor, is_in_window}
 use Rattle.simplex_views.specs.Known.{known}
 use Rattle.simplex_state.specs.Ancestry.{member, has_certificate, InWindow}
 use Rattle.simplex_state.specs.Matching.{WindowsAgree}

@@ -4,7 +4,7 @@ use Rattle.std.specs.Prelude.{Option, Some, None, nat_lt}
 use Rattle.std.specs.Option.{option_or}
 use Rattle.std.proofs.lemmas.Grind.{common_steps}
 use Rattle.std.proofs.lemmas.Bool.Decides.{nat_tests}
-use Rattle.std.proofs.lemmas.Bool.{cases_eq, or_cases, or_left, or_right}
+use Rattle.std.proofs.lemmas.Bool.{cases_Bool, cases_eq, or_cases, or_left, or_right}
 use Rattle.simplex_types.specs.Positions.{next_term_start}
 use Rattle.simplex_messages.specs.declared.nullification.Nullification.{Nullification}
 use Rattle.simplex_messages.specs.ProposalCertificate.{Notarization, Finalization}
@@ -12,13 +12,14 @@ use Rattle.simplex_round.specs.Past as past
 use Rattle.simplex_round.specs.Past.{Item, has_notarized}
 use Rattle.simplex_views.specs.History as History
 use Rattle.simplex_types.specs.declared.scheme.Scheme.{Ghosts}
-use Rattle.simplex_views.specs.declared.tracked.Tracked.{Tracked}
-use Rattle.simplex_views.specs.History.{Setup, Point, forget, is_direct, min_active, seen, put, enter, current}
-use Rattle.simplex_views.specs.Leaders.{extend, named, named_early, inherits, leader, was_forwarded}
+use Rattle.simplex_tracking.specs.declared.tracked.Tracked.{Tracked}
+use Rattle.simplex_tracking.specs.Pasts.{forget, is_direct, put}
+use Rattle.simplex_views.specs.History.{Setup, Point, min_active, seen, enter, current}
+use Rattle.simplex_tracking.specs.Handing.{extend}
+use Rattle.simplex_views.specs.Leaders.{named, named_early, inherits, leader, was_forwarded}
 use Rattle.simplex_views.specs.Progress.{frame_of, tables}
-use Rattle.simplex_views.specs.Tracked.{Tables, Inherits, IsClosedAt, IsKept, Holds, inherits_by}
-use Rattle.simplex_views.proofs.Choices.{answers}
-use Rattle.simplex_views.proofs.Leading.{or_none, extend-above, inherits_from, inherits_says, Holds-led}
+use Rattle.simplex_tracking.specs.Tracked.{Tables, Inherits, IsClosedAt, Holds, inherits_by}
+use Rattle.simplex_tracking.specs.Laws.{or_none, extend-above, inherits_from, inherits_says, Holds-led}
 
 -- what was taken in already doesn't count again
 or-again : {A : Type 0} (a b c : Option A) → option_or (option_or a (option_or b c)) c ≡ option_or a (option_or b c)
@@ -43,7 +44,7 @@ named-leader next led elect c from_before known is u = λ i. extend (λ w. named
 
 -- a mark on a view that is kept was there
 forgotten-note : (floor : ℕ) (f : ℕ → Bool) (u : ℕ) → (if nat_lt u floor then false else f u) ≡ true → f u ≡ true
-forgotten-note floor f u so = ⊎_elim (λ gone. absurd (cc (rw gone at so))) (λ kept. rw kept at so) (answers (nat_lt u floor))
+forgotten-note floor f u so = ⊎_elim (λ gone. absurd (cc (rw gone at so))) (λ kept. rw kept at so) (cases_Bool (nat_lt u floor))
 
 -- where views are dropped nothing is left to be handed on, if nothing was
 forgotten-closed : (next_gone gone : Bool) (above below : Option ℕ) → (next_gone ≡ true → gone ≡ true) → (next_gone ≡ false → gone ≡ false → option_or above below ≡ above)
@@ -56,10 +57,10 @@ forgotten-closed false false above below with_it closed = closed refl refl
 module _ {S D P G C : Type 0} where
   -- what is known of a view that is kept is what was known
   forgotten-direct : (floor : ℕ) (t : ℕ → List (Item S D P G C)) (u : ℕ) → is_direct (forget floor t u) ≡ true → is_direct (t u) ≡ true
-  forgotten-direct floor t u so = ⊎_elim (λ gone. absurd (cc (rw gone at so))) (λ kept. rw kept at so) (answers (nat_lt u floor))
+  forgotten-direct floor t u so = ⊎_elim (λ gone. absurd (cc (rw gone at so))) (λ kept. rw kept at so) (cases_Bool (nat_lt u floor))
 
   forgotten-vote : (floor : ℕ) (t : ℕ → List (Item S D P G C)) (u : ℕ) → has_notarized (forget floor t u) ≡ true → has_notarized (t u) ≡ true
-  forgotten-vote floor t u so = ⊎_elim (λ gone. absurd (cc (rw gone at so))) (λ kept. rw kept at so) (answers (nat_lt u floor))
+  forgotten-vote floor t u so = ⊎_elim (λ gone. absurd (cc (rw gone at so))) (λ kept. rw kept at so) (cases_Bool (nat_lt u floor))
 
   -- a view that has the leader of the view before when views are dropped had it before
   pub inherits-kept : (s : Setup S C) (h : List (Point S D P G C)) (view : ℕ) → Inherits (frame_of s) (tables s (History.pruned ∷ h)) view → Inherits (frame_of s) (tables s h) view
@@ -142,11 +143,10 @@ module _ {S D P G C : Type 0} where
   pub nullified-at : (g : Ghosts S D P G C) (x : Tracked S D P G C) (s : Setup S C) (h : List (Point S D P G C)) (now : ℕ) (c : Nullification S D P G C) (next led : ℕ)
       → next ≡ next_term_start s.length c.round.view → led ≡ s.elect next (Some c.certificate)
       → Holds g (frame_of s) x (nullified-tables s h now c led next) → Holds g (frame_of s) x (tables s (History.nullified now c ∷ h))
-  unfolding Holds
   nullified-at g x s h now c next led e f k =
       let start : ℕ = next_term_start s.length c.round.view in
-      let moved : IsKept g (frame_of s) x (nullified-tables s h now c led start) = subst (λ n. IsKept g (frame_of s) x (nullified-tables s h now c led n)) e k in
-      Holds-led (leader s (History.nullified now c ∷ h)) moved
+      let moved : Holds g (frame_of s) x (nullified-tables s h now c led start) = subst (λ n. Holds g (frame_of s) x (nullified-tables s h now c led n)) e k in
+      Holds-led g (frame_of s) x _ (leader s (History.nullified now c ∷ h)) moved
       (λ u fits. named-leader start led s.elect c.certificate
       (inherits_by (frame_of s) (record { led = leader s h; past = put c.round.view (past.nullified c) (enter s (current s h) now start (seen s h)); noted = was_forwarded s h }))
       (leader s h) (f ∙ ap (λ n. s.elect n (Some c.certificate)) e) u)
@@ -164,11 +164,10 @@ module _ {S D P G C : Type 0} where
   pub notarized-at : (g : Ghosts S D P G C) (x : Tracked S D P G C) (s : Setup S C) (h : List (Point S D P G C)) (c : Notarization S D P G C) (next led : ℕ)
       → next ≡ c.proposal.round.view + 1 → led ≡ s.elect next (Some c.certificate)
       → Holds g (frame_of s) x (notarized-tables s h c led next) → Holds g (frame_of s) x (tables s (History.notarized c ∷ h))
-  unfolding Holds
   notarized-at g x s h c next led e f k =
       let start : ℕ = c.proposal.round.view + 1 in
-      let moved : IsKept g (frame_of s) x (notarized-tables s h c led start) = subst (λ n. IsKept g (frame_of s) x (notarized-tables s h c led n)) e k in
-      Holds-led (leader s (History.notarized c ∷ h)) moved
+      let moved : Holds g (frame_of s) x (notarized-tables s h c led start) = subst (λ n. Holds g (frame_of s) x (notarized-tables s h c led n)) e k in
+      Holds-led g (frame_of s) x _ (leader s (History.notarized c ∷ h)) moved
       (λ u fits. named-leader start led s.elect c.certificate
       (inherits_by (frame_of s) (record { led = leader s h; past = put c.proposal.round.view (past.notarized c) (seen s h); noted = was_forwarded s h }))
       (leader s h) (f ∙ ap (λ n. s.elect n (Some c.certificate)) e) u)
@@ -186,11 +185,10 @@ module _ {S D P G C : Type 0} where
   pub finalized-at : (g : Ghosts S D P G C) (x : Tracked S D P G C) (s : Setup S C) (h : List (Point S D P G C)) (now : ℕ) (c : Finalization S D P G C) (next led : ℕ)
       → next ≡ c.proposal.round.view + 1 → led ≡ s.elect next (Some c.certificate)
       → Holds g (frame_of s) x (finalized-tables s h now c led next) → Holds g (frame_of s) x (tables s (History.finalized now c ∷ h))
-  unfolding Holds
   finalized-at g x s h now c next led e f k =
       let start : ℕ = c.proposal.round.view + 1 in
-      let moved : IsKept g (frame_of s) x (finalized-tables s h now c led start) = subst (λ n. IsKept g (frame_of s) x (finalized-tables s h now c led n)) e k in
-      Holds-led (leader s (History.finalized now c ∷ h)) moved
+      let moved : Holds g (frame_of s) x (finalized-tables s h now c led start) = subst (λ n. Holds g (frame_of s) x (finalized-tables s h now c led n)) e k in
+      Holds-led g (frame_of s) x _ (leader s (History.finalized now c ∷ h)) moved
       (λ u fits. named-leader start led s.elect c.certificate
       (inherits_by (frame_of s) (record { led = leader s h; past = put c.proposal.round.view (past.finalized c) (enter s (current s h) now start (seen s h)); noted = was_forwarded s h }))
       (leader s h) (f ∙ ap (λ n. s.elect n (Some c.certificate)) e) u)
@@ -207,9 +205,8 @@ module _ {S D P G C : Type 0} where
 
   pub started-at : (g : Ghosts S D P G C) (x : Tracked S D P G C) (s : Setup S C) (h : List (Point S D P G C)) (now : ℕ) (payload : D) (first led : ℕ) → first ≡ 1 → led ≡ s.elect 1 None
       → Holds g (frame_of s) x (started-tables s h now led first) → Holds g (frame_of s) x (tables s (History.started now payload ∷ h))
-  unfolding Holds
   started-at g x s h now payload first led e f k =
-      let moved : IsKept g (frame_of s) x (started-tables s h now (s.elect 1 None) 1) = subst (λ n. IsKept g (frame_of s) x (started-tables s h now n 1)) f (subst (λ n. IsKept g (frame_of s) x (started-tables s h now led n)) e k) in
-      Holds-led (leader s (History.started now payload ∷ h)) moved
+      let moved : Holds g (frame_of s) x (started-tables s h now (s.elect 1 None) 1) = subst (λ n. Holds g (frame_of s) x (started-tables s h now n 1)) f (subst (λ n. Holds g (frame_of s) x (started-tables s h now led n)) e k) in
+      Holds-led g (frame_of s) x _ (leader s (History.started now payload ∷ h)) moved
       (λ u fits. let named_once = λ (w : ℕ). sym (or_none (if w == 1 then Some (s.elect 1 None) else None)) in
       λ i. extend (λ w. named_once w i) (inherits_by (frame_of s) (record { led = leader s h; past = enter s (current s h) now 1 (seen s h); noted = was_forwarded s h })) (leader s h) u)

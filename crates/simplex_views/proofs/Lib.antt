@@ -1,13 +1,8 @@
+pub mod Advancing
 pub mod Choices
-pub mod Covering
-pub mod Dropping
 pub mod Entering
 pub mod Following
-pub mod Forwarding
-pub mod Leading
-pub mod Marking
 pub mod Pruning
-pub mod Recalling
 pub mod Replaying
 pub mod Stepping
-pub mod Tables
+pub mod Uncovering

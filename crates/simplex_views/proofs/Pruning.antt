@@ -20,8 +20,9 @@ use Rattle.simplex_round.specs.declared.round.Round.{Round}
 use Rattle.simplex_round.specs.Past as past
 use Rattle.simplex_round.specs.Past.{Item}
 use Rattle.simplex_round.specs.Round as one
-use Rattle.simplex_views.specs.Rounds.{AreBelow, Common, IsRight, IsTracked, kept_from, setup_of}
-use Rattle.simplex_views.proofs.Leading.{or_none}
+use Rattle.simplex_tracking.specs.Rounds.{AreBelow, Common, IsRight, IsTracked, setup_of}
+use Rattle.simplex_views.specs.Views.{kept_from}
+use Rattle.simplex_tracking.specs.Laws.{or_none}
 
 pub apart_from_lt : (a b : ℕ) → a < b → is_eq (nat_cmp a b) ≡ false
 apart_from_lt a b lt = grind (arith, nat_tests)

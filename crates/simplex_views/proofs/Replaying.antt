@@ -1,29 +1,31 @@
 -- What an artifact of a record leaves of the voter.
 use Rattle.std.proofs.Common.{◌≡◌, ◌==◌, ℕ, true, false, List, ◌∷◌, refl, ◌∙◌, if◌then◌else◌}
 use Rattle.std.specs.Prelude.{Option, Some, None, Bool, ⊤}
-use Rattle.simplex_types.specs.declared.position.Round.{Round}
 use Rattle.simplex_types.specs.declared.proposal.Proposal.{Proposal}
 use Rattle.simplex_types.specs.declared.scheme.Scheme.{Ghosts}
 use Rattle.simplex_messages.specs.declared.artifact.Artifact.{Artifact}
 use Rattle.simplex_messages.specs.declared.artifact.Artifact.TheVariants as artifact
+use Rattle.simplex_rules.specs.declared.elector.Elector as elector
 use Rattle.simplex_rules.specs.declared.kind.Kind.TheVariants as kind
 use Rattle.simplex_round.specs.Held.{recorded}
 use Rattle.simplex_round.specs.Past as past
 use Rattle.simplex_round.specs.Past.{Item, has_notarized}
 use Rattle.simplex_messages.specs.ProposalVote.{Notarize}
-use Rattle.simplex_views.specs.declared.marks.Marks.{Marks}
-use Rattle.simplex_views.specs.declared.tracked.Tracked.{Tracked}
+use Rattle.simplex_tracking.specs.declared.marks.Marks.{Marks}
+use Rattle.simplex_tracking.specs.declared.tracked.Tracked.{Tracked}
 use Rattle.simplex_views.specs.declared.views.Views.{Views}
 use Rattle.simplex_views.specs.History as History
-use Rattle.simplex_views.specs.History.{Setup, Point, bind, current, is_direct, is_marked, put, seen, undecided_payload}
+use Rattle.simplex_tracking.specs.Pasts.{bind, is_direct, put}
+use Rattle.simplex_views.specs.History.{Setup, Point, current, is_marked, seen, undecided_payload}
 use Rattle.simplex_views.specs.Known.{backs}
 use Rattle.simplex_views.specs.Leaders.{leader, was_forwarded}
-use Rattle.simplex_views.specs.Marks.{Shows}
+use Rattle.simplex_tracking.specs.Marks.{Shows}
 use Rattle.simplex_views.specs.Progress.{frame_of, tables}
-use Rattle.simplex_views.specs.Rounds.{recalled}
-use Rattle.simplex_views.specs.Tracked.{Tables, IsClosedAt, Holds, inherits_by}
+use Rattle.simplex_tracking.specs.Rounds.{recalled}
+use Rattle.simplex_tracking.specs.Tracked.{Tables, IsClosedAt, Holds, inherits_by}
 use Rattle.simplex_views.specs.Views.{IsKept, recalls}
-use Rattle.simplex_views.proofs.Entering.{put-fact}
+use Rattle.simplex_tracking.specs.Laws.{put-fact}
+use Rattle.simplex_views.proofs.Advancing.{IsAt-tracked}
 use Rattle.simplex_views.proofs.Stepping.{IsQuiet, like-put, like-seen, quiet-from, sent-quiet, spoken-closed, still-kept}
 
 module _ {S D P G C : Type 0} where
@@ -72,20 +74,14 @@ module _ {S D P G C : Type 0} (s : Setup S C) (h : List (Point S D P G C)) (p : 
   recalled-closed = spoken-closed s h (recalled-past (undecided_payload (seen s h p.parent)) p taken (seen s h)) p.round.view recalled-direct
       (recalled-votes (undecided_payload (seen s h p.parent)) p taken (seen s h))
 
-module _ {S L D P G C : Type 0} {g : Ghosts S D P G C} {leads : L → Round → Option C → ℕ} {s : Setup S C} {v : Views S L D P G C} {h : List (Point S D P G C)} where
+module _ {S L D P G C : Type 0} {g : Ghosts S D P G C} {leads : elector.Ghosts L S D P G C} {s : Setup S C} {v : Views S L D P G C} {h : List (Point S D P G C)} where
   -- the voter stands where the own notarize leads
   pub recalled-notarize : (p : Proposal D) (taken : Bool) (x : Tracked S D P G C) (marks : Marks) → IsKept g leads s v h
       → Holds g (frame_of s) x (tables s (History.recalled_notarize p taken ∷ h)) → Shows marks (is_marked s backs (History.recalled_notarize p taken ∷ h))
       → IsKept g leads s (record v { progress = record v.progress { tracked = x }; backed = marks }) (History.recalled_notarize p taken ∷ h)
   recalled-notarize p taken x marks k holds backed = still-kept (History.recalled_notarize p taken) (record v.progress { tracked = x }) marks v.waiting k
       (record { finalizes = refl; begins = refl; covers = λ u. refl; nullifies = λ u. refl; kept_nullification = recalled-nullification s h p taken })
-      (record {
-        view = k.progress.view;
-        leader_timeout = k.progress.leader_timeout;
-        certification_timeout = k.progress.certification_timeout;
-        stall_timeout = k.progress.stall_timeout;
-        tracked = holds;
-      })
+      (IsAt-tracked k.progress holds)
       backed k.waiting
 
 module _ {S D P G C : Type 0} where

@@ -6,33 +6,34 @@ use Rattle.std.specs.Ordering.{nat_cmp}
 use Rattle.std.specs.BTreeMap.{get}
 use Rattle.std.proofs.lemmas.Bool.{ne_eqb}
 use Rattle.std.proofs.lemmas.Bool.Decides.{nat_tests}
-use Rattle.simplex_types.specs.declared.position.Round.{Round}
 use Rattle.simplex_types.specs.declared.proposal.Proposal.{Proposal}
 use Rattle.simplex_types.specs.declared.scheme.Scheme.{Ghosts}
+use Rattle.simplex_rules.specs.declared.elector.Elector as elector
 use Rattle.simplex_rules.specs.declared.kind.Kind.{Kind}
 use Rattle.simplex_rules.specs.declared.kind.Kind.TheVariants as kind
 use Rattle.simplex_round.specs.declared.timeout_reason.TimeoutReason.TheVariants as reason
 use Rattle.simplex_round.specs.Held as offer
 use Rattle.simplex_round.specs.Past as past
 use Rattle.simplex_round.specs.Past.{Item, has_notarized, has_nullified}
-use Rattle.simplex_views.specs.declared.marks.Marks.{Marks}
-use Rattle.simplex_views.specs.declared.notice.Notice.{Notice}
-use Rattle.simplex_views.specs.declared.notice.Notice.TheVariants as notice
+use Rattle.simplex_tracking.specs.declared.marks.Marks.{Marks}
+use Rattle.simplex_tracking.specs.declared.notice.Notice.{Notice}
+use Rattle.simplex_tracking.specs.declared.notice.Notice.TheVariants as notice
 use Rattle.simplex_views.specs.declared.progress.Progress.{Progress}
-use Rattle.simplex_views.specs.declared.rounds.Rounds.{Rounds}
+use Rattle.simplex_tracking.specs.declared.rounds.Rounds.{Rounds}
 use Rattle.simplex_views.specs.declared.views.Views.{Views}
 use Rattle.simplex_views.specs.History as History
-use Rattle.simplex_views.specs.History.{Setup, Point, current, enter, is_direct, is_marked, put, seen, sent_item, was_nullified}
+use Rattle.simplex_tracking.specs.Pasts.{is_direct, put}
+use Rattle.simplex_views.specs.History.{Setup, Point, current, enter, is_marked, seen, sent_item, was_nullified}
 use Rattle.simplex_views.specs.Known.{backs, waits}
-use Rattle.simplex_views.specs.Leaders.{extend, named, named_early, inherits, leader, was_forwarded}
-use Rattle.simplex_views.specs.Marks.{Shows}
+use Rattle.simplex_tracking.specs.Handing.{extend}
+use Rattle.simplex_views.specs.Leaders.{named, named_early, inherits, leader, was_forwarded}
+use Rattle.simplex_tracking.specs.Marks.{Shows}
 use Rattle.simplex_views.specs.Progress.{IsAt, frame_of, tables}
-use Rattle.simplex_views.specs.Rounds.{Keep, told}
-use Rattle.simplex_views.specs.Tracked.{Tables, IsClosedAt, Holds, inherits_by, is_spoken}
-use Rattle.simplex_views.specs.Tracked as tracked
+use Rattle.simplex_tracking.specs.Rounds.{Keep, told}
+use Rattle.simplex_tracking.specs.Tracked.{Tables, IsClosedAt, inherits_by, is_spoken}
 use Rattle.simplex_views.specs.Views.{IsKept, noticed}
-use Rattle.simplex_views.proofs.Entering.{put-fact, inherits-same}
-use Rattle.simplex_views.proofs.Leading.{Holds-led, inherits-less}
+use Rattle.simplex_tracking.specs.Laws.{Holds-led, Holds-with, Shows-same, inherits-less, inherits-same, put-fact}
+use Rattle.simplex_views.proofs.Advancing.{IsAt-tracked}
 use Rattle.simplex_views.proofs.Following.{leader-closed, leader-same}
 
 module _ {S D P G C : Type 0} (s : Setup S C) (h : List (Point S D P G C)) where
@@ -258,18 +259,9 @@ module _ {S D P G C : Type 0} (s : Setup S C) (h : List (Point S D P G C)) where
 module _ {S D P G C : Type 0} {g : Ghosts S D P G C} {s : Setup S C} {h : List (Point S D P G C)} where
   -- the progress is where a point leads that hands no leader on
   pub unled-progress : (x : Point S D P G C) (p : Progress S D P G C) (c : ℕ) → IsUnled s h x → IsAt g s p c (stepped s h x) → IsAt g s p c (tables s (x ∷ h))
-  unfolding Holds
-  unled-progress x p c q at =
-      let all : tracked.IsKept g (frame_of s) p.tracked (stepped s h x) = at.tracked in
-      record {
-        view = at.view;
-        leader_timeout = at.leader_timeout;
-        certification_timeout = at.certification_timeout;
-        stall_timeout = at.stall_timeout;
-        tracked = Holds-led (leader s (x ∷ h)) all (λ u _. sym (unled-leader s h x q u));
-      }
+  unled-progress x p c q at = IsAt-tracked at (Holds-led g (frame_of s) p.tracked (stepped s h x) (leader s (x ∷ h)) at.tracked (λ u _. sym (unled-leader s h x q u)))
 
-module _ {S L D P G C : Type 0} {g : Ghosts S D P G C} {leads : L → Round → Option C → ℕ} {s : Setup S C} {v : Views S L D P G C} {h : List (Point S D P G C)} where
+module _ {S L D P G C : Type 0} {g : Ghosts S D P G C} {leads : elector.Ghosts L S D P G C} {s : Setup S C} {v : Views S L D P G C} {h : List (Point S D P G C)} where
   -- the voter is where a still point leads, if its progress and its marks are
   pub still-kept : (x : Point S D P G C) (p : Progress S D P G C) (backed waiting : Marks) → IsKept g leads s v h → IsStill s h x → IsAt g s p (current s (x ∷ h)) (tables s (x ∷ h))
       → Shows backed (is_marked s backs (x ∷ h)) → Shows waiting (is_marked s waits (x ∷ h)) → IsKept g leads s (record v { progress = p; backed = backed; waiting = waiting }) (x ∷ h)
@@ -280,17 +272,17 @@ module _ {S L D P G C : Type 0} {g : Ghosts S D P G C} {leads : L → Round → 
     length = k.length;
     optimistic_views = k.optimistic_views;
     retention = k.retention;
+    mode = k.mode;
     elects = k.elects;
     members = k.members;
     progress = at;
     last_finalized = k.last_finalized ∙ sym q.finalizes;
     behind = subst (λ n. n + 1 < 2 ^ 64) (sym q.finalizes) k.behind;
     genesis = k.genesis ∙ sym q.begins;
-    coverage = λ u above.
-        let was = k.coverage u (subst (λ n. n < u) q.finalizes above) in (
-          λ is. let there = was.0 is in (there.0, there.1, q.covers there.0 ∙ there.2),
-          λ there. was.1 (there.0, there.1, sym (q.covers there.0) ∙ there.2),
-        );
+    coverage = λ u. (
+      λ is. let there = (k.coverage u).0 is in (there.0, there.1, q.covers there.0 ∙ there.2),
+      λ there. (k.coverage u).1 (there.0, there.1, sym (q.covers there.0) ∙ there.2),
+    );
     backed = backs_are;
     waiting = waits_are;
     nullifications = λ u. q.nullifies u ∙ k.nullifications u ∙ ap (λ n. option_or (get nat_cmp v.reaching u) n) (sym (q.kept_nullification u));
@@ -299,36 +291,25 @@ module _ {S L D P G C : Type 0} {g : Ghosts S D P G C} {leads : L → Round → 
   -- the voter is where a quiet point leads, if its progress is
   pub quiet-progress : (x : Point S D P G C) (p : Progress S D P G C) → IsKept g leads s v h → IsQuiet s h x → IsAt g s p (current s (x ∷ h)) (stepped s h x)
       → IsKept g leads s (record v { progress = p }) (x ∷ h)
-  unfolding Shows
-  quiet-progress x p k q at = still-kept x p v.backed v.waiting k q.still (unled-progress x p (current s (x ∷ h)) q.unled at)
-      (λ u. k.backed u ∙ sym (q.backs_none u))
-      (λ u. k.waiting u ∙ sym (q.waits_none u))
+  quiet-progress x p k q at = still-kept x p v.backed v.waiting k q.still (unled-progress x p (current s (x ∷ h)) q.unled at) (Shows-same v.backed (is_marked s backs h) (is_marked s backs (x ∷ h)) k.backed q.backs_none) (Shows-same v.waiting (is_marked s waits h) (is_marked s waits (x ∷ h)) k.waiting q.waits_none)
 
   -- the same, where the current view stays
   pub quiet : (x : Point S D P G C) (r : Rounds S D P G C) → IsKept g leads s v h → IsQuiet s h x → current s (x ∷ h) ≡ current s h
       → Keep g.key_of (frame_of s).common r (leader s h) (seen s (x ∷ h))
       → IsKept g leads s (record v { progress = record v.progress { tracked = record v.progress.tracked { rounds = r } } }) (x ∷ h)
-  unfolding Holds Shows
   quiet x r k q stays kept = quiet-progress x (record v.progress { tracked = record v.progress.tracked { rounds = r } }) k q
-      (record {
-        view = k.progress.view ∙ sym stays;
-        leader_timeout = k.progress.leader_timeout;
-        certification_timeout = k.progress.certification_timeout;
-        stall_timeout = k.progress.stall_timeout;
-        tracked = record {
-          length = k.progress.tracked.length;
-          optimistic_views = k.progress.tracked.optimistic_views;
-          rounds = kept;
-          direct = λ u. k.progress.tracked.direct u ∙ sym (q.unled.certificates u);
-          noted = λ u. k.progress.tracked.noted u ∙ sym (q.unled.notes u);
-          members = k.progress.tracked.members;
-        };
-      })
+      (subst (λ n. IsAt g s (record v.progress { tracked = record v.progress.tracked { rounds = r } }) n (stepped s h x)) (sym stays)
+      (IsAt-tracked k.progress (Holds-with g (frame_of s) v.progress.tracked (tables s h) r (seen s (x ∷ h)) (was_forwarded s (x ∷ h)) k.progress.tracked kept q.unled.certificates q.unled.notes)))
+
+  -- the rounds were changed, and views stand where they did
+  pub rounds-at : (r : Rounds S D P G C) (grown : ℕ → List (Item S D P G C)) → IsKept g leads s v h → Keep g.key_of (frame_of s).common r (leader s h) grown
+      → ((u : ℕ) → is_direct (grown u) ≡ is_direct (seen s h u))
+      → IsAt g s (record v.progress { tracked = record v.progress.tracked { rounds = r } }) (current s h) (record { led = leader s h; past = grown; noted = was_forwarded s h })
+  rounds-at r grown k kept certificates = IsAt-tracked k.progress (Holds-with g (frame_of s) v.progress.tracked (tables s h) r grown (was_forwarded s h) k.progress.tracked kept certificates (λ u. refl))
 
   -- nothing happened, though the rounds were looked at
   pub unmoved : (r : Rounds S D P G C) → IsKept g leads s v h → Keep g.key_of (frame_of s).common r (leader s h) (seen s h)
       → IsKept g leads s (record v { progress = record v.progress { tracked = record v.progress.tracked { rounds = r } } }) h
-  unfolding Holds
   unmoved r k kept = record {
     scheme = k.scheme;
     me = k.me;
@@ -336,22 +317,10 @@ module _ {S L D P G C : Type 0} {g : Ghosts S D P G C} {leads : L → Round → 
     length = k.length;
     optimistic_views = k.optimistic_views;
     retention = k.retention;
+    mode = k.mode;
     elects = k.elects;
     members = k.members;
-    progress = record {
-      view = k.progress.view;
-      leader_timeout = k.progress.leader_timeout;
-      certification_timeout = k.progress.certification_timeout;
-      stall_timeout = k.progress.stall_timeout;
-      tracked = record {
-        length = k.progress.tracked.length;
-        optimistic_views = k.progress.tracked.optimistic_views;
-        rounds = kept;
-        direct = k.progress.tracked.direct;
-        noted = k.progress.tracked.noted;
-        members = k.progress.tracked.members;
-      };
-    };
+    progress = rounds-at r (seen s h) k kept (λ u. refl);
     last_finalized = k.last_finalized;
     behind = k.behind;
     genesis = k.genesis;
@@ -375,26 +344,6 @@ module _ {S L D P G C : Type 0} {g : Ghosts S D P G C} {leads : L → Round → 
       (λ a. IsKept g leads s (record v { progress = record v.progress { tracked = record v.progress.tracked { rounds = r } } }) (x a ∷ h))
   quiet-option None x grown r k q stays same kept = unmoved r k kept
   quiet-option (Some a) x grown r k q stays same kept = quiet (x a) r k (q a) (stays a) (subst (λ t. Keep g.key_of (frame_of s).common r (leader s h) t) (same a) kept)
-
-  -- the rounds were changed, and views stand where they did
-  pub rounds-at : (r : Rounds S D P G C) (grown : ℕ → List (Item S D P G C)) → IsKept g leads s v h → Keep g.key_of (frame_of s).common r (leader s h) grown
-      → ((u : ℕ) → is_direct (grown u) ≡ is_direct (seen s h u))
-      → IsAt g s (record v.progress { tracked = record v.progress.tracked { rounds = r } }) (current s h) (record { led = leader s h; past = grown; noted = was_forwarded s h })
-  unfolding Holds Shows
-  rounds-at r grown k kept certificates = record {
-    view = k.progress.view;
-    leader_timeout = k.progress.leader_timeout;
-    certification_timeout = k.progress.certification_timeout;
-    stall_timeout = k.progress.stall_timeout;
-    tracked = record {
-      length = k.progress.tracked.length;
-      optimistic_views = k.progress.tracked.optimistic_views;
-      rounds = kept;
-      direct = λ u. k.progress.tracked.direct u ∙ sym (certificates u);
-      noted = k.progress.tracked.noted;
-      members = k.progress.tracked.members;
-    };
-  }
 
 module _ {S D P G C : Type 0} {g : Ghosts S D P G C} (s : Setup S C) (h : List (Point S D P G C)) where
   -- a true verdict enters the next view

@@ -1,5 +1,5 @@
 -- What can happen to a voter, and what its views see of it. Histories hold the newest first.
-use Rattle.std.specs.Prelude.{◌+◌, ◌==◌, ◌&&◌, ◌||◌, nat_lt, nat_le, ℕ, Bool, true, false, max, List, [], ◌∷◌, Option, Some, None, is_some, option_map, if◌then◌else◌}
+use Rattle.std.specs.Prelude.{◌+◌, ◌==◌, ◌&&◌, ◌||◌, nat_lt, nat_le, ℕ, Bool, true, false, max, List, [], ◌∷◌, Option, Some, None, option_map, if◌then◌else◌}
 use Rattle.std.specs.Option.{option_or}
 use Rattle.simplex_types.specs.declared.proposal.Proposal.{Proposal}
 use Rattle.simplex_types.specs.Positions.{next_term_start, term_end}
@@ -17,6 +17,7 @@ use Rattle.simplex_round.specs.Held as offer
 use Rattle.simplex_round.specs.Held.{held}
 use Rattle.simplex_round.specs.Past as past
 use Rattle.simplex_round.specs.Past.{Item}
+use Rattle.simplex_tracking.specs.Pasts.{bind, forget, is_direct, put}
 
 -- what stays the same through a voter's life
 pub record Setup (S C : Type 0) : Type 0 where
@@ -83,15 +84,6 @@ pub data Point (S D P G C : Type 0) : Type 0 where
 abbrev pub hands_off : Bool
 hands_off = false
 
-module _ {X : Type 0} where
-  -- one more thing happened to a view
-  abbrev pub put : ℕ → X → (ℕ → List X) → ℕ → List X
-  put at x t view = if at == view then x ∷ t view else t view
-
-  -- of the views below the floor nothing is known any more
-  abbrev pub forget : ℕ → (ℕ → List X) → ℕ → List X
-  forget floor t view = if nat_lt view floor then [] else t view
-
 -- a moment later by so much, where by something
 abbrev pub later : ℕ → Option ℕ → Option ℕ
 later now timeout = option_map (λ t. now + t) timeout
@@ -144,18 +136,9 @@ module _ {S D P G C : Type 0} where
       then put view (past.armed (now + s.leader_timeout) (now + s.certification_timeout) (later now s.stall_timeout)) (put view (past.entered now) t)
       else t
 
-  -- a view has a notarization or finalization
-  abbrev pub is_direct : List (Item S D P G C) → Bool
-  is_direct x = is_some (past.notarization x) || is_some (past.finalization x)
-
   -- the payload of the held proposal, while no certificate of the view is known
   abbrev pub undecided_payload : List (Item S D P G C) → Option D
   undecided_payload x = if is_direct x then None else option_map (λ (p : Proposal D). p.payload) (held (past.offers x))
-
-  -- a proposal is bound to its parent's payload, where there is one
-  abbrev pub bind : Option D → Proposal D → (ℕ → List (Item S D P G C)) → ℕ → List (Item S D P G C)
-  bind None p t = t
-  bind (Some payload) p t = put p.round.view (past.bound p payload) t
 
   -- a certificate of this kind was handed out
   abbrev pub sent_item : Kind → Item S D P G C

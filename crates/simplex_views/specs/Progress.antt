@@ -5,7 +5,7 @@ use Rattle.simplex_types.specs.declared.scheme.Scheme.{Ghosts}
 use Rattle.simplex_views.specs.declared.progress.Progress.{Progress}
 use Rattle.simplex_views.specs.History.{Setup, Point, seen}
 use Rattle.simplex_views.specs.Leaders.{leader, was_forwarded}
-use Rattle.simplex_views.specs.Tracked.{Frame, Tables, Holds}
+use Rattle.simplex_tracking.specs.Tracked.{Frame, Tables, Holds}
 
 -- what stays the same of all views
 abbrev pub frame_of : {S C : Type 0} → Setup S C → Frame S

@@ -1,27 +1,29 @@
 -- At which history the views of a voter stand.
-use Rattle.std.specs.Prelude.{◌≡◌, ◌≢◌, ◌↔◌, ◌⊎◌, ◌+◌, ◌<◌, ◌^◌, ℕ, Bool, true, List, [], AllPairs, Contains, Option, IsSome}
+use Rattle.std.specs.Prelude.{◌≡◌, ◌≢◌, ◌↔◌, ◌⊎◌, ◌+◌, ◌<◌, ◌^◌, ℕ, Bool, true, List, [], AllPairs, Contains, Option, IsSome, None, nat_lt, if◌then◌else◌}
 use Rattle.std.specs.Option.{option_or}
 use Rattle.std.specs.BTreeMap.{get}
 use Rattle.std.specs.Ordering.{nat_cmp}
 use Rattle.simplex_types.specs.Positions.{InCoveringRange}
-use Rattle.simplex_types.specs.declared.position.Round.{Round}
 use Rattle.simplex_types.specs.declared.scheme.Scheme.{Ghosts}
+use Rattle.simplex_messages.specs.declared.nullification.Nullification.{Nullification}
 use Rattle.simplex_messages.specs.declared.artifact.Artifact.{Artifact}
 use Rattle.simplex_messages.specs.declared.artifact.Artifact.TheVariants as artifact
+use Rattle.simplex_rules.specs.declared.elector.Elector as elector
 use Rattle.simplex_rules.specs.declared.kind.Kind.TheVariants as kind
 use Rattle.simplex_record.specs.Coverage as spans
+use Rattle.simplex_round.specs.Past.{Item}
 use Rattle.simplex_round.specs.Past as past
 use Rattle.simplex_round.specs.Round as one
-use Rattle.simplex_views.specs.declared.notice.Notice.{Notice}
-use Rattle.simplex_views.specs.declared.notice.Notice.TheVariants as notice
+use Rattle.simplex_tracking.specs.declared.notice.Notice.{Notice}
+use Rattle.simplex_tracking.specs.declared.notice.Notice.TheVariants as notice
 use Rattle.simplex_views.specs.declared.views.Views.{Views}
 use Rattle.simplex_views.specs.History as History
 use Rattle.simplex_views.specs.History.{Setup, Point, latched, unbound, build_released, ancestry_asked, certify_asked, recalled_notarize, recalled_nullify, recalled_finalize, recalled_verdict, sent, current, last_finalized, min_active, genesis, is_marked, seen, was_nullified, nullification}
 use Rattle.simplex_views.specs.Known.{backs, waits}
 use Rattle.simplex_views.specs.Leaders.{leader}
-use Rattle.simplex_views.specs.Marks.{Shows}
+use Rattle.simplex_tracking.specs.Marks.{Shows}
 use Rattle.simplex_views.specs.Progress.{IsAt, frame_of, tables}
-use Rattle.simplex_views.specs.Rounds.{setup_of}
+use Rattle.simplex_tracking.specs.Rounds.{setup_of}
 
 -- what stays the same of a view's round
 abbrev pub round_of : {S C : Type 0} → Setup S C → ℕ → one.Setup S
@@ -70,29 +72,53 @@ module _ {S D P G C : Type 0} where
   noticed view (notice.AncestryAsked missing) = ancestry_asked view missing
   noticed view (notice.CertifyAsked handle) = certify_asked view handle
 
+  -- what is kept of a view's nullification where the views below the floor are dropped: what was kept, or of one of these from the
+  -- first on its own
+  abbrev pub kept_from : ℕ → ℕ → Option (Nullification S D P G C) → List (Item S D P G C) → ℕ → Option (Nullification S D P G C)
+  kept_from first floor kept x view = if nat_lt view floor then option_or kept (if nat_lt view first then None else past.nullification x) else kept
+
 module _ {S L D P G C : Type 0} where
-  pub record IsKept (g : Ghosts S D P G C) (leads : L → Round → Option C → ℕ) (s : Setup S C) (v : Views S L D P G C) (h : List (Point S D P G C)) : Type 0 where
+  -- the setup of a voter that was built so
+  abbrev pub built : Ghosts S D P G C → elector.Ghosts L S D P G C → S → L → ℕ → ℕ → ℕ → ℕ → ℕ → ℕ → Setup S C
+  built g e scheme l epoch retention leader_timeout certification_timeout retry budget = record {
+    scheme = scheme;
+    me = g.own scheme;
+    epoch = epoch;
+    length = (e.terms_of l).length;
+    optimistic_views = (e.terms_of l).optimistic_views;
+    stall_timeout = (e.terms_of l).stall_timeout;
+    mode = e.mode_of l;
+    elect = λ view c. e.leader l (record { epoch = epoch; view = view }) c;
+    retention = retention;
+    leader_timeout = leader_timeout;
+    certification_timeout = certification_timeout;
+    timeout_retry = retry;
+    skip_budget = budget;
+  }
+
+  pub record IsKept (g : Ghosts S D P G C) (e : elector.Ghosts L S D P G C) (s : Setup S C) (v : Views S L D P G C) (h : List (Point S D P G C)) : Type 0 where
     pub scheme : v.scheme.value ≡ s.scheme
     pub me : g.own s.scheme ≡ s.me
     pub epoch : v.epoch ≡ s.epoch
     pub length : v.lookahead.length ≡ s.length
     pub optimistic_views : v.lookahead.optimistic_views ≡ s.optimistic_views
     pub retention : v.retention ≡ s.retention
-    pub elects : (view : ℕ) (c : Option C) → leads v.elector (record { epoch = s.epoch; view = view }) c ≡ s.elect view c
+    pub mode : e.mode_of v.elector ≡ s.mode
+    pub elects : (view : ℕ) (c : Option C) → e.leader v.elector (record { epoch = s.epoch; view = view }) c ≡ s.elect view c
     pub members : (view : ℕ) (c : Option C) → s.elect view c < g.size s.scheme
     pub progress : IsAt g s v.progress (current s h) (tables s h)
     pub last_finalized : v.last_finalized ≡ last_finalized h
     pub behind : History.last_finalized h + 1 < 2 ^ 64
     pub genesis : v.genesis ≡ genesis h
-    pub coverage : (view : ℕ) → History.last_finalized h < view → spans.IsCovered v.coverage view ↔ IsCovered s h view
+    pub coverage : (view : ℕ) → spans.IsCovered v.coverage view ↔ IsCovered s h view
     pub backed : Shows v.backed (is_marked s backs h)
     pub waiting : Shows v.waiting (is_marked s waits h)
     pub nullifications : (view : ℕ) → nullification s h view ≡ option_or (get nat_cmp v.reaching view) (past.nullification (seen s h view))
 
   -- the views stand where this history leads, closed for those who stand above
-  unfoldable pub Keeps : Ghosts S D P G C → (L → Round → Option C → ℕ) → Setup S C → Views S L D P G C → List (Point S D P G C) → Type 0
-  Keeps g leads s v h = IsKept g leads s v h
+  unfoldable pub Keeps : Ghosts S D P G C → elector.Ghosts L S D P G C → Setup S C → Views S L D P G C → List (Point S D P G C) → Type 0
+  Keeps g e s v h = IsKept g e s v h
 
   -- what holds of each history that leads here
-  abbrev pub AtEach : Ghosts S D P G C → (L → Round → Option C → ℕ) → Views S L D P G C → (Setup S C → List (Point S D P G C) → Type 0) → Type 0
-  AtEach g leads v Q = (s : Setup S C) (h : List (Point S D P G C)) → Keeps g leads s v h → Q s h
+  abbrev pub AtEach : Ghosts S D P G C → elector.Ghosts L S D P G C → Views S L D P G C → (Setup S C → List (Point S D P G C) → Type 0) → Type 0
+  AtEach g e v Q = (s : Setup S C) (h : List (Point S D P G C)) → Keeps g e s v h → Q s h

@@ -3,9 +3,9 @@
 ghost use Rattle.std.specs.Prelude.{◌≡◌, ℕ, OnOk, max};
 ghost use Rattle.simplex_views.specs.History.{Setup, enter};
 ghost use Rattle.simplex_views.specs.Progress.{IsAt, InTime};
-ghost use Rattle.simplex_views.specs.Tracked.{Tables};
+ghost use Rattle.simplex_tracking.specs.Tracked.{Tables};
 
-use crate::tracked::Tracked;
+use simplex_tracking::Tracked;
 use simplex_types::{Digest, Scheme, View};
 use std::alloc::AllocError;
 

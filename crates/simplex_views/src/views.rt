@@ -14,19 +14,19 @@ ghost use Rattle.std.specs.Prelude.{◌≡◌, ◌↔◌, ◌+◌, ◌<◌, ◌�
 ghost use Rattle.simplex_rules.specs.Windows.{Admits, Retains};
 ghost use Rattle.simplex_round.specs.Past as past;
 ghost use Rattle.simplex_round.specs.Round as one;
-ghost use Rattle.simplex_views.specs.History.{current, last_finalized, min_active, genesis, nullification, seen};
+ghost use Rattle.simplex_views.specs.History.{current, last_finalized, min_active, genesis, nullification, scheduled_leader, seen};
 ghost use Rattle.simplex_views.specs.Leaders.{leader};
-ghost use Rattle.simplex_views.specs.Views.{Keeps, AtEach, AreCoveredBetween, IsFirstUncovered, IsTracked, noticed, round_of};
+ghost use Rattle.simplex_views.specs.Views.{Keeps, AtEach, built, AreCoveredBetween, IsFirstUncovered, IsTracked, noticed, round_of};
 
-use crate::marks::Marks;
-use crate::notice::Notice;
 use crate::progress::Progress;
-use crate::tracked::Tracked;
 use simplex_messages::{Finalization, Notarization, Nullification};
 use simplex_record::Coverage;
 use simplex_round::Round;
-use simplex_rules::{Elector, Lookahead, Viewport};
-use simplex_types::{Digest, Epoch, Participant, Proposal, Scheme, View, ViewDelta};
+use simplex_rules::{Elector, Lookahead, Mode, Viewport};
+use simplex_tracking::{Marks, Notice, Tracked};
+use simplex_types::{
+    Digest, Epoch, Participant, Proposal, Round as Position, Scheme, View, ViewDelta,
+};
 use std::alloc::{AllocError, Global};
 use std::collections::BTreeMap;
 use std::rc::Rc;
@@ -42,6 +42,7 @@ pub struct Views<S: Scheme<D>, L: Elector<S, D>, D: Digest> {
     progress: Progress<S, D>,
     last_finalized: View,
     genesis: Option<D>,
+    /// What was ever covered.
     coverage: Coverage,
     /// The views whose own notarize was made here, or recalled with its proposal.
     backed: Marks,
@@ -67,7 +68,7 @@ impl<S: Scheme<D> + Drop, L: Elector<S, D>, D: Digest> Views<S, L, D> {
         certification_timeout: u64,
     ) -> Result<Self, AllocError>
         requires { L.built_for elector (S.size scheme.value) }
-        ensures { IfOk result (λ v. (retry budget : ℕ) → Keeps S.Scheme L.leader (record { scheme = scheme.value; me = S.own scheme.value; epoch = epoch; length = (L.terms_of elector).length; optimistic_views = (L.terms_of elector).optimistic_views; stall_timeout = (L.terms_of elector).stall_timeout; mode = L.mode_of elector; elect = λ view c. L.leader elector (record { epoch = epoch; view = view }) c; retention = retention; leader_timeout = leader_timeout; certification_timeout = certification_timeout; timeout_retry = retry; skip_budget = budget }) v []) }
+        ensures { IfOk result (λ v. (retry budget : ℕ) → Keeps S.Scheme L.Elector (built S.Scheme L.Elector scheme.value elector epoch retention leader_timeout certification_timeout retry budget) v []) }
     {
         let terms = elector.terms();
         let shared = scheme.clone()?;
@@ -96,15 +97,15 @@ impl<S: Scheme<D> + Drop, L: Elector<S, D>, D: Digest> Views<S, L, D> {
 
     /// The current view: 0 before the start.
     pub fn current_view(&self) -> View
-        ensures { AtEach S.Scheme L.leader self.now (λ s h. result ≡ current s h) }
+        ensures { AtEach S.Scheme L.Elector self.now (λ s h. result ≡ current s h) }
     {
         self.progress.view
     }
 
     /// The last finalized view, or 0.
     pub fn last_finalized(&self) -> View
-        ensures value { AtEach S.Scheme L.leader self.now (λ s h. result ≡ last_finalized h) }
-        ensures behind { AtEach S.Scheme L.leader self.now (λ s h. result + 1 < 2 ^ 64) }
+        ensures value { AtEach S.Scheme L.Elector self.now (λ s h. result ≡ last_finalized h) }
+        ensures behind { AtEach S.Scheme L.Elector self.now (λ s h. result + 1 < 2 ^ 64) }
     {
         self.last_finalized
     }
@@ -126,70 +127,92 @@ impl<S: Scheme<D> + Drop, L: Elector<S, D>, D: Digest> Views<S, L, D> {
 
     /// The least view that is kept.
     pub fn min_active(&self) -> View
-        ensures { AtEach S.Scheme L.leader self.now (λ s h. result ≡ min_active s h) }
+        ensures { AtEach S.Scheme L.Elector self.now (λ s h. result ≡ min_active s h) }
     {
         self.viewport().floor()
     }
 
     /// Whether a vote of the view is taken: the view is kept and listened to.
     pub fn admits_vote(&self, view: View) -> bool
-        ensures { AtEach S.Scheme L.leader self.now (λ s h. IsTrue result ↔ (Retains (last_finalized h) s.retention view × Admits s.length s.optimistic_views (current s h) view)) }
+        ensures { AtEach S.Scheme L.Elector self.now (λ s h. IsTrue result ↔ (Retains (last_finalized h) s.retention view × Admits s.length s.optimistic_views (current s h) view)) }
     {
         self.viewport().admits_vote(view)
     }
 
     /// Whether a certificate of the view is taken: the view is kept, however far ahead it lies.
     pub fn admits_certificate(&self, view: View) -> bool
-        ensures { AtEach S.Scheme L.leader self.now (λ s h. IsTrue result ↔ Retains (last_finalized h) s.retention view) }
+        ensures { AtEach S.Scheme L.Elector self.now (λ s h. IsTrue result ↔ Retains (last_finalized h) s.retention view) }
     {
         self.viewport().admits_certificate(view)
     }
 
     /// Whether the index is this member's.
     pub fn is_me(&self, index: Participant) -> bool
-        ensures { AtEach S.Scheme L.leader self.now (λ s h. IsTrue result ↔ (s.me ≡ Some index)) }
+        ensures { AtEach S.Scheme L.Elector self.now (λ s h. IsTrue result ↔ (s.me ≡ Some index)) }
     {
         self.scheme.me() == Some(index)
     }
 
     /// The epoch.
     pub fn epoch(&self) -> Epoch
-        ensures { AtEach S.Scheme L.leader self.now (λ s h. result ≡ s.epoch) }
+        ensures { AtEach S.Scheme L.Elector self.now (λ s h. result ≡ s.epoch) }
     {
         self.epoch
     }
 
+    /// The terms: their views, and how many of them are optimistic.
+    pub fn lookahead(&self) -> Lookahead
+        ensures length { AtEach S.Scheme L.Elector self.now (λ s h. result.length ≡ s.length) }
+        ensures optimistic_views { AtEach S.Scheme L.Elector self.now (λ s h. result.optimistic_views ≡ s.optimistic_views) }
+    {
+        self.lookahead
+    }
+
+    /// Whom a schedule names for the view, whatever certificate it will be entered by; none where there is no schedule.
+    pub fn scheduled_leader(&self, view: View) -> Option<Participant>
+        ensures { AtEach S.Scheme L.Elector self.now (λ s h. result ≡ scheduled_leader s view) }
+    {
+        match self.elector.mode() {
+            Mode::Scheduled => {
+                let absent: Option<S::Certificate> = None;
+                let round = Position::new(self.epoch, view);
+                Some(self.elector.elect(round, absent.as_ref()))
+            }
+            Mode::Dynamic => None,
+        }
+    }
+
     /// Who leads the view, where that is known.
     pub fn leader_index(&self, view: View) -> Option<Participant>
-        ensures { AtEach S.Scheme L.leader self.now (λ s h. result ≡ leader s h view) }
+        ensures { AtEach S.Scheme L.Elector self.now (λ s h. result ≡ leader s h view) }
     {
         self.progress.tracked.leader(view)
     }
 
     /// The payload at the start, behind it.
     pub fn genesis(&self) -> Option<D>
-        ensures { AtEach S.Scheme L.leader self.now (λ s h. result ≡ genesis h) }
+        ensures { AtEach S.Scheme L.Elector self.now (λ s h. result ≡ genesis h) }
     {
         self.genesis
     }
 
     /// What is known of a view, where something is.
     pub fn round(&self, view: View) -> Option<&Round<S, D>>
-        ensures { AtEach S.Scheme L.leader self.now (λ s h. MatchOption result ((seen s h view ≡ []) × (leader s h view ≡ None)) (λ r. IsTracked s h view × one.Keeps S.key_of (round_of s view) r.now (leader s h view) (seen s h view))) }
+        ensures { AtEach S.Scheme L.Elector self.now (λ s h. MatchOption result ((seen s h view ≡ []) × (leader s h view ≡ None)) (λ r. IsTracked s h view × one.Keeps S.key_of (round_of s view) r.now (leader s h view) (seen s h view))) }
     {
         self.progress.tracked.round(view)
     }
 
     /// Whether something is known of the view.
     pub fn is_tracked(&self, view: View) -> bool
-        ensures { AtEach S.Scheme L.leader self.now (λ s h. IsTrue result ↔ IsTracked s h view) }
+        ensures { AtEach S.Scheme L.Elector self.now (λ s h. IsTrue result ↔ IsTracked s h view) }
     {
         self.progress.tracked.round(view).is_some()
     }
 
     /// The notarization of the view.
     pub fn notarization(&self, view: View) -> Option<&Notarization<S, D>>
-        ensures { AtEach S.Scheme L.leader self.now (λ s h. option_copied result ≡ past.notarization (seen s h view)) }
+        ensures { AtEach S.Scheme L.Elector self.now (λ s h. option_copied result ≡ past.notarization (seen s h view)) }
     {
         match self.progress.tracked.round(view) {
             Some(round) => round.notarization(),
@@ -199,7 +222,7 @@ impl<S: Scheme<D> + Drop, L: Elector<S, D>, D: Digest> Views<S, L, D> {
 
     /// The nullification of the view: it stays behind a prune while its term ends above the last finalized view.
     pub fn nullification(&self, view: View) -> Option<&Nullification<S, D>>
-        ensures { AtEach S.Scheme L.leader self.now (λ s h. option_copied result ≡ nullification s h view) }
+        ensures { AtEach S.Scheme L.Elector self.now (λ s h. option_copied result ≡ nullification s h view) }
     {
         if let Some(certificate) = self.reaching.get(&view) {
             return Some(certificate);
@@ -212,7 +235,7 @@ impl<S: Scheme<D> + Drop, L: Elector<S, D>, D: Digest> Views<S, L, D> {
 
     /// The finalization of the view.
     pub fn finalization(&self, view: View) -> Option<&Finalization<S, D>>
-        ensures { AtEach S.Scheme L.leader self.now (λ s h. option_copied result ≡ past.finalization (seen s h view)) }
+        ensures { AtEach S.Scheme L.Elector self.now (λ s h. option_copied result ≡ past.finalization (seen s h view)) }
     {
         match self.progress.tracked.round(view) {
             Some(round) => round.finalization(),
@@ -222,7 +245,7 @@ impl<S: Scheme<D> + Drop, L: Elector<S, D>, D: Digest> Views<S, L, D> {
 
     /// The proposal of the view that may be forwarded: the held one where its certificates support a payload.
     pub fn forwardable_proposal(&self, view: View) -> Option<Proposal<D>>
-        ensures { AtEach S.Scheme L.leader self.now (λ s h. result ≡ past.forwardable_proposal (seen s h view)) }
+        ensures { AtEach S.Scheme L.Elector self.now (λ s h. result ≡ past.forwardable_proposal (seen s h view)) }
     {
         match self.progress.tracked.round(view) {
             Some(round) => round.forwardable_proposal(),
@@ -230,17 +253,16 @@ impl<S: Scheme<D> + Drop, L: Elector<S, D>, D: Digest> Views<S, L, D> {
         }
     }
 
-    /// The first view after the parent and before the view that isn't covered, or `None` where each of them is. It is told of
-    /// a parent that does not lie below the last finalized view: of what covers only what lies above that one is kept.
+    /// The first view after the parent and before the view that isn't covered, or `None` where each of them is.
     pub fn first_uncovered(&self, parent: View, view: View) -> Option<View>
-        ensures { AtEach S.Scheme L.leader self.now (λ s h. last_finalized h ≤ parent → MatchOption result (AreCoveredBetween s h parent view) (λ first. IsFirstUncovered s h parent view first)) }
+        ensures { AtEach S.Scheme L.Elector self.now (λ s h. MatchOption result (AreCoveredBetween s h parent view) (λ first. IsFirstUncovered s h parent view first)) }
     {
         self.coverage.first_uncovered(parent, view)
     }
 
     /// Takes in what is told of a view and needs no answer.
     fn tell(&mut self, view: View, notice: Notice) -> Result<(), AllocError>
-        ensures { OnOk result (AtEach S.Scheme L.leader self.old (λ s h. Keeps S.Scheme L.leader s self.new (noticed view notice ∷ h))) }
+        ensures { OnOk result (AtEach S.Scheme L.Elector self.old (λ s h. Keeps S.Scheme L.Elector s self.new (noticed view notice ∷ h))) }
     {
         self.progress.tracked.rounds.tell(view, notice)?;
         Ok(())

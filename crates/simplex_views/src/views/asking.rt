@@ -7,11 +7,10 @@ ghost use Rattle.simplex_views.specs.Known.{backs, waits};
 ghost use Rattle.simplex_views.specs.Leaders.{leader};
 ghost use Rattle.simplex_views.specs.Views.{Keeps, AtEach};
 
-use crate::notice::Notice;
-use crate::rounds::request_verify;
 use crate::views::Views;
 use simplex_round::Token;
 use simplex_rules::Elector;
+use simplex_tracking::Notice;
 use simplex_types::{Digest, Proposal, Scheme, View};
 use std::alloc::AllocError;
 
@@ -19,15 +18,13 @@ impl<S: Scheme<D> + Drop, L: Elector<S, D>, D: Digest> Views<S, L, D> {
     /// Asks for a verification of the view's proposal over its parent's payload, and binds it to that: whether one may be asked
     /// for, since another member leads the view, this one has not given it up, and none was asked for. Else nothing changes.
     pub fn request_verify(&mut self, view: View, proposal: Proposal<D>, parent_payload: D) -> bool
-        ensures keeps { AtEach S.Scheme L.leader self.old (λ s h. Keeps S.Scheme L.leader s self.new (if result then verify_asked view proposal parent_payload ∷ h else h)) }
-        ensures answer { AtEach S.Scheme L.leader self.old (λ s h. IsTrue result ↔ MayVerify s.me (leader s h view) (seen s h view)) }
+        ensures keeps { AtEach S.Scheme L.Elector self.old (λ s h. Keeps S.Scheme L.Elector s self.new (if result then verify_asked view proposal parent_payload ∷ h else h)) }
+        ensures answer { AtEach S.Scheme L.Elector self.old (λ s h. IsTrue result ↔ MayVerify s.me (leader s h view) (seen s h view)) }
     {
-        // The proof takes from the number that it has 64 bits.
-        let _number = view.get();
-        match self.progress.tracked.rounds.by_view.get_mut(&view) {
-            Some(round) => request_verify(round, proposal, parent_payload),
-            None => false,
-        }
+        self.progress
+            .tracked
+            .rounds
+            .request_verify(view, proposal, parent_payload)
     }
 
     /// Takes it that the certificate of another view, for which the view's proposal waits, was asked for. Which one was last is
@@ -37,7 +34,7 @@ impl<S: Scheme<D> + Drop, L: Elector<S, D>, D: Digest> Views<S, L, D> {
     ///
     /// `AllocError` where memory ran out.
     pub fn request(&mut self, view: View, missing: View) -> Result<(), AllocError>
-        ensures { OnOk result (AtEach S.Scheme L.leader self.old (λ s h. Keeps S.Scheme L.leader s self.new (ancestry_asked view missing ∷ h))) }
+        ensures { OnOk result (AtEach S.Scheme L.Elector self.old (λ s h. Keeps S.Scheme L.Elector s self.new (ancestry_asked view missing ∷ h))) }
     {
         self.tell(view, Notice::AncestryAsked(missing))
     }
@@ -48,7 +45,7 @@ impl<S: Scheme<D> + Drop, L: Elector<S, D>, D: Digest> Views<S, L, D> {
     ///
     /// `AllocError` where memory ran out.
     pub fn set_certify_handle(&mut self, view: View, handle: Token) -> Result<(), AllocError>
-        ensures { OnOk result (AtEach S.Scheme L.leader self.old (λ s h. Keeps S.Scheme L.leader s self.new (certify_asked view handle ∷ h))) }
+        ensures { OnOk result (AtEach S.Scheme L.Elector self.old (λ s h. Keeps S.Scheme L.Elector s self.new (certify_asked view handle ∷ h))) }
     {
         self.tell(view, Notice::CertifyAsked(handle))
     }
@@ -59,7 +56,7 @@ impl<S: Scheme<D> + Drop, L: Elector<S, D>, D: Digest> Views<S, L, D> {
     ///
     /// `AllocError` where memory ran out.
     pub fn put_off_verdict(&mut self, view: View) -> Result<(), AllocError>
-        ensures { OnOk result (AtEach S.Scheme L.leader self.old (λ s h. Keeps S.Scheme L.leader s self.new (certify_waited view ∷ h))) }
+        ensures { OnOk result (AtEach S.Scheme L.Elector self.old (λ s h. Keeps S.Scheme L.Elector s self.new (certify_waited view ∷ h))) }
     {
         self.waiting.mark(view)?;
         Ok(())
@@ -67,14 +64,14 @@ impl<S: Scheme<D> + Drop, L: Elector<S, D>, D: Digest> Views<S, L, D> {
 
     /// Whether a verdict on the view was put off.
     pub fn is_waiting(&self, view: View) -> bool
-        ensures { AtEach S.Scheme L.leader self.now (λ s h. result ≡ is_marked s waits h view) }
+        ensures { AtEach S.Scheme L.Elector self.now (λ s h. result ≡ is_marked s waits h view) }
     {
         self.waiting.contains(view)
     }
 
     /// Whether an own notarize of the view was made here, or recalled with its proposal.
     pub fn is_backed(&self, view: View) -> bool
-        ensures { AtEach S.Scheme L.leader self.now (λ s h. result ≡ is_marked s backs h view) }
+        ensures { AtEach S.Scheme L.Elector self.now (λ s h. result ≡ is_marked s backs h view) }
     {
         self.backed.contains(view)
     }

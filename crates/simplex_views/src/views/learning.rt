@@ -10,12 +10,11 @@ ghost use Rattle.simplex_views.specs.Leaders.{leader};
 ghost use Rattle.simplex_views.specs.Progress.{InTime};
 ghost use Rattle.simplex_views.specs.Views.{Keeps, AtEach};
 
-use crate::notice::Notice;
-use crate::tracked::later;
 use crate::views::Views;
 use simplex_messages::{Finalization, Notarization, Nullification};
 use simplex_round::TimeoutReason;
 use simplex_rules::Elector;
+use simplex_tracking::{Notice, later};
 use simplex_types::{Digest, Duplicate, Proposal, Round, Scheme, View, Viewable};
 use std::alloc::{AllocError, Global};
 
@@ -26,7 +25,7 @@ impl<S: Scheme<D> + Drop, L: Elector<S, D>, D: Digest> Views<S, L, D> {
     ///
     /// `AllocError` where memory ran out.
     pub fn set_genesis(&mut self, now: u64, payload: D) -> Result<(), AllocError>
-        ensures { OnOk result (AtEach S.Scheme L.leader self.old (λ s h. InTime s now → Keeps S.Scheme L.leader s self.new (started now payload ∷ h))) }
+        ensures { OnOk result (AtEach S.Scheme L.Elector self.old (λ s h. InTime s now → Keeps S.Scheme L.Elector s self.new (started now payload ∷ h))) }
     {
         let first = View::zero().next();
         let absent: Option<S::Certificate> = None;
@@ -49,11 +48,11 @@ impl<S: Scheme<D> + Drop, L: Elector<S, D>, D: Digest> Views<S, L, D> {
         &mut self,
         certificate: Notarization<S, D>,
     ) -> Result<(bool, Option<S::PublicKey>), AllocError>
-        ensures keeps { IfOk result (λ r. AtEach S.Scheme L.leader self.old (λ s h. Keeps S.Scheme L.leader s self.new (if r.0 then notarized certificate ∷ h else h))) }
-        ensures first { IfOk result (λ r. AtEach S.Scheme L.leader self.old (λ s h. IsTrue r.0 ↔ (HasRoom s.length certificate.proposal.round.view × (past.notarization (seen s h certificate.proposal.round.view) ≡ None)))) }
+        ensures keeps { IfOk result (λ r. AtEach S.Scheme L.Elector self.old (λ s h. Keeps S.Scheme L.Elector s self.new (if r.0 then notarized certificate ∷ h else h))) }
+        ensures first { IfOk result (λ r. AtEach S.Scheme L.Elector self.old (λ s h. IsTrue r.0 ↔ (HasRoom s.length certificate.proposal.round.view × (past.notarization (seen s h certificate.proposal.round.view) ≡ None)))) }
         ensures again { IfOk result (λ r. r.0 ≡ false → r.1 ≡ None) }
-        ensures replaced { IfOk result (λ r. AtEach S.Scheme L.leader self.old (λ s h. r.0 ≡ true → Differs (held (offers (seen s h certificate.proposal.round.view))) certificate.proposal → r.1 ≡ option_map (S.key_of s.scheme) (leader s h certificate.proposal.round.view))) }
-        ensures same { IfOk result (λ r. AtEach S.Scheme L.leader self.old (λ s h. Agrees (held (offers (seen s h certificate.proposal.round.view))) certificate.proposal → r.1 ≡ None)) }
+        ensures replaced { IfOk result (λ r. AtEach S.Scheme L.Elector self.old (λ s h. r.0 ≡ true → Differs (held (offers (seen s h certificate.proposal.round.view))) certificate.proposal → r.1 ≡ option_map (S.key_of s.scheme) (leader s h certificate.proposal.round.view))) }
+        ensures same { IfOk result (λ r. AtEach S.Scheme L.Elector self.old (λ s h. Agrees (held (offers (seen s h certificate.proposal.round.view))) certificate.proposal → r.1 ≡ None)) }
     {
         let view = certificate.view();
         // The proof takes from the number that a term has at least one view.
@@ -83,8 +82,8 @@ impl<S: Scheme<D> + Drop, L: Elector<S, D>, D: Digest> Views<S, L, D> {
         now: u64,
         certificate: Nullification<S, D>,
     ) -> Result<bool, AllocError>
-        ensures keeps { IfOk result (λ new. AtEach S.Scheme L.leader self.old (λ s h. InTime s now → Keeps S.Scheme L.leader s self.new (if new then nullified now certificate ∷ h else h))) }
-        ensures answer { IfOk result (λ new. AtEach S.Scheme L.leader self.old (λ s h. IsTrue new ↔ (HasRoom s.length certificate.round.view × (nullification s h certificate.round.view ≡ None)))) }
+        ensures keeps { IfOk result (λ new. AtEach S.Scheme L.Elector self.old (λ s h. InTime s now → Keeps S.Scheme L.Elector s self.new (if new then nullified now certificate ∷ h else h))) }
+        ensures answer { IfOk result (λ new. AtEach S.Scheme L.Elector self.old (λ s h. IsTrue new ↔ (HasRoom s.length certificate.round.view × (nullification s h certificate.round.view ≡ None)))) }
     {
         let view = certificate.view();
         // The proof takes from the number that a term has at least one view.
@@ -116,11 +115,11 @@ impl<S: Scheme<D> + Drop, L: Elector<S, D>, D: Digest> Views<S, L, D> {
         now: u64,
         certificate: Finalization<S, D>,
     ) -> Result<(bool, Option<S::PublicKey>), AllocError>
-        ensures keeps { IfOk result (λ r. AtEach S.Scheme L.leader self.old (λ s h. InTime s now → Keeps S.Scheme L.leader s self.new (if r.0 then finalized now certificate ∷ h else h))) }
-        ensures first { IfOk result (λ r. AtEach S.Scheme L.leader self.old (λ s h. IsTrue r.0 ↔ (HasRoom s.length certificate.proposal.round.view × (past.finalization (seen s h certificate.proposal.round.view) ≡ None)))) }
+        ensures keeps { IfOk result (λ r. AtEach S.Scheme L.Elector self.old (λ s h. InTime s now → Keeps S.Scheme L.Elector s self.new (if r.0 then finalized now certificate ∷ h else h))) }
+        ensures first { IfOk result (λ r. AtEach S.Scheme L.Elector self.old (λ s h. IsTrue r.0 ↔ (HasRoom s.length certificate.proposal.round.view × (past.finalization (seen s h certificate.proposal.round.view) ≡ None)))) }
         ensures again { IfOk result (λ r. r.0 ≡ false → r.1 ≡ None) }
-        ensures replaced { IfOk result (λ r. AtEach S.Scheme L.leader self.old (λ s h. InTime s now → r.0 ≡ true → Differs (held (offers (seen s h certificate.proposal.round.view))) certificate.proposal → r.1 ≡ option_map (S.key_of s.scheme) (leader s h certificate.proposal.round.view))) }
-        ensures same { IfOk result (λ r. AtEach S.Scheme L.leader self.old (λ s h. InTime s now → Agrees (held (offers (seen s h certificate.proposal.round.view))) certificate.proposal → r.1 ≡ None)) }
+        ensures replaced { IfOk result (λ r. AtEach S.Scheme L.Elector self.old (λ s h. InTime s now → r.0 ≡ true → Differs (held (offers (seen s h certificate.proposal.round.view))) certificate.proposal → r.1 ≡ option_map (S.key_of s.scheme) (leader s h certificate.proposal.round.view))) }
+        ensures same { IfOk result (λ r. AtEach S.Scheme L.Elector self.old (λ s h. InTime s now → Agrees (held (offers (seen s h certificate.proposal.round.view))) certificate.proposal → r.1 ≡ None)) }
     {
         let view = certificate.view();
         // The proof takes from the number that a term has at least one view.
@@ -157,9 +156,9 @@ impl<S: Scheme<D> + Drop, L: Elector<S, D>, D: Digest> Views<S, L, D> {
         view: View,
         is_success: bool,
     ) -> Result<Option<Notarization<S, D>>, AllocError>
-        ensures keeps { IfOk result (λ answer. AtEach S.Scheme L.leader self.old (λ s h. InTime s now → Keeps S.Scheme L.leader s self.new (if is_some answer then judged now view is_success ∷ h else h))) }
-        ensures answer { IfOk result (λ answer. AtEach S.Scheme L.leader self.old (λ s h. HasRoom s.length view → answer ≡ past.notarization (seen s h view))) }
-        ensures no_room { IfOk result (λ answer. AtEach S.Scheme L.leader self.old (λ s h. (HasRoom s.length view → ⊥) → answer ≡ None)) }
+        ensures keeps { IfOk result (λ answer. AtEach S.Scheme L.Elector self.old (λ s h. InTime s now → Keeps S.Scheme L.Elector s self.new (if is_some answer then judged now view is_success ∷ h else h))) }
+        ensures answer { IfOk result (λ answer. AtEach S.Scheme L.Elector self.old (λ s h. HasRoom s.length view → answer ≡ past.notarization (seen s h view))) }
+        ensures no_room { IfOk result (λ answer. AtEach S.Scheme L.Elector self.old (λ s h. (HasRoom s.length view → ⊥) → answer ≡ None)) }
     {
         // The proof takes from the number that a term has at least one view.
         let _views = self.lookahead.length.get();
@@ -189,8 +188,8 @@ impl<S: Scheme<D> + Drop, L: Elector<S, D>, D: Digest> Views<S, L, D> {
     ///
     /// `AllocError` where memory ran out.
     pub fn set_proposal(&mut self, view: View, proposal: &Proposal<D>) -> Result<bool, AllocError>
-        ensures keeps { OnOk result (AtEach S.Scheme L.leader self.old (λ s h. Keeps S.Scheme L.leader s self.new (forwarded view proposal.now ∷ h))) }
-        ensures answer { IfOk result (λ first. AtEach S.Scheme L.leader self.old (λ s h. IsTrue first ↔ ((has_nullified (seen s h view) ≡ false) × (held (offers (seen s h view)) ≡ None)))) }
+        ensures keeps { OnOk result (AtEach S.Scheme L.Elector self.old (λ s h. Keeps S.Scheme L.Elector s self.new (forwarded view proposal.now ∷ h))) }
+        ensures answer { IfOk result (λ first. AtEach S.Scheme L.Elector self.old (λ s h. IsTrue first ↔ ((has_nullified (seen s h view) ≡ false) × (held (offers (seen s h view)) ≡ None)))) }
     {
         let first = self.progress.tracked.forward(view, proposal)?;
         Ok(first)

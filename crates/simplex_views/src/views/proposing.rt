@@ -8,25 +8,20 @@ ghost use Rattle.simplex_views.specs.History.{build_asked, build_released, built
 ghost use Rattle.simplex_views.specs.Leaders.{leader};
 ghost use Rattle.simplex_views.specs.Views.{Keeps, AtEach, round_of};
 
-use crate::notice::Notice;
 use crate::views::Views;
 use simplex_round::Leader;
 use simplex_rules::Elector;
+use simplex_tracking::Notice;
 use simplex_types::{Digest, Proposal, Scheme, View};
 use std::alloc::AllocError;
 
 impl<S: Scheme<D> + Drop, L: Elector<S, D>, D: Digest> Views<S, L, D> {
     /// Asks for a build in the view: its leader, this member, where one may be asked for. Else nothing changes.
     pub fn try_propose(&mut self, view: View) -> Option<Leader<S::PublicKey>>
-        ensures keeps { AtEach S.Scheme L.leader self.old (λ s h. Keeps S.Scheme L.leader s self.new (if is_some result then build_asked view ∷ h else h)) }
-        ensures answer { AtEach S.Scheme L.leader self.old (λ s h. MatchOption result (¬ MayPropose s.me (leader s h view) (seen s h view)) (λ x. MayPropose s.me (leader s h view) (seen s h view) × IsLeader S.key_of (round_of s view) (leader s h view) x)) }
+        ensures keeps { AtEach S.Scheme L.Elector self.old (λ s h. Keeps S.Scheme L.Elector s self.new (if is_some result then build_asked view ∷ h else h)) }
+        ensures answer { AtEach S.Scheme L.Elector self.old (λ s h. MatchOption result (¬ MayPropose s.me (leader s h view) (seen s h view)) (λ x. MayPropose s.me (leader s h view) (seen s h view) × IsLeader S.key_of (round_of s view) (leader s h view) x)) }
     {
-        // The proof takes from the number that it has 64 bits.
-        let _number = view.get();
-        match self.progress.tracked.rounds.by_view.get_mut(&view) {
-            Some(round) => round.try_propose(),
-            None => None,
-        }
+        self.progress.tracked.rounds.try_propose(view)
     }
 
     /// Gives the build back that was asked for in the view.
@@ -35,7 +30,7 @@ impl<S: Scheme<D> + Drop, L: Elector<S, D>, D: Digest> Views<S, L, D> {
     ///
     /// `AllocError` where memory ran out.
     pub fn clear_proposal_request(&mut self, view: View) -> Result<(), AllocError>
-        ensures { OnOk result (AtEach S.Scheme L.leader self.old (λ s h. Keeps S.Scheme L.leader s self.new (build_released view ∷ h))) }
+        ensures { OnOk result (AtEach S.Scheme L.Elector self.old (λ s h. Keeps S.Scheme L.Elector s self.new (build_released view ∷ h))) }
     {
         self.tell(view, Notice::BuildReleased)
     }
@@ -52,8 +47,8 @@ impl<S: Scheme<D> + Drop, L: Elector<S, D>, D: Digest> Views<S, L, D> {
         proposal: Proposal<D>,
         parent_payload: D,
     ) -> Result<bool, AllocError>
-        ensures keeps { IfOk result (λ taken. AtEach S.Scheme L.leader self.old (λ s h. Keeps S.Scheme L.leader s self.new (if taken then built now proposal parent_payload ∷ h else h))) }
-        ensures answer { IfOk result (λ taken. AtEach S.Scheme L.leader self.old (λ s h. IsTrue taken ↔ ((has_nullified (seen s h proposal.round.view) ≡ false) × Agrees (held (offers (seen s h proposal.round.view))) proposal))) }
+        ensures keeps { IfOk result (λ taken. AtEach S.Scheme L.Elector self.old (λ s h. Keeps S.Scheme L.Elector s self.new (if taken then built now proposal parent_payload ∷ h else h))) }
+        ensures answer { IfOk result (λ taken. AtEach S.Scheme L.Elector self.old (λ s h. IsTrue taken ↔ ((has_nullified (seen s h proposal.round.view) ≡ false) × Agrees (held (offers (seen s h proposal.round.view))) proposal))) }
     {
         let taken = self
             .progress
@@ -70,8 +65,8 @@ impl<S: Scheme<D> + Drop, L: Elector<S, D>, D: Digest> Views<S, L, D> {
     ///
     /// `AllocError` where memory ran out.
     pub fn verified(&mut self, view: View) -> Result<bool, AllocError>
-        ensures keeps { OnOk result (AtEach S.Scheme L.leader self.old (λ s h. Keeps S.Scheme L.leader s self.new (confirmed view ∷ h))) }
-        ensures answer { IfOk result (λ became. AtEach S.Scheme L.leader self.old (λ s h. IsTrue became ↔ ((has_nullified (seen s h view) ≡ false) × IsUnverified (offers (seen s h view))))) }
+        ensures keeps { OnOk result (AtEach S.Scheme L.Elector self.old (λ s h. Keeps S.Scheme L.Elector s self.new (confirmed view ∷ h))) }
+        ensures answer { IfOk result (λ became. AtEach S.Scheme L.Elector self.old (λ s h. IsTrue became ↔ ((has_nullified (seen s h view) ≡ false) × IsUnverified (offers (seen s h view))))) }
     {
         let became = self.progress.tracked.rounds.verified(view)?;
         Ok(became)
@@ -83,7 +78,7 @@ impl<S: Scheme<D> + Drop, L: Elector<S, D>, D: Digest> Views<S, L, D> {
     ///
     /// `AllocError` where memory ran out.
     pub fn clear_verifying(&mut self, view: View) -> Result<(), AllocError>
-        ensures { OnOk result (AtEach S.Scheme L.leader self.old (λ s h. Keeps S.Scheme L.leader s self.new (unbound view ∷ h))) }
+        ensures { OnOk result (AtEach S.Scheme L.Elector self.old (λ s h. Keeps S.Scheme L.Elector s self.new (unbound view ∷ h))) }
     {
         self.tell(view, Notice::Unbound)
     }

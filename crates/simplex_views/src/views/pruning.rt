@@ -9,7 +9,8 @@ ghost use Rattle.simplex_round.specs.Past.{Item};
 ghost use Rattle.simplex_round.specs.Round as one;
 ghost use Rattle.simplex_types.specs.Positions.{term_end};
 ghost use Rattle.simplex_views.specs.History.{last_finalized, pruned};
-ghost use Rattle.simplex_views.specs.Rounds.{AreBelow, Common, kept_from};
+ghost use Rattle.simplex_tracking.specs.Rounds.{AreBelow, Common};
+ghost use Rattle.simplex_views.specs.Views.{kept_from};
 ghost use Rattle.simplex_views.specs.Views.{Keeps, AreDropped, AtEach};
 
 use crate::views::Views;
@@ -23,22 +24,21 @@ use std::ops::Bound;
 
 impl<S: Scheme<D> + Drop, L: Elector<S, D>, D: Digest> Views<S, L, D> {
     /// Drops what is known of the views that need not be kept, and answers those of which something was known, ascending. A
-    /// nullification whose term ends above the last finalized view stays, and what covers views above that one.
-    /// The cost is that of what is dropped.
+    /// nullification whose term ends above the last finalized view stays, and so does what is covered: a view that is kept may
+    /// still be notarized over any parent below it. The cost is that of what is dropped.
     ///
     /// # Errors
     ///
     /// `AllocError` where memory ran out.
     pub fn prune(&mut self, alloc: Global) -> Result<Vec<View>, AllocError>
-        ensures keeps { OnOk result (AtEach S.Scheme L.leader self.old (λ s h. Keeps S.Scheme L.leader s self.new (pruned ∷ h))) }
-        ensures dropped { IfOk result (λ views. AtEach S.Scheme L.leader self.old (λ s h. AreDropped s h views.items)) }
+        ensures keeps { OnOk result (AtEach S.Scheme L.Elector self.old (λ s h. Keeps S.Scheme L.Elector s self.new (pruned ∷ h))) }
+        ensures dropped { IfOk result (λ views. AtEach S.Scheme L.Elector self.old (λ s h. AreDropped s h views.items)) }
     {
         let floor = self.min_active();
         let first = self.first_reaching(floor);
         let rounds = self.progress.tracked.drop_below(floor)?;
         self.backed.forget_below(floor);
         self.waiting.forget_below(floor);
-        self.coverage.forget_up_to(self.last_finalized);
         drop_before(&mut self.reaching, first);
         let views = keep_from(&mut self.reaching, alloc, rounds, first)?;
         Ok(views)
@@ -47,7 +47,7 @@ impl<S: Scheme<D> + Drop, L: Elector<S, D>, D: Digest> Views<S, L, D> {
     /// Of the views below the floor the first whose term ends above the last finalized view, or the floor where there is none.
     fn first_reaching(&self, floor: View) -> View
         ensures up_to_floor { result ≤ floor }
-        ensures reaches { AtEach S.Scheme L.leader self.now (λ s h. (view : ℕ) → view < floor → (view < result) ↔ (term_end s.length view ≤ last_finalized h)) }
+        ensures reaches { AtEach S.Scheme L.Elector self.now (λ s h. (view : ℕ) → view < floor → (view < result) ↔ (term_end s.length view ≤ last_finalized h)) }
     {
         // The proof takes from the number that a term has at least one view.
         let _views = self.lookahead.length.get();

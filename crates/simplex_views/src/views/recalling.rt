@@ -4,7 +4,7 @@ ghost use Rattle.std.specs.Prelude.{◌≡◌, ◌↔◌, Bool, ◌∷◌, IsTru
 ghost use Rattle.simplex_round.specs.Held.{held, Agrees};
 ghost use Rattle.simplex_round.specs.Past.{offers};
 ghost use Rattle.simplex_views.specs.History.{seen, undecided_payload};
-ghost use Rattle.simplex_views.specs.Rounds.{Takes};
+ghost use Rattle.simplex_tracking.specs.Rounds.{Takes};
 ghost use Rattle.simplex_views.specs.Views.{Keeps, AtEach, recalls};
 
 use crate::views::Views;
@@ -23,7 +23,7 @@ impl<S: Scheme<D> + Drop, L: Elector<S, D>, D: Digest> Views<S, L, D> {
     ///
     /// `AllocError` where memory ran out.
     pub fn replay(&mut self, artifact: &Artifact<S, D>) -> Result<(), AllocError>
-        ensures { OnOk result (AtEach S.Scheme L.leader self.old (λ s h. (taken : Bool) × Takes (seen s h) artifact.now taken × Keeps S.Scheme L.leader s self.new (recalls taken artifact.now ∷ h))) }
+        ensures { OnOk result (AtEach S.Scheme L.Elector self.old (λ s h. (taken : Bool) × Takes (seen s h) artifact.now taken × Keeps S.Scheme L.Elector s self.new (recalls taken artifact.now ∷ h))) }
     {
         let Artifact::Notarize(vote) = artifact else {
             self.progress.tracked.rounds.replay(artifact)?;
@@ -44,7 +44,7 @@ impl<S: Scheme<D> + Drop, L: Elector<S, D>, D: Digest> Views<S, L, D> {
 
     /// Whether the proposal's view holds none or the same.
     fn takes(&self, proposal: &Proposal<D>) -> bool
-        ensures { AtEach S.Scheme L.leader self.now (λ s h. IsTrue result ↔ Agrees (held (offers (seen s h proposal.now.round.view))) proposal.now) }
+        ensures { AtEach S.Scheme L.Elector self.now (λ s h. IsTrue result ↔ Agrees (held (offers (seen s h proposal.now.round.view))) proposal.now) }
     {
         match self.progress.tracked.round(proposal.view()) {
             Some(round) => match round.proposal() {
@@ -57,7 +57,7 @@ impl<S: Scheme<D> + Drop, L: Elector<S, D>, D: Digest> Views<S, L, D> {
 
     /// The payload of the held proposal, while no certificate of the view is known.
     fn undecided_payload(&self, view: View) -> Option<D>
-        ensures { AtEach S.Scheme L.leader self.now (λ s h. result ≡ undecided_payload (seen s h view)) }
+        ensures { AtEach S.Scheme L.Elector self.now (λ s h. result ≡ undecided_payload (seen s h view)) }
     {
         let round = self.progress.tracked.round(view)?;
         if round.is_directly_notarized() {

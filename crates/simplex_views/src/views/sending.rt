@@ -23,15 +23,15 @@ impl<S: Scheme<D> + Drop, L: Elector<S, D>, D: Digest> Views<S, L, D> {
         alloc: Global,
         view: View,
     ) -> Result<Option<Notarization<S, D>>, AllocError>
-        ensures keeps { IfOk result (λ copy. AtEach S.Scheme L.leader self.old (λ s h. Keeps S.Scheme L.leader s self.new (if is_some copy then sent kind.Notarization view ∷ h else h))) }
-        ensures answer { IfOk result (λ copy. AtEach S.Scheme L.leader self.old (λ s h. copy ≡ (if past.has_sent_notarization (seen s h view) then None else past.notarization (seen s h view)))) }
+        ensures keeps { IfOk result (λ copy. AtEach S.Scheme L.Elector self.old (λ s h. Keeps S.Scheme L.Elector s self.new (if is_some copy then sent kind.Notarization view ∷ h else h))) }
+        ensures answer { IfOk result (λ copy. AtEach S.Scheme L.Elector self.old (λ s h. copy ≡ (if past.has_sent_notarization (seen s h view) then None else past.notarization (seen s h view)))) }
     {
-        // The proof takes from the number that it has 64 bits.
-        let _number = view.get();
-        match self.progress.tracked.rounds.by_view.get_mut(&view) {
-            Some(round) => Ok(round.broadcast_notarization(alloc)?),
-            None => Ok(None),
-        }
+        let copy = self
+            .progress
+            .tracked
+            .rounds
+            .broadcast_notarization(alloc, view)?;
+        Ok(copy)
     }
 
     /// A copy of the nullification of the view to hand out, once.
@@ -44,15 +44,15 @@ impl<S: Scheme<D> + Drop, L: Elector<S, D>, D: Digest> Views<S, L, D> {
         alloc: Global,
         view: View,
     ) -> Result<Option<Nullification<S, D>>, AllocError>
-        ensures keeps { IfOk result (λ copy. AtEach S.Scheme L.leader self.old (λ s h. Keeps S.Scheme L.leader s self.new (if is_some copy then sent kind.Nullification view ∷ h else h))) }
-        ensures answer { IfOk result (λ copy. AtEach S.Scheme L.leader self.old (λ s h. copy ≡ (if past.has_sent_nullification (seen s h view) then None else past.nullification (seen s h view)))) }
+        ensures keeps { IfOk result (λ copy. AtEach S.Scheme L.Elector self.old (λ s h. Keeps S.Scheme L.Elector s self.new (if is_some copy then sent kind.Nullification view ∷ h else h))) }
+        ensures answer { IfOk result (λ copy. AtEach S.Scheme L.Elector self.old (λ s h. copy ≡ (if past.has_sent_nullification (seen s h view) then None else past.nullification (seen s h view)))) }
     {
-        // The proof takes from the number that it has 64 bits.
-        let _number = view.get();
-        match self.progress.tracked.rounds.by_view.get_mut(&view) {
-            Some(round) => Ok(round.broadcast_nullification(alloc)?),
-            None => Ok(None),
-        }
+        let copy = self
+            .progress
+            .tracked
+            .rounds
+            .broadcast_nullification(alloc, view)?;
+        Ok(copy)
     }
 
     /// A copy of the finalization of the view to hand out, once.
@@ -65,14 +65,14 @@ impl<S: Scheme<D> + Drop, L: Elector<S, D>, D: Digest> Views<S, L, D> {
         alloc: Global,
         view: View,
     ) -> Result<Option<Finalization<S, D>>, AllocError>
-        ensures keeps { IfOk result (λ copy. AtEach S.Scheme L.leader self.old (λ s h. Keeps S.Scheme L.leader s self.new (if is_some copy then sent kind.Finalization view ∷ h else h))) }
-        ensures answer { IfOk result (λ copy. AtEach S.Scheme L.leader self.old (λ s h. copy ≡ (if past.has_sent_finalization (seen s h view) then None else past.finalization (seen s h view)))) }
+        ensures keeps { IfOk result (λ copy. AtEach S.Scheme L.Elector self.old (λ s h. Keeps S.Scheme L.Elector s self.new (if is_some copy then sent kind.Finalization view ∷ h else h))) }
+        ensures answer { IfOk result (λ copy. AtEach S.Scheme L.Elector self.old (λ s h. copy ≡ (if past.has_sent_finalization (seen s h view) then None else past.finalization (seen s h view)))) }
     {
-        // The proof takes from the number that it has 64 bits.
-        let _number = view.get();
-        match self.progress.tracked.rounds.by_view.get_mut(&view) {
-            Some(round) => Ok(round.broadcast_finalization(alloc)?),
-            None => Ok(None),
-        }
+        let copy = self
+            .progress
+            .tracked
+            .rounds
+            .broadcast_finalization(alloc, view)?;
+        Ok(copy)
     }
 }

@@ -18,8 +18,8 @@ impl<S: Scheme<D> + Drop, L: Elector<S, D>, D: Digest> Views<S, L, D> {
     ///
     /// `AllocError` where memory ran out.
     pub fn construct_notarize(&mut self, view: View) -> Result<Option<Proposal<D>>, AllocError>
-        ensures keeps { IfOk result (λ voted. AtEach S.Scheme L.leader self.old (λ s h. MatchOption voted (Keeps S.Scheme L.leader s self.new h) (λ p. Keeps S.Scheme L.leader s self.new (voted_notarize view p ∷ h)))) }
-        ensures answer { IfOk result (λ voted. AtEach S.Scheme L.leader self.old (λ s h. MatchOption voted (¬ MayNotarize (seen s h view)) (λ p. MayNotarize (seen s h view) × (held (offers (seen s h view)) ≡ Some p)))) }
+        ensures keeps { IfOk result (λ voted. AtEach S.Scheme L.Elector self.old (λ s h. MatchOption voted (Keeps S.Scheme L.Elector s self.new h) (λ p. Keeps S.Scheme L.Elector s self.new (voted_notarize view p ∷ h)))) }
+        ensures answer { IfOk result (λ voted. AtEach S.Scheme L.Elector self.old (λ s h. MatchOption voted (¬ MayNotarize (seen s h view)) (λ p. MayNotarize (seen s h view) × (held (offers (seen s h view)) ≡ Some p)))) }
     {
         let Some(proposal) = self.progress.tracked.rounds.construct_notarize(view) else {
             return Ok(None);
@@ -36,8 +36,8 @@ impl<S: Scheme<D> + Drop, L: Elector<S, D>, D: Digest> Views<S, L, D> {
     ///
     /// `AllocError` where memory ran out.
     pub fn construct_nullify(&mut self, view: View) -> Result<Option<bool>, AllocError>
-        ensures keeps { IfOk result (λ voted. AtEach S.Scheme L.leader self.old (λ s h. Keeps S.Scheme L.leader s self.new (if is_some voted then voted_nullify view ∷ h else h))) }
-        ensures answer { IfOk result (λ voted. AtEach S.Scheme L.leader self.old (λ s h. voted ≡ (if has_finalized (seen s h view) then None else Some (has_nullified (seen s h view))))) }
+        ensures keeps { IfOk result (λ voted. AtEach S.Scheme L.Elector self.old (λ s h. Keeps S.Scheme L.Elector s self.new (if is_some voted then voted_nullify view ∷ h else h))) }
+        ensures answer { IfOk result (λ voted. AtEach S.Scheme L.Elector self.old (λ s h. voted ≡ (if has_finalized (seen s h view) then None else Some (has_nullified (seen s h view))))) }
     {
         let voted = self.progress.tracked.rounds.construct_nullify(view)?;
         Ok(voted)
@@ -45,8 +45,8 @@ impl<S: Scheme<D> + Drop, L: Elector<S, D>, D: Digest> Views<S, L, D> {
 
     /// Votes to finalize the view, where the view itself allows it: the held proposal. Else nothing changes.
     pub fn construct_finalize(&mut self, view: View) -> Option<Proposal<D>>
-        ensures keeps { AtEach S.Scheme L.leader self.old (λ s h. MatchOption result (Keeps S.Scheme L.leader s self.new h) (λ p. Keeps S.Scheme L.leader s self.new (voted_finalize view p ∷ h))) }
-        ensures answer { AtEach S.Scheme L.leader self.old (λ s h. MatchOption result (¬ MayFinalize (seen s h view)) (λ p. MayFinalize (seen s h view) × (held (offers (seen s h view)) ≡ Some p))) }
+        ensures keeps { AtEach S.Scheme L.Elector self.old (λ s h. MatchOption result (Keeps S.Scheme L.Elector s self.new h) (λ p. Keeps S.Scheme L.Elector s self.new (voted_finalize view p ∷ h))) }
+        ensures answer { AtEach S.Scheme L.Elector self.old (λ s h. MatchOption result (¬ MayFinalize (seen s h view)) (λ p. MayFinalize (seen s h view) × (held (offers (seen s h view)) ≡ Some p))) }
     {
         self.progress.tracked.rounds.construct_finalize(view)
     }

@@ -6,11 +6,13 @@ use Rattle.std.specs.BTreeMap.{get}
 use Rattle.simplex_round.specs.Held.{held, Agrees, Differs}
 use Rattle.simplex_round.specs.Past.{has_notarized, offers}
 use Rattle.simplex_round.specs.Past as past
-use Rattle.simplex_views.specs.History.{current, seen, put, enter, is_direct}
+use Rattle.simplex_tracking.specs.Pasts.{put, is_direct}
+use Rattle.simplex_views.specs.History.{current, seen, enter}
 use Rattle.simplex_views.specs.Progress.{frame_of, tables}
 use Rattle.simplex_views.specs.Views.{Keeps}
 use Rattle.simplex_views.proofs.Choices.{copied-none, later-max}
-use Rattle.simplex_views.proofs.Entering.{put-fact, enter-fact}
+use Rattle.simplex_tracking.specs.Laws.{put-fact}
+use Rattle.simplex_views.proofs.Entering.{enter-fact}
 use Rattle.simplex_views.proofs.Following.{finalized-at}
 use Rattle.simplex_views.proofs.Stepping.{reached-closed}
 use Rattle.simplex_views.proofs.views.Views.add_finalization.Goals as goal
@@ -44,6 +46,7 @@ returns-clause-keeps g c = λ s h k time.
       length = k.length;
       optimistic_views = k.optimistic_views;
       retention = k.retention;
+      mode = k.mode;
       elects = k.elects;
       members = k.members;
       progress = record {
@@ -57,7 +60,7 @@ returns-clause-keeps g c = λ s h k time.
           ∙ (λ i. max (c.view-view.ensures i) (k.last_finalized i));
       behind = omega (arith, fits, was);
       genesis = k.genesis;
-      coverage = λ u above. k.coverage u (omega (arith, above));
+      coverage = k.coverage;
       backed = k.backed;
       waiting = k.waiting;
       nullifications = λ w. k.nullifications w ∙ ap (λ n. option_or (get nat_cmp c.args.self.now.reaching w) n)

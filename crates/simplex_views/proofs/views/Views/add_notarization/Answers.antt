@@ -3,13 +3,15 @@ use Rattle.std.specs.Prelude.{Some, None}
 use Rattle.simplex_round.specs.Past.{has_notarized}
 use Rattle.simplex_round.specs.Past as past
 use Rattle.simplex_views.specs.History as History
-use Rattle.simplex_views.specs.History.{seen, put}
+use Rattle.simplex_tracking.specs.Pasts.{put}
+use Rattle.simplex_views.specs.History.{seen}
 use Rattle.simplex_views.specs.Progress.{frame_of, tables}
 use Rattle.simplex_views.specs.Views.{Keeps}
 use Rattle.simplex_views.proofs.Choices.{copied-none}
-use Rattle.simplex_views.proofs.Entering.{put-fact}
+use Rattle.simplex_tracking.specs.Laws.{put-fact}
 use Rattle.simplex_views.proofs.Following.{notarized-at}
 use Rattle.simplex_views.proofs.Stepping.{reached-closed, still-kept}
+use Rattle.simplex_views.proofs.Advancing.{IsAt-tracked}
 use Rattle.simplex_views.proofs.views.Views.add_notarization.Goals as goal
 
 pub returns-clause-keeps : goal.returns-clause-keeps
@@ -31,11 +33,5 @@ returns-clause-keeps g c = λ s h k.
     (⊎_elim (λ lt. inl (omega (arith, lt, next))) (λ le. inr (rw (← c.view-view.ensures) (c.last_reached-last.ensures (frame_of s) table added u le fits))) far)) in
     still-kept (History.notarized c.args.certificate) _ c.args.self.now.backed c.args.self.now.waiting k
     (record { finalizes = refl; begins = refl; covers = λ u. refl; nullifies = λ u. refl; kept_nullification = put-fact past.nullification (past.notarized c.args.certificate) (λ l. refl) at (seen s h) })
-    (record {
-      view = k.progress.view;
-      leader_timeout = k.progress.leader_timeout;
-      certification_timeout = k.progress.certification_timeout;
-      stall_timeout = k.progress.stall_timeout;
-      tracked = notarized-at g.S.Scheme _ s h c.args.certificate c.next-next.result c.elect-leader.result next led handed;
-    })
+    (IsAt-tracked k.progress (notarized-at g.S.Scheme _ s h c.args.certificate c.next-next.result c.elect-leader.result next led handed))
     k.backed k.waiting

@@ -5,13 +5,16 @@ use Rattle.std.specs.BTreeMap.{get}
 use Rattle.simplex_types.specs.Positions.{next_term_start}
 use Rattle.simplex_round.specs.Past.{has_notarized}
 use Rattle.simplex_round.specs.Past as past
-use Rattle.simplex_views.specs.History.{current, seen, put, enter, is_direct, nullification}
+use Rattle.simplex_tracking.specs.Pasts.{put, is_direct}
+use Rattle.simplex_views.specs.History.{current, seen, enter, nullification}
 use Rattle.simplex_views.specs.Leaders.{was_forwarded}
 use Rattle.simplex_views.specs.Progress.{frame_of, tables}
 use Rattle.simplex_views.specs.Views.{Keeps}
 use Rattle.simplex_views.proofs.Choices.{copied-none, or_neither}
-use Rattle.simplex_views.proofs.Covering.{term_end-above, covered-next}
-use Rattle.simplex_views.proofs.Entering.{put-fact, enter-fact, inherits-same, nullification-next}
+use Rattle.simplex_record.specs.Spans.{term_end-above}
+use Rattle.simplex_views.proofs.Uncovering.{covered-next}
+use Rattle.simplex_tracking.specs.Laws.{put-fact, inherits-same}
+use Rattle.simplex_views.proofs.Entering.{enter-fact, nullification-next}
 use Rattle.simplex_views.proofs.Following.{leader-closed, nullified-at}
 use Rattle.simplex_views.proofs.views.Views.add_nullification.Goals as goal
 
@@ -44,6 +47,7 @@ returns-clause-keeps g c = λ s h k time.
       length = k.length;
       optimistic_views = k.optimistic_views;
       retention = k.retention;
+      mode = k.mode;
       elects = k.elects;
       members = k.members;
       progress = record {
@@ -56,7 +60,7 @@ returns-clause-keeps g c = λ s h k time.
       last_finalized = k.last_finalized;
       behind = k.behind;
       genesis = k.genesis;
-      coverage = λ w above. covered-next s h c.args.now c.args.certificate _ _ w (rw (← k.length) c.get-views.ensures.at_least_one) (rw (← k.length, ← c.view-view.ensures, ← c.term_end.ensures) (c.in_ok-cover.ensures.ok w)) (k.coverage w above);
+      coverage = λ w. covered-next s h c.args.now c.args.certificate _ _ w (rw (← k.length) c.get-views.ensures.at_least_one) (rw (← k.length, ← c.view-view.ensures, ← c.term_end.ensures) (c.in_ok-cover.ensures.ok w)) (k.coverage w);
       backed = k.backed;
       waiting = k.waiting;
       nullifications = λ w. nullification-next s (current s h) c.args.now (next_term_start s.length at) c.args.certificate at (seen s h) (nullification s h) (λ v. get nat_cmp c.args.self.now.reaching v) w (k.nullifications w);

@@ -2,48 +2,43 @@ use Rattle.std.proofs.Common.{refl}
 use Rattle.simplex_round.specs.Past as past
 use Rattle.simplex_round.specs.Past.{has_notarized}
 use Rattle.simplex_views.specs.History as History
-use Rattle.simplex_views.specs.History.{is_direct, is_marked, put, seen}
+use Rattle.simplex_tracking.specs.Pasts.{is_direct, put}
+use Rattle.simplex_views.specs.History.{is_marked, seen}
 use Rattle.simplex_views.specs.Known.{backs}
 use Rattle.simplex_views.specs.Leaders.{leader, was_forwarded}
 use Rattle.simplex_views.specs.Progress.{frame_of}
-use Rattle.simplex_views.specs.Rounds.{Keep}
-use Rattle.simplex_views.specs.Tracked.{Holds}
+use Rattle.simplex_tracking.specs.Rounds.{Keep}
 use Rattle.simplex_views.specs.Views.{Keeps}
-use Rattle.simplex_views.proofs.Entering.{put-fact}
+use Rattle.simplex_tracking.specs.Laws.{put-fact}
 use Rattle.simplex_views.proofs.Stepping.{notarize-still, rounds-at, spoken-closed, still-kept, unmoved}
+use Rattle.simplex_views.proofs.Advancing.{IsAt-tracked, IsAt-rounds}
 use Rattle.simplex_views.proofs.views.Views.construct_notarize.Goals as goal
 
 pub returns-in_default-clause-keeps : goal.returns-in_default-clause-keeps
-unfolding Keeps Holds
+unfolding Keeps
 returns-in_default-clause-keeps g c = λ s h k.
     let none = c.in_default.is in
-    unmoved c.construct_notarize.new.self k (rw none at (c.construct_notarize.ensures.keeps (frame_of s).common (leader s h) (seen s h) k.progress.tracked.rounds))
+    unmoved c.construct_notarize.new.self k (rw none at (c.construct_notarize.ensures.keeps (frame_of s).common (leader s h) (seen s h) (IsAt-rounds k.progress)))
 
 pub returns-clause-keeps : goal.returns-clause-keeps
-unfolding Keeps Holds
+unfolding Keeps
 returns-clause-keeps g c = λ s h k.
     let view = c.args.view in
     let grown = put view past.voted_notarize (seen s h) in
     let voted : Keep g.S.Scheme.key_of (frame_of s).common c.construct_notarize.new.self (leader s h) grown =
-    rw c.in-Some.is at (c.construct_notarize.ensures.keeps (frame_of s).common (leader s h) (seen s h) k.progress.tracked.rounds) in
+    rw c.in-Some.is at (c.construct_notarize.ensures.keeps (frame_of s).common (leader s h) (seen s h) (IsAt-rounds k.progress)) in
     let certificates = put-fact is_direct past.voted_notarize (λ l. refl) view (seen s h) in
     let at = rounds-at c.construct_notarize.new.self grown k voted certificates in
     let followed = c.in_ok-follow.ensures (frame_of s) (record { led = leader s h; past = grown; noted = was_forwarded s h }) at.tracked
     (spoken-closed s h grown view certificates (λ w apart. rw apart refl)) in
     still-kept (History.voted_notarize view c.in-Some.proposal) _ c.mark.new.self c.args.self.now.waiting k (notarize-still s h view c.in-Some.proposal)
-    (record {
-      view = k.progress.view;
-      leader_timeout = k.progress.leader_timeout;
-      certification_timeout = k.progress.certification_timeout;
-      stall_timeout = k.progress.stall_timeout;
-      tracked = followed;
-    })
+    (IsAt-tracked k.progress followed)
     (c.in_ok-mark.ensures (is_marked s backs h) k.backed) k.waiting
 
 pub returns-in_default-clause-answer : goal.returns-in_default-clause-answer
-unfolding Keeps Holds
-returns-in_default-clause-answer g c = λ s h k. rw c.in_default.is at (c.construct_notarize.ensures.answer (frame_of s).common (leader s h) (seen s h) k.progress.tracked.rounds)
+unfolding Keeps
+returns-in_default-clause-answer g c = λ s h k. rw c.in_default.is at (c.construct_notarize.ensures.answer (frame_of s).common (leader s h) (seen s h) (IsAt-rounds k.progress))
 
 pub returns-clause-answer : goal.returns-clause-answer
-unfolding Keeps Holds
-returns-clause-answer g c = λ s h k. rw c.in-Some.is at (c.construct_notarize.ensures.answer (frame_of s).common (leader s h) (seen s h) k.progress.tracked.rounds)
+unfolding Keeps
+returns-clause-answer g c = λ s h k. rw c.in-Some.is at (c.construct_notarize.ensures.answer (frame_of s).common (leader s h) (seen s h) (IsAt-rounds k.progress))

@@ -2,7 +2,7 @@ use Rattle.std.proofs.Common.{◌≡◌, ◌+◌, arith}
 use Rattle.simplex_types.specs.Positions.{term_start}
 use Rattle.simplex_views.specs.History.{last_finalized}
 use Rattle.simplex_views.specs.Views.{Keeps}
-use Rattle.simplex_views.proofs.Covering.{ends-before}
+use Rattle.simplex_record.specs.Spans.{ends-before}
 use Rattle.simplex_views.proofs.views.Views.first_reaching.Goals as goal
 
 pub returns-else-lt-clause-reaches : goal.returns-else-lt-clause-reaches

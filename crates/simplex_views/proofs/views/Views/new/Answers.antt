@@ -1,11 +1,11 @@
 use Rattle.std.proofs.Common.{◌≡◌, refl, ap, ◌∙◌, arith}
 use Rattle.simplex_rules.specs.Terms.{Timing}
-use Rattle.simplex_views.specs.Marks.{Shows}
+use Rattle.simplex_tracking.specs.Laws.{Shows-same}
 use Rattle.simplex_views.specs.Views.{Keeps}
 use Rattle.simplex_views.proofs.views.Views.new.Goals as goal
 
 pub returns : goal.returns
-unfolding Keeps Shows
+unfolding Keeps
 returns g c = λ retry budget.
     let length : c.new.result.length ≡ (g.L.Elector.terms_of c.args.elector).length = c.new.ensures.length ∙ ap (λ (t : Timing). t.length) c.terms-terms.ensures in
     let optimistic : c.new.result.optimistic_views ≡ (g.L.Elector.terms_of c.args.elector).optimistic_views = c.new.ensures.optimistic_views ∙ ap (λ (t : Timing). t.optimistic_views) c.terms-terms.ensures in
@@ -16,6 +16,7 @@ returns g c = λ retry budget.
       length = c.new-2.ensures.length ∙ ap (λ (t : Timing). t.length) c.terms-terms.ensures;
       optimistic_views = c.new-2.ensures.optimistic_views ∙ ap (λ (t : Timing). t.optimistic_views) c.terms-terms.ensures;
       retention = refl;
+      mode = refl;
       elects = λ view x. refl;
       members = λ view x. g.met.L.Elector.participants_lead c.args.elector _ _ x c.requires;
       progress = record {
@@ -28,8 +29,8 @@ returns g c = λ retry budget.
       last_finalized = c.zero-2.ensures;
       behind = omega arith;
       genesis = refl;
-      coverage = λ view _. (λ is. absurd (c.new-3.ensures view is), λ there. absurd (cc there.2));
-      backed = c.new-4.ensures;
-      waiting = c.new-5.ensures;
+      coverage = λ view. (λ is. absurd (c.new-3.ensures view is), λ there. absurd (cc there.2));
+      backed = Shows-same _ _ _ c.new-4.ensures (λ u. refl);
+      waiting = Shows-same _ _ _ c.new-5.ensures (λ u. refl);
       nullifications = λ view. rw c.new-6.ensures.empty refl;
     }

@@ -1,4 +1,4 @@
-use Rattle.std.proofs.Common.{◌≡◌, ◌<◌, subst, sym}
+use Rattle.std.proofs.Common.{◌≡◌}
 use Rattle.std.specs.Ordering.{nat_cmp}
 use Rattle.std.specs.BTreeMap.{get}
 use Rattle.simplex_views.specs.History as History
@@ -8,6 +8,7 @@ use Rattle.simplex_views.specs.Leaders.{leader}
 use Rattle.simplex_views.specs.Progress.{frame_of, tables}
 use Rattle.simplex_views.specs.Views.{Keeps}
 use Rattle.simplex_views.proofs.Pruning.{dropped-exact, keys-ascend, pruned-nullification}
+use Rattle.simplex_views.proofs.Advancing.{IsAt-tracked}
 use Rattle.simplex_views.proofs.views.Views.prune.Goals as goal
 
 pub returns-clause-keeps : goal.returns-clause-keeps
@@ -25,21 +26,14 @@ returns-clause-keeps g c = λ s h k.
       length = k.length;
       optimistic_views = k.optimistic_views;
       retention = k.retention;
+      mode = k.mode;
       elects = k.elects;
       members = k.members;
-      progress = record {
-        view = k.progress.view;
-        leader_timeout = k.progress.leader_timeout;
-        certification_timeout = k.progress.certification_timeout;
-        stall_timeout = k.progress.stall_timeout;
-        tracked = rw floor at dropped;
-      };
+      progress = IsAt-tracked k.progress (rw floor at dropped);
       last_finalized = k.last_finalized;
       behind = k.behind;
       genesis = k.genesis;
-      coverage = λ u above.
-          let was = k.coverage u above in
-          let same = c.forget_up_to.ensures.above u (subst (λ n. n < u) (sym k.last_finalized) above) in (λ is. was.0 (same.0 is), λ there. same.1 (was.1 there));
+      coverage = k.coverage;
       backed = rw floor at (c.forget_below.ensures (is_marked s backs h) k.backed);
       waiting = rw floor at (c.forget_below-2.ensures (is_marked s waits h) k.waiting);
       nullifications = λ u. rw floor at (pruned-nullification s.length (History.last_finalized h) c.min_active-floor.result first u (nullification s h u) (get nat_cmp c.args.self.now.reaching u) _ _ (seen s h u)

@@ -5,11 +5,13 @@ use Rattle.std.specs.Ordering.{nat_cmp}
 use Rattle.std.specs.BTreeMap.{get}
 use Rattle.simplex_round.specs.Past.{has_notarized}
 use Rattle.simplex_round.specs.Past as past
-use Rattle.simplex_views.specs.History.{current, seen, enter, is_direct}
+use Rattle.simplex_tracking.specs.Pasts.{is_direct}
+use Rattle.simplex_views.specs.History.{current, seen, enter}
 use Rattle.simplex_views.specs.Leaders.{was_forwarded}
 use Rattle.simplex_views.specs.Progress.{frame_of, tables}
 use Rattle.simplex_views.specs.Views.{Keeps}
-use Rattle.simplex_views.proofs.Entering.{enter-fact, inherits-same}
+use Rattle.simplex_tracking.specs.Laws.{inherits-same}
+use Rattle.simplex_views.proofs.Entering.{enter-fact}
 use Rattle.simplex_views.proofs.Following.{leader-closed, started-at}
 use Rattle.simplex_views.proofs.views.Views.set_genesis.Goals as goal
 
@@ -34,6 +36,7 @@ returns g c = λ s h k time.
       length = k.length;
       optimistic_views = k.optimistic_views;
       retention = k.retention;
+      mode = k.mode;
       elects = k.elects;
       members = k.members;
       progress = record {

@@ -2,13 +2,14 @@ use Rattle.std.proofs.Common.{refl}
 use Rattle.simplex_round.specs.Held as offer
 use Rattle.simplex_round.specs.Past as past
 use Rattle.simplex_round.specs.Past.{has_nullified}
+use Rattle.simplex_tracking.specs.Pasts.{put}
 use Rattle.simplex_views.specs.History as History
 use Rattle.simplex_views.specs.History.{seen}
 use Rattle.simplex_views.specs.Progress.{frame_of, tables}
 use Rattle.simplex_views.specs.Views.{Keeps}
 use Rattle.simplex_views.proofs.Following.{leader-closed}
-use Rattle.simplex_views.proofs.Forwarding.{unless-fact}
-use Rattle.simplex_views.proofs.Stepping.{still-kept}
+use Rattle.simplex_views.proofs.Stepping.{like-put, like-seen, like-unless, still-kept}
+use Rattle.simplex_views.proofs.Advancing.{IsAt-tracked}
 use Rattle.simplex_views.proofs.views.Views.set_proposal.Goals as goal
 
 pub returns-clause-keeps : goal.returns-clause-keeps
@@ -21,13 +22,8 @@ returns-clause-keeps g c = λ s h k.
       begins = refl;
       covers = λ u. refl;
       nullifies = λ u. refl;
-      kept_nullification = unless-fact past.nullification (past.offered (offer.forwarded c.args.proposal.now)) (λ l. refl) (has_nullified (seen s h c.args.view)) c.args.view (seen s h);
+      kept_nullification = (like-unless s h (has_nullified (seen s h c.args.view)) (put c.args.view (past.offered (offer.forwarded c.args.proposal.now)) (seen s h))
+          (like-put s h c.args.view (past.offered (offer.forwarded c.args.proposal.now)) (seen s h) (λ l. refl, λ l. refl, λ l. refl) (like-seen s h))).0;
     })
-    (record {
-      view = k.progress.view;
-      leader_timeout = k.progress.leader_timeout;
-      certification_timeout = k.progress.certification_timeout;
-      stall_timeout = k.progress.stall_timeout;
-      tracked = known;
-    })
+    (IsAt-tracked k.progress known)
     k.backed k.waiting

@@ -2,7 +2,7 @@ use Rattle.std.proofs.Common.{◌≡◌, ◌++◌, ℕ, List}
 use Rattle.std.specs.Prelude.{Option}
 use Rattle.std.specs.BTreeMap.{btree_map_len, keys}
 use Rattle.simplex_round.specs.Past.{Item}
-use Rattle.simplex_views.specs.Rounds.{AreBelow, Common}
+use Rattle.simplex_tracking.specs.Rounds.{AreBelow, Common}
 use Rattle.simplex_views.proofs.Pruning.{IsPartOf}
 use Rattle.simplex_views.proofs.views.pruning.keep_from.Given as goal
 

@@ -1,0 +1,126 @@
+-- Who leads, view by view.
+use Rattle.std.proofs.Common.{◌≡◌, ◌≤◌, ◌<◌, ◌+◌, ◌-◌, ◌==◌, ℕ, zero, suc, Bool, true, false, ⊎_elim, refl, sym, ap, ◌∙◌, arith, if◌then◌else◌}
+use Rattle.std.specs.Prelude.{Option, Some, None, nat_lt}
+use Rattle.std.specs.Option.{option_or}
+use Rattle.std.proofs.lemmas.Grind.{common_steps}
+use Rattle.std.proofs.lemmas.Bool.Decides.{nat_tests}
+use Rattle.std.proofs.lemmas.Bool.{cases_lt, cases_eq, ne_eqb}
+use Rattle.simplex_tracking.specs.Laws.{extend-above, one_more}
+use Rattle.simplex_tracking.specs.Handing.{extend}
+use Rattle.simplex_tracking.specs.Rounds.{learn}
+use Rattle.simplex_tracking.specs.Tracked.{IsClosedAt, handed_on}
+use Rattle.simplex_tracking.proofs.Choices.{is_itself}
+
+-- a view that learns nothing leaves all as they were
+pub still_led : (view : ℕ) (l : Option ℕ) (led : ℕ → Option ℕ) → option_or (led view) l ≡ led view → (u : ℕ) → (if view == u then option_or (led view) l else led u) ≡ led u
+still_led view l led same u = ⊎_elim
+    (λ e. let here : (view == u) ≡ true = grind (arith, common_steps) in rw here (same ∙ ap led e))
+    (λ ne. let apart : (view == u) ≡ false = grind (arith, common_steps) in rw apart refl)
+    (cases_eq view u)
+
+-- what is known stays, whether it comes once more or not
+itself_or : {A : Type 0} (o : Option A) (b : Bool) → option_or o (if b then o else None) ≡ o
+itself_or None true = refl
+itself_or None false = refl
+itself_or (Some x) b = refl
+
+module _ (here : ℕ → Option ℕ) (from_before : ℕ → Bool) (known : ℕ → Option ℕ) where
+  -- below the first that is named no view learns anything, if nothing is left to be handed on there
+  pub extend-below : (first : ℕ) → ((u : ℕ) → u < first → here u ≡ None) → ((u : ℕ) → u + 1 < first → IsClosedAt from_before known u)
+      → (w : ℕ) → w < first → extend here from_before known w ≡ known w
+  extend-below first none closed zero lt = refl
+  extend-below first none closed (suc w) lt = one_more (known (suc w)) (here (suc w)) (from_before (suc w)) (extend here from_before known w) (known w) (none (suc w) lt)
+      (extend-below first none closed w (omega (arith, lt))) (closed w (omega (arith, lt)))
+
+  -- where only behind one view something may be left to be handed on, no view up to it learns anything
+  pub extend-upto : (view w : ℕ) → w ≤ view → ((u : ℕ) → here u ≡ None) → ((u : ℕ) → (view == u) ≡ false → IsClosedAt from_before known u) → extend here from_before known w ≡ known w
+  extend-upto view w le none closed = extend-above here from_before known 0 w refl (λ u _. none u) (λ u _ below. closed u (ne_eqb view u (λ e. omega (arith, e, below, le)))) (omega arith)
+
+  pub handed-on-upto : (view u : ℕ) → ((v : ℕ) → here v ≡ None) → ((v : ℕ) → (view == v) ≡ false → IsClosedAt from_before known v) → known u ≡ handed_on here from_before known (view + 1) u
+  handed-on-upto view u none closed = ⊎_elim
+      (λ lt. let within : nat_lt u (view + 1) ≡ true = grind (arith, nat_tests, lt) in rw within (sym (extend-upto view u (omega (arith, lt)) none closed)))
+      (λ ge. let beyond : nat_lt u (view + 1) ≡ false = grind (arith, nat_tests, ge) in rw beyond refl)
+      (cases_lt u (view + 1))
+
+  -- one view further
+  pub handed-on-next : (view : ℕ) → here view ≡ None → (w : ℕ)
+      → (if view == w then option_or (handed_on here from_before known view view) (if from_before view then handed_on here from_before known view (view - 1) else None) else handed_on here from_before known view w)
+      ≡ handed_on here from_before known (view + 1) w
+  handed-on-next zero none w = ⊎_elim
+      (λ e. rw (← e) (let first : nat_lt 0 0 ≡ false = refl in let next : nat_lt 0 (0 + 1) ≡ true = refl in itself_or (known 0) (from_before 0)))
+      (λ ne.
+      let apart : (0 == w) ≡ false = grind (arith, common_steps) in
+      let behind : nat_lt w 0 ≡ false = grind (arith, nat_tests) in
+      let still : nat_lt w (0 + 1) ≡ false = grind (arith, nat_tests, ne) in
+      rw (apart, behind, still) refl)
+      (cases_eq 0 w)
+  handed-on-next (suc v) none w = ⊎_elim
+      (λ e.
+      let at : (suc v == suc v) ≡ true = is_itself (suc v) in
+      let not_yet : nat_lt (suc v) (suc v) ≡ false = grind (arith, nat_tests) in
+      let before : nat_lt v (suc v) ≡ true = grind (arith, nat_tests) in
+      let now : nat_lt (suc v) (suc v + 1) ≡ true = grind (arith, nat_tests) in
+      let back : suc v - 1 ≡ v = omega arith in
+      rw (← e) (rw (at, not_yet, back, before, now, none) refl))
+      (λ ne.
+      let apart : (suc v == w) ≡ false = grind (arith, common_steps) in
+      ⊎_elim
+      (λ lt. let here_1 : nat_lt w (suc v) ≡ true = grind (arith, nat_tests, lt) in let here_2 : nat_lt w (suc v + 1) ≡ true = grind (arith, nat_tests, lt) in rw (apart, here_1, here_2) refl)
+      (λ ge. let here_1 : nat_lt w (suc v) ≡ false = grind (arith, nat_tests, ge) in let here_2 : nat_lt w (suc v + 1) ≡ false = grind (arith, nat_tests, ge, ne) in rw (apart, here_1, here_2) refl)
+      (cases_lt w (suc v)))
+      (cases_eq (suc v) w)
+
+  -- where the last view that was looked at learnt nothing, leaders are handed on as far as they are
+  pub handed-on-all : (first last view w : ℕ) → first ≤ view → last ≤ view → ((u : ℕ) → first ≤ u → here u ≡ None) → ((u : ℕ) → last ≤ u → u < w → IsClosedAt from_before known u)
+      → extend here from_before known view ≡ known view → handed_on here from_before known (view + 1) w ≡ extend here from_before known w
+  handed-on-all first last view w after behind none closed still = ⊎_elim
+      (λ lt. let within : nat_lt w (view + 1) ≡ true = grind (arith, nat_tests, lt) in rw within refl)
+      (λ ge.
+      let beyond : nat_lt w (view + 1) ≡ false = grind (arith, nat_tests, ge) in
+      rw beyond (sym (extend-above here from_before known view w still (λ u lt. none u (omega (arith, lt, after))) (λ u le below. closed u (omega (arith, le, behind)) below) (omega (arith, ge)))))
+      (cases_lt w (view + 1))
+
+  -- what the view at hand has then
+  pub handed-on-here : (view : ℕ) → handed_on here from_before known (view + 1) view ≡ extend here from_before known view
+  handed-on-here view = let within : nat_lt view (view + 1) ≡ true = grind (arith, nat_tests) in rw within refl
+
+  pub handed-on-before : (view : ℕ) → handed_on here from_before known view view ≡ known view
+  handed-on-before view = let beyond : nat_lt view view ≡ false = grind (arith, nat_tests) in rw beyond refl
+
+  -- it has what it had where it learns nothing
+  pub handed-on-still : (view : ℕ) → here view ≡ None
+      → option_or (handed_on here from_before known view view) (if from_before view then handed_on here from_before known view (view - 1) else None) ≡ handed_on here from_before known view view
+      → extend here from_before known view ≡ known view
+  handed-on-still view none still =
+      let at : (view == view) ≡ true = is_itself view in
+      sym (handed-on-here view) ∙ sym (handed-on-next view none view) ∙ rw at still ∙ handed-on-before view
+
+  pub handed-on-within : (view w : ℕ) → w < view → handed_on here from_before known view w ≡ extend here from_before known w
+  handed-on-within view w lt = let within : nat_lt w view ≡ true = grind (arith, nat_tests, lt) in rw within refl
+
+-- a view before or behind another is another
+not_later : (v w : ℕ) → w < suc v → (w == suc v) ≡ false
+not_later v w below = let apart : w ≡ suc v → ⊥ = λ e. omega (arith, e, below) in ne_eqb w (suc v) apart
+
+pub behind_first : (first next u : ℕ) → next ≡ first + 1 → next ≤ u → (u == first) ≡ false
+behind_first first next u is le = let apart : u ≡ first → ⊥ = λ e. omega (arith, e, is, le) in ne_eqb u first apart
+
+-- the first that is named has its leader, and no view before it learnt anything
+pub named-first : (first leader : ℕ) (from_before : ℕ → Bool) (known : ℕ → Option ℕ) → 0 < first → ((u : ℕ) → u + 1 < first → IsClosedAt from_before known u)
+    → (u : ℕ) → learn first leader known u ≡ handed_on (λ w. if w == first then Some leader else None) from_before known (first + 1) u
+named-first zero leader from_before known some closed u = absurd (omega (arith, some))
+named-first (suc v) leader from_before known some closed u = ⊎_elim
+    (λ e.
+    let at : (suc v == suc v) ≡ true = is_itself (suc v) in
+    let within : nat_lt (suc v) (suc v + 1) ≡ true = grind (arith, nat_tests) in
+    rw (← e) (rw (at, within) refl))
+    (λ ne.
+    let apart : (suc v == u) ≡ false = grind (arith, common_steps) in
+    ⊎_elim
+    (λ lt.
+    let within : nat_lt u (suc v + 1) ≡ true = grind (arith, nat_tests, lt) in
+    rw (apart, within) (sym (extend-below (λ w. if w == suc v then Some leader else None) from_before known (suc v)
+    (λ w below. rw (not_later v w below) refl) closed u lt)))
+    (λ ge. let beyond : nat_lt u (suc v + 1) ≡ false = grind (arith, nat_tests, ge, ne) in rw (apart, beyond) refl)
+    (cases_lt u (suc v)))
+    (cases_eq (suc v) u)

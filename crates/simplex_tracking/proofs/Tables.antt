@@ -1,0 +1,175 @@
+-- A change of one round among many.
+use Rattle.std.proofs.Common.{◌≡◌, ℕ, true, false, ◌==◌, ◌<◌, ◌^◌, ⊎_elim, inl, inr, List, [], ◌∷◌, refl, sym, ap, arith, if◌then◌else◌}
+use Rattle.std.specs.Option.{option_or}
+use Rattle.std.specs.Prelude.{Option, Some, None, Bool, MatchOption, IsSome, is_some}
+use Rattle.simplex_types.specs.declared.position.Round as position
+use Rattle.simplex_types.specs.declared.proposal.Proposal.{Proposal}
+use Rattle.std.specs.Ordering.{nat_cmp}
+use Rattle.std.specs.BTreeMap.{BTreeMap, get, UpdatesBy}
+use Rattle.std.proofs.lemmas.Grind.{common_steps}
+use Rattle.std.proofs.lemmas.Bool.{cases_eq}
+use Rattle.simplex_round.specs.declared.round.Round.{Round}
+use Rattle.simplex_round.specs.Round as one
+use Rattle.simplex_round.specs.Held.{held, Agrees}
+use Rattle.simplex_round.specs.Past.{Item, has_finalized, has_nullified, offers}
+use Rattle.simplex_tracking.specs.Pasts.{put}
+use Rattle.simplex_tracking.specs.Rounds.{Common, setup_of, learn, IsTracked, IsRight, AreKept, AreOpen}
+use Rattle.simplex_tracking.specs.Tracked.{AreMembers}
+use Rattle.simplex_tracking.proofs.Choices.{is_itself, some-is}
+
+-- what stays the same of a round is what its view and what all rounds share say
+pub same_setup : {S : Type 0} {s : Common S} {x : S} {r : position.Round} {view : ℕ} → x ≡ s.scheme → r.epoch ≡ s.epoch → r.view ≡ view
+    → (let made : one.Setup S = record { scheme = x; round = r } in made) ≡ setup_of s view
+same_setup a b c = λ i. record { scheme = a i; round = record { epoch = b i; view = c i } }
+
+module _ {S D P G C : Type 0} where
+  -- something happened
+  pub happened : (x : Item S D P G C) (past : List (Item S D P G C)) (led : Option ℕ) → IsTracked (x ∷ past) led
+  happened x past led = inl (λ never. absurd (cc never))
+
+  -- a view that was given up by a vote is one of which something is known
+  pub nullified_tracked : (past : List (Item S D P G C)) (led : Option ℕ) → has_nullified past ≡ true → IsTracked past led
+  nullified_tracked [] led never = absurd (cc never)
+  nullified_tracked (x ∷ past) led given_up = happened x past led
+
+  -- nor is one in which a proposal was refused, or a finalize voted
+  pub refused_tracked : (past : List (Item S D P G C)) (led : Option ℕ) (p : Proposal D) → ¬ ((has_nullified past ≡ false) × Agrees (held (offers past)) p) → IsTracked past led
+  refused_tracked [] led p refused = absurd (refused (refl, tt))
+  refused_tracked (x ∷ past) led p refused = happened x past led
+
+  pub finalized_tracked : (past : List (Item S D P G C)) (led : Option ℕ) (o : Option Bool) → o ≡ (if has_finalized past then None else Some (has_nullified past)) → is_some o ≡ false → IsTracked past led
+  finalized_tracked [] led o voted none = absurd (cc (voted, none))
+  finalized_tracked (x ∷ past) led o voted none = happened x past led
+
+  -- a round that is there stands where it should
+  is_there : (key_of : S → ℕ → P) (s : Common S) (view : ℕ) (o : Option (Round S D P G C)) (l : Option ℕ) (h : List (Item S D P G C)) → IsSome o → IsRight key_of s view o l h
+      → MatchOption o ⊥ (λ r. one.Keeps key_of (setup_of s view) r l h)
+  is_there key_of s view None l h some right = absurd (cc some)
+  is_there key_of s view (Some r) l h some right = right.1
+
+module _ {S D P G C : Type 0} {key_of : S → ℕ → P} {s : Common S} {m : BTreeMap ℕ (Round S D P G C)} {led : ℕ → Option ℕ} {past : ℕ → List (Item S D P G C)} where
+  -- an open round stands where its leader and its past say
+  pub AreOpen-at : {view : ℕ} {round : Round S D P G C} → AreOpen key_of s m led past view → Some round ≡ get nat_cmp m view → one.Keeps key_of (setup_of s view) round (led view) (past view)
+  AreOpen-at k e = rw (sym e) at k.here
+
+  -- so does the round of a view that has one
+  pub AreKept-at : {view : ℕ} {round : Round S D P G C} → AreKept key_of s m led past → view < 2 ^ 64 → Some round ≡ get nat_cmp m view → one.Keeps key_of (setup_of s view) round (led view) (past view)
+  AreKept-at {view} k fits e = (rw (sym e) at (k.at view fits)).1
+
+  -- something is known of a view that has a round, and nothing of one that has none
+  pub AreKept-tracked : (view : ℕ) {round : Round S D P G C} → AreKept key_of s m led past → view < 2 ^ 64 → Some round ≡ get nat_cmp m view → IsTracked (past view) (led view)
+  AreKept-tracked view k fits e = (rw (sym e) at (k.at view fits)).0
+
+  pub AreKept-untracked : (view : ℕ) → AreKept key_of s m led past → view < 2 ^ 64 → None ≡ get nat_cmp m view → past view ≡ []
+  AreKept-untracked view k fits e = (rw (sym e) at (k.at view fits)).0
+
+  pub AreKept-unled : (view : ℕ) → AreKept key_of s m led past → view < 2 ^ 64 → None ≡ get nat_cmp m view → led view ≡ None
+  AreKept-unled view k fits e = (rw (sym e) at (k.at view fits)).1
+
+  -- the round of a view that has one is open
+  pub AreOpen-there : (view : ℕ) → AreKept key_of s m led past → view < 2 ^ 64 → IsSome (get nat_cmp m view) → AreOpen key_of s m led past view
+  AreOpen-there view k fits there = record { here = is_there key_of s view (get nat_cmp m view) (led view) (past view) there (k.at view fits); others = λ u small apart. k.at u small }
+
+module _ {S D P G C : Type 0} {key_of : S → ℕ → P} {s : Common S} {m m' : BTreeMap ℕ (Round S D P G C)} {led : ℕ → Option ℕ} {past : ℕ → List (Item S D P G C)} where
+  -- one round was changed, and what is known of the others is as it was
+  pub AreKept-step : (led' : ℕ → Option ℕ) (past' : ℕ → List (Item S D P G C)) (view : ℕ) {round : Round S D P G C}
+      → AreOpen key_of s m led past view → UpdatesBy nat_cmp (nat_cmp view) m m' (Some round) → one.Keeps key_of (setup_of s view) round (led' view) (past' view)
+      → IsTracked (past' view) (led' view) → ((u : ℕ) → (view == u) ≡ false → (led' u ≡ led u) × (past' u ≡ past u)) → AreKept key_of s m' led' past'
+  AreKept-step led' past' view k up here tracked others = record {
+    at = λ u fits.
+        ⊎_elim
+        (λ e. rw (← e) (rw up.1 (tracked, here)))
+        (λ ne.
+        let apart : (view == u) ≡ false = grind (arith, common_steps) in
+        let same = others u apart in
+        rw (up.2 u (grind (arith, common_steps)), same.0, same.1) (k.others u fits apart))
+        (cases_eq view u);
+  }
+
+  -- one more thing happened to one view
+  pub AreKept-put : (view : ℕ) (x : Item S D P G C) {round : Round S D P G C}
+      → AreOpen key_of s m led past view → UpdatesBy nat_cmp (nat_cmp view) m m' (Some round) → one.Keeps key_of (setup_of s view) round (led view) (x ∷ past view)
+      → AreKept key_of s m' led (put view x past)
+  AreKept-put view x k up here = AreKept-step led (put view x past) view k up (rw (is_itself view) here) (rw (is_itself view) (happened x (past view) (led view))) (λ u apart. (refl, rw apart refl))
+
+  -- the same, where the view is named in two ways
+  pub AreKept-put_at : {view at : ℕ} (x : Item S D P G C) {round : Round S D P G C}
+      → view ≡ at → AreOpen key_of s m led past view → UpdatesBy nat_cmp (nat_cmp view) m m' (Some round) → one.Keeps key_of (setup_of s view) round (led view) (x ∷ past view)
+      → AreKept key_of s m' led (put at x past)
+  AreKept-put_at x e k up here = rw (← e) (AreKept-put _ x k up here)
+
+  -- two things happened to it
+  pub AreKept-put_two : (view : ℕ) (x y : Item S D P G C) {round : Round S D P G C}
+      → AreOpen key_of s m led past view → UpdatesBy nat_cmp (nat_cmp view) m m' (Some round) → one.Keeps key_of (setup_of s view) round (led view) (x ∷ y ∷ past view)
+      → AreKept key_of s m' led (put view x (put view y past))
+  AreKept-put_two view x y k up here = AreKept-step led (put view x (put view y past)) view k up (rw (is_itself view) here) (rw (is_itself view) (happened x (y ∷ past view) (led view))) (λ u apart. (refl, rw apart refl))
+
+  -- the leader of one view is known now
+  pub AreKept-learn : (view i : ℕ) {round : Round S D P G C}
+      → AreOpen key_of s m led past view → UpdatesBy nat_cmp (nat_cmp view) m m' (Some round) → one.Keeps key_of (setup_of s view) round (option_or (led view) (Some i)) (past view)
+      → IsSome (option_or (led view) (Some i)) → AreKept key_of s m' (learn view i led) past
+  AreKept-learn view i k up here known = AreKept-step (learn view i led) past view k up (rw (is_itself view) here) (inr (rw (is_itself view) known)) (λ u apart. (rw apart refl, refl))
+
+  -- one more thing happened to a view, or nothing did to one of which something is known
+  pub AreKept-unless : (view : ℕ) (x : Item S D P G C) (b : Bool) {round : Round S D P G C}
+      → AreOpen key_of s m led past view → UpdatesBy nat_cmp (nat_cmp view) m m' (Some round) → one.Keeps key_of (setup_of s view) round (led view) (if b then past view else x ∷ past view)
+      → (b ≡ true → IsTracked (past view) (led view)) → AreKept key_of s m' led (if b then past else put view x past)
+  AreKept-unless view x false k up here known = AreKept-put view x k up here
+  AreKept-unless view x true k up here known = AreKept-step led past view k up here (known refl) (λ u apart. (refl, refl))
+
+  -- one more thing happened to a view, or nothing did to one of which something is known
+  pub AreKept-when : (view : ℕ) (x : Item S D P G C) (b : Bool) {round : Round S D P G C}
+      → AreOpen key_of s m led past view → UpdatesBy nat_cmp (nat_cmp view) m m' (Some round) → one.Keeps key_of (setup_of s view) round (led view) (if b then x ∷ past view else past view)
+      → (b ≡ false → IsTracked (past view) (led view)) → AreKept key_of s m' led (if b then put view x past else past)
+  AreKept-when view x true k up here known = AreKept-put view x k up here
+  AreKept-when view x false k up here known = AreKept-step led past view k up here (known refl) (λ u apart. (refl, refl))
+
+  pub AreKept-when_two : (view : ℕ) (x y : Item S D P G C) (b : Bool) {round : Round S D P G C}
+      → AreOpen key_of s m led past view → UpdatesBy nat_cmp (nat_cmp view) m m' (Some round) → one.Keeps key_of (setup_of s view) round (led view) (if b then x ∷ y ∷ past view else past view)
+      → (b ≡ false → IsTracked (past view) (led view)) → AreKept key_of s m' led (if b then put view x (put view y past) else past)
+  AreKept-when_two view x y true k up here known = AreKept-put_two view x y k up here
+  AreKept-when_two view x y false k up here known = AreKept-step led past view k up here (known refl) (λ u apart. (refl, refl))
+
+  -- the same, where the view is named in two ways
+  pub AreKept-when_two_at : {view at : ℕ} (x y : Item S D P G C) (b : Bool) {round : Round S D P G C}
+      → view ≡ at → AreOpen key_of s m led past view → UpdatesBy nat_cmp (nat_cmp view) m m' (Some round) → one.Keeps key_of (setup_of s view) round (led view) (if b then x ∷ y ∷ past view else past view)
+      → (b ≡ false → IsTracked (past view) (led view)) → AreKept key_of s m' led (if b then put at x (put at y past) else past)
+  AreKept-when_two_at x y b e k up here known = rw (← e) (AreKept-when_two _ x y b k up here known)
+
+  -- one more thing happened to a view that has a round, or nothing did
+  pub AreKept-turn : (view : ℕ) (x : Item S D P G C) (b : Bool) {before round : Round S D P G C}
+      → AreKept key_of s m led past → view < 2 ^ 64 → Some before ≡ get nat_cmp m view → (IsSome (get nat_cmp m view) → UpdatesBy nat_cmp (nat_cmp view) m m' (Some round))
+      → one.Keeps key_of (setup_of s view) round (led view) (if b then x ∷ past view else past view) → AreKept key_of s m' led (if b then put view x past else past)
+  AreKept-turn view x b k fits found up here = AreKept-when view x b (AreOpen-there view k fits (some-is found)) (up (some-is found)) here (λ _. AreKept-tracked view k fits found)
+
+  pub AreKept-turn_two : (view : ℕ) (x y : Item S D P G C) (b : Bool) {before round : Round S D P G C}
+      → AreKept key_of s m led past → view < 2 ^ 64 → Some before ≡ get nat_cmp m view → (IsSome (get nat_cmp m view) → UpdatesBy nat_cmp (nat_cmp view) m m' (Some round))
+      → one.Keeps key_of (setup_of s view) round (led view) (if b then x ∷ y ∷ past view else past view) → AreKept key_of s m' led (if b then put view x (put view y past) else past)
+  AreKept-turn_two view x y b k fits found up here = AreKept-when_two view x y b (AreOpen-there view k fits (some-is found)) (up (some-is found)) here (λ _. AreKept-tracked view k fits found)
+
+  -- a round was opened of which nothing is known
+  pub AreOpen-new : (view : ℕ) {round : Round S D P G C}
+      → AreKept key_of s m led past → view < 2 ^ 64 → get nat_cmp m view ≡ None → UpdatesBy nat_cmp (nat_cmp view) m m' (Some round) → one.Keeps key_of (setup_of s view) round None []
+      → AreOpen key_of s m' led past view
+  AreOpen-new view k fits none up here =
+      let untouched : (past view ≡ []) × (led view ≡ None) = rw none at (k.at view fits) in
+      record {
+        here = rw (up.1, untouched.1, untouched.0) here;
+        others = λ u small apart. rw (up.2 u (grind (arith, common_steps))) (k.at u small);
+      }
+
+-- what an option holds is one thing
+abbrev held_by : ℕ → Option ℕ → ℕ
+held_by least None = least
+held_by least (Some x) = x
+
+-- who is learnt to lead is a member
+first_or : (size leader i : ℕ) → leader < size → (o : Option ℕ) → (o ≡ Some i → i < size) → option_or o (Some leader) ≡ Some i → i < size
+first_or size leader i member None old new = let same : leader ≡ i = ap (held_by 0) new in omega (arith, same, member)
+first_or size leader i member (Some x) old new = old new
+
+pub learn-members : (size : ℕ) (led : ℕ → Option ℕ) (view leader : ℕ) → AreMembers size led → leader < size → AreMembers size (learn view leader led)
+learn-members size led view leader members member u i fits is = ⊎_elim
+    (λ e. let here : (view == u) ≡ true = grind (arith, common_steps) in first_or size leader i member (led view) (λ known. members u i fits (rw (← e) known)) (rw here at is))
+    (λ ne. let apart : (view == u) ≡ false = grind (arith, common_steps) in members u i fits (rw apart at is))
+    (cases_eq view u)

@@ -1,0 +1,26 @@
+use Rattle.std.proofs.Common.{◌==◌, refl, inl, inr, arith, if◌then◌else◌}
+use Rattle.std.specs.Prelude.{Some, None}
+use Rattle.simplex_tracking.specs.Rounds.{learn}
+use Rattle.simplex_tracking.specs.Tracked.{Holds, inherits_by}
+use Rattle.simplex_tracking.proofs.Tables.{learn-members}
+use Rattle.simplex_tracking.proofs.Leading.{behind_first, named-first}
+use Rattle.simplex_tracking.proofs.tracked.Tracked.lead.Goals as goal
+
+pub returns : goal.returns
+unfolding Holds
+returns g c = λ f t k some member closed.
+    c.in_ok-hand_on.ensures f (record t { led = learn c.args.first c.args.leader t.led })
+    (record {
+      length = k.length;
+      optimistic_views = k.optimistic_views;
+      rounds = c.in_ok-_new.ensures.keeps f.common t.led t.past k.rounds member;
+      direct = k.direct;
+      noted = k.noted;
+      members = learn-members _ t.led c.args.first c.args.leader k.members member;
+    })
+    (λ u. if u == c.args.first then Some c.args.leader else None) t.led
+    (record {
+      led = λ u. rw c.next.ensures (named-first c.args.first c.args.leader (inherits_by f t) t.led some (λ v lt. closed v (inl lt) (omega (arith, lt, c.requires))) u);
+      unnamed = λ u le. rw (behind_first c.args.first c.next.result u c.next.ensures le) refl;
+      closed = λ u le fits. closed u (inr le) fits;
+    })

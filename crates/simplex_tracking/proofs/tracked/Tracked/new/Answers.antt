@@ -1,0 +1,14 @@
+use Rattle.std.proofs.Common.{refl}
+use Rattle.simplex_tracking.specs.Tracked.{Holds}
+use Rattle.simplex_tracking.proofs.tracked.Tracked.new.Goals as goal
+
+pub returns : goal.returns
+unfolding Holds
+returns g c = record {
+  length = refl;
+  optimistic_views = refl;
+  rounds = c.new.ensures;
+  direct = c.new-2.ensures;
+  noted = c.new-3.ensures;
+  members = λ view i lt none. absurd (cc none);
+}

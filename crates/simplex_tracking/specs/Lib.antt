@@ -1,0 +1,6 @@
+pub mod Handing
+pub mod Laws
+pub mod Marks
+pub mod Pasts
+pub mod Rounds
+pub mod Tracked

@@ -1,0 +1,96 @@
+-- What the rounds of all views keep.
+use Rattle.std.specs.Prelude.{◌≡◌, ◌≢◌, ◌⊎◌, ◌↔◌, ◌<◌, ◌≤◌, ◌^◌, ◌==◌, ℕ, Bool, false, List, [], Option, Some, None, IsSome, IsTrue, MatchOption, if◌then◌else◌, ⊤}
+use Rattle.std.specs.Option.{option_or}
+use Rattle.std.specs.Ordering.{nat_cmp}
+use Rattle.std.specs.BTreeMap.{BTreeMap, get}
+use Rattle.simplex_messages.specs.declared.artifact.Artifact.{Artifact}
+use Rattle.simplex_messages.specs.declared.artifact.Artifact.TheVariants as artifact
+use Rattle.simplex_round.specs.declared.round.Round.{Round}
+use Rattle.simplex_round.specs.Round as one
+use Rattle.simplex_round.specs.Held as offer
+use Rattle.simplex_round.specs.Held.{held, Agrees}
+use Rattle.simplex_round.specs.Past as past
+use Rattle.simplex_round.specs.Past.{Item, offers}
+use Rattle.simplex_tracking.specs.Pasts.{put}
+use Rattle.simplex_tracking.specs.declared.notice.Notice.{Notice}
+use Rattle.simplex_tracking.specs.declared.notice.Notice.TheVariants as notice
+use Rattle.simplex_tracking.specs.declared.rounds.Rounds.{Rounds}
+
+-- what stays the same of all rounds
+pub record Common (S : Type 0) : Type 0 where
+  pub scheme : S
+  pub epoch : ℕ
+
+-- what stays the same of a view's round
+abbrev pub setup_of : {S : Type 0} → Common S → ℕ → one.Setup S
+setup_of s view = record { scheme = s.scheme; round = record { epoch = s.epoch; view = view } }
+
+-- the leader of a view becomes known, where it isn't
+abbrev pub learn : ℕ → ℕ → (ℕ → Option ℕ) → ℕ → Option ℕ
+learn at i t view = if at == view then option_or (t at) (Some i) else t view
+
+module _ {S D P G C : Type 0} where
+  -- something is known of a view: something happened to it, or its leader is known
+  abbrev pub IsTracked : List (Item S D P G C) → Option ℕ → Type 0
+  IsTracked past led = (past ≢ []) ⊎ IsSome led
+
+  -- the round of a view stands where its leader and its past say; there is one exactly where something is known of the view
+  abbrev pub IsRight : (S → ℕ → P) → Common S → ℕ → Option (Round S D P G C) → Option ℕ → List (Item S D P G C) → Type 0
+  IsRight key_of s view found led past = MatchOption found ((past ≡ []) × (led ≡ None)) (λ r. IsTracked past led × one.Keeps key_of (setup_of s view) r led past)
+
+  -- so does that of each view with a number of 64 bits
+  pub record AreKept (key_of : S → ℕ → P) (s : Common S) (m : BTreeMap ℕ (Round S D P G C)) (led : ℕ → Option ℕ) (past : ℕ → List (Item S D P G C)) : Type 0 where
+    pub at : (view : ℕ) → view < 2 ^ 64 → IsRight key_of s view (get nat_cmp m view) (led view) (past view)
+
+  -- the same, but one view has a round even where nothing is known of it
+  pub record AreOpen (key_of : S → ℕ → P) (s : Common S) (m : BTreeMap ℕ (Round S D P G C)) (led : ℕ → Option ℕ) (past : ℕ → List (Item S D P G C)) (view : ℕ) : Type 0 where
+    pub here : MatchOption (get nat_cmp m view) ⊥ (λ r. one.Keeps key_of (setup_of s view) r (led view) (past view))
+    pub others : (u : ℕ) → u < 2 ^ 64 → (view == u) ≡ false → IsRight key_of s u (get nat_cmp m u) (led u) (past u)
+
+  -- these are the rounds of the views below the floor, and no others
+  pub record AreBelow (key_of : S → ℕ → P) (s : Common S) (floor : ℕ) (m : BTreeMap ℕ (Round S D P G C)) (led : ℕ → Option ℕ) (past : ℕ → List (Item S D P G C)) : Type 0 where
+    pub below : (view : ℕ) → view < floor → IsRight key_of s view (get nat_cmp m view) (led view) (past view)
+    pub above : (view : ℕ) → floor ≤ view → get nat_cmp m view ≡ None
+
+  -- of an own notarize in a record, its view takes its proposal exactly where it holds none or the same
+  abbrev pub Takes : (ℕ → List (Item S D P G C)) → Artifact S D P G C → Bool → Type 0
+  Takes t (artifact.Notarize v) taken = IsTrue taken ↔ Agrees (held (offers (t v.proposal.round.view))) v.proposal
+  Takes t x taken = ⊤
+
+  -- what an artifact of the member's record leaves of each view: a vote, with its proposal where that is taken; a verdict; or that
+  -- a certificate was handed out
+  abbrev pub recalled : Bool → Artifact S D P G C → (ℕ → List (Item S D P G C)) → ℕ → List (Item S D P G C)
+  recalled taken (artifact.Notarize v) t =
+      put v.proposal.round.view past.voted_notarize (if taken then put v.proposal.round.view (past.offered (offer.recorded v.proposal)) t else t)
+  recalled taken (artifact.Notarization c) t = put c.proposal.round.view past.sent_notarization t
+  recalled taken (artifact.Certification round ok) t = put round.view (past.judged ok) t
+  recalled taken (artifact.Nullify v) t = put v.round.view past.voted_nullify t
+  recalled taken (artifact.Nullification c) t = put c.round.view past.sent_nullification t
+  recalled taken (artifact.Finalize v) t = put v.proposal.round.view past.voted_finalize t
+  recalled taken (artifact.Finalization c) t = put c.proposal.round.view past.sent_finalization t
+
+  -- what a notice tells of a view
+  abbrev pub told : Notice → Item S D P G C
+  told (notice.Latched now why) = past.latched now why
+  told notice.Unbound = past.unbound
+  told notice.BuildReleased = past.offered offer.released
+  told (notice.AncestryAsked missing) = past.asked missing
+  told (notice.CertifyAsked handle) = past.certifying handle
+
+  pub record IsKept (key_of : S → ℕ → P) (s : Common S) (r : Rounds S D P G C) (led : ℕ → Option ℕ) (past : ℕ → List (Item S D P G C)) : Type 0 where
+    pub scheme : r.scheme.value ≡ s.scheme
+    pub epoch : r.epoch ≡ s.epoch
+    pub rounds : AreKept key_of s r.by_view led past
+
+  pub record IsOpen (key_of : S → ℕ → P) (s : Common S) (r : Rounds S D P G C) (led : ℕ → Option ℕ) (past : ℕ → List (Item S D P G C)) (view : ℕ) : Type 0 where
+    pub scheme : r.scheme.value ≡ s.scheme
+    pub epoch : r.epoch ≡ s.epoch
+    pub rounds : AreOpen key_of s r.by_view led past view
+
+  -- what the rounds keep, closed for those who stand above
+  unfoldable pub Keep : (S → ℕ → P) → Common S → Rounds S D P G C → (ℕ → Option ℕ) → (ℕ → List (Item S D P G C)) → Type 0
+  Keep key_of s r led past = IsKept key_of s r led past
+
+  -- what holds of whatever leaders and pasts the rounds keep
+  abbrev pub AtEach : (S → ℕ → P) → Rounds S D P G C → (Common S → (ℕ → Option ℕ) → (ℕ → List (Item S D P G C)) → Type 0) → Type 0
+  AtEach key_of r Q = (s : Common S) (led : ℕ → Option ℕ) (past : ℕ → List (Item S D P G C)) → Keep key_of s r led past → Q s led past

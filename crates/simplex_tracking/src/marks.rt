@@ -1,0 +1,70 @@
+//! Marks on views.
+#![tactic(auto, unfolding(crate::specs::Marks::Shows))]
+
+ghost use Rattle.std.specs.Prelude.{◌≡◌, ◌↔◌, ◌==◌, ◌||◌, if◌then◌else◌, nat_lt, ℕ, Bool, false, IsTrue, OnOk};
+ghost use Rattle.simplex_tracking.specs.Marks.{Shows, IsMarkedWithin};
+
+use simplex_types::View;
+use std::alloc::{AllocError, Global};
+use std::collections::BTreeSet;
+use std::ops::Bound;
+
+/// The views that carry a mark.
+#[derive(Drop)]
+pub struct Marks {
+    views: BTreeSet<View>,
+}
+
+impl Marks {
+    /// No view is marked.
+    pub fn new(alloc: Global) -> Self
+        ensures { Shows result (λ view. false) }
+    {
+        Marks {
+            views: BTreeSet::new(alloc),
+        }
+    }
+
+    /// Whether the view is marked.
+    pub fn contains(&self, view: View) -> bool
+        ensures { (f : ℕ → Bool) → Shows self.now f → result ≡ f view }
+    {
+        self.views.contains(&view)
+    }
+
+    /// Marks the view.
+    pub fn mark(&mut self, view: View) -> Result<(), AllocError>
+        ensures { OnOk result ((f : ℕ → Bool) → Shows self.old f → Shows self.new (λ u. (view == u) || f u)) }
+    {
+        self.views.insert(view)?;
+        Ok(())
+    }
+
+    /// Whether one of the views from the first on and before the end is marked.
+    pub fn any_within(&self, first: View, end: View) -> bool
+        ensures { (f : ℕ → Bool) → Shows self.now f → IsTrue result ↔ IsMarkedWithin f first end }
+    {
+        let Some(last) = end.previous() else {
+            return false;
+        };
+        if last < first {
+            return false;
+        }
+        self.views
+            .range((Bound::Included(first), Bound::Included(last)))
+            .next()
+            .is_some()
+    }
+
+    /// Takes the marks off the views below the floor.
+    pub fn forget_below(&mut self, floor: View)
+        ensures { (f : ℕ → Bool) → Shows self.old f → Shows self.new (λ u. if nat_lt u floor then false else f u) }
+    {
+        while let Some(&first) = self.views.first() {
+            if floor <= first {
+                return;
+            }
+            self.views.remove(&first);
+        }
+    }
+}

@@ -1,0 +1,251 @@
+//! All views together: their rounds, and who leads them.
+#![tactic(auto, unfolding(crate::specs::Tracked::Holds))]
+
+ghost use Rattle.std.specs.Prelude.{◌≡◌, ◌≢◌, ◌↔◌, ◌⊎◌, ◌<◌, ◌≤◌, ◌+◌, ◌-◌, ◌^◌, ◌==◌, if◌then◌else◌, ℕ, false, true, List, [], ◌∷◌, Option, Some, None, is_none, IsSome, IsTrue, IfOk, OnOk, MatchOption, option_map};
+ghost use Rattle.std.specs.Option.{option_or};
+ghost use Rattle.simplex_round.specs.Held.{held, Agrees, Differs};
+ghost use Rattle.simplex_round.specs.Past.{entered, armed, notarized, nullified, finalized, notarization, nullification, finalization, offers, has_nullified};
+ghost use Rattle.simplex_round.specs.Round as one;
+ghost use Rattle.simplex_tracking.specs.Pasts.{put};
+ghost use Rattle.simplex_tracking.specs.Handing.{extend};
+ghost use Rattle.simplex_tracking.specs.Rounds.{AreBelow, IsTracked, setup_of};
+ghost use Rattle.simplex_tracking.specs.Tracked.{Frame, Tables, Holds, AtEach, Inherits, IsBegun, IsClosedAt, forgotten, inherits_by, is_spoken, proposed};
+
+use crate::marks::Marks;
+use crate::rounds::Rounds;
+use simplex_messages::{Finalization, Notarization, Nullification};
+use simplex_round::Round;
+use simplex_rules::Lookahead;
+use simplex_types::{Digest, Epoch, Participant, Proposal, Scheme, View, Viewable};
+use std::alloc::{AllocError, Global};
+use std::collections::BTreeMap;
+use std::rc::Rc;
+
+/// What is known of all views.
+#[derive(Drop)]
+pub struct Tracked<S: Scheme<D>, D: Digest> {
+    lookahead: Lookahead,
+    pub rounds: Rounds<S, D>,
+    /// The views that have a notarization or finalization.
+    direct: Marks,
+    /// The views whose leader's proposal was forwarded.
+    noted: Marks,
+}
+
+impl<S: Scheme<D> + Drop, D: Digest> Tracked<S, D> {
+    /// Nothing is known of any view.
+    pub fn new(alloc: Global, scheme: Rc<S>, epoch: Epoch, lookahead: Lookahead) -> Self
+        ensures { Holds S.Scheme (record { common = record { scheme = scheme.value; epoch = epoch }; length = lookahead.length; optimistic_views = lookahead.optimistic_views }) result (record { led = λ view. None; past = λ view. []; noted = λ view. false }) }
+    {
+        Tracked {
+            lookahead,
+            rounds: Rounds::new(alloc, scheme, epoch),
+            direct: Marks::new(alloc),
+            noted: Marks::new(alloc),
+        }
+    }
+
+    /// Whether the leader's proposal of the view was forwarded, or this member voted for it.
+    fn is_spoken(&self, view: View) -> bool
+        ensures { AtEach S.Scheme self.now (λ f t. IsTrue result ↔ (is_spoken t view ≡ true)) }
+    {
+        if self.noted.contains(view) {
+            return true;
+        }
+        match self.rounds.get(view) {
+            Some(round) => round.broadcast_notarize(),
+            None => false,
+        }
+    }
+
+    /// Whether the view has the leader of the view before.
+    fn inherits(&self, view: View) -> bool
+        ensures { AtEach S.Scheme self.now (λ f t. IsTrue result ↔ Inherits f t view) }
+    {
+        let Some(floor) = self.lookahead.issuance_floor(view) else {
+            return false;
+        };
+        let start = view.term_start(self.lookahead.length);
+        let low = later(floor, start);
+        if self.direct.any_within(low, view) {
+            return true;
+        }
+        let Some(before) = view.previous() else {
+            return false;
+        };
+        if !self.is_spoken(before) {
+            return false;
+        }
+        floor.is_zero() || self.direct.any_within(floor, view)
+    }
+
+    /// The leader of a view.
+    pub fn leader(&self, view: View) -> Option<Participant>
+        ensures { AtEach S.Scheme self.now (λ f t. result ≡ t.led view) }
+    {
+        match self.rounds.get(view) {
+            Some(round) => match round.leader() {
+                Some(leader) => Some(leader.idx),
+                None => None,
+            },
+            None => None,
+        }
+    }
+
+    /// Hands the leader of the view before on to a view, where it has the same: whether that became known.
+    fn inherit(&mut self, view: View) -> Result<bool, AllocError>
+        ensures keeps { OnOk result (AtEach S.Scheme self.old (λ f t. Holds S.Scheme f self.new (record t { led = λ u. if view == u then option_or (t.led view) (if inherits_by f t view then t.led (view - 1) else None) else t.led u }))) }
+        ensures answer { IfOk result (λ new. AtEach S.Scheme self.old (λ f t. new ≡ false → option_or (t.led view) (if inherits_by f t view then t.led (view - 1) else None) ≡ t.led view)) }
+    {
+        let Some(before) = view.previous() else {
+            return Ok(false);
+        };
+        // The proof takes from the number that it has 64 bits.
+        let _number = before.get();
+        let Some(leader) = self.leader(before) else {
+            return Ok(false);
+        };
+        if !self.inherits(view) {
+            return Ok(false);
+        }
+        let new = self.rounds.learn(view, leader)?;
+        Ok(new)
+    }
+
+    /// Hands leaders on from the first view, up to the last at least, and on while one becomes known.
+    fn hand_on(&mut self, first: View, last: View) -> Result<(), AllocError>
+        ensures { OnOk result (AtEach S.Scheme self.old (λ f t. (here known : ℕ → Option ℕ) → IsBegun f t here known first last → Holds S.Scheme f self.new (record t { led = extend here (inherits_by f t) known }))) }
+    {
+        let mut view = first;
+        'views: while view.get() < u64::MAX {
+            let learnt = self.inherit(view)?;
+            if !learnt && last <= view {
+                return Ok(());
+            }
+            view = view.next();
+        }
+        let _last = self.inherit(view)?;
+        Ok(())
+    }
+
+    /// Names the leader of a view, where it isn't known, and hands leaders on behind it.
+    pub fn lead(&mut self, first: View, leader: Participant, last: View) -> Result<(), AllocError>
+        requires { first + 1 < 2 ^ 64 }
+        ensures { OnOk result (AtEach S.Scheme self.old (λ f t. 0 < first → leader < S.size f.common.scheme → ((u : ℕ) → (u + 1 < first) ⊎ (last ≤ u) → u + 1 < 2 ^ 64 → IsClosedAt (inherits_by f t) t.led u) → Holds S.Scheme f self.new (record t { led = extend (λ u. if u == first then Some leader else None) (inherits_by f t) t.led }))) }
+    {
+        let _new = self.rounds.learn(first, leader)?;
+        self.hand_on(first.next(), last)?;
+        Ok(())
+    }
+
+    /// The view is entered, with these deadlines.
+    pub fn enter(
+        &mut self,
+        view: View,
+        now: u64,
+        leader: u64,
+        certification: u64,
+        stall: Option<u64>,
+    ) -> Result<(), AllocError>
+        ensures { OnOk result (AtEach S.Scheme self.old (λ f t. Holds S.Scheme f self.new (record t { past = put view (armed leader certification stall) (put view (entered now) t.past) }))) }
+    {
+        self.rounds.enter(view, now, leader, certification, stall)?;
+        Ok(())
+    }
+
+    /// Takes a nullification, the first of its view.
+    pub fn add_nullification(&mut self, certificate: Nullification<S, D>) -> Result<(), AllocError>
+        ensures { OnOk result (AtEach S.Scheme self.old (λ f t. nullification (t.past certificate.round.view) ≡ None → Holds S.Scheme f self.new (record t { past = put certificate.round.view (nullified certificate) t.past }))) }
+    {
+        self.rounds.add_nullification(certificate)?;
+        Ok(())
+    }
+
+    /// Takes a notarization, the first of its view: the known leader's key where it took the place of another proposal.
+    pub fn add_notarization(
+        &mut self,
+        certificate: Notarization<S, D>,
+    ) -> Result<Option<S::PublicKey>, AllocError>
+        ensures keeps { OnOk result (AtEach S.Scheme self.old (λ f t. notarization (t.past certificate.proposal.round.view) ≡ None → Holds S.Scheme f self.new (record t { past = put certificate.proposal.round.view (notarized certificate) t.past }))) }
+        ensures replaced { IfOk result (λ key. AtEach S.Scheme self.old (λ f t. notarization (t.past certificate.proposal.round.view) ≡ None → Differs (held (offers (t.past certificate.proposal.round.view))) certificate.proposal → key ≡ option_map (S.key_of f.common.scheme) (t.led certificate.proposal.round.view))) }
+        ensures same { IfOk result (λ key. AtEach S.Scheme self.old (λ f t. Agrees (held (offers (t.past certificate.proposal.round.view))) certificate.proposal → key ≡ None)) }
+    {
+        let view = certificate.view();
+        self.direct.mark(view)?;
+        let key = self.rounds.add_notarization(certificate)?;
+        Ok(key)
+    }
+
+    /// Takes a finalization, the first of its view: the known leader's key where it took the place of another proposal.
+    pub fn add_finalization(
+        &mut self,
+        certificate: Finalization<S, D>,
+    ) -> Result<Option<S::PublicKey>, AllocError>
+        ensures keeps { OnOk result (AtEach S.Scheme self.old (λ f t. finalization (t.past certificate.proposal.round.view) ≡ None → Holds S.Scheme f self.new (record t { past = put certificate.proposal.round.view (finalized certificate) t.past }))) }
+        ensures replaced { IfOk result (λ key. AtEach S.Scheme self.old (λ f t. finalization (t.past certificate.proposal.round.view) ≡ None → Differs (held (offers (t.past certificate.proposal.round.view))) certificate.proposal → key ≡ option_map (S.key_of f.common.scheme) (t.led certificate.proposal.round.view))) }
+        ensures same { IfOk result (λ key. AtEach S.Scheme self.old (λ f t. Agrees (held (offers (t.past certificate.proposal.round.view))) certificate.proposal → key ≡ None)) }
+    {
+        let view = certificate.view();
+        self.direct.mark(view)?;
+        let key = self.rounds.add_finalization(certificate)?;
+        Ok(key)
+    }
+
+    /// The last view whose window reaches back to this one, or the last view that there is.
+    pub fn last_reached(&self, view: View) -> View
+        ensures { AtEach S.Scheme self.now (λ f t. (u : ℕ) → result ≤ u → u + 1 < 2 ^ 64 → view + f.optimistic_views < u) }
+    {
+        let optimistic = self.lookahead.optimistic_views.get();
+        View::new(view.get().saturating_add(optimistic).saturating_add(1))
+    }
+
+    /// Hands leaders on from this view, where more is known of it now.
+    pub fn follow(&mut self, view: View) -> Result<(), AllocError>
+        ensures { OnOk result (AtEach S.Scheme self.old (λ f t. ((u : ℕ) → (view == u) ≡ false → IsClosedAt (inherits_by f t) t.led u) → Holds S.Scheme f self.new (record t { led = extend (λ u. None) (inherits_by f t) t.led }))) }
+    {
+        if view.get() == u64::MAX {
+            return Ok(());
+        }
+        let next = view.next();
+        self.hand_on(next, next)?;
+        Ok(())
+    }
+
+    /// Offers the leader's proposal of a view: whether it is the first there. Behind an own nullify it is not taken.
+    pub fn forward(&mut self, view: View, proposal: &Proposal<D>) -> Result<bool, AllocError>
+        ensures keeps { OnOk result (AtEach S.Scheme self.old (λ f t. ((u : ℕ) → IsClosedAt (inherits_by f t) t.led u) → Holds S.Scheme f self.new (proposed f t view proposal.now))) }
+        ensures answer { IfOk result (λ first. AtEach S.Scheme self.old (λ f t. IsTrue first ↔ ((has_nullified (t.past view) ≡ false) × (held (offers (t.past view)) ≡ None)))) }
+    {
+        let first = self.rounds.forward(view, proposal)?;
+        self.noted.mark(view)?;
+        self.follow(view)?;
+        Ok(first)
+    }
+
+    /// Drops what is known of the views below the floor, and answers their rounds.
+    pub fn drop_below(&mut self, floor: View) -> Result<BTreeMap<View, Round<S, D>>, AllocError>
+        ensures keeps { OnOk result (AtEach S.Scheme self.old (λ f t. Holds S.Scheme f self.new (forgotten floor t))) }
+        ensures dropped { IfOk result (λ rounds. AtEach S.Scheme self.old (λ f t. AreBelow S.key_of f.common floor rounds t.led t.past)) }
+    {
+        let dropped = self.rounds.drop_below(floor)?;
+        self.direct.forget_below(floor);
+        self.noted.forget_below(floor);
+        Ok(dropped)
+    }
+
+    /// What is known of a view, where something is.
+    pub fn round(&self, view: View) -> Option<&Round<S, D>>
+        ensures { AtEach S.Scheme self.now (λ f t. MatchOption result ((t.past view ≡ []) × (t.led view ≡ None)) (λ r. IsTracked (t.past view) (t.led view) × one.Keeps S.key_of (setup_of f.common view) r.now (t.led view) (t.past view))) }
+    {
+        self.rounds.get(view)
+    }
+}
+
+/// The later one of two views.
+pub fn later(one: View, other: View) -> View
+    ensures one { one ≤ result }
+    ensures other { other ≤ result }
+    ensures least { (view : ℕ) → one ≤ view → other ≤ view → result ≤ view }
+{
+    if one < other { other } else { one }
+}

@@ -1,7 +1,0 @@
-use Rattle.std.proofs.Common.{arith}
-use Rattle.simplex_views.specs.Tracked.{Holds}
-use Rattle.simplex_views.proofs.tracked.Tracked.last_reached.Goals as goal
-
-pub returns : goal.returns
-unfolding Holds
-returns g c = λ f t k u le fits. let views = k.optimistic_views in omega (arith, views)
