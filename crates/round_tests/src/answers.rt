@@ -98,6 +98,7 @@ fn a_verdict_that_is_given_up_or_came_is_not_asked_for(rt: HostRuntime) -> Resul
     holds(&rt, given_up.pending_certification().is_none());
     let mut judged = Known::new(alloc, 1, 0)?;
     judged.certified(false);
+    holds(&rt, judged.has_failed());
     let added = judged.add_notarization(alloc, A, [0, 2, 3]);
     holds(&rt, added == Added::First);
     holds(&rt, judged.pending_certification().is_none());

@@ -288,6 +288,10 @@ impl Known {
         self.round.is_certified()
     }
 
+    pub fn has_failed(&self) -> bool {
+        self.round.has_failed()
+    }
+
     pub fn is_directly_notarized(&self) -> bool {
         self.round.is_directly_notarized()
     }
@@ -315,8 +319,16 @@ impl Known {
         self.round.broadcast_notarize()
     }
 
+    pub fn broadcast_nullify(&self) -> bool {
+        self.round.broadcast_nullify()
+    }
+
     pub fn can_construct_notarize(&self) -> bool {
         self.round.can_construct_notarize()
+    }
+
+    pub fn can_construct_finalize(&self) -> bool {
+        self.round.can_construct_finalize()
     }
 
     pub fn construct_notarize(&mut self) -> Option<u8> {
@@ -344,6 +356,10 @@ impl Known {
 
     pub fn mark_entered(&mut self, now: u64) {
         self.round.mark_entered(now);
+    }
+
+    pub fn is_entered(&self) -> bool {
+        self.round.is_entered()
     }
 
     pub fn elapsed_since_start(&self, now: u64) -> Option<u64> {

@@ -12,6 +12,7 @@ fn the_first_entry_counts(rt: HostRuntime) -> Result<(), Fail> {
     view.mark_entered(1000);
     view.mark_entered(3000);
     holds(&rt, view.elapsed_since_start(5000) == Some(4000));
+    holds(&rt, view.is_entered());
     holds(&rt, view.elapsed_since_entry(5000) == Some(4000));
     holds(&rt, view.elapsed_since_entry(500) == Some(0));
     Ok(())

@@ -44,6 +44,7 @@ fn a_finalize_needs_a_verdict_and_no_verification_here(rt: HostRuntime) -> Resul
     holds(&rt, view.construct_finalize().is_none());
     view.certified(true);
     holds(&rt, !view.is_verified());
+    holds(&rt, view.can_construct_finalize());
     holds(&rt, view.construct_finalize() == Some(A));
     holds(&rt, view.construct_finalize().is_none());
     holds(&rt, view.construct_nullify().is_none());
@@ -81,6 +82,7 @@ fn a_recorded_nullify_binds(rt: HostRuntime) -> Result<(), Fail> {
     let alloc = rt.alloc();
     let mut view = Known::new(alloc, 1, 0)?;
     holds(&rt, view.replay(own_nullify(alloc)));
+    holds(&rt, view.broadcast_nullify());
     holds(&rt, view.construct_nullify() == Some(true));
     Ok(())
 }

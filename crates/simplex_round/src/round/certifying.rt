@@ -1,7 +1,7 @@
 //! Verdicts, and what the certificates support.
 
 ghost use Rattle.std.specs.Prelude.{◌≡◌, ◌||◌, ◌∷◌, is_some, option_map};
-ghost use Rattle.simplex_round.specs.Past.{certifying, aborted, judged, notarization, finalization, verdict, certify_handle, uncertified_proposal, certified_proposal, forwardable_proposal, certificate_payload, verdict_is_true};
+ghost use Rattle.simplex_round.specs.Past.{certifying, aborted, judged, notarization, finalization, verdict, certify_handle, uncertified_proposal, certified_proposal, forwardable_proposal, certificate_payload, verdict_is_true, verdict_is_false};
 ghost use Rattle.simplex_types.specs.declared.proposal.Proposal.{Proposal};
 ghost use Rattle.simplex_round.specs.Round.{AtEach, Becomes};
 
@@ -58,6 +58,16 @@ impl<S: Scheme<D>, D: Digest> Round<S, D> {
     {
         match self.verdict {
             Some(ok) => ok,
+            None => false,
+        }
+    }
+
+    /// Whether the verdict is false.
+    pub fn has_failed(&self) -> bool
+        ensures { AtEach S.key_of self.now (λ s l h. result ≡ verdict_is_false (verdict h)) }
+    {
+        match self.verdict {
+            Some(ok) => !ok,
             None => false,
         }
     }

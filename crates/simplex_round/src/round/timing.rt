@@ -1,6 +1,6 @@
 //! Moments, deadlines, and when the view is given up.
 
-ghost use Rattle.std.specs.Prelude.{◌≡◌, ◌+◌, ◌^◌, ◌<◌, ◌∷◌};
+ghost use Rattle.std.specs.Prelude.{◌≡◌, ◌+◌, ◌^◌, ◌<◌, ◌∷◌, is_some};
 ghost use Rattle.std.specs.Option.{option_or};
 ghost use Rattle.simplex_round.specs.Past.{entered, armed, latched, polled, entered_at, proposed_at, elapsed, stall_deadline, first_timeout, next_timeout};
 ghost use Rattle.simplex_round.specs.Round.{AtEach, Becomes};
@@ -17,6 +17,13 @@ impl<S: Scheme<D>, D: Digest> Round<S, D> {
         if self.entered_at.is_none() {
             self.entered_at = Some(now);
         }
+    }
+
+    /// Whether the view was entered.
+    pub fn is_entered(&self) -> bool
+        ensures { AtEach S.key_of self.now (λ s l h. result ≡ is_some (entered_at h)) }
+    {
+        self.entered_at.is_some()
     }
 
     /// How long ago this member recorded its own proposal, or else entered the view.

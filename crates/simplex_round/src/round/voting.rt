@@ -17,6 +17,13 @@ impl<S: Scheme<D>, D: Digest> Round<S, D> {
         self.votes.notarize
     }
 
+    /// Whether a nullify was voted.
+    pub fn broadcast_nullify(&self) -> bool
+        ensures { AtEach S.key_of self.now (λ s l h. result ≡ has_nullified h) }
+    {
+        self.votes.nullify
+    }
+
     /// Whether a notarize may be voted: none was, no nullify was, and the held proposal is verified.
     pub fn can_construct_notarize(&self) -> bool
         ensures { AtEach S.key_of self.now (λ s l h. IsTrue result ↔ MayNotarize h) }
@@ -56,7 +63,7 @@ impl<S: Scheme<D>, D: Digest> Round<S, D> {
 
     /// Whether a finalize may be voted: neither it nor a nullify was, and the held proposal, the only one that
     /// was seen, is notarized and judged good.
-    fn can_construct_finalize(&self) -> bool
+    pub fn can_construct_finalize(&self) -> bool
         ensures { AtEach S.key_of self.now (λ s l h. IsTrue result ↔ MayFinalize h) }
     {
         if self.votes.nullify || self.votes.finalize {

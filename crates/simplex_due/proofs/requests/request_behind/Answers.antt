@@ -1,0 +1,10 @@
+use Rattle.std.proofs.Common.{subst}
+use Rattle.simplex_due.specs.Knowing.{Explains}
+use Rattle.simplex_due.specs.declared.ancestry.ParentFault.{ParentFault}
+use Rattle.simplex_due.proofs.requests.request_behind.Goals as goal
+
+pub returns-in-Invalid : goal.returns-in-Invalid
+returns-in-Invalid g c = λ m k shown waits explains. (
+  c.args.proposal,
+  record { waits = waits; invalid = subst (λ (why : ParentFault). Explains m k c.args.view c.args.proposal.parent why) c.in-Invalid.is explains },
+)

@@ -1,0 +1,33 @@
+-- What is answered to whoever asks which requests are due.
+use Rattle.std.specs.Prelude.{◌≡◌, ℕ}
+use Rattle.simplex_types.specs.declared.proposal.Proposal.{Proposal}
+use Rattle.simplex_views.specs.Known.{Known}
+use Rattle.simplex_due.specs.Ancestry.{Member}
+use Rattle.simplex_due.specs.Requests.{VerifyIsDue, IsInvalid, NullificationIsWanted, NotarizationIsWanted, IsPassed, CertifyIsDue, CertificateIsWanted}
+use Rattle.simplex_due.specs.declared.requests.VerifyRequest.{VerifyRequest}
+use Rattle.simplex_due.specs.declared.requests.VerifyRequest.TheVariants as verify
+use Rattle.simplex_due.specs.declared.requests.CertifyRequest.{CertifyRequest}
+use Rattle.simplex_due.specs.declared.requests.CertifyRequest.TheVariants as certify
+
+module _ {D : Type 0} (m : Member) (k : Known D) (view : ℕ) where
+  -- this is to be done for the proposal that the view holds: its verification, or the certificate that it waits for, is to be asked
+  -- for; the view is to be given up; or nothing of that
+  abbrev pub Finds : VerifyRequest D → Type 0
+  Finds (verify.Ready p payload) = VerifyIsDue m k view p payload
+  Finds verify.Invalid = (p : Proposal D) × IsInvalid m k view p
+  Finds (verify.Nullification u) = (p : Proposal D) × NullificationIsWanted m k view p u
+  Finds (verify.Notarization u) = (p : Proposal D) × NotarizationIsWanted m k view p × (p.parent ≡ u)
+  Finds verify.Wait = IsPassed m k view
+
+  -- this is to be asked for the view's verdict: itself, or the certificate that it waits for, or nothing
+  abbrev pub Decides : CertifyRequest D → Type 0
+  Decides (certify.Ready p) = CertifyIsDue m k view p
+  Decides (certify.Fetch u) = CertificateIsWanted m k view u
+  Decides certify.Wait = ((p : Proposal D) → ¬ CertifyIsDue m k view p) × ((u : ℕ) → ¬ CertificateIsWanted m k view u)
+
+-- of these answers one alone is right: the one that is given
+abbrev pub OneIsFound : Type 0 → Type 0
+OneIsFound D = (m : Member) (k : Known D) (view : ℕ) (a b : VerifyRequest D) → Finds m k view a → Finds m k view b → a ≡ b
+
+abbrev pub OneIsDecided : Type 0 → Type 0
+OneIsDecided D = (m : Member) (k : Known D) (view : ℕ) (a b : CertifyRequest D) → Decides m k view a → Decides m k view b → a ≡ b
