@@ -1,5 +1,7 @@
 //! Member 1 of four, who leads in turn, and what its views answer, by numbers.
 
+ghost use Rattle.std.specs.Prelude.{◌<◌};
+
 use crate::samples::{START, finalization, notarization, nullification, payload};
 use simplex_rules::elector::{Config, RoundRobin, RoundRobinElector};
 use simplex_types::{
