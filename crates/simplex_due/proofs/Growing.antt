@@ -3,6 +3,7 @@ use Rattle.std.proofs.Common.{◌≡◌, ◌⊎◌, inl, inr, true, false, ℕ, 
 use mathlib.Core.Bool.{true≢false}
 use Rattle.std.proofs.lemmas.Bool.Decides.{nat_tests, Decides-eqb}
 use Rattle.std.specs.Prelude.{◌==◌, nat_lt, nat_le, Bool, Option, Some, None, IsTrue, Contains, ⊤}
+use Rattle.simplex_types.specs.Counting.{Contains-head, Contains-rest}
 use Rattle.simplex_types.specs.declared.proposal.Proposal.{Proposal}
 use Rattle.simplex_types.specs.Positions.{next_term_start}
 use Rattle.simplex_types.specs.Subject.{notarize, nullify, finalize}
@@ -17,18 +18,6 @@ use Rattle.simplex_tracking.specs.Pasts.{put, bind}
 use Rattle.simplex_views.specs.History.{Setup, Point, started, notarized, nullified, finalized, judged, forwarded, built, confirmed, unbound, latched, build_asked, build_released, verify_asked, ancestry_asked, certify_asked, certify_waited, voted_notarize, voted_nullify, voted_finalize, recalled_notarize, recalled_nullify, recalled_finalize, recalled_verdict, sent, polled, pruned, enter, undecided_payload, current, last_finalized, min_active, seen}
 use Rattle.simplex_due.specs.Matching.{round_of, told, OwnWereTaken}
 
-module _ {X : Type 0} where
-  -- an element is the first, or in the rest
-  pub first_or_rest : (x : X) (xs : List X) (y : X) → Contains (x ∷ xs) y → (x ≡ y) ⊎ Contains xs y
-  first_or_rest x xs y (zero, low, is) = inl is
-  first_or_rest x xs y (suc k, low, is) = inr (k, omega (arith, low), is)
-
-  pub is_first : (x : X) (xs : List X) → Contains (x ∷ xs) x
-  is_first x xs = (0, omega arith, refl)
-
-  pub is_later : (x : X) (xs : List X) (y : X) → Contains xs y → Contains (x ∷ xs) y
-  is_later x xs y (k, low, is) = (suc k, omega (arith, low), is)
-
 -- a recorded proposal was offered where nothing or the same was held
 abbrev pub IsRecordedWell : {D : Type 0} → Offer D → List (Offer D) → Type 0
 IsRecordedWell (offer.recorded p) l = Agrees (held l) p
@@ -37,11 +26,11 @@ IsRecordedWell o l = ⊤
 module _ {S D P G C : Type 0} where
   -- what a record says isn't lost by a further point
   pub told_still : (s : Setup S C) (x : Point S D P G C) (h : List (Point S D P G C)) (e : Entry D) → Contains (told s h) e → Contains (told s (x ∷ h)) e
-  told_still s (notarized c) h e here = is_later _ (told s h) e here
-  told_still s (nullified now c) h e here = is_later _ (told s h) e here
-  told_still s (finalized now c) h e here = is_later _ (told s h) e here
-  told_still s (judged now view ok) h e here = is_later _ (told s h) e here
-  told_still s (voted_notarize view p) h e here = is_later _ (told s h) e here
+  told_still s (notarized c) h e here = Contains-rest _ (told s h) e here
+  told_still s (nullified now c) h e here = Contains-rest _ (told s h) e here
+  told_still s (finalized now c) h e here = Contains-rest _ (told s h) e here
+  told_still s (judged now view ok) h e here = Contains-rest _ (told s h) e here
+  told_still s (voted_notarize view p) h e here = Contains-rest _ (told s h) e here
   told_still s (voted_nullify view) h e here = one (past.has_nullified (seen s h view)) (recalled_by view)
     where
       recalled_by : ℕ → Entry D
@@ -49,11 +38,11 @@ module _ {S D P G C : Type 0} where
 
       one : (b : Bool) (y : Entry D) → Contains (if b then told s h else y ∷ told s h) e
       one true y = here
-      one false y = is_later y (told s h) e here
-  told_still s (voted_finalize view p) h e here = is_later _ (told s h) e here
-  told_still s (recalled_notarize p taken) h e here = is_later _ (told s h) e here
-  told_still s (recalled_nullify view) h e here = is_later _ (told s h) e here
-  told_still s (recalled_finalize p) h e here = is_later _ (told s h) e here
+      one false y = Contains-rest y (told s h) e here
+  told_still s (voted_finalize view p) h e here = Contains-rest _ (told s h) e here
+  told_still s (recalled_notarize p taken) h e here = Contains-rest _ (told s h) e here
+  told_still s (recalled_nullify view) h e here = Contains-rest _ (told s h) e here
+  told_still s (recalled_finalize p) h e here = Contains-rest _ (told s h) e here
   told_still s x h e here = here
 
   pub own_before : (s : Setup S C) (x : Point S D P G C) (h : List (Point S D P G C)) → OwnWereTaken s (x ∷ h) → OwnWereTaken s h
@@ -75,7 +64,7 @@ module _ {S D P G C : Type 0} where
   founded_still s x h view (past.notarized c) l f = (f.0, told_still s x h (recorded.taken (notarize c.proposal)) f.1)
   founded_still s x h view (past.finalized c) l f = (f.0, told_still s x h (recorded.taken (finalize c.proposal)) f.1)
   founded_still s x h view (past.judged ok) l (inl here) = inl (told_still s x h (recorded.judged (round_of s view) ok) here)
-  founded_still s x h view (past.judged ok) l (inr here) = inr (is_later x h (recalled_verdict view ok) here)
+  founded_still s x h view (past.judged ok) l (inr here) = inr (Contains-rest x h (recalled_verdict view ok) here)
   founded_still s x h view (past.built moment p) l f = λ own. f (own_before s x h own)
   founded_still s x h view (past.offered o) l f = λ own. f (own_before s x h own)
   founded_still s x h view y l f = tt
@@ -119,23 +108,23 @@ module _ {S D P G C : Type 0} where
   -- each point adds to what happened to a view
   pub grows : (s : Setup S C) (h : List (Point S D P G C)) (view : ℕ) (x : Point S D P G C) → StaysKept s h view x → Grows s (x ∷ h) view (seen s h view) (seen s (x ∷ h) view)
   grows s h view (started now payload) kept = enter_grows s _ view _ (current s h) now 1 (seen s h) still
-  grows s h view (notarized c) kept = put_grows s _ view _ c.proposal.round.view (past.notarized c) (seen s h) (λ here. (here, is_first _ (told s h))) still
+  grows s h view (notarized c) kept = put_grows s _ view _ c.proposal.round.view (past.notarized c) (seen s h) (λ here. (here, Contains-head _ (told s h))) still
   grows s h view (nullified now c) kept =
       let entered : ℕ → List (Item S D P G C) = enter s (current s h) now (next_term_start s.length c.round.view) (seen s h) in
       put_grows s _ view _ c.round.view (past.nullified c) entered (λ here. tt) (enter_grows s _ view _ (current s h) now (next_term_start s.length c.round.view) (seen s h) still)
   grows s h view (finalized now c) kept =
       let entered : ℕ → List (Item S D P G C) = enter s (current s h) now (c.proposal.round.view + 1) (seen s h) in
-      put_grows s _ view _ c.proposal.round.view (past.finalized c) entered (λ here. (here, is_first _ (told s h)))
+      put_grows s _ view _ c.proposal.round.view (past.finalized c) entered (λ here. (here, Contains-head _ (told s h)))
       (enter_grows s _ view _ (current s h) now (c.proposal.round.view + 1) (seen s h) still)
   grows s h view (judged now at true) kept =
       enter_grows s _ view _ (current s h) now (at + 1) (put at (past.judged true) (seen s h))
-      (put_grows s _ view _ at (past.judged true) (seen s h) (λ here. inl (subst (λ (v : ℕ). Contains (told s (judged now at true ∷ h)) (recorded.judged (round_of s v) true)) here (is_first _ (told s h)))) still)
+      (put_grows s _ view _ at (past.judged true) (seen s h) (λ here. inl (subst (λ (v : ℕ). Contains (told s (judged now at true ∷ h)) (recorded.judged (round_of s v) true)) here (Contains-head _ (told s h)))) still)
   grows s h view (judged now at false) kept =
       choose_grows s _ view _ (nat_le (current s h) at) (put at (past.latched now _) (put at (past.judged false) (seen s h))) (put at (past.judged false) (seen s h))
       (put_grows s _ view _ at (past.latched now _) (put at (past.judged false) (seen s h)) (λ here. tt) once) once
     where
       once : Grows s (judged now at false ∷ h) view (seen s h view) (put at (past.judged false) (seen s h) view)
-      once = put_grows s _ view _ at (past.judged false) (seen s h) (λ here. inl (subst (λ (v : ℕ). Contains (told s (judged now at false ∷ h)) (recorded.judged (round_of s v) false)) here (is_first _ (told s h)))) still
+      once = put_grows s _ view _ at (past.judged false) (seen s h) (λ here. inl (subst (λ (v : ℕ). Contains (told s (judged now at false ∷ h)) (recorded.judged (round_of s v) false)) here (Contains-head _ (told s h)))) still
   grows s h view (forwarded at p) kept =
       choose_grows s _ view _ (past.has_nullified (seen s h at)) (seen s h) (put at (past.offered (offer.forwarded p)) (seen s h)) still
       (put_grows s _ view _ at (past.offered (offer.forwarded p)) (seen s h) (λ here own. tt) still)
@@ -174,7 +163,7 @@ module _ {S D P G C : Type 0} where
   grows s h view (recalled_nullify at) kept = put_grows s _ view _ at past.voted_nullify (seen s h) (λ here. tt) still
   grows s h view (recalled_finalize p) kept = put_grows s _ view _ p.round.view past.voted_finalize (seen s h) (λ here. tt) still
   grows s h view (recalled_verdict at ok) kept =
-      put_grows s _ view _ at (past.judged ok) (seen s h) (λ here. inr (subst (λ (v : ℕ). Contains (recalled_verdict at ok ∷ h) (recalled_verdict v ok)) here (is_first _ h))) still
+      put_grows s _ view _ at (past.judged ok) (seen s h) (λ here. inr (subst (λ (v : ℕ). Contains (recalled_verdict at ok ∷ h) (recalled_verdict v ok)) here (Contains-head _ h))) still
   grows s h view (sent kind.Notarization at) kept = put_grows s _ view _ at past.sent_notarization (seen s h) (λ here. tt) still
   grows s h view (sent kind.Nullification at) kept = put_grows s _ view _ at past.sent_nullification (seen s h) (λ here. tt) still
   grows s h view (sent kind.Finalization at) kept = put_grows s _ view _ at past.sent_finalization (seen s h) (λ here. tt) still

@@ -9,6 +9,7 @@ use Rattle.std.proofs.lemmas.Option.{none-some, same_Some}
 use Rattle.std.specs.Prelude.{◌==◌, nat_lt, Bool, Option, Some, None, ◌||◌, Contains, option_map, ⊤}
 use Rattle.std.specs.List.{cons_option}
 use Rattle.std.specs.Option.{option_or}
+use Rattle.simplex_types.specs.Counting.{Contains-cases, Contains-head, Contains-rest}
 use Rattle.simplex_types.specs.declared.position.Round.{Round}
 use Rattle.simplex_types.specs.declared.proposal.Proposal.{Proposal}
 use Rattle.simplex_types.specs.Positions.{InCoveringRange}
@@ -23,7 +24,7 @@ use Rattle.simplex_round.specs.Past.{Item, offers}
 use Rattle.simplex_tracking.specs.Pasts.{put, bind}
 use Rattle.simplex_views.specs.History.{Setup, Point, started, notarized, nullified, finalized, judged, voted_notarize, voted_nullify, voted_finalize, recalled_notarize, recalled_nullify, recalled_finalize, recalled_verdict, pruned, enter, undecided_payload, was_nullified, current, last_finalized, min_active, seen}
 use Rattle.simplex_due.specs.Matching.{round_of, told, record_of, OwnWereTaken, EachHistoryMatches}
-use Rattle.simplex_due.proofs.Growing.{first_or_rest, is_first, is_later, told_still, IsRecordedWell, IsFounded, founded_still, Grows, still, more, stays_kept, grows, finalized_rises, grown}
+use Rattle.simplex_due.proofs.Growing.{told_still, IsRecordedWell, IsFounded, founded_still, Grows, still, more, stays_kept, grows, finalized_rises, grown}
 
 -- the greatest number that a list gives is that of the list turned round
 greatest_push : {X : Type 0} (least : ℕ) (f : X → ℕ) (xs : List X) (x : X) → greatest least f (xs ++ x ∷ []) ≡ max (f x) (greatest least f xs)
@@ -109,8 +110,8 @@ module _ {S D P G C : Type 0} where
   -- a verdict that was given is told
   judged_told : (s : Setup S C) (h : List (Point S D P G C)) (now view : ℕ) (ok : Bool) → Contains h (judged now view ok) → Contains (told s h) (recorded.judged (round_of s view) ok)
   judged_told s [] now view ok here = absurd (omega (arith, here.1))
-  judged_told s (x ∷ h) now view ok here = elim (first_or_rest x h (judged now view ok) here) [
-    | inl is ↦ subst (λ (y : Point S D P G C). Contains (told s (y ∷ h)) (recorded.judged (round_of s view) ok)) (sym is) (is_first _ (told s h))
+  judged_told s (x ∷ h) now view ok here = elim (Contains-cases x h (judged now view ok) here) [
+    | inl is ↦ subst (λ (y : Point S D P G C). Contains (told s (y ∷ h)) (recorded.judged (round_of s view) ok)) (sym is) (Contains-head _ (told s h))
     | inr there ↦ told_still s x h (recorded.judged (round_of s view) ok) (judged_told s h now view ok there)
   ]
 
@@ -121,8 +122,8 @@ module _ {S D P G C : Type 0} where
     where
       this_or_before : (b before : Bool) → (b ≡ true → c.round.view ≡ view) → (before ≡ true → (r : Round) × (r.view ≡ view) × Contains (told s h) (recorded.taken (nullify r)))
           → (b || before) ≡ true → (r : Round) × (r.view ≡ view) × Contains (told s (nullified now c ∷ h)) (recorded.taken (nullify r))
-      this_or_before true before here earlier passes = (c.round, here refl, is_first _ (told s h))
-      this_or_before false before here earlier passes = let e = earlier passes in (e.0, e.1, is_later _ (told s h) (recorded.taken (nullify e.0)) e.2)
+      this_or_before true before here earlier passes = (c.round, here refl, Contains-head _ (told s h))
+      this_or_before false before here earlier passes = let e = earlier passes in (e.0, e.1, Contains-rest _ (told s h) (recorded.taken (nullify e.0)) e.2)
   nullified_told s (x ∷ h) view is = let e = nullified_told s h view is in (e.0, e.1, told_still s x h (recorded.taken (nullify e.0)) e.2)
 
   -- what is seen of an entry in its view
@@ -152,7 +153,7 @@ module _ {S D P G C : Type 0} where
     where
       by : (y : Option (Offer D)) → Contains (cons_option y (offers l)) o
       by None = here
-      by (Some y) = is_later y (offers l) o here
+      by (Some y) = Contains-rest y (offers l) o here
 
   shows_more : (e : Entry D) (x : Item S D P G C) (l : List (Item S D P G C)) → Shows e l → Shows e (x ∷ l)
   shows_more (recorded.voted (notarize p)) x l shows = notarized_more x l shows
@@ -177,7 +178,7 @@ module _ {S D P G C : Type 0} where
 
   certified_here : (at : ℕ) (x : Item S D P G C) (p : Proposal D) (t : ℕ → List (Item S D P G C)) → past.offer_in x ≡ Some (offer.certified p) → Contains (offers (put at x t at)) (offer.certified p)
   certified_here at x p t is = subst (λ (l : List (Item S D P G C)). Contains (offers l) (offer.certified p)) (sym (put_at at x t))
-      (subst (λ (o : Option (Offer D)). Contains (cons_option o (offers (t at))) (offer.certified p)) (sym is) (is_first (offer.certified p) (offers (t at))))
+      (subst (λ (o : Option (Offer D)). Contains (cons_option o (offers (t at))) (offer.certified p)) (sym is) (Contains-head (offer.certified p) (offers (t at))))
 
   -- votes stand on proposals of their views
   pub record AreOfTheirViews (h : List (Point S D P G C)) : Type 0 where
@@ -186,34 +187,34 @@ module _ {S D P G C : Type 0} where
 
   views_before : (x : Point S D P G C) (h : List (Point S D P G C)) → AreOfTheirViews (x ∷ h) → AreOfTheirViews h
   views_before x h views = record {
-    notarizes = λ view p here. views.notarizes view p (is_later x h (voted_notarize view p) here);
-    finalizes = λ view p here. views.finalizes view p (is_later x h (voted_finalize view p) here);
+    notarizes = λ view p here. views.notarizes view p (Contains-rest x h (voted_notarize view p) here);
+    finalizes = λ view p here. views.finalizes view p (Contains-rest x h (voted_finalize view p) here);
   }
 
   -- what a point says was said before, or is seen now
   said : (s : Setup S C) (x : Point S D P G C) (h : List (Point S D P G C)) (e : Entry D) → AreOfTheirViews (x ∷ h) → Contains (told s (x ∷ h)) e
       → Contains (told s h) e ⊎ Shows e (seen s (x ∷ h) (entry_view e))
-  said s (notarized c) h e views here = elim (first_or_rest (recorded.taken (notarize c.proposal)) (told s h) e here) [
+  said s (notarized c) h e views here = elim (Contains-cases (recorded.taken (notarize c.proposal)) (told s h) e here) [
     | inl is ↦ inr (subst (λ (y : Entry D). Shows y (seen s (notarized c ∷ h) (entry_view y))) is
         (certified_here c.proposal.round.view (past.notarized c) c.proposal (seen s h) refl))
     | inr there ↦ inl there
   ]
-  said s (nullified now c) h e views here = elim (first_or_rest (recorded.taken (nullify c.round)) (told s h) e here) [
+  said s (nullified now c) h e views here = elim (Contains-cases (recorded.taken (nullify c.round)) (told s h) e here) [
     | inl is ↦ inr (subst (λ (y : Entry D). Shows y (seen s (nullified now c ∷ h) (entry_view y))) is tt)
     | inr there ↦ inl there
   ]
-  said s (finalized now c) h e views here = elim (first_or_rest (recorded.taken (finalize c.proposal)) (told s h) e here) [
+  said s (finalized now c) h e views here = elim (Contains-cases (recorded.taken (finalize c.proposal)) (told s h) e here) [
     | inl is ↦ inr (subst (λ (y : Entry D). Shows y (seen s (finalized now c ∷ h) (entry_view y))) is
         (certified_here c.proposal.round.view (past.finalized c) c.proposal (enter s (current s h) now (c.proposal.round.view + 1) (seen s h)) refl))
     | inr there ↦ inl there
   ]
-  said s (judged now view ok) h e views here = elim (first_or_rest (recorded.judged (round_of s view) ok) (told s h) e here) [
+  said s (judged now view ok) h e views here = elim (Contains-cases (recorded.judged (round_of s view) ok) (told s h) e here) [
     | inl is ↦ inr (subst (λ (y : Entry D). Shows y (seen s (judged now view ok ∷ h) (entry_view y))) is tt)
     | inr there ↦ inl there
   ]
-  said s (voted_notarize view p) h e views here = elim (first_or_rest (recorded.voted (notarize p)) (told s h) e here) [
+  said s (voted_notarize view p) h e views here = elim (Contains-cases (recorded.voted (notarize p)) (told s h) e here) [
     | inl is ↦
-        let at : p.round.view ≡ view = views.notarizes view p (is_first (voted_notarize view p) h) in
+        let at : p.round.view ≡ view = views.notarizes view p (Contains-head (voted_notarize view p) h) in
         inr (subst (λ (y : Entry D). Shows y (seen s (voted_notarize view p ∷ h) (entry_view y))) is
         (subst (λ (v : ℕ). past.has_notarized (put view past.voted_notarize (seen s h) v) ≡ true) (sym at) (ap (λ (l : List (Item S D P G C)). past.has_notarized l) (put_at view past.voted_notarize (seen s h)))))
     | inr there ↦ inl there
@@ -223,19 +224,19 @@ module _ {S D P G C : Type 0} where
       repeated : (b : Bool) → Contains (if b then told s h else recorded.voted (nullify (round_of s view)) ∷ told s h) e
           → Contains (told s h) e ⊎ Shows e (seen s (voted_nullify view ∷ h) (entry_view e))
       repeated true there = inl there
-      repeated false there = elim (first_or_rest (recorded.voted (nullify (round_of s view))) (told s h) e there) [
+      repeated false there = elim (Contains-cases (recorded.voted (nullify (round_of s view))) (told s h) e there) [
         | inl is ↦ inr (subst (λ (y : Entry D). Shows y (seen s (voted_nullify view ∷ h) (entry_view y))) is
             (ap (λ (l : List (Item S D P G C)). past.has_nullified l) (put_at view past.voted_nullify (seen s h))))
         | inr before ↦ inl before
       ]
-  said s (voted_finalize view p) h e views here = elim (first_or_rest (recorded.voted (finalize p)) (told s h) e here) [
+  said s (voted_finalize view p) h e views here = elim (Contains-cases (recorded.voted (finalize p)) (told s h) e here) [
     | inl is ↦
-        let at : p.round.view ≡ view = views.finalizes view p (is_first (voted_finalize view p) h) in
+        let at : p.round.view ≡ view = views.finalizes view p (Contains-head (voted_finalize view p) h) in
         inr (subst (λ (y : Entry D). Shows y (seen s (voted_finalize view p ∷ h) (entry_view y))) is
         (subst (λ (v : ℕ). past.has_finalized (put view past.voted_finalize (seen s h) v) ≡ true) (sym at) (ap (λ (l : List (Item S D P G C)). past.has_finalized l) (put_at view past.voted_finalize (seen s h)))))
     | inr there ↦ inl there
   ]
-  said s (recalled_notarize p taken) h e views here = elim (first_or_rest (recorded.voted (notarize p)) (told s h) e here) [
+  said s (recalled_notarize p taken) h e views here = elim (Contains-cases (recorded.voted (notarize p)) (told s h) e here) [
     | inl is ↦
         let before : ℕ → List (Item S D P G C) = if taken then put p.round.view (past.offered (offer.recorded p)) (seen s h) else seen s h in
         inr (subst (λ (y : Entry D). Shows y (seen s (recalled_notarize p taken ∷ h) (entry_view y))) is
@@ -243,12 +244,12 @@ module _ {S D P G C : Type 0} where
         (ap (λ (l : List (Item S D P G C)). past.has_notarized l) (put_at p.round.view past.voted_notarize before))))
     | inr there ↦ inl there
   ]
-  said s (recalled_nullify view) h e views here = elim (first_or_rest (recorded.voted (nullify (round_of s view))) (told s h) e here) [
+  said s (recalled_nullify view) h e views here = elim (Contains-cases (recorded.voted (nullify (round_of s view))) (told s h) e here) [
     | inl is ↦ inr (subst (λ (y : Entry D). Shows y (seen s (recalled_nullify view ∷ h) (entry_view y))) is
         (ap (λ (l : List (Item S D P G C)). past.has_nullified l) (put_at view past.voted_nullify (seen s h))))
     | inr there ↦ inl there
   ]
-  said s (recalled_finalize p) h e views here = elim (first_or_rest (recorded.voted (finalize p)) (told s h) e here) [
+  said s (recalled_finalize p) h e views here = elim (Contains-cases (recorded.voted (finalize p)) (told s h) e here) [
     | inl is ↦ inr (subst (λ (y : Entry D). Shows y (seen s (recalled_finalize p ∷ h) (entry_view y))) is
         (ap (λ (l : List (Item S D P G C)). past.has_finalized l) (put_at p.round.view past.voted_finalize (seen s h))))
     | inr there ↦ inl there
@@ -345,7 +346,7 @@ module _ {D : Type 0} (same : (x y : D) → (x ≡ y) ⊎ (x ≢ y)) where
 
   certified_held : (l : List (Offer D)) (p : Proposal D) → AreRecordedWell l → ¬ IsTainted l → Contains l (offer.certified p) → held l ≡ Some p
   certified_held [] p well untainted here = absurd (omega (arith, here.1))
-  certified_held (o ∷ l) p well untainted here = elim (first_or_rest o l (offer.certified p) here) [
+  certified_held (o ∷ l) p well untainted here = elim (Contains-cases o l (offer.certified p) here) [
     | inl is ↦ ap (λ (x : Offer D). held (x ∷ l)) is
     | inr there ↦ stays_held l o p (certified_held l p well.1 (untainted_before l o untainted) there) well.0 untainted
   ]

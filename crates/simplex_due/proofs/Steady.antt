@@ -3,6 +3,7 @@ use Rattle.std.proofs.Common.{◌≡◌, ℕ, List, ◌∷◌, refl, sym, ap, in
 use Rattle.std.specs.Prelude.{Contains}
 use Rattle.std.proofs.lemmas.Option.{same_Some}
 use Rattle.std.proofs.lemmas.Bool.{cases_lt}
+use Rattle.simplex_types.specs.Counting.{Contains-head, Contains-rest}
 use Rattle.simplex_types.specs.declared.proposal.Proposal.{Proposal}
 use Rattle.simplex_round.specs.declared.timeout_reason.TimeoutReason.TheVariants as reason
 use Rattle.simplex_views.specs.History.{Setup, Point, latched, current}
@@ -10,7 +11,6 @@ use Rattle.simplex_views.specs.Known.{Known, known}
 use Rattle.simplex_due.specs.Ancestry.{Member, member, IsSpan}
 use Rattle.simplex_due.specs.Requests.{WaitsForParent, IsInvalid, AsksNothing, Scanned, begun, passed, given_up, IsOpen}
 use Rattle.simplex_due.specs.Matching.{ScanChangesNothing, ScanLeavesNothing, ScanGivesUp, WholeScanLeavesNothing}
-use Rattle.simplex_due.proofs.Growing.{is_first, is_later}
 use Rattle.simplex_due.proofs.Quiet.{latch_changes_nothing}
 
 module _ {D : Type 0} (m : Member) (k : Known D) (view : ℕ) (q : Proposal D) (bad : IsInvalid m k view q) where
@@ -79,10 +79,10 @@ module _ {S D P G C : Type 0} where
         (subst (λ (k : Known D). IsInvalid (member s) k u p) (sym (scan_changes_nothing s now first h w end scanned)) bad)))
   ]
   gives_up s now first h view end (given_up {view = w} {end = so_far} scanned other) u p from below bad = elim (cases_lt u w) [
-    | inl before ↦ is_later (latched now w reason.InvalidProposal) so_far (latched now u reason.InvalidProposal) (gives_up s now first h w so_far scanned u p from before bad)
+    | inl before ↦ Contains-rest (latched now w reason.InvalidProposal) so_far (latched now u reason.InvalidProposal) (gives_up s now first h w so_far scanned u p from before bad)
     | inr after ↦
         let at : w ≡ u = omega (arith, after, below) in
-        subst (λ (v : ℕ). Contains (latched now w reason.InvalidProposal ∷ so_far) (latched now v reason.InvalidProposal)) at (is_first (latched now w reason.InvalidProposal) so_far)
+        subst (λ (v : ℕ). Contains (latched now w reason.InvalidProposal ∷ so_far) (latched now v reason.InvalidProposal)) at (Contains-head (latched now w reason.InvalidProposal) so_far)
   ]
 
   pub scan_gives_up : ScanGivesUp S D P G C

@@ -4,15 +4,15 @@ use Rattle.std.specs.List.{Contains}
 use Rattle.std.proofs.Math.Nat.{div-mul-le_self, mul-le-mul_right, le-div_iff_mul-le}
 use Rattle.std.proofs.lemmas.Bool.{cases_lt}
 use Rattle.std.proofs.lemmas.Grind.{common_steps}
+use Rattle.simplex_types.specs.Counting.{Contains-cases, Contains-head, Contains-rest}
 use Rattle.simplex_types.specs.Positions.{term_start}
 use Rattle.simplex_record.specs.Record.{greatest}
-use Rattle.simplex_record.proofs.Places.{Contains-cons, Contains-here, Contains-later}
 
 module _ {X : Type 0} where
   -- what an element gives is at most the greatest
   pub greatest-at : (least : ℕ) (f : X → ℕ) (xs : List X) (x : X) → Contains xs x → f x ≤ greatest least f xs
   greatest-at least f [] x here = absurd (omega (arith, here.1))
-  greatest-at least f (y ∷ xs) x here = elim (Contains-cons y xs x here) [
+  greatest-at least f (y ∷ xs) x here = elim (Contains-cases y xs x here) [
     | inl first ↦ omega (arith, ap f first)
     | inr later ↦ omega (arith, greatest-at least f xs x later)
   ]
@@ -28,8 +28,8 @@ module _ {X : Type 0} where
   greatest-found least f (x ∷ xs) = elim (cases_lt (f x) (greatest least f xs)) [
     | inl below ↦
         let same : greatest least f xs ≡ greatest least f (x ∷ xs) = omega (arith, below) in
-        ⊎_elim (λ none. inl (sym same ∙ none)) (λ some. inr (some.0, Contains-later x xs some.0 some.1, some.2 ∙ same)) (greatest-found least f xs)
-    | inr above ↦ inr (x, Contains-here x xs, omega (arith, above))
+        ⊎_elim (λ none. inl (sym same ∙ none)) (λ some. inr (some.0, Contains-rest x xs some.0 some.1, some.2 ∙ same)) (greatest-found least f xs)
+    | inr above ↦ inr (x, Contains-head x xs, omega (arith, above))
   ]
 
 -- the first view of a term, by the view before it

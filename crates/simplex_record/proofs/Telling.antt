@@ -6,13 +6,13 @@ use Rattle.std.specs.List.{Contains}
 use Rattle.std.proofs.lemmas.Bool.{cases_eq}
 use Rattle.std.proofs.lemmas.Bool.Decides.{nat_tests}
 use Rattle.std.proofs.lemmas.Option.{none-some}
+use Rattle.simplex_types.specs.Counting.{Contains-cases, Contains-head, Contains-rest}
 use Rattle.simplex_types.specs.declared.position.Round.{Round}
 use Rattle.simplex_types.specs.declared.proposal.Proposal.{Proposal}
 use Rattle.simplex_types.specs.Subject.{Statement, notarize, nullify, finalize}
 use Rattle.simplex_record.specs.Record.{Entry, voted, taken, judged, HasVoted, HasTaken}
 use Rattle.simplex_record.specs.Rules.{AreAlike}
 use Rattle.simplex_record.specs.Told.{told, notarized_at, nullified_at, finalized_at, vote_in, certificate_in}
-use Rattle.simplex_record.proofs.Places.{Contains-cons, Contains-here, Contains-later}
 
 module _ {Y : Type 0} where
   -- an option has a value or none
@@ -58,15 +58,15 @@ module _ {X Y : Type 0} where
   told-some f (x ∷ xs) y is = elim (cases_option (f x)) [
     | inl none ↦
         let rest = told-some f xs y (or-else (f x) (told f xs) (Some y) none is) in
-        record { x = rest.x; there = Contains-later x xs rest.x rest.there; gives = rest.gives }
-    | inr some ↦ record { x = x; there = Contains-here x xs; gives = some.1 ∙ sym (or-first (f x) (told f xs) some.0 some.1) ∙ is }
+        record { x = rest.x; there = Contains-rest x xs rest.x rest.there; gives = rest.gives }
+    | inr some ↦ record { x = x; there = Contains-head x xs; gives = some.1 ∙ sym (or-first (f x) (told f xs) some.0 some.1) ∙ is }
   ]
 
   -- where nothing is told, nothing is given of any element
   pub told-none : (f : X → Option Y) (xs : List X) → told f xs ≡ None → (x : X) → Contains xs x → f x ≡ None
   told-none f [] none x there = absurd (omega (arith, there.1))
   told-none f (z ∷ xs) none x there = elim (cases_option (f z)) [
-    | inl here ↦ ⊎_elim (λ same. sym (ap f same) ∙ here) (λ later. told-none f xs (or-else (f z) (told f xs) None here none) x later) (Contains-cons z xs x there)
+    | inl here ↦ ⊎_elim (λ same. sym (ap f same) ∙ here) (λ later. told-none f xs (or-else (f z) (told f xs) None here none) x later) (Contains-cases z xs x there)
     | inr some ↦ absurd (none-some some.0 (sym none ∙ or-first (f z) (told f xs) some.0 some.1))
   ]
 

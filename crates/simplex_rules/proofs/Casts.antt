@@ -7,10 +7,11 @@ use Rattle.std.specs.declared.cmp.Ordering.TheVariants.{Less, Equal, Greater}
 use Rattle.simplex_rules.specs.declared.cast.Choice.{Choice}
 use Rattle.simplex_rules.specs.declared.cast.Cast.{Cast}
 use Rattle.std.specs.Prelude.{None}
+use Rattle.simplex_types.specs.Counting.{Contains-nil}
 use Rattle.simplex_rules.specs.declared.cast.Kept.{Kept}
 use Rattle.simplex_rules.specs.declared.cast.Kept.TheVariants.{Claim, One, Two}
 use Rattle.simplex_rules.specs.Cast.{IsLower, IsFirst, AreNone, IsFor, HasOne, HasTwo, StandsForAll, Summarizes, IsSettled, IsPlacedAt}
-use Rattle.simplex_rules.proofs.Lists.{no_element, each_push}
+use Rattle.simplex_rules.proofs.Lists.{each_push}
 
 module _ {D : Type 0} {cmp : D → D → Ordering} (order : IsTotalOrder cmp) where
   pub IsLower-trans : (p q r : Choice D) → IsLower cmp p q → IsLower cmp q r → IsLower cmp p r
@@ -61,7 +62,7 @@ module _ {D G : Type 0} (Verifies : Cast D G → Type 0) where
 
   -- the one vote of a signer stands for all
   pub claim_alone : (c : Cast D G) → StandsForAll Verifies (c ∷ []) c
-  claim_alone c = stands_last [] c (λ d there so. no_element d there)
+  claim_alone c = stands_last [] c (λ d there so. Contains-nil d there)
 
   -- so does a vote where it is read again
   pub claim_again : (casts : List (Cast D G)) (c d : Cast D G) → StandsForAll Verifies casts c → c ≡ d → StandsForAll Verifies (casts ++ d ∷ []) c

@@ -1,12 +1,12 @@
 -- One more nullify of a signer in a round.
 use Rattle.std.proofs.Common.{◌≡◌, ℕ, List, [], ◌∷◌, ◌++◌, subst}
 use Rattle.simplex_types.specs.Subject.{Statement}
+use Rattle.simplex_types.specs.Counting.{Contains-nil}
 use Rattle.simplex_rules.specs.declared.cast.Suspect.{Suspect}
 use Rattle.simplex_rules.specs.declared.nullifies.Given.TheVariants as given
 use Rattle.simplex_rules.specs.Cast.{AreNone}
 use Rattle.simplex_rules.specs.Tally.{GivenIsAttested, KeepsNullifies}
 use Rattle.simplex_rules.proofs.Casts.{IsFirst-push, IsFirst-last, AreNone-push}
-use Rattle.simplex_rules.proofs.Lists.{no_element}
 
 module _ {D G : Type 0} (attests : ℕ → Statement D → G → Type 0) (q : Suspect) where
   abbrev Verifies : G → Type 0
@@ -17,7 +17,7 @@ module _ {D G : Type 0} (attests : ℕ → Statement D → G → Type 0) (q : Su
 
   -- the one nullify of a signer stands for all
   pub given_alone : (a : G) → KeepsNullifies attests q (a ∷ []) (given.Claim a)
-  given_alone a = given_last [] a (λ b there verifies. no_element b there)
+  given_alone a = given_last [] a (λ b there verifies. Contains-nil b there)
 
   module _ (signatures : List G) (a b : G) where
     -- so does one where it is read again

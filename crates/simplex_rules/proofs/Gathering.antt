@@ -6,13 +6,14 @@ use Rattle.std.specs.BTreeSet.{BTreeSet, contains, IsSubset, Updates}
 use Rattle.std.proofs.lemmas.Bool.{cases_Bool}
 use Rattle.std.proofs.lemmas.List.{map-append}
 use Rattle.std.specs.declared.alloc.Global.{Global}
+use Rattle.simplex_types.specs.Counting.{Contains-nil}
 use Rattle.simplex_rules.specs.declared.cast.Cast.{Cast}
 use Rattle.simplex_rules.specs.declared.cast.Kept.{Kept}
 use Rattle.simplex_rules.specs.declared.cast.Kept.TheVariants.{Claim, One, Two}
 use Rattle.simplex_rules.specs.declared.cast.Suspect.{Suspect}
 use Rattle.simplex_rules.specs.Cast.{IsTwo}
 use Rattle.simplex_rules.specs.Kept.{suspect_cmp}
-use Rattle.simplex_rules.proofs.Lists.{no_element, each_push}
+use Rattle.simplex_rules.proofs.Lists.{each_push}
 
 -- what was in the set stays there, and the new suspect is there
 pub inserted_stay : (s t : BTreeSet Suspect) (k : Suspect) → Updates suspect_cmp s t k true → IsSubset suspect_cmp s t
@@ -36,7 +37,7 @@ module _ {X : Type 0} (key : X → Suspect) (P : X → Type 0) where
   Gathers xs s = (x : X) → Contains xs x → P x → IsTrue (contains suspect_cmp s (key x))
 
   pub Gathers-none : (s : BTreeSet Suspect) → Gathers [] s
-  Gathers-none s = λ x there. absurd (no_element x there)
+  Gathers-none s = λ x there. absurd (Contains-nil x there)
 
   pub Gathers-push : (xs : List X) (x : X) (s t : BTreeSet Suspect) → Gathers xs s → IsSubset suspect_cmp s t → (P x → IsTrue (contains suspect_cmp t (key x))) → Gathers (xs ++ x ∷ []) t
   Gathers-push xs x s t old stay new = each_push (λ y. P y → IsTrue (contains suspect_cmp t (key y))) xs x (λ y there holds. stay (key y) (old y there holds)) new

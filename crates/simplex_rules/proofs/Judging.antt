@@ -8,6 +8,7 @@ use Rattle.std.specs.declared.cmp.Ordering.{Ordering}
 use Rattle.simplex_types.specs.declared.position.Round.{Round}
 use Rattle.simplex_types.specs.declared.proposal.Proposal.{Proposal}
 use Rattle.simplex_types.specs.Subject.{Statement}
+use Rattle.simplex_types.specs.Counting.{Contains-nil}
 use Rattle.simplex_messages.specs.declared.nullify.Nullify.{Nullify}
 use Rattle.simplex_messages.specs.declared.proposal_vote.ProposalVote.{ProposalVote}
 use Rattle.simplex_messages.specs.ProposalVote.{IsAttested}
@@ -24,7 +25,6 @@ use Rattle.simplex_rules.specs.Cast.{IsLower, IsFirst, AreNone, IsFor, HasOne, H
 use Rattle.simplex_rules.specs.Kept.{suspect_cmp, casts_of}
 use Rattle.simplex_rules.specs.Tally.{CastIsAttested, KeepsVotes, suspect_of, cast_of, parts_of, vote_of, HoldsVotes, IsLeastOf, AreApart, GivenIsAttested, KeepsNullifies, nullify_suspect, nullify_of, nullify_parts, HoldsNullifies, IsFirstOf}
 use Rattle.simplex_rules.proofs.Casts.{IsLower-differs, IsLower-trans}
-use Rattle.simplex_rules.proofs.Lists.{no_element}
 use Rattle.simplex_rules.proofs.Tallies.{tallied}
 use Rattle.simplex_rules.proofs.Places.{choice_of, proposal_of, own_there, IsPlace-from_cast}
 
@@ -154,7 +154,7 @@ module _ {K S D P G C : Type 0} where
             among : (k : Option (Kept D G)) → get suspect_cmp kept (suspect_from round signer) ≡ k → (a : Cast D G) × (b : Box (Cast D G) Global) × (get suspect_cmp kept (suspect_from round signer) ≡ Some (Two a b))
             among None found =
                 let none : casts (suspect_from round signer) ≡ [] = rw found at (tallied (KeepsVotes states attests cmp) parts_of votes kept h (suspect_from round signer)) in
-                absurd (no_element (cast_of guilty.first) (subst (λ (cs : List (Cast D G)). Contains cs (cast_of guilty.first)) none first_cast))
+                absurd (Contains-nil (cast_of guilty.first) (subst (λ (cs : List (Cast D G)). Contains cs (cast_of guilty.first)) none first_cast))
             among (Some (Claim a)) found =
                 let s = kept_at (suspect_from round signer) (Claim a) found in
                 absurd (s.1 (λ verifies. not_one a (s.0 verifies)) (cast_of guilty.first) first_cast first_verifies)
@@ -168,14 +168,14 @@ module _ {K S D P G C : Type 0} where
             among : (k : Option (Kept D G)) → get suspect_cmp kept (suspect_of v) ≡ k → IsSome (get suspect_cmp kept (suspect_of v))
             among None found =
                 let none : casts (suspect_of v) ≡ [] = rw found at (tallied (KeepsVotes states attests cmp) parts_of votes kept h (suspect_of v)) in
-                absurd (no_element (cast_of v) (subst (λ (cs : List (Cast D G)). Contains cs (cast_of v)) none (vote_there (suspect_of v) v there refl)))
+                absurd (Contains-nil (cast_of v) (subst (λ (cs : List (Cast D G)). Contains cs (cast_of v)) none (vote_there (suspect_of v) v there refl)))
             among (Some k) found = rw found refl
 
         -- the least, by what is kept
         pub least-none : (q : Suspect) → get suspect_cmp kept q ≡ None → IsLeastOf states attests cmp votes q None
         least-none q found =
             let none : casts q ≡ [] = rw found at (tallied (KeepsVotes states attests cmp) parts_of votes kept h q) in
-            IsLeastOf-from_none q (λ c there verifies. no_element c (subst (λ (cs : List (Cast D G)). Contains cs c) none there))
+            IsLeastOf-from_none q (λ c there verifies. Contains-nil c (subst (λ (cs : List (Cast D G)). Contains cs c) none there))
 
         pub least-failed : (q : Suspect) (a : Cast D G) → get suspect_cmp kept q ≡ Some (Claim a) → (CastIsAttested states attests q a → ⊥) → IsLeastOf states attests cmp votes q None
         least-failed q a found fails = IsLeastOf-from_none q ((kept_at q (Claim a) found).1 fails)
@@ -234,14 +234,14 @@ module _ {S D P G C : Type 0} where
           among : (k : Option (Given G)) → get suspect_cmp kept (nullify_suspect v) ≡ k → IsSome (get suspect_cmp kept (nullify_suspect v))
           among None found =
               let none : signatures (nullify_suspect v) ≡ [] = rw found at (tallied (KeepsNullifies attests) nullify_parts votes kept h (nullify_suspect v)) in
-              absurd (no_element v.attestation.signature (subst (λ (cs : List G). Contains cs v.attestation.signature) none (nullify_there (nullify_suspect v) v there refl)))
+              absurd (Contains-nil v.attestation.signature (subst (λ (cs : List G). Contains cs v.attestation.signature) none (nullify_there (nullify_suspect v) v there refl)))
           among (Some k) found = rw found refl
 
       -- the first, by what is kept
       pub first-none : (q : Suspect) → get suspect_cmp kept q ≡ None → IsFirstOf attests votes q None
       first-none q found =
           let none : signatures q ≡ [] = rw found at (tallied (KeepsNullifies attests) nullify_parts votes kept h q) in
-          IsFirstOf-from_none q (λ c there verifies. no_element c (subst (λ (cs : List G). Contains cs c) none there))
+          IsFirstOf-from_none q (λ c there verifies. Contains-nil c (subst (λ (cs : List G). Contains cs c) none there))
 
       pub first-failed : (q : Suspect) (a : G) → get suspect_cmp kept q ≡ Some (given.Claim a) → (GivenIsAttested attests q a → ⊥) → IsFirstOf attests votes q None
       first-failed q a found fails = IsFirstOf-from_none q ((given_at q (given.Claim a) found).1 fails)

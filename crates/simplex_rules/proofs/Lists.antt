@@ -4,9 +4,7 @@ use Rattle.std.specs.Prelude.{Contains, AllPairs}
 use Rattle.std.specs.List.{flat_map}
 use Rattle.std.proofs.lemmas.List.Elements.{Contains-append_left, Contains-append_right, Contains-append_cases, Contains-get_or}
 use Rattle.std.proofs.lemmas.List.Kept.{AllPairs-cons}
-
-pub no_element : {X : Type 0} (x : X) → Contains [] x → ⊥
-no_element x (k, small, is) = omega arith
+use Rattle.simplex_types.specs.Counting.{Contains-nil, Contains-head, Contains-rest, Contains-cases}
 
 -- the one element of a list of one
 pub only_element : {X : Type 0} (x y : X) → Contains (x ∷ []) y → x ≡ y
@@ -20,42 +18,30 @@ each_push P xs x all here y there = elim (Contains-append_cases xs (x ∷ []) y 
   | inr last ↦ subst P (only_element x y last) here
 ]
 
-pub first_element : {X : Type 0} (x : X) (xs : List X) → Contains (x ∷ xs) x
-first_element x xs = Contains-append_left (x ∷ []) xs x (0, (omega arith), refl)
-
-pub later_element : {X : Type 0} (x y : X) (xs : List X) → Contains xs y → Contains (x ∷ xs) y
-later_element x y xs there = Contains-append_right (x ∷ []) xs y there
-
-pub element_cases : {X : Type 0} (x y : X) (xs : List X) → Contains (x ∷ xs) y → (x ≡ y) ⊎ Contains xs y
-element_cases x y xs there = elim (Contains-append_cases (x ∷ []) xs y there) [
-  | inl first ↦ inl (only_element x y first)
-  | inr later ↦ inr later
-]
-
 pub Contains-map : {X Y : Type 0} (f : X → Y) (xs : List X) (y : Y) → Contains (map f xs) y → (x : X) × Contains xs x × (f x ≡ y)
-Contains-map f [] y there = absurd (no_element y there)
-Contains-map f (x ∷ xs) y there = elim (element_cases (f x) y (map f xs) there) [
-  | inl first ↦ (x, first_element x xs, first)
-  | inr later ↦ let found = Contains-map f xs y later in (found.0, later_element x found.0 xs found.1, found.2)
+Contains-map f [] y there = absurd (Contains-nil y there)
+Contains-map f (x ∷ xs) y there = elim (Contains-cases (f x) (map f xs) y there) [
+  | inl first ↦ (x, Contains-head x xs, first)
+  | inr later ↦ let found = Contains-map f xs y later in (found.0, Contains-rest x xs found.0 found.1, found.2)
 ]
 
 pub in-map : {X Y : Type 0} (f : X → Y) (xs : List X) (x : X) → Contains xs x → Contains (map f xs) (f x)
-in-map f [] x there = absurd (no_element x there)
-in-map f (y ∷ xs) x there = elim (element_cases y x xs there) [
-  | inl first ↦ subst (λ z. Contains (map f (y ∷ xs)) (f z)) first (first_element (f y) (map f xs))
-  | inr later ↦ later_element (f y) (f x) (map f xs) (in-map f xs x later)
+in-map f [] x there = absurd (Contains-nil x there)
+in-map f (y ∷ xs) x there = elim (Contains-cases y xs x there) [
+  | inl first ↦ subst (λ z. Contains (map f (y ∷ xs)) (f z)) first (Contains-head (f y) (map f xs))
+  | inr later ↦ Contains-rest (f y) (map f xs) (f x) (in-map f xs x later)
 ]
 
 pub Contains-flat_map : {X Y : Type 0} (f : X → List Y) (xs : List X) (y : Y) → Contains (flat_map f xs) y → (x : X) × Contains xs x × Contains (f x) y
-Contains-flat_map f [] y there = absurd (no_element y there)
+Contains-flat_map f [] y there = absurd (Contains-nil y there)
 Contains-flat_map f (x ∷ xs) y there = elim (Contains-append_cases (f x) (flat_map f xs) y there) [
-  | inl own ↦ (x, first_element x xs, own)
-  | inr later ↦ let found = Contains-flat_map f xs y later in (found.0, later_element x found.0 xs found.1, found.2)
+  | inl own ↦ (x, Contains-head x xs, own)
+  | inr later ↦ let found = Contains-flat_map f xs y later in (found.0, Contains-rest x xs found.0 found.1, found.2)
 ]
 
 pub in-flat_map : {X Y : Type 0} (f : X → List Y) (xs : List X) (x : X) (y : Y) → Contains xs x → Contains (f x) y → Contains (flat_map f xs) y
-in-flat_map f [] x y there own = absurd (no_element x there)
-in-flat_map f (z ∷ xs) x y there own = elim (element_cases z x xs there) [
+in-flat_map f [] x y there own = absurd (Contains-nil x there)
+in-flat_map f (z ∷ xs) x y there own = elim (Contains-cases z xs x there) [
   | inl first ↦ Contains-append_left (f z) (flat_map f xs) y (subst (λ w. Contains (f w) y) (sym first) own)
   | inr later ↦ Contains-append_right (f z) (flat_map f xs) y (in-flat_map f xs x y later own)
 ]
@@ -76,12 +62,12 @@ module _ {Y : Type 0} (R : Y → Y → Type 0) where
   AllPairs-append (x ∷ xs) ys own others across =
       AllPairs-cons R x (xs ++ ys)
       (λ k d small. before (get_or (xs ++ ys) k d) (Contains-get_or (xs ++ ys) k d small))
-      (AllPairs-append xs ys (AllPairs-tail x xs own) others (λ y z there behind. across y z (later_element x y xs there) behind))
+      (AllPairs-append xs ys (AllPairs-tail x xs own) others (λ y z there behind. across y z (Contains-rest x xs y there) behind))
     where
       before : (y : Y) → Contains (xs ++ ys) y → R x y
       before y there = elim (Contains-append_cases xs ys y there) [
         | inl left ↦ AllPairs-head x y xs own left
-        | inr right ↦ across x y (first_element x xs) right
+        | inr right ↦ across x y (Contains-head x xs) right
       ]
 
 -- a list after three were appended

@@ -7,6 +7,7 @@ use Rattle.std.proofs.lemmas.List.Elements.{Contains-append_right}
 use Rattle.simplex_types.specs.declared.attestation.Attestation.{Attestation}
 use Rattle.simplex_types.specs.declared.proposal.Proposal.{Proposal}
 use Rattle.simplex_types.specs.Subject.{Statement, notarize, finalize}
+use Rattle.simplex_types.specs.Counting.{Contains-head}
 use Rattle.simplex_messages.specs.declared.activity.Activity.{Activity}
 use Rattle.simplex_messages.specs.declared.activity.Activity.TheVariants as activity
 use Rattle.simplex_messages.specs.declared.nullify.Nullify.{Nullify}
@@ -14,11 +15,11 @@ use Rattle.simplex_messages.specs.declared.proposal_vote.ProposalVote.{ProposalV
 use Rattle.simplex_messages.specs.ProposalVote.{Finalize}
 use Rattle.simplex_messages.specs.Guilt.{notarizes_in, nullifies_in, finalizes_in, notarizes_of, nullifies_of, finalizes_of, IsGuilty, IsLeastEvidence, IsGuiltyBeside, IsLeastBeside}
 use Rattle.simplex_rules.specs.Audit.{Accusation, IsAccused, IsLeast, IsVerdict, accused}
-use Rattle.simplex_rules.proofs.Lists.{first_element, Contains-flat_map, in-flat_map}
+use Rattle.simplex_rules.proofs.Lists.{Contains-flat_map, in-flat_map}
 
 -- what stands between two parts of a list is in it
 stands : {A : Type 0} (whole before after : List A) (x : A) → whole ≡ before ++ x ∷ after → Contains whole x
-stands {A} whole before after x is = subst (λ (xs : List A). Contains xs x) (sym is) (Contains-append_right before (x ∷ after) x (first_element x after))
+stands {A} whole before after x is = subst (λ (xs : List A). Contains xs x) (sym is) (Contains-append_right before (x ∷ after) x (Contains-head x after))
 
 -- the accusation that is there
 abbrev told : Accusation → Option Accusation → Accusation

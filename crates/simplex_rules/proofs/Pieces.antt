@@ -7,13 +7,14 @@ use Rattle.std.proofs.lemmas.List.{append-nil, map-append}
 use Rattle.std.proofs.lemmas.List.Concat.{flat_map-append}
 use Rattle.simplex_types.specs.declared.attestation.Attestation.{Attestation}
 use Rattle.simplex_types.specs.Subject.{Statement}
+use Rattle.simplex_types.specs.Counting.{Contains-nil}
 use Rattle.simplex_messages.specs.declared.activity.Activity.{Activity}
 use Rattle.simplex_messages.specs.declared.nullify.Nullify.{Nullify}
 use Rattle.simplex_messages.specs.ProposalVote.{Finalize}
 use Rattle.simplex_rules.specs.declared.cast.Suspect.{Suspect}
 use Rattle.simplex_rules.specs.declared.tally.Tally.{Tally}
 use Rattle.simplex_rules.specs.Tally.{AddsEvidence, IsBesideIn, evidence_at}
-use Rattle.simplex_rules.proofs.Lists.{no_element, each_push}
+use Rattle.simplex_rules.proofs.Lists.{each_push}
 
 module _ {S D P G C : Type 0} where
   -- the evidence of one suspect
@@ -29,7 +30,7 @@ module _ {S D P G C : Type 0} where
 
   module _ (lists : C → List (Attestation G)) (attests : ℕ → Statement D → G → Type 0) (cmp : D → D → Ordering) (t : Tally S D P G C) where
     pub pieces_none : Pieces lists attests cmp t [] []
-    pieces_none = record { pieces = []; suspects_are = refl; besides = λ p there. absurd (no_element p there); whole = refl }
+    pieces_none = record { pieces = []; suspects_are = refl; besides = λ p there. absurd (Contains-nil p there); whole = refl }
 
     -- one more suspect
     pub pieces_more : (suspects : List Suspect) (q : Suspect) (old new : List (Activity S D P G C)) → Pieces lists attests cmp t suspects old → AddsEvidence lists attests cmp t q (evidence_at t q) old new → Pieces lists attests cmp t (suspects ++ q ∷ []) new

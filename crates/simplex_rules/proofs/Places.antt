@@ -6,10 +6,10 @@ use Rattle.std.proofs.lemmas.Bool.{cases_Bool}
 use Rattle.std.proofs.lemmas.Cmp.{tied_itself}
 use Rattle.simplex_types.specs.declared.position.Round.{Round}
 use Rattle.simplex_types.specs.declared.proposal.Proposal.{Proposal}
+use Rattle.simplex_types.specs.Counting.{Contains-nil, Contains-head, Contains-rest, Contains-cases}
 use Rattle.simplex_rules.specs.declared.cast.Choice.{Choice}
 use Rattle.simplex_rules.specs.declared.cast.Suspect.{Suspect}
 use Rattle.simplex_rules.specs.Kept.{suspect_cmp, casts_of}
-use Rattle.simplex_rules.proofs.Lists.{no_element, first_element, later_element, element_cases}
 use Rattle.simplex_rules.proofs.Suspects.{suspects_total, suspect_cmp-exact}
 
 abbrev pub choice_of : {D : Type 0} → Proposal D → Choice D
@@ -21,13 +21,13 @@ proposal_of r c = record { round = r; parent = c.parent; payload = c.payload }
 module _ {V X : Type 0} (parts : V → Suspect × X) where
   -- a vote is among those of its suspect
   pub own_there : (q : Suspect) (votes : List V) (v : V) → Contains votes v → (parts v).0 ≡ q → Contains (casts_of q (map parts votes)) (parts v).1
-  own_there q [] v there is = absurd (no_element v there)
+  own_there q [] v there is = absurd (Contains-nil v there)
   own_there q (u ∷ votes) v there is = elim (cases_Bool (is_eq (suspect_cmp (parts u).0 q))) [
-    | inl same ↦ rw same (elim (element_cases u v votes there) [
-      | inl first ↦ subst (λ (w : V). Contains ((parts u).1 ∷ casts_of q (map parts votes)) (parts w).1) first (first_element (parts u).1 (casts_of q (map parts votes)))
-      | inr later ↦ later_element (parts u).1 (parts v).1 (casts_of q (map parts votes)) (own_there q votes v later is)
+    | inl same ↦ rw same (elim (Contains-cases u votes v there) [
+      | inl first ↦ subst (λ (w : V). Contains ((parts u).1 ∷ casts_of q (map parts votes)) (parts w).1) first (Contains-head (parts u).1 (casts_of q (map parts votes)))
+      | inr later ↦ Contains-rest (parts u).1 (casts_of q (map parts votes)) (parts v).1 (own_there q votes v later is)
     ])
-    | inr other ↦ rw other (elim (element_cases u v votes there) [
+    | inr other ↦ rw other (elim (Contains-cases u votes v there) [
       | inl first ↦ absurd (
           let is_q : (parts u).0 ≡ q = ap (λ (w : V). (parts w).0) first ∙ is in
           let tied : is_eq (suspect_cmp (parts u).0 q) ≡ true = subst (λ (x : Suspect). is_eq (suspect_cmp (parts u).0 x) ≡ true) is_q (ap is_eq (tied_itself suspects_total (parts u).0)) in

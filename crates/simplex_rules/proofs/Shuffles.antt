@@ -13,6 +13,7 @@ use Rattle.std.proofs.lemmas.Cmp.{ranked, nat_cmp_total, nat_list_cmp_total, on_
 use Rattle.std.proofs.lemmas.List.{get_or-map, length-map}
 use Rattle.std.proofs.lemmas.List.FromFn.{length-map-range_with_len, get_or-map-range_with_len}
 use Rattle.std.proofs.lemmas.List.Sorted.{IsPermutation-map, IsPermutation-sym, All-permutation, Contains-permutation, ranks_by, sorted_far}
+use Rattle.simplex_types.specs.Counting.{Contains-cases, Contains-rest}
 use Rattle.simplex_rules.specs.Rotation.{indices, IsOrder}
 use Rattle.simplex_rules.specs.Shuffle.{lot, lot_cmp, IsBefore, IsShuffled}
 use Rattle.simplex_rules.proofs.Orders.{order-IsOnce}
@@ -76,20 +77,13 @@ before_once seed i j there back =
     let turned : lot_cmp (drawn seed i) (drawn seed j) ≡ Greater = lot_cmp_total.antisymm (drawn seed i) (drawn seed j) ∙ ap ordering_reverse back in
     absurd (let both : Less ≡ Greater = sym there ∙ turned in cc)
 
--- what is in a list is its first number, or in the rest
-first_or_rest : (y : ℕ) (ys : List ℕ) (z : ℕ) → Contains (y ∷ ys) z → (y ≡ z) ⊎ Contains ys z
-first_or_rest y ys z here = elim (cases_eq y z) [ inl same ↦ inl same | inr other ↦ inr (Contains-tail y ys z other here) ]
-
-in_rest : (y : ℕ) (ys : List ℕ) (z : ℕ) → Contains ys z → Contains (y ∷ ys) z
-in_rest y ys z here = (suc here.0, omega (arith, here.1), here.2)
-
 -- the first of a sorted list comes before the rest
 first_before : (seed : List ℕ) (x : ℕ) (xs : List ℕ) → AllPairs (IsBefore seed) (x ∷ xs) → (z : ℕ) → Contains xs z → IsBefore seed x z
 first_before seed x xs up z here = subst (λ (y : ℕ). IsBefore seed x y) here.2 (up 0 (suc here.0) z (omega arith) (omega (arith, here.1)))
 
 -- what a sorted list has, and another one with the same first number has too, is in the rests of both
 rest_within : (seed : List ℕ) (x : ℕ) (xs ys : List ℕ) → AllPairs (IsBefore seed) (x ∷ xs) → ((z : ℕ) → Contains (x ∷ xs) z → Contains (x ∷ ys) z) → (z : ℕ) → Contains xs z → Contains ys z
-rest_within seed x xs ys up there z here = elim (first_or_rest x ys z (there z (in_rest x xs z here))) [
+rest_within seed x xs ys up there z here = elim (Contains-cases x ys z (there z (Contains-rest x xs z here))) [
   | inl same ↦
       let itself : IsBefore seed x x = subst (λ (y : ℕ). IsBefore seed x y) (sym same) (first_before seed x xs up z here) in
       absurd (before_once seed x x itself itself)
@@ -101,9 +95,9 @@ rest_sorted seed x xs up = λ i j d before below. up (suc i) (suc j) d (omega (a
 
 -- sorted lists of the same numbers have one first number
 first_same : (seed : List ℕ) (x : ℕ) (xs : List ℕ) (y : ℕ) (ys : List ℕ) → AllPairs (IsBefore seed) (x ∷ xs) → AllPairs (IsBefore seed) (y ∷ ys) → Contains (y ∷ ys) x → Contains (x ∷ xs) y → x ≡ y
-first_same seed x xs y ys up up' there back = elim (first_or_rest y ys x there) [
+first_same seed x xs y ys up up' there back = elim (Contains-cases y ys x there) [
   | inl same ↦ sym same
-  | inr x_later ↦ elim (first_or_rest x xs y back) [
+  | inr x_later ↦ elim (Contains-cases x xs y back) [
     | inl same ↦ same
     | inr y_later ↦ absurd (before_once seed x y (first_before seed x xs up y y_later) (first_before seed y ys up' x x_later))
   ]

@@ -14,6 +14,7 @@ use Rattle.std.proofs.lemmas.Map.Views.{All-after_first, btree_set_contains_iff}
 use Rattle.simplex_types.specs.declared.attestation.Attestation.{Attestation}
 use Rattle.simplex_types.specs.declared.position.Round.{Round}
 use Rattle.simplex_types.specs.Subject.{Statement, notarize, finalize}
+use Rattle.simplex_types.specs.Counting.{Contains-nil, Contains-head, Contains-rest}
 use Rattle.simplex_messages.specs.declared.activity.Activity.{Activity}
 use Rattle.simplex_messages.specs.declared.nullify.Nullify.{Nullify}
 use Rattle.simplex_messages.specs.ProposalVote.{Finalize}
@@ -26,7 +27,7 @@ use Rattle.simplex_rules.specs.declared.tally.Tally.{Tally}
 use Rattle.simplex_rules.specs.Kept.{suspect_cmp}
 use Rattle.simplex_rules.specs.Audit.{Accusation, Offence, TwoNotarizes, TwoFinalizes, NullifyBeside, accused, AreInOrder, IsAccused, IsLeast, IsVerdict}
 use Rattle.simplex_rules.specs.Tally.{HoldsReports, IsBesideIn, IsBesideOf, IsGathered, vote_of, nullify_suspect, suspect_of, conflict_in, reported, evidence_at}
-use Rattle.simplex_rules.proofs.Lists.{no_element, only_element, first_element, later_element, Contains-map, in-map, Contains-flat_map, in-flat_map, AllPairs-nil, AllPairs-append}
+use Rattle.simplex_rules.proofs.Lists.{only_element, Contains-map, in-map, Contains-flat_map, in-flat_map, AllPairs-nil, AllPairs-append}
 use Rattle.simplex_rules.proofs.Pieces.{Pieces, piece}
 use Rattle.simplex_rules.proofs.Suspects.{suspects_total, suspects_exact, accusation_of, StandsBefore-from_less}
 use Rattle.simplex_rules.proofs.Judging.{suspect_from, IsLeastEvidence-from_two, guilty_are_kept, voters_are_kept, nullifiers_are_kept}
@@ -37,15 +38,15 @@ module _ {S D P G C : Type 0} where
   AreOf q o xs = (a : Activity S D P G C) → Contains xs a → accused a ≡ Some (accusation_of q o)
 
   conflict_notarize-AreOf : (q : Suspect) (k : Option (Kept D G)) → AreOf q TwoNotarizes (reported conflicting_notarize_report (conflict_in q k))
-  conflict_notarize-AreOf q None a there = absurd (no_element a there)
-  conflict_notarize-AreOf q (Some (Claim b)) a there = absurd (no_element a there)
-  conflict_notarize-AreOf q (Some (One b)) a there = absurd (no_element a there)
+  conflict_notarize-AreOf q None a there = absurd (Contains-nil a there)
+  conflict_notarize-AreOf q (Some (Claim b)) a there = absurd (Contains-nil a there)
+  conflict_notarize-AreOf q (Some (One b)) a there = absurd (Contains-nil a there)
   conflict_notarize-AreOf q (Some (Two b c)) a there = ap (λ (x : Activity S D P G C). accused x) (sym (only_element _ a there))
 
   conflict_finalize-AreOf : (q : Suspect) (k : Option (Kept D G)) → AreOf q TwoFinalizes (reported conflicting_finalize_report (conflict_in q k))
-  conflict_finalize-AreOf q None a there = absurd (no_element a there)
-  conflict_finalize-AreOf q (Some (Claim b)) a there = absurd (no_element a there)
-  conflict_finalize-AreOf q (Some (One b)) a there = absurd (no_element a there)
+  conflict_finalize-AreOf q None a there = absurd (Contains-nil a there)
+  conflict_finalize-AreOf q (Some (Claim b)) a there = absurd (Contains-nil a there)
+  conflict_finalize-AreOf q (Some (One b)) a there = absurd (Contains-nil a there)
   conflict_finalize-AreOf q (Some (Two b c)) a there = ap (λ (x : Activity S D P G C). accused x) (sym (only_element _ a there))
 
   -- a nullify beside a finalize, if there are such, is the suspect's
@@ -57,7 +58,7 @@ module _ {S D P G C : Type 0} where
   own_accusation q x own = ap (λ (y : Suspect). Some (accusation_of y NullifyBeside)) own
 
   beside-AreOf : (q : Suspect) (b : Option (Nullify S D P G C × Finalize S D P G C)) → IsOwn q b → AreOf q NullifyBeside (reported nullify_finalize_report b)
-  beside-AreOf q None own a there = absurd (no_element a there)
+  beside-AreOf q None own a there = absurd (Contains-nil a there)
   beside-AreOf q (Some x) own a there = ap (λ (y : Activity S D P G C). accused y) (sym (only_element _ a there)) ∙ own_accusation q x own
 
   -- evidence in the order of its accusations
@@ -107,31 +108,31 @@ module _ {S D P G C : Type 0} where
   evidence-sorted : (t : Tally S D P G C) (ps : List (Suspect × Option (Nullify S D P G C × Finalize S D P G C))) → IsStrictlySortedBy suspect_cmp (map (λ p. p.0) ps) → ((p : Suspect × Option (Nullify S D P G C × Finalize S D P G C)) → Contains ps p → IsOwn p.0 p.1) → AllPairs InOrder (flat_map (piece t) ps)
   evidence-sorted t [] ordered own = AllPairs-nil InOrder
   evidence-sorted t (p ∷ ps) ordered own =
-      let here : IsOwn p.0 p.1 = own p (first_element p ps) in
+      let here : IsOwn p.0 p.1 = own p (Contains-head p ps) in
       let qs = map (λ (r : Suspect × Option (Nullify S D P G C × Finalize S D P G C)). r.0) ps in
-      AllPairs-append InOrder (piece t p) (flat_map (piece t) ps) (evidence_at-sorted t p.0 p.1 here) (evidence-sorted t ps (sorted_tail suspect_cmp p.0 qs ordered) (λ r there. own r (later_element p r ps there)))
+      AllPairs-append InOrder (piece t p) (flat_map (piece t) ps) (evidence_at-sorted t p.0 p.1 here) (evidence-sorted t ps (sorted_tail suspect_cmp p.0 qs ordered) (λ r there. own r (Contains-rest p ps r there)))
       (λ a b first later.
       let mine = evidence_at-own t p.0 p.1 here a first in
       let found = Contains-flat_map (piece t) ps b later in
-      let other = evidence_at-own t found.0.0 found.0.1 (own found.0 (later_element p found.0 ps found.1)) b found.2 in
+      let other = evidence_at-own t found.0.0 found.0.1 (own found.0 (Contains-rest p ps found.0 found.1)) b found.2 in
       let below : suspect_cmp p.0 found.0.0 ≡ Less = All-contains (λ r. suspect_cmp p.0 r ≡ Less) qs found.0.0 (All-after_first suspect_cmp p.0 qs ordered) (in-map (λ (r : Suspect × Option (Nullify S D P G C × Finalize S D P G C)). r.0) ps found.0 found.1) in
       in_order a b (accusation_of p.0 mine.0) (accusation_of found.0.0 other.0) mine.1 other.1 (StandsBefore-from_less p.0 found.0.0 mine.0 other.0 below))
 
   module _ (lists : C → List (Attestation G)) (attests : ℕ → Statement D → G → Type 0) (cmp : D → D → Ordering) (order : IsTotalOrder cmp) (reports : List (Activity S D P G C)) (t : Tally S D P G C) (h : HoldsReports lists attests cmp reports t) where
     two_notarizes-least : (q : Suspect) (k : Option (Kept D G)) → get suspect_cmp t.notarizes.kept q ≡ k → (a : Activity S D P G C) → Contains (reported conflicting_notarize_report (conflict_in q k)) a → IsLeast lists attests cmp reports a
-    two_notarizes-least q None found a there = absurd (no_element a there)
-    two_notarizes-least q (Some (Claim b)) found a there = absurd (no_element a there)
-    two_notarizes-least q (Some (One b)) found a there = absurd (no_element a there)
+    two_notarizes-least q None found a there = absurd (Contains-nil a there)
+    two_notarizes-least q (Some (Claim b)) found a there = absurd (Contains-nil a there)
+    two_notarizes-least q (Some (One b)) found a there = absurd (Contains-nil a there)
     two_notarizes-least q (Some (Two b c)) found a there = subst (λ (x : Activity S D P G C). IsLeast lists attests cmp reports x) (only_element _ a there) (IsLeastEvidence-from_two notarize attests (notarizes_of lists reports) cmp t.notarizes.kept h.notarizes order q b c found)
 
     two_finalizes-least : (q : Suspect) (k : Option (Kept D G)) → get suspect_cmp t.finalizes.kept q ≡ k → (a : Activity S D P G C) → Contains (reported conflicting_finalize_report (conflict_in q k)) a → IsLeast lists attests cmp reports a
-    two_finalizes-least q None found a there = absurd (no_element a there)
-    two_finalizes-least q (Some (Claim b)) found a there = absurd (no_element a there)
-    two_finalizes-least q (Some (One b)) found a there = absurd (no_element a there)
+    two_finalizes-least q None found a there = absurd (Contains-nil a there)
+    two_finalizes-least q (Some (Claim b)) found a there = absurd (Contains-nil a there)
+    two_finalizes-least q (Some (One b)) found a there = absurd (Contains-nil a there)
     two_finalizes-least q (Some (Two b c)) found a there = subst (λ (x : Activity S D P G C). IsLeast lists attests cmp reports x) (only_element _ a there) (IsLeastEvidence-from_two finalize attests (finalizes_of lists reports) cmp t.finalizes.kept h.finalizes order q b c found)
 
     beside-least : (q : Suspect) (b : Option (Nullify S D P G C × Finalize S D P G C)) → IsBesideOf attests cmp (nullifies_of lists reports) (finalizes_of lists reports) q b → (a : Activity S D P G C) → Contains (reported nullify_finalize_report b) a → IsLeast lists attests cmp reports a
-    beside-least q None beside a there = absurd (no_element a there)
+    beside-least q None beside a there = absurd (Contains-nil a there)
     beside-least q (Some x) beside a there = subst (λ (y : Activity S D P G C). IsLeast lists attests cmp reports y) (only_element _ a there) beside.1
 
     beside-own : (q : Suspect) (b : Option (Nullify S D P G C × Finalize S D P G C)) → IsBesideOf attests cmp (nullifies_of lists reports) (finalizes_of lists reports) q b → IsOwn q b
@@ -153,7 +154,7 @@ module _ {S D P G C : Type 0} where
         → IsGuiltyBeside attests (nullifies_of lists reports) (finalizes_of lists reports) round signer
         → (a : Activity S D P G C) × Contains (reported nullify_finalize_report b) a × (accused a ≡ Some (accusation_of (suspect_from round signer) NullifyBeside))
     beside-told round signer None beside g = absurd (beside g)
-    beside-told round signer (Some x) beside g = (nullify_finalize_report x, first_element (nullify_finalize_report x) [], own_accusation (suspect_from round signer) x beside.0)
+    beside-told round signer (Some x) beside g = (nullify_finalize_report x, Contains-head (nullify_finalize_report x) [], own_accusation (suspect_from round signer) x beside.0)
 
     module _ (guilty : BTreeSet Suspect) (gathered : IsGathered t guilty) (evidence : List (Activity S D P G C)) (ps : Pieces lists attests cmp t guilty.keys evidence) where
       abbrev told : List (Activity S D P G C)
@@ -171,7 +172,7 @@ module _ {S D P G C : Type 0} where
           let q = suspect_from round signer in
           let kept = guilty_are_kept notarize attests (notarizes_of lists reports) cmp t.notarizes.kept h.notarizes round signer g in
           let report = conflicting_notarize_report (vote_of q kept.0, vote_of q kept.1.value) in
-          let own : Contains (notarized t q) report = rw kept.2 (first_element report []) in
+          let own : Contains (notarized t q) report = rw kept.2 (Contains-head report []) in
           let p = piece_of q (gathered.notarized q (Two kept.0 kept.1) kept.2 tt) in
           (report, in-flat_map (piece t) ps.pieces (q, p.0) report p.1 (Contains-append_left (notarized t q) _ report own), refl)
 
@@ -180,7 +181,7 @@ module _ {S D P G C : Type 0} where
           let q = suspect_from round signer in
           let kept = guilty_are_kept finalize attests (finalizes_of lists reports) cmp t.finalizes.kept h.finalizes round signer g in
           let report = conflicting_finalize_report (vote_of q kept.0, vote_of q kept.1.value) in
-          let own : Contains (finalized t q) report = rw kept.2 (first_element report []) in
+          let own : Contains (finalized t q) report = rw kept.2 (Contains-head report []) in
           let p = piece_of q (gathered.finalized q (Two kept.0 kept.1) kept.2 tt) in
           (report, in-flat_map (piece t) ps.pieces (q, p.0) report p.1 (Contains-append_right (notarized t q) _ report (Contains-append_left (finalized t q) _ report own)), refl)
 

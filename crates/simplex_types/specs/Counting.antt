@@ -1,16 +1,16 @@
 -- Counting in lists of numbers, of which none stands in its list twice.
-use Rattle.std.specs.Prelude.{◌≡◌, ◌≢◌, ◌↔◌, ℕ, suc, ◌+◌, ◌≤◌, ◌<◌, ◌==◌, ◌&&◌, Bool, not, true, List, [], ◌∷◌, ◌++◌, length, All, AllPairs, refl}
+use Rattle.std.specs.Prelude.{◌≡◌, ◌≢◌, ◌↔◌, ℕ, zero, suc, ◌+◌, ◌≤◌, ◌<◌, ◌==◌, ◌&&◌, Bool, not, true, List, [], ◌∷◌, ◌++◌, length, All, AllPairs, refl}
 use Rattle.std.specs.Bool.{Decides}
 use Rattle.std.specs.Cmp.{nat_eq_equiv, unsigned_Decides}
 use Rattle.std.specs.List.{Contains, filter}
 use Rattle.std.specs.Set.{is_member}
 use Rattle.std.proofs.Common.{inl, inr, ◌⊎◌, sym, ◌∙◌, ap, subst, length-append, arith}
-use Rattle.std.proofs.lemmas.Bool.{and_parts, and_from, cases_Bool, cases_eq, eqb-true}
+use Rattle.std.proofs.lemmas.Bool.{and_parts, and_from, cases_Bool, eqb-true}
 use Rattle.std.proofs.lemmas.Bool.Decides.{Decides-not, not_from_Decides}
 use Rattle.std.proofs.lemmas.List.Elements.{All-contains, All-cons, All-append, All-filter, Contains-get_or, Contains-append_cases}
 use Rattle.std.proofs.lemmas.List.Filters.{length-filter_both}
 use Rattle.std.proofs.lemmas.List.Kept.{AllPairs-cons, AllPairs-filter}
-use Rattle.std.proofs.lemmas.Map.Made.{is_member-Decides, is_member-filter, length-le_from_is_member, IsDistinct-from_AllPairs, Contains-tail}
+use Rattle.std.proofs.lemmas.Map.Made.{is_member-Decides, is_member-filter, length-le_from_is_member, IsDistinct-from_AllPairs}
 use Rattle.std.proofs.lemmas.Map.Steps.{length-le_from_distinct_below}
 
 -- no number stands in the list twice
@@ -47,20 +47,21 @@ in_or_not xs x = elim (cases_Bool (has xs x)) [
 ]
 
 -- nothing is in an empty list
-pub Contains-nil : (x : ℕ) → Contains [] x → ⊥
+pub Contains-nil : {X : Type 0} (x : X) → Contains [] x → ⊥
 Contains-nil x here = absurd (omega (arith, here.1))
 
--- the first number of a list is in it
-pub Contains-head : (x : ℕ) (xs : List ℕ) → Contains (x ∷ xs) x
+-- the first element of a list is in it
+pub Contains-head : {X : Type 0} (x : X) (xs : List X) → Contains (x ∷ xs) x
 Contains-head x xs = (0, omega arith, refl)
 
 -- and so is what is in the rest
-pub Contains-rest : (y : ℕ) (xs : List ℕ) (x : ℕ) → Contains xs x → Contains (y ∷ xs) x
+pub Contains-rest : {X : Type 0} (y : X) (xs : List X) (x : X) → Contains xs x → Contains (y ∷ xs) x
 Contains-rest y xs x here = (suc here.0, omega (arith, here.1), here.2)
 
--- what is in a list is its first number, or in the rest
-pub Contains-cases : (y : ℕ) (xs : List ℕ) (x : ℕ) → Contains (y ∷ xs) x → (y ≡ x) ⊎ Contains xs x
-Contains-cases y xs x here = elim (cases_eq y x) [ inl same ↦ inl same | inr other ↦ inr (Contains-tail y xs x other here) ]
+-- what is in a list is its first element, or in the rest
+pub Contains-cases : {X : Type 0} (y : X) (xs : List X) (x : X) → Contains (y ∷ xs) x → (y ≡ x) ⊎ Contains xs x
+Contains-cases y xs x (zero, below, is) = inl is
+Contains-cases y xs x (suc k, below, is) = inr (k, omega (arith, below), is)
 
 -- a list has nothing or something
 pub none_or_some : (xs : List ℕ) → ((x : ℕ) → Contains xs x → ⊥) ⊎ ((x : ℕ) × Contains xs x)
