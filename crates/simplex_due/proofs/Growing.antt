@@ -1,5 +1,5 @@
 -- What each point adds to what happened to a view, and what its record says of it.
-use Rattle.std.proofs.Common.{◌≡◌, ◌⊎◌, inl, inr, true, false, ℕ, zero, suc, List, [], ◌∷◌, subst, refl, ◌+◌, ◌≤◌, arith, if◌then◌else◌}
+use Rattle.std.proofs.Common.{◌≡◌, ◌⊎◌, inl, inr, true, false, ℕ, List, [], ◌∷◌, subst, refl, ◌+◌, ◌≤◌, arith, if◌then◌else◌}
 use mathlib.Core.Bool.{true≢false}
 use Rattle.std.proofs.lemmas.Bool.Decides.{nat_tests, Decides-eqb}
 use Rattle.std.specs.Prelude.{◌==◌, nat_lt, nat_le, Bool, Option, Some, None, IsTrue, Contains, ⊤}

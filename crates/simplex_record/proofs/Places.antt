@@ -1,5 +1,5 @@
 -- Where elements stand in a list.
-use Rattle.std.proofs.Common.{◌≡◌, ◌⊎◌, inl, inr, ⊎_elim, zero, suc, List, [], ◌∷◌, ◌++◌, get_or, drop, map, refl, sym, ap, subst, arith}
+use Rattle.std.proofs.Common.{◌≡◌, ◌⊎◌, inl, inr, ⊎_elim, List, [], ◌∷◌, ◌++◌, get_or, drop, map, refl, sym, ap, subst, arith}
 use Rattle.std.specs.List.{Contains}
 use Rattle.simplex_types.specs.Counting.{Contains-cases, Contains-head, Contains-rest}
 
