@@ -1,0 +1,231 @@
+//! Histories by chance, in which each answer and each getter is the plain program's.
+
+use crate::beside::Beside;
+use crate::samples::{A, B, GENESIS, RETRY, holds};
+use simplex_fakes::Chance;
+use simplex_round::TimeoutReason;
+use std::alloc::Global;
+use std::ops::Range;
+use std::process::Abort;
+use std::test::Fail;
+use voter_plain::getters::Entry;
+use voter_plain::{Point, Proposal, Setup};
+
+/// A committee of up to seven members, in terms of 1, 2 or 5 views with up to two optimistic ones.
+fn setup(chance: &mut Chance) -> Setup {
+    let length = match chance.below(3) {
+        0 => 1,
+        1 => 2,
+        _ => 5,
+    };
+    let participants = 1 + chance.below(7);
+    let me = chance.below(participants);
+    let is_observer = chance.below(8) == 0;
+    Setup {
+        me: if is_observer { None } else { Some(me as u32) },
+        participants: participants as u32,
+        epoch: chance.below(3),
+        length,
+        optimistic_views: chance.below(3),
+        stall_timeout: Some(300),
+        is_scheduled: chance.below(3) != 0,
+        retention: chance.below(4),
+        leader_timeout: 100,
+        certification_timeout: 200,
+        timeout_retry: RETRY,
+        skip_budget: 1 + chance.below(3),
+    }
+}
+
+/// A view to speak of: often the current one or the next, and always below 22.
+fn view(chance: &mut Chance, current: u64) -> u64 {
+    let view = match chance.below(4) {
+        0 | 1 => current,
+        2 => current.saturating_add(1),
+        _ => 1 + chance.below(12),
+    };
+    view.max(1).min(21)
+}
+
+/// A proposal of the view, often on the view before.
+fn proposal(chance: &mut Chance, view: u64) -> Proposal {
+    let parent = match chance.below(3) {
+        0 => chance.below(view.max(1)),
+        _ => view.saturating_sub(1),
+    };
+    let payload = if chance.below(4) == 0 { B } else { A };
+    Proposal {
+        view,
+        parent,
+        payload,
+    }
+}
+
+/// Why a view is given up.
+fn reason(chance: &mut Chance) -> TimeoutReason {
+    match chance.below(3) {
+        0 => TimeoutReason::Inactivity,
+        1 => TimeoutReason::LeaderNullify,
+        _ => TimeoutReason::InvalidProposal,
+    }
+}
+
+/// A certificate of the view.
+fn entry(chance: &mut Chance, view: u64) -> Entry {
+    match chance.below(3) {
+        0 => Entry::Notarization(view),
+        1 => Entry::Nullification(view),
+        _ => Entry::Finalization(view),
+    }
+}
+
+/// What is learnt of the view.
+fn learnt(chance: &mut Chance, now: u64, view: u64) -> Point {
+    let mark = chance.below(4);
+    let proposal = proposal(chance, view);
+    match chance.below(9) {
+        0 => Point::Started {
+            now,
+            payload: GENESIS,
+        },
+        1..=2 => Point::Notarized { proposal, mark },
+        3 => Point::Nullified { now, view, mark },
+        4 => Point::Finalized {
+            now,
+            proposal,
+            mark,
+        },
+        5..=6 => Point::Judged {
+            now,
+            view,
+            ok: chance.below(4) != 0,
+        },
+        _ => Point::Forwarded { view, proposal },
+    }
+}
+
+/// What is done in the view.
+fn done(chance: &mut Chance, now: u64, view: u64) -> Point {
+    let proposal = proposal(chance, view);
+    let parent_payload = if chance.below(2) == 0 { A } else { GENESIS };
+    match chance.below(9) {
+        0 => Point::Built {
+            now,
+            proposal,
+            parent_payload,
+        },
+        1..=2 => Point::Confirmed { view },
+        3 => Point::BuildAsked { view },
+        4 => Point::VerifyAsked {
+            view,
+            proposal,
+            parent_payload,
+        },
+        5..=6 => Point::VotedNotarize { view },
+        7 => Point::VotedNullify { view },
+        _ => Point::VotedFinalize { view },
+    }
+}
+
+/// What is told of the view.
+fn told(chance: &mut Chance, now: u64, view: u64) -> Point {
+    let reason = reason(chance);
+    match chance.below(7) {
+        0 => Point::Unbound { view },
+        1 => Point::BuildReleased { view },
+        2 => Point::Latched { now, view, reason },
+        3 => Point::AncestryAsked {
+            view,
+            missing: chance.below(view.max(1)),
+        },
+        4 => Point::CertifyAsked { view },
+        5 => Point::CertifyWaited { view },
+        _ => Point::Polled { now },
+    }
+}
+
+/// What the record says of the view, what is handed out of it, or a prune.
+fn recalled(chance: &mut Chance, view: u64) -> Point {
+    let entry = entry(chance, view);
+    match chance.below(8) {
+        0 => Point::RecalledNotarize {
+            proposal: proposal(chance, view),
+        },
+        1 => Point::RecalledNullify { view },
+        2 => Point::RecalledFinalize { view },
+        3 => Point::RecalledVerdict {
+            view,
+            ok: chance.below(3) != 0,
+        },
+        4 => Point::RecalledSent(entry),
+        5..=6 => Point::Sent(entry),
+        _ => Point::Pruned,
+    }
+}
+
+/// What comes next, at this moment and current view.
+fn next(chance: &mut Chance, now: u64, current: u64) -> Point {
+    let view = view(chance, current);
+    match chance.below(8) {
+        0..=2 => learnt(chance, now, view),
+        3..=5 => done(chance, now, view),
+        6 => told(chance, now, view),
+        _ => recalled(chance, view),
+    }
+}
+
+/// Behind a point that was spoken of this view, the voter tells what the plain program tells.
+fn agree(rt: &impl Abort, beside: &Beside, chance: &mut Chance, view: u64) {
+    beside.agrees(rt);
+    beside.agrees_at(rt, view);
+    let other = chance.below(26);
+    beside.agrees_at(rt, other);
+    beside.agrees_between(rt, other, view);
+}
+
+/// One history: how many of its points stand.
+fn history(rt: &impl Abort, alloc: Global, seed: u64) -> Option<usize> {
+    let mut chance = Chance::seeded(seed);
+    let setup = setup(&mut chance);
+    let mut beside = Beside::new(alloc, &setup)?;
+    for moment in 0..16 {
+        let current = beside.history().current();
+        let point = next(&mut chance, moment * 60, current);
+        beside.hand(rt, alloc, point)?;
+        agree(rt, &beside, &mut chance, current);
+    }
+    beside.knows_itself(rt);
+    Some(beside.history().points.len())
+}
+
+/// The histories of these seeds.
+fn histories(rt: &impl Abort, alloc: Global, seeds: Range<u64>) -> Result<(), Fail> {
+    let mut count = 0;
+    for seed in seeds {
+        let stands = history(rt, alloc, seed).ok_or("refused")?;
+        count = stands.saturating_add(count);
+    }
+    // Where nothing stood there was nothing to agree on.
+    holds(rt, 20_000 < count);
+    Ok(())
+}
+
+#[test]
+fn the_first_histories_are_as_the_plain_program_tells(rt: HostRuntime) -> Result<(), Fail> {
+    histories(&rt, rt.alloc(), 0..2_500)
+}
+
+#[test]
+fn the_second_histories_are_as_the_plain_program_tells(rt: HostRuntime) -> Result<(), Fail> {
+    histories(&rt, rt.alloc(), 2_500..5_000)
+}
+
+#[test]
+fn the_third_histories_are_as_the_plain_program_tells(rt: HostRuntime) -> Result<(), Fail> {
+    histories(&rt, rt.alloc(), 5_000..7_500)
+}
+
+#[test]
+fn the_last_histories_are_as_the_plain_program_tells(rt: HostRuntime) -> Result<(), Fail> {
+    histories(&rt, rt.alloc(), 7_500..10_000)
+}
