@@ -188,9 +188,9 @@ fn history(rt: &impl Abort, alloc: Global, seed: u64) -> Option<usize> {
     let mut chance = Chance::seeded(seed);
     let setup = setup(&mut chance);
     let mut beside = Beside::new(alloc, &setup)?;
-    for moment in 0..16 {
+    for moment in 0..12 {
         let current = beside.history().current();
-        let point = next(&mut chance, moment * 60, current);
+        let point = next(&mut chance, moment * 75, current);
         beside.hand(rt, alloc, point)?;
         agree(rt, &beside, &mut chance, current);
     }
@@ -206,26 +206,31 @@ fn histories(rt: &impl Abort, alloc: Global, seeds: Range<u64>) -> Result<(), Fa
         count = stands.saturating_add(count);
     }
     // Where nothing stood there was nothing to agree on.
-    holds(rt, 20_000 < count);
+    holds(rt, 15_000 < count);
     Ok(())
 }
 
 #[test]
 fn the_first_histories_are_as_the_plain_program_tells(rt: HostRuntime) -> Result<(), Fail> {
-    histories(&rt, rt.alloc(), 0..2_500)
+    histories(&rt, rt.alloc(), 0..2_000)
 }
 
 #[test]
 fn the_second_histories_are_as_the_plain_program_tells(rt: HostRuntime) -> Result<(), Fail> {
-    histories(&rt, rt.alloc(), 2_500..5_000)
+    histories(&rt, rt.alloc(), 2_000..4_000)
 }
 
 #[test]
 fn the_third_histories_are_as_the_plain_program_tells(rt: HostRuntime) -> Result<(), Fail> {
-    histories(&rt, rt.alloc(), 5_000..7_500)
+    histories(&rt, rt.alloc(), 4_000..6_000)
+}
+
+#[test]
+fn the_fourth_histories_are_as_the_plain_program_tells(rt: HostRuntime) -> Result<(), Fail> {
+    histories(&rt, rt.alloc(), 6_000..8_000)
 }
 
 #[test]
 fn the_last_histories_are_as_the_plain_program_tells(rt: HostRuntime) -> Result<(), Fail> {
-    histories(&rt, rt.alloc(), 7_500..10_000)
+    histories(&rt, rt.alloc(), 8_000..10_000)
 }

@@ -84,7 +84,13 @@ impl<'a> History<'a> {
         {
             return self.setup.me;
         }
-        if self.follows(view) { before } else { None }
+        // Asked first, since the rest takes long.
+        let leader = before?;
+        if self.follows(view) {
+            Some(leader)
+        } else {
+            None
+        }
     }
 
     /// Who leads each view behind the last point, by who did before it: whoever becomes known first stays, until the view
