@@ -1,5 +1,5 @@
 -- Who leads by the elector of the tests.
-use Rattle.std.specs.Prelude.{◌≡◌, ◌+◌, ◌%◌, ◌^◌, ℕ, List, length, Option, Some, None}
+use Rattle.std.specs.Prelude.{◌≡◌, ◌+◌, ◌%◌, ◌^◌, refl, ℕ, List, length, Option, Some, None}
 use Rattle.simplex_rules.specs.declared.elector.Mode.{Mode}
 use Rattle.simplex_rules.specs.declared.elector.Mode.TheVariants.{Scheduled, Dynamic}
 

@@ -226,3 +226,8 @@ pub fn walk(rt: &impl Abort, alloc: Global, setup: &Setup, steps: &[Step]) -> Op
     beside.agrees_everywhere(rt);
     Some(beside)
 }
+
+/// The same, where no memory is refused.
+pub fn walked(rt: &impl Abort, alloc: Global, setup: &Setup, steps: &[Step]) -> Beside {
+    walk(rt, alloc, setup, steps).expect(rt, "there is memory")
+}

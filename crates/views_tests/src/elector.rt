@@ -1,9 +1,9 @@
 //! An elector of the tests' own: a schedule, or one for which certificates matter.
 
-ghost use Rattle.std.specs.Prelude.{◌<◌, ◌×◌, IfSome};
+ghost use Rattle.std.specs.Prelude.{◌≡◌, ◌<◌, IfSome, refl, option_copied};
 ghost use Rattle.simplex_rules.specs.Rotation.{IsOrder, view_leader};
 ghost use Rattle.simplex_rules.specs.Turns.{leader_within, IsOrder-from_IsOrderOf};
-ghost use Rattle.views_tests.specs.Leading.{turn, turn-scheduled};
+ghost use Rattle.views_tests.specs.Leading.{passed, turn, turn-scheduled};
 
 use simplex_rules::elector::{Config, Elector, Mode};
 use simplex_rules::{RoundRobin, RoundRobinElector, Terms};
@@ -34,7 +34,9 @@ impl Duplicate for Chosen {
 }
 
 /// How many turns are passed over.
-fn passed(mode: Mode, certificate: Option<&AttestationList<PlainSignature>>) -> u64 {
+fn turns_passed(mode: Mode, certificate: Option<&AttestationList<PlainSignature>>) -> u64
+    ensures { result ≡ passed mode (option_copied certificate.entry) }
+{
     match (mode, certificate) {
         (Mode::Dynamic, Some(certificate)) => certificate.attestations().len() as u64,
         _ => 0,
@@ -63,7 +65,7 @@ impl Elector<PlainScheme, Sha256Digest> for Chosen {
         round: Round,
         certificate: Option<&AttestationList<PlainSignature>>,
     ) -> Participant {
-        let passed = passed(self.mode, certificate);
+        let passed = turns_passed(self.mode, certificate);
         let view = View::new(round.view.get().wrapping_add(passed));
         let turn = Round::new(round.epoch, view);
         Elector::<PlainScheme, Sha256Digest>::elect(&self.turns, turn, None)

@@ -1,29 +1,27 @@
 //! The view that a voter stands at, by each kind of certificate.
 
-use crate::beside::{Beside, Step, walk};
+use crate::beside::{Beside, Step, walked};
 use crate::samples::{
     A, B, finalized, forwarded, holds, judged, member, notarized, nullified, plain, started,
 };
 use simplex_round::TimeoutReason;
 use std::alloc::Global;
 use std::process::Abort;
-use std::test::Fail;
 use voter_plain::Point;
 use voter_plain::answers::Answer;
 
 /// In terms of five views, these lead to this view, and the voter has entered it, and neither the one before nor the one behind it.
-fn enters(rt: &impl Abort, alloc: Global, steps: &[Step], current: u64) -> Result<(), Fail> {
-    let beside = walk(rt, alloc, &member(5, 0), steps).ok_or("refused")?;
+fn enters(rt: &impl Abort, alloc: Global, steps: &[Step], current: u64) {
+    let beside = walked(rt, alloc, &member(5, 0), steps);
     let views = &beside.voter.views;
     holds(rt, views.current_view().get() == current);
     holds(rt, beside.is_entered(current) == (0 < current));
     holds(rt, !beside.is_entered(current.wrapping_sub(1)));
     holds(rt, !beside.is_entered(current.wrapping_add(1)));
-    Ok(())
 }
 
 #[test]
-fn a_term_is_entered_by_each_kind_of_certificate(rt: HostRuntime) -> Result<(), Fail> {
+fn a_term_is_entered_by_each_kind_of_certificate(rt: HostRuntime) {
     let at_ten = Answer::Proposal(plain(10, 9, A));
     let rows: [(&[Step], u64); 8] = [
         (&[], 0),
@@ -48,13 +46,12 @@ fn a_term_is_entered_by_each_kind_of_certificate(rt: HostRuntime) -> Result<(), 
         ),
     ];
     for (steps, current) in rows {
-        enters(&rt, rt.alloc(), steps, current)?;
+        enters(&rt, rt.alloc(), steps, current);
     }
-    Ok(())
 }
 
 #[test]
-fn the_current_view_only_rises(rt: HostRuntime) -> Result<(), Fail> {
+fn the_current_view_only_rises(rt: HostRuntime) {
     let steps = [
         (started(), Answer::Yes),
         (nullified(10, 7), Answer::Yes),
@@ -65,11 +62,10 @@ fn the_current_view_only_rises(rt: HostRuntime) -> Result<(), Fail> {
         (judged(50, 3, true), Answer::Proposal(plain(3, 2, A))),
         (judged(60, 9, true), Answer::No),
     ];
-    let beside = walk(&rt, rt.alloc(), &member(5, 0), &steps).ok_or("refused")?;
+    let beside = walked(&rt, rt.alloc(), &member(5, 0), &steps);
     holds(&rt, beside.voter.views.current_view().get() == 11);
     holds(&rt, beside.voter.views.last_finalized().get() == 4);
     holds(&rt, !beside.is_entered(4) && !beside.is_entered(5));
-    Ok(())
 }
 
 /// A look at the timeout at this moment tells this.
@@ -78,40 +74,40 @@ fn times_out(
     beside: &mut Beside,
     now: u32,
     next: Option<(u64, TimeoutReason)>,
-) -> Result<(), Fail> {
-    holds(rt, beside.poll(rt, now).ok_or("refused")? == next);
-    Ok(())
+) {
+    let told = beside.poll(rt, now).expect(rt, "there is memory");
+    holds(rt, told == next);
 }
 
 #[test]
-fn deadlines_run_from_the_entry_on(rt: HostRuntime) -> Result<(), Fail> {
+fn deadlines_run_from_the_entry_on(rt: HostRuntime) {
     let steps = [
         (nullified(300, 5), Answer::Yes),
         (nullified(400, 6), Answer::Yes),
     ];
-    let mut beside = walk(&rt, rt.alloc(), &member(5, 0), &steps).ok_or("refused")?;
+    let mut beside = walked(&rt, rt.alloc(), &member(5, 0), &steps);
     // Nothing is held: the leader's deadline. Something is: the verdict's.
     let silent = Some((1_400, TimeoutReason::LeaderTimeout));
-    times_out(&rt, &mut beside, 500, silent)?;
-    beside.hand(&rt, rt.alloc(), forwarded(11, 10, A)).ok_or("refused")?;
+    times_out(&rt, &mut beside, 500, silent);
+    beside.hand(&rt, rt.alloc(), forwarded(11, 10, A)).expect(&rt, "there is memory");
     let unjudged = Some((2_400, TimeoutReason::CertificationTimeout));
-    times_out(&rt, &mut beside, 600, unjudged)
+    times_out(&rt, &mut beside, 600, unjudged);
 }
 
 #[test]
-fn nothing_times_out_before_the_start(rt: HostRuntime) -> Result<(), Fail> {
-    let mut beside = walk(&rt, rt.alloc(), &member(1, 0), &[]).ok_or("refused")?;
-    times_out(&rt, &mut beside, 500, None)
+fn nothing_times_out_before_the_start(rt: HostRuntime) {
+    let mut beside = walked(&rt, rt.alloc(), &member(1, 0), &[]);
+    times_out(&rt, &mut beside, 500, None);
 }
 
 #[test]
-fn a_false_verdict_counts_where_its_view_is_not_behind(rt: HostRuntime) -> Result<(), Fail> {
+fn a_false_verdict_counts_where_its_view_is_not_behind(rt: HostRuntime) {
     let steps = [
         (started(), Answer::Yes),
         (notarized(1, 0, A), Answer::Yes),
         (judged(700, 1, false), Answer::Proposal(plain(1, 0, A))),
     ];
-    let mut beside = walk(&rt, rt.alloc(), &member(5, 0), &steps).ok_or("refused")?;
+    let mut beside = walked(&rt, rt.alloc(), &member(5, 0), &steps);
     let failed = Some((700, TimeoutReason::FailedCertification));
-    times_out(&rt, &mut beside, 800, failed)
+    times_out(&rt, &mut beside, 800, failed);
 }

@@ -7,9 +7,8 @@ use simplex_round::TimeoutReason;
 use std::alloc::Global;
 use std::ops::Range;
 use std::process::Abort;
-use std::test::Fail;
 use voter_plain::getters::Entry;
-use voter_plain::{Point, Proposal, Setup};
+use voter_plain::{History, Point, Proposal, Setup};
 
 /// A committee of up to seven members, in terms of 1, 2 or 5 views with up to two optimistic ones.
 fn setup(chance: &mut Chance) -> Setup {
@@ -39,9 +38,10 @@ fn setup(chance: &mut Chance) -> Setup {
 
 /// A view to speak of: often the current one or the next, and always below 22.
 fn view(chance: &mut Chance, current: u64) -> u64 {
-    let view = match chance.below(4) {
-        0 | 1 => current,
-        2 => current.saturating_add(1),
+    let view = match chance.below(8) {
+        0..=2 => current,
+        3 => current.saturating_add(1),
+        4..=6 => current.saturating_sub(1),
         _ => 1 + chance.below(12),
     };
     view.max(1).min(21)
@@ -163,74 +163,112 @@ fn recalled(chance: &mut Chance, view: u64) -> Point {
     }
 }
 
-/// What comes next, at this moment and current view.
-fn next(chance: &mut Chance, now: u64, current: u64) -> Point {
-    let view = view(chance, current);
-    match chance.below(8) {
-        0..=2 => learnt(chance, now, view),
-        3..=5 => done(chance, now, view),
-        6 => told(chance, now, view),
-        _ => recalled(chance, view),
+/// What comes next in the life of a view that goes well.
+fn onward(plain: History<'_>, now: u64, view: u64) -> Point {
+    let mark = 3;
+    let Some(proposal) = plain.held(view) else {
+        return Point::Forwarded {
+            view,
+            proposal: on_the_view_before(view),
+        };
+    };
+    if !plain.is_verified(view) {
+        return Point::Confirmed { view };
+    }
+    if plain.may_notarize(view).is_some() {
+        return Point::VotedNotarize { view };
+    }
+    if plain.notarized(view).is_none() {
+        return Point::Notarized { proposal, mark };
+    }
+    if plain.verdict(view).is_none() {
+        let ok = true;
+        return Point::Judged { now, view, ok };
+    }
+    if plain.may_finalize(view).is_some() {
+        return Point::VotedFinalize { view };
+    }
+    Point::Finalized {
+        now,
+        proposal,
+        mark,
     }
 }
 
-/// Behind a point that was spoken of this view, the voter tells what the plain program tells.
-fn agree(rt: &impl Abort, beside: &Beside, chance: &mut Chance, view: u64) {
+/// A proposal on the view before.
+fn on_the_view_before(view: u64) -> Proposal {
+    Proposal {
+        view,
+        parent: view.saturating_sub(1),
+        payload: A,
+    }
+}
+
+/// What comes next, at this moment.
+fn next(chance: &mut Chance, plain: History<'_>, now: u64) -> Point {
+    let view = view(chance, plain.current());
+    match chance.below(14) {
+        0..=2 => learnt(chance, now, view),
+        3..=5 => done(chance, now, view),
+        6 => told(chance, now, view),
+        7 => recalled(chance, view),
+        _ => onward(plain, now, view),
+    }
+}
+
+/// Of all views together, of this one and of another the voter tells what the plain program tells.
+fn agree(rt: &impl Abort, beside: &Beside, view: u64, other: u64) {
     beside.agrees(rt);
     beside.agrees_at(rt, view);
-    let other = chance.below(26);
     beside.agrees_at(rt, other);
     beside.agrees_between(rt, other, view);
 }
 
-/// One history: how many of its points stand.
-fn history(rt: &impl Abort, alloc: Global, seed: u64) -> Option<usize> {
+/// One history: how many of its calls were no call in vain.
+fn history(rt: &impl Abort, alloc: Global, seed: u64) -> usize {
     let mut chance = Chance::seeded(seed);
-    let setup = setup(&mut chance);
-    let mut beside = Beside::new(alloc, &setup)?;
+    let mut beside = Beside::new(alloc, &setup(&mut chance)).expect(rt, "there is memory");
     for moment in 0..12 {
         let current = beside.history().current();
-        let point = next(&mut chance, moment * 75, current);
-        beside.hand(rt, alloc, point)?;
-        agree(rt, &beside, &mut chance, current);
+        let point = next(&mut chance, beside.history(), moment * 75);
+        beside.hand(rt, alloc, point).expect(rt, "there is memory");
+        agree(rt, &beside, current, chance.below(26));
     }
     beside.knows_itself(rt);
-    Some(beside.history().points.len())
+    beside.history().points.len()
 }
 
 /// The histories of these seeds.
-fn histories(rt: &impl Abort, alloc: Global, seeds: Range<u64>) -> Result<(), Fail> {
-    let mut count = 0;
+fn histories(rt: &impl Abort, alloc: Global, seeds: Range<u64>) {
+    let mut count = 0usize;
     for seed in seeds {
-        let stands = history(rt, alloc, seed).ok_or("refused")?;
-        count = stands.saturating_add(count);
+        count = count.saturating_add(history(rt, alloc, seed));
     }
     // Where nothing stood there was nothing to agree on.
     holds(rt, 15_000 < count);
-    Ok(())
 }
 
 #[test]
-fn the_first_histories_are_as_the_plain_program_tells(rt: HostRuntime) -> Result<(), Fail> {
-    histories(&rt, rt.alloc(), 0..2_000)
+fn the_first_histories_are_as_the_plain_program_tells(rt: HostRuntime) {
+    histories(&rt, rt.alloc(), 0..2_000);
 }
 
 #[test]
-fn the_second_histories_are_as_the_plain_program_tells(rt: HostRuntime) -> Result<(), Fail> {
-    histories(&rt, rt.alloc(), 2_000..4_000)
+fn the_second_histories_are_as_the_plain_program_tells(rt: HostRuntime) {
+    histories(&rt, rt.alloc(), 2_000..4_000);
 }
 
 #[test]
-fn the_third_histories_are_as_the_plain_program_tells(rt: HostRuntime) -> Result<(), Fail> {
-    histories(&rt, rt.alloc(), 4_000..6_000)
+fn the_third_histories_are_as_the_plain_program_tells(rt: HostRuntime) {
+    histories(&rt, rt.alloc(), 4_000..6_000);
 }
 
 #[test]
-fn the_fourth_histories_are_as_the_plain_program_tells(rt: HostRuntime) -> Result<(), Fail> {
-    histories(&rt, rt.alloc(), 6_000..8_000)
+fn the_fourth_histories_are_as_the_plain_program_tells(rt: HostRuntime) {
+    histories(&rt, rt.alloc(), 6_000..8_000);
 }
 
 #[test]
-fn the_last_histories_are_as_the_plain_program_tells(rt: HostRuntime) -> Result<(), Fail> {
-    histories(&rt, rt.alloc(), 8_000..10_000)
+fn the_last_histories_are_as_the_plain_program_tells(rt: HostRuntime) {
+    histories(&rt, rt.alloc(), 8_000..10_000);
 }

@@ -1,12 +1,11 @@
 //! Who leads, by each of the rules.
 
-use crate::beside::{Step, walk};
+use crate::beside::{Step, walked};
 use crate::samples::{
     A, B, finalized, forwarded, holds, member, notarized, nullified, plain, started,
 };
 use std::alloc::Global;
 use std::process::Abort;
-use std::test::Fail;
 use voter_plain::answers::Answer;
 use voter_plain::{Point, Setup};
 
@@ -17,16 +16,15 @@ fn are_led(
     setup: &Setup,
     steps: &[Step],
     rows: &[(u64, Option<u32>)],
-) -> Result<(), Fail> {
-    let beside = walk(rt, alloc, setup, steps).ok_or("refused")?;
+) {
+    let beside = walked(rt, alloc, setup, steps);
     for (view, leader) in rows {
         holds(rt, beside.leader(*view) == *leader);
     }
-    Ok(())
 }
 
 #[test]
-fn a_certificate_names_who_leads_behind_it(rt: HostRuntime) -> Result<(), Fail> {
+fn a_certificate_names_who_leads_behind_it(rt: HostRuntime) {
     let steps = [
         (started(), Answer::Yes),
         (notarized(2, 1, A), Answer::Yes),
@@ -42,20 +40,20 @@ fn a_certificate_names_who_leads_behind_it(rt: HostRuntime) -> Result<(), Fail> 
         (8, None),
         (11, Some(3)),
     ];
-    are_led(&rt, rt.alloc(), &member(5, 0), &steps, &rows)
+    are_led(&rt, rt.alloc(), &member(5, 0), &steps, &rows);
 }
 
 #[test]
-fn a_certificate_reaches_as_far_as_views_are_optimistic(rt: HostRuntime) -> Result<(), Fail> {
+fn a_certificate_reaches_as_far_as_views_are_optimistic(rt: HostRuntime) {
     let steps = [(started(), Answer::Yes), (notarized(2, 1, A), Answer::Yes)];
     let rows = [(2, None), (3, Some(1)), (5, Some(1)), (6, None)];
-    are_led(&rt, rt.alloc(), &member(5, 2), &steps, &rows)?;
+    are_led(&rt, rt.alloc(), &member(5, 2), &steps, &rows);
     let rows = [(3, Some(1)), (4, Some(1)), (5, None)];
-    are_led(&rt, rt.alloc(), &member(5, 1), &steps, &rows)
+    are_led(&rt, rt.alloc(), &member(5, 1), &steps, &rows);
 }
 
 #[test]
-fn a_proposal_hands_its_leader_on(rt: HostRuntime) -> Result<(), Fail> {
+fn a_proposal_hands_its_leader_on(rt: HostRuntime) {
     // In whatever order they come, and also where another one is held.
     let steps = [
         (forwarded(1, 0, A), Answer::Yes),
@@ -64,13 +62,13 @@ fn a_proposal_hands_its_leader_on(rt: HostRuntime) -> Result<(), Fail> {
         (forwarded(2, 1, A), Answer::No),
     ];
     let rows = [(1, Some(1)), (2, Some(1)), (3, Some(1)), (4, None)];
-    are_led(&rt, rt.alloc(), &member(5, 2), &steps, &rows)?;
+    are_led(&rt, rt.alloc(), &member(5, 2), &steps, &rows);
     let rows = [(1, Some(1)), (2, None)];
-    are_led(&rt, rt.alloc(), &member(5, 0), &steps, &rows)
+    are_led(&rt, rt.alloc(), &member(5, 0), &steps, &rows);
 }
 
 #[test]
-fn an_own_vote_hands_its_leader_on(rt: HostRuntime) -> Result<(), Fail> {
+fn an_own_vote_hands_its_leader_on(rt: HostRuntime) {
     let proposal = plain(1, 0, A);
     let built = Point::Built {
         now: 0,
@@ -87,12 +85,12 @@ fn an_own_vote_hands_its_leader_on(rt: HostRuntime) -> Result<(), Fail> {
         (recalled, Answer::Yes),
     ];
     let rows = [(1, Some(1)), (2, Some(1)), (3, Some(1)), (4, None)];
-    are_led(&rt, rt.alloc(), &member(5, 2), &steps, &rows)?;
-    are_led(&rt, rt.alloc(), &member(5, 2), &steps[..2], &[(2, None)])
+    are_led(&rt, rt.alloc(), &member(5, 2), &steps, &rows);
+    are_led(&rt, rt.alloc(), &member(5, 2), &steps[..2], &[(2, None)]);
 }
 
 #[test]
-fn a_certificate_decides_where_leaders_take_no_turns(rt: HostRuntime) -> Result<(), Fail> {
+fn a_certificate_decides_where_leaders_take_no_turns(rt: HostRuntime) {
     let setup = Setup {
         is_scheduled: false,
         retention: 0,
@@ -117,5 +115,5 @@ fn a_certificate_decides_where_leaders_take_no_turns(rt: HostRuntime) -> Result<
         (11, Some(1)),
         (16, Some(0)),
     ];
-    are_led(&rt, rt.alloc(), &setup, &steps, &rows)
+    are_led(&rt, rt.alloc(), &setup, &steps, &rows);
 }

@@ -1,15 +1,14 @@
 //! What a voter takes in from its member's record, in the order of the record.
 
-use crate::beside::walk;
+use crate::beside::walked;
 use crate::samples::{A, B, finalized, forwarded, holds, judged, member, notarized, nullified, plain, started};
 use simplex_types::View;
-use std::test::Fail;
 use voter_plain::Point;
 use voter_plain::answers::Answer;
 use voter_plain::getters::Entry;
 
 #[test]
-fn a_record_is_taken_in_in_its_order(rt: HostRuntime) -> Result<(), Fail> {
+fn a_record_is_taken_in_in_its_order(rt: HostRuntime) {
     let recalled = |proposal| Point::RecalledNotarize { proposal };
     let steps = [
         (started(), Answer::Yes),
@@ -34,13 +33,12 @@ fn a_record_is_taken_in_in_its_order(rt: HostRuntime) -> Result<(), Fail> {
         (Point::VotedFinalize { view: 1 }, Answer::No),
         (Point::VotedNullify { view: 2 }, Answer::Again),
     ];
-    let beside = walk(&rt, rt.alloc(), &member(1, 0), &steps).ok_or("refused")?;
+    let beside = walked(&rt, rt.alloc(), &member(1, 0), &steps);
     holds(&rt, beside.voter.views.current_view() == View::new(3));
-    Ok(())
 }
 
 #[test]
-fn a_recorded_notarize_is_bound_to_what_its_parent_holds(rt: HostRuntime) -> Result<(), Fail> {
+fn a_recorded_notarize_is_bound_to_what_its_parent_holds(rt: HostRuntime) {
     let recalled = |proposal| Point::RecalledNotarize { proposal };
     let steps = [
         (started(), Answer::Yes),
@@ -49,12 +47,11 @@ fn a_recorded_notarize_is_bound_to_what_its_parent_holds(rt: HostRuntime) -> Res
         (recalled(plain(2, 1, B)), Answer::Yes),
         (recalled(plain(3, 2, A)), Answer::Yes),
     ];
-    let beside = walk(&rt, rt.alloc(), &member(5, 2), &steps).ok_or("refused")?;
+    let beside = walked(&rt, rt.alloc(), &member(5, 2), &steps);
     // Genesis is no proposal. Where another proposal is held, the vote counts and its proposal is not taken.
     holds(&rt, beside.binding(1).is_none());
     holds(&rt, beside.binding(2) == Some((plain(2, 1, B), A)));
     let views = &beside.voter.views;
     holds(&rt, views.is_backed(View::new(2)));
     holds(&rt, !views.is_backed(View::new(3)));
-    Ok(())
 }

@@ -1,17 +1,16 @@
 //! What is asked for, voted and handed out.
 
-use crate::beside::{Step, walk};
+use crate::beside::{Step, walked};
 use crate::samples::{
     A, B, GENESIS, finalized, forwarded, holds, judged, member, notarized, nullified, plain, started,
 };
 use simplex_types::View;
-use std::test::Fail;
 use voter_plain::Point;
 use voter_plain::answers::Answer;
 use voter_plain::getters::Entry;
 
 #[test]
-fn a_leader_builds_and_votes_once(rt: HostRuntime) -> Result<(), Fail> {
+fn a_leader_builds_and_votes_once(rt: HostRuntime) {
     let own = plain(1, 0, A);
     let built = Point::Built {
         now: 5,
@@ -36,14 +35,13 @@ fn a_leader_builds_and_votes_once(rt: HostRuntime) -> Result<(), Fail> {
         (Point::VotedFinalize { view: 1 }, Answer::No),
         (Point::VotedNullify { view: 1 }, Answer::No),
     ];
-    let beside = walk(&rt, rt.alloc(), &member(1, 0), &steps).ok_or("refused")?;
+    let beside = walked(&rt, rt.alloc(), &member(1, 0), &steps);
     holds(&rt, beside.binding(1) == Some((own, GENESIS)));
     holds(&rt, beside.voter.views.is_backed(View::new(1)));
-    Ok(())
 }
 
 #[test]
-fn another_members_proposal_is_verified_and_voted_for(rt: HostRuntime) -> Result<(), Fail> {
+fn another_members_proposal_is_verified_and_voted_for(rt: HostRuntime) {
     let other = plain(2, 1, B);
     let asked = Point::VerifyAsked {
         view: 2,
@@ -69,13 +67,12 @@ fn another_members_proposal_is_verified_and_voted_for(rt: HostRuntime) -> Result
         (Point::VotedNotarize { view: 2 }, Answer::Proposal(other)),
         (Point::Unbound { view: 2 }, Answer::Yes),
     ];
-    let beside = walk(&rt, rt.alloc(), &member(1, 0), &steps).ok_or("refused")?;
+    let beside = walked(&rt, rt.alloc(), &member(1, 0), &steps);
     holds(&rt, beside.binding(2).is_none());
-    Ok(())
 }
 
 #[test]
-fn a_view_that_was_given_up_takes_no_proposal(rt: HostRuntime) -> Result<(), Fail> {
+fn a_view_that_was_given_up_takes_no_proposal(rt: HostRuntime) {
     let steps = [
         (started(), Answer::Yes),
         (Point::VotedNullify { view: 1 }, Answer::Yes),
@@ -88,12 +85,11 @@ fn a_view_that_was_given_up_takes_no_proposal(rt: HostRuntime) -> Result<(), Fai
         (Point::VotedNotarize { view: 1 }, Answer::No),
         (Point::VotedFinalize { view: 1 }, Answer::No),
     ];
-    walk(&rt, rt.alloc(), &member(1, 0), &steps).ok_or("refused")?;
-    Ok(())
+    walked(&rt, rt.alloc(), &member(1, 0), &steps);
 }
 
 #[test]
-fn a_certificate_is_handed_out_once(rt: HostRuntime) -> Result<(), Fail> {
+fn a_certificate_is_handed_out_once(rt: HostRuntime) {
     let notarization = Point::Sent(Entry::Notarization(1));
     let nullification = Point::Sent(Entry::Nullification(1));
     let finalization = Point::Sent(Entry::Finalization(1));
@@ -111,12 +107,11 @@ fn a_certificate_is_handed_out_once(rt: HostRuntime) -> Result<(), Fail> {
         (finalization, Answer::Yes),
         (finalization, Answer::No),
     ];
-    walk(&rt, rt.alloc(), &member(1, 0), &steps).ok_or("refused")?;
-    Ok(())
+    walked(&rt, rt.alloc(), &member(1, 0), &steps);
 }
 
 #[test]
-fn a_certificate_that_replaces_a_proposal_tells_its_leader(rt: HostRuntime) -> Result<(), Fail> {
+fn a_certificate_that_replaces_a_proposal_tells_its_leader(rt: HostRuntime) {
     let steps = [
         (started(), Answer::Yes),
         (forwarded(1, 0, A), Answer::Yes),
@@ -125,8 +120,7 @@ fn a_certificate_that_replaces_a_proposal_tells_its_leader(rt: HostRuntime) -> R
         (finalized(0, 1, 0, A), Answer::InPlace(1)),
         (Point::VotedNotarize { view: 1 }, Answer::No),
     ];
-    let beside = walk(&rt, rt.alloc(), &member(1, 0), &steps).ok_or("refused")?;
+    let beside = walked(&rt, rt.alloc(), &member(1, 0), &steps);
     let forwardable = beside.voter.views.forwardable_proposal(View::new(1));
     holds(&rt, forwardable.is_some());
-    Ok(())
 }
