@@ -109,7 +109,10 @@ impl Beside {
         holds(rt, genesis == plain.genesis());
         let ahead = views.lookahead();
         holds(rt, u64::from(ahead.length.get()) == plain.setup.length);
-        holds(rt, ahead.optimistic_views.get() == plain.setup.optimistic_views);
+        holds(
+            rt,
+            ahead.optimistic_views.get() == plain.setup.optimistic_views,
+        );
     }
 
     /// So it is of who leads this view, and of which messages of it are taken.
@@ -203,13 +206,14 @@ fn index(member: Option<Participant>) -> Option<u32> {
 
 /// These are the views that a prune drops, ascending.
 fn drops(rt: &impl Abort, plain: History<'_>, dropped: &[View]) {
-    let mut rest = dropped.iter();
+    let mut place = 0usize;
     for view in 0..VIEWS as u64 {
         if plain.drops(view) {
-            holds(rt, rest.next() == Some(&View::new(view)));
+            holds(rt, dropped.get(place) == Some(&View::new(view)));
+            place = place.saturating_add(1);
         }
     }
-    holds(rt, rest.next().is_none());
+    holds(rt, place == dropped.len());
 }
 
 /// What is handed in one after the other, with what is answered.

@@ -69,12 +69,7 @@ fn the_current_view_only_rises(rt: HostRuntime) {
 }
 
 /// A look at the timeout at this moment tells this.
-fn times_out(
-    rt: &impl Abort,
-    beside: &mut Beside,
-    now: u32,
-    next: Option<(u64, TimeoutReason)>,
-) {
+fn times_out(rt: &impl Abort, beside: &mut Beside, now: u32, next: Option<(u64, TimeoutReason)>) {
     let told = beside.poll(rt, now).expect(rt, "there is memory");
     holds(rt, told == next);
 }
@@ -89,7 +84,9 @@ fn deadlines_run_from_the_entry_on(rt: HostRuntime) {
     // Nothing is held: the leader's deadline. Something is: the verdict's.
     let silent = Some((1_400, TimeoutReason::LeaderTimeout));
     times_out(&rt, &mut beside, 500, silent);
-    beside.hand(&rt, rt.alloc(), forwarded(11, 10, A)).expect(&rt, "there is memory");
+    beside
+        .hand(&rt, rt.alloc(), forwarded(11, 10, A))
+        .expect(&rt, "there is memory");
     let unjudged = Some((2_400, TimeoutReason::CertificationTimeout));
     times_out(&rt, &mut beside, 600, unjudged);
 }

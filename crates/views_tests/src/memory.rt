@@ -1,7 +1,9 @@
 //! What is answered where memory is refused.
 
 use crate::beside::{Beside, Step, walk};
-use crate::samples::{A, B, GENESIS, finalized, forwarded, judged, member, notarized, nullified, plain, started};
+use crate::samples::{
+    A, B, GENESIS, finalized, forwarded, judged, member, notarized, nullified, plain, started,
+};
 use simplex_round::TimeoutReason;
 use std::alloc::Global;
 use std::process::Abort;

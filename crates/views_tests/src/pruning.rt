@@ -35,7 +35,10 @@ fn what_covers_outlives_its_view(rt: HostRuntime) {
     drops(&rt, &dropped, &[1, 7]);
     let seven = View::new(7);
     let views = &beside.voter.views;
-    holds(&rt, !views.is_tracked(seven) && views.round(seven).is_none());
+    holds(
+        &rt,
+        !views.is_tracked(seven) && views.round(seven).is_none(),
+    );
     // Its term ends with view 10, above view 8.
     holds(&rt, views.nullification(seven).is_some());
     beside.agrees_between(&rt, 8, 12);

@@ -1,7 +1,9 @@
 //! What a voter takes in from its member's record, in the order of the record.
 
 use crate::beside::walked;
-use crate::samples::{A, B, finalized, forwarded, holds, judged, member, notarized, nullified, plain, started};
+use crate::samples::{
+    A, B, finalized, forwarded, holds, judged, member, notarized, nullified, plain, started,
+};
 use simplex_types::View;
 use voter_plain::Point;
 use voter_plain::answers::Answer;

@@ -35,7 +35,10 @@ fn is_certified(rt: &impl Abort, round: &Seen, plain: History<'_>, view: u64) {
     holds(rt, round.is_certified() == (verdict == Some(true)));
     holds(rt, round.has_failed() == (verdict == Some(false)));
     holds(rt, round.is_directly_notarized() == is_direct);
-    holds(rt, told(round.certified_proposal()) == plain.certified(view));
+    holds(
+        rt,
+        told(round.certified_proposal()) == plain.certified(view),
+    );
     let is_open = verdict.is_none() && !plain.has(Mark::CertifyAsked, view);
     let open = if is_open { plain.notarized(view) } else { None };
     holds(rt, told(round.pending_certification()) == open);

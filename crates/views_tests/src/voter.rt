@@ -5,8 +5,8 @@ ghost use Rattle.std.specs.Prelude.{◌≡◌, ◌+◌, ◌<◌, ◌^◌, IfSome
 
 use crate::elector::Chosen;
 use crate::samples::{
-    Finalized, Kept, Notarized, Nullified, finalization, named, notarization,
-    nullification, own_nullify, own_vote, payload, proposal, verdict,
+    Finalized, Kept, Notarized, Nullified, finalization, named, notarization, nullification,
+    own_nullify, own_vote, payload, proposal, verdict,
 };
 use simplex_round::{Round, TimeoutReason, Token};
 use simplex_types::{
@@ -16,9 +16,9 @@ use simplex_views::Views;
 use std::alloc::Global;
 use std::rc::Rc;
 use voter_plain as plain;
-use voter_plain::{Point, Setup};
 use voter_plain::answers::Answer;
 use voter_plain::getters::Entry;
+use voter_plain::{Point, Setup};
 
 pub type Seen = Round<PlainScheme, Sha256Digest>;
 
@@ -293,7 +293,9 @@ impl Voter {
     fn recall(&mut self, alloc: Global, point: Point) -> Option<Answer> {
         let epoch = self.epoch;
         match point {
-            Point::RecalledNotarize { proposal } => self.replay(own_vote(alloc, 0, epoch, proposal)),
+            Point::RecalledNotarize { proposal } => self.replay(own_vote(
+                alloc, 0, epoch, proposal,
+            )),
             Point::RecalledNullify { view } => self.replay(own_nullify(alloc, epoch, view)),
             Point::RecalledFinalize { view } => {
                 self.replay(own_vote(alloc, 5, epoch, of_view(view)))
@@ -317,15 +319,21 @@ fn of_view(view: u64) -> plain::Proposal {
 /// The certificate of the view, as it stands in a record.
 fn handed_out(alloc: Global, epoch: u64, entry: Entry) -> Option<Kept> {
     match entry {
-        Entry::Notarization(view) => Some(Kept::Notarization(
-            notarization(alloc, epoch, of_view(view), 3)?,
-        )),
-        Entry::Nullification(view) => Some(Kept::Nullification(
-            nullification(alloc, epoch, view, 3)?,
-        )),
-        Entry::Finalization(view) => Some(Kept::Finalization(
-            finalization(alloc, epoch, of_view(view), 3)?,
-        )),
+        Entry::Notarization(view) => Some(Kept::Notarization(notarization(
+            alloc,
+            epoch,
+            of_view(view),
+            3,
+        )?)),
+        Entry::Nullification(view) => Some(Kept::Nullification(nullification(
+            alloc, epoch, view, 3,
+        )?)),
+        Entry::Finalization(view) => Some(Kept::Finalization(finalization(
+            alloc,
+            epoch,
+            of_view(view),
+            3,
+        )?)),
     }
 }
 

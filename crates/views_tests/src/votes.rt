@@ -2,7 +2,8 @@
 
 use crate::beside::{Step, walked};
 use crate::samples::{
-    A, B, GENESIS, finalized, forwarded, holds, judged, member, notarized, nullified, plain, started,
+    A, B, GENESIS, finalized, forwarded, holds, judged, member, notarized, nullified, plain,
+    started,
 };
 use simplex_types::View;
 use voter_plain::Point;

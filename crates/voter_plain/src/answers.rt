@@ -129,10 +129,10 @@ impl<'a> History<'a> {
     /// What the call answers that would add the point.
     pub fn answer_to(self, point: Point) -> Answer {
         match point {
-            Point::Notarized { proposal, .. } if self.notarized(proposal.view).is_none() => self
-                .takes_certificate(proposal),
-            Point::Finalized { proposal, .. } if self.finalized(proposal.view).is_none() => self
-                .takes_certificate(proposal),
+            Point::Notarized { proposal, .. } if self.notarized(proposal.view).is_none() =>
+                self.takes_certificate(proposal),
+            Point::Finalized { proposal, .. } if self.finalized(proposal.view).is_none() =>
+                self.takes_certificate(proposal),
             Point::Notarized { .. } | Point::Finalized { .. } => Answer::No,
             Point::Nullified { view, .. } => yes_or_no(!self.keeps_nullification(view)),
             Point::Judged { view, .. } => about(self.notarized(view)),

@@ -15,7 +15,8 @@ impl Entry {
     /// Its view.
     pub fn view(self) -> u64 {
         match self {
-            Entry::Notarization(view) | Entry::Nullification(view) | Entry::Finalization(view) => view,
+            Entry::Notarization(view) | Entry::Nullification(view) | Entry::Finalization(view) =>
+                view,
         }
     }
 }
@@ -168,7 +169,9 @@ impl<'a> History<'a> {
         let current = self.current();
         let next = next_term_start(length, current);
         let later = next.saturating_add(length);
-        let ahead = current.saturating_add(optimistic).saturating_add(optimistic);
+        let ahead = current
+            .saturating_add(optimistic)
+            .saturating_add(optimistic);
         let early = next.saturating_add(optimistic.max(1).min(length));
         let is_near = view <= ahead.saturating_add(1) && view < next;
         let is_heard = view <= current

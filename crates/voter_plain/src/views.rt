@@ -278,7 +278,8 @@ impl<'a> History<'a> {
     pub fn was_nullified(self, view: u64) -> bool {
         let begins = self.begins(view);
         for (place, point) in self.points.iter().enumerate() {
-            if begins <= place && matches!(*point, Point::Nullified { view: at, .. } if at == view)
+            if begins <= place
+                && matches!(*point, Point::Nullified { view: at, .. } if at == view)
             {
                 return true;
             }
