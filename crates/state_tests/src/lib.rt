@@ -4,6 +4,4 @@
 #[cfg(test)]
 mod config;
 #[cfg(test)]
-mod plain;
-#[cfg(test)]
 mod rows;

@@ -1,11 +1,11 @@
 //! The voter's worked cases, told by the plain program. Each row says behind how many points it is asked.
 
-use crate::plain::ancestry::Parent;
-use crate::plain::getters::Entry;
-use crate::plain::requests::{Judging, Look};
-use crate::plain::{History, Point, Proposal, Setup};
 use simplex_round::TimeoutReason;
 use std::process::Abort;
+use voter_plain::ancestry::Parent;
+use voter_plain::getters::Entry;
+use voter_plain::requests::{Judging, Look};
+use voter_plain::{History, Point, Proposal, Setup};
 
 /// The payload at the start, and two more.
 const GENESIS: u8 = 0;
@@ -37,7 +37,7 @@ const fn member(length: u64, optimistic_views: u64) -> Setup {
 }
 
 const fn history<'a>(setup: Setup, points: &'a [Point]) -> History<'a> {
-    History { setup, points }
+    History::new(setup, points)
 }
 
 const fn started() -> Point {

@@ -1,7 +1,7 @@
 //! What is answered of what is kept.
 
-use super::positions::{is_term_start, term_end, term_start};
-use super::{History, Point, VIEWS};
+use super::positions::{is_term_start, next_term_start, term_end, term_start};
+use super::{History, Point, Proposal, VIEWS};
 
 /// A certificate, with the view that it is of.
 #[derive(Clone, Copy, PartialEq, Eq)]
@@ -9,6 +9,16 @@ pub enum Entry {
     Notarization(u64),
     Nullification(u64),
     Finalization(u64),
+}
+
+impl Entry {
+    /// Its view.
+    pub fn view(self) -> u64 {
+        match self {
+            Entry::Notarization(view) | Entry::Nullification(view) | Entry::Finalization(view) =>
+                view,
+        }
+    }
 }
 
 /// The view that something happened to by a point, beside a view that is entered.
@@ -35,6 +45,7 @@ fn touched(point: Point) -> Option<u64> {
         | Point::RecalledNullify { view }
         | Point::RecalledFinalize { view }
         | Point::RecalledVerdict { view, .. } => Some(view),
+        Point::Sent(entry) | Point::RecalledSent(entry) => Some(entry.view()),
         Point::Started { .. }
         | Point::CertifyWaited { .. }
         | Point::Polled { .. }
@@ -99,14 +110,75 @@ impl<'a> History<'a> {
         self.entry(view).is_some() || self.leader(view).is_some()
     }
 
+    /// Whether a prune would drop the view: it is tracked, and need not be kept.
+    pub fn drops(self, view: u64) -> bool {
+        view < self.min_active() && self.is_tracked(view)
+    }
+
     /// The highest view that a prune would drop.
     pub fn last_dropped(self) -> Option<u64> {
         let mut last = None;
         for view in 0..VIEWS as u64 {
-            if view < self.min_active() && self.is_tracked(view) {
+            if self.drops(view) {
                 last = Some(view);
             }
         }
         last
+    }
+
+    /// The proposal that may be forwarded: the held one where the view is finalized, or notarized without a false verdict.
+    pub fn forwardable(self, view: u64) -> Option<Proposal> {
+        let is_notarized = self.notarized(view).is_some() && self.verdict(view) != Some(false);
+        if is_notarized || self.finalized(view).is_some() {
+            self.held(view)
+        } else {
+            None
+        }
+    }
+
+    /// The certified proposal: the held one where the view is finalized, or its verdict true.
+    pub fn certified(self, view: u64) -> Option<Proposal> {
+        if self.verdict(view) == Some(true) || self.finalized(view).is_some() {
+            self.held(view)
+        } else {
+            None
+        }
+    }
+
+    /// When the view is given up with its term, while it isn't finalized.
+    pub fn stall_deadline(self, view: u64) -> Option<u64> {
+        if self.finalized(view).is_some() {
+            return None;
+        }
+        Some(
+            self.entered_at(view)?
+                .saturating_add(self.setup.stall_timeout?),
+        )
+    }
+
+    /// Whether a certificate of the view is taken: the view is kept.
+    pub fn admits_certificate(self, view: u64) -> bool {
+        1 <= view && self.min_active() <= view
+    }
+
+    /// Whether a vote of the view is taken: the view is kept and listened to. Listened to are the views up to the current one,
+    /// at most twice the optimistic views and one more ahead in its term, at the start of the next term as many as are
+    /// optimistic, at least one, and the first two of what comes behind that term.
+    pub fn admits_vote(self, view: u64) -> bool {
+        let (length, optimistic) = (self.setup.length, self.setup.optimistic_views);
+        let current = self.current();
+        let next = next_term_start(length, current);
+        let later = next.saturating_add(length);
+        let ahead = current
+            .saturating_add(optimistic)
+            .saturating_add(optimistic);
+        let early = next.saturating_add(optimistic.max(1).min(length));
+        let is_near = view <= ahead.saturating_add(1) && view < next;
+        let is_heard = view <= current
+            || is_near
+            || (next <= view && view < early)
+            || view == later
+            || view == later.saturating_add(1);
+        is_heard && self.admits_certificate(view)
     }
 }

@@ -1,14 +1,19 @@
 //! What a voter knows and what is due, by a plain list of what happened to it, the oldest first. Each answer goes over the
 //! whole list, sentence by sentence, as slow as it may be. Views lie below `VIEWS`, and parents below their views.
+#![tactic(auto)]
 
 pub mod ancestry;
+pub mod answers;
 pub mod due;
 pub mod getters;
 pub mod leaders;
 pub mod positions;
 pub mod requests;
 pub mod views;
+pub mod world;
 
+use getters::Entry;
+use leaders::Leaders;
 use positions::{next_term_start, term_index};
 use simplex_round::TimeoutReason;
 
@@ -130,6 +135,9 @@ pub enum Point {
         view: u64,
         ok: bool,
     },
+    /// A certificate was handed out; the record says so.
+    Sent(Entry),
+    RecalledSent(Entry),
     Polled {
         now: u64,
     },
@@ -141,15 +149,23 @@ pub enum Point {
 pub struct History<'a> {
     pub setup: Setup,
     pub points: &'a [Point],
+    /// Who leads each view behind all points, where that was worked out before.
+    leaders: Option<&'a Leaders>,
 }
 
 impl<'a> History<'a> {
+    /// These points, in this setup.
+    pub const fn new(setup: Setup, points: &'a [Point]) -> Self {
+        History {
+            setup,
+            points,
+            leaders: None,
+        }
+    }
+
     /// The first so many points.
     pub fn first(self, count: usize) -> History<'a> {
-        History {
-            setup: self.setup,
-            points: self.points.get(..count).unwrap_or(self.points),
-        }
+        History::new(self.setup, self.points.get(..count).unwrap_or(self.points))
     }
 
     /// The view that a point enters, and 0 where it enters none.

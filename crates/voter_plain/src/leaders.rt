@@ -12,12 +12,12 @@ pub type Leaders = [Option<u32>; VIEWS];
 
 impl Setup {
     /// Whom the elector names for a view that was entered by a certificate of this mark, or by none: who has the turn
-    /// of the view's term, or of the view and mark together.
+    /// of the view's term, or of the view and mark together; a turn further in each epoch.
     pub fn elect(&self, view: u64, mark: u64) -> u32 {
         let turn = if self.is_scheduled {
             self.epoch.wrapping_add(term_index(self.length, view))
         } else {
-            view.wrapping_add(mark)
+            self.epoch.wrapping_add(view).wrapping_add(mark)
         };
         if self.participants == 0 {
             return 0;
@@ -84,32 +84,44 @@ impl<'a> History<'a> {
         {
             return self.setup.me;
         }
-        if self.follows(view) { before } else { None }
+        // Asked first, since the rest takes long.
+        let leader = before?;
+        if self.follows(view) {
+            Some(leader)
+        } else {
+            None
+        }
     }
 
-    /// Who leads each view: whoever becomes known first stays, until the view is dropped.
+    /// Who leads each view behind the last point, by who did before it: whoever becomes known first stays, until the view
+    /// is dropped.
+    pub fn follow(self, leaders: &mut Leaders) {
+        let mut before = None;
+        for (view, leader) in leaders.iter_mut().enumerate() {
+            let view = view as u64;
+            if matches!(self.points.last(), Some(Point::Pruned)) && view < self.min_active() {
+                *leader = None;
+            } else if leader.is_none() && 0 < view {
+                *leader = self.becomes_leader(view, before);
+            }
+            before = *leader;
+        }
+    }
+
+    /// Who leads each view.
     pub fn leaders(self) -> Leaders {
         let mut leaders = [None; VIEWS];
         for place in 0..self.points.len() {
-            let now = self.first(place.saturating_add(1));
-            let mut before = None;
-            for (view, leader) in leaders.iter_mut().enumerate() {
-                let view = view as u64;
-                if matches!(self.points.get(place), Some(Point::Pruned))
-                    && view < now.min_active()
-                {
-                    *leader = None;
-                } else if leader.is_none() && 0 < view {
-                    *leader = now.becomes_leader(view, before);
-                }
-                before = *leader;
-            }
+            self.first(place.saturating_add(1)).follow(&mut leaders);
         }
         leaders
     }
 
     /// Who leads the view, as far as it is known.
     pub fn leader(self, view: u64) -> Option<u32> {
-        *self.leaders().get(view as usize)?
+        match self.leaders {
+            Some(leaders) => *leaders.get(view as usize)?,
+            None => *self.leaders().get(view as usize)?,
+        }
     }
 }

@@ -1,5 +1,6 @@
 //! What is known of one view.
 
+use super::getters::Entry;
 use super::positions::issuance_floor;
 use super::{History, Point, Proposal};
 
@@ -13,6 +14,19 @@ pub enum Mark {
     VerifyAsked,
     CertifyAsked,
     CertifyWaited,
+    SentNotarization,
+    SentNullification,
+    SentFinalization,
+}
+
+/// That this certificate was handed out.
+fn handed_out(entry: Entry) -> (Mark, u64) {
+    let mark = match entry {
+        Entry::Notarization(_) => Mark::SentNotarization,
+        Entry::Nullification(_) => Mark::SentNullification,
+        Entry::Finalization(_) => Mark::SentFinalization,
+    };
+    (mark, entry.view())
 }
 
 /// Where a proposal that is offered to a view comes from.
@@ -41,6 +55,7 @@ fn marked(point: Point) -> Option<(Mark, u64)> {
         Point::VerifyAsked { view, .. } => Some((Mark::VerifyAsked, view)),
         Point::CertifyAsked { view } => Some((Mark::CertifyAsked, view)),
         Point::CertifyWaited { view } => Some((Mark::CertifyWaited, view)),
+        Point::Sent(entry) | Point::RecalledSent(entry) => Some(handed_out(entry)),
         _ => None,
     }
 }
@@ -211,6 +226,11 @@ impl<'a> History<'a> {
         false
     }
 
+    /// Whether a verdict was put off.
+    pub fn is_waiting(self, view: u64) -> bool {
+        self.has(Mark::CertifyWaited, view)
+    }
+
     /// Whether a build was asked for that was not given back.
     pub fn is_build_asked(self, view: u64) -> bool {
         let begins = self.begins(view);
@@ -252,6 +272,19 @@ impl<'a> History<'a> {
             }
         }
         None
+    }
+
+    /// Whether a nullification of the view was taken since the view is kept.
+    pub fn was_nullified(self, view: u64) -> bool {
+        let begins = self.begins(view);
+        for (place, point) in self.points.iter().enumerate() {
+            if begins <= place
+                && matches!(*point, Point::Nullified { view: at, .. } if at == view)
+            {
+                return true;
+            }
+        }
+        false
     }
 
     /// Whether the view has a notarization or finalization.
@@ -345,7 +378,7 @@ impl<'a> History<'a> {
         false
     }
 
-    /// Whether a nullification of the view was ever taken.
+    /// Whether a nullification of the view was ever taken, however long ago.
     pub fn is_nullified(self, view: u64) -> bool {
         for point in self.points {
             if matches!(*point, Point::Nullified { view: at, .. } if at == view) {

@@ -137,13 +137,11 @@ impl<'a> History<'a> {
         None
     }
 
-    /// When and why the current view is given up by its own: for the latched reason while budget remains, else at the
-    /// leader's deadline while nothing is held, else at the verdict's while it isn't true.
-    fn own_timeout(self) -> Option<(u64, TimeoutReason)> {
+    /// When and why the current view is given up first: for the latched reason where that counts, else at the leader's
+    /// deadline while nothing is held, else at the verdict's while it isn't true.
+    fn first_timeout(self, counts: bool) -> Option<(u64, TimeoutReason)> {
         let view = self.current();
-        if self.has_budget()
-            && let Some(latch) = self.latch(view)
-        {
+        if counts && let Some(latch) = self.latch(view) {
             return Some(latch);
         }
         if self.held(view).is_none()
@@ -158,18 +156,30 @@ impl<'a> History<'a> {
         Some((deadline, TimeoutReason::CertificationTimeout))
     }
 
-    /// When and why the current view is given up: never behind an own finalize or where it is finalized; at the retry
-    /// alone behind an own nullify; else at its own moment, or its term's, where that is no later and the own one lies
-    /// ahead.
-    pub fn timeout(self, now: u64) -> Option<(u64, TimeoutReason)> {
+    /// When and why the current view is given up by what happened to it alone: never before the start, behind an own finalize
+    /// or where it is finalized; at the retry alone behind an own nullify; else at the first of its moments.
+    pub fn own_timeout(self, counts: bool) -> Option<(u64, TimeoutReason)> {
         let view = self.current();
-        if self.has(Mark::Finalize, view) || self.finalized(view).is_some() {
+        if view == 0 || self.has(Mark::Finalize, view) || self.finalized(view).is_some() {
             return None;
         }
         if self.has(Mark::Nullify, view) {
             return Some((self.retry(view)?, TimeoutReason::Retry));
         }
-        let own = self.own_timeout();
+        self.first_timeout(counts)
+    }
+
+    /// When and why the current view is given up: by its own, where the latched reason counts while budget remains; or by its
+    /// term's, where neither nullify nor finalize was voted, it is no later, and the own one lies ahead.
+    pub fn timeout(self, now: u64) -> Option<(u64, TimeoutReason)> {
+        let view = self.current();
+        let own = self.own_timeout(self.has_budget());
+        if self.has(Mark::Finalize, view)
+            || self.finalized(view).is_some()
+            || self.has(Mark::Nullify, view)
+        {
+            return own;
+        }
         let Some(stall) = self.stall() else {
             return own;
         };

@@ -1,0 +1,27 @@
+//! What no contract of a voter's views says: worked cases, each call once, refused memory, and histories beside a plain program.
+#![tactic(auto)]
+
+#[cfg(test)]
+mod beside;
+#[cfg(test)]
+mod elector;
+#[cfg(test)]
+mod entering;
+#[cfg(test)]
+mod histories;
+#[cfg(test)]
+mod leaders;
+#[cfg(test)]
+mod memory;
+#[cfg(test)]
+mod pruning;
+#[cfg(test)]
+mod recalling;
+#[cfg(test)]
+mod rounds;
+#[cfg(test)]
+mod samples;
+#[cfg(test)]
+mod voter;
+#[cfg(test)]
+mod votes;
