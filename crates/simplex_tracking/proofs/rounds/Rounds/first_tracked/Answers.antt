@@ -1,0 +1,11 @@
+use Rattle.simplex_tracking.specs.Rounds.{Keep}
+use Rattle.simplex_tracking.proofs.Finding.{first_from, none_from}
+use Rattle.simplex_tracking.proofs.rounds.Rounds.first_tracked.Goals as goal
+
+pub returns-in-Some : goal.returns-in-Some
+unfolding Keep
+returns-in-Some g c = λ s led past k. first_from k.rounds c.args.from c.range.result (c.range.ensures.in_range tt) _ (c.in-Some.field-0-0.now, c.in-Some.field-0-1.now) c.in-Some.ensures.steps c.get-number.ensures.fits
+
+pub returns-in-None : goal.returns-in-None
+unfolding Keep
+returns-in-None g c = λ s led past k. none_from k.rounds c.args.from c.range.result (c.range.ensures.in_range tt) c.in-None.ensures.steps.0
