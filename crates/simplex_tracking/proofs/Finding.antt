@@ -34,6 +34,14 @@ module _ {S D P G C : Type 0} (key_of : S → ℕ → P) (s : Common S) where
   there_at : (view : ℕ) (found : Option (Round S D P G C)) (round : Round S D P G C) (led : Option ℕ) (past : List (Item S D P G C)) → IsRight key_of s view found led past → found ≡ Some round → IsTracked past led
   there_at view found round led past right some = (rw some at right).0
 
+module _ {X : Type 0} (m : BTreeMap ℕ X) where
+  -- the last of the views before an end lies before it, and the first of those from one on doesn't
+  pub ends_before : (end : ℕ) (range : List (ℕ × X)) → IsRangeOf nat_cmp Unbounded (Excluded end) m range → (rest : List (ℕ × X)) (e : ℕ × X) → range ≡ rest ++ e ∷ [] → e.0 < end
+  ends_before end range is_range rest e is = ranked e.0 end Less (sym (is_range.3 e rest is).0.1)
+
+  pub begins_behind : (from : ℕ) (range : List (ℕ × X)) → IsRangeOf nat_cmp (Included from) Unbounded m range → (rest : List (ℕ × X)) (e : ℕ × X) → range ≡ e ∷ rest → from ≤ e.0
+  begins_behind from range is_range rest e is = le_from_not_gt from e.0 (rw is at is_range.1).0.0
+
 module _ {S D P G C : Type 0} {key_of : S → ℕ → P} {s : Common S} {m : BTreeMap ℕ (Round S D P G C)} {led : ℕ → Option ℕ} {past : ℕ → List (Item S D P G C)} (k : AreKept key_of s m led past) where
   module _ (end : ℕ) (fits : end < 2 ^ 64) (range : List (ℕ × Round S D P G C)) (is_range : IsRangeOf nat_cmp Unbounded (Excluded end) m range) where
     pub none_before : range ≡ [] → AreUntracked led past 0 end
@@ -42,7 +50,7 @@ module _ {S D P G C : Type 0} {key_of : S → ℕ → P} {s : Common S} {m : BTr
     pub last_before : (rest : List (ℕ × Round S D P G C)) (e : ℕ × Round S D P G C) → range ≡ rest ++ e ∷ [] → IsLastTracked led past end e.0
     last_before rest e is =
         let inside = is_range.3 e rest is in
-        let before : e.0 < end = ranked e.0 end Less (sym inside.0.1) in
+        let before = ends_before m end range is_range rest e is in
         record {
           before = before;
           tracked = there_at key_of s e.0 (get nat_cmp m e.0) e.1 (led e.0) (past e.0) (k.at e.0 (omega (arith, before, fits))) inside.1;
@@ -60,7 +68,7 @@ module _ {S D P G C : Type 0} {key_of : S → ℕ → P} {s : Common S} {m : BTr
         let inside = rw is at is_range.1 in
         let least = rw is at is_range.2 in
         record {
-          behind = le_from_not_gt from e.0 inside.0.0;
+          behind = begins_behind m from range is_range rest e is;
           tracked = there_at key_of s e.0 (get nat_cmp m e.0) e.1 (led e.0) (past e.0) (k.at e.0 fits) inside.1;
           bare = λ view above below. bare_at key_of s view (get nat_cmp m view) (led view) (past view) (k.at view (omega (arith, below, fits)))
               (cases_there (get nat_cmp m view ≡ None) (get nat_cmp m view) (λ none. none)

@@ -1,7 +1,7 @@
 //! The rounds of all views of which something is known.
 #![tactic(auto, unfolding(crate::specs::Rounds::Keep))]
 
-ghost use Rattle.std.specs.Prelude.{◌≡◌, ◌↔◌, ◌<◌, ◌+◌, ◌^◌, ◌==◌, if◌then◌else◌, nat_lt, ℕ, Bool, false, true, List, [], ◌∷◌, Option, Some, None, is_none, is_some, IsSome, IsTrue, IfOk, OnOk, MatchOption, option_map};
+ghost use Rattle.std.specs.Prelude.{◌≡◌, ◌↔◌, ◌<◌, ◌≤◌, ◌+◌, ◌^◌, ◌==◌, if◌then◌else◌, nat_lt, ℕ, Bool, false, true, List, [], ◌∷◌, Option, Some, None, is_none, is_some, IsSome, IsTrue, IfSome, IfOk, OnOk, MatchOption, option_map};
 ghost use Rattle.std.specs.Ordering.{nat_cmp};
 ghost use Rattle.std.specs.BTreeMap.{get};
 ghost use Rattle.simplex_round.specs.Held.{held, building, forwarded, confirmed, verifying, Agrees, Differs, IsUnverified};
@@ -53,7 +53,8 @@ impl<S: Scheme<D> + Drop, D: Digest> Rounds<S, D> {
 
     /// The last view before the end of which something is known.
     pub fn last_tracked(&self, end: View) -> Option<View>
-        ensures { AtEach S.key_of self.now (λ s led past. MatchOption result (AreUntracked led past 0 end) (λ last. IsLastTracked led past end last)) }
+        ensures before { IfSome result (λ last. last < end) }
+        ensures tracked { AtEach S.key_of self.now (λ s led past. MatchOption result (AreUntracked led past 0 end) (λ last. IsLastTracked led past end last)) }
     {
         // The proof takes from the number that it has 64 bits.
         let _number = end.get();
@@ -69,7 +70,8 @@ impl<S: Scheme<D> + Drop, D: Digest> Rounds<S, D> {
 
     /// The first view from this one on of which something is known.
     pub fn first_tracked(&self, from: View) -> Option<View>
-        ensures { AtEach S.key_of self.now (λ s led past. MatchOption result (AreUntracked led past from (2 ^ 64)) (λ first. IsFirstTracked led past from first)) }
+        ensures behind { IfSome result (λ first. from ≤ first) }
+        ensures tracked { AtEach S.key_of self.now (λ s led past. MatchOption result (AreUntracked led past from (2 ^ 64)) (λ first. IsFirstTracked led past from first)) }
     {
         match self
             .by_view

@@ -5,6 +5,6 @@ use Rattle.simplex_views.specs.Progress.{frame_of}
 use Rattle.simplex_views.specs.Views.{Keeps}
 use Rattle.simplex_views.proofs.views.Views.first_tracked.Goals as goal
 
-pub returns : goal.returns
+pub returns-clause-tracked : goal.returns-clause-tracked
 unfolding Keeps
-returns g c = λ s h k. c.first_tracked.ensures (frame_of s).common (leader s h) (seen s h) (IsAt-rounds k.progress)
+returns-clause-tracked g c = λ s h k. c.first_tracked.ensures.tracked (frame_of s).common (leader s h) (seen s h) (IsAt-rounds k.progress)
