@@ -1,6 +1,7 @@
 pub mod Certifying
 pub mod Choices
 pub mod Dropping
+pub mod Finding
 pub mod Forwarding
 pub mod Leading
 pub mod Marking

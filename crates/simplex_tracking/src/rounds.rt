@@ -1,14 +1,14 @@
 //! The rounds of all views of which something is known.
 #![tactic(auto, unfolding(crate::specs::Rounds::Keep))]
 
-ghost use Rattle.std.specs.Prelude.{◌≡◌, ◌↔◌, ◌<◌, ◌+◌, ◌^◌, ◌==◌, if◌then◌else◌, nat_lt, ℕ, Bool, false, true, List, [], ◌∷◌, Option, Some, None, is_none, is_some, IsSome, IsTrue, IfOk, OnOk, MatchOption, option_map};
+ghost use Rattle.std.specs.Prelude.{◌≡◌, ◌↔◌, ◌<◌, ◌≤◌, ◌+◌, ◌^◌, ◌==◌, if◌then◌else◌, nat_lt, ℕ, Bool, false, true, List, [], ◌∷◌, Option, Some, None, is_none, is_some, IsSome, IsTrue, IfSome, IfOk, OnOk, MatchOption, option_map};
 ghost use Rattle.std.specs.Ordering.{nat_cmp};
 ghost use Rattle.std.specs.BTreeMap.{get};
 ghost use Rattle.simplex_round.specs.Held.{held, building, forwarded, confirmed, verifying, Agrees, Differs, IsUnverified};
 ghost use Rattle.simplex_round.specs.Past.{offered, sent_notarization, sent_nullification, sent_finalization, has_sent_notarization, has_sent_nullification, has_sent_finalization, entered, armed, notarized, nullified, finalized, judged, bound, built, polled, voted_finalize, voted_notarize, voted_nullify, notarization, nullification, finalization, offers, has_finalized, has_nullified, next_timeout, MayFinalize, MayNotarize, MayPropose, MayVerify};
 ghost use Rattle.simplex_round.specs.Round as one;
 ghost use Rattle.simplex_tracking.specs.Pasts.{bind, forget, put};
-ghost use Rattle.simplex_tracking.specs.Rounds.{Common, Keep, AreBelow, AtEach, IsOpen, IsTracked, Takes, learn, recalled, setup_of, told};
+ghost use Rattle.simplex_tracking.specs.Rounds.{Common, Keep, AreBelow, AreUntracked, AtEach, IsFirstTracked, IsLastTracked, IsOpen, IsTracked, Takes, learn, recalled, setup_of, told};
 
 use crate::notice::Notice;
 use simplex_messages::{Artifact, Finalization, Notarization, Nullification};
@@ -19,6 +19,7 @@ use simplex_types::{
 use std::alloc::{AllocError, Global};
 use std::collections::BTreeMap;
 use std::mem;
+use std::ops::Bound;
 use std::rc::Rc;
 
 /// The rounds of all views of which something is known.
@@ -48,6 +49,42 @@ impl<S: Scheme<D> + Drop, D: Digest> Rounds<S, D> {
         // The proof takes from the number that it has 64 bits.
         let _number = view.get();
         self.by_view.get(&view)
+    }
+
+    /// The last view before the end of which something is known.
+    pub fn last_tracked(&self, end: View) -> Option<View>
+        ensures before { IfSome result (λ last. last < end) }
+        ensures tracked { AtEach S.key_of self.now (λ s led past. MatchOption result (AreUntracked led past 0 end) (λ last. IsLastTracked led past end last)) }
+    {
+        // The proof takes from the number that it has 64 bits.
+        let _number = end.get();
+        match self
+            .by_view
+            .range((Bound::Unbounded, Bound::Excluded(end)))
+            .next_back()
+        {
+            Some((last, _)) => Some(*last),
+            None => None,
+        }
+    }
+
+    /// The first view from this one on of which something is known.
+    pub fn first_tracked(&self, from: View) -> Option<View>
+        ensures behind { IfSome result (λ first. from ≤ first) }
+        ensures tracked { AtEach S.key_of self.now (λ s led past. MatchOption result (AreUntracked led past from (2 ^ 64)) (λ first. IsFirstTracked led past from first)) }
+    {
+        match self
+            .by_view
+            .range((Bound::Included(from), Bound::Unbounded))
+            .next()
+        {
+            Some((&first, _)) => {
+                // The proof takes from the number that it has 64 bits.
+                let _number = first.get();
+                Some(first)
+            }
+            None => None,
+        }
     }
 
     /// Opens the round of a view, where it is not open. Nothing has happened by that.

@@ -10,10 +10,11 @@ mod sending;
 mod timing;
 mod voting;
 
-ghost use Rattle.std.specs.Prelude.{◌≡◌, ◌↔◌, ◌+◌, ◌<◌, ◌≤◌, ◌^◌, ◌∷◌, ℕ, [], Some, IsTrue, IfOk, OnOk, MatchOption, option_copied};
+ghost use Rattle.std.specs.Prelude.{◌≡◌, ◌↔◌, ◌+◌, ◌<◌, ◌≤◌, ◌^◌, ◌∷◌, ℕ, [], Some, IsTrue, IfSome, IfOk, OnOk, MatchOption, option_copied};
 ghost use Rattle.simplex_rules.specs.Windows.{Admits, Retains};
 ghost use Rattle.simplex_round.specs.Past as past;
 ghost use Rattle.simplex_round.specs.Round as one;
+ghost use Rattle.simplex_tracking.specs.Rounds.{AreUntracked, IsFirstTracked, IsLastTracked};
 ghost use Rattle.simplex_views.specs.History.{current, last_finalized, min_active, genesis, nullification, scheduled_leader, seen};
 ghost use Rattle.simplex_views.specs.Leaders.{leader};
 ghost use Rattle.simplex_views.specs.Views.{Keeps, AtEach, built, AreCoveredBetween, IsFirstUncovered, IsTracked, noticed, round_of};
@@ -198,7 +199,8 @@ impl<S: Scheme<D> + Drop, L: Elector<S, D>, D: Digest> Views<S, L, D> {
 
     /// What is known of a view, where something is.
     pub fn round(&self, view: View) -> Option<&Round<S, D>>
-        ensures { AtEach S.Scheme L.Elector self.now (λ s h. MatchOption result ((seen s h view ≡ []) × (leader s h view ≡ None)) (λ r. IsTracked s h view × one.Keeps S.key_of (round_of s view) r.now (leader s h view) (seen s h view))) }
+        ensures value { AtEach S.Scheme L.Elector self.now (λ s h. MatchOption result ((seen s h view ≡ []) × (leader s h view ≡ None)) (λ r. IsTracked s h view × one.Keeps S.key_of (round_of s view) r.now (leader s h view) (seen s h view))) }
+        ensures own { AtEach S.Scheme L.Elector self.now (λ s h. S.own s.scheme ≡ s.me) }
     {
         self.progress.tracked.round(view)
     }
@@ -208,6 +210,22 @@ impl<S: Scheme<D> + Drop, L: Elector<S, D>, D: Digest> Views<S, L, D> {
         ensures { AtEach S.Scheme L.Elector self.now (λ s h. IsTrue result ↔ IsTracked s h view) }
     {
         self.progress.tracked.round(view).is_some()
+    }
+
+    /// The last view before the end of which something is known.
+    pub fn last_tracked(&self, end: View) -> Option<View>
+        ensures before { IfSome result (λ last. last < end) }
+        ensures tracked { AtEach S.Scheme L.Elector self.now (λ s h. MatchOption result (AreUntracked (leader s h) (seen s h) 0 end) (λ last. IsLastTracked (leader s h) (seen s h) end last)) }
+    {
+        self.progress.tracked.rounds.last_tracked(end)
+    }
+
+    /// The first view from this one on of which something is known.
+    pub fn first_tracked(&self, from: View) -> Option<View>
+        ensures behind { IfSome result (λ first. from ≤ first) }
+        ensures tracked { AtEach S.Scheme L.Elector self.now (λ s h. MatchOption result (AreUntracked (leader s h) (seen s h) from (2 ^ 64)) (λ first. IsFirstTracked (leader s h) (seen s h) from first)) }
+    {
+        self.progress.tracked.rounds.first_tracked(from)
     }
 
     /// The notarization of the view.

@@ -24,6 +24,13 @@ impl<S: Scheme<D>, D: Digest> Round<S, D> {
         self.votes.nullify
     }
 
+    /// Whether a finalize was voted.
+    pub fn broadcast_finalize(&self) -> bool
+        ensures { AtEach S.key_of self.now (λ s l h. result ≡ has_finalized h) }
+    {
+        self.votes.finalize
+    }
+
     /// Whether a notarize may be voted: none was, no nullify was, and the held proposal is verified.
     pub fn can_construct_notarize(&self) -> bool
         ensures { AtEach S.key_of self.now (λ s l h. IsTrue result ↔ MayNotarize h) }

@@ -1,0 +1,56 @@
+-- The first of many views that was entered, and what an option gives.
+use Rattle.std.proofs.Common.{◌≡◌, ◌<◌, ◌≤◌, ◌+◌, ℕ, zero, suc, Bool, true, false, refl, sym, ◌∙◌, ⊎_elim, arith}
+use Rattle.std.specs.Prelude.{◌↔◌, List, [], Option, Some, None, IsTrue, is_some}
+use Rattle.std.proofs.lemmas.Bool.{cases_lt}
+use Rattle.simplex_round.specs.Past as past
+use Rattle.simplex_round.specs.Past.{Item}
+use Rattle.simplex_tracking.specs.Rounds.{AreUntracked}
+use Rattle.simplex_due.specs.Due.{first_from}
+
+module _ {D : Type 0} where
+  -- what an option gives is another value exactly where a test of both says so
+  pub is_given : (found wanted : Option D) (given x : D) (b same : Bool) → found ≡ Some given → found ≡ wanted → b ≡ same → IsTrue same ↔ (given ≡ x) → IsTrue b ↔ (wanted ≡ Some x)
+  is_given found wanted given x b same is there test law = (
+    λ yes. sym there ∙ is ∙ (let one : given ≡ x = law.0 (sym test ∙ yes) in cc (one)),
+    λ wants. test ∙ law.1 (let one : Some given ≡ Some x = sym is ∙ there ∙ wants in cc (one)),
+  )
+
+  pub none_is_given : (found wanted : Option D) (x : D) → found ≡ None → found ≡ wanted → IsTrue false ↔ (wanted ≡ Some x)
+  none_is_given found wanted x none there = (λ never. absurd (cc (never)), λ wants. absurd (cc (none, there, wants)))
+
+module _ (test : ℕ → Bool) where
+  -- none of so many passes
+  pub first_from-none : (low n : ℕ) → ((u : ℕ) → low ≤ u → u < low + n → test u ≡ false) → first_from test low n ≡ None
+  first_from-none low zero bare = refl
+  first_from-none low (suc n) bare = rw (bare low (omega arith) (omega arith)) (first_from-none (low + 1) n (λ u from below. bare u (omega (arith, from)) (omega (arith, below))))
+
+  -- this one is the first that passes
+  pub first_from-is : (low n u : ℕ) → low ≤ u → u < low + n → test u ≡ true → ((w : ℕ) → low ≤ w → w < u → test w ≡ false) → first_from test low n ≡ Some u
+  first_from-is low zero u from below passes bare = absurd (omega (arith, from, below))
+  first_from-is low (suc n) u from below passes bare = ⊎_elim
+      (λ before. rw (bare low (omega arith) before) (first_from-is (low + 1) n u (omega (arith, before)) (omega (arith, below)) passes (λ w above under. bare w (omega (arith, above)) under)))
+      (λ behind. let e : u ≡ low = omega (arith, behind, from) in rw (← e, passes) refl)
+      (cases_lt low u)
+
+module _ {S D P G C : Type 0} (led : ℕ → Option ℕ) (t : ℕ → List (Item S D P G C)) where
+  abbrev entered : ℕ → Bool
+  entered u = is_some (past.entered_at (t u))
+
+  -- a view to which nothing happened was not entered
+  unentered : (u : ℕ) → t u ≡ [] → entered u ≡ false
+  unentered u none = rw none refl
+
+  -- none of the views was entered, up to the first tracked one
+  pub unentered_up : (low next first : ℕ) → ((u : ℕ) → low ≤ u → u < next → entered u ≡ false) → AreUntracked led t next first → (u : ℕ) → low ≤ u → u < first → entered u ≡ false
+  unentered_up low next first bare untracked u from below = ⊎_elim
+      (λ before. bare u from before)
+      (λ behind. unentered u (untracked u behind below).0)
+      (cases_lt u next)
+
+  -- nor was the first tracked one
+  pub unentered_through : (low next first : ℕ) → ((u : ℕ) → low ≤ u → u < next → entered u ≡ false) → AreUntracked led t next first → entered first ≡ false
+      → (u : ℕ) → low ≤ u → u < first + 1 → entered u ≡ false
+  unentered_through low next first bare untracked here u from below = ⊎_elim
+      (λ before. unentered_up low next first bare untracked u from before)
+      (λ behind. let e : u ≡ first = omega (arith, behind, below) in rw e here)
+      (cases_lt u first)

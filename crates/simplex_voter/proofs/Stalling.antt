@@ -1,0 +1,57 @@
+-- When a reason counts, and when a term's standstill does.
+use Rattle.std.proofs.Common.{◌≡◌, ◌≤◌, ◌+◌, ◌==◌, ℕ, Bool, true, false, refl, sym, subst, ◌∙◌, ⊎_elim, arith, if◌then◌else◌}
+use Rattle.std.specs.Prelude.{◌↔◌, ◌||◌, not, nat_lt, List, ◌∷◌, Option, None, IsTrue, is_some}
+use Rattle.std.proofs.lemmas.Bool.{cases_Bool}
+use Rattle.std.proofs.lemmas.Bool.Decides.{nat_tests}
+use Rattle.std.proofs.lemmas.Grind.{common_steps}
+use Rattle.simplex_round.specs.declared.timeout_reason.TimeoutReason.{TimeoutReason}
+use Rattle.simplex_round.specs.declared.timeout_reason.TimeoutReason.TheVariants as reason
+use Rattle.simplex_round.specs.Held.{IsUnequivocated}
+use Rattle.simplex_round.specs.Past as past
+use Rattle.simplex_round.specs.Past.{Item}
+use Rattle.simplex_tracking.specs.Pasts.{put}
+use Rattle.simplex_views.specs.History.{Setup, Point, current, polled, seen}
+use Rattle.simplex_due.specs.Due.{IsTracked, MayLatch, has_budget, term_deadline, timeout, timeout_of}
+use Rattle.simplex_voter.specs.Timing.{MayStall}
+
+-- what happened to a view last happened to it
+put-here : {X : Type 0} (at : ℕ) (x : X) (t : ℕ → List X) → put at x t at ≡ x ∷ t at
+put-here at x t = let here : (at == at) ≡ true = grind (arith, common_steps) in rw here refl
+
+-- where something happens to the current view, once there is one
+at_current : {X : Type 0} (view : ℕ) (x : X) (t : ℕ → List X) → nat_lt 0 view ≡ true → (if nat_lt 0 view then put view x t else t) view ≡ x ∷ t view
+at_current view x t started = rw started (put-here view x t)
+
+-- the first of two, where a test says so
+if_true : {X : Type 0} (b : Bool) (x y : X) → b ≡ true → x ≡ (if b then x else y)
+if_true b x y is = rw is refl
+
+-- a view that is decided is given up by its own rules alone
+alone : {S D P G C : Type 0} (now : ℕ) (counts : Bool) (stall : Option ℕ) (x y : List (Item S D P G C)) → y ≡ x → (is_some (past.finalization x) || past.has_finalized x || past.has_nullified x) ≡ true
+    → past.next_timeout x counts ≡ timeout_of now counts stall y
+alone now counts stall x y same decided = subst (λ z. past.next_timeout x counts ≡ timeout_of now counts stall z) (sym same) (if_true (is_some (past.finalization x) || past.has_finalized x || past.has_nullified x) (past.next_timeout x counts) _ decided)
+
+module _ {S D P G C : Type 0} (s : Setup S C) (h : List (Point S D P G C)) where
+  -- that the leader is silent counts exactly where no proposal is held that nothing contradicts
+  pub silence_counts : (view : ℕ) (why : TimeoutReason) (b : Bool) → current s h ≤ view → IsTracked s h view → why ≡ reason.Inactivity → IsTrue b ↔ IsUnequivocated (past.offers (seen s h view))
+      → IsTrue (not b) ↔ MayLatch s h view why
+  silence_counts view why true from tracked silent held = (λ never. absurd (cc never), λ may. absurd (may.heard silent (held.0 refl)))
+  silence_counts view why false from tracked silent held = (λ yes. record { from = from; tracked = tracked; heard = λ same un. absurd (cc (held.1 un)) }, λ may. refl)
+
+  -- where a standstill doesn't count, the view's own rules tell the timeout
+  pub own_alone : (now moment : ℕ) (counts : Bool) (own : Option (ℕ × TimeoutReason)) → ¬ MayStall s (polled now ∷ h) → counts ≡ has_budget s h → moment ≡ now + s.timeout_retry
+      → own ≡ (if nat_lt 0 (current s h) then past.next_timeout (past.polled moment ∷ seen s h (current s h)) counts else None)
+      → own ≡ (if nat_lt 0 (current s h) then timeout s (polled now ∷ h) now else None)
+  own_alone now moment counts own calm budget at is = ⊎_elim
+      (λ started.
+      let x : List (Item S D P G C) = past.polled (now + s.timeout_retry) ∷ seen s h (current s h) in
+      let grown : seen s (polled now ∷ h) (current s h) ≡ x = at_current (current s h) (past.polled (now + s.timeout_retry)) (seen s h) started in
+      let decided : (is_some (past.finalization x) || past.has_finalized x || past.has_nullified x) ≡ true = ⊎_elim
+      (λ yes. yes)
+      (λ open_. absurd (calm (record { started = grind (arith, nat_tests, started); undecided = rw grown open_ })))
+      (cases_Bool (is_some (past.finalization x) || past.has_finalized x || past.has_nullified x)) in
+      let told : own ≡ past.next_timeout x (has_budget s h) = is ∙ rw (started, at, budget) refl in
+      told ∙ alone now (has_budget s h) (term_deadline s (polled now ∷ h)) x (seen s (polled now ∷ h) (current s h)) grown decided
+      ∙ if_true (nat_lt 0 (current s h)) (timeout s (polled now ∷ h) now) None started)
+      (λ before. is ∙ rw before refl)
+      (cases_Bool (nat_lt 0 (current s h)))

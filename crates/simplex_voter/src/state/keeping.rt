@@ -1,0 +1,43 @@
+//! What a voter takes in from the record of its member, and what it drops.
+
+ghost use Rattle.std.specs.Prelude.{◌≡◌, Bool, ◌∷◌, IfOk, OnOk};
+ghost use Rattle.simplex_tracking.specs.Rounds.{Takes};
+ghost use Rattle.simplex_views.specs.History.{pruned, seen};
+ghost use Rattle.simplex_views.specs.Views.{AreDropped, recalls};
+ghost use Rattle.simplex_voter.specs.State.{AtEach, Keeps};
+
+use crate::state::State;
+use simplex_messages::Artifact;
+use simplex_rules::Elector;
+use simplex_types::{Digest, Scheme, View};
+use std::alloc::{AllocError, Global};
+
+impl<S: Scheme<D> + Drop, L: Elector<S, D>, D: Digest> State<S, L, D> {
+    /// Takes in an artifact of this member's record, in the order of the record. No view is entered. A vote counts as its
+    /// own: a notarize offers its proposal, where none or the same is held, and binds it to the payload that its parent
+    /// holds, where that has no certificate. Of a certificate it only takes in that it was handed out: the certificate
+    /// itself comes by its `add_` call, and a verdict by `certified`.
+    ///
+    /// # Errors
+    ///
+    /// `AllocError` where memory ran out.
+    pub fn replay(&mut self, artifact: &Artifact<S, D>) -> Result<(), AllocError>
+        ensures { OnOk result (AtEach S.Scheme L.Elector self.old (λ s h. (taken : Bool) × Takes (seen s h) artifact.now taken × Keeps S.Scheme L.Elector s self.new (recalls taken artifact.now ∷ h))) }
+    {
+        self.views.replay(artifact)
+    }
+
+    /// Drops what is known of the views that need not be kept, and answers those of which something was known, ascending. A
+    /// nullification whose term ends above the last finalized view stays, and so does what is covered: a view that is kept may
+    /// still be notarized over any parent below it. The cost is that of what is dropped.
+    ///
+    /// # Errors
+    ///
+    /// `AllocError` where memory ran out.
+    pub fn prune(&mut self, alloc: Global) -> Result<Vec<View>, AllocError>
+        ensures keeps { OnOk result (AtEach S.Scheme L.Elector self.old (λ s h. Keeps S.Scheme L.Elector s self.new (pruned ∷ h))) }
+        ensures dropped { IfOk result (λ views. AtEach S.Scheme L.Elector self.old (λ s h. AreDropped s h views.items)) }
+    {
+        self.views.prune(alloc)
+    }
+}

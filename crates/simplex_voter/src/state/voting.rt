@@ -1,0 +1,112 @@
+//! What a voter votes.
+
+ghost use Rattle.std.specs.Prelude.{◌≡◌, ◌↔◌, ◌<◌, ◌∷◌, if◌then◌else◌, is_some, IsSome, IsTrue, IfOk, MatchOption};
+ghost use Rattle.simplex_types.specs.Positions.{HasRoom};
+ghost use Rattle.simplex_types.specs.Subject.{notarize, finalize};
+ghost use Rattle.simplex_round.specs.Past.{has_nullified};
+ghost use Rattle.simplex_views.specs.History.{current, seen, voted_finalize, voted_notarize, voted_nullify};
+ghost use Rattle.simplex_views.specs.Known.{known};
+ghost use Rattle.simplex_due.specs.Ancestry.{held_at, member};
+ghost use Rattle.simplex_due.specs.Due.{FinalizeIsDue, MayGiveUp, NotarizeIsDue};
+ghost use Rattle.simplex_voter.specs.State.{AtEach, Keeps};
+ghost use Rattle.simplex_voter.specs.Votes.{IsOwn, IsOwnNullify};
+
+use crate::state::State;
+use simplex_due::votes::{finalize_is_due, notarize_is_due};
+use simplex_facts::Facts;
+use simplex_messages::{Finalize, Notarize, Nullify};
+use simplex_round::TimeoutReason;
+use simplex_rules::Elector;
+use simplex_types::{Digest, Round, Scheme, View};
+use std::alloc::AllocError;
+
+impl<S: Scheme<D> + Drop, L: Elector<S, D>, D: Digest> State<S, L, D> {
+    /// Votes to notarize the held proposal of the view, where that is due. Else nothing changes. Without a key nothing is voted.
+    ///
+    /// # Errors
+    ///
+    /// `AllocError` where memory ran out.
+    pub fn construct_notarize(&mut self, view: View) -> Result<Option<Notarize<S, D>>, AllocError>
+        ensures keeps { IfOk result (λ vote. AtEach S.Scheme L.Elector self.old (λ s h. MatchOption vote (Keeps S.Scheme L.Elector s self.new h) (λ v. Keeps S.Scheme L.Elector s self.new (voted_notarize view v.proposal ∷ h)))) }
+        ensures answer { IfOk result (λ vote. AtEach S.Scheme L.Elector self.old (λ s h. MatchOption vote (IsSome s.me → ¬ NotarizeIsDue (member s) (known s h) view) (λ v. NotarizeIsDue (member s) (known s h) view × (held_at (member s) (known s h) view ≡ Some v.proposal) × IsOwn S.Scheme s notarize v))) }
+    {
+        if self.scheme.me().is_none() {
+            return Ok(None);
+        }
+        if !self.notarize_is_due(view) {
+            return Ok(None);
+        }
+        let Some(proposal) = self.views.construct_notarize(view)? else {
+            return Ok(None);
+        };
+        Ok(Notarize::sign(&*self.scheme, proposal))
+    }
+
+    /// Whether a notarize of the view is due.
+    fn notarize_is_due(&self, view: View) -> bool
+        ensures { AtEach S.Scheme L.Elector self.now (λ s h. IsTrue result ↔ NotarizeIsDue (member s) (known s h) view) }
+    {
+        notarize_is_due(&Facts(&self.views), view)
+    }
+
+    /// Votes to finalize the held proposal of the view, where that is due. Else nothing changes. Without a key nothing is voted.
+    pub fn construct_finalize(&mut self, view: View) -> Option<Finalize<S, D>>
+        ensures keeps { AtEach S.Scheme L.Elector self.old (λ s h. MatchOption result (Keeps S.Scheme L.Elector s self.new h) (λ v. Keeps S.Scheme L.Elector s self.new (voted_finalize view v.proposal ∷ h))) }
+        ensures answer { AtEach S.Scheme L.Elector self.old (λ s h. MatchOption result (IsSome s.me → ¬ FinalizeIsDue (member s) (known s h) view) (λ v. FinalizeIsDue (member s) (known s h) view × (held_at (member s) (known s h) view ≡ Some v.proposal) × IsOwn S.Scheme s finalize v)) }
+    {
+        if self.scheme.me().is_none() {
+            return None;
+        }
+        if !self.finalize_is_due(view) {
+            return None;
+        }
+        let proposal = self.views.construct_finalize(view)?;
+        Finalize::sign(&*self.scheme, proposal)
+    }
+
+    /// Whether a finalize of the view is due.
+    fn finalize_is_due(&self, view: View) -> bool
+        ensures { AtEach S.Scheme L.Elector self.now (λ s h. IsTrue result ↔ FinalizeIsDue (member s) (known s h) view) }
+    {
+        finalize_is_due(&Facts(&self.views), view)
+    }
+
+    /// Votes to give the view up, where it is the current one and this member voted no finalize for it: whether it voted so before, with the
+    /// vote. Else nothing changes. Without a key nothing is voted. The reason, as `next_timeout` tells it, decides nothing.
+    ///
+    /// # Errors
+    ///
+    /// `AllocError` where memory ran out.
+    pub fn construct_nullify(
+        &mut self,
+        view: View,
+        _reason: TimeoutReason,
+    ) -> Result<Option<(bool, Nullify<S, D>)>, AllocError>
+        ensures keeps { IfOk result (λ vote. AtEach S.Scheme L.Elector self.old (λ s h. Keeps S.Scheme L.Elector s self.new (if is_some vote then voted_nullify view ∷ h else h))) }
+        ensures answer { IfOk result (λ vote. AtEach S.Scheme L.Elector self.old (λ s h. MatchOption vote (IsSome s.me → ¬ MayGiveUp s h view) (λ v. MayGiveUp s h view × (v.0 ≡ has_nullified (seen s h view)) × IsOwnNullify S.Scheme s view v.1))) }
+    {
+        if !self.is_current(view) {
+            return Ok(None);
+        }
+        let Some(vote) = Nullify::sign(&*self.scheme, Round::new(self.views.epoch(), view)) else {
+            return Ok(None);
+        };
+        match self.views.construct_nullify(view)? {
+            Some(is_repetition) => Ok(Some((is_repetition, vote))),
+            None => Ok(None),
+        }
+    }
+
+    /// Whether the view is the current one, behind the start and with room.
+    fn is_current(&self, view: View) -> bool
+        ensures { AtEach S.Scheme L.Elector self.now (λ s h. IsTrue result ↔ ((view ≡ current s h) × (0 < view) × HasRoom s.length view)) }
+    {
+        if view.is_zero() {
+            return false;
+        }
+        if view != self.views.current_view() {
+            return false;
+        }
+        view.has_room(self.views.lookahead().length)
+    }
+}
