@@ -9,10 +9,12 @@ use Rattle.simplex_messages.specs.declared.vote.Vote.{Vote}
 use Rattle.simplex_messages.specs.declared.vote.Vote.TheVariants as vote
 use Rattle.simplex_messages.specs.declared.certificate.Certificate.{Certificate}
 use Rattle.simplex_messages.specs.VoteParts.{vote_signer, vote_round}
-use Rattle.simplex_verifier.specs.History.{History, Event, Setup, accepted, takes, recorded, forwardable, has_forwarded}
+use Rattle.simplex_verifier.specs.History.{History, Event, Setup, accepted, takes, recorded, is_kept_in_full, forwardable, has_forwarded}
 use Rattle.simplex_verifier.specs.Lawful.{IsNew}
-use Rattle.simplex_batcher.specs.Admission.{IsBlocked, Offends, evidence, contradicts, AgreesWithOwn}
-use Rattle.simplex_verifier.specs.Votes.{is_in_way}
+use Rattle.simplex_admission.specs.Evidence.{evidence}
+use Rattle.simplex_admission.specs.Refusal.{Offends, IsBlockedFor, evidence_against}
+use Rattle.simplex_batcher.specs.Admission.{IsBlocked, contradicts, AgreesWithOwn}
+use Rattle.simplex_verifier.specs.Votes.{is_in_way, vote_kind}
 
 -- nothing is there
 pub none-there : {X : Type 0} (P : X → Type 0) (o : Option X) → is_none o ≡ true → MatchOption o ⊥ P → ⊥
@@ -27,6 +29,11 @@ nothing (Some x) e = absurd (cc e)
 pub some-at : {B : Type 0} (P : B → Type 0) (made : Option B) (b : B) → IfSome made P → made ≡ Some b → P b
 some-at P made b all e = rw e at all
 
+-- what is said of one that is there, by what was said of it
+pub some-more : {X : Type 0} (P Q : X → Type 0) (o : Option X) → ((x : X) → P x → Q x) → IfSome o P → IfSome o Q
+some-more P Q None f p = tt
+some-more P Q (Some x) f p = f x p
+
 -- three tests that all passed
 all-three : (a b c : Bool) → a && (b && c) ≡ true → (a ≡ true) × (b ≡ true) × (c ≡ true)
 all-three true true true e = (refl, refl, refl)
@@ -37,7 +44,7 @@ all-three false b c e = absurd (cc e)
 module _ {S D P G C : Type 0} where
   pub taken-not-blocked : (s : Setup S) (h : History S D P G C) (sender : ℕ) (v : Vote S D P G C) → takes s h sender v ≡ true → IsBlocked s h sender v → ⊥
   taken-not-blocked s h sender v taken (inl differs) = differs (grind (arith, (all-three (sender == vote_signer v) (nat_lt sender s.members) (is_none (recorded h v)) taken).0))
-  taken-not-blocked s h sender v taken (inr b) = none-there (λ u. Offends s h u v) (recorded h v) (all-three (sender == vote_signer v) (nat_lt sender s.members) (is_none (recorded h v)) taken).2 b.2
+  taken-not-blocked s h sender v taken (inr b) = none-there (λ u. Offends (is_kept_in_full s (vote_kind u) h) u v) (recorded h v) (all-three (sender == vote_signer v) (nat_lt sender s.members) (is_none (recorded h v)) taken).2 b.2
 
   -- what is accepted is a member's
   pub taken-member : (s : Setup S) (h : History S D P G C) (sender : ℕ) (v : Vote S D P G C) → takes s h sender v ≡ true → vote_signer v < s.members
@@ -52,6 +59,16 @@ module _ {S D P G C : Type 0} where
   -- a vote that nothing stands in the way of is new
   pub free-new : (s : Setup S) (h : History S D P G C) (v : Vote S D P G C) → recorded h v ≡ None → vote_round v ≡ s.round → IsNew s h v
   free-new s h v free ours = record { ours = ours; free = free }
+
+module _ {S D P G C : Type 0} (members : ℕ) (sender : ℕ) (v : Vote S D P G C) (in_full : Bool) (keeps : Vote S D P G C → Bool) where
+  -- whether the recorded vote is kept in full, of all that could be recorded
+  pub blocked-so : (recorded : Option (Vote S D P G C)) → IfSome recorded (λ u. in_full ≡ keeps u) → (IsBlockedFor members recorded (λ u. in_full) sender v → IsBlockedFor members recorded keeps sender v) × (IsBlockedFor members recorded keeps sender v → IsBlockedFor members recorded (λ u. in_full) sender v)
+  blocked-so None e = ((λ b. b), (λ b. b))
+  blocked-so (Some u) e = (λ b. rw (← e) b, λ b. rw e b)
+
+  pub evidence-so : (same : D → D → Bool) (recorded : Option (Vote S D P G C)) → IfSome recorded (λ u. in_full ≡ keeps u) → evidence_against same members recorded (λ u. in_full) sender v ≡ evidence_against same members recorded keeps sender v
+  evidence-so same None e = refl
+  evidence-so same (Some u) e = rw e refl
 
 -- what is found is there, and passes
 found-there : {X : Type 0} (p : X → Bool) (xs : List X) (x : X) → find p xs ≡ Some x → Contains xs x × (p x ≡ true)
