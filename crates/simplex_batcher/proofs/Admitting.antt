@@ -12,7 +12,7 @@ use Rattle.simplex_messages.specs.VoteParts.{vote_signer, vote_round}
 use Rattle.simplex_verifier.specs.History.{History, Event, Setup, accepted, takes, recorded, is_kept_in_full, forwardable, has_forwarded}
 use Rattle.simplex_verifier.specs.Lawful.{IsNew}
 use Rattle.simplex_admission.specs.Evidence.{evidence}
-use Rattle.simplex_admission.specs.Refusal.{Offends, IsBlockedFor, evidence_against}
+use Rattle.simplex_admission.specs.Refusal.{Offends}
 use Rattle.simplex_batcher.specs.Admission.{IsBlocked, contradicts, AgreesWithOwn}
 use Rattle.simplex_verifier.specs.Votes.{is_in_way, vote_kind}
 
@@ -28,11 +28,6 @@ nothing (Some x) e = absurd (cc e)
 -- what is said of one that is there, of this one
 pub some-at : {B : Type 0} (P : B → Type 0) (made : Option B) (b : B) → IfSome made P → made ≡ Some b → P b
 some-at P made b all e = rw e at all
-
--- what is said of one that is there, by what was said of it
-pub some-more : {X : Type 0} (P Q : X → Type 0) (o : Option X) → ((x : X) → P x → Q x) → IfSome o P → IfSome o Q
-some-more P Q None f p = tt
-some-more P Q (Some x) f p = f x p
 
 -- three tests that all passed
 all-three : (a b c : Bool) → a && (b && c) ≡ true → (a ≡ true) × (b ≡ true) × (c ≡ true)
@@ -59,16 +54,6 @@ module _ {S D P G C : Type 0} where
   -- a vote that nothing stands in the way of is new
   pub free-new : (s : Setup S) (h : History S D P G C) (v : Vote S D P G C) → recorded h v ≡ None → vote_round v ≡ s.round → IsNew s h v
   free-new s h v free ours = record { ours = ours; free = free }
-
-module _ {S D P G C : Type 0} (members : ℕ) (sender : ℕ) (v : Vote S D P G C) (in_full : Bool) (keeps : Vote S D P G C → Bool) where
-  -- whether the recorded vote is kept in full, of all that could be recorded
-  pub blocked-so : (recorded : Option (Vote S D P G C)) → IfSome recorded (λ u. in_full ≡ keeps u) → (IsBlockedFor members recorded (λ u. in_full) sender v → IsBlockedFor members recorded keeps sender v) × (IsBlockedFor members recorded keeps sender v → IsBlockedFor members recorded (λ u. in_full) sender v)
-  blocked-so None e = ((λ b. b), (λ b. b))
-  blocked-so (Some u) e = (λ b. rw (← e) b, λ b. rw e b)
-
-  pub evidence-so : (same : D → D → Bool) (recorded : Option (Vote S D P G C)) → IfSome recorded (λ u. in_full ≡ keeps u) → evidence_against same members recorded (λ u. in_full) sender v ≡ evidence_against same members recorded keeps sender v
-  evidence-so same None e = refl
-  evidence-so same (Some u) e = rw e refl
 
 -- what is found is there, and passes
 found-there : {X : Type 0} (p : X → Bool) (xs : List X) (x : X) → find p xs ≡ Some x → Contains xs x × (p x ≡ true)

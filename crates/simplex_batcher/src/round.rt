@@ -103,7 +103,13 @@ impl<S: Scheme<D>, D: Digest> Round<S, D> {
     {
         let recorded = self.tracker.recorded(vote);
         let in_full = self.holds_in_full(recorded);
-        refusal(self.verifier.participants(), sender, vote, recorded, in_full)
+        refusal(
+            self.verifier.participants(),
+            sender,
+            vote,
+            recorded,
+            in_full,
+        )
     }
 
     /// Whether the recorded vote, if there is one, is kept in full.
