@@ -74,17 +74,26 @@ impl<S: Listing<Sha256Digest> + Drop> Clerk<S> {
         Some(vote_with(ballot, attestation))
     }
 
+    /// Signs the vote of this name, where it was not asked for before.
+    fn learn(&mut self, ballot: Ballot) -> Result<(), AllocError> {
+        if self.signed.iter().any(|signed| signed.ballot == ballot) {
+            return Ok(());
+        }
+        if let Some(vote) = self.sign(ballot) {
+            self.signed.push(Signed { ballot, vote })?;
+        }
+        Ok(())
+    }
+
     /// The vote of this name, signed when it is asked for first.
     pub fn vote(&mut self, ballot: Ballot) -> Result<Vote<S, Sha256Digest>, Fail> {
+        self.learn(ballot)?;
         for signed in &self.signed {
             if signed.ballot == ballot {
                 return Ok(signed.vote.duplicate(self.alloc)?);
             }
         }
-        let vote = self.sign(ballot).ok_or("a member")?;
-        let copy = vote.duplicate(self.alloc)?;
-        self.signed.push(Signed { ballot, vote })?;
-        Ok(copy)
+        Err("a member".into())
     }
 
     /// Each of these votes, signed and not kept by name.

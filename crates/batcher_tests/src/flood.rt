@@ -7,7 +7,6 @@ use simplex_batcher::{BatcherFault, Kind};
 use simplex_messages::Vote;
 use simplex_types::{Listing, Sha256Digest};
 use std::alloc::{AllocError, Global};
-use std::process::Abort;
 use std::test::Fail;
 
 /// How many members there are.
@@ -69,40 +68,39 @@ fn are_certified(answers: &[Answer]) -> bool {
     }
 }
 
-/// The flood comes, then certificates, then the flood again. Behind the certificates the votes are released: of all that
-/// is sent again only the notarize for another proposal offends, and there is no evidence of it.
-fn withstands<S: Listing<Sha256Digest> + Drop>(
-    rt: &impl Abort,
-    alloc: Global,
-    table: &mut Table<S>,
-) -> Result<(), Fail> {
-    let votes = table.clerk.votes(&five_of_each(alloc)?)?;
-    let before = flood(table, &votes)?;
+/// The leader is named, and three times it is constructed: the notarizes and the nullifies are certified.
+fn certifies<S: Listing<Sha256Digest> + Drop>(table: &mut Table<S>) -> Result<bool, Fail> {
     let construct = [
         Call::Lead(0),
         Call::Construct,
         Call::Construct,
         Call::Construct,
     ];
-    let answers = table.run(&construct)?;
-    let behind = flood(table, &votes)?;
-    let expected = Counts {
+    Ok(are_certified(&table.run(&construct)?))
+}
+
+/// The flood comes, then certificates, then the flood again. Behind the certificates the votes are released: of all that
+/// is sent again only the notarize for another proposal offends, and there is no evidence of it.
+fn withstands<S: Listing<Sha256Digest> + Drop>(
+    table: &mut Table<S>,
+    votes: &[Vote<S, Sha256Digest>],
+) -> Result<bool, Fail> {
+    let before = Counts {
         accepted: 2000,
         blocked: 30000,
         reported: 32000,
     };
-    assert!(rt; before == expected);
-    assert!(rt; are_certified(&answers));
-    let released = Counts {
+    let behind = Counts {
         blocked: 10000,
         ..Counts::default()
     };
-    assert!(rt; behind == released);
-    Ok(())
+    Ok(flood(table, votes)? == before && certifies(table)? && flood(table, votes)? == behind)
 }
 
 #[test]
 fn a_hundred_thousand_votes_of_a_thousand_members(rt: HostRuntime) -> Result<(), Fail> {
     let mut table = plain_table(rt.alloc(), MEMBERS, Opening::Kept)?;
-    withstands(&rt, rt.alloc(), &mut table)
+    let votes = table.clerk.votes(&five_of_each(rt.alloc())?)?;
+    assert!(rt; withstands(&mut table, &votes)?);
+    Ok(())
 }

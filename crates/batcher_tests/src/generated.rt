@@ -207,6 +207,22 @@ fn loses_no_quorum(model: &Model, answers: &[Answer]) -> bool {
     is_none_lost
 }
 
+/// One round answers as the plain program does, and loses no quorum.
+fn round_answers_by_the_rules<S: Listing<Sha256Digest> + Drop>(
+    alloc: Global,
+    chance: &mut Chance,
+    table: &mut Table<S>,
+    play: Play,
+) -> Result<bool, Fail> {
+    let opening = any_opening(chance);
+    table.reopen(opening)?;
+    let calls = any_calls(alloc, chance, play)?;
+    let answers = table.run(&calls)?;
+    let mut model = Model::new(alloc, play.members, play.batchable, opening);
+    let are_so = answers_by_the_rules(alloc, &mut model, &calls, &answers)?;
+    Ok(are_so && (opening == Opening::Skipped || loses_no_quorum(&model, &answers)))
+}
+
 /// Rounds answer as the plain program does, and lose no quorum.
 fn answer_by_the_rules<S: Listing<Sha256Digest> + Drop>(
     rt: &impl Abort,
@@ -216,13 +232,7 @@ fn answer_by_the_rules<S: Listing<Sha256Digest> + Drop>(
 ) -> Result<(), Fail> {
     let mut chance = Chance::seeded(u64::from(play.members));
     for _ in 0..play.rounds {
-        let opening = any_opening(&mut chance);
-        table.reopen(opening)?;
-        let calls = any_calls(alloc, &mut chance, play)?;
-        let answers = table.run(&calls)?;
-        let mut model = Model::new(alloc, play.members, play.batchable, opening);
-        assert!(rt; answers_by_the_rules(alloc, &mut model, &calls, &answers)?);
-        assert!(rt; opening == Opening::Skipped || loses_no_quorum(&model, &answers));
+        assert!(rt; round_answers_by_the_rules(alloc, &mut chance, table, play)?);
     }
     Ok(())
 }

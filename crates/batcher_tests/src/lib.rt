@@ -7,7 +7,6 @@ mod admission;
 #[cfg(test)]
 mod calls;
 #[cfg(test)]
-#[cfg(test)]
 mod clerk;
 #[cfg(test)]
 mod flood;
@@ -19,7 +18,6 @@ mod members;
 mod model;
 #[cfg(test)]
 mod naming;
-#[cfg(test)]
 #[cfg(test)]
 mod schemes;
 #[cfg(test)]

@@ -6,8 +6,8 @@ use crate::calls::{
 use crate::clerk::Clerk;
 use crate::members::plain_clerk;
 use crate::naming::{payload_of, round};
-use simplex_batcher::{BatcherFault, Kind, Verifier};
-use simplex_messages::Vote;
+use simplex_batcher::{Batch, BatcherFault, Kind, Verifier};
+use simplex_messages::{Certificate, Vote};
 use simplex_types::{Listing, Participant, Scheme, Sha256Digest};
 use std::alloc::{AllocError, Global};
 use std::process::Abort;
@@ -54,14 +54,21 @@ impl<S: Listing<Sha256Digest> + Drop> Desk<S> {
         Ok(Answer::Done)
     }
 
+    /// What comes of a construction of this kind.
+    fn made(
+        &mut self,
+        kind: Kind,
+    ) -> Result<Option<Batch<Certificate<S, Sha256Digest>>>, AllocError> {
+        match kind {
+            Kind::Notarization => self.verifier.try_construct_notarization(self.alloc),
+            Kind::Nullification => self.verifier.try_construct_nullification(self.alloc),
+            Kind::Finalization => self.verifier.try_construct_finalization(self.alloc),
+        }
+    }
+
     /// Constructs a certificate of this kind.
     fn construct(&mut self, kind: Kind) -> Result<Answer, AllocError> {
-        let made = match kind {
-            Kind::Notarization => self.verifier.try_construct_notarization(self.alloc)?,
-            Kind::Nullification => self.verifier.try_construct_nullification(self.alloc)?,
-            Kind::Finalization => self.verifier.try_construct_finalization(self.alloc)?,
-        };
-        match &made {
+        match &self.made(kind)? {
             Some(batch) => Ok(self.clerk.made(batch)),
             None => Ok(Answer::Nothing),
         }

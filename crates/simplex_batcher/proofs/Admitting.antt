@@ -9,10 +9,12 @@ use Rattle.simplex_messages.specs.declared.vote.Vote.{Vote}
 use Rattle.simplex_messages.specs.declared.vote.Vote.TheVariants as vote
 use Rattle.simplex_messages.specs.declared.certificate.Certificate.{Certificate}
 use Rattle.simplex_messages.specs.VoteParts.{vote_signer, vote_round}
-use Rattle.simplex_verifier.specs.History.{History, Event, Setup, accepted, takes, recorded, forwardable, has_forwarded}
+use Rattle.simplex_verifier.specs.History.{History, Event, Setup, accepted, takes, recorded, is_kept_in_full, forwardable, has_forwarded}
 use Rattle.simplex_verifier.specs.Lawful.{IsNew}
-use Rattle.simplex_batcher.specs.Admission.{IsBlocked, Offends, evidence, contradicts, AgreesWithOwn}
-use Rattle.simplex_verifier.specs.Votes.{is_in_way}
+use Rattle.simplex_admission.specs.Evidence.{evidence}
+use Rattle.simplex_admission.specs.Refusal.{Offends}
+use Rattle.simplex_batcher.specs.Admission.{IsBlocked, contradicts, AgreesWithOwn}
+use Rattle.simplex_verifier.specs.Votes.{is_in_way, vote_kind}
 
 -- nothing is there
 pub none-there : {X : Type 0} (P : X → Type 0) (o : Option X) → is_none o ≡ true → MatchOption o ⊥ P → ⊥
@@ -37,7 +39,7 @@ all-three false b c e = absurd (cc e)
 module _ {S D P G C : Type 0} where
   pub taken-not-blocked : (s : Setup S) (h : History S D P G C) (sender : ℕ) (v : Vote S D P G C) → takes s h sender v ≡ true → IsBlocked s h sender v → ⊥
   taken-not-blocked s h sender v taken (inl differs) = differs (grind (arith, (all-three (sender == vote_signer v) (nat_lt sender s.members) (is_none (recorded h v)) taken).0))
-  taken-not-blocked s h sender v taken (inr b) = none-there (λ u. Offends s h u v) (recorded h v) (all-three (sender == vote_signer v) (nat_lt sender s.members) (is_none (recorded h v)) taken).2 b.2
+  taken-not-blocked s h sender v taken (inr b) = none-there (λ u. Offends (is_kept_in_full s (vote_kind u) h) u v) (recorded h v) (all-three (sender == vote_signer v) (nat_lt sender s.members) (is_none (recorded h v)) taken).2 b.2
 
   -- what is accepted is a member's
   pub taken-member : (s : Setup S) (h : History S D P G C) (sender : ℕ) (v : Vote S D P G C) → takes s h sender v ≡ true → vote_signer v < s.members

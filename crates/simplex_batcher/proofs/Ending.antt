@@ -3,8 +3,8 @@ use Rattle.std.proofs.Common.{◌≡◌, ◌≤◌, ◌<◌, ℕ, suc, Bool, fal
 use Rattle.std.specs.Prelude.{Option, None, Some, MatchOption, is_none, is_some, true}
 use Rattle.simplex_types.specs.declared.scheme.Scheme.{Ghosts}
 use Rattle.simplex_messages.specs.declared.certificate.Certificate.{Certificate}
-use Rattle.simplex_verifier.specs.declared.kind.Kind.{Kind}
-use Rattle.simplex_verifier.specs.declared.kind.Kind.TheVariants.{Notarization, Nullification, Finalization}
+use Rattle.simplex_judging.specs.declared.kind.Kind.{Kind}
+use Rattle.simplex_judging.specs.declared.kind.Kind.TheVariants.{Notarization, Nullification, Finalization}
 use Rattle.simplex_verifier.specs.declared.batch.Batch.{Batch}
 use Rattle.simplex_batcher.specs.declared.call.Call.{Call}
 use Rattle.simplex_batcher.specs.declared.call.Call.TheVariants.{TryConstruct}

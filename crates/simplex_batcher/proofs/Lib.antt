@@ -4,3 +4,4 @@ pub mod Rows
 pub mod Reaching
 pub mod Summing
 pub mod Ending
+pub mod Turning

@@ -4,7 +4,7 @@ use Rattle.std.specs.Prelude.{Option, None, Some, MatchOption, is_none, is_some,
 use Rattle.simplex_types.specs.declared.scheme.Scheme.{Ghosts}
 use Rattle.simplex_messages.specs.declared.vote.Vote.{Vote}
 use Rattle.simplex_messages.specs.declared.certificate.Certificate.{Certificate}
-use Rattle.simplex_verifier.specs.declared.kind.Kind.{Kind}
+use Rattle.simplex_judging.specs.declared.kind.Kind.{Kind}
 use Rattle.simplex_verifier.specs.declared.batch.Batch.{Batch}
 use Rattle.simplex_batcher.specs.declared.call.Call.{Call}
 use Rattle.simplex_batcher.specs.declared.call.Call.TheVariants.{AddNetwork, AcceptVote, RecordCertificate, SetLeader, TryConstruct, TryForwardProposal, Ask}

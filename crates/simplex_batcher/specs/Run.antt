@@ -8,9 +8,9 @@ use Rattle.simplex_messages.specs.declared.activity.Activity.{Activity}
 use Rattle.simplex_messages.specs.VoteParts.{vote_round}
 use Rattle.simplex_messages.specs.Certificate.{certificate_round}
 use Rattle.simplex_verifier.specs.declared.fault.BatcherFault.TheVariants.{WrongRound, OtherLeader, Memory}
-use Rattle.simplex_verifier.specs.declared.kind.Kind.{Kind}
-use Rattle.simplex_verifier.specs.declared.kind.Kind.TheVariants.{Notarization}
-use Rattle.simplex_batcher.specs.declared.admission.Admission.{Admission}
+use Rattle.simplex_judging.specs.declared.kind.Kind.{Kind}
+use Rattle.simplex_judging.specs.declared.kind.Kind.TheVariants.{Notarization}
+use Rattle.simplex_admission.specs.declared.admission.Admission.{Admission}
 use Rattle.simplex_verifier.specs.declared.batch.Batch.{Batch}
 use Rattle.simplex_batcher.specs.declared.call.Call.{Call}
 use Rattle.simplex_batcher.specs.declared.call.Call.TheVariants.{AddNetwork, AcceptVote, RecordCertificate, SetLeader, TryConstruct, TryForwardProposal, Ask}
@@ -22,7 +22,8 @@ use Rattle.simplex_verifier.specs.Votes.{certificate_kind}
 use Rattle.simplex_verifier.specs.History.{History, Taken, Cast, Certified, Led, Forwarded, Setup, takes, recorded, selected, leader_of, is_complete, forwardable, next_kind}
 use Rattle.simplex_verifier.specs.Lawful.{VoteAttests}
 use Rattle.simplex_batcher.specs.Queries.{has_nullify, is_missing_voter, missing_voters}
-use Rattle.simplex_batcher.specs.Admission.{IsBlocked, report_of, as_report, contradicts, IsAdmissionFault, IsCastFault}
+use Rattle.simplex_admission.specs.Evidence.{as_report}
+use Rattle.simplex_batcher.specs.Admission.{IsBlocked, report_of, contradicts, IsAdmissionFault, IsCastFault}
 use Rattle.simplex_verifier.specs.Construction.{after_construction, IsConstruction}
 
 module _ {S D P G C : Type 0} where

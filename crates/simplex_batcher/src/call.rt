@@ -1,6 +1,6 @@
 //! Calls on a round, and their answers, as values.
 
-use crate::admission::Admission;
+use simplex_admission::Admission;
 use simplex_messages::{Activity, Certificate, Vote};
 use simplex_types::{Digest, Participant, Proposal, Scheme};
 use simplex_verifier::{Batch, BatcherFault, Kind};

@@ -1,15 +1,14 @@
 //! The votes of one round, on their way to certificates.
 #![tactic(auto, unfolding(crate::specs::Rounds::RoundKeeps))]
 
-mod admission;
 mod call;
 mod round;
 mod running;
 mod tracker;
 mod votes;
 
-pub use admission::Admission;
 pub use call::{Answer, Call, Question};
 pub use round::Round;
 pub use running::run;
+pub use simplex_admission::Admission;
 pub use simplex_verifier::{Batch, BatcherFault, Kind, Verifier, no_quorum_is_lost};

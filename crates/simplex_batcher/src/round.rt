@@ -6,18 +6,20 @@ ghost use Rattle.simplex_types.specs.Quorum.{quorum};
 ghost use Rattle.simplex_messages.specs.VoteParts.{vote_round, vote_signer};
 ghost use Rattle.simplex_messages.specs.Certificate.{certificate_round};
 ghost use Rattle.simplex_verifier.specs.declared.fault.BatcherFault.TheVariants.{WrongRound, OtherLeader, Contradicts, Memory};
-ghost use Rattle.simplex_verifier.specs.declared.kind.Kind.TheVariants.{Notarization};
+ghost use Rattle.simplex_judging.specs.declared.kind.Kind.TheVariants.{Notarization};
 ghost use Rattle.simplex_verifier.specs.Votes.{vote_kind, certificate_kind};
 ghost use Rattle.simplex_verifier.specs.History.{Taken, Cast, Certified, Led, Forwarded, recorded, selected, leader_of, takes, is_kept_in_full, is_complete, forwardable, is_another, next_kind};
 ghost use Rattle.simplex_verifier.specs.Lawful.{IsNew, VoteAttests, Allowed};
 ghost use Rattle.simplex_verifier.specs.Quorums.{AllCertified};
-ghost use Rattle.simplex_batcher.specs.Admission.{as_report, evidence, contradicts, IsBlocked, report_of, AgreesWithOwn, IsAdmissionFault, IsCastFault};
+ghost use Rattle.simplex_admission.specs.Evidence.{as_report, evidence};
+ghost use Rattle.simplex_batcher.specs.Admission.{contradicts, IsBlocked, report_of, AgreesWithOwn, IsAdmissionFault, IsCastFault};
 ghost use Rattle.simplex_verifier.specs.Construction.{after, after_construction, kinds_left, IsBatch};
 ghost use Rattle.simplex_batcher.specs.Rounds.{RoundKeeps, AtEach};
 
-use crate::admission::{Admission, are_against, are_for_two, are_one, evidence_of, report};
 use crate::tracker::VoteTracker;
-use crate::votes::{copied, round_of, round_of_certificate};
+use crate::votes::{round_of, round_of_certificate};
+use simplex_admission::{Admission, are_against, copied, refusal, report};
+use simplex_judging::in_turn;
 use simplex_messages::{Activity, Certificate, Vote};
 use simplex_types::{Attributable, Digest, Participant, Proposal, Round as Rnd, Scheme};
 use simplex_verifier::{
@@ -99,23 +101,25 @@ impl<S: Scheme<D>, D: Digest> Round<S, D> {
         ensures block { IfSome result (λ a. AtEach D.PartialEq.eq S.Scheme S.batchable self.now (λ s h. IsTrue a.block ↔ IsBlocked s h sender vote.now)) }
         ensures report { IfSome result (λ a. AtEach D.PartialEq.eq S.Scheme S.batchable self.now (λ s h. a.report ≡ report_of D.PartialEq.eq s h sender vote.now)) }
     {
-        if sender != vote.signer() {
-            return Some(Admission::without_evidence(true));
+        let recorded = self.tracker.recorded(vote);
+        let in_full = self.holds_in_full(recorded);
+        refusal(
+            self.verifier.participants(),
+            sender,
+            vote,
+            recorded,
+            in_full,
+        )
+    }
+
+    /// Whether the recorded vote, if there is one, is kept in full.
+    fn holds_in_full(&self, recorded: Option<&Vote<S, D>>) -> bool
+        ensures { AtEach D.PartialEq.eq S.Scheme S.batchable self.now (λ s h. IfSome (option_copied recorded.entry) (λ u. result ≡ is_kept_in_full s (vote_kind u) h)) }
+    {
+        match recorded {
+            Some(recorded) => self.is_kept_in_full(kind_of(recorded)),
+            None => false,
         }
-        if sender.get() >= self.verifier.participants() {
-            return Some(Admission::without_evidence(false));
-        }
-        let Some(recorded) = self.tracker.recorded(vote) else {
-            return None;
-        };
-        if !self.is_kept_in_full(kind_of(recorded)) {
-            return Some(Admission::without_evidence(are_for_two(recorded, vote)));
-        }
-        Some(Admission {
-            added: false,
-            block: !are_one(recorded, vote),
-            report: evidence_of(recorded, vote),
-        })
     }
 
     /// Takes a vote from the network. Its sender is blocked where it names another, or where the vote offends one that was
@@ -271,18 +275,12 @@ impl<S: Scheme<D>, D: Digest> Round<S, D> {
         ensures ok { IfOk result (λ made. AtEach D.PartialEq.eq S.Scheme S.batchable self.old (λ s h. MatchOption (next_kind D.PartialEq.eq s h) (RoundKeeps D.PartialEq.eq S.Scheme S.batchable s self.new h) (λ kind. RoundKeeps D.PartialEq.eq S.Scheme S.batchable s self.new (after kind made h)))) }
         ensures err { OnErr result (AtEach D.PartialEq.eq S.Scheme S.batchable self.old (λ s h. RoundKeeps D.PartialEq.eq S.Scheme S.batchable s self.new h)) }
     {
-        match self.verifier.construct(alloc, Kind::Notarization)? {
-            Some(batch) => return Ok(Some(batch)),
-            None => {}
+        for kind in in_turn() {
+            if let Some(batch) = self.verifier.construct(alloc, kind)? {
+                return Ok(Some(batch));
+            }
         }
-        match self.verifier.construct(alloc, Kind::Nullification)? {
-            Some(batch) => return Ok(Some(batch)),
-            None => {}
-        }
-        match self.verifier.construct(alloc, Kind::Finalization)? {
-            Some(batch) => Ok(Some(batch)),
-            None => Ok(None),
-        }
+        Ok(None)
     }
 
     /// The selected proposal, once in the round's life, where the leader is named and is another than this member.

@@ -8,7 +8,8 @@ ghost use Rattle.simplex_verifier.specs.Votes.{is_in_way, is_notarize_of, is_oth
 ghost use Rattle.simplex_batcher.specs.Queries.{is_nullify, is_backing};
 ghost use Rattle.simplex_batcher.specs.Tracking.{TrackerKeeps, is_of, is_same, vote_at, passes};
 
-use crate::votes::{copied, is_backing, is_notarize, is_nullify};
+use crate::votes::{is_backing, is_notarize, is_nullify};
+use simplex_admission::copied;
 use simplex_messages::Vote;
 use simplex_types::{Attributable, Digest, Participant, Proposal, Scheme};
 use std::alloc::{AllocError, Global};

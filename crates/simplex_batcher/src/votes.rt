@@ -6,7 +6,7 @@ ghost use Rattle.simplex_messages.specs.Certificate.{certificate_round};
 ghost use Rattle.simplex_verifier.specs.Votes.{is_notarize_of};
 ghost use Rattle.simplex_batcher.specs.Queries.{is_nullify, is_backing};
 
-use simplex_messages::{Certificate, Nullify, ProposalKind, ProposalVote, Vote};
+use simplex_messages::{Certificate, Vote};
 use simplex_types::{Digest, Proposal, Round, Scheme};
 
 /// The round that a vote is of.
@@ -63,35 +63,5 @@ pub(crate) fn round_of_certificate<S: Scheme<D>, D: Digest>(
         Certificate::Notarization(certificate) => certificate.proposal.round,
         Certificate::Nullification(certificate) => certificate.round,
         Certificate::Finalization(certificate) => certificate.proposal.round,
-    }
-}
-
-/// The same vote on a proposal again: it owns no memory.
-pub(crate) fn again<K: ProposalKind<D>, S: Scheme<D>, D: Digest>(
-    vote: &ProposalVote<K, S, D>,
-) -> ProposalVote<K, S, D>
-    ensures { result ≡ vote.now }
-{
-    ProposalVote::new(vote.proposal, vote.attestation)
-}
-
-/// The same nullify again.
-pub(crate) fn nullify_again<S: Scheme<D>, D: Digest>(vote: &Nullify<S, D>) -> Nullify<S, D>
-    ensures { result ≡ vote.now }
-{
-    Nullify {
-        round: vote.round,
-        attestation: vote.attestation,
-    }
-}
-
-/// The same vote again.
-pub(crate) fn copied<S: Scheme<D>, D: Digest>(vote: &Vote<S, D>) -> Vote<S, D>
-    ensures { result ≡ vote.now }
-{
-    match vote {
-        Vote::Notarize(vote) => Vote::Notarize(again(vote)),
-        Vote::Nullify(vote) => Vote::Nullify(nullify_again(vote)),
-        Vote::Finalize(vote) => Vote::Finalize(again(vote)),
     }
 }

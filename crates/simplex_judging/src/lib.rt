@@ -2,5 +2,7 @@
 #![tactic(auto)]
 
 mod judging;
+mod kind;
 
 pub use judging::{Judged, assemble_enough, is_listed, judge};
+pub use kind::{Kind, in_turn};

@@ -1,6 +1,6 @@
 -- What comes of constructions.
 use Rattle.std.proofs.Common.{◌≡◌, ◌≢◌, ◌≤◌, ◌<◌, ◌⊎◌, inl, inr, ℕ, zero, suc, Bool, true, false, ◌&&◌, ◌||◌, List, [], ◌∷◌, ◌++◌, refl, ap, sym, ◌∙◌, arith, map, length, get_or}
-use Rattle.std.specs.Prelude.{Option, None, Some, MatchOption, is_some, nat_le, IsTrue, ◌↔◌}
+use Rattle.std.specs.Prelude.{Option, None, Some, MatchOption, IfSome, is_some, nat_le, IsTrue, ◌↔◌}
 use Rattle.std.proofs.lemmas.List.{length-map}
 use Rattle.std.specs.List.{All, AllPairs, Contains}
 use Rattle.std.proofs.lemmas.Bool.{and_parts}
@@ -17,8 +17,9 @@ use Rattle.simplex_messages.specs.declared.vote.Vote.TheVariants as vote
 use Rattle.simplex_messages.specs.declared.certificate.Certificate.{Certificate}
 use Rattle.simplex_messages.specs.Certificate.{certificate_round, certificate_statement, certified_by}
 use Rattle.simplex_messages.specs.VoteParts.{vote_round}
-use Rattle.simplex_verifier.specs.declared.kind.Kind.{Kind}
+use Rattle.simplex_judging.specs.declared.kind.Kind.{Kind}
 use Rattle.simplex_judging.specs.declared.judging.Judged.{Judged}
+use Rattle.simplex_verifier.specs.declared.batch.Batch.{Batch}
 use Rattle.simplex_verifier.specs.declared.pool.Pool.{Pool}
 use Rattle.simplex_verifier.specs.declared.verifier.Verifier.{Verifier}
 use Rattle.simplex_judging.specs.Judging.{IsJudged, IsWhole}
@@ -27,8 +28,8 @@ use Rattle.simplex_verifier.specs.History.{History, Setup, selected, context, st
 use Rattle.simplex_verifier.specs.Lawful.{IsLawful}
 use Rattle.simplex_verifier.specs.Pools.{pool_at, PoolIs, settled_waiting, settled_verified}
 use Rattle.simplex_verifier.specs.Keeping.{IsVerifierKept}
-use Rattle.simplex_verifier.specs.Construction.{IsCertificateOf, IsCertificateOn}
-use Rattle.simplex_verifier.specs.declared.kind.Kind.TheVariants.{Notarization, Nullification, Finalization}
+use Rattle.simplex_verifier.specs.Construction.{judged_of, IsCertificateOf, IsCertificateOn, IsOfWaiting}
+use Rattle.simplex_judging.specs.declared.kind.Kind.TheVariants.{Notarization, Nullification, Finalization}
 use Rattle.simplex_verifier.specs.History as history
 use Rattle.simplex_verifier.proofs.Folding.{selection-stays}
 use Rattle.simplex_verifier.proofs.Rightly.{judged-right}
@@ -50,8 +51,17 @@ first-part R (x ∷ xs) ys pairs = AllPairs-cons R x xs (All-first (R x) xs ys (
     All-first P [] ys all = All-nil P
     All-first P (x ∷ xs) ys all = All-cons P x xs (All-head P x (xs ++ ys) all) (All-first P xs ys (All-tail P x (xs ++ ys) all))
 
+-- what follows of one that is there, follows
+match-more : {X : Type 0} (P Q : X → Type 0) (o : Option X) → ((x : X) → P x → Q x) → MatchOption o ⊥ P → MatchOption o ⊥ Q
+match-more P Q None f m = m
+match-more P Q (Some x) f m = f x m
+
+some-more : {X : Type 0} (P Q : X → Type 0) (o : Option X) → ((x : X) → P x → Q x) → IfSome o P → IfSome o Q
+some-more P Q None f m = tt
+some-more P Q (Some x) f m = f x m
+
 -- a list with a first element is that and the rest
-pub cons-of : {X : Type 0} (xs : List X) (x : X) → x ≡ get_or xs 0 x → 1 ≤ length xs → (rest : List X) × (xs ≡ x ∷ rest)
+cons-of : {X : Type 0} (xs : List X) (x : X) → x ≡ get_or xs 0 x → 1 ≤ length xs → (rest : List X) × (xs ≡ x ∷ rest)
 cons-of [] x e l = absurd (omega (arith, l))
 cons-of (y ∷ ys) x e l = (ys, rw e refl)
 
@@ -79,7 +89,7 @@ module _ {S D P G C : Type 0} (same : D → D → Bool) (g : Ghosts S D P G C) (
       (attest-it same law g.attests s kind h k.lawful x (verified same s kind h) (verified-attest same g.attests s kind h k.lawful) (verified-state same law g.attests s kind h k.lawful x e))
 
   -- the certificate of the verified votes, said of the history
-  pub made-of : (s : Setup S) (h : History S D P G C) (kind : Kind) (v : Verifier S D P G C) (first : Vote S D P G C) (votes : List (Vote S D P G C)) (made : Option C)
+  made-of : (s : Setup S) (h : History S D P G C) (kind : Kind) (v : Verifier S D P G C) (first : Vote S D P G C) (votes : List (Vote S D P G C)) (made : Option C)
       → IsVerifierKept same g batchable s v h → (pool_at kind v.pools).verified.items ≡ first ∷ votes → is_ready same s kind h ≡ true
       → (AreDistinct (map vote_attestation (pool_at kind v.pools).verified.items) → All (λ a. g.attests v.scheme.value a.signer (vote_statement first) a.signature) (map vote_attestation (pool_at kind v.pools).verified.items)
       → MatchOption made (length (map vote_attestation (pool_at kind v.pools).verified.items) < v.needed) (λ c. (v.needed ≤ length (map vote_attestation (pool_at kind v.pools).verified.items)) × IsWhole (g.certifies v.scheme.value (vote_statement first)) g.lists g.enumerates (map vote_attestation (pool_at kind v.pools).verified.items) c))
@@ -105,7 +115,7 @@ module _ {S D P G C : Type 0} (same : D → D → Bool) (g : Ghosts S D P G C) (
   vote-ours round (vote.Finalize v) e = e
 
   -- it is of the kind and of the round, and each of the votes states what it states
-  pub certificate-of : (s : Setup S) (h : History S D P G C) (kind : Kind) (v : Verifier S D P G C) (first : Vote S D P G C) (votes : List (Vote S D P G C)) (c : Certificate S D P G C)
+  certificate-of : (s : Setup S) (h : History S D P G C) (kind : Kind) (v : Verifier S D P G C) (first : Vote S D P G C) (votes : List (Vote S D P G C)) (c : Certificate S D P G C)
       → IsVerifierKept same g batchable s v h → (pool_at kind v.pools).verified.items ≡ first ∷ votes → is_ready same s kind h ≡ true → certificate_statement c ≡ vote_statement first
       → IsWhole (g.certifies s.scheme (vote_statement first)) g.lists g.enumerates (map vote_attestation (verified same s kind h)) (certified_by c)
       → IsCertificateOf g s kind (verified same s kind h) c
@@ -122,6 +132,19 @@ module _ {S D P G C : Type 0} (same : D → D → Bool) (g : Ghosts S D P G C) (
         whole = rw states whole;
       }
 
+  -- what was assembled of the verified votes, the first of which is this one, said of the history
+  pub assembled : (s : Setup S) (h : History S D P G C) (kind : Kind) (v : Verifier S D P G C) (first : Vote S D P G C) (votes : List (Vote S D P G C)) (given : List (Attestation G)) (made : Option C)
+      → IsVerifierKept same g batchable s v h → is_ready same s kind h ≡ true → votes ≡ (pool_at kind v.pools).verified.items → first ≡ get_or votes 0 first → 1 ≤ length votes → given ≡ map vote_attestation votes
+      → (AreDistinct given → All (λ a. g.attests v.scheme.value a.signer (vote_statement first) a.signature) given
+      → MatchOption made (length given < v.needed) (λ c. (v.needed ≤ length given) × IsWhole (g.certifies v.scheme.value (vote_statement first)) g.lists g.enumerates given c))
+      → MatchOption made ⊥ (λ m. (c : Certificate S D P G C) → certificate_statement c ≡ vote_statement first → certified_by c ≡ m → IsCertificateOf g s kind (verified same s kind h) c)
+  assembled s h kind v first votes given made k ready are head some all f =
+      let e = cons-of (pool_at kind v.pools).verified.items first (rw are at head) (rw are at some) in
+      let f' = rw (all, are) at f in
+      match-more (λ m. IsWhole (g.certifies s.scheme (vote_statement first)) g.lists g.enumerates (map vote_attestation (verified same s kind h)) m) (λ m. (c : Certificate S D P G C) → certificate_statement c ≡ vote_statement first → certified_by c ≡ m → IsCertificateOf g s kind (verified same s kind h) c) made
+      (λ m whole c states is. certificate-of s h kind v first e.0 c k e.1 ready states (rw is whole))
+      (made-of s h kind v first e.0 made k e.1 ready f')
+
   -- the certificate of the votes that waited is of the kind and of the round
   pub judged-on : (s : Setup S) (h : History S D P G C) (kind : Kind) (c : Certificate S D P G C) (x : Statement D) → IsLawful same g.attests s h → context s kind h ≡ Some x → certificate_statement c ≡ x → IsCertificateOn s kind x c
   judged-on s h kind c x lawful e states =
@@ -129,6 +152,22 @@ module _ {S D P G C : Type 0} (same : D → D → Bool) (g : Ghosts S D P G C) (
         kind_is = certificate-kind same law kind s.round (selected h) c says;
         round_is = certificate-ours same law kind s.round (selected h) c (selected-ours same law g.attests s h lawful) says;
         states = states;
+      }
+
+  -- what came of the votes that waited, said of the history
+  pub of-waiting : (s : Setup S) (h : History S D P G C) (kind : Kind) (v : Verifier S D P G C) (pool : Pool S D P G C) (x : Statement D) (judged : Judged C) (batch : Batch (Certificate S D P G C))
+      → IsVerifierKept same g batchable s v h → pool ≡ pool_at kind v.pools → context s kind h ≡ Some x
+      → (AreDistinct (map vote_attestation pool.verified.items ++ map vote_attestation pool.waiting.items) → All (λ a. g.attests v.scheme.value a.signer x a.signature) (map vote_attestation pool.verified.items)
+      → IsJudged (g.certifies v.scheme.value x) g.lists (batchable v.scheme.value) (λ i a. g.attests v.scheme.value i x a) g.enumerates v.needed (map vote_attestation pool.verified.items) (map vote_attestation pool.waiting.items) judged)
+      → batch.processed ≡ length pool.waiting.items → judged_of batch ≡ judged → IfSome batch.certificate (λ c. certificate_statement c ≡ x)
+      → IsOfWaiting g same s kind h batch
+  of-waiting s h kind v pool x judged batch k one on f processed is states =
+      let p = pool-keeps same g batchable s v h kind k in record {
+        processed_are = processed ∙ ap length (rw one p.waiting_are);
+        states = x;
+        context_is = on;
+        certificate_is = some-more (λ c. certificate_statement c ≡ x) (λ c. IsCertificateOn s kind x c) batch.certificate (λ c e. judged-on s h kind c x k.lawful on e) states;
+        judged = rw is (judged-of s h kind v pool x judged k one on f);
       }
 
   -- the verifier after votes that waited were judged, and no certificate came of it

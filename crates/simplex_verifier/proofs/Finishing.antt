@@ -16,8 +16,8 @@ use Rattle.simplex_messages.specs.declared.certificate.Certificate.{Certificate}
 use Rattle.simplex_messages.specs.declared.certificate.Certificate.TheVariants as certificate
 use Rattle.simplex_messages.specs.Certificate.{certificate_statement, certified_by}
 use Rattle.simplex_messages.specs.VoteParts.{vote_signer}
-use Rattle.simplex_verifier.specs.declared.kind.Kind.{Kind}
-use Rattle.simplex_verifier.specs.declared.kind.Kind.TheVariants.{Notarization, Nullification, Finalization}
+use Rattle.simplex_judging.specs.declared.kind.Kind.{Kind}
+use Rattle.simplex_judging.specs.declared.kind.Kind.TheVariants.{Notarization, Nullification, Finalization}
 use Rattle.simplex_verifier.specs.declared.batch.Batch.{Batch}
 use Rattle.simplex_judging.specs.Judging.{is_among, without}
 use Rattle.simplex_verifier.specs.Votes.{is_kind, vote_kind, vote_attestation, vote_statement, certificate_kind, certificate_proposal, fixed_proposal}

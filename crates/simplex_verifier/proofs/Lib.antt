@@ -1,5 +1,6 @@
 pub mod Folding
 pub mod Choosing
+pub mod Adding
 pub mod Lawfully
 pub mod Stating
 pub mod Kept

@@ -5,8 +5,8 @@ use Rattle.simplex_types.specs.declared.scheme.Scheme.{Ghosts}
 use Rattle.simplex_messages.specs.declared.vote.Vote.{Vote}
 use Rattle.simplex_messages.specs.declared.vote.Vote.TheVariants as vote
 use Rattle.simplex_messages.specs.declared.certificate.Certificate.{Certificate}
-use Rattle.simplex_verifier.specs.declared.kind.Kind.{Kind}
-use Rattle.simplex_verifier.specs.declared.kind.Kind.TheVariants.{Notarization, Nullification, Finalization}
+use Rattle.simplex_judging.specs.declared.kind.Kind.{Kind}
+use Rattle.simplex_judging.specs.declared.kind.Kind.TheVariants.{Notarization, Nullification, Finalization}
 use Rattle.simplex_verifier.specs.declared.batch.Batch.{Batch}
 use Rattle.simplex_verifier.specs.Votes.{is_kind, vote_kind}
 use Rattle.simplex_verifier.specs.History.{History, Event, Taken, Cast, Certified, Led, Judged, Forwarded, Setup, taken, selected, is_complete, is_candidate, counting, waiting, is_ready}

@@ -18,8 +18,8 @@ use Rattle.simplex_messages.specs.declared.certificate.Certificate.{Certificate}
 use Rattle.simplex_messages.specs.declared.certificate.Certificate.TheVariants as certificate
 use Rattle.simplex_messages.specs.Certificate.{certificate_round, certificate_statement}
 use Rattle.simplex_messages.specs.VoteParts.{vote_signer, vote_round}
-use Rattle.simplex_verifier.specs.declared.kind.Kind.{Kind}
-use Rattle.simplex_verifier.specs.declared.kind.Kind.TheVariants.{Notarization, Nullification, Finalization}
+use Rattle.simplex_judging.specs.declared.kind.Kind.{Kind}
+use Rattle.simplex_judging.specs.declared.kind.Kind.TheVariants.{Notarization, Nullification, Finalization}
 use Rattle.simplex_verifier.specs.Votes.{is_kind, is_proposal, vote_kind, vote_proposal, notarized_proposal, fixed_proposal, vote_statement, vote_attestation, certificate_kind, certificate_proposal, is_notarize_of}
 use Rattle.simplex_verifier.specs.History.{History, accepted, Event, Taken, Cast, Certified, Led, Judged, Forwarded, Setup, Selection, Unknown, Leads, Fixed, select, proposal_of, selection, selected, led, leader_of, notarized_by, fixed_by, is_complete, is_candidate, counting, waiting, verified, are_one, statement_for, context, is_ready}
 use Rattle.simplex_verifier.specs.Lawful.{IsNew, VoteAttests, IsLawful}

@@ -9,9 +9,10 @@ use Rattle.simplex_messages.specs.declared.vote.Vote.{Vote}
 use Rattle.simplex_messages.specs.declared.vote.Vote.TheVariants as vote
 use Rattle.simplex_messages.specs.declared.certificate.Certificate.{Certificate}
 use Rattle.simplex_messages.specs.VoteParts.{vote_signer}
-use Rattle.simplex_verifier.specs.declared.kind.Kind.{Kind}
-use Rattle.simplex_verifier.specs.declared.kind.Kind.TheVariants.{Notarization, Nullification, Finalization}
+use Rattle.simplex_judging.specs.declared.kind.Kind.{Kind}
+use Rattle.simplex_judging.specs.declared.kind.Kind.TheVariants.{Notarization, Nullification, Finalization}
 use Rattle.simplex_judging.specs.Judging.{is_among}
+use Rattle.simplex_judging.specs.Turn.{in_turn}
 use Rattle.simplex_verifier.specs.Votes.{is_kind, is_proposal, vote_kind, vote_proposal, notarized_proposal, fixed_proposal, is_in_way, is_notarize_of, certificate_kind, certificate_proposal}
 
 -- what can happen to a round
@@ -221,7 +222,4 @@ module _ {S D P G C : Type 0} where
 
     -- the first kind of which a construction is due
     abbrev pub next_kind : Setup S → History S D P G C → Option Kind
-    next_kind s h =
-        if is_due s Notarization h then Some Notarization else
-        if is_due s Nullification h then Some Nullification else
-        if is_due s Finalization h then Some Finalization else None
+    next_kind s h = find (λ kind. is_due s kind h) in_turn

@@ -3,7 +3,7 @@
 ghost use Rattle.std.specs.Prelude.{◌≡◌, ◌≤◌, ◌<◌, ◌∷◌, None, Some, false, length};
 ghost use Rattle.simplex_messages.specs.declared.vote.Vote.{Vote};
 ghost use Rattle.simplex_messages.specs.declared.certificate.Certificate.{Certificate};
-ghost use Rattle.simplex_verifier.specs.declared.kind.Kind.{Kind};
+ghost use Rattle.simplex_judging.specs.declared.kind.Kind.{Kind};
 ghost use Rattle.simplex_verifier.specs.declared.batch.Batch.{Batch};
 ghost use Rattle.simplex_verifier.specs.declared.verifier.Verifier.{Verifier};
 ghost use Rattle.simplex_verifier.specs.History.{Event, Forwarded, History, Setup, has_forwarded, next_kind, taken};

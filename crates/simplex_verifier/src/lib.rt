@@ -3,7 +3,6 @@
 
 mod batch;
 mod fault;
-mod kind;
 mod laws;
 mod pool;
 mod pools;
@@ -13,9 +12,9 @@ mod votes;
 
 pub use batch::Batch;
 pub use fault::BatcherFault;
-pub use kind::Kind;
 pub use laws::{
     constructions_end, forwarding_changes_no_votes, no_more_are_judged_than_came, no_quorum_is_lost,
 };
+pub use simplex_judging::Kind;
 pub use verifier::Verifier;
 pub use votes::{kind_of, kind_of_certificate};

@@ -12,10 +12,10 @@ ghost use Rattle.simplex_verifier.specs.Pools.{PoolIs, PoolStays, pool_at};
 ghost use Rattle.simplex_verifier.specs.Keeping.{VerifierKeeps, AtEachOf, selection_of, IsChosen, led_by};
 
 use crate::fault::BatcherFault;
-use crate::kind::Kind;
 use crate::pools::Pools;
 use crate::proposal_state::ProposalState;
 use crate::votes::{fixed_by, is_for, kind_of, kind_of_certificate, proposal_of_certificate};
+use simplex_judging::Kind;
 use simplex_messages::{Certificate, Notarize, Vote};
 use simplex_types::{Attributable, Digest, Participant, Proposal, Round, Scheme, quorum};
 use std::alloc::{AllocError, Global};

@@ -2,28 +2,16 @@ use Rattle.std.proofs.Common.{◌≡◌, refl, sym, ◌∙◌, ap, length}
 use Rattle.std.specs.Prelude.{Option, Some, None}
 use Rattle.simplex_types.specs.Subject.{statement}
 use Rattle.simplex_judging.specs.declared.judging.Judged.{Judged}
-use Rattle.simplex_verifier.proofs.Choosing.{pool-keeps}
-use Rattle.simplex_verifier.proofs.Constructing.{judged-of, judged-on, judged-failing, settled-keeps}
+use Rattle.simplex_verifier.proofs.Constructing.{judged-of, judged-on, judged-failing, of-waiting, settled-keeps}
 use Rattle.simplex_verifier.specs.Keeping.{VerifierKeeps}
 use Rattle.simplex_verifier.proofs.verifier.Verifier.judge.Goals as goal
 
 pub returns-in-Some-clause-batch : goal.returns-in-Some-clause-batch
 unfolding VerifierKeeps
 returns-in-Some-clause-batch g c = λ s h k on.
-    let same = g.D.PartialEq.eq in
-    let law = g.met.D.Digest.equal_is_same in
-    let batchable = g.S.Scheme.batchable in
-    let x = statement c.args.subject.now in
-    let p = pool-keeps same g.S.Scheme batchable s c.args.self.now h c.args.kind k in
-    let f = rw c.deref.ensures at c.in_ok-certificate.ensures in
-    let verdict = judged-of same g.S.Scheme batchable law s h c.args.kind c.args.self.now c.of-pool.result.now x c.in_ok-certificate.field-0 k c.of-pool.ensures on f in
-    let same_certificate : c.in_ok-certificate.field-0.certificate ≡ Some c.in-Some.certificate = c.in-Some.is in record {
-      processed_are = ap length (c.as_slice-processed.ensures.value ∙ rw c.of-pool.ensures p.waiting_are);
-      states = x;
-      context_is = on;
-      certificate_is = judged-on same g.S.Scheme batchable law s h c.args.kind c.certificate_on-certificate.result x k.lawful on c.certificate_on-certificate.ensures.states;
-      judged = rw (c.certificate_on-certificate.ensures.made, ← same_certificate) verdict;
-    }
+    let made : c.in_ok-certificate.field-0.certificate ≡ Some c.in-Some.certificate = c.in-Some.is in
+    of-waiting g.D.PartialEq.eq g.S.Scheme g.S.Scheme.batchable g.met.D.Digest.equal_is_same s h c.args.kind c.args.self.now c.of-pool.result.now (statement c.args.subject.now) c.in_ok-certificate.field-0 _ k c.of-pool.ensures on
+    (rw c.deref.ensures at c.in_ok-certificate.ensures) (ap length c.as_slice-processed.ensures.value) (rw (c.certificate_on-certificate.ensures.made, ← made) refl) c.certificate_on-certificate.ensures.states
 
 pub returns-in-Some-clause-keeps : goal.returns-in-Some-clause-keeps
 unfolding VerifierKeeps
@@ -37,21 +25,9 @@ returns-in-Some-clause-keeps g c = λ s h k on.
 pub returns-in_ok-settle-in-None-clause-batch : goal.returns-in_ok-settle-in-None-clause-batch
 unfolding VerifierKeeps
 returns-in_ok-settle-in-None-clause-batch g c = λ s h k on.
-    let same = g.D.PartialEq.eq in
-    let law = g.met.D.Digest.equal_is_same in
-    let batchable = g.S.Scheme.batchable in
-    let x = statement c.args.subject.now in
-    let p = pool-keeps same g.S.Scheme batchable s c.args.self.now h c.args.kind k in
-    let f = rw c.deref.ensures at c.in_ok-certificate.ensures in
-    let verdict = judged-of same g.S.Scheme batchable law s h c.args.kind c.args.self.now c.of-pool.result.now x c.in_ok-certificate.field-0 k c.of-pool.ensures on f in
-    let nothing : Option g.row.S-Certificate.Denot = None in
-    let none : c.in_ok-certificate.field-0.certificate ≡ nothing = c.in-None.is in record {
-      processed_are = ap length (c.as_slice-processed.ensures.value ∙ rw c.of-pool.ensures p.waiting_are);
-      states = x;
-      context_is = on;
-      certificate_is = tt;
-      judged = rw (← none) verdict;
-    }
+    let none : c.in_ok-certificate.field-0.certificate ≡ None = c.in-None.is in
+    of-waiting g.D.PartialEq.eq g.S.Scheme g.S.Scheme.batchable g.met.D.Digest.equal_is_same s h c.args.kind c.args.self.now c.of-pool.result.now (statement c.args.subject.now) c.in_ok-certificate.field-0 _ k c.of-pool.ensures on
+    (rw c.deref.ensures at c.in_ok-certificate.ensures) (ap length c.as_slice-processed.ensures.value) (rw (← none) refl) tt
 
 pub returns-in_ok-settle-in-None-clause-keeps : goal.returns-in_ok-settle-in-None-clause-keeps
 unfolding VerifierKeeps

@@ -1,6 +1,6 @@
 use Rattle.std.proofs.Common.{◌≡◌, ◌≢◌, ◌∷◌, ◌&&◌, ◌||◌, not, refl, sym, ◌∙◌, ap, true, false}
 use Rattle.std.specs.Prelude.{Option, None, Some}
-use Rattle.simplex_verifier.specs.declared.kind.Kind.TheVariants.{Notarization, Nullification, Finalization}
+use Rattle.simplex_judging.specs.declared.kind.Kind.TheVariants.{Notarization, Nullification, Finalization}
 use Rattle.simplex_verifier.specs.Votes.{vote_kind, certificate_kind}
 use Rattle.simplex_verifier.specs.History.{Taken, Cast, Certified, Led, selection, selected, proposal_of, is_complete, is_candidate}
 use Rattle.simplex_verifier.specs.Keeping.{selection_of, VerifierKeeps}

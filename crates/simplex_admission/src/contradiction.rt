@@ -1,50 +1,13 @@
-//! What is answered to votes.
+//! When two votes contradict each other.
 
-ghost use Rattle.std.specs.Prelude.{◌≡◌, ◌↔◌, IsTrue, Some, None, false, is_some, if◌then◌else◌};
+ghost use Rattle.std.specs.Prelude.{◌≡◌, ◌↔◌, IsTrue, Some, None, is_some, if◌then◌else◌};
 ghost use Rattle.simplex_messages.specs.declared.activity.Activity.TheVariants as activity;
 ghost use Rattle.simplex_messages.specs.NullifyFinalize.{stands_beside};
-ghost use Rattle.simplex_batcher.specs.Admission.{as_report, AreForTwo, evidence};
+ghost use Rattle.simplex_admission.specs.Evidence.{AreForTwo, evidence};
 
-use crate::votes::{again, nullify_again};
+use crate::copies::{again, nullify_again};
 use simplex_messages::{Activity, ConflictingVotes, Finalize, Nullify, NullifyFinalize, Vote};
 use simplex_types::{Digest, Scheme};
-
-/// What came of a vote from the network.
-#[derive(Drop)]
-pub struct Admission<S: Scheme<D>, D: Digest> {
-    /// Whether it was accepted.
-    pub added: bool,
-    /// Whether its sender is to be blocked.
-    pub block: bool,
-    /// The accepted vote, or evidence against its sender.
-    pub report: Option<Activity<S, D>>,
-}
-
-impl<S: Scheme<D>, D: Digest> Admission<S, D> {
-    /// What is answered to a vote that is not accepted, and that there is no evidence against.
-    pub(crate) const fn without_evidence(block: bool) -> Self
-        ensures added { result.added ≡ false }
-        ensures block { result.block ≡ block }
-        ensures report { result.report ≡ None }
-    {
-        Admission {
-            added: false,
-            block,
-            report: None,
-        }
-    }
-}
-
-/// The vote as a report.
-pub(crate) fn report<S: Scheme<D>, D: Digest>(vote: &Vote<S, D>) -> Activity<S, D>
-    ensures { result ≡ as_report vote.now }
-{
-    match vote {
-        Vote::Notarize(vote) => Activity::Notarize(again(vote)),
-        Vote::Nullify(vote) => Activity::Nullify(nullify_again(vote)),
-        Vote::Finalize(vote) => Activity::Finalize(again(vote)),
-    }
-}
 
 /// The evidence of two votes, where they contradict each other.
 pub(crate) fn evidence_of<S: Scheme<D>, D: Digest>(
@@ -107,7 +70,7 @@ pub(crate) fn are_one<S: Scheme<D>, D: Digest>(first: &Vote<S, D>, second: &Vote
 }
 
 /// Whether two votes of one signer and one round contradict each other.
-pub(crate) fn are_against<S: Scheme<D>, D: Digest>(first: &Vote<S, D>, second: &Vote<S, D>) -> bool
+pub fn are_against<S: Scheme<D>, D: Digest>(first: &Vote<S, D>, second: &Vote<S, D>) -> bool
     ensures { result ≡ is_some (evidence D.PartialEq.eq first.now second.now) }
 {
     match (first, second) {
