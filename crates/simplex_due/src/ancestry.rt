@@ -308,7 +308,7 @@ fn may_stand_on<K: Knowledge<D>, D: Digest>(known: &K, view: View, parent: View,
 }
 
 /// Whether the parent rule gives this payload.
-fn allows_parent<K: Knowledge<D>, D: Digest>(
+pub fn allows_parent<K: Knowledge<D>, D: Digest>(
     known: &K,
     view: View,
     parent: View,
@@ -323,7 +323,7 @@ fn allows_parent<K: Knowledge<D>, D: Digest>(
 }
 
 /// Whether this is the parent to build on, with this payload.
-fn prefers<K: Knowledge<D>, D: Digest>(known: &K, view: View, parent: View, payload: D) -> bool
+pub fn prefers<K: Knowledge<D>, D: Digest>(known: &K, view: View, parent: View, payload: D) -> bool
     ensures { AtEach K.shows known.now (λ m k. IsTrue result ↔ IsPreferred m k view parent payload) }
 {
     is_just(preferred_parent(known, view), parent, payload)

@@ -1,11 +1,14 @@
 -- The first of many views that was entered, and what an option gives.
 use Rattle.std.proofs.Common.{◌≡◌, ◌<◌, ◌≤◌, ◌+◌, ℕ, zero, suc, Bool, true, false, refl, sym, ◌∙◌, ⊎_elim, arith}
-use Rattle.std.specs.Prelude.{◌↔◌, List, [], Option, Some, None, IsTrue, is_some}
+use Rattle.std.specs.Prelude.{◌↔◌, List, [], Option, Some, None, IsTrue, is_some, MatchOption}
 use Rattle.std.proofs.lemmas.Bool.{cases_lt}
 use Rattle.simplex_round.specs.Past as past
 use Rattle.simplex_round.specs.Past.{Item}
 use Rattle.simplex_tracking.specs.Rounds.{AreUntracked}
+use Rattle.simplex_views.specs.Known.{Known}
+use Rattle.simplex_due.specs.Ancestry.{Member, IsPreferred}
 use Rattle.simplex_due.specs.Due.{first_from}
+use Rattle.simplex_due.specs.Requests.{IsCaptured, IsSuperseded}
 
 module _ {D : Type 0} where
   -- what an option gives is another value exactly where a test of both says so
@@ -17,6 +20,12 @@ module _ {D : Type 0} where
 
   pub none_is_given : (found wanted : Option D) (x : D) → found ≡ None → found ≡ wanted → IsTrue false ↔ (wanted ≡ Some x)
   none_is_given found wanted x none there = (λ never. absurd (cc (never)), λ wants. absurd (cc (none, there, wants)))
+
+-- there is another parent to build on exactly where one is found
+pub another_preferred : {D : Type 0} (m : Member) (k : Known D) (view parent : ℕ) (payload : D) (o : Option (ℕ × D)) (b : Bool) → b ≡ is_some o → ¬ IsCaptured m k view parent payload
+    → MatchOption o ((u : ℕ) (x : D) → ¬ IsPreferred m k view u x) (λ x. IsPreferred m k view x.0 x.1) → IsTrue b ↔ IsSuperseded m k view parent payload
+another_preferred m k view parent payload None b test fallen none = (λ never. absurd (cc (test, never)), λ is. absurd (none is.other.0 is.other.1 is.other.2))
+another_preferred m k view parent payload (Some x) b test fallen there = (λ yes. record { fallen = fallen; other = (x.0, x.1, there) }, λ is. test)
 
 module _ (test : ℕ → Bool) where
   -- none of so many passes

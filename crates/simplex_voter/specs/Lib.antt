@@ -1,3 +1,4 @@
+pub mod Building
 pub mod State
 pub mod Timing
 pub mod Votes

@@ -1,9 +1,11 @@
 //! A voter.
 #![tactic(auto, unfolding(crate::specs::State::Keeps))]
 
+mod answering;
 mod keeping;
 mod knowing;
 mod learning;
+mod proposing;
 mod sending;
 mod timing;
 mod voting;

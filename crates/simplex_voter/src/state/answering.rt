@@ -1,0 +1,79 @@
+//! What a voter's application answers of proposals.
+
+ghost use Rattle.std.specs.Prelude.{◌≡◌, ◌↔◌, ◌⊎◌, if◌then◌else◌, false, ◌∷◌, IsTrue, IfOk, OnOk};
+ghost use Rattle.simplex_round.specs.Held.{IsUnverified};
+ghost use Rattle.simplex_round.specs.Past.{offers, has_nullified};
+ghost use Rattle.simplex_views.specs.History.{certify_asked, confirmed, latched, seen, unbound};
+ghost use Rattle.simplex_views.specs.Known.{known};
+ghost use Rattle.simplex_due.specs.Ancestry.{IsSteady, member};
+ghost use Rattle.simplex_due.specs.Due.{MayLatch};
+ghost use Rattle.simplex_voter.specs.State.{AtEach, Keeps};
+
+use crate::state::State;
+use simplex_due::ancestry::is_steady;
+use simplex_facts::Facts;
+use simplex_round::{TimeoutReason, Token};
+use simplex_rules::Elector;
+use simplex_types::{Digest, Scheme, View};
+use std::alloc::AllocError;
+
+impl<S: Scheme<D> + Drop, L: Elector<S, D>, D: Digest> State<S, L, D> {
+    /// Takes it that the held proposal of the view was found good: whether it became verified. Behind an own nullify it doesn't. Where
+    /// what it was bound to has fallen, that is dropped, and nothing else changes.
+    ///
+    /// # Errors
+    ///
+    /// `AllocError` where memory ran out.
+    pub fn verified(&mut self, view: View) -> Result<bool, AllocError>
+        ensures keeps { OnOk result (AtEach S.Scheme L.Elector self.old (λ s h. (IsSteady (member s) (known s h) view × Keeps S.Scheme L.Elector s self.new (confirmed view ∷ h)) ⊎ ((¬ IsSteady (member s) (known s h) view) × Keeps S.Scheme L.Elector s self.new (unbound view ∷ h)))) }
+        ensures answer { IfOk result (λ became. AtEach S.Scheme L.Elector self.old (λ s h. IsTrue became ↔ (IsSteady (member s) (known s h) view × (has_nullified (seen s h view) ≡ false) × IsUnverified (offers (seen s h view))))) }
+    {
+        if !self.is_steady(view) {
+            self.views.clear_verifying(view)?;
+            return Ok(false);
+        }
+        let became = self.views.verified(view)?;
+        Ok(became)
+    }
+
+    /// Takes it that the held proposal of the view wasn't found good, for this reason to give the view up: whether the reason counts.
+    /// Where what the proposal was bound to has fallen, that is dropped, and nothing else changes.
+    ///
+    /// # Errors
+    ///
+    /// `AllocError` where memory ran out.
+    pub fn verification_failed(
+        &mut self,
+        now: u64,
+        view: View,
+        reason: TimeoutReason,
+    ) -> Result<bool, AllocError>
+        ensures keeps { IfOk result (λ counts. AtEach S.Scheme L.Elector self.old (λ s h. (IsSteady (member s) (known s h) view × Keeps S.Scheme L.Elector s self.new (if counts then latched now view reason ∷ h else h)) ⊎ ((¬ IsSteady (member s) (known s h) view) × Keeps S.Scheme L.Elector s self.new (unbound view ∷ h)))) }
+        ensures answer { IfOk result (λ counts. AtEach S.Scheme L.Elector self.old (λ s h. IsTrue counts ↔ (IsSteady (member s) (known s h) view × MayLatch s h view reason))) }
+    {
+        if !self.is_steady(view) {
+            self.views.clear_verifying(view)?;
+            return Ok(false);
+        }
+        let counts = self.trigger_timeout(now, view, reason)?;
+        Ok(counts)
+    }
+
+    /// Whether what the view's proposal is bound to hasn't fallen.
+    fn is_steady(&self, view: View) -> bool
+        ensures { AtEach S.Scheme L.Elector self.now (λ s h. IsTrue result ↔ IsSteady (member s) (known s h) view) }
+    {
+        is_steady(&Facts(&self.views), view)
+    }
+
+    /// Takes it that a verdict on the view was asked for, under this name.
+    ///
+    /// # Errors
+    ///
+    /// `AllocError` where memory ran out.
+    pub fn set_certify_handle(&mut self, view: View, handle: Token) -> Result<(), AllocError>
+        ensures { OnOk result (AtEach S.Scheme L.Elector self.old (λ s h. Keeps S.Scheme L.Elector s self.new (certify_asked view handle ∷ h))) }
+    {
+        self.views.set_certify_handle(view, handle)
+    }
+}
