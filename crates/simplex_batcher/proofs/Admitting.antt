@@ -1,5 +1,5 @@
 -- What is accepted is not blocked.
-use Rattle.std.proofs.Common.{◌≡◌, ◌<◌, inl, inr, ℕ, zero, suc, Bool, true, false, ◌==◌, ◌&&◌, List, [], ◌∷◌, arith, refl, nat_lt}
+use Rattle.std.proofs.Common.{◌≡◌, ◌<◌, inl, inr, ℕ, zero, Bool, true, false, ◌==◌, ◌&&◌, List, [], ◌∷◌, arith, refl, nat_lt}
 use Rattle.std.specs.Prelude.{Option, None, Some, IfSome, MatchOption, is_none, is_some, find, if◌then◌else◌}
 use Rattle.std.specs.List.{Contains}
 use Rattle.std.specs.Option.{option_and_then}
@@ -7,9 +7,8 @@ use Rattle.std.proofs.lemmas.List.Elements.{Contains-append_right}
 use Rattle.simplex_types.specs.declared.proposal.Proposal.{Proposal}
 use Rattle.simplex_messages.specs.declared.vote.Vote.{Vote}
 use Rattle.simplex_messages.specs.declared.vote.Vote.TheVariants as vote
-use Rattle.simplex_messages.specs.declared.certificate.Certificate.{Certificate}
 use Rattle.simplex_messages.specs.VoteParts.{vote_signer, vote_round}
-use Rattle.simplex_verifier.specs.History.{History, Event, Setup, accepted, takes, recorded, is_kept_in_full, forwardable, has_forwarded}
+use Rattle.simplex_verifier.specs.History.{History, Setup, accepted, takes, recorded, is_kept_in_full, forwardable, has_forwarded}
 use Rattle.simplex_verifier.specs.Lawful.{IsNew}
 use Rattle.simplex_admission.specs.Evidence.{evidence}
 use Rattle.simplex_admission.specs.Refusal.{Offends}

@@ -1,5 +1,5 @@
 -- Three constructions in a row are enough.
-use Rattle.std.proofs.Common.{◌≡◌, ◌≤◌, ◌<◌, ℕ, suc, Bool, false, List, [], ◌∷◌, ◌++◌, ◌+◌, refl, ap, sym, ◌∙◌, arith, length, length-append}
+use Rattle.std.proofs.Common.{◌≡◌, ◌≤◌, ◌<◌, ℕ, suc, Bool, false, List, [], ◌∷◌, ◌++◌, refl, ap, arith, length, length-append}
 use Rattle.std.specs.Prelude.{Option, None, Some, MatchOption, is_none, is_some, true}
 use Rattle.simplex_types.specs.declared.scheme.Scheme.{Ghosts}
 use Rattle.simplex_messages.specs.declared.certificate.Certificate.{Certificate}
@@ -14,7 +14,7 @@ use Rattle.simplex_verifier.specs.History.{History, Setup, next_kind}
 use Rattle.simplex_verifier.specs.Lawful.{IsLawful}
 use Rattle.simplex_verifier.specs.Quorums.{AllCertified}
 use Rattle.simplex_verifier.specs.Construction.{after, after_construction, kinds_left, IsBatch, IsConstruction}
-use Rattle.simplex_batcher.specs.Run.{Answers, AnswersAre, after_call, after_all, EndsInConstructions}
+use Rattle.simplex_batcher.specs.Run.{AnswersAre, after_call, after_all, EndsInConstructions}
 
 -- none is left
 none-left : (next : Option Kind) → kinds_left next ≤ 0 → next ≡ None

@@ -1,6 +1,6 @@
 -- Rows of votes, one a member.
 use Rattle.std.proofs.Common.{◌≡◌, ◌∙◌, ◌==◌, ◌&&◌, ℕ, zero, suc, Bool, true, false, List, [], ◌∷◌, ◌++◌, refl, arith}
-use Rattle.std.specs.Prelude.{Option, None, Some, find, if◌then◌else◌}
+use Rattle.std.specs.Prelude.{None, Some, if◌then◌else◌}
 use Rattle.simplex_messages.specs.declared.vote.Vote.{Vote}
 use Rattle.simplex_messages.specs.declared.vote.Vote.TheVariants as vote
 use Rattle.simplex_messages.specs.VoteParts.{vote_signer}

@@ -8,14 +8,13 @@ use Rattle.simplex_judging.specs.declared.kind.Kind.{Kind}
 use Rattle.simplex_verifier.specs.declared.batch.Batch.{Batch}
 use Rattle.simplex_batcher.specs.declared.call.Call.{Call}
 use Rattle.simplex_batcher.specs.declared.call.Call.TheVariants.{AddNetwork, AcceptVote, RecordCertificate, SetLeader, TryConstruct, TryForwardProposal, Ask}
-use Rattle.simplex_batcher.specs.declared.call.Question.{Question}
 use Rattle.simplex_batcher.specs.declared.call.Question.TheVariants.{HasCertificate, HasNullify, IsMissingVoter, MissingVoters, Belongs, BelongsCertificate}
 use Rattle.simplex_batcher.specs.declared.call.Answer.{Answer}
 use Rattle.simplex_batcher.specs.declared.call.Answer.TheVariants as answer
 use Rattle.simplex_verifier.specs.History.{History, Event, Taken, Cast, Certified, Led, Forwarded, Setup, taken, takes, recorded, leader_of, forwardable, next_kind}
 use Rattle.simplex_verifier.specs.Construction.{after, after_construction, IsBatch, IsConstruction}
 use Rattle.simplex_verifier.specs.Spending.{waits, Spends}
-use Rattle.simplex_batcher.specs.Run.{Answers, AnswersAre, AnswersQuestion, after_call, after_all, processed_of, processed_in}
+use Rattle.simplex_batcher.specs.Run.{Answers, AnswersAre, after_call, after_all, processed_of, processed_in}
 
 module _ {S D P G C : Type 0} (g : Ghosts S D P G C) (same : D → D → Bool) (s : Setup S)
     (event : (h : History S D P G C) (e : Event (Vote S D P G C) (Certificate S D P G C)) → Spends same s 0 h (e ∷ h))

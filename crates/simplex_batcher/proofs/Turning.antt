@@ -1,5 +1,5 @@
 -- The kinds, taken in turn.
-use Rattle.std.proofs.Common.{◌≡◌, ◌<◌, ◌+◌, ◌∷◌, ℕ, suc, Bool, true, false, List, refl, ◌∙◌, arith, drop, length, get_or, drop-cons}
+use Rattle.std.proofs.Common.{◌≡◌, ◌<◌, ◌+◌, ℕ, suc, Bool, true, false, List, refl, arith, drop, get_or, drop-cons}
 use Rattle.std.specs.Prelude.{Option, Some, None, MatchOption, find}
 use Rattle.simplex_messages.specs.declared.certificate.Certificate.{Certificate}
 use Rattle.simplex_judging.specs.declared.kind.Kind.{Kind}

@@ -1,8 +1,7 @@
 -- What is answered to a vote from the network.
-use Rattle.std.specs.Prelude.{true, is_some, ⊤, ◌≡◌, ◌≢◌, ◌<◌, ◌⊎◌, ◌&&◌, ◌==◌, ℕ, Bool, if◌then◌else◌, List, Option, None, Some, MatchOption, MatchBool, nat_lt, Contains}
+use Rattle.std.specs.Prelude.{true, is_some, ⊤, ◌≡◌, ◌≢◌, ℕ, Bool, if◌then◌else◌, Option, None, Some, Contains}
 use Rattle.std.specs.Option.{option_and_then}
 use Rattle.simplex_messages.specs.declared.vote.Vote.{Vote}
-use Rattle.simplex_messages.specs.declared.certificate.Certificate.{Certificate}
 use Rattle.simplex_messages.specs.declared.activity.Activity.{Activity}
 use Rattle.simplex_admission.specs.Evidence.{as_report, evidence}
 use Rattle.simplex_admission.specs.Refusal.{IsBlockedFor, evidence_against}
@@ -10,7 +9,7 @@ use Rattle.simplex_messages.specs.VoteParts.{vote_signer, vote_round}
 use Rattle.simplex_verifier.specs.declared.fault.BatcherFault.{BatcherFault}
 use Rattle.simplex_verifier.specs.declared.fault.BatcherFault.TheVariants.{WrongRound, OtherLeader, Contradicts, Memory}
 use Rattle.simplex_verifier.specs.Votes.{vote_kind}
-use Rattle.simplex_verifier.specs.History.{History, Event, Setup, accepted, given, recorded, takes, is_kept_in_full}
+use Rattle.simplex_verifier.specs.History.{History, Setup, accepted, given, recorded, takes, is_kept_in_full}
 
 module _ {S D P G C : Type 0} where
   -- the sender of this vote is blocked: it names another, or the vote offends the recorded one

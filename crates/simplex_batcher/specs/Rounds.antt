@@ -1,5 +1,5 @@
 -- What a round keeps of a history.
-use Rattle.std.specs.Prelude.{◌≡◌, ℕ, Bool, List}
+use Rattle.std.specs.Prelude.{◌≡◌, Bool}
 use Rattle.simplex_types.specs.declared.scheme.Scheme.{Ghosts}
 use Rattle.simplex_batcher.specs.declared.round.Round.{Round}
 use Rattle.simplex_verifier.specs.History.{History, Setup, accepted, has_forwarded}

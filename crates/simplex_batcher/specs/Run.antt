@@ -1,5 +1,5 @@
 -- The answers to a list of calls.
-use Rattle.std.specs.Prelude.{◌≡◌, ◌≢◌, ◌↔◌, ℕ, Bool, true, false, IsTrue, List, [], ◌∷◌, ◌++◌, ◌+◌, if◌then◌else◌, Option, None, Some, IfSome, MatchOption, is_none, is_some, ⊤}
+use Rattle.std.specs.Prelude.{◌≡◌, ◌≢◌, ◌↔◌, ℕ, Bool, false, IsTrue, List, [], ◌∷◌, ◌++◌, ◌+◌, if◌then◌else◌, Option, None, Some, IfSome, MatchOption, is_none, is_some, ⊤}
 use Rattle.simplex_types.specs.Subject.{Statement}
 use Rattle.simplex_types.specs.declared.scheme.Scheme.{Ghosts}
 use Rattle.simplex_messages.specs.declared.vote.Vote.{Vote}
@@ -8,7 +8,6 @@ use Rattle.simplex_messages.specs.declared.activity.Activity.{Activity}
 use Rattle.simplex_messages.specs.VoteParts.{vote_round}
 use Rattle.simplex_messages.specs.Certificate.{certificate_round}
 use Rattle.simplex_verifier.specs.declared.fault.BatcherFault.TheVariants.{WrongRound, OtherLeader, Memory}
-use Rattle.simplex_judging.specs.declared.kind.Kind.{Kind}
 use Rattle.simplex_judging.specs.declared.kind.Kind.TheVariants.{Notarization}
 use Rattle.simplex_admission.specs.declared.admission.Admission.{Admission}
 use Rattle.simplex_verifier.specs.declared.batch.Batch.{Batch}

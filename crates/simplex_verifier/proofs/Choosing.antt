@@ -1,19 +1,16 @@
 -- The votes of a kind after an event, as they are held.
-use Rattle.std.proofs.Common.{◌≡◌, ◌≢◌, ℕ, Bool, true, false, not, ◌&&◌, ◌||◌, List, [], ◌∷◌, ◌++◌, refl, ap, sym, ◌∙◌, append-nil}
+use Rattle.std.proofs.Common.{◌≡◌, ℕ, Bool, true, false, not, ◌&&◌, ◌||◌, List, [], ◌∷◌, ◌++◌, refl, ap, sym, ◌∙◌, append-nil}
 use Rattle.std.specs.Prelude.{Option, None, Some, filter, find, is_some, if◌then◌else◌}
 use Rattle.std.specs.List.{filter_map}
 use Rattle.std.proofs.lemmas.List.Elements.{filter-append}
-use Rattle.simplex_types.specs.declared.proposal.Proposal.{Proposal}
 use Rattle.simplex_messages.specs.declared.vote.Vote.{Vote}
 use Rattle.simplex_messages.specs.declared.certificate.Certificate.{Certificate}
-use Rattle.simplex_messages.specs.VoteParts.{vote_signer}
 use Rattle.simplex_judging.specs.declared.kind.Kind.{Kind}
 use Rattle.simplex_judging.specs.declared.kind.Kind.TheVariants.{Notarization, Nullification, Finalization}
 use Rattle.simplex_verifier.specs.declared.pool.Pool.{Pool}
 use Rattle.simplex_verifier.specs.declared.proposal_state.ProposalState.{ProposalState}
-use Rattle.simplex_judging.specs.Judging.{is_among}
 use Rattle.simplex_verifier.specs.Votes.{is_kind, vote_kind, certificate_kind}
-use Rattle.simplex_verifier.specs.History.{History, leader_of, has_forwarded, forwardable, Event, Taken, Cast, Certified, Led, Judged, Forwarded, Setup, Selection, Unknown, Leads, Fixed, select, proposal_of, selection, selected, certificate_in, is_complete, is_candidate, counting, waiting, verified}
+use Rattle.simplex_verifier.specs.History.{History, leader_of, has_forwarded, Event, Taken, Cast, Certified, Led, Judged, Forwarded, Setup, Selection, Unknown, Leads, Fixed, select, proposal_of, selection, selected, certificate_in, is_complete, is_candidate, counting, waiting, verified}
 use Rattle.simplex_verifier.specs.Pools.{pool_at, PoolIs, pushed, settled_waiting, settled_verified}
 use Rattle.simplex_types.specs.declared.scheme.Scheme.{Ghosts}
 use Rattle.simplex_verifier.specs.declared.verifier.Verifier.{Verifier}

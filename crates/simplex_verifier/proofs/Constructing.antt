@@ -1,8 +1,8 @@
 -- What comes of constructions.
-use Rattle.std.proofs.Common.{◌≡◌, ◌≢◌, ◌≤◌, ◌<◌, ◌⊎◌, inl, inr, ℕ, zero, suc, Bool, true, false, ◌&&◌, ◌||◌, List, [], ◌∷◌, ◌++◌, refl, ap, sym, ◌∙◌, arith, map, length, get_or}
+use Rattle.std.proofs.Common.{◌≡◌, ◌≢◌, ◌≤◌, ◌<◌, inl, inr, ℕ, zero, suc, Bool, true, ◌||◌, List, [], ◌∷◌, ◌++◌, refl, ap, sym, ◌∙◌, arith, map, length, get_or}
 use Rattle.std.specs.Prelude.{Option, None, Some, MatchOption, IfSome, is_some, nat_le, IsTrue, ◌↔◌}
 use Rattle.std.proofs.lemmas.List.{length-map}
-use Rattle.std.specs.List.{All, AllPairs, Contains}
+use Rattle.std.specs.List.{All, AllPairs}
 use Rattle.std.proofs.lemmas.Bool.{and_parts}
 use Rattle.std.proofs.lemmas.List.Elements.{All-nil, All-cons, All-head, All-tail, All-same}
 use Rattle.std.proofs.lemmas.List.Kept.{AllPairs-cons}
@@ -15,7 +15,7 @@ use Rattle.simplex_types.specs.Batching.{AreFailing}
 use Rattle.simplex_messages.specs.declared.vote.Vote.{Vote}
 use Rattle.simplex_messages.specs.declared.vote.Vote.TheVariants as vote
 use Rattle.simplex_messages.specs.declared.certificate.Certificate.{Certificate}
-use Rattle.simplex_messages.specs.Certificate.{certificate_round, certificate_statement, certified_by}
+use Rattle.simplex_messages.specs.Certificate.{certificate_statement, certified_by}
 use Rattle.simplex_messages.specs.VoteParts.{vote_round}
 use Rattle.simplex_judging.specs.declared.kind.Kind.{Kind}
 use Rattle.simplex_judging.specs.declared.judging.Judged.{Judged}
@@ -23,7 +23,7 @@ use Rattle.simplex_verifier.specs.declared.batch.Batch.{Batch}
 use Rattle.simplex_verifier.specs.declared.pool.Pool.{Pool}
 use Rattle.simplex_verifier.specs.declared.verifier.Verifier.{Verifier}
 use Rattle.simplex_judging.specs.Judging.{IsJudged, IsWhole}
-use Rattle.simplex_verifier.specs.Votes.{is_kind, vote_kind, vote_proposal, vote_statement, vote_attestation}
+use Rattle.simplex_verifier.specs.Votes.{vote_proposal, vote_statement, vote_attestation}
 use Rattle.simplex_verifier.specs.History.{History, Setup, selected, context, statement_for, verified, waiting, is_ready, are_one}
 use Rattle.simplex_verifier.specs.Lawful.{IsLawful}
 use Rattle.simplex_verifier.specs.Pools.{pool_at, PoolIs, settled_waiting, settled_verified}

@@ -1,30 +1,28 @@
 -- Each construction leaves a later kind to be made, or none.
-use Rattle.std.proofs.Common.{◌≡◌, ◌≤◌, ◌<◌, ◌⊎◌, inl, inr, ℕ, zero, suc, Bool, true, false, not, ◌&&◌, ◌||◌, ◌+◌, List, [], ◌∷◌, ◌++◌, refl, ap, sym, ◌∙◌, arith, map, length, length-append}
-use Rattle.std.specs.Prelude.{Option, None, Some, MatchOption, MatchBool, IfSome, filter, find, is_some, is_none, nat_le, nat_lt, if◌then◌else◌, IsTrue, ◌↔◌, ⊤}
-use Rattle.std.specs.List.{All, filter_map}
+use Rattle.std.proofs.Common.{◌≡◌, ◌≤◌, ◌<◌, ◌⊎◌, inl, inr, ℕ, Bool, true, false, not, ◌&&◌, ◌||◌, ◌+◌, List, [], ◌∷◌, ◌++◌, refl, ap, sym, ◌∙◌, arith, map, length, length-append}
+use Rattle.std.specs.Prelude.{Option, None, Some, MatchBool, filter, is_some, nat_le, nat_lt, if◌then◌else◌, IsTrue, ◌↔◌}
+use Rattle.std.specs.List.{All}
 use Rattle.std.specs.Option.{option_map}
 use Rattle.std.proofs.lemmas.List.{length-map}
 use Rattle.std.proofs.lemmas.List.Elements.{All-head}
 use Rattle.simplex_types.specs.declared.scheme.Scheme.{Ghosts}
 use Rattle.simplex_types.specs.declared.attestation.Attestation.{Attestation}
 use Rattle.simplex_types.specs.declared.proposal.Proposal.{Proposal}
-use Rattle.simplex_types.specs.declared.position.Round.{Round}
 use Rattle.simplex_types.specs.Subject.{Statement, finalize}
 use Rattle.simplex_messages.specs.declared.vote.Vote.{Vote}
 use Rattle.simplex_messages.specs.declared.vote.Vote.TheVariants as vote
 use Rattle.simplex_messages.specs.declared.certificate.Certificate.{Certificate}
 use Rattle.simplex_messages.specs.declared.certificate.Certificate.TheVariants as certificate
-use Rattle.simplex_messages.specs.Certificate.{certificate_statement, certified_by}
+use Rattle.simplex_messages.specs.Certificate.{certificate_statement}
 use Rattle.simplex_messages.specs.VoteParts.{vote_signer}
 use Rattle.simplex_judging.specs.declared.kind.Kind.{Kind}
 use Rattle.simplex_judging.specs.declared.kind.Kind.TheVariants.{Notarization, Nullification, Finalization}
 use Rattle.simplex_verifier.specs.declared.batch.Batch.{Batch}
 use Rattle.simplex_judging.specs.Judging.{is_among, without}
 use Rattle.simplex_verifier.specs.Votes.{is_kind, vote_kind, vote_attestation, vote_statement, certificate_kind, certificate_proposal, fixed_proposal}
-use Rattle.simplex_verifier.specs.History.{History, Event, Taken, Cast, Certified, Led, Judged, Forwarded, Setup, Selection, Unknown, Leads, Fixed, select, proposal_of, selection, selected, led, fixed_by, certificate_in, is_complete, is_candidate, counting, waiting, verified, context, statement_for, is_ready, is_worth_judging, is_due, are_one, next_kind}
+use Rattle.simplex_verifier.specs.History.{History, Taken, Cast, Certified, Led, Judged, Forwarded, Setup, Selection, Unknown, Leads, Fixed, select, proposal_of, selection, selected, led, is_complete, counting, waiting, verified, context, is_ready, is_due, are_one, next_kind}
 use Rattle.simplex_verifier.specs.Lawful.{IsLawful}
-use Rattle.simplex_verifier.specs.Construction.{after, after_construction, kinds_left, IsCertificateOf, IsCertificateOn, IsOfVerified, IsOfWaiting, IsBatch}
-use Rattle.simplex_verifier.proofs.Choosing.{kind-same}
+use Rattle.simplex_verifier.specs.Construction.{after, kinds_left, IsOfWaiting, IsBatch}
 use Rattle.simplex_verifier.proofs.Folding.{selection-stays, selection-certified, select-fixes, waiting-count, verified-count, counting-stays, counting-complete}
 use Rattle.simplex_verifier.proofs.Stating.{verified-state}
 use Rattle.simplex_verifier.proofs.Rightly.{signer-of}

@@ -1,9 +1,7 @@
 -- What events that select nothing leave as it is.
 use Rattle.std.proofs.Common.{◌≡◌, ℕ, Bool, true, false, not, ◌||◌, List, [], ◌∷◌, ◌++◌, refl, ap, sym, ◌∙◌}
-use Rattle.std.specs.Prelude.{◌==◌, ◌&&◌, Option, None, Some, filter, find, is_some, if◌then◌else◌}
-use Rattle.std.specs.List.{filter_map}
+use Rattle.std.specs.Prelude.{◌==◌, Option, None, Some, filter, find, if◌then◌else◌}
 use Rattle.std.specs.Option.{option_and_then}
-use Rattle.std.proofs.Common.{append-nil}
 use Rattle.std.specs.List.{All}
 use Rattle.std.proofs.lemmas.List.Elements.{filter_passes, All-head, All-tail, All-filter, All-same, filter-append}
 use Rattle.simplex_types.specs.declared.proposal.Proposal.{Proposal}
@@ -13,9 +11,9 @@ use Rattle.simplex_messages.specs.declared.certificate.Certificate.{Certificate}
 use Rattle.simplex_judging.specs.declared.kind.Kind.{Kind}
 use Rattle.simplex_messages.specs.VoteParts.{vote_signer}
 use Rattle.simplex_judging.specs.Judging.{is_among}
-use Rattle.simplex_verifier.specs.Votes.{is_kind, vote_kind, notarized_proposal, fixed_proposal, is_notarize_of, certificate_kind, certificate_proposal}
+use Rattle.simplex_verifier.specs.Votes.{is_kind, vote_kind, notarized_proposal, fixed_proposal, is_notarize_of, certificate_proposal}
 use Rattle.simplex_verifier.specs.Keeping.{led_by}
-use Rattle.simplex_verifier.specs.History.{History, accepted, notarized_by, leader_of, certificate_in, Event, Taken, Cast, Certified, Led, Judged, Forwarded, Setup, Selection, Unknown, Leads, Fixed, select, proposal_of, selection, selected, led, fixed_by, is_complete, is_candidate, counting, waiting, verified}
+use Rattle.simplex_verifier.specs.History.{History, accepted, notarized_by, leader_of, Event, Taken, Cast, Certified, Led, Judged, Forwarded, Setup, Selection, Unknown, Leads, Fixed, select, proposal_of, selection, selected, led, fixed_by, is_complete, is_candidate, counting, waiting, verified}
 
 -- a selection that was made with a leader's proposal in sight stays where nothing is fixed
 select-again : {D : Type 0} (old : Selection D) (fixed l : Option (Proposal D)) → select (select old fixed l) None l ≡ select old fixed l

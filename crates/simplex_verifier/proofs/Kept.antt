@@ -1,8 +1,8 @@
 -- Votes that count are kept, and so no quorum is lost.
-use Rattle.std.proofs.Common.{◌≡◌, ◌≤◌, ◌<◌, ◌⊎◌, inl, inr, ℕ, zero, suc, Bool, true, false, not, ◌&&◌, ◌||◌, ◌==◌, ◌+◌, List, [], ◌∷◌, ◌++◌, refl, ap, sym, ◌∙◌, arith, map, length, length-append}
-use Rattle.std.specs.Prelude.{Option, None, Some, MatchOption, filter, find, is_some, is_none, nat_le, nat_lt, if◌then◌else◌, IsTrue, ◌↔◌, ⊤}
+use Rattle.std.proofs.Common.{◌≡◌, ◌≤◌, ◌⊎◌, inl, inr, ℕ, zero, suc, Bool, true, false, not, ◌&&◌, ◌||◌, ◌+◌, List, [], ◌∷◌, ◌++◌, refl, ap, sym, ◌∙◌, arith, map, length, length-append}
+use Rattle.std.specs.Prelude.{Option, None, Some, MatchOption, filter, find, is_some, nat_le, nat_lt, if◌then◌else◌, IsTrue, ◌↔◌, ⊤}
 use Rattle.std.proofs.lemmas.List.{length-map}
-use Rattle.std.specs.List.{All, Contains, filter_map}
+use Rattle.std.specs.List.{Contains, filter_map}
 use Rattle.std.specs.Option.{option_map}
 use Rattle.std.proofs.lemmas.List.Elements.{All-contains, Contains-append_left, Contains-append_right, Contains-push}
 use Rattle.simplex_types.specs.Counting.{no_longer}
@@ -16,9 +16,9 @@ use Rattle.simplex_judging.specs.declared.kind.Kind.{Kind}
 use Rattle.simplex_judging.specs.declared.kind.Kind.TheVariants.{Notarization, Nullification, Finalization}
 use Rattle.simplex_judging.specs.Judging.{is_among}
 use Rattle.simplex_verifier.specs.Votes.{is_kind, is_proposal, vote_kind, vote_statement, certificate_kind}
-use Rattle.simplex_verifier.specs.History.{History, accepted, Event, Taken, Cast, Certified, Led, Judged, Forwarded, Setup, certificate_in, selected, is_complete, is_candidate, counting, waiting, verified, context, is_ready, is_worth_judging, is_due, next_kind, are_one}
+use Rattle.simplex_verifier.specs.History.{History, accepted, Event, Taken, Cast, Certified, Led, Judged, Forwarded, Setup, certificate_in, selected, is_complete, is_candidate, counting, waiting, verified, context, is_due, next_kind, are_one}
 use Rattle.simplex_verifier.specs.Lawful.{VoteAttests, IsLawful}
-use Rattle.simplex_verifier.specs.Quorums.{NeverOther, ReplacedNone, IsUnreplaced, Backs, HasQuorum, AllCertified}
+use Rattle.simplex_verifier.specs.Quorums.{NeverOther, IsUnreplaced, Backs, HasQuorum, AllCertified}
 use Rattle.simplex_verifier.proofs.Choosing.{kind-same}
 
 module _ {X : Type 0} where

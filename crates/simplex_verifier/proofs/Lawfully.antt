@@ -1,8 +1,8 @@
 -- What holds of the votes that count, over every lawful history.
-use Rattle.std.proofs.Common.{◌≡◌, ◌≢◌, ◌⊎◌, inl, inr, ℕ, zero, suc, Bool, true, false, not, ◌&&◌, ◌||◌, ◌==◌, List, [], ◌∷◌, ◌++◌, refl, ap, sym, ◌∙◌, arith, append-nil, append_assoc, length, slice_index_or}
-use Rattle.std.specs.Prelude.{Option, None, Some, filter, find, is_some, is_none, map, if◌then◌else◌}
-use Rattle.std.specs.List.{All, AllPairs, Contains, filter_map}
-use Rattle.std.proofs.lemmas.List.Elements.{All-nil, All-cons, All-head, All-tail, All-push, All-append, All-filter, All-contains, Contains-append_left, Contains-append_right, Contains-push, filter-append}
+use Rattle.std.proofs.Common.{◌≡◌, ◌≢◌, ℕ, zero, suc, Bool, true, false, not, ◌||◌, List, [], ◌∷◌, ◌++◌, refl, sym, arith, append-nil, append_assoc, slice_index_or}
+use Rattle.std.specs.Prelude.{None, Some, filter, find, map, if◌then◌else◌}
+use Rattle.std.specs.List.{All, AllPairs, Contains}
+use Rattle.std.proofs.lemmas.List.Elements.{All-nil, All-cons, All-head, All-tail, All-push, All-append, All-filter, Contains-append_right, filter-append}
 use Rattle.std.proofs.lemmas.List.{map-append}
 use Rattle.std.proofs.lemmas.List.Kept.{AllPairs-cons, AllPairs-filter}
 use Rattle.simplex_types.specs.Subject.{Statement}
@@ -10,15 +10,14 @@ use Rattle.simplex_types.specs.declared.attestation.Attestation.{Attestation}
 use Rattle.simplex_types.specs.Quorum.{AreDistinct}
 use Rattle.simplex_messages.specs.declared.vote.Vote.{Vote}
 use Rattle.simplex_messages.specs.declared.vote.Vote.TheVariants as vote
-use Rattle.simplex_messages.specs.declared.certificate.Certificate.{Certificate}
-use Rattle.simplex_messages.specs.VoteParts.{vote_signer, vote_round}
+use Rattle.simplex_messages.specs.VoteParts.{vote_signer}
 use Rattle.simplex_judging.specs.declared.kind.Kind.{Kind}
 use Rattle.simplex_judging.specs.declared.kind.Kind.TheVariants.{Notarization, Nullification, Finalization}
 use Rattle.simplex_judging.specs.Judging.{is_among}
-use Rattle.simplex_verifier.specs.Votes.{is_kind, vote_kind, vote_attestation, is_in_way, is_notarize_of, is_other_of}
-use Rattle.simplex_verifier.specs.History.{History, accepted, recorded, Event, Taken, Cast, Certified, Led, Judged, Forwarded, Setup, selected, is_complete, is_candidate, counting, waiting, verified}
-use Rattle.simplex_verifier.specs.Lawful.{IsNew, VoteAttests, IsRight, Allowed, IsLawful}
-use Rattle.simplex_judging.specs.Fewer.{All-fewer, AllPairs-fewer, not-true, filter-holds}
+use Rattle.simplex_verifier.specs.Votes.{is_kind, vote_kind, vote_attestation, is_in_way}
+use Rattle.simplex_verifier.specs.History.{History, accepted, Taken, Cast, Certified, Led, Judged, Forwarded, Setup, selected, is_complete, is_candidate, waiting, verified}
+use Rattle.simplex_verifier.specs.Lawful.{IsNew, VoteAttests, IsLawful}
+use Rattle.simplex_judging.specs.Fewer.{AllPairs-fewer, not-true, filter-holds}
 use Rattle.simplex_verifier.proofs.Choosing.{kind-same}
 
 module _ {X : Type 0} where

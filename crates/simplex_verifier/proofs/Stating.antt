@@ -1,30 +1,29 @@
 -- What the votes state that count.
-use Rattle.std.proofs.Common.{◌≡◌, ◌≤◌, ◌<◌, inl, inr, ℕ, Bool, true, false, not, ◌&&◌, ◌||◌, ◌==◌, List, [], ◌∷◌, ◌++◌, refl, ap, sym, ◌∙◌, arith, map, length, slice_index_or}
+use Rattle.std.proofs.Common.{◌≡◌, ℕ, Bool, true, false, not, ◌&&◌, ◌||◌, ◌==◌, List, [], ◌∷◌, refl, ap, sym, ◌∙◌, arith, map, length, slice_index_or}
 use Rattle.std.specs.Prelude.{Option, None, Some, filter, find, is_some, is_none, nat_le, if◌then◌else◌, IsTrue, ◌↔◌}
-use Rattle.std.specs.List.{All, AllPairs, Contains, filter_map}
+use Rattle.std.specs.List.{All, Contains}
 use Rattle.std.specs.Option.{option_and_then}
 use Rattle.std.specs.Prelude.{⊤}
 use Rattle.std.proofs.Common.{zero, suc}
 use Rattle.std.proofs.lemmas.Bool.{and_parts, eqb-true}
-use Rattle.std.proofs.lemmas.List.Elements.{All-nil, All-cons, All-head, All-tail, All-map, All-same, All-contains, Contains-get_or, Contains-append_right, filter_passes}
+use Rattle.std.proofs.lemmas.List.Elements.{All-nil, All-cons, All-head, All-tail, All-map, All-same, Contains-get_or, Contains-append_right, filter_passes}
 use Rattle.simplex_types.specs.declared.position.Round.{Round}
 use Rattle.simplex_types.specs.declared.proposal.Proposal.{Proposal}
 use Rattle.simplex_types.specs.declared.attestation.Attestation.{Attestation}
 use Rattle.simplex_types.specs.Subject.{Statement, notarize, nullify, finalize}
-use Rattle.simplex_types.specs.Quorum.{AreDistinct}
 use Rattle.simplex_messages.specs.declared.vote.Vote.{Vote}
 use Rattle.simplex_messages.specs.declared.vote.Vote.TheVariants as vote
 use Rattle.simplex_messages.specs.declared.certificate.Certificate.{Certificate}
 use Rattle.simplex_messages.specs.declared.certificate.Certificate.TheVariants as certificate
 use Rattle.simplex_messages.specs.Certificate.{certificate_round, certificate_statement}
-use Rattle.simplex_messages.specs.VoteParts.{vote_signer, vote_round}
+use Rattle.simplex_messages.specs.VoteParts.{vote_round}
 use Rattle.simplex_judging.specs.declared.kind.Kind.{Kind}
 use Rattle.simplex_judging.specs.declared.kind.Kind.TheVariants.{Notarization, Nullification, Finalization}
-use Rattle.simplex_verifier.specs.Votes.{is_kind, is_proposal, vote_kind, vote_proposal, notarized_proposal, fixed_proposal, vote_statement, vote_attestation, certificate_kind, certificate_proposal, is_notarize_of}
-use Rattle.simplex_verifier.specs.History.{History, accepted, Event, Taken, Cast, Certified, Led, Judged, Forwarded, Setup, Selection, Unknown, Leads, Fixed, select, proposal_of, selection, selected, led, leader_of, notarized_by, fixed_by, is_complete, is_candidate, counting, waiting, verified, are_one, statement_for, context, is_ready}
-use Rattle.simplex_verifier.specs.Lawful.{IsNew, VoteAttests, IsLawful}
+use Rattle.simplex_verifier.specs.Votes.{is_kind, is_proposal, vote_kind, vote_proposal, notarized_proposal, vote_statement, vote_attestation, certificate_kind, is_notarize_of}
+use Rattle.simplex_verifier.specs.History.{History, accepted, Event, Taken, Cast, Certified, Led, Judged, Forwarded, Setup, Selection, Unknown, Leads, Fixed, select, proposal_of, selection, selected, led, leader_of, notarized_by, fixed_by, is_complete, is_candidate, waiting, verified, are_one, statement_for, context, is_ready}
+use Rattle.simplex_verifier.specs.Lawful.{VoteAttests, IsLawful}
 use Rattle.simplex_verifier.proofs.Folding.{waiting-count, verified-count}
-use Rattle.simplex_verifier.proofs.Lawfully.{each-counted, not-found, counted-distinct, verified-attest}
+use Rattle.simplex_verifier.proofs.Lawfully.{each-counted, not-found}
 
 not-not : (b : Bool) → not b ≡ false → b ≡ true
 not-not true e = refl

@@ -1,5 +1,5 @@
 -- What comes of a construction.
-use Rattle.std.specs.Prelude.{◌≡◌, ℕ, Bool, true, false, List, [], ◌∷◌, length, map, All, Option, None, Some, IfSome, MatchOption, MatchBool}
+use Rattle.std.specs.Prelude.{◌≡◌, ℕ, Bool, false, List, [], ◌∷◌, length, map, All, Option, None, Some, IfSome, MatchOption, MatchBool}
 use Rattle.std.specs.Option.{option_map}
 use Rattle.simplex_types.specs.Subject.{Statement}
 use Rattle.simplex_types.specs.declared.scheme.Scheme.{Ghosts}

@@ -1,5 +1,5 @@
 -- Quorums of votes, and that none is lost.
-use Rattle.std.specs.Prelude.{◌≡◌, ◌≤◌, ℕ, Bool, true, false, List, [], ◌∷◌, length, All, Contains, Option, None, Some, MatchOption, ⊤}
+use Rattle.std.specs.Prelude.{◌≡◌, ◌≤◌, ℕ, true, List, [], ◌∷◌, length, All, Contains, Some, MatchOption, ⊤}
 use Rattle.simplex_types.specs.Counting.{NoneTwice}
 use Rattle.simplex_types.specs.Subject.{Statement}
 use Rattle.simplex_types.specs.declared.proposal.Proposal.{Proposal}

@@ -1,5 +1,5 @@
 use Rattle.std.proofs.Common.{◌≡◌, refl}
-use Rattle.std.specs.Prelude.{Option, None, Some, MatchOption, IfSome, is_none}
+use Rattle.std.specs.Prelude.{Option, None, Some, MatchOption, is_none}
 use Rattle.simplex_judging.specs.declared.kind.Kind.{Kind}
 use Rattle.simplex_verifier.specs.History.{next_kind}
 use Rattle.simplex_verifier.specs.Construction.{IsBatch}

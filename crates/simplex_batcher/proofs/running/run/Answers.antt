@@ -1,4 +1,4 @@
-use Rattle.std.proofs.Common.{sym, ◌∙◌, ◌≡◌, ◌≤◌, ◌+◌, rules, arith, length, ap}
+use Rattle.std.proofs.Common.{sym, ◌∙◌, ◌≡◌, rules, arith, length, ap}
 use Rattle.std.proofs.lemmas.List.{nil_from_length}
 use Rattle.simplex_batcher.specs.Run.{after_call}
 use Rattle.simplex_batcher.proofs.Reaching.{Reached-start, Reached-asked, Reached-step, Reached-end}

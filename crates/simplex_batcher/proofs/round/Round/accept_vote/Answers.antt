@@ -1,5 +1,5 @@
 use Rattle.std.proofs.Common.{◌≡◌, ◌∙◌, ◌<◌, sym, refl, true}
-use Rattle.std.specs.Prelude.{Some, None, Option}
+use Rattle.std.specs.Prelude.{Some}
 use Rattle.simplex_verifier.specs.History.{accepted, recorded}
 use Rattle.simplex_batcher.specs.Admission.{contradicts}
 use Rattle.simplex_messages.specs.VoteParts.{vote_signer}

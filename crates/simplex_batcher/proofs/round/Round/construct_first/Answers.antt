@@ -1,10 +1,9 @@
 use Rattle.std.proofs.Common.{◌≡◌, ◌∙◌, refl, sym, false, get_or}
 use Rattle.std.specs.Prelude.{Some, is_none}
 use Rattle.simplex_judging.specs.declared.kind.Kind.TheVariants.{Notarization}
-use Rattle.simplex_verifier.specs.History.{is_due, next_kind, accepted}
+use Rattle.simplex_verifier.specs.History.{is_due, next_kind}
 use Rattle.simplex_verifier.specs.Construction.{after, IsBatch}
 use Rattle.simplex_batcher.specs.Rounds.{RoundKeeps}
-use Rattle.simplex_batcher.specs.Tracking.{TrackerKeeps}
 use Rattle.simplex_batcher.proofs.Turning.{turn-here, turn-past, match-at, after-accepted, after-forwarded}
 use Rattle.simplex_batcher.proofs.round.Round.construct_first.Goals as goal
 

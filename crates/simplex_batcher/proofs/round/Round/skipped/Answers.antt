@@ -1,4 +1,4 @@
-use Rattle.std.proofs.Common.{◌≡◌, ◌∙◌, refl, arith, max, false, true}
+use Rattle.std.proofs.Common.{◌≡◌, ◌∙◌, refl, arith, max, false}
 use Rattle.simplex_types.specs.Quorum.{quorum}
 use Rattle.simplex_batcher.specs.Rounds.{RoundKeeps}
 use Rattle.simplex_batcher.proofs.round.Round.skipped.Goals as goal

@@ -1,7 +1,6 @@
-use Rattle.std.proofs.Common.{◌≡◌, refl, sym, ◌∙◌, ap, length}
-use Rattle.std.specs.Prelude.{Option, Some, None}
+use Rattle.std.proofs.Common.{◌≡◌, refl, ap, length}
+use Rattle.std.specs.Prelude.{Some, None}
 use Rattle.simplex_types.specs.Subject.{statement}
-use Rattle.simplex_judging.specs.declared.judging.Judged.{Judged}
 use Rattle.simplex_verifier.proofs.Constructing.{judged-of, judged-on, judged-failing, of-waiting, settled-keeps}
 use Rattle.simplex_verifier.specs.Keeping.{VerifierKeeps}
 use Rattle.simplex_verifier.proofs.verifier.Verifier.judge.Goals as goal

@@ -1,11 +1,9 @@
-use Rattle.std.proofs.Common.{◌≡◌, ◌≢◌, ◌∷◌, ◌&&◌, ◌||◌, not, refl, sym, ◌∙◌, ap, true, false}
-use Rattle.std.specs.Prelude.{Option, None, Some}
+use Rattle.std.proofs.Common.{◌≡◌, ◌∷◌, refl, sym, ◌∙◌}
 use Rattle.simplex_judging.specs.declared.kind.Kind.TheVariants.{Notarization, Nullification, Finalization}
-use Rattle.simplex_verifier.specs.Votes.{vote_kind, certificate_kind}
-use Rattle.simplex_verifier.specs.History.{Taken, Cast, Certified, Led, selection, selected, proposal_of, is_complete, is_candidate}
+use Rattle.simplex_verifier.specs.History.{Certified, selection}
 use Rattle.simplex_verifier.specs.Keeping.{selection_of, VerifierKeeps}
-use Rattle.simplex_verifier.proofs.Folding.{selection-taken, selection-cast, selection-certified}
-use Rattle.simplex_verifier.proofs.Choosing.{pool-keeps, chosen-keeps, counts-mine, counts-good, keeps-taken, keeps-cast, keeps-certified, keeps-led}
+use Rattle.simplex_verifier.proofs.Folding.{selection-certified}
+use Rattle.simplex_verifier.proofs.Choosing.{chosen-keeps, keeps-certified}
 use Rattle.simplex_verifier.proofs.verifier.Verifier.record.Goals as goal
 
 pub returns-clause-changed : goal.returns-clause-changed
