@@ -1,5 +1,5 @@
 -- A certificate makes its view a direct one.
-use Rattle.std.proofs.Common.{◌≡◌, ℕ, true, false, ◌==◌, ⊎_elim, List, ◌∷◌, refl, arith}
+use Rattle.std.proofs.Common.{◌≡◌, ℕ, true, false, ◌==◌, ⊎_elim, List, refl, arith}
 use Rattle.std.specs.Prelude.{Option, Some, None, is_some, ◌||◌}
 use Rattle.std.specs.Option.{option_or}
 use Rattle.std.proofs.lemmas.Grind.{common_steps}

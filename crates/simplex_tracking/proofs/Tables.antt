@@ -13,7 +13,8 @@ use Rattle.simplex_round.specs.Round as one
 use Rattle.simplex_round.specs.Held.{held, Agrees}
 use Rattle.simplex_round.specs.Past.{Item, has_finalized, has_nullified, offers}
 use Rattle.simplex_tracking.specs.Pasts.{put}
-use Rattle.simplex_tracking.specs.Rounds.{Common, setup_of, learn, IsTracked, IsRight, AreKept, AreOpen}
+use Rattle.simplex_tracking.specs.declared.rounds.Rounds.{Rounds}
+use Rattle.simplex_tracking.specs.Rounds.{Common, setup_of, learn, IsTracked, IsRight, AreKept, AreOpen, IsKept, IsOpen}
 use Rattle.simplex_tracking.specs.Tracked.{AreMembers}
 use Rattle.simplex_tracking.proofs.Choices.{is_itself, some-is}
 
@@ -157,6 +158,19 @@ module _ {S D P G C : Type 0} {key_of : S → ℕ → P} {s : Common S} {m m' : 
         here = rw (up.1, untouched.1, untouched.0) here;
         others = λ u small apart. rw (up.2 u (grind (arith, common_steps))) (k.at u small);
       }
+
+module _ {S D P G C : Type 0} {key_of : S → ℕ → P} {s : Common S} {r : Rounds S D P G C} {m' : BTreeMap ℕ (Round S D P G C)} {led : ℕ → Option ℕ} {past : ℕ → List (Item S D P G C)} where
+  -- of all rounds one thing more happened to a view that has one, or nothing did
+  pub IsKept-turn : (view : ℕ) (x : Item S D P G C) (b : Bool) {before round : Round S D P G C}
+      → IsKept key_of s r led past → view < 2 ^ 64 → Some before ≡ get nat_cmp r.by_view view → (IsSome (get nat_cmp r.by_view view) → UpdatesBy nat_cmp (nat_cmp view) r.by_view m' (Some round))
+      → one.Keeps key_of (setup_of s view) round (led view) (if b then x ∷ past view else past view) → IsKept key_of s (record r { by_view = m' }) led (if b then put view x past else past)
+  IsKept-turn view x b k fits found up here = record { scheme = k.scheme; epoch = k.epoch; rounds = AreKept-turn view x b k.rounds fits found up here }
+
+  -- the first certificate of its kind came to a view that is open
+  pub IsKept-first : {view at : ℕ} (x : Item S D P G C) (b : Bool) {round : Round S D P G C}
+      → IsOpen key_of s r led past view → view ≡ at → b ≡ true → UpdatesBy nat_cmp (nat_cmp view) r.by_view m' (Some round)
+      → one.Keeps key_of (setup_of s view) round (led view) (if b then x ∷ past view else past view) → IsKept key_of s (record r { by_view = m' }) led (put at x past)
+  IsKept-first x b k same is up here = record { scheme = k.scheme; epoch = k.epoch; rounds = AreKept-put_at x same k.rounds up (rw is at here) }
 
 -- what an option holds is one thing
 abbrev held_by : ℕ → Option ℕ → ℕ

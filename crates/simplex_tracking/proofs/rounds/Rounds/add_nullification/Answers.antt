@@ -1,7 +1,7 @@
 use Rattle.simplex_tracking.specs.Rounds.{Keep}
 use Rattle.simplex_round.specs.Past.{nullified}
 use Rattle.simplex_tracking.proofs.Choices.{none_is}
-use Rattle.simplex_tracking.proofs.Tables.{AreOpen-at, AreKept-put_at}
+use Rattle.simplex_tracking.proofs.Tables.{AreOpen-at, IsKept-first}
 use Rattle.simplex_tracking.proofs.rounds.Rounds.add_nullification.Goals as goal
 
 pub returns-in-Some : goal.returns-in-Some
@@ -11,10 +11,6 @@ returns-in-Some g c = λ s led past k first.
     let view = c.view-view.ensures in
     let here = AreOpen-at now.rounds c.in-Some.ensures.value in
     let held = c.get_mut.follows.holds c.add_nullification-first.new.self in
-    let kept = c.add_nullification-first.ensures.keeps _ _ _ here in
     let yes = none_is (c.add_nullification-first.ensures.first _ _ _ here) (rw view first) in
-    record {
-      scheme = now.scheme;
-      epoch = now.epoch;
-      rounds = AreKept-put_at (nullified c.args.certificate) view now.rounds (held.3 c.in_ok-open.ensures.there) (rw yes at kept);
-    }
+    IsKept-first (nullified c.args.certificate) _ now view yes (held.3 c.in_ok-open.ensures.there)
+    (c.add_nullification-first.ensures.keeps _ _ _ here)

@@ -2,7 +2,7 @@ use Rattle.std.proofs.Common.{◌≡◌, [], refl}
 use Rattle.std.specs.Prelude.{is_some}
 use Rattle.simplex_round.specs.Past.{sent_nullification}
 use Rattle.simplex_tracking.specs.Rounds.{Keep}
-use Rattle.simplex_tracking.proofs.Tables.{AreKept-at, AreKept-turn, AreKept-untracked}
+use Rattle.simplex_tracking.proofs.Tables.{AreKept-at, IsKept-turn, AreKept-untracked}
 use Rattle.simplex_tracking.proofs.rounds.Rounds.broadcast_nullification.Goals as goal
 
 pub returns-in_ok-broadcast_nullification-in-Some-clause-keeps : goal.returns-in_ok-broadcast_nullification-in-Some-clause-keeps
@@ -10,13 +10,8 @@ unfolding Keep
 returns-in_ok-broadcast_nullification-in-Some-clause-keeps g c = λ s led past k.
     let fits = c.get-number.ensures.fits in
     let found = c.in-Some.ensures.value in
-    let held = c.get_mut.follows.holds c.broadcast_nullification.new.self in
-    record {
-      scheme = k.scheme;
-      epoch = k.epoch;
-      rounds = AreKept-turn c.args.view sent_nullification (is_some c.in_ok-broadcast_nullification-in-Some.field-0) k.rounds fits found held.3
-          (c.in_ok-broadcast_nullification-in-Some.ensures.keeps _ _ _ (AreKept-at k.rounds fits found));
-    }
+    IsKept-turn c.args.view sent_nullification (is_some c.in_ok-broadcast_nullification-in-Some.field-0) k fits found (c.get_mut.follows.holds c.broadcast_nullification.new.self).3
+    (c.in_ok-broadcast_nullification-in-Some.ensures.keeps _ _ _ (AreKept-at k.rounds fits found))
 
 pub returns-in_ok-broadcast_nullification-in-Some-clause-answer : goal.returns-in_ok-broadcast_nullification-in-Some-clause-answer
 unfolding Keep

@@ -1,7 +1,7 @@
 use Rattle.std.specs.Prelude.{is_some}
 use Rattle.simplex_round.specs.Past.{voted_notarize}
 use Rattle.simplex_tracking.specs.Rounds.{Keep}
-use Rattle.simplex_tracking.proofs.Tables.{AreKept-at, AreKept-turn, AreKept-untracked}
+use Rattle.simplex_tracking.proofs.Tables.{AreKept-at, IsKept-turn, AreKept-untracked}
 use Rattle.simplex_tracking.proofs.rounds.Rounds.construct_notarize.Goals as goal
 
 pub returns-in-Some-clause-keeps : goal.returns-in-Some-clause-keeps
@@ -9,12 +9,8 @@ unfolding Keep
 returns-in-Some-clause-keeps g c = λ s led past k.
     let fits = c.get-number.ensures.fits in
     let found = c.in-Some.ensures.value in
-    let held = c.get_mut.follows.holds c.construct_notarize.new.self in
-    record {
-      scheme = k.scheme;
-      epoch = k.epoch;
-      rounds = AreKept-turn c.args.view voted_notarize (is_some c.construct_notarize.result) k.rounds fits found held.3 (c.construct_notarize.ensures.keeps _ _ _ (AreKept-at k.rounds fits found));
-    }
+    IsKept-turn c.args.view voted_notarize (is_some c.construct_notarize.result) k fits found (c.get_mut.follows.holds c.construct_notarize.new.self).3
+    (c.construct_notarize.ensures.keeps _ _ _ (AreKept-at k.rounds fits found))
 
 pub returns-in-Some-clause-answer : goal.returns-in-Some-clause-answer
 unfolding Keep

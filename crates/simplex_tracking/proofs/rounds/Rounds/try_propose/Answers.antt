@@ -2,7 +2,7 @@ use Rattle.std.specs.Prelude.{is_some}
 use Rattle.simplex_round.specs.Held as offer
 use Rattle.simplex_round.specs.Past as past
 use Rattle.simplex_tracking.specs.Rounds.{Keep}
-use Rattle.simplex_tracking.proofs.Tables.{AreKept-at, AreKept-turn, AreKept-unled}
+use Rattle.simplex_tracking.proofs.Tables.{AreKept-at, IsKept-turn, AreKept-unled}
 use Rattle.simplex_tracking.proofs.rounds.Rounds.try_propose.Goals as goal
 
 pub returns-in-Some-clause-keeps : goal.returns-in-Some-clause-keeps
@@ -10,12 +10,8 @@ unfolding Keep
 returns-in-Some-clause-keeps g c = λ s led t k.
     let fits = c.get-number.ensures.fits in
     let found = c.in-Some.ensures.value in
-    let held = c.get_mut.follows.holds c.try_propose.new.self in
-    record {
-      scheme = k.scheme;
-      epoch = k.epoch;
-      rounds = AreKept-turn c.args.view (past.offered offer.building) (is_some c.try_propose.result) k.rounds fits found held.3 (c.try_propose.ensures.keeps _ _ _ (AreKept-at k.rounds fits found));
-    }
+    IsKept-turn c.args.view (past.offered offer.building) (is_some c.try_propose.result) k fits found (c.get_mut.follows.holds c.try_propose.new.self).3
+    (c.try_propose.ensures.keeps _ _ _ (AreKept-at k.rounds fits found))
 
 pub returns-in-Some-clause-answer : goal.returns-in-Some-clause-answer
 unfolding Keep
