@@ -36,12 +36,13 @@ fn setup(chance: &mut Chance) -> Setup {
     }
 }
 
-/// A view to speak of: often the current one or the next, and always below 22.
+/// A view to speak of: often the current one or one beside it, or one of the first few, and always below 22.
 fn view(chance: &mut Chance, current: u64) -> u64 {
-    let view = match chance.below(8) {
+    let view = match chance.below(10) {
         0..=2 => current,
         3 => current.saturating_add(1),
         4..=6 => current.saturating_sub(1),
+        7..=8 => 1 + chance.below(4),
         _ => 1 + chance.below(12),
     };
     view.max(1).min(21)
@@ -216,24 +217,23 @@ fn next(chance: &mut Chance, plain: History<'_>, now: u64) -> Point {
     }
 }
 
-/// Of all views together, of this one and of another the voter tells what the plain program tells.
-fn agree(rt: &impl Abort, beside: &Beside, view: u64, other: u64) {
-    beside.agrees(rt);
-    beside.agrees_at(rt, view);
-    beside.agrees_at(rt, other);
-    beside.agrees_between(rt, other, view);
-}
-
-/// One history: how many of its calls were no call in vain.
+/// One history, with a prune for its end: how many of its calls were none in vain. Behind each call the voter tells of all views
+/// together, and of the one that was current, what the plain program tells, and at the end of each view.
 fn history(rt: &impl Abort, alloc: Global, seed: u64) -> usize {
     let mut chance = Chance::seeded(seed);
     let mut beside = Beside::new(alloc, &setup(&mut chance)).expect(rt, "there is memory");
-    for moment in 0..12 {
+    for moment in 0..11 {
         let current = beside.history().current();
         let point = next(&mut chance, beside.history(), moment * 75);
         beside.hand(rt, alloc, point).expect(rt, "there is memory");
-        agree(rt, &beside, current, chance.below(26));
+        beside.agrees(rt);
+        beside.agrees_at(rt, current);
+        beside.agrees_between(rt, chance.below(12), current);
     }
+    beside
+        .hand(rt, alloc, Point::Pruned)
+        .expect(rt, "there is memory");
+    beside.agrees_everywhere(rt);
     beside.knows_itself(rt);
     beside.history().points.len()
 }
