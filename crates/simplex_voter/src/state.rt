@@ -7,6 +7,7 @@ mod knowing;
 mod learning;
 mod proposing;
 mod sending;
+mod starting;
 mod timing;
 mod voting;
 
