@@ -2,6 +2,7 @@
 #![tactic(auto, unfolding(crate::specs::State::Keeps))]
 
 mod answering;
+mod building;
 mod keeping;
 mod knowing;
 mod learning;

@@ -1,0 +1,7 @@
+use Rattle.simplex_facts.specs.Facts.{at}
+use Rattle.simplex_voter.specs.State.{Keeps}
+use Rattle.simplex_voter.proofs.state.State.build_on.Goals as goal
+
+pub returns : goal.returns
+unfolding Keeps
+returns g c = λ s h k. c.build_on.ensures _ _ (at s h k.views)

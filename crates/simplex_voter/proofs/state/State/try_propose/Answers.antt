@@ -1,0 +1,12 @@
+use Rattle.std.proofs.Common.{◌∙◌, ◌∷◌}
+use Rattle.simplex_views.specs.History.{build_asked}
+use Rattle.simplex_voter.specs.State.{Keeps}
+use Rattle.simplex_voter.proofs.state.State.try_propose.Goals as goal
+
+pub returns-clause-answer : goal.returns-clause-answer
+unfolding Keeps
+returns-clause-answer g c = λ s h k.
+    let made = c.in_ok-leader.ensures.answer s h k.views in (
+      rw c.new.ensures.view (c.in_ok-view.ensures s h k),
+      record { epoch = c.new.ensures.epoch ∙ c.epoch.ensures s (build_asked c.in_ok-view.view ∷ h) (c.in_ok-leader.ensures.keeps s h k.views); index = c.in_ok-leader.leader.idx; me = made.0.leads.1 ∙ made.1.0; key = made.1.1 },
+    )

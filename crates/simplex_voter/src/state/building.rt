@@ -1,0 +1,69 @@
+//! What a voter asks its application to build.
+
+ghost use Rattle.std.specs.Prelude.{◌≡◌, ◌↔◌, ℕ, ◌∷◌, Some, IsTrue, MatchOption};
+ghost use Rattle.simplex_rules.specs.Windows.{AdmitsOutbound};
+ghost use Rattle.simplex_views.specs.History.{build_asked, current};
+ghost use Rattle.simplex_views.specs.Known.{known};
+ghost use Rattle.simplex_due.specs.Ancestry.{member};
+ghost use Rattle.simplex_due.specs.Requests.{BuildIsDue, IsFirstBuild, NoBuildIsDue};
+ghost use Rattle.simplex_voter.specs.Building.{IsContextOf};
+ghost use Rattle.simplex_voter.specs.State.{AtEach, Keeps};
+
+use crate::state::State;
+use simplex_due::requests::build_on;
+use simplex_facts::Facts;
+use simplex_rules::Elector;
+use simplex_types::{Context, Digest, Round, Scheme, View};
+
+impl<S: Scheme<D> + Drop, L: Elector<S, D>, D: Digest> State<S, L, D> {
+    /// Asks for a build in the lowest view where one is due: what is to be built on. Else nothing changes.
+    pub fn try_propose(&mut self) -> Option<Context<D, S::PublicKey>>
+        ensures keeps { AtEach S.Scheme L.Elector self.old (λ s h. MatchOption result (Keeps S.Scheme L.Elector s self.new h) (λ x. Keeps S.Scheme L.Elector s self.new (build_asked x.round.view ∷ h))) }
+        ensures answer { AtEach S.Scheme L.Elector self.old (λ s h. MatchOption result (NoBuildIsDue (member s) (known s h)) (λ x. IsFirstBuild (member s) (known s h) x.round.view x.parent.0 x.parent.1 × IsContextOf S.Scheme s x)) }
+    {
+        let (view, parent, payload) = self.first_build()?;
+        let leader = self.views.try_propose(view)?;
+        Some(Context {
+            round: Round::new(self.views.epoch(), view),
+            leader: leader.key,
+            parent: (parent, payload),
+        })
+    }
+
+    /// The lowest view where a build is due, with the parent to build on.
+    fn first_build(&self) -> Option<(View, View, D)>
+        ensures { AtEach S.Scheme L.Elector self.now (λ s h. MatchOption result (NoBuildIsDue (member s) (known s h)) (λ x. IsFirstBuild (member s) (known s h) x.0 x.1 x.2)) }
+    {
+        // The proof takes from the number that a term has at least one view.
+        let _views = self.views.lookahead().length.get();
+        let mut next = self.views.current_view();
+        'views: while let Some(view) = self.views.first_tracked(next) {
+            if !self.is_outbound(view) {
+                return None;
+            }
+            if let Some((parent, payload)) = self.build_on(view) {
+                return Some((view, parent, payload));
+            }
+            if view.get() == u64::MAX {
+                return None;
+            }
+            next = view.next();
+        }
+        None
+    }
+
+    /// Whether the view may be spoken of.
+    fn is_outbound(&self, view: View) -> bool
+        ensures { AtEach S.Scheme L.Elector self.now (λ s h. IsTrue result ↔ AdmitsOutbound s.length s.optimistic_views (current s h) view) }
+    {
+        let current = self.views.current_view();
+        self.views.lookahead().admits_outbound(current, view)
+    }
+
+    /// The parent that a build of the view is to be asked for on, with its payload.
+    fn build_on(&self, view: View) -> Option<(View, D)>
+        ensures { AtEach S.Scheme L.Elector self.now (λ s h. MatchOption result ((parent : ℕ) (payload : D) → ¬ BuildIsDue (member s) (known s h) view parent payload) (λ x. BuildIsDue (member s) (known s h) view x.0 x.1)) }
+    {
+        build_on(&Facts(&self.views), view)
+    }
+}
