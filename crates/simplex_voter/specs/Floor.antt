@@ -18,15 +18,15 @@ module _ {S D P G C : Type 0} where
   floor_view (floor.Genesis payload) = 0
   floor_view (floor.Finalized c) = c.proposal.round.view
 
-module _ {S L D P G C : Type 0} where
-  -- the finalization of the view was handed out, where it is known and wasn't handed out before
-  pub record HandsOut (g : Ghosts S D P G C) (e : elector.Ghosts L S D P G C) (s : Setup S C) (state : State S L D P G C) (h : List (Point S D P G C)) (view : ℕ) (answer : Option (Finalization S D P G C)) : Type 0 where
-    pub answer : answer ≡ (if past.has_sent_finalization (seen s h view) then None else past.finalization (seen s h view))
-    pub keeps : Keeps g e s state (if is_some answer then sent kind.Finalization view ∷ h else h)
-
   -- a finalization is taken: it has room, and is the first of its view
   abbrev pub IsTaken : Setup S C → List (Point S D P G C) → Finalization S D P G C → Type 0
   IsTaken s h c = HasRoom s.length c.proposal.round.view × (past.finalization (seen s h c.proposal.round.view) ≡ None)
+
+module _ {S L D P G C : Type 0} where
+  -- the finalization of the view was handed out, where it is known and wasn't handed out before
+  pub record HandsOut (g : Ghosts S D P G C) (e : elector.Ghosts L S D P G C) (s : Setup S C) (state : State S L D P G C) (h : List (Point S D P G C)) (view : ℕ) (copy : Option (Finalization S D P G C)) : Type 0 where
+    pub answer : copy ≡ (if past.has_sent_finalization (seen s h view) then None else past.finalization (seen s h view))
+    pub keeps : Keeps g e s state (if is_some copy then sent kind.Finalization view ∷ h else h)
 
   -- the finalization was taken where it had to be, and then handed out
   pub record StandsOn (g : Ghosts S D P G C) (e : elector.Ghosts L S D P G C) (s : Setup S C) (state : State S L D P G C) (now : ℕ) (h : List (Point S D P G C)) (c : Finalization S D P G C) (answer : Option (Finalization S D P G C)) : Type 0 where
