@@ -4,8 +4,6 @@ use Rattle.simplex_state.specs.declared.config.SkipBudget.{SkipBudget}
 use Rattle.simplex_state.specs.declared.config.SkipBudget.TheVariants as budget
 use Rattle.simplex_state.specs.declared.config.SkipPolicy.{SkipPolicy}
 use Rattle.simplex_state.specs.declared.config.SkipPolicy.TheVariants as skip
-use Rattle.simplex_state.specs.declared.config.Floor.{Floor}
-use Rattle.simplex_state.specs.declared.config.Floor.TheVariants as floor
 use Rattle.simplex_state.specs.declared.config.Config.{Config}
 use Rattle.simplex_state.specs.declared.config.ConfigFault.{ConfigFault}
 use Rattle.simplex_state.specs.declared.config.ConfigFault.TheVariants as fault
@@ -24,12 +22,6 @@ skip_budget (skip.Enabled timeout terms) participants = budget_of terms particip
 abbrev pub SkipsWithin : SkipPolicy → ℕ → Type 0
 SkipsWithin skip.Disabled duration = ⊥
 SkipsWithin (skip.Enabled timeout terms) duration = timeout ≤ duration
-
-module _ {S D P G C : Type 0} where
-  -- the view that a member starts from: 0, or the one that is finalized
-  abbrev pub floor_view : Floor S D P G C → ℕ
-  floor_view (floor.Genesis payload) = 0
-  floor_view (floor.Finalized c) = c.proposal.round.view
 
 -- the number of a fault
 abbrev pub fault_number : ConfigFault → ℕ

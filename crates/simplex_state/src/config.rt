@@ -3,11 +3,11 @@
 ghost use Rattle.std.specs.Prelude.{◌≡◌, ◌≢◌, ◌↔◌, IfErr, IsTrue, OnOk};
 ghost use Rattle.simplex_state.specs.declared.config.ConfigFault.{ConfigFault};
 ghost use Rattle.simplex_state.specs.declared.config.ForwardPolicy.TheVariants.{Disabled};
-ghost use Rattle.simplex_state.specs.Configuring.{Applies, IsFirst, SkipsWithin, budget_of, fault_number, floor_view, skip_budget};
+ghost use Rattle.simplex_state.specs.Configuring.{Applies, IsFirst, SkipsWithin, budget_of, fault_number, skip_budget};
 
-use simplex_messages::Finalization;
-use simplex_types::{Digest, Duplicate, Epoch, Scheme, View, ViewDelta, Viewable};
-use std::alloc::{AllocError, Global};
+pub use simplex_voter::Floor;
+
+use simplex_types::{Digest, Epoch, ViewDelta};
 
 /// How many terms may be skipped since the last finalized view.
 #[derive(Clone, Copy, Debug, Default)]
@@ -86,40 +86,6 @@ impl ForwardPolicy {
         match self {
             ForwardPolicy::Disabled => false,
             ForwardPolicy::SilentVoters | ForwardPolicy::SilentLeader => true,
-        }
-    }
-}
-
-/// What a member starts from.
-#[derive_where(Debug; D, S::Certificate)]
-#[derive(Drop)]
-pub enum Floor<S: Scheme<D>, D: Digest> {
-    /// The payload that view 0 stands for.
-    Genesis(D),
-    /// A proposal that is final already.
-    Finalized(Finalization<S, D>),
-}
-
-impl<S: Scheme<D>, D: Digest> Floor<S, D> {
-    /// Its view: 0, or the one that is finalized.
-    pub fn view(&self) -> View
-        ensures { result ≡ floor_view self.now }
-    {
-        match self {
-            Floor::Genesis(_) => View::zero(),
-            Floor::Finalized(finalization) => finalization.view(),
-        }
-    }
-}
-
-impl<S: Scheme<D>, D: Digest> Duplicate for Floor<S, D> {
-    fn duplicate(&self, alloc: Global) -> Result<Self, AllocError> {
-        match self {
-            Floor::Genesis(payload) => Ok(Floor::Genesis(*payload)),
-            Floor::Finalized(finalization) => {
-                let copy = finalization.duplicate(alloc)?;
-                Ok(Floor::Finalized(copy))
-            }
         }
     }
 }

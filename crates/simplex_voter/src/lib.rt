@@ -2,7 +2,9 @@
 #![tactic(auto)]
 
 mod config;
+mod floor;
 mod state;
 
 pub use config::Config;
+pub use floor::Floor;
 pub use state::State;

@@ -8,6 +8,7 @@ mod knowing;
 mod learning;
 mod proposing;
 mod sending;
+mod starting;
 mod timing;
 mod voting;
 

@@ -1,0 +1,52 @@
+//! How a voter starts.
+
+ghost use Rattle.std.specs.Prelude.{IfOk};
+ghost use Rattle.simplex_views.specs.Progress.{InTime};
+ghost use Rattle.simplex_voter.specs.Floor.{StandsOn, StartsOn};
+ghost use Rattle.simplex_voter.specs.State.{AtEach};
+
+use crate::floor::Floor;
+use crate::state::State;
+use simplex_messages::Finalization;
+use simplex_rules::Elector;
+use simplex_types::{Digest, Scheme, Viewable};
+use std::alloc::{AllocError, Global};
+
+impl<S: Scheme<D> + Drop, L: Elector<S, D>, D: Digest> State<S, L, D> {
+    /// Starts on a payload, or on a proposal that is final already. That one's finalization is answered and counts as handed out, since
+    /// whoever starts the voter reports it.
+    ///
+    /// # Errors
+    ///
+    /// `AllocError` where memory ran out.
+    pub fn set_floor(
+        &mut self,
+        alloc: Global,
+        now: u64,
+        floor: Floor<S, D>,
+    ) -> Result<Option<Finalization<S, D>>, AllocError>
+        ensures { IfOk result (λ answer. AtEach S.Scheme L.Elector self.old (λ s h. InTime s now → StartsOn S.Scheme L.Elector s self.new now h floor answer)) }
+    {
+        match floor {
+            Floor::Genesis(payload) => {
+                self.set_genesis(now, payload)?;
+                Ok(None)
+            }
+            Floor::Finalized(finalization) => self.stand_on(alloc, now, finalization),
+        }
+    }
+
+    /// Takes a finalization, and hands out that of its view.
+    fn stand_on(
+        &mut self,
+        alloc: Global,
+        now: u64,
+        finalization: Finalization<S, D>,
+    ) -> Result<Option<Finalization<S, D>>, AllocError>
+        ensures { IfOk result (λ answer. AtEach S.Scheme L.Elector self.old (λ s h. InTime s now → StandsOn S.Scheme L.Elector s self.new now h finalization answer)) }
+    {
+        let view = finalization.view();
+        let _taken = self.add_finalization(now, finalization)?;
+        self.broadcast_finalization(alloc, view)
+    }
+}
