@@ -5,9 +5,8 @@ ghost use Rattle.simplex_state.specs.declared.config.ConfigFault.{ConfigFault};
 ghost use Rattle.simplex_state.specs.declared.config.ForwardPolicy.TheVariants.{Disabled};
 ghost use Rattle.simplex_state.specs.Configuring.{Applies, IsFirst, SkipsWithin, budget_of, fault_number, skip_budget};
 
-pub use simplex_voter::Floor;
-
 use simplex_types::{Digest, Epoch, ViewDelta};
+pub use simplex_voter::Floor;
 
 /// How many terms may be skipped since the last finalized view.
 #[derive(Clone, Copy, Debug, Default)]
