@@ -6,4 +6,8 @@ mod member;
 #[cfg(test)]
 mod samples;
 #[cfg(test)]
+mod starts;
+#[cfg(test)]
 mod timeouts;
+#[cfg(test)]
+mod votes;

@@ -1,12 +1,12 @@
 //! Member 0 of a committee of four, with numbers for views.
 
-use crate::samples::{finalization, notarization, nullification, payload, proposal};
+use crate::samples::{Finalized, finalization, notarization, nullification, payload, proposal};
 use simplex_round::TimeoutReason;
 use simplex_rules::elector::{Config as Building, RoundRobin, RoundRobinElector};
 use simplex_types::{
     Epoch, Participant, PlainScheme, Scheme, Sha256Digest, TermLength, View, ViewDelta,
 };
-use simplex_voter::{Config, State};
+use simplex_voter::{Config, Floor, State};
 use std::alloc::Global;
 use std::rc::Rc;
 use std::test::Fail;
@@ -46,6 +46,20 @@ fn voter(
     Ok(State::new(alloc, config)?)
 }
 
+/// Whether this is the finalization of the view, on this parent.
+fn is_finalization(
+    alloc: Global,
+    answer: &Option<Finalized>,
+    view: u8,
+    parent: u8,
+) -> Result<bool, Fail> {
+    let wanted = finalization(alloc, view, parent)?;
+    match answer {
+        Some(found) => Ok(*found == wanted),
+        None => Ok(false),
+    }
+}
+
 impl Member {
     /// With terms of one view.
     pub fn rotating(alloc: Global) -> Result<Self, Fail> {
@@ -76,9 +90,39 @@ impl Member {
         Ok(Member { state, alloc })
     }
 
+    /// Not started.
+    pub fn waiting(alloc: Global) -> Result<Self, Fail> {
+        let state = voter(alloc, Some(0), RoundRobin::default())?;
+        Ok(Member { state, alloc })
+    }
+
+    /// Starts on the payload 0 at moment 0: whether no finalization is answered.
+    pub fn starts_on_genesis(&mut self) -> Result<bool, Fail> {
+        let floor = Floor::Genesis(payload(0));
+        Ok(self.state.set_floor(self.alloc, 0, floor)?.is_none())
+    }
+
+    /// Starts at moment 0 on the finalization of the view, on this parent: whether that is the answer.
+    pub fn starts_on(&mut self, view: u8, parent: u8) -> Result<bool, Fail> {
+        let floor = Floor::Finalized(finalization(self.alloc, view, parent)?);
+        let answer = self.state.set_floor(self.alloc, 0, floor)?;
+        is_finalization(self.alloc, &answer, view, parent)
+    }
+
     /// The current view.
     pub fn view(&self) -> u64 {
         self.state.current_view().get()
+    }
+
+    /// The last finalized view.
+    pub fn last_finalized(&self) -> u64 {
+        self.state.last_finalized().get()
+    }
+
+    /// Whether the finalization of the view is to be handed out.
+    pub fn hands_out(&mut self, view: u64) -> Result<bool, Fail> {
+        let at = View::new(view);
+        Ok(self.state.broadcast_finalization(self.alloc, at)?.is_some())
     }
 
     /// When and why the current view is given up next.
@@ -113,5 +157,80 @@ impl Member {
     /// Takes a reason to give the view up.
     pub fn trigger(&mut self, now: u64, view: u64, reason: TimeoutReason) -> Result<bool, Fail> {
         Ok(self.state.trigger_timeout(now, View::new(view), reason)?)
+    }
+
+    /// Takes the notarization of the view, on this parent.
+    pub fn take_notarization(&mut self, view: u8, parent: u8) -> Result<bool, Fail> {
+        let certificate = notarization(self.alloc, view, parent)?;
+        let (is_first, _key) = self.state.add_notarization(certificate)?;
+        Ok(is_first)
+    }
+
+    /// Takes the verdict on the view at this moment: whether it is on a known notarization.
+    pub fn take_verdict(&mut self, now: u64, view: u64, is_success: bool) -> Result<bool, Fail> {
+        let known = self
+            .state
+            .certified(self.alloc, now, View::new(view), is_success)?;
+        Ok(known.is_some())
+    }
+
+    /// Takes the proposal for the view, on this parent, that its leader forwarded: whether it is the first.
+    pub fn take_proposal(&mut self, view: u8, parent: u8) -> Result<bool, Fail> {
+        let at = View::new(u64::from(view));
+        Ok(self.state.set_proposal(at, &proposal(view, parent))?)
+    }
+
+    /// Finds the held proposal of the view good: whether it became verified.
+    pub fn verify(&mut self, view: u64) -> Result<bool, Fail> {
+        Ok(self.state.verified(View::new(view))?)
+    }
+
+    /// Finds it bad at this moment: whether that counts.
+    pub fn refuse(&mut self, now: u64, view: u64) -> Result<bool, Fail> {
+        let reason = TimeoutReason::InvalidProposal;
+        Ok(
+            self.state
+                .verification_failed(now, View::new(view), reason)?,
+        )
+    }
+
+    /// The parent of the proposal that the member votes to notarize in the view, and its own index as the vote has it.
+    pub fn notarize(&mut self, view: u64) -> Result<Option<(u64, u32)>, Fail> {
+        match self.state.construct_notarize(View::new(view))? {
+            Some(vote) => Ok(Some((vote.proposal.parent.get(), vote.attestation.signer.get()))),
+            None => Ok(None),
+        }
+    }
+
+    /// The same of a vote to finalize.
+    pub fn finalize(&mut self, view: u64) -> Option<(u64, u32)> {
+        match self.state.construct_finalize(View::new(view)) {
+            Some(vote) => Some((vote.proposal.parent.get(), vote.attestation.signer.get())),
+            None => None,
+        }
+    }
+
+    /// Whether the view is explicit with the payload whose bytes are this number.
+    pub fn is_explicit(&self, view: u64, byte: u8) -> bool {
+        self.state.parent_certified(View::new(view), payload(byte))
+    }
+
+    /// Whether this member gave the view up.
+    pub fn gave_up(&self, view: u64) -> bool {
+        self.state.voted_nullify(View::new(view))
+    }
+
+    /// How long ago the view was entered.
+    pub fn since_entry(&self, now: u64, view: u64) -> Option<u64> {
+        self.state.elapsed_since_entry(now, View::new(view))
+    }
+
+    /// Asks for a build and builds at moment 0, where one is due: its view, its parent, and whether it is taken.
+    pub fn build(&mut self) -> Result<Option<(u64, u64, bool)>, Fail> {
+        let Some(context) = self.state.try_propose() else {
+            return Ok(None);
+        };
+        let taken = self.state.proposed(0, &context, payload(9))?;
+        Ok(Some((context.round.view.get(), context.parent.0.get(), taken)))
     }
 }

@@ -39,3 +39,18 @@ fn a_finalization_gives_skips_back(rt: HostRuntime) -> Result<(), Fail> {
     );
     Ok(())
 }
+
+#[test]
+fn the_oldest_view_of_a_term_stalls_it(rt: HostRuntime) -> Result<(), Fail> {
+    let mut member = Member::stable(rt.alloc(), 0)?;
+    holds(&rt, member.take_notarization(1, 0)?);
+    holds(&rt, member.take_verdict(1500, 1, true)?);
+    holds(&rt, member.take_notarization(2, 1)?);
+    let stall = Some((3000, TimeoutReason::StallTimeout));
+    let own = Some((3500, TimeoutReason::CertificationTimeout));
+    holds(&rt, member.next_timeout(2000)? == stall);
+    holds(&rt, member.next_timeout(3500)? == own);
+    holds(&rt, member.take_finalization(1, 0)?);
+    holds(&rt, member.next_timeout(2000)? == own);
+    Ok(())
+}
