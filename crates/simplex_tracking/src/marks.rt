@@ -63,10 +63,14 @@ impl Marks {
         if last < first {
             return None;
         }
-        self.views
+        match self
+            .views
             .range((Bound::Included(first), Bound::Included(last)))
             .next_back()
-            .copied()
+        {
+            Some(view) => Some(*view),
+            None => None,
+        }
     }
 
     /// Takes the marks off the views below the floor.

@@ -30,10 +30,11 @@ impl<S: Scheme<D> + Drop, L: Elector<S, D>, D: Digest> State<S, L, D> {
     pub fn try_verify(&mut self, now: u64) -> Result<Verify<D, S::PublicKey>, AllocError>
         ensures { IfOk result (λ answer. AtEach S.Scheme L.Elector self.old (λ s h. Answers S.Scheme L.Elector s self.new now h answer)) }
     {
-        match self.first_wanted(now)? {
-            Some((view, wanted)) => self.ask(view, wanted),
-            None => Ok(Verify::Wait),
-        }
+        let Some((view, wanted)) = self.first_wanted(now)? else {
+            return Ok(Verify::Wait);
+        };
+        let answer = self.ask(view, wanted)?;
+        Ok(answer)
     }
 
     /// The lowest view for whose proposal something is to be asked, with that. The views below with a proposal that can never stand
