@@ -1,3 +1,6 @@
+pub mod Entering
 pub mod Entries
+pub mod Looking
 pub mod Lowest
 pub mod Stalling
+pub mod Wanting
