@@ -8,7 +8,7 @@ use simplex_round::TimeoutReason;
 use std::alloc::Global;
 use std::process::Abort;
 use voter_plain::Point;
-use voter_plain::answers::Answer;
+use due_plain::answers::Answer;
 
 /// In terms of five views, these lead to this view, and the voter has entered it, and neither the one before nor the one behind it.
 fn enters(rt: &impl Abort, alloc: Global, steps: &[Step], current: u64) {

@@ -2,6 +2,7 @@
 
 use crate::beside::Beside;
 use crate::samples::{A, B, GENESIS, RETRY, holds};
+use due_plain::Plain;
 use simplex_fakes::Chance;
 use simplex_round::TimeoutReason;
 use std::alloc::Global;
@@ -176,7 +177,7 @@ fn onward(plain: History<'_>, now: u64, view: u64) -> Point {
     if !plain.is_verified(view) {
         return Point::Confirmed { view };
     }
-    if plain.may_notarize(view).is_some() {
+    if Plain::behind(plain).may_notarize(view).is_some() {
         return Point::VotedNotarize { view };
     }
     if plain.notarized(view).is_none() {
@@ -186,7 +187,7 @@ fn onward(plain: History<'_>, now: u64, view: u64) -> Point {
         let ok = true;
         return Point::Judged { now, view, ok };
     }
-    if plain.may_finalize(view).is_some() {
+    if Plain::behind(plain).may_finalize(view).is_some() {
         return Point::VotedFinalize { view };
     }
     Point::Finalized {

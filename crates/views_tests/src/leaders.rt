@@ -6,7 +6,7 @@ use crate::samples::{
 };
 use std::alloc::Global;
 use std::process::Abort;
-use voter_plain::answers::Answer;
+use due_plain::answers::Answer;
 use voter_plain::{Point, Setup};
 
 /// Behind these steps the views are led so, as far as is known.

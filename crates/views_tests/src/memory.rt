@@ -8,7 +8,7 @@ use simplex_round::TimeoutReason;
 use std::alloc::Global;
 use std::process::Abort;
 use voter_plain::Point;
-use voter_plain::answers::Answer;
+use due_plain::answers::Answer;
 use voter_plain::getters::Entry;
 
 /// Where `rt try --test --fail-alloc N` refuses a request, the call is refused and no other answer stands in its place. The voter is

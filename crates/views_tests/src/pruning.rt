@@ -4,7 +4,7 @@ use crate::beside::walked;
 use crate::samples::{A, finalized, forwarded, holds, member, notarized, nullified, started};
 use simplex_types::View;
 use std::process::Abort;
-use voter_plain::answers::Answer;
+use due_plain::answers::Answer;
 use voter_plain::{Point, Setup};
 
 /// A member that keeps so many views behind the last finalized one.

@@ -16,7 +16,7 @@ use simplex_views::Views;
 use std::alloc::Global;
 use std::rc::Rc;
 use voter_plain as plain;
-use voter_plain::answers::Answer;
+use due_plain::answers::Answer;
 use voter_plain::getters::Entry;
 use voter_plain::{Point, Setup};
 

@@ -7,7 +7,7 @@ use crate::samples::{
 };
 use simplex_types::View;
 use voter_plain::Point;
-use voter_plain::answers::Answer;
+use due_plain::answers::Answer;
 use voter_plain::getters::Entry;
 
 #[test]
