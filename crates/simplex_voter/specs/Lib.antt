@@ -2,4 +2,5 @@ pub mod Building
 pub mod Floor
 pub mod State
 pub mod Timing
+pub mod Verifying
 pub mod Votes

@@ -3,8 +3,12 @@
 
 mod config;
 mod floor;
+mod proposal_request;
 mod state;
+mod verify;
 
 pub use config::Config;
 pub use floor::Floor;
+pub use proposal_request::ProposalRequest;
 pub use state::State;
+pub use verify::Verify;

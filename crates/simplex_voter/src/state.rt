@@ -3,6 +3,7 @@
 
 mod answering;
 mod building;
+mod entry;
 mod keeping;
 mod knowing;
 mod learning;
@@ -10,6 +11,7 @@ mod proposing;
 mod sending;
 mod starting;
 mod timing;
+mod verifying;
 mod voting;
 
 ghost use Rattle.std.specs.Prelude.{[], IfOk};

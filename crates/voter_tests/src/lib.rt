@@ -4,6 +4,8 @@
 #[cfg(test)]
 mod member;
 #[cfg(test)]
+mod requests;
+#[cfg(test)]
 mod samples;
 #[cfg(test)]
 mod starts;

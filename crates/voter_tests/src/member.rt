@@ -6,10 +6,36 @@ use simplex_rules::elector::{Config as Building, RoundRobin, RoundRobinElector};
 use simplex_types::{
     Epoch, Participant, PlainScheme, Scheme, Sha256Digest, TermLength, View, ViewDelta,
 };
-use simplex_voter::{Config, Floor, State};
+use simplex_messages::Certificate;
+use simplex_resolver::Kind;
+use simplex_voter::{Config, Floor, State, Verify};
 use std::alloc::Global;
 use std::rc::Rc;
 use std::test::Fail;
+
+/// What a voter asks for to judge a proposal, with numbers for views.
+#[derive(Clone, Copy, PartialEq, Eq)]
+pub enum Asked {
+    /// The verification of the proposal of a view on a parent, and whether over the payload of the start.
+    Verification(u64, u64, bool),
+    /// For the proposal of a view the nullification of another view.
+    Nullification(u64, u64),
+    /// For the proposal of a view the notarization of another view.
+    Notarization(u64, u64),
+    /// Nothing.
+    Nothing,
+}
+
+/// A certificate by its kind and view.
+#[derive(Clone, Copy, PartialEq, Eq)]
+pub enum Best {
+    /// Of a proposal that may be built on.
+    Notarization(u64),
+    /// Of a view that was given up.
+    Nullification(u64),
+    /// Of a proposal that is final.
+    Finalization(u64),
+}
 
 /// A voter, which started at moment 0.
 #[derive(Drop)]
@@ -227,10 +253,48 @@ impl Member {
 
     /// Asks for a build and builds at moment 0, where one is due: its view, its parent, and whether it is taken.
     pub fn build(&mut self) -> Result<Option<(u64, u64, bool)>, Fail> {
-        let Some(context) = self.state.try_propose() else {
+        let Some(request) = self.state.try_propose() else {
             return Ok(None);
         };
+        if request.is_handoff() {
+            return Ok(None);
+        }
+        let context = request.into_context();
         let taken = self.state.proposed(0, &context, payload(9))?;
         Ok(Some((context.round.view.get(), context.parent.0.get(), taken)))
+    }
+
+    /// What is asked for at this moment, to judge the proposals of others.
+    pub fn ask(&mut self, now: u64) -> Result<Asked, Fail> {
+        match self.state.try_verify(now)? {
+            Verify::Ready(context, _proposal) => Ok(Asked::Verification(
+                context.round.view.get(),
+                context.parent.0.get(),
+                context.parent.1 == payload(0),
+            )),
+            Verify::Resolve {
+                proposal,
+                view,
+                kind: Kind::Nullification,
+                ..
+            } => Ok(Asked::Nullification(proposal.get(), view.get())),
+            Verify::Resolve {
+                proposal,
+                view,
+                kind: Kind::Notarization,
+                ..
+            } => Ok(Asked::Notarization(proposal.get(), view.get())),
+            Verify::Wait => Ok(Asked::Nothing),
+        }
+    }
+
+    /// The best certificate to enter the current view by.
+    pub fn best_certificate(&self) -> Result<Option<Best>, Fail> {
+        match self.state.get_best_certificate(self.alloc)? {
+            Some(Certificate::Notarization(c)) => Ok(Some(Best::Notarization(c.proposal.round.view.get()))),
+            Some(Certificate::Nullification(c)) => Ok(Some(Best::Nullification(c.round.view.get()))),
+            Some(Certificate::Finalization(c)) => Ok(Some(Best::Finalization(c.proposal.round.view.get()))),
+            None => Ok(None),
+        }
     }
 }

@@ -1,14 +1,15 @@
 //! What a voter asks its application to build.
 
-ghost use Rattle.std.specs.Prelude.{◌≡◌, ◌↔◌, ℕ, ◌∷◌, Some, IsTrue, MatchOption};
+ghost use Rattle.std.specs.Prelude.{◌≡◌, ◌↔◌, ℕ, ◌∷◌, Some, IfSome, IsTrue, MatchOption};
 ghost use Rattle.simplex_rules.specs.Windows.{AdmitsOutbound};
 ghost use Rattle.simplex_views.specs.History.{build_asked, current};
 ghost use Rattle.simplex_views.specs.Known.{known};
 ghost use Rattle.simplex_due.specs.Ancestry.{member};
-ghost use Rattle.simplex_due.specs.Requests.{BuildIsDue, IsFirstBuild, NoBuildIsDue};
-ghost use Rattle.simplex_voter.specs.Building.{IsContextOf};
+ghost use Rattle.simplex_due.specs.Requests.{BuildIsDue, IsFirstBuild, IsHandoff, NoBuildIsDue};
+ghost use Rattle.simplex_voter.specs.Building.{IsContextOf, IsPrepared, context_of};
 ghost use Rattle.simplex_voter.specs.State.{AtEach, Keeps};
 
+use crate::proposal_request::ProposalRequest;
 use crate::state::State;
 use simplex_due::requests::build_on;
 use simplex_facts::Facts;
@@ -16,18 +17,35 @@ use simplex_rules::Elector;
 use simplex_types::{Context, Digest, Round, Scheme, View};
 
 impl<S: Scheme<D> + Drop, L: Elector<S, D>, D: Digest> State<S, L, D> {
-    /// Asks for a build in the lowest view where one is due: what is to be built on. Else nothing changes.
-    pub fn try_propose(&mut self) -> Option<Context<D, S::PublicKey>>
-        ensures keeps { AtEach S.Scheme L.Elector self.old (λ s h. MatchOption result (Keeps S.Scheme L.Elector s self.new h) (λ x. Keeps S.Scheme L.Elector s self.new (build_asked x.round.view ∷ h))) }
-        ensures answer { AtEach S.Scheme L.Elector self.old (λ s h. MatchOption result (NoBuildIsDue (member s) (known s h)) (λ x. IsFirstBuild (member s) (known s h) x.round.view x.parent.0 x.parent.1 × IsContextOf S.Scheme s x)) }
+    /// Asks for a build in the lowest view where one is due: what is to be built on, and whether that is a handoff. Else nothing
+    /// changes.
+    pub fn try_propose(&mut self) -> Option<ProposalRequest<D, S::PublicKey>>
+        ensures keeps { AtEach S.Scheme L.Elector self.old (λ s h. MatchOption result (Keeps S.Scheme L.Elector s self.new h) (λ x. Keeps S.Scheme L.Elector s self.new (build_asked (context_of x).round.view ∷ h))) }
+        ensures answer { AtEach S.Scheme L.Elector self.old (λ s h. MatchOption result (NoBuildIsDue (member s) (known s h)) (λ x. IsFirstBuild (member s) (known s h) (context_of x).round.view (context_of x).parent.0 (context_of x).parent.1 × IsContextOf S.Scheme s (context_of x))) }
+        ensures handoff { AtEach S.Scheme L.Elector self.old (λ s h. IfSome result (λ x. IsPrepared x ↔ IsHandoff (member s) (known s h) (context_of x).round.view (context_of x).parent.0 (context_of x).parent.1)) }
     {
         let (view, parent, payload) = self.first_build()?;
+        let is_handoff = self.is_handoff(view, parent, payload);
         let leader = self.views.try_propose(view)?;
-        Some(Context {
+        let context = Context {
             round: Round::new(self.views.epoch(), view),
             leader: leader.key,
             parent: (parent, payload),
-        })
+        };
+        if is_handoff {
+            return Some(ProposalRequest::Prepare(context));
+        }
+        Some(ProposalRequest::Propose(context))
+    }
+
+    /// Whether a build on this parent is a handoff: the view starts a term, and the parent isn't certified with this payload.
+    fn is_handoff(&self, view: View, parent: View, payload: D) -> bool
+        ensures { AtEach S.Scheme L.Elector self.now (λ s h. IsTrue result ↔ IsHandoff (member s) (known s h) view parent payload) }
+    {
+        if !view.is_term_start(self.views.lookahead().length) {
+            return false;
+        }
+        !self.parent_certified(parent, payload)
     }
 
     /// The lowest view where a build is due, with the parent to build on.
@@ -53,7 +71,7 @@ impl<S: Scheme<D> + Drop, L: Elector<S, D>, D: Digest> State<S, L, D> {
     }
 
     /// Whether the view may be spoken of.
-    fn is_outbound(&self, view: View) -> bool
+    pub(super) fn is_outbound(&self, view: View) -> bool
         ensures { AtEach S.Scheme L.Elector self.now (λ s h. IsTrue result ↔ AdmitsOutbound s.length s.optimistic_views (current s h) view) }
     {
         let current = self.views.current_view();

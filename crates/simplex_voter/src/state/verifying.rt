@@ -1,0 +1,134 @@
+//! What a voter asks for, to judge the proposals of others.
+
+ghost use Rattle.std.specs.Prelude.{◌≡◌, ◌×◌, IfOk, MatchOption, None};
+ghost use Rattle.simplex_views.specs.Known.{known};
+ghost use Rattle.simplex_views.specs.Leaders.{leader};
+ghost use Rattle.simplex_due.specs.Ancestry.{member};
+ghost use Rattle.simplex_due.specs.Asking.{Finds};
+ghost use Rattle.simplex_voter.specs.State.{AtEach, Keeps};
+ghost use Rattle.simplex_voter.specs.Verifying.{Answers, Asks, BehindLook, IsKeyOfLeader, IsWanted, Passes, PassesAll};
+
+use crate::state::State;
+use crate::verify::{Verify, Wanted};
+use simplex_due::a_look_leaves_nothing_to_ask;
+use simplex_due::requests::{VerifyRequest, request_for};
+use simplex_facts::Facts;
+use simplex_resolver::Kind;
+use simplex_round::TimeoutReason;
+use simplex_rules::Elector;
+use simplex_types::{Context, Digest, Round, Scheme, View};
+use std::alloc::AllocError;
+
+impl<S: Scheme<D> + Drop, L: Elector<S, D>, D: Digest> State<S, L, D> {
+    /// Asks for the verification of the lowest proposal of another member that waits, or for the certificate that it lacks: each
+    /// once. On the way the views below with a proposal that can never stand are given up for that. So whoever asks when the
+    /// current view is given up looks again behind this call, whatever it answers.
+    ///
+    /// # Errors
+    ///
+    /// `AllocError` where memory ran out.
+    pub fn try_verify(&mut self, now: u64) -> Result<Verify<D, S::PublicKey>, AllocError>
+        ensures { IfOk result (λ answer. AtEach S.Scheme L.Elector self.old (λ s h. Answers S.Scheme L.Elector s self.new now h answer)) }
+    {
+        match self.first_wanted(now)? {
+            Some((view, wanted)) => self.ask(view, wanted),
+            None => Ok(Verify::Wait),
+        }
+    }
+
+    /// The lowest view for whose proposal something is to be asked, with that. The views below with a proposal that can never stand
+    /// are given up.
+    fn first_wanted(&mut self, now: u64) -> Result<Option<(View, Wanted<D>)>, AllocError>
+        ensures { IfOk result (λ found. AtEach S.Scheme L.Elector self.old (λ s h. MatchOption found ((last : ℕ) × BehindLook s now h last (PassesAll S.Scheme L.Elector s self.new last)) (λ x. BehindLook s now h x.0 (λ end. IsWanted (member s) (known s end) x.0 x.1 × Keeps S.Scheme L.Elector s self.new end)))) }
+    {
+        a_look_leaves_nothing_to_ask::<S, D>();
+        // The proof takes from the number that a term has at least one view.
+        let _views = self.views.lookahead().length.get();
+        let mut next = self.views.current_view();
+        'views: while let Some(view) = self.views.first_tracked(next) {
+            if !self.is_outbound(view) {
+                return Ok(None);
+            }
+            if let Some(wanted) = self.look(now, view)? {
+                return Ok(Some((view, wanted)));
+            }
+            if view.get() == u64::MAX {
+                return Ok(None);
+            }
+            next = view.next();
+        }
+        Ok(None)
+    }
+
+    /// What is to be asked for the view's proposal. Where it can never stand, the view is given up.
+    fn look(&mut self, now: u64, view: View) -> Result<Option<Wanted<D>>, AllocError>
+        ensures { IfOk result (λ found. AtEach S.Scheme L.Elector self.old (λ s h. MatchOption found (Passes S.Scheme L.Elector s self.new now h view) (λ x. IsWanted (member s) (known s h) view x × Keeps S.Scheme L.Elector s self.new h))) }
+    {
+        match self.request_for(view) {
+            VerifyRequest::Ready(proposal, payload) => {
+                Ok(Some(Wanted::Verification(proposal, payload)))
+            }
+            VerifyRequest::Nullification(first) => {
+                Ok(Some(Wanted::Certificate(Kind::Nullification, first)))
+            }
+            VerifyRequest::Notarization(parent) => {
+                Ok(Some(Wanted::Certificate(Kind::Notarization, parent)))
+            }
+            VerifyRequest::Invalid => {
+                self.views
+                    .latch_timeout(now, view, TimeoutReason::InvalidProposal)?;
+                Ok(None)
+            }
+            VerifyRequest::Wait => Ok(None),
+        }
+    }
+
+    /// What is to be done for the view's proposal.
+    fn request_for(&self, view: View) -> VerifyRequest<D>
+        ensures { AtEach S.Scheme L.Elector self.now (λ s h. Finds (member s) (known s h) view result) }
+    {
+        request_for(&Facts(&self.views), view)
+    }
+
+    /// Asks for what is wanted for the view's proposal, and puts that down.
+    fn ask(
+        &mut self,
+        view: View,
+        wanted: Wanted<D>,
+    ) -> Result<Verify<D, S::PublicKey>, AllocError>
+        ensures { IfOk result (λ answer. AtEach S.Scheme L.Elector self.old (λ s h. IsWanted (member s) (known s h) view wanted → Asks S.Scheme L.Elector s self.new h view answer)) }
+    {
+        let Some(leader) = self.leader_key(view) else {
+            return Ok(Verify::Wait);
+        };
+        match wanted {
+            Wanted::Verification(proposal, payload) => {
+                let context = Context {
+                    round: Round::new(self.views.epoch(), view),
+                    leader,
+                    parent: (proposal.parent, payload),
+                };
+                let _asked = self.views.request_verify(view, proposal, payload);
+                Ok(Verify::Ready(context, proposal))
+            }
+            Wanted::Certificate(kind, missing) => {
+                self.views.request(view, missing)?;
+                Ok(Verify::Resolve {
+                    proposal: view,
+                    view: missing,
+                    kind,
+                    target: leader,
+                })
+            }
+        }
+    }
+
+    /// The key of the member that leads the view, where that is known.
+    fn leader_key(&self, view: View) -> Option<S::PublicKey>
+        ensures { AtEach S.Scheme L.Elector self.now (λ s h. MatchOption result (leader s h view ≡ None) (λ key. IsKeyOfLeader S.Scheme s h view key)) }
+    {
+        let round = self.views.round(view)?;
+        let leader = round.leader()?;
+        Some(leader.key)
+    }
+}
