@@ -1,10 +1,12 @@
 //! The voter: a member without network, clock or disk, which says what is due.
 #![tactic(auto)]
 
+mod certificate_fetch;
 mod config;
 mod floor;
 mod state;
 
+pub use certificate_fetch::CertificateFetch;
 pub use config::Config;
 pub use floor::Floor;
 pub use state::State;

@@ -3,6 +3,7 @@
 
 mod answering;
 mod building;
+mod certifying;
 mod keeping;
 mod knowing;
 mod learning;
@@ -18,9 +19,10 @@ ghost use Rattle.simplex_voter.specs.State.{Keeps};
 
 use crate::config::Config;
 use simplex_rules::Elector;
-use simplex_types::{Digest, Scheme};
+use simplex_types::{Digest, Scheme, View};
 use simplex_views::Views;
 use std::alloc::{AllocError, Global};
+use std::collections::BTreeSet;
 use std::rc::Rc;
 
 /// A member without network, clock or disk: what it has learnt, what it asks its application for, and which votes it casts.
@@ -32,6 +34,8 @@ pub struct State<S: Scheme<D>, L: Elector<S, D>, D: Digest> {
     views: Views<S, L, D>,
     timeout_retry: u64,
     skip_budget: u64,
+    // The views for whose verdicts something may be to ask.
+    candidates: BTreeSet<View>,
 }
 
 impl<S: Scheme<D> + Drop, L: Elector<S, D>, D: Digest> State<S, L, D> {
@@ -59,6 +63,7 @@ impl<S: Scheme<D> + Drop, L: Elector<S, D>, D: Digest> State<S, L, D> {
             views,
             timeout_retry: config.timeout_retry,
             skip_budget: config.skip_budget,
+            candidates: BTreeSet::new(alloc),
         })
     }
 }

@@ -11,3 +11,5 @@ mod starts;
 mod timeouts;
 #[cfg(test)]
 mod votes;
+#[cfg(test)]
+mod verdicts;
