@@ -13,3 +13,5 @@ mod starts;
 mod timeouts;
 #[cfg(test)]
 mod votes;
+#[cfg(test)]
+mod verdicts;

@@ -4,7 +4,7 @@ use crate::samples::{Finalized, finalization, notarization, nullification, paylo
 use simplex_round::TimeoutReason;
 use simplex_rules::elector::{Config as Building, RoundRobin, RoundRobinElector};
 use simplex_types::{
-    Epoch, Participant, PlainScheme, Scheme, Sha256Digest, TermLength, View, ViewDelta,
+    Epoch, Participant, PlainScheme, Scheme, Sha256Digest, TermLength, View, ViewDelta, Viewable,
 };
 use simplex_messages::Certificate;
 use simplex_resolver::Kind;
@@ -296,5 +296,24 @@ impl Member {
             Some(Certificate::Finalization(c)) => Ok(Some(Best::Finalization(c.proposal.round.view.get()))),
             None => Ok(None),
         }
+    }
+
+    /// Whether verdicts are to be asked for on these views, and notarizations for these pairs of a view and its parent.
+    pub fn asks_verdicts(&mut self, views: &[u64], pairs: &[(u64, u64)]) -> Result<bool, Fail> {
+        let (ready, fetches) = self.state.certify_candidates(self.alloc)?;
+        if ready.len() != views.len() || fetches.len() != pairs.len() {
+            return Ok(false);
+        }
+        for i in 0..ready.len() {
+            if ready[i].view().get() != views[i] {
+                return Ok(false);
+            }
+        }
+        for i in 0..fetches.len() {
+            if (fetches[i].proposal.get(), fetches[i].view.get()) != pairs[i] {
+                return Ok(false);
+            }
+        }
+        Ok(true)
     }
 }
