@@ -4,6 +4,7 @@
 
 pub mod ancestry;
 pub mod answers;
+pub mod calls;
 pub mod due;
 pub mod requests;
 

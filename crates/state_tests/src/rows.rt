@@ -1,10 +1,10 @@
 //! The voter's worked cases, told by the plain program. Each row says behind how many points it is asked.
 
-use simplex_round::TimeoutReason;
-use std::process::Abort;
 use due_plain::Plain;
 use due_plain::ancestry::Parent;
 use due_plain::requests::{Judging, Look};
+use simplex_round::TimeoutReason;
+use std::process::Abort;
 use voter_plain::getters::Entry;
 use voter_plain::{History, Point, Proposal, Setup};
 
@@ -320,7 +320,11 @@ fn a_term_is_entered_by_each_kind_of_certificate(rt: HostRuntime) {
         (notarized(10, 9, A), 0),
     ];
     for (point, current) in rows {
-        holds(&rt, 1, history(member(5, 0), &[point]).known.current() == current);
+        holds(
+            &rt,
+            1,
+            history(member(5, 0), &[point]).known.current() == current,
+        );
     }
     let points = [started(), nullified(7), certified(3), finalized(0, 4, 3, A)];
     holds(&rt, 4, history(member(5, 0), &points).known.current() == 11);
@@ -531,6 +535,10 @@ fn the_best_certificate_helps_others_on(rt: HostRuntime) {
         (6, Some(Entry::Finalization(5))),
     ];
     for (count, best) in rows {
-        holds(&rt, count, all.first(count).known.best_certificate() == best);
+        holds(
+            &rt,
+            count,
+            all.first(count).known.best_certificate() == best,
+        );
     }
 }

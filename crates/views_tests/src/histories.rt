@@ -1,13 +1,14 @@
 //! Histories by chance, in which each answer and each getter is the plain program's.
 
 use crate::beside::Beside;
-use crate::samples::{A, B, GENESIS, RETRY, holds};
+use crate::holding::holds;
 use due_plain::Plain;
 use simplex_fakes::Chance;
 use simplex_round::TimeoutReason;
 use std::alloc::Global;
 use std::ops::Range;
 use std::process::Abort;
+use voter_fakes::samples::{A, B, GENESIS, RETRY};
 use voter_plain::getters::Entry;
 use voter_plain::{History, Point, Proposal, Setup};
 
