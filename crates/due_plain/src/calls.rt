@@ -130,11 +130,11 @@ impl<'a> Plain<'a> {
         }
     }
 
-    /// What has happened by that call: a proposal whose binding has fallen is not found good, and drops it.
-    pub fn happens(self, point: Point) -> Option<Point> {
+    /// What has happened by that call with this answer: a proposal whose binding has fallen is not found good, and drops it.
+    pub fn happens(self, point: Point, answer: Answer) -> Option<Point> {
         match point {
             Point::Confirmed { view } if !self.is_steady(view) => Some(Point::Unbound { view }),
-            _ if Plain::stands(point, self.tells(point)) => Some(point),
+            _ if Plain::stands(point, answer) => Some(point),
             _ => None,
         }
     }

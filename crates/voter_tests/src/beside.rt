@@ -57,7 +57,7 @@ impl Beside {
     /// Makes the call that would add the point.
     fn tell(&mut self, rt: &impl Abort, alloc: Global, point: Point) -> Option<Reply> {
         let expected = self.plain().tells(point);
-        let happened = self.plain().happens(point);
+        let happened = self.plain().happens(point, expected);
         let answer = self.voter.tell(alloc, point)?;
         holds(rt, answer == expected);
         self.push(happened)?;
@@ -319,9 +319,7 @@ fn are_asked(rt: &impl Abort, plain: Plain<'_>, verdicts: &Verdicts) {
             }
             Judging::Fetch(required) => {
                 let is_fetched = match fetches.get(fetched) {
-                    Some(fetch) => {
-                        (fetch.proposal.get(), fetch.view.get()) == (view, required)
-                    }
+                    Some(fetch) => { (fetch.proposal.get(), fetch.view.get()) == (view, required) }
                     None => false,
                 };
                 holds(rt, is_fetched);

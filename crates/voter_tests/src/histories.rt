@@ -15,18 +15,19 @@ use voter_plain::getters::Entry;
 use voter_plain::views::Mark;
 use voter_plain::{Point, Proposal, Setup};
 
-/// A committee of up to seven members, in terms of this length with so many optimistic views.
-fn setup(chance: &mut Chance, length: u64, optimistic_views: u64) -> Setup {
+/// A committee of up to seven members, in terms of this length with up to two optimistic views.
+fn setup(chance: &mut Chance, length: u64) -> Setup {
     let participants = 1 + chance.below(7);
     let me = chance.below(participants);
     let is_observer = chance.below(12) == 0;
+    let is_rotating = length == 1 && chance.below(2) == 0;
     Setup {
         me: if is_observer { None } else { Some(me as u32) },
         participants: participants as u32,
         epoch: chance.below(3),
         length,
-        optimistic_views,
-        stall_timeout: Some(300),
+        optimistic_views: if is_rotating { 0 } else { chance.below(3) },
+        stall_timeout: if is_rotating { None } else { Some(300) },
         is_scheduled: chance.below(3) != 0,
         retention: chance.below(4),
         leader_timeout: 100,
@@ -71,12 +72,15 @@ fn reason(chance: &mut Chance) -> TimeoutReason {
     }
 }
 
-/// A certificate of the view.
-fn entry(chance: &mut Chance, view: u64) -> Entry {
-    match chance.below(3) {
+/// A certificate of the view: mostly one that is there.
+fn entry(chance: &mut Chance, plain: Plain<'_>, view: u64) -> Entry {
+    match chance.below(6) {
         0 => Entry::Notarization(view),
         1 => Entry::Nullification(view),
-        _ => Entry::Finalization(view),
+        2 => Entry::Finalization(view),
+        _ if plain.known.finalized(view).is_some() => Entry::Finalization(view),
+        _ if plain.known.notarized(view).is_some() => Entry::Notarization(view),
+        _ => Entry::Nullification(view),
     }
 }
 
@@ -105,12 +109,12 @@ fn learnt(chance: &mut Chance, plain: Plain<'_>, now: u64, view: u64) -> Point {
 }
 
 /// What this member votes in the view, or hands out of it.
-fn voted(chance: &mut Chance, view: u64) -> Point {
+fn voted(chance: &mut Chance, plain: Plain<'_>, view: u64) -> Point {
     match chance.below(8) {
         0..=1 => Point::VotedNotarize { view },
         2..=4 => Point::VotedNullify { view },
         5..=6 => Point::VotedFinalize { view },
-        _ => Point::Sent(entry(chance, view)),
+        _ => Point::Sent(entry(chance, plain, view)),
     }
 }
 
@@ -126,7 +130,7 @@ fn heard(chance: &mut Chance, now: u64, view: u64) -> Point {
 }
 
 /// What the record says of the view, or a prune.
-fn recalled(chance: &mut Chance, view: u64) -> Point {
+fn recalled(chance: &mut Chance, plain: Plain<'_>, view: u64) -> Point {
     match chance.below(7) {
         0..=1 => Point::RecalledNotarize {
             proposal: proposal(chance, view),
@@ -137,7 +141,7 @@ fn recalled(chance: &mut Chance, view: u64) -> Point {
             view,
             ok: chance.below(3) != 0,
         },
-        5 => Point::RecalledSent(entry(chance, view)),
+        5 => Point::RecalledSent(entry(chance, plain, view)),
         _ => Point::Pruned,
     }
 }
@@ -145,7 +149,13 @@ fn recalled(chance: &mut Chance, view: u64) -> Point {
 /// A question, often about what was last asked to be built.
 fn asked(chance: &mut Chance, beside: &Beside, now: u64, at: u64) -> Call {
     let (view, parent) = if chance.below(3) == 0 {
-        (at, (chance.below(at.max(1)), if chance.below(2) == 0 { A } else { GENESIS }))
+        (
+            at,
+            (
+                chance.below(at.max(1)),
+                if chance.below(2) == 0 { A } else { GENESIS },
+            ),
+        )
     } else {
         beside.building
     };
@@ -175,24 +185,14 @@ fn built(chance: &mut Chance, beside: &Beside, now: u64) -> Point {
 }
 
 /// What comes next where all goes well for the proposal of a view, until it is notarized here.
-fn onward_to_notarize(plain: Plain<'_>, now: u64, view: u64) -> Option<Call> {
+fn onward_to_notarize(chance: &mut Chance, plain: Plain<'_>, now: u64, view: u64) -> Option<Call> {
     let known = plain.known;
     if known.held(view).is_none() {
         if plain.build(view).is_some() {
             return Some(Call::Build);
         }
-        if known.is_build_asked(view) {
-            return None;
-        }
-        let parent = view.saturating_sub(1);
-        return Some(Call::Tell(Point::Forwarded {
-            view,
-            proposal: Proposal {
-                view,
-                parent,
-                payload: A,
-            },
-        }));
+        let proposal = proposal(chance, view);
+        return Some(Call::Tell(Point::Forwarded { view, proposal }));
     }
     if !matches!(plain.look(view), Look::Pass) {
         return Some(Call::Verify { now });
@@ -206,19 +206,30 @@ fn onward_to_notarize(plain: Plain<'_>, now: u64, view: u64) -> Option<Call> {
     None
 }
 
-/// And then, until it is final.
-fn onward_to_finalize(plain: Plain<'_>, now: u64, view: u64) -> Option<Call> {
+/// What comes next until there is a verdict.
+fn onward_to_verdict(chance: &mut Chance, plain: Plain<'_>, now: u64, view: u64) -> Point {
+    match plain.judging(view) {
+        Judging::Ask(_) if chance.below(2) == 0 => Point::CertifyAsked { view },
+        _ => Point::Judged {
+            now,
+            view,
+            ok: chance.below(6) != 0,
+        },
+    }
+}
+
+/// What comes next from the certificate on, until the view is final.
+fn onward_to_finalize(chance: &mut Chance, plain: Plain<'_>, now: u64, view: u64) -> Option<Call> {
     let (known, mark) = (plain.known, 3);
     let proposal = known.held(view)?;
     if known.notarized(view).is_none() {
         return Some(Call::Tell(Point::Notarized { proposal, mark }));
     }
     if known.verdict(view).is_none() {
-        if matches!(plain.judging(view), Judging::Ask(_) | Judging::Fetch(_)) {
+        if chance.below(3) == 0 {
             return Some(Call::Certify);
         }
-        let ok = true;
-        return Some(Call::Tell(Point::Judged { now, view, ok }));
+        return Some(Call::Tell(onward_to_verdict(chance, plain, now, view)));
     }
     if plain.finalize_is_due(view) {
         return Some(Call::Tell(Point::VotedFinalize { view }));
@@ -230,13 +241,20 @@ fn onward_to_finalize(plain: Plain<'_>, now: u64, view: u64) -> Option<Call> {
     }))
 }
 
-/// What comes next where all goes well.
+/// What comes next where all goes well, at times with the certificate first.
 fn onward(chance: &mut Chance, beside: &Beside, now: u64, view: u64) -> Call {
     let plain = beside.plain();
     if plain.known.is_build_asked(view) && plain.known.held(view).is_none() {
         return Call::Tell(built(chance, beside, now));
     }
-    match onward_to_notarize(plain, now, view).or(onward_to_finalize(plain, now, view)) {
+    let is_judged = plain.known.notarized(view).is_some() && chance.below(4) != 0;
+    if !is_judged
+        && chance.below(4) != 0
+        && let Some(call) = onward_to_notarize(chance, plain, now, view)
+    {
+        return call;
+    }
+    match onward_to_finalize(chance, plain, now, view) {
         Some(call) => call,
         None => Call::Time { now },
     }
@@ -254,12 +272,12 @@ fn next(chance: &mut Chance, beside: &Beside, now: u64) -> Call {
     let view = view(chance, plain.known.current());
     match chance.below(20) {
         0..=3 => Call::Tell(learnt(chance, plain, now, view)),
-        4..=5 => Call::Tell(voted(chance, view)),
-        6 => Call::Tell(heard(chance, now, view)),
-        7 => Call::Tell(recalled(chance, view)),
-        8..=10 => asked(chance, beside, now, view),
-        11 => Call::Time { now },
-        12 => Call::Refuse {
+        4 => Call::Tell(voted(chance, plain, view)),
+        5 => Call::Tell(heard(chance, now, view)),
+        6 => Call::Tell(recalled(chance, plain, view)),
+        7..=8 => asked(chance, beside, now, view),
+        9 => Call::Time { now },
+        10 => Call::Refuse {
             now,
             view,
             reason: reason(chance),
@@ -270,12 +288,12 @@ fn next(chance: &mut Chance, beside: &Beside, now: u64) -> Call {
 
 /// One history: how many of its calls were none in vain. Behind each call the voter tells of all views together, and of the one that was
 /// current, what the plain program tells.
-fn history(rt: &impl Abort, alloc: Global, seed: u64, terms: (u64, u64)) -> usize {
+fn history(rt: &impl Abort, alloc: Global, seed: u64, length: u64) -> usize {
     let mut chance = Chance::seeded(seed);
-    let setup = setup(&mut chance, terms.0, terms.1);
+    let setup = setup(&mut chance, length);
     let mut beside = Beside::new(alloc, &setup).expect(rt, "there is memory");
     let mut now = 0;
-    for _ in 0..12 {
+    for _ in 0..14 {
         let call = next(&mut chance, &beside, now);
         let current = beside.plain().known.current();
         let _reply = beside.call(rt, alloc, call).expect(rt, "there is memory");
@@ -283,7 +301,12 @@ fn history(rt: &impl Abort, alloc: Global, seed: u64, terms: (u64, u64)) -> usiz
         beside.agrees_at(rt, now, current);
         now += chance.below(120);
     }
-    for call in [Call::Verify { now }, Call::Build, Call::Certify, Call::Time { now }] {
+    for call in [
+        Call::Verify { now },
+        Call::Build,
+        Call::Certify,
+        Call::Time { now },
+    ] {
         let _reply = beside.call(rt, alloc, call).expect(rt, "there is memory");
     }
     beside
@@ -294,43 +317,62 @@ fn history(rt: &impl Abort, alloc: Global, seed: u64, terms: (u64, u64)) -> usiz
     beside.plain().known.points.len()
 }
 
-/// The histories of these seeds, in terms of this length with so many optimistic views.
-fn histories(rt: &impl Abort, alloc: Global, seeds: Range<u64>, terms: (u64, u64)) {
-    let (mut count, mut least) = (0usize, 0usize);
-    for seed in seeds {
-        count = count.saturating_add(history(rt, alloc, seed, terms));
-        least = least.saturating_add(7);
+/// The thousand histories from this seed on, in terms of this length.
+fn histories(rt: &impl Abort, alloc: Global, first: u64, length: u64) {
+    let mut count = 0usize;
+    for seed in first..first.saturating_add(1_000) {
+        count = count.saturating_add(history(rt, alloc, seed, length));
     }
     // Where nothing stood there was nothing to agree on.
-    holds(rt, least < count);
+    holds(rt, 10_000 < count);
 }
 
 #[test]
-fn rotating_histories_are_as_the_plain_program_tells(rt: HostRuntime) {
-    histories(&rt, rt.alloc(), 0..2_000, (1, 0));
+fn the_first_thousand_is_as_the_plain_program_tells(rt: HostRuntime) {
+    histories(&rt, rt.alloc(), 0, 1);
 }
 
 #[test]
-fn short_terms_are_as_the_plain_program_tells(rt: HostRuntime) {
-    histories(&rt, rt.alloc(), 2_000..3_500, (2, 0));
+fn the_second_thousand_is_as_the_plain_program_tells(rt: HostRuntime) {
+    histories(&rt, rt.alloc(), 1_000, 1);
 }
 
 #[test]
-fn short_optimistic_terms_are_as_the_plain_program_tells(rt: HostRuntime) {
-    histories(&rt, rt.alloc(), 3_500..5_000, (2, 1));
+fn the_third_thousand_is_as_the_plain_program_tells(rt: HostRuntime) {
+    histories(&rt, rt.alloc(), 2_000, 1);
 }
 
 #[test]
-fn long_terms_are_as_the_plain_program_tells(rt: HostRuntime) {
-    histories(&rt, rt.alloc(), 5_000..6_500, (5, 0));
+fn the_fourth_thousand_is_as_the_plain_program_tells(rt: HostRuntime) {
+    histories(&rt, rt.alloc(), 3_000, 2);
 }
 
 #[test]
-fn long_terms_with_an_optimistic_view_are_as_the_plain_program_tells(rt: HostRuntime) {
-    histories(&rt, rt.alloc(), 6_500..8_500, (5, 1));
+fn the_fifth_thousand_is_as_the_plain_program_tells(rt: HostRuntime) {
+    histories(&rt, rt.alloc(), 4_000, 2);
 }
 
 #[test]
-fn long_terms_with_two_optimistic_views_are_as_the_plain_program_tells(rt: HostRuntime) {
-    histories(&rt, rt.alloc(), 8_500..10_000, (5, 2));
+fn the_sixth_thousand_is_as_the_plain_program_tells(rt: HostRuntime) {
+    histories(&rt, rt.alloc(), 5_000, 2);
+}
+
+#[test]
+fn the_seventh_thousand_is_as_the_plain_program_tells(rt: HostRuntime) {
+    histories(&rt, rt.alloc(), 6_000, 5);
+}
+
+#[test]
+fn the_eighth_thousand_is_as_the_plain_program_tells(rt: HostRuntime) {
+    histories(&rt, rt.alloc(), 7_000, 5);
+}
+
+#[test]
+fn the_ninth_thousand_is_as_the_plain_program_tells(rt: HostRuntime) {
+    histories(&rt, rt.alloc(), 8_000, 5);
+}
+
+#[test]
+fn the_last_thousand_is_as_the_plain_program_tells(rt: HostRuntime) {
+    histories(&rt, rt.alloc(), 9_000, 5);
 }

@@ -8,6 +8,8 @@ mod histories;
 #[cfg(test)]
 mod member;
 #[cfg(test)]
+mod memory;
+#[cfg(test)]
 mod requests;
 #[cfg(test)]
 mod rows;

@@ -1,13 +1,13 @@
 //! Member 0 of a committee of four, with numbers for views.
 
 use crate::samples::{Finalized, finalization, notarization, nullification, payload, proposal};
+use simplex_messages::Certificate;
+use simplex_resolver::Kind;
 use simplex_round::TimeoutReason;
 use simplex_rules::elector::{Config as Building, RoundRobin, RoundRobinElector};
 use simplex_types::{
     Epoch, Participant, PlainScheme, Scheme, Sha256Digest, TermLength, View, ViewDelta, Viewable,
 };
-use simplex_messages::Certificate;
-use simplex_resolver::Kind;
 use simplex_voter::{Config, Floor, State, Verify};
 use std::alloc::Global;
 use std::rc::Rc;
@@ -291,9 +291,15 @@ impl Member {
     /// The best certificate to enter the current view by.
     pub fn best_certificate(&self) -> Result<Option<Best>, Fail> {
         match self.state.get_best_certificate(self.alloc)? {
-            Some(Certificate::Notarization(c)) => Ok(Some(Best::Notarization(c.proposal.round.view.get()))),
-            Some(Certificate::Nullification(c)) => Ok(Some(Best::Nullification(c.round.view.get()))),
-            Some(Certificate::Finalization(c)) => Ok(Some(Best::Finalization(c.proposal.round.view.get()))),
+            Some(Certificate::Notarization(c)) => Ok(Some(Best::Notarization(
+                c.proposal.round.view.get(),
+            ))),
+            Some(Certificate::Nullification(c)) => Ok(Some(Best::Nullification(
+                c.round.view.get(),
+            ))),
+            Some(Certificate::Finalization(c)) => Ok(Some(Best::Finalization(
+                c.proposal.round.view.get(),
+            ))),
             None => Ok(None),
         }
     }

@@ -183,9 +183,7 @@ impl Voter {
     }
 
     fn ask_verdict(&mut self, view: View) -> Option<Answer> {
-        self.state
-            .set_certify_handle(view, Token(view.get()))
-            .ok()?;
+        self.state.set_certify_handle(view, Token(view.get())).ok()?;
         Some(Answer::Yes)
     }
 
