@@ -2,9 +2,9 @@
 //! proposals, certificates and records.
 #![tactic(auto)]
 
-mod committee;
+mod committees;
 mod elector;
 pub mod samples;
 
-pub use committee::committee;
+pub use committees::committee;
 pub use elector::Chosen;
