@@ -1,11 +1,13 @@
 -- Of what may be answered of a view's requests one alone is right.
 use Rattle.std.proofs.Common.{◌≡◌, ℕ, refl, sym, ◌∙◌, subst, ap, arith}
+use mathlib.Core.Bool.{true≢false}
+use Rattle.std.specs.Prelude.{Option, None, is_some}
 use Rattle.std.proofs.lemmas.Option.{same_Some}
 use Rattle.simplex_types.specs.declared.proposal.Proposal.{Proposal}
 use Rattle.simplex_views.specs.Known.{Known}
 use Rattle.simplex_due.specs.Ancestry.{Member, Supports, IsFirstUncovered, IsInvalidParent, LacksPayload}
 use Rattle.simplex_due.specs.Asking.{Finds, Decides, OneIsFound, OneIsDecided}
-use Rattle.simplex_due.specs.Requests.{WaitsForParent, VerifyIsDue, IsInvalid, NullificationIsWanted, NotarizationIsWanted, CertifyIsDue, CertificateIsWanted}
+use Rattle.simplex_due.specs.Requests.{WaitsForParent, VerifyIsDue, IsInvalid, NullificationIsWanted, NotarizationIsWanted, CertifyIsDue, CertifyWaits, IsPutOff, CertificateIsWanted}
 use Rattle.simplex_due.specs.declared.requests.VerifyRequest.{VerifyRequest}
 use Rattle.simplex_due.specs.declared.requests.VerifyRequest.TheVariants as verify
 use Rattle.simplex_due.specs.declared.requests.CertifyRequest.{CertifyRequest}
@@ -74,19 +76,39 @@ module _ {D : Type 0} (m : Member) (k : Known D) (view : ℕ) where
   found verify.Wait (verify.Notarization w) a b = absurd (a.asks.no_notarization b.0 b.1)
   found verify.Wait verify.Wait a b = refl
 
-  -- a verdict that is due waits for no certificate
-  due_or_wanted : (p : Proposal D) (u : ℕ) → CertifyIsDue m k view p → CertificateIsWanted m k view u → ⊥
-  due_or_wanted p u due wanted = not_ready m k view wanted.waits.proposal wanted.waits.opens u wanted.waits.requires_it wanted.waits.missing p due
+  -- a verdict that is due waits for nothing
+  due_or_put_off : (p : Proposal D) (u : ℕ) → CertifyIsDue m k view p → CertifyWaits m k view u → ⊥
+  due_or_put_off p u due waits = not_ready m k view waits.proposal waits.opens u waits.requires_it waits.missing p due
+
+  -- one parent is required
+  same_required : (u w : ℕ) → CertifyWaits m k view u → CertifyWaits m k view w → u ≡ w
+  same_required u w a b = omega (arith, a.requires_it.next, b.requires_it.next)
+
+  -- a verdict that was put off isn't put off again
+  put_off_again : (u : ℕ) → IsPutOff m k view u → Decides m k view certify.Wait → ⊥
+  put_off_again u is wait = true≢false (sym (wait is.waits.proposal is.waits.opens).0 ∙ is.first)
+
+  wanted_is_put_off : (u : ℕ) → CertificateIsWanted m k view u → IsPutOff m k view u
+  wanted_is_put_off u wanted = record { waits = wanted.waits; first = wanted.first }
 
   decided : (a b : CertifyRequest D) → Decides m k view a → Decides m k view b → a ≡ b
   decided (certify.Ready p) (certify.Ready q) a b = ap certify.Ready (one_is_open m k view q p b.opens a.opens)
-  decided (certify.Ready p) (certify.Fetch u) a b = absurd (due_or_wanted p u a b)
-  decided (certify.Ready p) certify.Wait a b = absurd (b.0 p a)
-  decided (certify.Fetch u) (certify.Ready q) a b = absurd (due_or_wanted q u b a)
-  decided (certify.Fetch u) (certify.Fetch w) a b = ap certify.Fetch (omega (arith, a.waits.requires_it.next, b.waits.requires_it.next))
-  decided (certify.Fetch u) certify.Wait a b = absurd (b.1 u a)
-  decided certify.Wait (certify.Ready q) a b = absurd (a.0 q b)
-  decided certify.Wait (certify.Fetch w) a b = absurd (a.1 w b)
+  decided (certify.Ready p) (certify.Fetch u) a b = absurd (due_or_put_off p u a b.waits)
+  decided (certify.Ready p) (certify.PutOff u) a b = absurd (due_or_put_off p u a b.0.waits)
+  decided (certify.Ready p) certify.Wait a b = let w = (b p a.opens).1 in absurd (due_or_put_off p w.0 a w.1)
+  decided (certify.Fetch u) (certify.Ready q) a b = absurd (due_or_put_off q u b a.waits)
+  decided (certify.Fetch u) (certify.Fetch w) a b = ap certify.Fetch (same_required u w a.waits b.waits)
+  decided (certify.Fetch u) (certify.PutOff w) a b =
+      absurd (true≢false (sym b.1 ∙ ap is_some (subst (λ (v : ℕ). k.notarized v ≡ None) (same_required u w a.waits b.0.waits) a.absent)))
+  decided (certify.Fetch u) certify.Wait a b = absurd (put_off_again u (wanted_is_put_off u a) b)
+  decided (certify.PutOff u) (certify.Ready q) a b = absurd (due_or_put_off q u b a.0.waits)
+  decided (certify.PutOff u) (certify.Fetch w) a b =
+      absurd (true≢false (sym a.1 ∙ ap is_some (subst (λ (v : ℕ). k.notarized v ≡ None) (same_required w u b.waits a.0.waits) b.absent)))
+  decided (certify.PutOff u) (certify.PutOff w) a b = ap certify.PutOff (same_required u w a.0.waits b.0.waits)
+  decided (certify.PutOff u) certify.Wait a b = absurd (put_off_again u a.0 b)
+  decided certify.Wait (certify.Ready q) a b = let w = (a q b.opens).1 in absurd (due_or_put_off q w.0 b w.1)
+  decided certify.Wait (certify.Fetch w) a b = absurd (put_off_again w (wanted_is_put_off w b) a)
+  decided certify.Wait (certify.PutOff w) a b = absurd (put_off_again w b.0 a)
   decided certify.Wait certify.Wait a b = refl
 
 pub one_is_found : {D : Type 0} → OneIsFound D

@@ -1,9 +1,9 @@
 -- What is answered to whoever asks which requests are due.
-use Rattle.std.specs.Prelude.{◌≡◌, ℕ}
+use Rattle.std.specs.Prelude.{◌≡◌, ℕ, true, IsSome}
 use Rattle.simplex_types.specs.declared.proposal.Proposal.{Proposal}
 use Rattle.simplex_views.specs.Known.{Known}
 use Rattle.simplex_due.specs.Ancestry.{Member}
-use Rattle.simplex_due.specs.Requests.{VerifyIsDue, IsInvalid, NullificationIsWanted, NotarizationIsWanted, IsPassed, CertifyIsDue, CertificateIsWanted}
+use Rattle.simplex_due.specs.Requests.{VerifyIsDue, IsInvalid, NullificationIsWanted, NotarizationIsWanted, IsPassed, VerdictIsOpen, CertifyIsDue, CertifyWaits, IsPutOff, CertificateIsWanted}
 use Rattle.simplex_due.specs.declared.requests.VerifyRequest.{VerifyRequest}
 use Rattle.simplex_due.specs.declared.requests.VerifyRequest.TheVariants as verify
 use Rattle.simplex_due.specs.declared.requests.CertifyRequest.{CertifyRequest}
@@ -19,11 +19,13 @@ module _ {D : Type 0} (m : Member) (k : Known D) (view : ℕ) where
   Finds (verify.Notarization u) = (p : Proposal D) × NotarizationIsWanted m k view p × (p.parent ≡ u)
   Finds verify.Wait = IsPassed m k view
 
-  -- this is to be asked for the view's verdict: itself, or the certificate that it waits for, or nothing
+  -- this is to be asked for the view's verdict: itself, or the certificate that it waits for; or nothing, since that is there and
+  -- the verdict is yet to be put off, or since none is open that wasn't put off and doesn't still wait
   abbrev pub Decides : CertifyRequest D → Type 0
   Decides (certify.Ready p) = CertifyIsDue m k view p
   Decides (certify.Fetch u) = CertificateIsWanted m k view u
-  Decides certify.Wait = ((p : Proposal D) → ¬ CertifyIsDue m k view p) × ((u : ℕ) → ¬ CertificateIsWanted m k view u)
+  Decides (certify.PutOff u) = IsPutOff m k view u × IsSome (k.notarized u)
+  Decides certify.Wait = (p : Proposal D) → VerdictIsOpen m k view p → (k.certify_waited view ≡ true) × ((u : ℕ) × CertifyWaits m k view u)
 
 -- of these answers one alone is right: the one that is given
 abbrev pub OneIsFound : Type 0 → Type 0

@@ -109,6 +109,16 @@ module _ {D : Type 0} (m : Member) (k : Known D) where
     pub requires_it : IsRequired m k view proposal.parent required
     pub missing : explicit m k required ≡ None
 
+  -- it is put off: it begins to wait for its required parent
+  pub record IsPutOff (view required : ℕ) : Type 0 where
+    pub waits : CertifyWaits view required
+    pub first : k.certify_waited view ≡ false
+
+  -- something may be to ask for the view's verdict: it is open on this proposal, and if it was put off, the required parent is explicit
+  pub record MayBeAsked (view : ℕ) (p : Proposal D) : Type 0 where
+    pub opens : VerdictIsOpen view p
+    pub woken : k.certify_waited view ≡ true → (required : ℕ) → IsRequired m k view p.parent required → IsSome (explicit m k required)
+
   -- the notarization of the required parent is to be asked for: once, where it isn't there
   pub record CertificateIsWanted (view required : ℕ) : Type 0 where
     pub waits : CertifyWaits view required
@@ -139,6 +149,11 @@ module _ {D : Type 0} (m : Member) (k : Known D) where
   pub record AreReady (ready : List (Proposal D)) : Type 0 where
     pub exact : (p : Proposal D) → Contains ready p ↔ CertifyIsDue p.round.view p
     pub ascend : AllPairs (λ (p q : Proposal D). p.round.view < q.round.view) ready
+
+  -- the views whose verdicts are put off, each once
+  pub record ArePutOff (views : List ℕ) : Type 0 where
+    pub exact : (view : ℕ) → Contains views view ↔ ((required : ℕ) × IsPutOff view required)
+    pub ascend : AllPairs (λ (u w : ℕ). u < w) views
 
   -- the views that wait, each with the one that it waits for, where that is to be asked for; by the views, each once
   pub record AreWanted (fetches : List (ℕ × ℕ)) : Type 0 where

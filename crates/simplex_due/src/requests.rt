@@ -37,7 +37,9 @@ pub enum CertifyRequest<D: Digest> {
     Ready(Proposal<D>),
     /// The notarization of this view, which has to be certified first.
     Fetch(View),
-    /// Nothing.
+    /// Nothing yet: the verdict is to be put off until this view, which is notarized, is certified.
+    PutOff(View),
+    /// Nothing: no verdict is open, or it was put off and still has to wait.
     Wait,
 }
 
@@ -204,8 +206,11 @@ fn verdict_over<K: Knowledge<D>, D: Digest>(
     if explicit_payload(known, required).is_some() {
         return CertifyRequest::Ready(proposal);
     }
-    if known.is_waiting(view) || known.is_notarized(required) {
+    if known.is_waiting(view) {
         return CertifyRequest::Wait;
+    }
+    if known.is_notarized(required) {
+        return CertifyRequest::PutOff(required);
     }
     CertifyRequest::Fetch(required)
 }

@@ -3,6 +3,7 @@
 
 mod answering;
 mod building;
+mod certifying;
 mod entry;
 mod keeping;
 mod knowing;
@@ -20,9 +21,10 @@ ghost use Rattle.simplex_voter.specs.State.{Keeps};
 
 use crate::config::Config;
 use simplex_rules::Elector;
-use simplex_types::{Digest, Scheme};
+use simplex_types::{Digest, Scheme, View};
 use simplex_views::Views;
 use std::alloc::{AllocError, Global};
+use std::collections::BTreeSet;
 use std::rc::Rc;
 
 /// A member without network, clock or disk: what it has learnt, what it asks its application for, and which votes it casts.
@@ -34,6 +36,8 @@ pub struct State<S: Scheme<D>, L: Elector<S, D>, D: Digest> {
     views: Views<S, L, D>,
     timeout_retry: u64,
     skip_budget: u64,
+    // The views for whose verdicts something may be to ask.
+    candidates: BTreeSet<View>,
 }
 
 impl<S: Scheme<D> + Drop, L: Elector<S, D>, D: Digest> State<S, L, D> {
@@ -61,6 +65,7 @@ impl<S: Scheme<D> + Drop, L: Elector<S, D>, D: Digest> State<S, L, D> {
             views,
             timeout_retry: config.timeout_retry,
             skip_budget: config.skip_budget,
+            candidates: BTreeSet::new(alloc),
         })
     }
 }

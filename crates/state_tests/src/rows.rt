@@ -1,10 +1,11 @@
 //! The voter's worked cases, told by the plain program. Each row says behind how many points it is asked.
 
+use due_plain::Plain;
+use due_plain::ancestry::Parent;
+use due_plain::requests::{Judging, Look};
 use simplex_round::TimeoutReason;
 use std::process::Abort;
-use voter_plain::ancestry::Parent;
 use voter_plain::getters::Entry;
-use voter_plain::requests::{Judging, Look};
 use voter_plain::{History, Point, Proposal, Setup};
 
 /// The payload at the start, and two more.
@@ -36,8 +37,8 @@ const fn member(length: u64, optimistic_views: u64) -> Setup {
     }
 }
 
-const fn history<'a>(setup: Setup, points: &'a [Point]) -> History<'a> {
-    History::new(setup, points)
+const fn history<'a>(setup: Setup, points: &'a [Point]) -> Plain<'a> {
+    Plain::behind(History::new(setup, points))
 }
 
 const fn started() -> Point {
@@ -94,7 +95,7 @@ const fn certified(view: u64) -> Point {
 }
 
 /// At these moments the next timeout is this one.
-fn times_out(rt: &impl Abort, all: History<'_>, rows: &[(usize, u64, u64, TimeoutReason)]) {
+fn times_out(rt: &impl Abort, all: Plain<'_>, rows: &[(usize, u64, u64, TimeoutReason)]) {
     for (count, now, moment, reason) in rows {
         let next = all.first(*count).timeout(*now);
         holds(rt, *count, next == Some((*moment, *reason)));
@@ -102,28 +103,28 @@ fn times_out(rt: &impl Abort, all: History<'_>, rows: &[(usize, u64, u64, Timeou
 }
 
 /// For the proposals of these views this is to be done.
-fn looks(rt: &impl Abort, all: History<'_>, rows: &[(usize, u64, Look)]) {
+fn looks(rt: &impl Abort, all: Plain<'_>, rows: &[(usize, u64, Look)]) {
     for (count, view, look) in rows {
         holds(rt, *count, all.first(*count).look(*view) == *look);
     }
 }
 
 /// For the verdicts of these views this is to be done.
-fn judges(rt: &impl Abort, all: History<'_>, rows: &[(usize, u64, Judging)]) {
+fn judges(rt: &impl Abort, all: Plain<'_>, rows: &[(usize, u64, Judging)]) {
     for (count, view, judging) in rows {
         holds(rt, *count, all.first(*count).judging(*view) == *judging);
     }
 }
 
 /// These views are led so.
-fn are_led(rt: &impl Abort, all: History<'_>, rows: &[(usize, u64, Option<u32>)]) {
+fn are_led(rt: &impl Abort, all: Plain<'_>, rows: &[(usize, u64, Option<u32>)]) {
     for (count, view, leader) in rows {
-        holds(rt, *count, all.first(*count).leader(*view) == *leader);
+        holds(rt, *count, all.first(*count).known.leader(*view) == *leader);
     }
 }
 
 /// A notarize or a finalize of these views is due or not.
-fn are_due(rt: &impl Abort, all: History<'_>, rows: &[(usize, u64, bool, bool)]) {
+fn are_due(rt: &impl Abort, all: Plain<'_>, rows: &[(usize, u64, bool, bool)]) {
     for (count, view, notarize, finalize) in rows {
         let now = all.first(*count);
         holds(rt, *count, now.notarize_is_due(*view) == *notarize);
@@ -178,7 +179,7 @@ fn views_are_skipped_while_budget_remains(rt: HostRuntime) {
         finalized(100, 1, 0, A),
     ];
     let all = history(member(1, 0), &points);
-    holds(&rt, 2, all.first(2).current() == 5);
+    holds(&rt, 2, all.first(2).known.current() == 5);
     times_out(
         &rt,
         all,
@@ -319,10 +320,14 @@ fn a_term_is_entered_by_each_kind_of_certificate(rt: HostRuntime) {
         (notarized(10, 9, A), 0),
     ];
     for (point, current) in rows {
-        holds(&rt, 1, history(member(5, 0), &[point]).current() == current);
+        holds(
+            &rt,
+            1,
+            history(member(5, 0), &[point]).known.current() == current,
+        );
     }
     let points = [started(), nullified(7), certified(3), finalized(0, 4, 3, A)];
-    holds(&rt, 4, history(member(5, 0), &points).current() == 11);
+    holds(&rt, 4, history(member(5, 0), &points).known.current() == 11);
 }
 
 #[test]
@@ -502,10 +507,10 @@ fn what_covers_outlives_its_view(rt: HostRuntime) {
         ..member(5, 0)
     };
     let all = history(short, &points);
-    holds(&rt, 3, all.first(3).last_dropped() == Some(7));
-    holds(&rt, 4, !all.first(4).is_tracked(7));
-    holds(&rt, 4, all.first(4).keeps_nullification(7));
-    holds(&rt, 6, !all.keeps_nullification(7));
+    holds(&rt, 3, all.first(3).known.last_dropped() == Some(7));
+    holds(&rt, 4, !all.first(4).known.is_tracked(7));
+    holds(&rt, 4, all.first(4).known.keeps_nullification(7));
+    holds(&rt, 6, !all.known.keeps_nullification(7));
     holds(&rt, 6, all.is_covered(9));
     holds(&rt, 4, all.first(4).first_uncovered(8, 12) == Some(11));
 }
@@ -530,6 +535,10 @@ fn the_best_certificate_helps_others_on(rt: HostRuntime) {
         (6, Some(Entry::Finalization(5))),
     ];
     for (count, best) in rows {
-        holds(&rt, count, all.first(count).best_certificate() == best);
+        holds(
+            &rt,
+            count,
+            all.first(count).known.best_certificate() == best,
+        );
     }
 }

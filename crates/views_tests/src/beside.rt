@@ -1,13 +1,15 @@
 //! A voter beside the plain program: both are told the same, and have to answer the same.
 
+use crate::holding::holds;
 use crate::rounds::{self, told};
-use crate::samples::{RETRY, byte_of, holds};
 use crate::voter::Voter;
+use due_plain::Plain;
+use due_plain::answers::Answer;
 use simplex_round::TimeoutReason;
 use simplex_types::{Participant, View};
 use std::alloc::Global;
 use std::process::Abort;
-use voter_plain::answers::Answer;
+use voter_fakes::samples::{RETRY, byte_of};
 use voter_plain::world::World;
 use voter_plain::{History, Point, Proposal, Setup, VIEWS};
 
@@ -35,10 +37,10 @@ impl Beside {
     /// Makes the call that would add the point, and takes the point down where it stands: the answer, which is the plain
     /// program's. None where memory is refused.
     fn call(&mut self, rt: &impl Abort, alloc: Global, point: Point) -> Option<Answer> {
-        let expected = self.history().answer_to(point);
+        let expected = Plain::behind(self.history()).answer_to(point);
         let answer = self.voter.hand(alloc, point)?;
         holds(rt, answer == expected);
-        if History::stands(point, answer) {
+        if Plain::stands(point, answer) {
             self.world.push(point).ok()?;
         }
         Some(answer)
@@ -50,7 +52,10 @@ impl Beside {
         let now = u64::from(now);
         let next = self.voter.poll(now, RETRY, counts)?;
         self.world.push(Point::Polled { now }).ok()?;
-        holds(rt, next == self.history().own_timeout(counts));
+        holds(
+            rt,
+            next == Plain::behind(self.history()).own_timeout(counts),
+        );
         Some(next)
     }
 
@@ -178,7 +183,10 @@ impl Beside {
             Some(uncovered) => Some(uncovered.get()),
             None => None,
         };
-        holds(rt, first == self.history().first_uncovered(parent, view));
+        holds(
+            rt,
+            first == Plain::behind(self.history()).first_uncovered(parent, view),
+        );
     }
 
     /// This member is told from the others.

@@ -1,14 +1,15 @@
 //! The view that a voter stands at, by each kind of certificate.
 
 use crate::beside::{Beside, Step, walked};
-use crate::samples::{
-    A, B, finalized, forwarded, holds, judged, member, notarized, nullified, plain, started,
-};
+use crate::holding::holds;
+use due_plain::answers::Answer;
 use simplex_round::TimeoutReason;
 use std::alloc::Global;
 use std::process::Abort;
+use voter_fakes::samples::{
+    A, B, finalized, forwarded, judged, member, notarized, nullified, plain, started,
+};
 use voter_plain::Point;
-use voter_plain::answers::Answer;
 
 /// In terms of five views, these lead to this view, and the voter has entered it, and neither the one before nor the one behind it.
 fn enters(rt: &impl Abort, alloc: Global, steps: &[Step], current: u64) {

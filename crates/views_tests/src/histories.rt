@@ -1,12 +1,14 @@
 //! Histories by chance, in which each answer and each getter is the plain program's.
 
 use crate::beside::Beside;
-use crate::samples::{A, B, GENESIS, RETRY, holds};
+use crate::holding::holds;
+use due_plain::Plain;
 use simplex_fakes::Chance;
 use simplex_round::TimeoutReason;
 use std::alloc::Global;
 use std::ops::Range;
 use std::process::Abort;
+use voter_fakes::samples::{A, B, GENESIS, RETRY};
 use voter_plain::getters::Entry;
 use voter_plain::{History, Point, Proposal, Setup};
 
@@ -176,7 +178,7 @@ fn onward(plain: History<'_>, now: u64, view: u64) -> Point {
     if !plain.is_verified(view) {
         return Point::Confirmed { view };
     }
-    if plain.may_notarize(view).is_some() {
+    if Plain::behind(plain).may_notarize(view).is_some() {
         return Point::VotedNotarize { view };
     }
     if plain.notarized(view).is_none() {
@@ -186,7 +188,7 @@ fn onward(plain: History<'_>, now: u64, view: u64) -> Point {
         let ok = true;
         return Point::Judged { now, view, ok };
     }
-    if plain.may_finalize(view).is_some() {
+    if Plain::behind(plain).may_finalize(view).is_some() {
         return Point::VotedFinalize { view };
     }
     Point::Finalized {

@@ -1,12 +1,13 @@
 //! Who leads, by each of the rules.
 
 use crate::beside::{Step, walked};
-use crate::samples::{
-    A, B, finalized, forwarded, holds, member, notarized, nullified, plain, started,
-};
+use crate::holding::holds;
+use due_plain::answers::Answer;
 use std::alloc::Global;
 use std::process::Abort;
-use voter_plain::answers::Answer;
+use voter_fakes::samples::{
+    A, B, finalized, forwarded, member, notarized, nullified, plain, started,
+};
 use voter_plain::{Point, Setup};
 
 /// Behind these steps the views are led so, as far as is known.

@@ -4,11 +4,11 @@
 #[cfg(test)]
 mod beside;
 #[cfg(test)]
-mod elector;
-#[cfg(test)]
 mod entering;
 #[cfg(test)]
 mod histories;
+#[cfg(test)]
+mod holding;
 #[cfg(test)]
 mod leaders;
 #[cfg(test)]
@@ -19,8 +19,6 @@ mod pruning;
 mod recalling;
 #[cfg(test)]
 mod rounds;
-#[cfg(test)]
-mod samples;
 #[cfg(test)]
 mod voter;
 #[cfg(test)]

@@ -1,14 +1,14 @@
 //! What is answered where memory is refused.
 
 use crate::beside::{Beside, Step, walk};
-use crate::samples::{
-    A, B, GENESIS, finalized, forwarded, judged, member, notarized, nullified, plain, started,
-};
+use due_plain::answers::Answer;
 use simplex_round::TimeoutReason;
 use std::alloc::Global;
 use std::process::Abort;
+use voter_fakes::samples::{
+    A, B, GENESIS, finalized, forwarded, judged, member, notarized, nullified, plain, started,
+};
 use voter_plain::Point;
-use voter_plain::answers::Answer;
 use voter_plain::getters::Entry;
 
 /// Where `rt try --test --fail-alloc N` refuses a request, the call is refused and no other answer stands in its place. The voter is

@@ -1,10 +1,11 @@
 //! What is dropped, and what outlives it.
 
 use crate::beside::walked;
-use crate::samples::{A, finalized, forwarded, holds, member, notarized, nullified, started};
+use crate::holding::holds;
+use due_plain::answers::Answer;
 use simplex_types::View;
 use std::process::Abort;
-use voter_plain::answers::Answer;
+use voter_fakes::samples::{A, finalized, forwarded, member, notarized, nullified, started};
 use voter_plain::{Point, Setup};
 
 /// A member that keeps so many views behind the last finalized one.

@@ -1,12 +1,13 @@
 //! What a voter takes in from its member's record, in the order of the record.
 
 use crate::beside::walked;
-use crate::samples::{
-    A, B, finalized, forwarded, holds, judged, member, notarized, nullified, plain, started,
-};
+use crate::holding::holds;
+use due_plain::answers::Answer;
 use simplex_types::View;
+use voter_fakes::samples::{
+    A, B, finalized, forwarded, judged, member, notarized, nullified, plain, started,
+};
 use voter_plain::Point;
-use voter_plain::answers::Answer;
 use voter_plain::getters::Entry;
 
 #[test]

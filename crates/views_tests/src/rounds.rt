@@ -1,9 +1,11 @@
 //! What the round of a view tells, beside the plain program.
 
-use crate::samples::{byte_of, holds, named};
+use crate::holding::holds;
 use crate::voter::Seen;
+use due_plain::Plain;
 use simplex_types::{Proposal, Sha256Digest, View};
 use std::process::Abort;
+use voter_fakes::samples::{byte_of, named};
 use voter_plain as plain;
 use voter_plain::History;
 use voter_plain::views::Mark;
@@ -25,7 +27,10 @@ fn holds_it(rt: &impl Abort, round: &Seen, plain: History<'_>, view: u64) {
     let is_unequivocated = plain.is_unequivocated(view);
     holds(rt, round.has_unequivocated_proposal() == is_unequivocated);
     holds(rt, round.is_verified() == plain.is_verified(view));
-    holds(rt, round.should_propose() == plain.may_propose(view));
+    holds(
+        rt,
+        round.should_propose() == Plain::behind(plain).may_propose(view),
+    );
     holds(rt, binding(round) == plain.binding(view));
 }
 
@@ -50,9 +55,9 @@ fn is_voted(rt: &impl Abort, round: &Seen, plain: History<'_>, view: u64) {
     holds(rt, round.broadcast_notarize() == is_notarized);
     let is_nullified = plain.has(Mark::Nullify, view);
     holds(rt, round.broadcast_nullify() == is_nullified);
-    let may_notarize = plain.may_notarize(view).is_some();
+    let may_notarize = Plain::behind(plain).may_notarize(view).is_some();
     holds(rt, round.can_construct_notarize() == may_notarize);
-    let may_finalize = plain.may_finalize(view).is_some();
+    let may_finalize = Plain::behind(plain).may_finalize(view).is_some();
     holds(rt, round.can_construct_finalize() == may_finalize);
     let entered = plain.entered_at(view);
     holds(rt, round.is_entered() == entered.is_some());

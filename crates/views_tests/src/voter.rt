@@ -1,22 +1,19 @@
 //! A voter's views at one type. Each call is written here once, since each place at which a generic call is made at a type costs
 //! the prover as much again.
 
-ghost use Rattle.std.specs.Prelude.{◌≡◌, ◌+◌, ◌<◌, ◌^◌, IfSome};
+ghost use Rattle.std.specs.Prelude.{◌<◌, ◌^◌};
 
-use crate::elector::Chosen;
-use crate::samples::{
+use due_plain::answers::Answer;
+use simplex_round::{Round, TimeoutReason, Token};
+use simplex_types::{Epoch, PlainKey, PlainScheme, Proposal, Sha256Digest, View, ViewDelta};
+use simplex_views::Views;
+use std::alloc::Global;
+use voter_fakes::samples::{
     Finalized, Kept, Notarized, Nullified, finalization, named, notarization, nullification,
     own_nullify, own_vote, payload, proposal, verdict,
 };
-use simplex_round::{Round, TimeoutReason, Token};
-use simplex_types::{
-    Epoch, Participant, PlainKey, PlainScheme, Proposal, Sha256Digest, View, ViewDelta,
-};
-use simplex_views::Views;
-use std::alloc::Global;
-use std::rc::Rc;
+use voter_fakes::{Chosen, committee};
 use voter_plain as plain;
-use voter_plain::answers::Answer;
 use voter_plain::getters::Entry;
 use voter_plain::{Point, Setup};
 
@@ -48,20 +45,6 @@ fn about(voted: Option<Proposal<Sha256Digest>>) -> Answer {
         Some(proposal) => Answer::Proposal(named(proposal)),
         None => Answer::No,
     }
-}
-
-/// The committee of so many members, up to seven, seen by this one, where it is one of them.
-fn committee(alloc: Global, participants: u32, me: Option<u32>) -> Option<Rc<PlainScheme>>
-    requires some { 0 < participants }
-    requires few { participants < 8 }
-    ensures { IfSome result (λ s. s.value.participants ≡ participants) }
-{
-    let me = match me {
-        Some(index) if index < participants => Some(Participant::new(index)),
-        _ => None,
-    };
-    let committee = PlainScheme::new(alloc, b"simplex", participants, me).ok()?;
-    Rc::new(alloc, committee).ok()
 }
 
 impl Voter {

@@ -1,13 +1,13 @@
 //! What is asked for, voted and handed out.
 
 use crate::beside::{Step, walked};
-use crate::samples::{
-    A, B, GENESIS, finalized, forwarded, holds, judged, member, notarized, nullified, plain,
-    started,
-};
+use crate::holding::holds;
+use due_plain::answers::Answer;
 use simplex_types::View;
+use voter_fakes::samples::{
+    A, B, GENESIS, finalized, forwarded, judged, member, notarized, nullified, plain, started,
+};
 use voter_plain::Point;
-use voter_plain::answers::Answer;
 use voter_plain::getters::Entry;
 
 #[test]

@@ -145,6 +145,21 @@ impl<'a> History<'a> {
         }
     }
 
+    /// When a proposal of the view was built here last.
+    pub fn built_at(self, view: u64) -> Option<u64> {
+        let begins = self.begins(view);
+        let mut built = None;
+        for (place, point) in self.points.iter().enumerate() {
+            if let Point::Built { now, proposal, .. } = *point
+                && proposal.view == view
+                && begins <= place
+            {
+                built = Some(now);
+            }
+        }
+        built
+    }
+
     /// When the view is given up with its term, while it isn't finalized.
     pub fn stall_deadline(self, view: u64) -> Option<u64> {
         if self.finalized(view).is_some() {

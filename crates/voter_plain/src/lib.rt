@@ -1,14 +1,10 @@
-//! What a voter knows and what is due, by a plain list of what happened to it, the oldest first. Each answer goes over the
+//! What a voter knows, by a plain list of what happened to it, the oldest first. Each answer goes over the
 //! whole list, sentence by sentence, as slow as it may be. Views lie below `VIEWS`, and parents below their views.
 #![tactic(auto)]
 
-pub mod ancestry;
-pub mod answers;
-pub mod due;
 pub mod getters;
 pub mod leaders;
 pub mod positions;
-pub mod requests;
 pub mod views;
 pub mod world;
 

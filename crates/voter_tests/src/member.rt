@@ -1,13 +1,13 @@
 //! Member 0 of a committee of four, with numbers for views.
 
 use crate::samples::{Finalized, finalization, notarization, nullification, payload, proposal};
+use simplex_messages::Certificate;
+use simplex_resolver::Kind;
 use simplex_round::TimeoutReason;
 use simplex_rules::elector::{Config as Building, RoundRobin, RoundRobinElector};
 use simplex_types::{
-    Epoch, Participant, PlainScheme, Scheme, Sha256Digest, TermLength, View, ViewDelta,
+    Epoch, Participant, PlainScheme, Scheme, Sha256Digest, TermLength, View, ViewDelta, Viewable,
 };
-use simplex_messages::Certificate;
-use simplex_resolver::Kind;
 use simplex_voter::{Config, Floor, State, Verify};
 use std::alloc::Global;
 use std::rc::Rc;
@@ -291,10 +291,35 @@ impl Member {
     /// The best certificate to enter the current view by.
     pub fn best_certificate(&self) -> Result<Option<Best>, Fail> {
         match self.state.get_best_certificate(self.alloc)? {
-            Some(Certificate::Notarization(c)) => Ok(Some(Best::Notarization(c.proposal.round.view.get()))),
-            Some(Certificate::Nullification(c)) => Ok(Some(Best::Nullification(c.round.view.get()))),
-            Some(Certificate::Finalization(c)) => Ok(Some(Best::Finalization(c.proposal.round.view.get()))),
+            Some(Certificate::Notarization(c)) => Ok(Some(Best::Notarization(
+                c.proposal.round.view.get(),
+            ))),
+            Some(Certificate::Nullification(c)) => Ok(Some(Best::Nullification(
+                c.round.view.get(),
+            ))),
+            Some(Certificate::Finalization(c)) => Ok(Some(Best::Finalization(
+                c.proposal.round.view.get(),
+            ))),
             None => Ok(None),
         }
+    }
+
+    /// Whether verdicts are to be asked for on these views, and notarizations for these pairs of a view and its parent.
+    pub fn asks_verdicts(&mut self, views: &[u64], pairs: &[(u64, u64)]) -> Result<bool, Fail> {
+        let (ready, fetches) = self.state.certify_candidates(self.alloc)?;
+        if ready.len() != views.len() || fetches.len() != pairs.len() {
+            return Ok(false);
+        }
+        for i in 0..ready.len() {
+            if ready[i].view().get() != views[i] {
+                return Ok(false);
+            }
+        }
+        for i in 0..fetches.len() {
+            if (fetches[i].proposal.get(), fetches[i].view.get()) != pairs[i] {
+                return Ok(false);
+            }
+        }
+        Ok(true)
     }
 }

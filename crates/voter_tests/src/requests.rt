@@ -59,11 +59,20 @@ fn the_best_certificate_shows_what_was_skipped(rt: HostRuntime) -> Result<(), Fa
     holds(&rt, member.take_nullification(4)?);
     holds(&rt, member.take_nullification(3)?);
     holds(&rt, member.view() == 6);
-    holds(&rt, member.best_certificate()? == Some(Best::Nullification(4)));
+    holds(
+        &rt,
+        member.best_certificate()? == Some(Best::Nullification(4)),
+    );
     holds(&rt, member.take_finalization(5, 4)?);
-    holds(&rt, member.best_certificate()? == Some(Best::Finalization(5)));
+    holds(
+        &rt,
+        member.best_certificate()? == Some(Best::Finalization(5)),
+    );
     holds(&rt, member.take_notarization(6, 5)?);
     holds(&rt, member.take_verdict(0, 6, true)?);
-    holds(&rt, member.best_certificate()? == Some(Best::Notarization(6)));
+    holds(
+        &rt,
+        member.best_certificate()? == Some(Best::Notarization(6)),
+    );
     Ok(())
 }

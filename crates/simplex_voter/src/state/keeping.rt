@@ -7,9 +7,10 @@ ghost use Rattle.simplex_views.specs.Views.{AreDropped, recalls};
 ghost use Rattle.simplex_voter.specs.State.{AtEach, Keeps};
 
 use crate::state::State;
+use crate::state::certifying::wake;
 use simplex_messages::Artifact;
 use simplex_rules::Elector;
-use simplex_types::{Digest, Scheme, View};
+use simplex_types::{Digest, Scheme, View, Viewable};
 use std::alloc::{AllocError, Global};
 
 impl<S: Scheme<D> + Drop, L: Elector<S, D>, D: Digest> State<S, L, D> {
@@ -24,6 +25,7 @@ impl<S: Scheme<D> + Drop, L: Elector<S, D>, D: Digest> State<S, L, D> {
     pub fn replay(&mut self, artifact: &Artifact<S, D>) -> Result<(), AllocError>
         ensures { OnOk result (AtEach S.Scheme L.Elector self.old (λ s h. (taken : Bool) × Takes (seen s h) artifact.now taken × Keeps S.Scheme L.Elector s self.new (recalls taken artifact.now ∷ h))) }
     {
+        wake(&mut self.candidates, artifact.view())?;
         self.views.replay(artifact)
     }
 

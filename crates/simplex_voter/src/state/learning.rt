@@ -11,9 +11,10 @@ ghost use Rattle.simplex_views.specs.Progress.{InTime};
 ghost use Rattle.simplex_voter.specs.State.{AtEach, Keeps};
 
 use crate::state::State;
+use crate::state::certifying::wake;
 use simplex_messages::{Finalization, Notarization, Nullification};
 use simplex_rules::Elector;
-use simplex_types::{Digest, Proposal, Scheme, View};
+use simplex_types::{Digest, Proposal, Scheme, View, Viewable};
 use std::alloc::{AllocError, Global};
 
 impl<S: Scheme<D> + Drop, L: Elector<S, D>, D: Digest> State<S, L, D> {
@@ -25,6 +26,7 @@ impl<S: Scheme<D> + Drop, L: Elector<S, D>, D: Digest> State<S, L, D> {
     pub fn set_genesis(&mut self, now: u64, payload: D) -> Result<(), AllocError>
         ensures { OnOk result (AtEach S.Scheme L.Elector self.old (λ s h. InTime s now → Keeps S.Scheme L.Elector s self.new (started now payload ∷ h))) }
     {
+        wake(&mut self.candidates, View::zero())?;
         self.views.set_genesis(now, payload)
     }
 
@@ -44,6 +46,7 @@ impl<S: Scheme<D> + Drop, L: Elector<S, D>, D: Digest> State<S, L, D> {
         ensures replaced { IfOk result (λ r. AtEach S.Scheme L.Elector self.old (λ s h. r.0 ≡ true → Differs (held (offers (seen s h certificate.proposal.round.view))) certificate.proposal → r.1 ≡ option_map (S.key_of s.scheme) (leader s h certificate.proposal.round.view))) }
         ensures same { IfOk result (λ r. AtEach S.Scheme L.Elector self.old (λ s h. Agrees (held (offers (seen s h certificate.proposal.round.view))) certificate.proposal → r.1 ≡ None)) }
     {
+        wake(&mut self.candidates, certificate.view())?;
         self.views.add_notarization(certificate)
     }
 
@@ -81,6 +84,7 @@ impl<S: Scheme<D> + Drop, L: Elector<S, D>, D: Digest> State<S, L, D> {
         ensures replaced { IfOk result (λ r. AtEach S.Scheme L.Elector self.old (λ s h. InTime s now → r.0 ≡ true → Differs (held (offers (seen s h certificate.proposal.round.view))) certificate.proposal → r.1 ≡ option_map (S.key_of s.scheme) (leader s h certificate.proposal.round.view))) }
         ensures same { IfOk result (λ r. AtEach S.Scheme L.Elector self.old (λ s h. InTime s now → Agrees (held (offers (seen s h certificate.proposal.round.view))) certificate.proposal → r.1 ≡ None)) }
     {
+        wake(&mut self.candidates, certificate.view())?;
         self.views.add_finalization(now, certificate)
     }
 
@@ -102,6 +106,7 @@ impl<S: Scheme<D> + Drop, L: Elector<S, D>, D: Digest> State<S, L, D> {
         ensures answer { IfOk result (λ answer. AtEach S.Scheme L.Elector self.old (λ s h. HasRoom s.length view → answer ≡ past.notarization (seen s h view))) }
         ensures no_room { IfOk result (λ answer. AtEach S.Scheme L.Elector self.old (λ s h. (HasRoom s.length view → ⊥) → answer ≡ None)) }
     {
+        wake(&mut self.candidates, view)?;
         self.views.certified(alloc, now, view, is_success)
     }
 
@@ -114,6 +119,7 @@ impl<S: Scheme<D> + Drop, L: Elector<S, D>, D: Digest> State<S, L, D> {
         ensures keeps { OnOk result (AtEach S.Scheme L.Elector self.old (λ s h. Keeps S.Scheme L.Elector s self.new (forwarded view proposal.now ∷ h))) }
         ensures answer { IfOk result (λ first. AtEach S.Scheme L.Elector self.old (λ s h. IsTrue first ↔ ((has_nullified (seen s h view) ≡ false) × (held (offers (seen s h view)) ≡ None)))) }
     {
+        wake(&mut self.candidates, view)?;
         self.views.set_proposal(view, proposal)
     }
 }

@@ -11,6 +11,7 @@ ghost use Rattle.simplex_voter.specs.Building.{proposal_on};
 ghost use Rattle.simplex_voter.specs.State.{AtEach, Keeps};
 
 use crate::state::State;
+use crate::state::certifying::wake;
 use simplex_due::ancestry::{allows_parent, preferred_parent, prefers};
 use simplex_facts::Facts;
 use simplex_round::HandoffAbandonedReason;
@@ -38,6 +39,7 @@ impl<S: Scheme<D> + Drop, L: Elector<S, D>, D: Digest> State<S, L, D> {
         if !self.is_captured(context.round.view, parent, parent_payload) {
             return Ok(false);
         }
+        wake(&mut self.candidates, context.round.view)?;
         let proposal = Proposal::new(context.round, parent, payload);
         let taken = self.views.proposed(now, proposal, parent_payload)?;
         Ok(taken)

@@ -3,7 +3,6 @@
 use simplex_messages::{Artifact, Finalization, Notarization, Nullification};
 use simplex_types::{Digest, Epoch, PlainScheme, Proposal, Read, Round, Sha256Digest, View};
 use std::alloc::{AllocError, Global};
-use std::process::Abort;
 use voter_plain as plain;
 use voter_plain::{Point, Setup};
 
@@ -88,11 +87,6 @@ pub const fn forwarded(view: u64, parent: u64, payload: u8) -> Point {
     }
 }
 
-/// Asserts what a test says.
-pub fn holds(rt: &impl Abort, is_so: bool) {
-    assert!(rt; is_so);
-}
-
 /// The payload of 32 such bytes.
 pub fn payload(byte: u8) -> Sha256Digest {
     Sha256Digest::new([byte; 32])
@@ -147,7 +141,7 @@ fn spelled(
 }
 
 /// Appends a list of the first members' attestations, as many as the mark says, up to three. What stands for their signatures
-/// attests nothing: views don't look at it.
+/// attests nothing: a voter doesn't look at it.
 fn certify(bytes: &mut Vec<u8>, mark: u64) -> Result<(), AllocError> {
     bytes.push(small(mark.min(3)))?;
     for (place, signer) in [0u8, 1, 2].iter().enumerate() {

@@ -1,9 +1,10 @@
 //! Which payload a proposal may stand on.
 
-use super::leaders::HANDS_OFF;
-use super::positions::{is_term_start, term_start};
-use super::views::Mark;
-use super::{History, Proposal, VIEWS};
+use crate::Plain;
+use voter_plain::leaders::HANDS_OFF;
+use voter_plain::positions::{is_term_start, term_start};
+use voter_plain::views::Mark;
+use voter_plain::{Proposal, VIEWS};
 
 /// Of each view the payload that it supports as a parent before it is certified.
 type Payloads = [Option<u8>; VIEWS];
@@ -21,11 +22,11 @@ pub enum Parent {
     Payload(u8),
 }
 
-impl<'a> History<'a> {
+impl<'a> Plain<'a> {
     /// Whether the view is covered: it is nullified, or an earlier view of its term is.
     pub fn is_covered(self, view: u64) -> bool {
-        for nullified in term_start(self.setup.length, view)..=view {
-            if self.is_nullified(nullified) {
+        for nullified in term_start(self.known.setup.length, view)..=view {
+            if self.known.is_nullified(nullified) {
                 return true;
             }
         }
@@ -45,12 +46,12 @@ impl<'a> History<'a> {
     /// The explicit payload: that of the start, or of the held proposal where it is finalized or its verdict true.
     pub fn explicit(self, view: u64) -> Option<u8> {
         if view == 0 {
-            return self.genesis();
+            return self.known.genesis();
         }
-        if self.finalized(view).is_none() && self.verdict(view) != Some(true) {
+        if self.known.finalized(view).is_none() && self.known.verdict(view) != Some(true) {
             return None;
         }
-        match self.held(view) {
+        match self.known.held(view) {
             Some(held) => Some(held.payload),
             None => None,
         }
@@ -60,16 +61,16 @@ impl<'a> History<'a> {
     fn is_handoff_parent(self, view: u64) -> bool {
         let next = view.saturating_add(1);
         HANDS_OFF
-            && is_term_start(self.setup.length, next)
-            && self.setup.leads_by_schedule(next)
+            && is_term_start(self.known.setup.length, next)
+            && self.known.setup.leads_by_schedule(next)
             && !self.is_covered(view)
     }
 
     /// Whether a view of the term up to this one, above the last finalized view, has a false verdict.
     fn has_failed(self, view: u64) -> bool {
-        let last = self.last_finalized();
-        for judged in term_start(self.setup.length, view)..=view {
-            if last < judged && self.verdict(judged) == Some(false) {
+        let last = self.known.last_finalized();
+        for judged in term_start(self.known.setup.length, view)..=view {
+            if last < judged && self.known.verdict(judged) == Some(false) {
                 return true;
             }
         }
@@ -81,13 +82,13 @@ impl<'a> History<'a> {
         if self.has_failed(view) {
             return None;
         }
-        if let Some(finalized) = self.finalized(view) {
+        if let Some(finalized) = self.known.finalized(view) {
             return Some(finalized.payload);
         }
-        if self.verdict(view) == Some(false) {
+        if self.known.verdict(view) == Some(false) {
             return None;
         }
-        match self.notarized(view) {
+        match self.known.notarized(view) {
             Some(notarized) => Some(notarized.payload),
             None => None,
         }
@@ -97,12 +98,17 @@ impl<'a> History<'a> {
     /// be handed off; it is verified and voted for; its parent is at or above the last finalized view and below it;
     /// what lies between is covered.
     fn voted_for(self, view: u64) -> Option<Proposal> {
-        let held = self.held(view)?;
-        let is_reached = self.is_in_window(view.saturating_add(1)) || self.is_handoff_parent(view);
-        let stands = self.last_finalized() <= held.parent
+        let held = self.known.held(view)?;
+        let is_reached = self.known.is_in_window(view.saturating_add(1))
+            || self.is_handoff_parent(view);
+        let stands = self.known.last_finalized() <= held.parent
             && held.parent < view
             && self.first_uncovered(held.parent, view).is_none();
-        if is_reached && self.has(Mark::Notarize, view) && self.is_verified(view) && stands {
+        if is_reached
+            && self.known.has(Mark::Notarize, view)
+            && self.known.is_verified(view)
+            && stands
+        {
             Some(held)
         } else {
             None
@@ -112,14 +118,14 @@ impl<'a> History<'a> {
     /// The optimistic payload, where this is what lower views support.
     fn optimistic_above(self, view: u64, below: &Payloads) -> Option<u8> {
         if view == 0 {
-            return self.genesis();
+            return self.known.genesis();
         }
-        if self.has_certificate(view) {
+        if self.known.has_certificate(view) {
             return self.certified_payload(view);
         }
         let held = self.voted_for(view)?;
         let parent = (*below.get(held.parent as usize)?)?;
-        match self.binding(view) {
+        match self.known.binding(view) {
             Some((_, bound)) if bound != parent => None,
             _ => Some(held.payload),
         }
@@ -140,7 +146,7 @@ impl<'a> History<'a> {
     /// The payload with which a view's proposal may stand on this parent: inside the window the optimistic one, outside
     /// the explicit.
     pub fn supported(self, view: u64, parent: u64) -> Option<u8> {
-        if self.is_in_window(view) {
+        if self.known.is_in_window(view) {
             self.optimistic(parent)
         } else {
             self.explicit(parent)
@@ -149,9 +155,9 @@ impl<'a> History<'a> {
 
     /// What the parent rule says, the first error first.
     pub fn parent(self, view: u64, parent: u64) -> Parent {
-        let is_passed_over = !is_term_start(self.setup.length, view)
+        let is_passed_over = !is_term_start(self.known.setup.length, view)
             && view != parent.saturating_add(1);
-        if view <= parent || parent < self.last_finalized() || is_passed_over {
+        if view <= parent || parent < self.known.last_finalized() || is_passed_over {
             return Parent::Invalid;
         }
         if let Some(uncovered) = self.first_uncovered(parent, view) {
@@ -181,7 +187,7 @@ impl<'a> History<'a> {
     /// The parent that the view is built on, and its payload.
     pub fn find_parent(self, view: u64) -> Option<(u64, u8)> {
         let before = view.saturating_sub(1);
-        if !is_term_start(self.setup.length, view) {
+        if !is_term_start(self.known.setup.length, view) {
             return match self.supported(view, before) {
                 Some(payload) => Some((before, payload)),
                 None => None,
@@ -201,15 +207,15 @@ impl<'a> History<'a> {
 
     /// Whether this member leads the view, as far as is known.
     pub fn leads(self, view: u64) -> bool {
-        self.setup.me.is_some() && self.leader(view) == self.setup.me
+        self.known.setup.me.is_some() && self.known.leader(view) == self.known.setup.me
     }
 
     /// Whether what the view's proposal is bound to hasn't fallen.
     pub fn is_steady(self, view: u64) -> bool {
-        let Some((proposal, payload)) = self.binding(view) else {
+        let Some((proposal, payload)) = self.known.binding(view) else {
             return true;
         };
-        self.held(view) == Some(proposal)
+        self.known.held(view) == Some(proposal)
             && (self.parent(view, proposal.parent) == Parent::Payload(payload)
                 || (self.leads(view) && self.find_parent(view) == Some((proposal.parent, payload))))
     }
@@ -218,9 +224,9 @@ impl<'a> History<'a> {
     pub fn required(self, view: u64, parent: u64) -> Option<u64> {
         let before = view.saturating_sub(1);
         let is_early = parent == before
-            && self.setup.leads_by_schedule(view)
-            && self.has(Mark::Notarize, view);
-        if !is_term_start(self.setup.length, view) || is_early {
+            && self.known.setup.leads_by_schedule(view)
+            && self.known.has(Mark::Notarize, view);
+        if !is_term_start(self.known.setup.length, view) || is_early {
             Some(before)
         } else {
             None

@@ -1,8 +1,9 @@
 //! What the call answers that would add a point.
 
-use crate::getters::Entry;
-use crate::views::Mark;
-use crate::{History, Point, Proposal};
+use crate::Plain;
+use voter_plain::getters::Entry;
+use voter_plain::views::Mark;
+use voter_plain::{Point, Proposal};
 
 /// What a call answers.
 #[derive(Clone, Copy, PartialEq, Eq)]
@@ -32,14 +33,14 @@ fn about(proposal: Option<Proposal>) -> Answer {
     }
 }
 
-impl<'a> History<'a> {
+impl<'a> Plain<'a> {
     /// What it answers that the view has a certificate for the proposal, where it hadn't one of the kind: the leader of the
     /// proposal that is replaced.
     fn takes_certificate(self, proposal: Proposal) -> Answer {
-        let Some(held) = self.held(proposal.view) else {
+        let Some(held) = self.known.held(proposal.view) else {
             return Answer::Yes;
         };
-        match self.leader(proposal.view) {
+        match self.known.leader(proposal.view) {
             Some(leader) if held != proposal => Answer::InPlace(leader),
             _ => Answer::Yes,
         }
@@ -47,64 +48,65 @@ impl<'a> History<'a> {
 
     /// Whether a proposal that was built here is taken: the view wasn't given up, and holds none or the same.
     fn takes_build(self, proposal: Proposal) -> bool {
-        let agrees = match self.held(proposal.view) {
+        let agrees = match self.known.held(proposal.view) {
             None => true,
             Some(held) => held == proposal,
         };
-        !self.has(Mark::Nullify, proposal.view) && agrees
+        !self.known.has(Mark::Nullify, proposal.view) && agrees
     }
 
     /// Whether a build may be asked for in the view: this member leads it, didn't give it up, holds nothing and asked for none.
     pub fn may_propose(self, view: u64) -> bool {
         self.leads(view)
-            && !self.has(Mark::Nullify, view)
-            && self.held(view).is_none()
-            && !self.is_build_asked(view)
+            && !self.known.has(Mark::Nullify, view)
+            && self.known.held(view).is_none()
+            && !self.known.is_build_asked(view)
     }
 
     /// Whether a verification may be asked for in the view: another member leads it, this one didn't give it up, and none was
     /// asked for.
     pub fn may_verify(self, view: u64) -> bool {
-        let is_led_by_another = match self.leader(view) {
-            Some(leader) => self.setup.me != Some(leader),
+        let is_led_by_another = match self.known.leader(view) {
+            Some(leader) => self.known.setup.me != Some(leader),
             None => false,
         };
         is_led_by_another
-            && !self.has(Mark::Nullify, view)
-            && !self.has(Mark::VerifyAsked, view)
-            && !self.is_settled(view)
+            && !self.known.has(Mark::Nullify, view)
+            && !self.known.has(Mark::VerifyAsked, view)
+            && !self.known.is_settled(view)
     }
 
     /// The proposal that the view itself lets one vote to notarize: the held one, verified, where neither vote was cast.
     pub fn may_notarize(self, view: u64) -> Option<Proposal> {
-        if self.has(Mark::Notarize, view)
-            || self.has(Mark::Nullify, view)
-            || !self.is_verified(view)
+        if self.known.has(Mark::Notarize, view)
+            || self.known.has(Mark::Nullify, view)
+            || !self.known.is_verified(view)
         {
             return None;
         }
-        self.held(view)
+        self.known.held(view)
     }
 
     /// The proposal that the view itself lets one vote to finalize: the only one that was seen, notarized and found good, where
     /// neither vote was cast.
     pub fn may_finalize(self, view: u64) -> Option<Proposal> {
-        let is_decided = self.has(Mark::Nullify, view) || self.has(Mark::Finalize, view);
+        let is_decided = self.known.has(Mark::Nullify, view)
+            || self.known.has(Mark::Finalize, view);
         if is_decided
-            || !self.is_unequivocated(view)
-            || self.notarized(view).is_none()
-            || self.verdict(view) != Some(true)
+            || !self.known.is_unequivocated(view)
+            || self.known.notarized(view).is_none()
+            || self.known.verdict(view) != Some(true)
         {
             return None;
         }
-        self.held(view)
+        self.known.held(view)
     }
 
     /// What it answers to vote to nullify: no behind an own finalize.
     fn nullifies(self, view: u64) -> Answer {
-        if self.has(Mark::Finalize, view) {
+        if self.known.has(Mark::Finalize, view) {
             Answer::No
-        } else if self.has(Mark::Nullify, view) {
+        } else if self.known.has(Mark::Nullify, view) {
             Answer::Again
         } else {
             Answer::Yes
@@ -115,13 +117,15 @@ impl<'a> History<'a> {
     fn hands_out(self, entry: Entry) -> bool {
         match entry {
             Entry::Notarization(view) => {
-                self.notarized(view).is_some() && !self.has(Mark::SentNotarization, view)
+                self.known.notarized(view).is_some()
+                    && !self.known.has(Mark::SentNotarization, view)
             }
             Entry::Nullification(view) => {
-                self.was_nullified(view) && !self.has(Mark::SentNullification, view)
+                self.known.was_nullified(view) && !self.known.has(Mark::SentNullification, view)
             }
             Entry::Finalization(view) => {
-                self.finalized(view).is_some() && !self.has(Mark::SentFinalization, view)
+                self.known.finalized(view).is_some()
+                    && !self.known.has(Mark::SentFinalization, view)
             }
         }
     }
@@ -129,21 +133,21 @@ impl<'a> History<'a> {
     /// What the call answers that would add the point.
     pub fn answer_to(self, point: Point) -> Answer {
         match point {
-            Point::Notarized { proposal, .. } if self.notarized(proposal.view).is_none() =>
+            Point::Notarized { proposal, .. } if self.known.notarized(proposal.view).is_none() =>
                 self.takes_certificate(proposal),
-            Point::Finalized { proposal, .. } if self.finalized(proposal.view).is_none() =>
+            Point::Finalized { proposal, .. } if self.known.finalized(proposal.view).is_none() =>
                 self.takes_certificate(proposal),
             Point::Notarized { .. } | Point::Finalized { .. } => Answer::No,
-            Point::Nullified { view, .. } => yes_or_no(!self.keeps_nullification(view)),
-            Point::Judged { view, .. } => about(self.notarized(view)),
+            Point::Nullified { view, .. } => yes_or_no(!self.known.keeps_nullification(view)),
+            Point::Judged { view, .. } => about(self.known.notarized(view)),
             Point::Forwarded { view, .. } => yes_or_no(
-                !self.has(Mark::Nullify, view) && self.held(view).is_none(),
+                !self.known.has(Mark::Nullify, view) && self.known.held(view).is_none(),
             ),
             Point::Built { proposal, .. } => yes_or_no(self.takes_build(proposal)),
             Point::Confirmed { view } => yes_or_no(
-                !self.has(Mark::Nullify, view)
-                    && self.is_unequivocated(view)
-                    && !self.is_verified(view),
+                !self.known.has(Mark::Nullify, view)
+                    && self.known.is_unequivocated(view)
+                    && !self.known.is_verified(view),
             ),
             _ => self.answer_to_asks_and_votes(point),
         }

@@ -1,10 +1,11 @@
 //! What is to be asked for.
 
-use super::ancestry::Parent;
-use super::positions::{has_room, is_term_start};
-use super::views::Mark;
-use super::{History, Proposal};
+use crate::Plain;
+use crate::ancestry::Parent;
 use simplex_round::HandoffAbandonedReason;
+use voter_plain::Proposal;
+use voter_plain::positions::{has_room, is_term_start};
+use voter_plain::views::Mark;
 
 /// What is to be done for the proposal of a view that waits to be verified.
 #[derive(Clone, Copy, PartialEq, Eq)]
@@ -34,29 +35,29 @@ pub enum Judging {
     Wait(u64),
 }
 
-impl<'a> History<'a> {
+impl<'a> Plain<'a> {
     /// Whether something may be asked for the view's proposal: the view isn't behind, may be spoken of, and wasn't
     /// given up here.
     fn is_open(self, view: u64) -> bool {
-        self.current() <= view && self.may_speak(view) && !self.has(Mark::Nullify, view)
+        self.known.current() <= view && self.may_speak(view) && !self.known.has(Mark::Nullify, view)
     }
 
     /// Whether building on this parent is a handoff.
     pub fn is_handoff(self, view: u64, parent: (u64, u8)) -> bool {
-        is_term_start(self.setup.length, view) && self.explicit(parent.0) != Some(parent.1)
+        is_term_start(self.known.setup.length, view) && self.explicit(parent.0) != Some(parent.1)
     }
 
     /// The parent on which a build for the view is to be asked for.
     pub fn build(self, view: u64) -> Option<(u64, u8)> {
         if !self.is_open(view)
             || !self.leads(view)
-            || self.held(view).is_some()
-            || self.is_build_asked(view)
+            || self.known.held(view).is_some()
+            || self.known.is_build_asked(view)
         {
             return None;
         }
         let parent = self.find_parent(view)?;
-        if self.is_handoff(view, parent) && self.has(Mark::Nullify, self.current()) {
+        if self.is_handoff(view, parent) && self.known.has(Mark::Nullify, self.known.current()) {
             return None;
         }
         Some(parent)
@@ -77,7 +78,7 @@ impl<'a> History<'a> {
     pub fn stops_handoff(self, view: u64, parent: (u64, u8)) -> Option<HandoffAbandonedReason> {
         if self.explicit(parent.0) == Some(parent.1) {
             None
-        } else if self.has(Mark::Nullify, self.current()) {
+        } else if self.known.has(Mark::Nullify, self.known.current()) {
             Some(HandoffAbandonedReason::ParentNullify)
         } else if !self.is_captured(view, parent) {
             Some(HandoffAbandonedReason::AncestryInvalidated)
@@ -88,12 +89,12 @@ impl<'a> History<'a> {
 
     /// The proposal that waits for its parent alone to be verified: another member leads, and none was asked for.
     fn waiting(self, view: u64) -> Option<Proposal> {
-        let leader = self.leader(view)?;
-        let is_asked = self.has(Mark::VerifyAsked, view)
-            || self.is_settled(view)
-            || self.is_backed(view);
-        if self.is_open(view) && self.setup.me != Some(leader) && !is_asked {
-            self.held(view)
+        let leader = self.known.leader(view)?;
+        let is_asked = self.known.has(Mark::VerifyAsked, view)
+            || self.known.is_settled(view)
+            || self.known.is_backed(view);
+        if self.is_open(view) && self.known.setup.me != Some(leader) && !is_asked {
+            self.known.held(view)
         } else {
             None
         }
@@ -104,14 +105,14 @@ impl<'a> History<'a> {
         let Some(proposal) = self.waiting(view) else {
             return Look::Pass;
         };
-        let last = self.last_asked(view);
+        let last = self.known.last_asked(view);
         match self.parent(view, proposal.parent) {
             Parent::Invalid => Look::Invalid,
             Parent::Payload(payload) => Look::Verify(proposal, payload),
             Parent::Uncovered(uncovered) if last != Some(uncovered) => Look::Nullification(
                 uncovered,
             ),
-            Parent::Missing if !self.is_in_window(view) && last != Some(proposal.parent) =>
+            Parent::Missing if !self.known.is_in_window(view) && last != Some(proposal.parent) =>
                 Look::Notarization(proposal.parent),
             _ => Look::Pass,
         }
@@ -119,13 +120,13 @@ impl<'a> History<'a> {
 
     /// What is to be done for the view's verdict.
     pub fn judging(self, view: u64) -> Judging {
-        let Some(proposal) = self.notarized(view) else {
+        let Some(proposal) = self.known.notarized(view) else {
             return Judging::Pass;
         };
-        let is_open = has_room(self.setup.length, view)
-            && self.last_finalized() < view
-            && self.verdict(view).is_none()
-            && !self.has(Mark::CertifyAsked, view);
+        let is_open = has_room(self.known.setup.length, view)
+            && self.known.last_finalized() < view
+            && self.known.verdict(view).is_none()
+            && !self.known.has(Mark::CertifyAsked, view);
         if !is_open || view <= proposal.parent {
             return Judging::Pass;
         }
@@ -135,8 +136,9 @@ impl<'a> History<'a> {
         match self.parent(view, proposal.parent) {
             Parent::Invalid | Parent::Uncovered(_) => Judging::Pass,
             _ if self.explicit(required).is_some() => Judging::Ask(proposal),
-            _ if self.notarized(required).is_none() && !self.has(Mark::CertifyWaited, view) =>
-                Judging::Fetch(required),
+            _
+                if self.known.notarized(required).is_none()
+                    && !self.known.has(Mark::CertifyWaited, view) => Judging::Fetch(required),
             _ => Judging::Wait(required),
         }
     }

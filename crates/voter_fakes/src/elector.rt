@@ -1,9 +1,9 @@
-//! An elector of the tests' own: a schedule, or one for which certificates matter.
+//! An elector: a schedule, or one for which certificates matter.
 
 ghost use Rattle.std.specs.Prelude.{◌≡◌, ◌<◌, IfSome, refl, option_copied};
 ghost use Rattle.simplex_rules.specs.Rotation.{IsOrder, view_leader};
 ghost use Rattle.simplex_rules.specs.Turns.{leader_within, IsOrder-from_IsOrderOf};
-ghost use Rattle.views_tests.specs.Leading.{passed, turn, turn-scheduled};
+ghost use Rattle.voter_fakes.specs.Leading.{passed, turn, turn-scheduled};
 
 use simplex_rules::elector::{Config, Elector, Mode};
 use simplex_rules::{RoundRobin, RoundRobinElector, Terms};
@@ -107,10 +107,10 @@ fn turns(alloc: Global, length: TermLength, participants: u32) -> Option<RoundRo
 }
 
 impl Chosen {
-    /// The elector of a setup, for so many members.
+    /// The elector of a setup, for so many members. None where memory is refused.
     pub fn new(alloc: Global, setup: &Setup, participants: u32) -> Option<Self>
         requires { 0 < participants }
-        ensures { IfSome result (λ e. IsOrder participants e.turns.order) }
+        ensures { IfSome result (λ e. ⟦<Chosen as Elector<PlainScheme, Sha256Digest>>⟧.built_for e participants) }
     {
         let terms = terms(setup);
         if setup.is_scheduled {

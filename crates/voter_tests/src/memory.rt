@@ -1,0 +1,43 @@
+//! What is answered where memory is refused.
+
+use crate::beside::{Beside, Step, walk};
+use crate::rows::{asks, builds, record, rotating, stable, timeouts, verdicts, votes};
+use std::alloc::Global;
+use std::process::Abort;
+use voter_plain::Setup;
+
+/// Where `rt try --test --fail-alloc N` refuses a request, the call is refused and no other answer stands in its place. The voter is
+/// used no more then, and the next list begins anew.
+fn ends(rt: &impl Abort, alloc: Global, setup: &Setup, steps: &[Step]) {
+    let _refused: Option<Beside> = walk(rt, alloc, setup, steps);
+}
+
+#[test]
+fn a_refused_allocation_is_answered_by_votes(rt: HostRuntime) {
+    ends(&rt, rt.alloc(), &rotating(), &votes());
+}
+
+#[test]
+fn a_refused_allocation_is_answered_by_builds(rt: HostRuntime) {
+    ends(&rt, rt.alloc(), &rotating(), &builds());
+}
+
+#[test]
+fn a_refused_allocation_is_answered_by_timeouts(rt: HostRuntime) {
+    ends(&rt, rt.alloc(), &rotating(), &timeouts());
+}
+
+#[test]
+fn a_refused_allocation_is_answered_by_a_record(rt: HostRuntime) {
+    ends(&rt, rt.alloc(), &rotating(), &record());
+}
+
+#[test]
+fn a_refused_allocation_is_answered_by_asks(rt: HostRuntime) {
+    ends(&rt, rt.alloc(), &rotating(), &asks());
+}
+
+#[test]
+fn a_refused_allocation_is_answered_by_verdicts(rt: HostRuntime) {
+    ends(&rt, rt.alloc(), &stable(), &verdicts());
+}
