@@ -1,3 +1,5 @@
 pub mod Entries
 pub mod Lowest
+pub mod Sorting
 pub mod Stalling
+pub mod Waking
