@@ -1,5 +1,5 @@
 -- What is to be asked for: builds, verifications, certificates that are missing, verdicts.
-use Rattle.std.specs.Prelude.{◌≡◌, ◌≢◌, ◌⊎◌, ◌+◌, ◌<◌, ◌≤◌, ◌↔◌, ℕ, false, List, ◌∷◌, AllPairs, Contains, Option, Some, None, IsSome}
+use Rattle.std.specs.Prelude.{◌≡◌, ◌≢◌, ◌⊎◌, ◌+◌, ◌<◌, ◌≤◌, ◌↔◌, ℕ, true, false, List, ◌∷◌, AllPairs, Contains, Option, Some, None, IsSome}
 use Rattle.simplex_types.specs.declared.proposal.Proposal.{Proposal}
 use Rattle.simplex_types.specs.Positions.{IsTermStart, HasRoom}
 use Rattle.simplex_rules.specs.Windows.{AdmitsOutbound}

@@ -1,5 +1,6 @@
 pub mod Entries
 pub mod Lowest
+pub mod Members
 pub mod Sorting
 pub mod Stalling
 pub mod Waking

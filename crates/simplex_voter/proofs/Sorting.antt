@@ -34,9 +34,9 @@ in_push xs x = Contains-append_right xs (x ∷ []) x (Contains-head x [])
 
 module _ {X : Type 0} (key : X → ℕ) (Due : X → Type 0) where
   -- a list has all that is due of the views before the end, ascending
-  record IsSorted (end : ℕ) (xs : List X) : Type 0 where
-    exact : (x : X) → Contains xs x ↔ ((key x < end) × Due x)
-    ascend : AllPairs (λ (x y : X). key x < key y) xs
+  pub record IsSorted (end : ℕ) (xs : List X) : Type 0 where
+    pub exact : (x : X) → Contains xs x ↔ ((key x < end) × Due x)
+    pub ascend : AllPairs (λ (x y : X). key x < key y) xs
 
   begins : IsSorted 0 []
   begins = record { exact = λ x. (λ there. absurd (Contains-nil x there), λ below. absurd (omega (arith, below.0))); ascend = λ i j d before small. absurd (omega (arith, small)) }
@@ -99,11 +99,11 @@ module _ {D : Type 0} (m : Member) (k : Known D) where
   fits view p some may = let end = term_end-above m.length view some in let room = may.opens.room in omega (arith, end, room)
 
   -- all that is to ask for the views before the end was found
-  record IsFound (end : ℕ) (ready : List (Proposal D)) (fetches : List CertificateFetch) (put_off : List ℕ) : Type 0 where
-    ready : IsSorted (λ (p : Proposal D). p.round.view) (λ (p : Proposal D). CertifyIsDue m k p.round.view p) end ready
-    fetches : IsSorted (λ (f : CertificateFetch). f.proposal) (λ (f : CertificateFetch). CertificateIsWanted m k f.proposal f.view) end fetches
-    put_off : IsSorted (λ (u : ℕ). u) (λ (u : ℕ). (required : ℕ) × IsPutOff m k u required) end put_off
-    sorted : (view : ℕ) (p : Proposal D) → view < end → MayBeAsked m k view p → ((q : Proposal D) × Contains ready q × (q.round.view ≡ view)) ⊎ Contains put_off view
+  pub record IsFound (end : ℕ) (proposals : List (Proposal D)) (asks : List CertificateFetch) (views : List ℕ) : Type 0 where
+    pub ready : IsSorted (λ (p : Proposal D). p.round.view) (λ (p : Proposal D). CertifyIsDue m k p.round.view p) end proposals
+    pub fetches : IsSorted (λ (f : CertificateFetch). f.proposal) (λ (f : CertificateFetch). CertificateIsWanted m k f.proposal f.view) end asks
+    pub put_off : IsSorted (λ (u : ℕ). u) (λ (u : ℕ). (required : ℕ) × IsPutOff m k u required) end views
+    pub sorted : (view : ℕ) (p : Proposal D) → view < end → MayBeAsked m k view p → ((q : Proposal D) × Contains proposals q × (q.round.view ≡ view)) ⊎ Contains views view
 
   module _ (at : (view : ℕ) (p : Proposal D) → k.notarized view ≡ Some p → p.round.view ≡ view) (view end : ℕ) (ready : List (Proposal D)) (fetches : List CertificateFetch) (waiting : List ℕ)
       (found : IsFound end ready fetches waiting) (from : end ≤ view) (none : (u : ℕ) (p : Proposal D) → end ≤ u → u < view → MayBeAsked m k u p → ⊥) where

@@ -29,6 +29,11 @@ use Rattle.simplex_due.specs.Requests.{MayBeAsked}
 use Rattle.simplex_voter.specs.declared.state.certifying.Verdicts.{Verdicts}
 use Rattle.simplex_voter.specs.Candidates.{AreAll, AreAmong, IsWoken, put_off}
 
+-- of two options the one that a test takes is there
+choose_some : {D : Type 0} (b : Bool) (g g' c c' : Option D) → (b ≡ true → g' ≡ g) → c' ≡ c → IsSome (if b then g' else c') → IsSome (if b then g else c)
+choose_some {D = D} true g g' c c' start rest some = subst (λ (o : Option D). IsSome o) (start refl) some
+choose_some {D = D} false g g' c c' start rest some = subst (λ (o : Option D). IsSome o) rest some
+
 module _ {S D P G C : Type 0} where
   -- the view of which a point tells something that verdicts rest on: the start, a certificate, a verdict or a proposal
   abbrev pub told : Point S D P G C → Option ℕ
@@ -43,7 +48,7 @@ module _ {S D P G C : Type 0} where
   told x = None
 
   -- an item stands in what happened to a view behind such a point alone, if verdicts rest on it
-  IsAllowed : Point S D P G C → ℕ → Item S D P G C → Type 0
+  abbrev IsAllowed : Point S D P G C → ℕ → Item S D P G C → Type 0
   IsAllowed x view (past.notarized c) = (told x ≡ Some view) × (c.proposal.round.view ≡ view)
   IsAllowed x view (past.finalized c) = told x ≡ Some view
   IsAllowed x view (past.judged ok) = told x ≡ Some view
@@ -80,7 +85,7 @@ module _ {S D P G C : Type 0} where
     bind_grows (Some payload) p t g = put_grows p.round.view (past.bound p payload) t (λ here. tt) g
 
   -- a point leaves what is known of a view, as long as it drops none
-  StaysKept : Setup S C → List (Point S D P G C) → ℕ → Point S D P G C → Type 0
+  abbrev StaysKept : Setup S C → List (Point S D P G C) → ℕ → Point S D P G C → Type 0
   StaysKept s h view pruned = min_active s h ≤ view
   StaysKept s h view x = ⊤
 
@@ -188,7 +193,7 @@ module _ {S D P G C : Type 0} where
   quiet {x = x} {view = view} {old = old} silent (more {new = new} y why g) = quiet_more x view old new y silent why (quiet silent g)
 
   -- a notarization stands at its view
-  AreAt : ℕ → List (Item S D P G C) → Type 0
+  abbrev pub AreAt : ℕ → List (Item S D P G C) → Type 0
   AreAt view l = (c : Notarization S D P G C) → past.notarization l ≡ Some c → c.proposal.round.view ≡ view
 
   first_or : (o : Option (Notarization S D P G C)) (d c : Notarization S D P G C) → option_or o (Some d) ≡ Some c → (o ≡ Some c) ⊎ (d ≡ c)
@@ -241,10 +246,6 @@ module _ {S D P G C : Type 0} where
       unforgotten true stays = absurd (true≢false stays)
       unforgotten false stays = marked
   mark_stays s x h view kept marked = or_right (waits x view) (is_marked s waits h view) marked
-
-  choose_some : (b : Bool) (g g' c c' : Option D) → (b ≡ true → g' ≡ g) → c' ≡ c → IsSome (if b then g' else c') → IsSome (if b then g else c)
-  choose_some true g g' c c' start rest some = subst (λ (o : Option D). IsSome o) (start refl) some
-  choose_some false g g' c c' start rest some = subst (λ (o : Option D). IsSome o) rest some
 
   module _ (s : Setup S C) (h : List (Point S D P G C)) (x : Point S D P G C) (view : ℕ) (p : Proposal D) (may : MayBeAsked (member s) (known s (x ∷ h)) view p)
       (own : told x ≢ Some view) (before : (u : ℕ) → view ≡ u + 1 → told x ≢ Some u) where

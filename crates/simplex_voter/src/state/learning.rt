@@ -86,7 +86,8 @@ impl<S: Scheme<D> + Drop, L: Elector<S, D>, D: Digest> State<S, L, D> {
         ensures replaced { IfOk result (λ r. AtEach S.Scheme L.Elector self.old (λ s h. InTime s now → r.0 ≡ true → Differs (held (offers (seen s h certificate.proposal.round.view))) certificate.proposal → r.1 ≡ option_map (S.key_of s.scheme) (leader s h certificate.proposal.round.view))) }
         ensures same { IfOk result (λ r. AtEach S.Scheme L.Elector self.old (λ s h. InTime s now → Agrees (held (offers (seen s h certificate.proposal.round.view))) certificate.proposal → r.1 ≡ None)) }
     {
-        wake(&mut self.candidates, certificate.view())?;
+        let finalized = certificate.view();
+        wake(&mut self.candidates, finalized)?;
         let taken = self.views.add_finalization(now, certificate)?;
         Ok(taken)
     }
