@@ -23,11 +23,7 @@ use Rattle.simplex_due.specs.declared.requests.CertifyRequest.TheVariants as cer
 use Rattle.simplex_voter.specs.declared.certificate_fetch.CertificateFetch.{CertificateFetch}
 use Rattle.simplex_voter.specs.declared.state.certifying.Verdicts.{Verdicts}
 use Rattle.simplex_voter.specs.Candidates.{Adds, AreAll, AreWanted}
-
--- the one element of a list of one
-only_element : {X : Type 0} (x y : X) → Contains (x ∷ []) y → x ≡ y
-only_element x y (zero, small, is) = is
-only_element x y (suc k, small, is) = absurd (omega arith)
+use Rattle.simplex_voter.proofs.Members.{only_element}
 
 in_push : {X : Type 0} (xs : List X) (x : X) → Contains (xs ++ x ∷ []) x
 in_push xs x = Contains-append_right xs (x ∷ []) x (Contains-head x [])

@@ -10,9 +10,11 @@ returns-in_default g c = λ m k shown opens. ready_alone m k c.args.view c.args.
 pub returns-then-is_waiting : goal.returns-then-is_waiting
 returns-then-is_waiting g c = λ m k shown opens q other. (
   sym (c.is_waiting.ensures m k shown) ∙ c.if-is_waiting.true,
-  c.in-Some.required,
-  waits_for m k c.args.view c.args.proposal opens c.in-Some.required (c.in-Some.ensures m k shown)
-  (nothing (explicit m k c.in-Some.required) (ap is_some (sym (c.explicit_payload.ensures m k shown)) ∙ sym c.is_some.ensures ∙ c.if-is_some.false)),
+  (
+    c.in-Some.required,
+    waits_for m k c.args.view c.args.proposal opens c.in-Some.required (c.in-Some.ensures m k shown)
+    (nothing (explicit m k c.in-Some.required) (ap is_some (sym (c.explicit_payload.ensures m k shown)) ∙ sym c.is_some.ensures ∙ c.if-is_some.false)),
+  ),
 )
 
 pub returns-then-is_notarized : goal.returns-then-is_notarized
