@@ -390,3 +390,7 @@ module _ {S D P G C : Type 0} where
   recall_tells taken (artifact.Notarize v) u is = sym (same_Some v.proposal.round.view u is)
   recall_tells taken (artifact.Certification round ok) u is = sym (same_Some round.view u is)
   recall_tells taken a u is = absurd (none-some u is)
+
+  -- for none where nothing happened
+  pub none_among : (s : Setup S C) (views : BTreeSet ℕ) → AreAmong s [] views
+  none_among s views = record { all = λ view p fits may. absurd (none-some p may.opens.notarized) }
