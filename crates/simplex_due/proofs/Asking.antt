@@ -9,7 +9,7 @@ use Rattle.simplex_views.specs.Known.{Known}
 use Rattle.simplex_due.specs.Ancestry.{Member, explicit, IsFirstUncovered, IsInvalidParent, IsSpan, IsPreferred, IsRequired}
 use Rattle.simplex_due.specs.Knowing.{AllowsBuild, Explains, uncertified}
 use Rattle.simplex_due.specs.declared.ancestry.ParentFault.{ParentFault}
-use Rattle.simplex_due.specs.Requests.{IsOpen, IsHandoff, BuildIsDue, WaitsForParent, IsPassed, VerdictIsOpen, CertifyIsDue, CertificateIsWanted}
+use Rattle.simplex_due.specs.Requests.{IsOpen, IsHandoff, BuildIsDue, WaitsForParent, IsPassed, VerdictIsOpen, CertifyIsDue, CertifyWaits, CertificateIsWanted}
 
 -- what isn't there is none
 pub nothing : {A : Type 0} (o : Option A) → is_some o ≡ false → o ≡ None
@@ -113,10 +113,9 @@ module _ {D : Type 0} (m : Member) (k : Known D) (view : ℕ) where
           let one : q ≡ p = one_is_open p q opens due.opens in
           true≢false (sym (due.explicit required (subst (λ (x : Proposal D). IsRequired m k view x.parent required) (sym one) asked)) ∙ ap is_some missing)
 
-      -- so its notarization is to be asked for
+      -- so the verdict waits for it, and its notarization is to be asked for
+      pub waits_for : explicit m k required ≡ None → CertifyWaits m k view required
+      waits_for missing = record { proposal = p; opens = opens; requires_it = asked; missing = missing }
+
       pub fetches : explicit m k required ≡ None → k.certify_waited view ≡ false → k.notarized required ≡ None → CertificateIsWanted m k view required
-      fetches missing first absent = record {
-        waits = record { proposal = p; opens = opens; requires_it = asked; missing = missing };
-        first = first;
-        absent = absent;
-      }
+      fetches missing first absent = record { waits = waits_for missing; first = first; absent = absent }

@@ -1,5 +1,5 @@
 -- What is to be asked for: builds, verifications, certificates that are missing, verdicts.
-use Rattle.std.specs.Prelude.{◌≡◌, ◌≢◌, ◌⊎◌, ◌+◌, ◌<◌, ◌≤◌, ◌↔◌, ℕ, false, List, ◌∷◌, AllPairs, Contains, Option, Some, None, IsSome}
+use Rattle.std.specs.Prelude.{◌≡◌, ◌≢◌, ◌⊎◌, ◌+◌, ◌<◌, ◌≤◌, ◌↔◌, ℕ, true, false, List, ◌∷◌, AllPairs, Contains, Option, Some, None, IsSome}
 use Rattle.simplex_types.specs.declared.proposal.Proposal.{Proposal}
 use Rattle.simplex_types.specs.Positions.{IsTermStart, HasRoom}
 use Rattle.simplex_rules.specs.Windows.{AdmitsOutbound}
@@ -150,15 +150,10 @@ module _ {D : Type 0} (m : Member) (k : Known D) where
     pub exact : (p : Proposal D) → Contains ready p ↔ CertifyIsDue p.round.view p
     pub ascend : AllPairs (λ (p q : Proposal D). p.round.view < q.round.view) ready
 
-  -- the views whose verdicts are put off, each once
+  -- the views whose verdicts are put off, ascending, each once
   pub record ArePutOff (views : List ℕ) : Type 0 where
     pub exact : (view : ℕ) → Contains views view ↔ ((required : ℕ) × IsPutOff view required)
     pub ascend : AllPairs (λ (u w : ℕ). u < w) views
-
-  -- the views that wait, each with the one that it waits for, where that is to be asked for; by the views, each once
-  pub record AreWanted (fetches : List (ℕ × ℕ)) : Type 0 where
-    pub exact : (view required : ℕ) → Contains fetches (view, required) ↔ CertificateIsWanted view required
-    pub ascend : AllPairs (λ (x y : ℕ × ℕ). x.0 < y.0) fetches
 
 module _ {S D P G C : Type 0} (s : Setup S C) (now : ℕ) where
   -- the views from the current one up to this one were looked at, which led so far: those with a proposal that can never stand are

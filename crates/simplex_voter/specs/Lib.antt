@@ -1,4 +1,5 @@
 pub mod Building
+pub mod Candidates
 pub mod Floor
 pub mod State
 pub mod Timing

@@ -1,4 +1,17 @@
 //! What a voter asks its application to judge.
+#![tactic(auto, unfolding(crate::specs::State::Keeps))]
+
+ghost use Rattle.std.specs.Prelude.{◌≡◌, ℕ, List, [], Contains, IsTrue, IfOk, OnOk};
+ghost use Rattle.std.specs.Ordering.{nat_cmp};
+ghost use Rattle.std.specs.BTreeSet.{contains};
+ghost use Rattle.simplex_types.specs.declared.proposal.Proposal.{Proposal};
+ghost use Rattle.simplex_views.specs.Known.{known};
+ghost use Rattle.simplex_views.specs.Views as above;
+ghost use Rattle.simplex_due.specs.Ancestry.{member};
+ghost use Rattle.simplex_due.specs.Requests.{AreReady, ArePutOff};
+ghost use Rattle.simplex_due.specs.declared.requests.CertifyRequest.TheVariants as request;
+ghost use Rattle.simplex_voter.specs.Candidates.{Adds, AreAll, AreAmong, AreWanted, IsWoken, put_off};
+ghost use Rattle.simplex_voter.specs.State.{AtEach, Keeps};
 
 use crate::certificate_fetch::CertificateFetch;
 use crate::state::State;
@@ -24,7 +37,11 @@ struct Verdicts<D: Digest> {
 
 impl<D: Digest> Verdicts<D> {
     /// Nothing.
-    fn new(alloc: Global) -> Self {
+    fn new(alloc: Global) -> Self
+        ensures ready { result.ready.items ≡ [] }
+        ensures fetches { result.fetches.items ≡ [] }
+        ensures put_off { result.put_off.items ≡ [] }
+    {
         Verdicts {
             ready: Vec::new(alloc),
             fetches: Vec::new(alloc),
@@ -33,7 +50,9 @@ impl<D: Digest> Verdicts<D> {
     }
 
     /// Adds what is to be asked for the verdict on a view.
-    fn add(&mut self, view: View, request: CertifyRequest<D>) -> Result<(), AllocError> {
+    fn add(&mut self, view: View, request: CertifyRequest<D>) -> Result<(), AllocError>
+        ensures { OnOk result (Adds view request self.old self.new) }
+    {
         match request {
             CertifyRequest::Ready(proposal) => self.ready.push(proposal)?,
             CertifyRequest::Fetch(required) => self.fetch(view, required)?,
@@ -44,7 +63,9 @@ impl<D: Digest> Verdicts<D> {
     }
 
     /// Adds that the verdict on a view is put off, and the notarization of the required one to be asked for.
-    fn fetch(&mut self, proposal: View, view: View) -> Result<(), AllocError> {
+    fn fetch(&mut self, proposal: View, view: View) -> Result<(), AllocError>
+        ensures { OnOk result (Adds proposal (request.Fetch view) self.old self.new) }
+    {
         self.put_off.push(proposal)?;
         self.fetches.push(CertificateFetch { proposal, view })?;
         Ok(())
@@ -66,6 +87,9 @@ impl<S: Scheme<D> + Drop, L: Elector<S, D>, D: Digest> State<S, L, D> {
         &mut self,
         alloc: Global,
     ) -> Result<(Vec<Proposal<D>>, Vec<CertificateFetch>), AllocError>
+        ensures keeps { OnOk result (AtEach S.Scheme L.Elector self.old (λ s h. (views : List ℕ) × ArePutOff (member s) (known s h) views × Keeps S.Scheme L.Elector s self.new (put_off views h))) }
+        ensures ready { IfOk result (λ r. AtEach S.Scheme L.Elector self.old (λ s h. AreReady (member s) (known s h) r.0.items)) }
+        ensures wanted { IfOk result (λ r. AtEach S.Scheme L.Elector self.old (λ s h. AreWanted (member s) (known s h) r.1.items)) }
     {
         let candidates = mem::replace(&mut self.candidates, BTreeSet::new(alloc));
         let Verdicts {
@@ -85,7 +109,10 @@ fn look_at<S: Scheme<D> + Drop, L: Elector<S, D>, D: Digest>(
     alloc: Global,
     candidates: BTreeSet<View>,
 ) -> Result<Verdicts<D>, AllocError>
+    ensures { IfOk result (λ found. above.AtEach S.Scheme L.Elector views.now (λ s h. AreAmong s h candidates → AreAll (member s) (known s h) found)) }
 {
+    // The proof takes from the number that a term has at least one view.
+    let _views = views.lookahead().length.get();
     let mut found = Verdicts::new(alloc);
     let mut rest = candidates;
     while let Some(view) = rest.pop_first() {
@@ -97,10 +124,11 @@ fn look_at<S: Scheme<D> + Drop, L: Elector<S, D>, D: Digest>(
 /// Puts the verdicts on these views off.
 fn put_off_verdicts<S: Scheme<D> + Drop, L: Elector<S, D>, D: Digest>(
     views: &mut Views<S, L, D>,
-    put_off: &[View],
+    waiting: &[View],
 ) -> Result<(), AllocError>
+    ensures { OnOk result (above.AtEach S.Scheme L.Elector views.old (λ s h. above.Keeps S.Scheme L.Elector s views.new (put_off waiting.now h))) }
 {
-    for view in put_off {
+    for view in waiting {
         views.put_off_verdict(*view)?;
     }
     Ok(())
@@ -111,6 +139,7 @@ fn keep<D: Digest>(
     candidates: &mut BTreeSet<View>,
     ready: &[Proposal<D>],
 ) -> Result<(), AllocError>
+    ensures { OnOk result ((p : Proposal D) → Contains ready.now p → IsTrue (contains nat_cmp candidates.new p.round.view)) }
 {
     for proposal in ready {
         candidates.insert(proposal.view())?;
@@ -120,6 +149,7 @@ fn keep<D: Digest>(
 
 /// Adds the view of which something was learnt and the view behind it, whose verdict may have waited for that.
 pub(super) fn wake(candidates: &mut BTreeSet<View>, view: View) -> Result<(), AllocError>
+    ensures { OnOk result (IsWoken candidates.old candidates.new view) }
 {
     candidates.insert(view)?;
     let next = View::new(view.get().saturating_add(1));

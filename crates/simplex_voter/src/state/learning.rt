@@ -27,7 +27,8 @@ impl<S: Scheme<D> + Drop, L: Elector<S, D>, D: Digest> State<S, L, D> {
         ensures { OnOk result (AtEach S.Scheme L.Elector self.old (λ s h. InTime s now → Keeps S.Scheme L.Elector s self.new (started now payload ∷ h))) }
     {
         wake(&mut self.candidates, View::zero())?;
-        self.views.set_genesis(now, payload)
+        self.views.set_genesis(now, payload)?;
+        Ok(())
     }
 
     /// Takes a notarization that certifies: whether it is the first of its view, and the known leader's key where it took
@@ -47,7 +48,8 @@ impl<S: Scheme<D> + Drop, L: Elector<S, D>, D: Digest> State<S, L, D> {
         ensures same { IfOk result (λ r. AtEach S.Scheme L.Elector self.old (λ s h. Agrees (held (offers (seen s h certificate.proposal.round.view))) certificate.proposal → r.1 ≡ None)) }
     {
         wake(&mut self.candidates, certificate.view())?;
-        self.views.add_notarization(certificate)
+        let taken = self.views.add_notarization(certificate)?;
+        Ok(taken)
     }
 
     /// Takes a nullification that certifies, and enters the next term: whether it is the first of its view. One of a view
@@ -84,8 +86,10 @@ impl<S: Scheme<D> + Drop, L: Elector<S, D>, D: Digest> State<S, L, D> {
         ensures replaced { IfOk result (λ r. AtEach S.Scheme L.Elector self.old (λ s h. InTime s now → r.0 ≡ true → Differs (held (offers (seen s h certificate.proposal.round.view))) certificate.proposal → r.1 ≡ option_map (S.key_of s.scheme) (leader s h certificate.proposal.round.view))) }
         ensures same { IfOk result (λ r. AtEach S.Scheme L.Elector self.old (λ s h. InTime s now → Agrees (held (offers (seen s h certificate.proposal.round.view))) certificate.proposal → r.1 ≡ None)) }
     {
-        wake(&mut self.candidates, certificate.view())?;
-        self.views.add_finalization(now, certificate)
+        let finalized = certificate.view();
+        wake(&mut self.candidates, finalized)?;
+        let taken = self.views.add_finalization(now, certificate)?;
+        Ok(taken)
     }
 
     /// Takes the verdict on the notarization of a view, and answers that notarization. A true one enters the next view, a
@@ -107,7 +111,8 @@ impl<S: Scheme<D> + Drop, L: Elector<S, D>, D: Digest> State<S, L, D> {
         ensures no_room { IfOk result (λ answer. AtEach S.Scheme L.Elector self.old (λ s h. (HasRoom s.length view → ⊥) → answer ≡ None)) }
     {
         wake(&mut self.candidates, view)?;
-        self.views.certified(alloc, now, view, is_success)
+        let answer = self.views.certified(alloc, now, view, is_success)?;
+        Ok(answer)
     }
 
     /// Offers the leader's proposal of a view: whether it is the first there. Behind an own nullify it is not taken.
@@ -120,6 +125,7 @@ impl<S: Scheme<D> + Drop, L: Elector<S, D>, D: Digest> State<S, L, D> {
         ensures answer { IfOk result (λ first. AtEach S.Scheme L.Elector self.old (λ s h. IsTrue first ↔ ((has_nullified (seen s h view) ≡ false) × (held (offers (seen s h view)) ≡ None)))) }
     {
         wake(&mut self.candidates, view)?;
-        self.views.set_proposal(view, proposal)
+        let first = self.views.set_proposal(view, proposal)?;
+        Ok(first)
     }
 }

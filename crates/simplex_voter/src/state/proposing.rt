@@ -39,8 +39,8 @@ impl<S: Scheme<D> + Drop, L: Elector<S, D>, D: Digest> State<S, L, D> {
         if !self.is_captured(context.round.view, parent, parent_payload) {
             return Ok(false);
         }
-        wake(&mut self.candidates, context.round.view)?;
         let proposal = Proposal::new(context.round, parent, payload);
+        wake(&mut self.candidates, context.round.view)?;
         let taken = self.views.proposed(now, proposal, parent_payload)?;
         Ok(taken)
     }

@@ -1,9 +1,10 @@
-use Rattle.std.proofs.Common.{◌≡◌, ◌+◌, arith}
+use Rattle.std.proofs.Common.{◌≡◌, ◌+◌, refl, arith}
 use Rattle.std.proofs.lemmas.Bool.{both_ways}
 use Rattle.simplex_views.specs.History.{polled}
 use Rattle.std.specs.Prelude.{◌∷◌}
 use Rattle.simplex_voter.specs.State.{Keeps}
 use Rattle.simplex_voter.proofs.Stalling.{own_alone}
+use Rattle.simplex_voter.proofs.Waking.{stays}
 use Rattle.simplex_voter.proofs.state.State.next_timeout.Goals as goal
 
 pub returns-then-not-may_stall-clause-answer : goal.returns-then-not-may_stall-clause-answer
@@ -14,5 +15,5 @@ returns-then-not-may_stall-clause-answer g c = λ s h k time.
     let grown = c.in_ok-own.ensures.keeps s h k.views interval in
     own_alone s h c.args.now (c.args.now + c.min-interval.result) c.has_skip_budget-counts.result c.in_ok-own.own
     (λ may. both_ways c.may_stall.result c.if-not-may_stall.true
-    ((c.may_stall.ensures s (polled c.args.now ∷ h) (record { scheme = k.scheme; me = k.me; timeout_retry = k.timeout_retry; skip_budget = k.skip_budget; views = grown })).1 may))
+    ((c.may_stall.ensures s (polled c.args.now ∷ h) (record { scheme = k.scheme; me = k.me; timeout_retry = k.timeout_retry; skip_budget = k.skip_budget; views = grown; candidates = stays s h (polled c.args.now) c.args.self.now.candidates refl k.candidates })).1 may))
     (c.has_skip_budget-counts.ensures s h k) (omega (arith, interval)) (c.in_ok-own.ensures.answer s h k.views)

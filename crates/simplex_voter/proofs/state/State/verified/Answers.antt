@@ -1,6 +1,8 @@
-use Rattle.std.proofs.Common.{inl, inr}
+use Rattle.std.proofs.Common.{inl, inr, refl}
 use Rattle.std.proofs.lemmas.Bool.{both_ways}
+use Rattle.simplex_views.specs.History.{confirmed, unbound}
 use Rattle.simplex_voter.specs.State.{Keeps}
+use Rattle.simplex_voter.proofs.Waking.{stays}
 use Rattle.simplex_voter.proofs.state.State.verified.Goals as goal
 
 pub returns-then-not-is_steady-clause-keeps : goal.returns-then-not-is_steady-clause-keeps
@@ -8,7 +10,7 @@ unfolding Keeps
 returns-then-not-is_steady-clause-keeps g c = λ s h k.
     inr (
       λ steady. both_ways c.is_steady.result c.if-not-is_steady.true ((c.is_steady.ensures s h k).1 steady),
-      record { scheme = k.scheme; me = k.me; timeout_retry = k.timeout_retry; skip_budget = k.skip_budget; views = c.in_ok-clear_verifying.ensures s h k.views },
+      record { scheme = k.scheme; me = k.me; timeout_retry = k.timeout_retry; skip_budget = k.skip_budget; views = c.in_ok-clear_verifying.ensures s h k.views; candidates = stays s h (unbound c.args.view) c.args.self.now.candidates refl k.candidates },
     )
 
 pub returns-then-not-is_steady-clause-answer : goal.returns-then-not-is_steady-clause-answer
@@ -21,7 +23,7 @@ unfolding Keeps
 returns-clause-keeps g c = λ s h k.
     inl (
       (c.is_steady.ensures s h k).0 c.if-not-is_steady.false,
-      record { scheme = k.scheme; me = k.me; timeout_retry = k.timeout_retry; skip_budget = k.skip_budget; views = c.in_ok-became.ensures.keeps s h k.views },
+      record { scheme = k.scheme; me = k.me; timeout_retry = k.timeout_retry; skip_budget = k.skip_budget; views = c.in_ok-became.ensures.keeps s h k.views; candidates = stays s h (confirmed c.args.view) c.args.self.now.candidates refl k.candidates },
     )
 
 pub returns-clause-answer : goal.returns-clause-answer

@@ -1,0 +1,29 @@
+use Rattle.std.proofs.Common.{◌≡◌, sym, subst}
+use Rattle.simplex_voter.specs.Candidates.{AreAmong}
+use Rattle.simplex_voter.specs.State.{Keeps}
+use Rattle.simplex_voter.proofs.Waking.{kept_among}
+use Rattle.simplex_voter.proofs.state.State.certify_candidates.Goals as goal
+
+pub returns-clause-keeps : goal.returns-clause-keeps
+unfolding Keeps
+returns-clause-keeps g c = λ s h k.
+    let all = c.in_ok-ready.ensures s h k.views (subst (λ views. AreAmong s h views) (sym c.replace-candidates.ensures.value) k.candidates) in (
+      c.in_ok-ready.put_off.items,
+      all.put_off,
+      record {
+        scheme = k.scheme;
+        me = k.me;
+        timeout_retry = k.timeout_retry;
+        skip_budget = k.skip_budget;
+        views = c.in_ok-put_off_verdicts.ensures s h k.views;
+        candidates = kept_among s h c.in_ok-ready.field-0 c.keep.new.candidates all c.in_ok-keep.ensures;
+      },
+    )
+
+pub returns-clause-ready : goal.returns-clause-ready
+unfolding Keeps
+returns-clause-ready g c = λ s h k. (c.in_ok-ready.ensures s h k.views (subst (λ views. AreAmong s h views) (sym c.replace-candidates.ensures.value) k.candidates)).ready
+
+pub returns-clause-wanted : goal.returns-clause-wanted
+unfolding Keeps
+returns-clause-wanted g c = λ s h k. (c.in_ok-ready.ensures s h k.views (subst (λ views. AreAmong s h views) (sym c.replace-candidates.ensures.value) k.candidates)).wanted
