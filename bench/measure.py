@@ -121,7 +121,8 @@ def print_times(costs, times_of):
 
 
 def print_peaks(costs):
-    """The bound is the input and so many bytes for each vote."""
+    """The bound is the input and so many bytes for each vote. It leaves out what the program itself takes,
+    some 2 MiB, so it says little of few votes."""
     print("| Shape | Votes | Input MiB | Baseline MiB | Lazy MiB | `simplex` MiB | Bound MiB | Within |")
     print("|---|---:|---:|---:|---:|---:|---:|---|")
     for (shape, votes), cost in costs.items():
