@@ -1,8 +1,9 @@
 #!/usr/bin/env python3
-"""Runs the baseline and simplex on the same inputs, compares their answers, prints their costs.
+"""Runs both baselines and simplex on the same inputs, compares their answers, prints their costs.
 
-Started by run.sh, which builds the baseline. Times are the least wall time of some runs, the two
-programs taking turns so that a busy machine is unkind to both.
+Started by run.sh, which builds the baselines. Times are the least wall and the least processor time of
+some runs, the programs taking turns so that a busy machine is unkind to all. On a busy machine the
+processor time is the one to read.
 """
 
 import argparse
@@ -20,6 +21,8 @@ SIZES = [10**4, 10**5, 10**6]
 QUICK_SIZES = SIZES[:2]
 MEBI = 2**20
 RUNS = 5
+# What a vote may take of memory beside the input.
+VOTE_BYTES = 64
 GENERATE = Path(__file__).with_name("generate.py")
 GNU_TIME = "/usr/bin/time"
 
@@ -30,6 +33,7 @@ def arguments():
     parser.add_argument("--quick", action="store_true", help="leave out the greatest size")
     parser.add_argument("--runs", type=int, default=RUNS)
     parser.add_argument("--baseline", required=True, help=argparse.SUPPRESS)
+    parser.add_argument("--lazy", required=True, help=argparse.SUPPRESS)
     parser.add_argument("--folder", type=Path, required=True, help=argparse.SUPPRESS)
     given = parser.parse_args()
     given.simplex = shutil.which(given.simplex or "")
@@ -77,50 +81,54 @@ class Disagreement(Exception):
 
 def compare(answers):
     statuses, outputs = zip(*answers)
-    if statuses[0] != statuses[1]:
-        raise Disagreement(f"statuses {statuses[0]} and {statuses[1]}")
-    if outputs[0] != outputs[1]:
+    if len(set(statuses)) > 1:
+        raise Disagreement(f"statuses {', '.join(map(str, statuses))}")
+    if len(set(outputs)) > 1:
         raise Disagreement("the outputs are not the same bytes")
 
 
 class Cost(NamedTuple):
-    """Of the baseline and of simplex, in this order, and the size of their input."""
+    """Of the baseline, the lazy one and simplex, in this order, and the size of their input."""
 
+    walls: list
     times: list
     peaks: list
     size: float
 
 
 def measure(programs, members, path, runs):
-    times = [[], []]
+    walls, times = [[] for _ in programs], [[] for _ in programs]
     for _ in range(runs):
         answers = []
-        for program, taken in zip(programs, times):
-            answer, elapsed, _ = program.run(members, path)
+        for program, wall, taken in zip(programs, walls, times):
+            answer, elapsed, usage = program.run(members, path)
             answers.append(answer)
-            taken.append(elapsed)
+            wall.append(elapsed)
+            taken.append(1000 * (usage.ru_utime + usage.ru_stime))
         compare(answers)
     peaks = [program.peak(members, path) for program in programs]
-    return Cost([min(taken) for taken in times], peaks, path.stat().st_size / MEBI)
+    size = path.stat().st_size / MEBI
+    return Cost([min(wall) for wall in walls], [min(taken) for taken in times], peaks, size)
 
 
-def print_times(costs):
-    print("| Shape | Votes | Baseline ms | `simplex` ms | Ratio |")
-    print("|---|---:|---:|---:|---:|")
+def print_times(costs, times_of):
+    print("| Shape | Votes | Baseline ms | Lazy ms | `simplex` ms | To the baseline | To the lazy |")
+    print("|---|---:|---:|---:|---:|---:|---:|")
     for (shape, votes), cost in costs.items():
-        baseline, simplex = cost.times
-        print(f"| {shape} | {votes:,} | {baseline:.1f} | {simplex:.1f} | {simplex / baseline:.2f} |")
+        baseline, lazy, simplex = times_of(cost)
+        cells = f"{baseline:.1f} | {lazy:.1f} | {simplex:.1f}"
+        print(f"| {shape} | {votes:,} | {cells} | {simplex / baseline:.2f} | {simplex / lazy:.2f} |")
 
 
 def print_peaks(costs):
-    """The bound is the input and twice the baseline's peak."""
-    print("| Shape | Votes | Input MiB | Baseline MiB | `simplex` MiB | Bound MiB | Within |")
-    print("|---|---:|---:|---:|---:|---:|---|")
+    """The bound is the input and so many bytes for each vote. It leaves out what the program itself takes,
+    some 2 MiB, so it says little of few votes."""
+    print("| Shape | Votes | Input MiB | Baseline MiB | Lazy MiB | `simplex` MiB | Bound MiB | Within |")
+    print("|---|---:|---:|---:|---:|---:|---:|---|")
     for (shape, votes), cost in costs.items():
-        baseline, simplex = cost.peaks
-        bound = cost.size + 2 * baseline
-        cells = [f"{cell:.1f}" for cell in [cost.size, baseline, simplex, bound]]
-        within = "yes" if simplex <= bound else "no"
+        bound = cost.size + VOTE_BYTES * votes / MEBI
+        cells = [f"{cell:.1f}" for cell in [cost.size, *cost.peaks, bound]]
+        within = "yes" if cost.peaks[-1] <= bound else "no"
         print(f"| {shape} | {votes:,} | " + " | ".join(cells) + f" | {within} |")
 
 
@@ -129,13 +137,13 @@ def print_growths(costs, few, many):
     print("|---|---:|---:|---:|")
     for shape in MEASURED:
         less, more = costs[shape, few].times, costs[shape, many].times
-        baseline, simplex = (after / before for before, after in zip(less, more))
+        baseline, _, simplex = (after / before for before, after in zip(less, more))
         print(f"| {shape} | {baseline:.1f} | {simplex:.1f} | {simplex / baseline:.2f} |")
 
 
 def main():
     given = arguments()
-    programs = [Program(path, given.folder) for path in [given.baseline, given.simplex]]
+    programs = [Program(path, given.folder) for path in [given.baseline, given.lazy, given.simplex]]
     sizes = QUICK_SIZES if given.quick else SIZES
     path = given.folder / "input"
     costs = {}
@@ -148,10 +156,12 @@ def main():
             except Disagreement as error:
                 sys.exit(f"disagreement on {shape}, {votes} votes: {error}")
     print(f"Least wall time of {given.runs} runs:\n")
-    print_times(costs)
+    print_times(costs, lambda cost: cost.walls)
+    print("\nLeast processor time of these runs:\n")
+    print_times(costs, lambda cost: cost.times)
     print()
     print_growths(costs, *sizes[-2:])
-    print("\nGreatest resident set; the bound is the input's size and twice the baseline's:\n")
+    print(f"\nGreatest resident set; the bound is the input's size and {VOTE_BYTES} bytes a vote:\n")
     print_peaks(costs)
 
 

@@ -1,7 +1,9 @@
 #!/bin/sh
-# Measures simplex's audit against the baseline: run.sh [--quick] [--runs N] [SIMPLEX]
+# Measures simplex's audit against both baselines: run.sh [--quick] [--runs N] [SIMPLEX]
 # The simplex program may be named in the environment variable SIMPLEX instead.
 . "$(dirname "$0")/common.sh"
 
-rustc -O --edition 2021 -o "$folder/audit" "$here/baseline/audit.rs"
-python3 "$here/measure.py" --baseline "$folder/audit" --folder "$folder" "$@"
+for program in audit lazy; do
+    rustc -O --edition 2021 -o "$folder/$program" "$here/baseline/$program.rs"
+done
+python3 "$here/measure.py" --baseline "$folder/audit" --lazy "$folder/lazy" --folder "$folder" "$@"
