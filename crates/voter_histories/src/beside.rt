@@ -1,6 +1,6 @@
 //! A voter beside the plain program: both are told the same, and have to answer the same.
 
-use crate::samples::holds;
+use crate::holding::holds;
 use crate::voter::{Verdicts, Voter};
 use due_plain::Plain;
 use due_plain::answers::Answer;

@@ -1,7 +1,7 @@
 //! Histories by chance, in which each answer of each call is the plain program's.
 
 use crate::beside::Beside;
-use crate::samples::holds;
+use crate::holding::holds;
 use due_plain::Plain;
 use due_plain::calls::Call;
 use due_plain::requests::{Judging, Look};
