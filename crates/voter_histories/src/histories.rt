@@ -299,7 +299,7 @@ fn history(rt: &impl Abort, alloc: Global, seed: u64, length: u64) -> usize {
         let _reply = beside.call(rt, alloc, call).expect(rt, "there is memory");
         beside.agrees(rt);
         beside.agrees_at(rt, now, current);
-        now += chance.below(120);
+        now = now.saturating_add(chance.below(120));
     }
     for call in [
         Call::Verify { now },
