@@ -39,6 +39,11 @@ fn yes_or_no(is_so: bool) -> Answer {
     if is_so { Answer::Yes } else { Answer::No }
 }
 
+/// Whether the proposal is of this epoch.
+fn is_of_epoch(proposal: &Proposal<Sha256Digest>, epoch: u64) -> bool {
+    proposal.round.epoch.get() == epoch
+}
+
 /// What adding a certificate answers.
 fn addition(is_first: bool, replaced: Option<PlainKey>) -> Answer {
     match replaced {
@@ -93,8 +98,7 @@ impl Voter {
 
     /// What a vote on a proposal answers: no, where it isn't in this member's name.
     fn about(&self, voted: Proposal<Sha256Digest>, signer: Participant) -> Answer {
-        let epoch = voted.round.epoch.get();
-        if self.is_me(signer) && epoch == self.epoch {
+        if self.is_me(signer) && is_of_epoch(&voted, self.epoch) {
             Answer::Proposal(named(voted))
         } else {
             Answer::No
