@@ -53,8 +53,10 @@ module _ {S D P G C : Type 0} (s : Setup S C) where
 
     -- it goes on over views that are passed
     pub looked_over : (end : List (Point S D P G C)) (view n : ℕ) → Looked view end → ((u : ℕ) → view ≤ u → u < view + n → IsPassed (member s) (known s end) u) → Looked (view + n) end
-    looked_over end view zero looked are = looked
-    looked_over end view (suc n) looked are = passed (looked_over end view n looked (λ u from below. are u from (omega (arith, below)))) (are (view + n) (omega arith) (omega arith))
+    looked_over end view zero looked are = let e : view ≡ view + 0 = omega arith in subst (λ (w : ℕ). Looked w end) e looked
+    looked_over end view (suc n) looked are =
+        let e : view + n + 1 ≡ view + suc n = omega arith in
+        subst (λ (w : ℕ). Looked w end) e (passed (looked_over end view n looked (λ u from below. are u from (omega (arith, below)))) (are (view + n) (omega arith) (omega arith)))
 
     pub looked_up : (end : List (Point S D P G C)) (view first : ℕ) → view ≤ first → Looked view end → ((u : ℕ) → view ≤ u → u < first → IsPassed (member s) (known s end) u) → Looked first end
     looked_up end view first le looked are =

@@ -3,7 +3,6 @@
 
 mod answering;
 mod building;
-mod entry;
 mod keeping;
 mod knowing;
 mod learning;
