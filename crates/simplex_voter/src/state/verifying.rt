@@ -95,11 +95,7 @@ impl<S: Scheme<D> + Drop, L: Elector<S, D>, D: Digest> State<S, L, D> {
     }
 
     /// Asks for what is wanted for the view's proposal, and puts that down.
-    fn ask(
-        &mut self,
-        view: View,
-        wanted: Wanted<D>,
-    ) -> Result<Verify<D, S::PublicKey>, AllocError>
+    fn ask(&mut self, view: View, wanted: Wanted<D>) -> Result<Verify<D, S::PublicKey>, AllocError>
         ensures { IfOk result (λ answer. AtEach S.Scheme L.Elector self.old (λ s h. IsWanted (member s) (known s h) view wanted → Asks S.Scheme L.Elector s self.new h view answer)) }
     {
         let Some(leader) = self.leader_key(view) else {

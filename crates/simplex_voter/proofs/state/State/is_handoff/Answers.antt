@@ -11,8 +11,7 @@ returns-then-not-is_term_start g c = λ s h k.
 pub returns : goal.returns
 unfolding Keeps
 returns g c = λ s h k.
-    let there = c.parent_certified.ensures s h k in
-    (
+    let there = c.parent_certified.ensures s h k in (
       λ yes. record {
         starts = rw (c.lookahead.ensures.length s h k.views) at (c.is_term_start.ensures.0 c.if-not-is_term_start.false);
         early = λ e. absurd (let is = there.1 e in cc (yes, is));
