@@ -1,3 +1,5 @@
 pub mod Entries
+pub mod Looking
 pub mod Lowest
 pub mod Stalling
+pub mod Wanting

@@ -1,0 +1,41 @@
+-- What is to be asked for a view's proposal, and what is answered once it is.
+use Rattle.std.proofs.Common.{ℕ, List, sym, subst}
+use Rattle.std.specs.Prelude.{IsSome}
+use Rattle.simplex_types.specs.declared.proposal.Proposal.{Proposal}
+use Rattle.simplex_types.specs.declared.scheme.Scheme.{Ghosts}
+use Rattle.simplex_rules.specs.declared.elector.Elector as elector
+use Rattle.simplex_resolver.specs.declared.ask.Kind.TheVariants as kind
+use Rattle.simplex_round.specs.Past.{MayVerify}
+use Rattle.simplex_views.specs.History.{Setup, Point, current, seen}
+use Rattle.simplex_views.specs.Known.{Known, known}
+use Rattle.simplex_views.specs.Leaders.{leader}
+use Rattle.simplex_due.specs.Ancestry.{Member, member}
+use Rattle.simplex_due.specs.Requests.{Scanned, VerifyIsDue}
+use Rattle.simplex_voter.specs.declared.state.State.{State}
+use Rattle.simplex_voter.specs.declared.verify.Verify.{Verify}
+use Rattle.simplex_voter.specs.declared.verify.Verify.TheVariants as verify
+use Rattle.simplex_voter.specs.declared.verify.Wanted.{Wanted}
+use Rattle.simplex_voter.specs.declared.verify.Wanted.TheVariants as wanted
+use Rattle.simplex_voter.specs.Verifying.{Answers, Asks, IsWanted}
+
+-- a view for whose proposal something is to be asked has a leader
+pub wanted_led : {D : Type 0} (m : Member) (k : Known D) (view : ℕ) (x : Wanted D) → IsWanted m k view x → IsSome (k.leader view)
+wanted_led m k view (wanted.Verification p payload) due = due.waits.led.0
+wanted_led m k view (wanted.Certificate kind.Nullification u) is = is.1.waits.led.0
+wanted_led m k view (wanted.Certificate kind.Notarization u) is = is.1.waits.led.0
+
+module _ {S D P G C : Type 0} where
+  -- what is due may be asked for
+  pub may_verify : (s : Setup S C) (h : List (Point S D P G C)) (view : ℕ) (p : Proposal D) (payload : D) → VerifyIsDue (member s) (known s h) view p payload → MayVerify s.me (leader s h view) (seen s h view)
+  may_verify s h view p payload due = record {
+    another_leads = (due.waits.led.0, λ same. due.waits.led.1 (sym same));
+    not_given_up = due.waits.opens.not_given_up;
+    first = due.waits.first;
+  }
+
+module _ {S L D P G C : Type 0} (g : Ghosts S D P G C) (e : elector.Ghosts L S D P G C) (s : Setup S C) (state : State S L D P G C) (now : ℕ) (h : List (Point S D P G C)) where
+  -- behind a look what it came to is asked for
+  pub answers_of : (view : ℕ) (end : List (Point S D P G C)) (answer : Verify D P) → Scanned s now (current s h) h view end → Asks g e s state end view answer → Answers g e s state now h answer
+  answers_of view end (verify.Ready context p) looked (at, asks) = record { end = end; looked = subst (λ (v : ℕ). Scanned s now (current s h) h v end) (sym at) looked; holds = asks }
+  answers_of view end (verify.Resolve proposal u what target) looked (at, asks) = record { end = end; looked = subst (λ (v : ℕ). Scanned s now (current s h) h v end) (sym at) looked; holds = asks }
+  answers_of view end verify.Wait looked never = absurd never

@@ -1,0 +1,7 @@
+use Rattle.simplex_facts.specs.Facts.{at}
+use Rattle.simplex_voter.specs.State.{Keeps}
+use Rattle.simplex_voter.proofs.state.State.request_for.Goals as goal
+
+pub returns : goal.returns
+unfolding Keeps
+returns g c = λ s h k. c.request_for.ensures _ _ (at s h k.views)
