@@ -1,4 +1,3 @@
-pub mod Entering
 pub mod Entries
 pub mod Looking
 pub mod Lowest

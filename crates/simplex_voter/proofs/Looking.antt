@@ -1,20 +1,19 @@
 -- What a look at the proposals that wait passes.
-use Rattle.std.proofs.Common.{◌≡◌, ◌⊎◌, ◌≤◌, ◌<◌, ◌+◌, ◌-◌, ◌^◌, ℕ, zero, suc, max, min, refl, sym, ap, subst, ◌∙◌, ⊎_elim, inl, inr, arith}
-use Rattle.std.specs.Prelude.{List, ◌∷◌, None, IsSome}
+use Rattle.std.proofs.Common.{◌≡◌, ◌≤◌, ◌<◌, ◌+◌, ◌-◌, ◌^◌, ℕ, zero, suc, max, refl, subst, ⊎_elim, arith}
+use Rattle.std.specs.Prelude.{List, None}
 use Rattle.std.proofs.lemmas.Bool.{cases_lt}
 use Rattle.simplex_types.specs.declared.proposal.Proposal.{Proposal}
-use Rattle.simplex_types.specs.Positions.{HasRoom, term_end}
+use Rattle.simplex_types.specs.Positions.{term_end}
 use Rattle.simplex_types.specs.declared.scheme.Scheme.{Ghosts}
 use Rattle.simplex_record.specs.Spans.{term_end-above}
 use Rattle.simplex_rules.specs.declared.elector.Elector as elector
 use Rattle.simplex_rules.specs.Windows.{AdmitsOutbound}
-use Rattle.simplex_round.specs.declared.timeout_reason.TimeoutReason.TheVariants as reason
 use Rattle.simplex_tracking.specs.Rounds.{AreUntracked}
-use Rattle.simplex_views.specs.History.{Setup, Point, current, latched, seen}
+use Rattle.simplex_views.specs.History.{Setup, Point, current, seen}
 use Rattle.simplex_views.specs.Known.{Known, known}
 use Rattle.simplex_views.specs.Leaders.{leader}
 use Rattle.simplex_due.specs.Ancestry.{Member, member}
-use Rattle.simplex_due.specs.Requests.{IsInvalid, IsPassed, Scanned, WaitsForParent, begun, passed, given_up}
+use Rattle.simplex_due.specs.Requests.{IsPassed, Scanned, WaitsForParent, begun, passed, given_up}
 use Rattle.simplex_due.specs.Matching.{WholeScanLeavesNothing}
 use Rattle.simplex_voter.specs.declared.state.State.{State}
 use Rattle.simplex_voter.specs.State.{Keeps}
@@ -53,8 +52,10 @@ module _ {S D P G C : Type 0} (s : Setup S C) where
 
     -- it goes on over views that are passed
     pub looked_over : (end : List (Point S D P G C)) (view n : ℕ) → Looked view end → ((u : ℕ) → view ≤ u → u < view + n → IsPassed (member s) (known s end) u) → Looked (view + n) end
-    looked_over end view zero looked are = looked
-    looked_over end view (suc n) looked are = passed (looked_over end view n looked (λ u from below. are u from (omega (arith, below)))) (are (view + n) (omega arith) (omega arith))
+    looked_over end view zero looked are = let e : view ≡ view + 0 = omega arith in subst (λ (w : ℕ). Looked w end) e looked
+    looked_over end view (suc n) looked are =
+        let e : view + n + 1 ≡ view + suc n = omega arith in
+        subst (λ (w : ℕ). Looked w end) e (passed (looked_over end view n looked (λ u from below. are u from (omega (arith, below)))) (are (view + n) (omega arith) (omega arith)))
 
     pub looked_up : (end : List (Point S D P G C)) (view first : ℕ) → view ≤ first → Looked view end → ((u : ℕ) → view ≤ u → u < first → IsPassed (member s) (known s end) u) → Looked first end
     looked_up end view first le looked are =
@@ -81,8 +82,7 @@ module _ {S D P G C : Type 0} (s : Setup S C) where
     pub whole_past : (end : List (Point S D P G C)) (view : ℕ) → 0 < s.length → 2 ^ 64 ≤ view → Looked view end → IsWhole end
     whole_past end view some far looked =
         let c = current s h in
-        let top : ℕ = max view (max (c + 1) (term_end s.length c + 2)) in
-        (
+        let top : ℕ = max view (max (c + 1) (term_end s.length c + 2)) in (
           top,
           looked_up end view top (omega arith) looked (λ u from below. roomless end u some (omega (arith, from, far))),
           λ u out. ⊎_elim (λ at. omega (arith, at)) (λ ahead. ⊎_elim (λ near. omega (arith, near)) (λ start. let e = start.0 in omega (arith, e)) ahead) out,

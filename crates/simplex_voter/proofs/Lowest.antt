@@ -13,7 +13,7 @@ use Rattle.simplex_due.specs.Ancestry.{member}
 use Rattle.simplex_due.specs.Requests.{BuildIsDue, NoBuildIsDue}
 
 -- between the current view and one that may be spoken of each may
-outbound_below : (n c o view u : ℕ) → c ≤ view → view ≤ u → (u ≤ c) ⊎ ((u ≤ min (c + o) n) ⊎ ((u ≡ n + 1) × (n ≤ c + o)))
+pub outbound_below : (n c o view u : ℕ) → c ≤ view → view ≤ u → (u ≤ c) ⊎ ((u ≤ min (c + o) n) ⊎ ((u ≡ n + 1) × (n ≤ c + o)))
     → (view ≤ c) ⊎ ((view ≤ min (c + o) n) ⊎ ((view ≡ n + 1) × (n ≤ c + o)))
 outbound_below n c o view u from to (inl at) = inl (omega (arith, to, at))
 outbound_below n c o view u from to (inr (inl near)) = inr (inl (omega (arith, to, near)))

@@ -1,5 +1,5 @@
 -- What a voter asks for, to judge the proposals of others.
-use Rattle.std.specs.Prelude.{◌≡◌, ◌⊎◌, ◌<◌, ◌∷◌, ℕ, List, Some, ⊤}
+use Rattle.std.specs.Prelude.{◌≡◌, ◌⊎◌, ◌<◌, ◌∷◌, ℕ, List, Some}
 use Rattle.simplex_types.specs.declared.context.Context.{Context}
 use Rattle.simplex_types.specs.declared.proposal.Proposal.{Proposal}
 use Rattle.simplex_types.specs.declared.scheme.Scheme.{Ghosts}
@@ -36,7 +36,7 @@ module _ {S D P G C : Type 0} where
   pub record IsKeyOfLeader (g : Ghosts S D P G C) (s : Setup S C) (h : List (Point S D P G C)) (view : ℕ) (key : P) : Type 0 where
     pub index : ℕ
     pub known : leader s h view ≡ Some index
-    pub key : key ≡ g.key_of s.scheme index
+    pub names : key ≡ g.key_of s.scheme index
 
   -- behind a look at the views from the current one on, which came to this view, this holds of where it led
   pub record BehindLook (s : Setup S C) (now : ℕ) (h : List (Point S D P G C)) (view : ℕ) (Q : List (Point S D P G C) → Type 0) : Type 0 where

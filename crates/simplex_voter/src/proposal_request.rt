@@ -15,6 +15,17 @@ pub enum ProposalRequest<D: Digest, P: PublicKey> {
 }
 
 impl<D: Digest, P: PublicKey> ProposalRequest<D, P> {
+    /// The request for a build in this context.
+    pub(crate) fn new(is_handoff: bool, context: Context<D, P>) -> Self
+        ensures context { context_of result ≡ context }
+        ensures handoff { IsPrepared result ↔ IsTrue is_handoff }
+    {
+        if is_handoff {
+            return ProposalRequest::Prepare(context);
+        }
+        ProposalRequest::Propose(context)
+    }
+
     /// Whether it is a handoff.
     pub const fn is_handoff(&self) -> bool
         ensures { IsTrue result ↔ IsPrepared self.now }

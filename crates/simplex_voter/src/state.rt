@@ -4,7 +4,6 @@
 mod answering;
 mod building;
 mod certifying;
-mod entry;
 mod keeping;
 mod knowing;
 mod learning;

@@ -1,18 +1,10 @@
-//! What no contract of the voter says: worked cases, each call once, refused memory, and histories beside a plain program.
+//! What no contract of the voter says: worked cases, and each call once.
 #![tactic(auto)]
 
 #[cfg(test)]
-mod beside;
-#[cfg(test)]
-mod histories;
-#[cfg(test)]
 mod member;
 #[cfg(test)]
-mod memory;
-#[cfg(test)]
 mod requests;
-#[cfg(test)]
-mod rows;
 #[cfg(test)]
 mod samples;
 #[cfg(test)]
@@ -21,7 +13,5 @@ mod starts;
 mod timeouts;
 #[cfg(test)]
 mod verdicts;
-#[cfg(test)]
-mod voter;
 #[cfg(test)]
 mod votes;

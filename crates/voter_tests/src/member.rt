@@ -1,7 +1,6 @@
 //! Member 0 of a committee of four, with numbers for views.
 
 use crate::samples::{Finalized, finalization, notarization, nullification, payload, proposal};
-use simplex_messages::Certificate;
 use simplex_resolver::Kind;
 use simplex_round::TimeoutReason;
 use simplex_rules::elector::{Config as Building, RoundRobin, RoundRobinElector};
@@ -24,17 +23,6 @@ pub enum Asked {
     Notarization(u64, u64),
     /// Nothing.
     Nothing,
-}
-
-/// A certificate by its kind and view.
-#[derive(Clone, Copy, PartialEq, Eq)]
-pub enum Best {
-    /// Of a proposal that may be built on.
-    Notarization(u64),
-    /// Of a view that was given up.
-    Nullification(u64),
-    /// Of a proposal that is final.
-    Finalization(u64),
 }
 
 /// A voter, which started at moment 0.
@@ -285,22 +273,6 @@ impl Member {
                 ..
             } => Ok(Asked::Notarization(proposal.get(), view.get())),
             Verify::Wait => Ok(Asked::Nothing),
-        }
-    }
-
-    /// The best certificate to enter the current view by.
-    pub fn best_certificate(&self) -> Result<Option<Best>, Fail> {
-        match self.state.get_best_certificate(self.alloc)? {
-            Some(Certificate::Notarization(c)) => Ok(Some(Best::Notarization(
-                c.proposal.round.view.get(),
-            ))),
-            Some(Certificate::Nullification(c)) => Ok(Some(Best::Nullification(
-                c.round.view.get(),
-            ))),
-            Some(Certificate::Finalization(c)) => Ok(Some(Best::Finalization(
-                c.proposal.round.view.get(),
-            ))),
-            None => Ok(None),
         }
     }
 

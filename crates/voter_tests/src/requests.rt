@@ -1,6 +1,6 @@
 //! What is asked for, to judge the proposals of others: worked cases.
 
-use crate::member::{Asked, Best, Member};
+use crate::member::{Asked, Member};
 use crate::samples::holds;
 use simplex_round::TimeoutReason;
 use std::test::Fail;
@@ -46,33 +46,6 @@ fn a_proposal_that_can_never_stand_gives_its_view_up(rt: HostRuntime) -> Result<
     holds(
         &rt,
         member.next_timeout(400)? == Some((300, TimeoutReason::InvalidProposal)),
-    );
-    Ok(())
-}
-
-#[test]
-fn the_best_certificate_shows_what_was_skipped(rt: HostRuntime) -> Result<(), Fail> {
-    let mut member = Member::stable(rt.alloc(), 0)?;
-    holds(&rt, member.best_certificate()?.is_none());
-    holds(&rt, member.take_notarization(5, 4)?);
-    holds(&rt, member.take_nullification(2)?);
-    holds(&rt, member.take_nullification(4)?);
-    holds(&rt, member.take_nullification(3)?);
-    holds(&rt, member.view() == 6);
-    holds(
-        &rt,
-        member.best_certificate()? == Some(Best::Nullification(4)),
-    );
-    holds(&rt, member.take_finalization(5, 4)?);
-    holds(
-        &rt,
-        member.best_certificate()? == Some(Best::Finalization(5)),
-    );
-    holds(&rt, member.take_notarization(6, 5)?);
-    holds(&rt, member.take_verdict(0, 6, true)?);
-    holds(
-        &rt,
-        member.best_certificate()? == Some(Best::Notarization(6)),
     );
     Ok(())
 }

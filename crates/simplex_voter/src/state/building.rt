@@ -32,10 +32,7 @@ impl<S: Scheme<D> + Drop, L: Elector<S, D>, D: Digest> State<S, L, D> {
             leader: leader.key,
             parent: (parent, payload),
         };
-        if is_handoff {
-            return Some(ProposalRequest::Prepare(context));
-        }
-        Some(ProposalRequest::Propose(context))
+        Some(ProposalRequest::new(is_handoff, context))
     }
 
     /// Whether a build on this parent is a handoff: the view starts a term, and the parent isn't certified with this payload.

@@ -1,6 +1,6 @@
 //! What a voter asks for, to judge the proposals of others.
 
-ghost use Rattle.std.specs.Prelude.{◌≡◌, ◌×◌, IfOk, MatchOption, None};
+ghost use Rattle.std.specs.Prelude.{◌≡◌, ℕ, IfOk, MatchOption, None};
 ghost use Rattle.simplex_views.specs.Known.{known};
 ghost use Rattle.simplex_views.specs.Leaders.{leader};
 ghost use Rattle.simplex_due.specs.Ancestry.{member};
@@ -30,9 +30,11 @@ impl<S: Scheme<D> + Drop, L: Elector<S, D>, D: Digest> State<S, L, D> {
     pub fn try_verify(&mut self, now: u64) -> Result<Verify<D, S::PublicKey>, AllocError>
         ensures { IfOk result (λ answer. AtEach S.Scheme L.Elector self.old (λ s h. Answers S.Scheme L.Elector s self.new now h answer)) }
     {
-        let Some((view, wanted)) = self.first_wanted(now)? else {
+        let found = self.first_wanted(now)?;
+        let Some(waiting) = found else {
             return Ok(Verify::Wait);
         };
+        let (view, wanted) = waiting;
         let answer = self.ask(view, wanted)?;
         Ok(answer)
     }
@@ -50,7 +52,8 @@ impl<S: Scheme<D> + Drop, L: Elector<S, D>, D: Digest> State<S, L, D> {
             if !self.is_outbound(view) {
                 return Ok(None);
             }
-            if let Some(wanted) = self.look(now, view)? {
+            let found = self.look(now, view)?;
+            if let Some(wanted) = found {
                 return Ok(Some((view, wanted)));
             }
             if view.get() == u64::MAX {
@@ -92,11 +95,7 @@ impl<S: Scheme<D> + Drop, L: Elector<S, D>, D: Digest> State<S, L, D> {
     }
 
     /// Asks for what is wanted for the view's proposal, and puts that down.
-    fn ask(
-        &mut self,
-        view: View,
-        wanted: Wanted<D>,
-    ) -> Result<Verify<D, S::PublicKey>, AllocError>
+    fn ask(&mut self, view: View, wanted: Wanted<D>) -> Result<Verify<D, S::PublicKey>, AllocError>
         ensures { IfOk result (λ answer. AtEach S.Scheme L.Elector self.old (λ s h. IsWanted (member s) (known s h) view wanted → Asks S.Scheme L.Elector s self.new h view answer)) }
     {
         let Some(leader) = self.leader_key(view) else {

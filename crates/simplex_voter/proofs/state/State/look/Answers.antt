@@ -2,3 +2,26 @@ use Rattle.std.proofs.Common.{inl, inr}
 use Rattle.simplex_voter.specs.State.{Keeps}
 use Rattle.simplex_voter.proofs.state.State.look.Goals as goal
 
+pub returns-in-Ready : goal.returns-in-Ready
+unfolding Keeps
+returns-in-Ready g c = λ s h k. (rw c.in-Ready.is at (c.request_for.ensures s h k), k)
+
+pub returns-in-Nullification : goal.returns-in-Nullification
+unfolding Keeps
+returns-in-Nullification g c = λ s h k. (rw c.in-Nullification.is at (c.request_for.ensures s h k), k)
+
+pub returns-in-Notarization : goal.returns-in-Notarization
+unfolding Keeps
+returns-in-Notarization g c = λ s h k. (rw c.in-Notarization.is at (c.request_for.ensures s h k), k)
+
+pub returns-in_ok-latch_timeout-in-Invalid : goal.returns-in_ok-latch_timeout-in-Invalid
+unfolding Keeps
+returns-in_ok-latch_timeout-in-Invalid g c = λ s h k.
+    inr (
+      rw c.in-Invalid.is at (c.request_for.ensures s h k),
+      record { scheme = k.scheme; me = k.me; timeout_retry = k.timeout_retry; skip_budget = k.skip_budget; views = c.in_ok-latch_timeout-in-Invalid.ensures s h k.views },
+    )
+
+pub returns-in-Wait : goal.returns-in-Wait
+unfolding Keeps
+returns-in-Wait g c = λ s h k. inl (rw c.in-Wait.is at (c.request_for.ensures s h k), k)

@@ -39,6 +39,11 @@ fn yes_or_no(is_so: bool) -> Answer {
     if is_so { Answer::Yes } else { Answer::No }
 }
 
+/// Whether the proposal is of this epoch.
+fn is_of_epoch(proposal: &Proposal<Sha256Digest>, epoch: u64) -> bool {
+    proposal.round.epoch.get() == epoch
+}
+
 /// What adding a certificate answers.
 fn addition(is_first: bool, replaced: Option<PlainKey>) -> Answer {
     match replaced {
@@ -83,9 +88,17 @@ impl Voter {
         }
     }
 
+    /// Whether it is this member.
+    fn is_me(&self, member: Participant) -> bool {
+        match self.me {
+            Some(me) => me == member.get(),
+            None => false,
+        }
+    }
+
     /// What a vote on a proposal answers: no, where it isn't in this member's name.
     fn about(&self, voted: Proposal<Sha256Digest>, signer: Participant) -> Answer {
-        if self.me == Some(signer.get()) && voted.round.epoch.get() == self.epoch {
+        if self.is_me(signer) && is_of_epoch(&voted, self.epoch) {
             Answer::Proposal(named(voted))
         } else {
             Answer::No
@@ -220,7 +233,8 @@ impl Voter {
         let Some((is_repetition, vote)) = voted else {
             return Some(Answer::No);
         };
-        if vote.round.view != view || self.me != Some(vote.attestation.signer.get()) {
+        let signer = vote.attestation.signer;
+        if vote.round.view != view || !self.is_me(signer) {
             return None;
         }
         Some(if is_repetition {
@@ -353,7 +367,8 @@ impl Voter {
         };
         let context = request.into_context();
         let parent = (context.parent.0.get(), byte_of(context.parent.1));
-        if self.me != Some(context.leader.index().get()) {
+        let leader = context.leader.index();
+        if !self.is_me(leader) {
             return Reply::Told(Answer::No);
         }
         Reply::Build {

@@ -215,34 +215,6 @@ pub fn record() -> [Step; 8] {
     ]
 }
 
-/// A member alone: its view is given up, and again.
-fn alone() -> [Step; 6] {
-    [
-        tell(started()),
-        times(0, 1_000, TimeoutReason::LeaderTimeout),
-        gives_up(1, Answer::Yes),
-        times(1_000, 6_000, TimeoutReason::Retry),
-        gives_up(1, Answer::Again),
-        gives_up(2, Answer::No),
-    ]
-}
-
-/// A view is given up at once while budget remains, which a finalization gives back.
-fn skips() -> [Step; 6] {
-    [
-        tell(started()),
-        tell(nullified(0, 4)),
-        tell(Point::Latched {
-            now: 100,
-            view: 5,
-            reason: TimeoutReason::LeaderNullify,
-        }),
-        times(100, 1_000, TimeoutReason::LeaderTimeout),
-        tell(finalized(100, 1, 0, A)),
-        times(100, 100, TimeoutReason::LeaderNullify),
-    ]
-}
-
 /// What a proposal rests on is asked for in order, and once.
 pub fn asks() -> [Step; 8] {
     [
@@ -295,16 +267,6 @@ fn a_view_is_given_up_for_its_proposal(rt: HostRuntime) {
 #[test]
 fn what_a_record_says_is_done(rt: HostRuntime) {
     walked(&rt, rt.alloc(), &rotating(), &record());
-}
-
-#[test]
-fn a_member_alone_gives_its_view_up_in_time(rt: HostRuntime) {
-    walked(&rt, rt.alloc(), &rotating(), &alone());
-}
-
-#[test]
-fn views_are_skipped_while_budget_remains(rt: HostRuntime) {
-    walked(&rt, rt.alloc(), &rotating(), &skips());
 }
 
 #[test]

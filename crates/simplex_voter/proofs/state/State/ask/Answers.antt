@@ -1,0 +1,44 @@
+use Rattle.std.proofs.Common.{◌≡◌, true, ◌∙◌, refl}
+use Rattle.std.specs.Prelude.{None}
+use Rattle.simplex_views.specs.Known.{known}
+use Rattle.simplex_views.specs.Leaders.{leader}
+use Rattle.simplex_due.specs.Ancestry.{member}
+use Rattle.simplex_due.specs.Requests.{VerifyIsDue}
+use Rattle.simplex_voter.specs.State.{Keeps}
+use Rattle.simplex_voter.proofs.Wanting.{may_verify, wanted_led}
+use Rattle.simplex_voter.proofs.state.State.ask.Goals as goal
+
+pub returns-in_default : goal.returns-in_default
+unfolding Keeps
+returns-in_default g c = λ s h k wants.
+    let led = wanted_led (member s) (known s h) c.args.view c.args.wanted wants in
+    let none : leader s h c.args.view ≡ None = c.in_default.ensures s h k in
+    absurd (cc (rw none at led))
+
+pub returns-in-Verification : goal.returns-in-Verification
+unfolding Keeps
+returns-in-Verification g c = λ s h k wants.
+    let p = c.in-Verification.proposal in
+    let payload = c.in-Verification.payload in
+    let due : VerifyIsDue (member s) (known s h) c.args.view p payload = rw c.in-Verification.is at wants in
+    let asked : c.request_verify-asked.result ≡ true = (c.request_verify-asked.ensures.answer s h k.views).1 (may_verify s h c.args.view p payload due) in (
+      c.new.ensures.view,
+      record {
+        due = rw c.new.ensures.view due;
+        parent = refl;
+        epoch = c.new.ensures.epoch ∙ c.epoch.ensures s h k.views;
+        leader = rw c.new.ensures.view (c.in-Some.ensures s h k);
+        keeps = rw c.new.ensures.view (record { scheme = k.scheme; me = k.me; timeout_retry = k.timeout_retry; skip_budget = k.skip_budget; views = rw asked at (c.request_verify-asked.ensures.keeps s h k.views) });
+      },
+    )
+
+pub returns-in_ok-request-in-Certificate : goal.returns-in_ok-request-in-Certificate
+unfolding Keeps
+returns-in_ok-request-in-Certificate g c = λ s h k wants. (
+  refl,
+  record {
+    missing = rw c.in-Certificate.is at wants;
+    leader = c.in-Some.ensures s h k;
+    keeps = record { scheme = k.scheme; me = k.me; timeout_retry = k.timeout_retry; skip_budget = k.skip_budget; views = c.in_ok-request-in-Certificate.ensures s h k.views };
+  },
+)

@@ -1,0 +1,15 @@
+//! What no contract of the voter says: worked cases in which each call is made, refused memory, and histories beside a plain program.
+#![tactic(auto)]
+
+#[cfg(test)]
+mod beside;
+#[cfg(test)]
+mod histories;
+#[cfg(test)]
+mod holding;
+#[cfg(test)]
+mod memory;
+#[cfg(test)]
+mod rows;
+#[cfg(test)]
+mod voter;
