@@ -1,8 +1,9 @@
 #!/usr/bin/env python3
 """Runs the baseline and simplex over the same views of one member, compares what they answer and prints what they cost.
 
-Started by voter.sh, which builds both. Each program takes its own time of the measured views or looks, without that of making
-certificates. The two take turns; the least of the runs counts, and the median of the runs' ratios stands beside it.
+Started by voter.sh, which builds both. Each program takes its own time of chunks of 12 views or looks, without that of making
+certificates, and tells the median chunk, which a load that now and then takes the processor away hardly moves. The two take turns;
+the least of the runs counts, and the median of the runs' ratios stands beside it.
 """
 
 import argparse
@@ -15,8 +16,9 @@ RUNS = 15
 QUICK_RUNS = 5
 MEMBERS = [4, 100, 1000]
 BEHIND = [10**2, 10**3, 10**4, 10**5]
-# How many views or looks are measured, by the size of the committee.
-COUNTS = {4: 2000, 100: 2000, 1000: 500}
+# How many views or looks a chunk has, and how many chunks are measured, by the size of the committee.
+CHUNK = 12
+CHUNKS = {4: 200, 100: 200, 1000: 50}
 BY_SIZE = {
     "finalized": "each view from entry to finalization",
     "terms": "the same in terms of five views, of which two are optimistic",
@@ -43,11 +45,10 @@ def arguments():
 
 def run(program, shape, members, behind):
     """The answer, and the nanoseconds of one view or look."""
-    count = COUNTS[members]
-    command = [program, shape, str(members), str(behind), str(count)]
+    command = [program, shape, str(members), str(behind), str(CHUNKS[members])]
     done = subprocess.run(command, check=True, capture_output=True, text=True).stdout
     answer, taken = map(int, done.split())
-    return answer, taken / count
+    return answer, taken / CHUNK
 
 
 def measure(programs, shape, members, behind, runs):

@@ -1,7 +1,7 @@
 //! A member that votes, in plain Rust: what `simplex_voter` is measured against.
 //!
 //! Takes the words that `../voter/main.rt.txt` takes, makes the same calls in the same order, and prints the same sum over
-//! the answers, and its own nanoseconds. Like the other baselines it is good portable code: no crates, no intrinsics.
+//! the answers, and the nanoseconds of its own median chunk. Like the other baselines it is good portable code: no crates, no intrinsics.
 
 use std::process::ExitCode;
 use std::time::Instant;
@@ -14,8 +14,8 @@ use voter_round::{
 };
 use voter_state::{Config, Context, Fetch, Kind, State, Verify, Vote};
 
-/// So many views' certificates are made at once, before the clock goes on.
-const CHUNK: u64 = 8;
+/// So many views or looks are measured at once, with their certificates made before the clock goes on.
+const CHUNK: u64 = 12;
 /// How many milliseconds a view takes that is finalized, and one that is given up.
 const QUICK: u64 = 100;
 const SLOW: u64 = 2000;
@@ -256,21 +256,33 @@ impl Play {
         Step { proposal, outcome }
     }
 
-    /// So many views go by; answers the nanoseconds that the state took.
+    /// So many views go by: the nanoseconds that this took, without those of making certificates.
     fn go(&mut self, count: u64) -> u128 {
-        let mut taken = 0;
+        let steps: Vec<Step> = (0..count).map(|_| self.step()).collect();
+        let start = Instant::now();
+        for step in steps {
+            self.take(step);
+        }
+        start.elapsed().as_nanos()
+    }
+
+    /// So many views go by.
+    fn pass(&mut self, count: u64) {
         let mut left = count;
         while left > 0 {
-            let chunk = left.min(CHUNK);
-            let steps: Vec<Step> = (0..chunk).map(|_| self.step()).collect();
-            let start = Instant::now();
-            for step in steps {
-                self.take(step);
-            }
-            taken += start.elapsed().as_nanos();
-            left -= chunk;
+            self.go(left.min(CHUNK));
+            left = left.saturating_sub(CHUNK);
         }
-        taken
+    }
+
+    /// The nanoseconds of the median of so many chunks.
+    fn median(&mut self, chunks: u64) -> u128 {
+        let looks = self.shape.only_looks();
+        let mut taken: Vec<u128> = (0..chunks)
+            .map(|_| if looks { self.stand() } else { self.go(CHUNK) })
+            .collect();
+        taken.sort_unstable();
+        taken.get(taken.len() / 2).copied().unwrap_or(0)
     }
 
     fn take(&mut self, step: Step) {
@@ -358,11 +370,11 @@ impl Play {
         }
     }
 
-    /// So many looks with nothing due; answers the nanoseconds.
-    fn stand(&mut self, count: u64) -> u128 {
+    /// A chunk of looks with nothing due: the nanoseconds that they took.
+    fn stand(&mut self) -> u128 {
         let view = self.state.current_view();
         let start = Instant::now();
-        for _ in 0..count {
+        for _ in 0..CHUNK {
             self.look();
             self.build(view);
             self.answers.verify(&self.state.try_verify(self.now));
@@ -377,25 +389,21 @@ impl Play {
 
 fn main() -> ExitCode {
     let words: Vec<String> = std::env::args().skip(1).collect();
-    let [shape, members, behind, count] = words.iter().map(String::as_str).collect::<Vec<_>>()[..]
+    let [shape, members, behind, chunks] = words.iter().map(String::as_str).collect::<Vec<_>>()[..]
     else {
         return ExitCode::FAILURE;
     };
-    let (Some(shape), Ok(members), Ok(behind), Ok(count)) = (
+    let (Some(shape), Ok(members), Ok(behind), Ok(chunks)) = (
         Shape::named(shape),
         members.parse::<u32>(),
         behind.parse::<u64>(),
-        count.parse::<u64>(),
+        chunks.parse::<u64>(),
     ) else {
         return ExitCode::FAILURE;
     };
     let mut play = Play::new(shape, members, behind);
-    play.go(behind);
-    let taken = if shape.only_looks() {
-        play.stand(count)
-    } else {
-        play.go(count)
-    };
+    play.pass(behind);
+    let taken = play.median(chunks);
     play.answers.add(play.state.current_view());
     println!("{} {}", play.answers.0, taken);
     ExitCode::SUCCESS
