@@ -3,6 +3,7 @@ pub mod Choices
 pub mod Dropping
 pub mod Finding
 pub mod Forwarding
+pub mod Growing
 pub mod Leading
 pub mod Marking
 pub mod Recalling

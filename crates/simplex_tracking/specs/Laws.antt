@@ -11,7 +11,7 @@ use Rattle.simplex_round.specs.Past.{Item}
 use Rattle.simplex_tracking.specs.declared.marks.Marks.{Marks}
 use Rattle.simplex_tracking.specs.declared.rounds.Rounds.{Rounds}
 use Rattle.simplex_tracking.specs.declared.tracked.Tracked.{Tracked}
-use Rattle.simplex_tracking.specs.Pasts.{is_direct, put}
+use Rattle.simplex_tracking.specs.Pasts.{put}
 use Rattle.simplex_tracking.specs.Handing.{any_from, extend}
 use Rattle.simplex_tracking.specs.Marks.{Shows}
 use Rattle.simplex_tracking.specs.Rounds.{Keep}
@@ -190,21 +190,14 @@ module _ {S D P G C : Type 0} where
   unfolding Holds
   Holds-led g f x t led' k same = IsKept-led led' k same
 
-  -- the rounds of all views, apart
-  pub Holds-rounds : (g : Ghosts S D P G C) (f : Frame S) (x : Tracked S D P G C) (t : Tables S D P G C) → Holds g f x t → Keep g.key_of f.common x.rounds t.led t.past
+  -- so are all views where the notes say the same
+  pub Holds-noted : (g : Ghosts S D P G C) (f : Frame S) (x : Tracked S D P G C) (t : Tables S D P G C) (noted : ℕ → Bool) → Holds g f x t → ((u : ℕ) → noted u ≡ t.noted u) → Holds g f x (record t { noted = noted })
   unfolding Holds
-  Holds-rounds g f x t k = k.rounds
-
-  -- where rounds change, and neither certificates nor notes do, the rest stands as it did
-  pub Holds-with : (g : Ghosts S D P G C) (f : Frame S) (x : Tracked S D P G C) (t : Tables S D P G C) (r : Rounds S D P G C) (grown : ℕ → List (Item S D P G C)) (noted : ℕ → Bool)
-      → Holds g f x t → Keep g.key_of f.common r t.led grown → ((u : ℕ) → is_direct (grown u) ≡ is_direct (t.past u)) → ((u : ℕ) → noted u ≡ t.noted u)
-      → Holds g f (record x { rounds = r }) (record { led = t.led; past = grown; noted = noted })
-  unfolding Holds Shows
-  Holds-with g f x t r grown noted k kept certificates notes = record {
+  Holds-noted g f x t noted k same = record {
     length = k.length;
     optimistic_views = k.optimistic_views;
-    rounds = kept;
-    direct = λ u. k.direct u ∙ sym (certificates u);
-    noted = λ u. k.noted u ∙ sym (notes u);
+    rounds = k.rounds;
+    direct = k.direct;
+    noted = Shows-same x.noted t.noted noted k.noted same;
     members = k.members;
   }

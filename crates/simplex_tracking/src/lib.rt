@@ -8,5 +8,4 @@ mod tracked;
 
 pub use marks::Marks;
 pub use notice::Notice;
-pub use rounds::Rounds;
 pub use tracked::{Tracked, later};

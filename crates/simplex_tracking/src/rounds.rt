@@ -24,7 +24,7 @@ use std::rc::Rc;
 
 /// The rounds of all views of which something is known.
 #[derive(Drop)]
-pub struct Rounds<S: Scheme<D>, D: Digest> {
+pub(crate) struct Rounds<S: Scheme<D>, D: Digest> {
     scheme: Rc<S>,
     epoch: Epoch,
     by_view: BTreeMap<View, Round<S, D>>,
@@ -32,7 +32,7 @@ pub struct Rounds<S: Scheme<D>, D: Digest> {
 
 impl<S: Scheme<D> + Drop, D: Digest> Rounds<S, D> {
     /// Nothing is known of any view.
-    pub fn new(alloc: Global, scheme: Rc<S>, epoch: Epoch) -> Self
+    pub(crate) fn new(alloc: Global, scheme: Rc<S>, epoch: Epoch) -> Self
         ensures { Keep S.key_of (record { scheme = scheme.value; epoch = epoch }) result (λ view. None) (λ view. []) }
     {
         Rounds {
@@ -43,7 +43,7 @@ impl<S: Scheme<D> + Drop, D: Digest> Rounds<S, D> {
     }
 
     /// What is known of a view, where something is.
-    pub fn get(&self, view: View) -> Option<&Round<S, D>>
+    pub(crate) fn get(&self, view: View) -> Option<&Round<S, D>>
         ensures { AtEach S.key_of self.now (λ s led past. MatchOption result ((past view ≡ []) × (led view ≡ None)) (λ r. IsTracked (past view) (led view) × one.Keeps S.key_of (setup_of s view) r.now (led view) (past view))) }
     {
         // The proof takes from the number that it has 64 bits.
@@ -52,7 +52,7 @@ impl<S: Scheme<D> + Drop, D: Digest> Rounds<S, D> {
     }
 
     /// The last view before the end of which something is known.
-    pub fn last_tracked(&self, end: View) -> Option<View>
+    pub(crate) fn last_tracked(&self, end: View) -> Option<View>
         ensures before { IfSome result (λ last. last < end) }
         ensures tracked { AtEach S.key_of self.now (λ s led past. MatchOption result (AreUntracked led past 0 end) (λ last. IsLastTracked led past end last)) }
     {
@@ -69,7 +69,7 @@ impl<S: Scheme<D> + Drop, D: Digest> Rounds<S, D> {
     }
 
     /// The first view from this one on of which something is known.
-    pub fn first_tracked(&self, from: View) -> Option<View>
+    pub(crate) fn first_tracked(&self, from: View) -> Option<View>
         ensures behind { IfSome result (λ first. from ≤ first) }
         ensures tracked { AtEach S.key_of self.now (λ s led past. MatchOption result (AreUntracked led past from (2 ^ 64)) (λ first. IsFirstTracked led past from first)) }
     {
@@ -103,7 +103,7 @@ impl<S: Scheme<D> + Drop, D: Digest> Rounds<S, D> {
     }
 
     /// The view is entered, with these deadlines.
-    pub fn enter(
+    pub(crate) fn enter(
         &mut self,
         view: View,
         now: u64,
@@ -122,7 +122,7 @@ impl<S: Scheme<D> + Drop, D: Digest> Rounds<S, D> {
     }
 
     /// The leader of the view becomes known, where it isn't: whether it wasn't.
-    pub fn learn(&mut self, view: View, leader: Participant) -> Result<bool, AllocError>
+    pub(crate) fn learn(&mut self, view: View, leader: Participant) -> Result<bool, AllocError>
         ensures keeps { OnOk result (AtEach S.key_of self.old (λ s led past. leader < S.size s.scheme → Keep S.key_of s self.new (learn view leader led) past)) }
         ensures answer { IfOk result (λ new. AtEach S.key_of self.old (λ s led past. new ≡ is_none (led view))) }
     {
@@ -140,7 +140,7 @@ impl<S: Scheme<D> + Drop, D: Digest> Rounds<S, D> {
     }
 
     /// Takes a notarization, the first of its view: the known leader's key where it took the place of another proposal.
-    pub fn add_notarization(
+    pub(crate) fn add_notarization(
         &mut self,
         certificate: Notarization<S, D>,
     ) -> Result<Option<S::PublicKey>, AllocError>
@@ -160,7 +160,10 @@ impl<S: Scheme<D> + Drop, D: Digest> Rounds<S, D> {
     }
 
     /// Takes a nullification, the first of its view.
-    pub fn add_nullification(&mut self, certificate: Nullification<S, D>) -> Result<(), AllocError>
+    pub(crate) fn add_nullification(
+        &mut self,
+        certificate: Nullification<S, D>,
+    ) -> Result<(), AllocError>
         ensures { OnOk result (AtEach S.key_of self.old (λ s led past. nullification (past certificate.round.view) ≡ None → Keep S.key_of s self.new led (put certificate.round.view (nullified certificate) past))) }
     {
         let view = certificate.view();
@@ -172,7 +175,7 @@ impl<S: Scheme<D> + Drop, D: Digest> Rounds<S, D> {
     }
 
     /// Takes a finalization, the first of its view: the known leader's key where it took the place of another proposal.
-    pub fn add_finalization(
+    pub(crate) fn add_finalization(
         &mut self,
         certificate: Finalization<S, D>,
     ) -> Result<Option<S::PublicKey>, AllocError>
@@ -192,7 +195,7 @@ impl<S: Scheme<D> + Drop, D: Digest> Rounds<S, D> {
     }
 
     /// Takes in the verdict on a view.
-    pub fn judge(&mut self, view: View, is_success: bool) -> Result<(), AllocError>
+    pub(crate) fn judge(&mut self, view: View, is_success: bool) -> Result<(), AllocError>
         ensures { OnOk result (AtEach S.key_of self.old (λ s led past. Keep S.key_of s self.new led (put view (judged is_success) past))) }
     {
         self.open(view)?;
@@ -203,7 +206,7 @@ impl<S: Scheme<D> + Drop, D: Digest> Rounds<S, D> {
     }
 
     /// Takes in what needs no answer.
-    pub fn tell(&mut self, view: View, notice: Notice) -> Result<(), AllocError>
+    pub(crate) fn tell(&mut self, view: View, notice: Notice) -> Result<(), AllocError>
         ensures { OnOk result (AtEach S.key_of self.old (λ s led past. Keep S.key_of s self.new led (put view (told notice) past))) }
     {
         self.open(view)?;
@@ -214,7 +217,7 @@ impl<S: Scheme<D> + Drop, D: Digest> Rounds<S, D> {
     }
 
     /// Takes it that the held proposal was found good: whether it became verified. Behind an own nullify nothing changes.
-    pub fn verified(&mut self, view: View) -> Result<bool, AllocError>
+    pub(crate) fn verified(&mut self, view: View) -> Result<bool, AllocError>
         ensures keeps { OnOk result (AtEach S.key_of self.old (λ s led past. Keep S.key_of s self.new led (if has_nullified (past view) then past else put view (offered confirmed) past))) }
         ensures answer { IfOk result (λ became. AtEach S.key_of self.old (λ s led past. IsTrue became ↔ ((has_nullified (past view) ≡ false) × IsUnverified (offers (past view))))) }
     {
@@ -226,7 +229,7 @@ impl<S: Scheme<D> + Drop, D: Digest> Rounds<S, D> {
     }
 
     /// Records an own build over its parent's payload: whether it is taken. Else nothing changes.
-    pub fn proposed(
+    pub(crate) fn proposed(
         &mut self,
         now: u64,
         proposal: Proposal<D>,
@@ -244,7 +247,7 @@ impl<S: Scheme<D> + Drop, D: Digest> Rounds<S, D> {
     }
 
     /// Votes to notarize the view, where it allows that: the held proposal.
-    pub fn construct_notarize(&mut self, view: View) -> Option<Proposal<D>>
+    pub(crate) fn construct_notarize(&mut self, view: View) -> Option<Proposal<D>>
         ensures keeps { AtEach S.key_of self.old (λ s led past. Keep S.key_of s self.new led (if is_some result then put view voted_notarize past else past)) }
         ensures answer { AtEach S.key_of self.old (λ s led past. MatchOption result (¬ MayNotarize (past view)) (λ p. MayNotarize (past view) × (held (offers (past view)) ≡ Some p))) }
     {
@@ -257,7 +260,7 @@ impl<S: Scheme<D> + Drop, D: Digest> Rounds<S, D> {
     }
 
     /// Votes to finalize the view, where it allows that: the held proposal.
-    pub fn construct_finalize(&mut self, view: View) -> Option<Proposal<D>>
+    pub(crate) fn construct_finalize(&mut self, view: View) -> Option<Proposal<D>>
         ensures keeps { AtEach S.key_of self.old (λ s led past. Keep S.key_of s self.new led (if is_some result then put view voted_finalize past else past)) }
         ensures answer { AtEach S.key_of self.old (λ s led past. MatchOption result (¬ MayFinalize (past view)) (λ p. MayFinalize (past view) × (held (offers (past view)) ≡ Some p))) }
     {
@@ -270,7 +273,7 @@ impl<S: Scheme<D> + Drop, D: Digest> Rounds<S, D> {
     }
 
     /// Votes to nullify the view, unless this member voted to finalize it: whether it did before.
-    pub fn construct_nullify(&mut self, view: View) -> Result<Option<bool>, AllocError>
+    pub(crate) fn construct_nullify(&mut self, view: View) -> Result<Option<bool>, AllocError>
         ensures keeps { IfOk result (λ voted. AtEach S.key_of self.old (λ s led past. Keep S.key_of s self.new led (if is_some voted then put view voted_nullify past else past))) }
         ensures answer { IfOk result (λ voted. AtEach S.key_of self.old (λ s led past. voted ≡ (if has_finalized (past view) then None else Some (has_nullified (past view))))) }
     {
@@ -282,7 +285,7 @@ impl<S: Scheme<D> + Drop, D: Digest> Rounds<S, D> {
     }
 
     /// When and why the view is given up next, where a nullify that was voted is due again an interval after this look.
-    pub fn next_timeout(
+    pub(crate) fn next_timeout(
         &mut self,
         view: View,
         now: u64,
@@ -301,7 +304,7 @@ impl<S: Scheme<D> + Drop, D: Digest> Rounds<S, D> {
     }
 
     /// Offers the leader's proposal of a view: whether it is the first there. Behind an own nullify nothing changes.
-    pub fn forward(&mut self, view: View, proposal: &Proposal<D>) -> Result<bool, AllocError>
+    pub(crate) fn forward(&mut self, view: View, proposal: &Proposal<D>) -> Result<bool, AllocError>
         ensures keeps { OnOk result (AtEach S.key_of self.old (λ s led past. Keep S.key_of s self.new led (if has_nullified (past view) then past else put view (offered (forwarded proposal.now)) past))) }
         ensures answer { IfOk result (λ first. AtEach S.key_of self.old (λ s led past. IsTrue first ↔ ((has_nullified (past view) ≡ false) × (held (offers (past view)) ≡ None)))) }
     {
@@ -316,7 +319,7 @@ impl<S: Scheme<D> + Drop, D: Digest> Rounds<S, D> {
     }
 
     /// Asks for a build in the view: its leader, this member, where one may be asked for. Else nothing changes.
-    pub fn try_propose(&mut self, view: View) -> Option<Leader<S::PublicKey>>
+    pub(crate) fn try_propose(&mut self, view: View) -> Option<Leader<S::PublicKey>>
         ensures keeps { AtEach S.key_of self.old (λ s led past. Keep S.key_of s self.new led (if is_some result then put view (offered building) past else past)) }
         ensures answer { AtEach S.key_of self.old (λ s led past. MatchOption result (¬ MayPropose (S.own s.scheme) (led view) (past view)) (λ x. MayPropose (S.own s.scheme) (led view) (past view) × one.IsLeader S.key_of (setup_of s view) (led view) x)) }
     {
@@ -330,7 +333,7 @@ impl<S: Scheme<D> + Drop, D: Digest> Rounds<S, D> {
 
     /// Asks for a verification of the view's proposal over its parent's payload, and binds it to that: whether one may be asked
     /// for. Else nothing changes.
-    pub fn request_verify(&mut self, view: View, proposal: Proposal<D>, payload: D) -> bool
+    pub(crate) fn request_verify(&mut self, view: View, proposal: Proposal<D>, payload: D) -> bool
         ensures keeps { AtEach S.key_of self.old (λ s led past. Keep S.key_of s self.new led (if result then put view (bound proposal payload) (put view (offered verifying) past) else past)) }
         ensures answer { AtEach S.key_of self.old (λ s led past. IsTrue result ↔ MayVerify (S.own s.scheme) (led view) (past view)) }
     {
@@ -343,7 +346,7 @@ impl<S: Scheme<D> + Drop, D: Digest> Rounds<S, D> {
     }
 
     /// A copy of the notarization of the view to hand out, once.
-    pub fn broadcast_notarization(
+    pub(crate) fn broadcast_notarization(
         &mut self,
         alloc: Global,
         view: View,
@@ -360,7 +363,7 @@ impl<S: Scheme<D> + Drop, D: Digest> Rounds<S, D> {
     }
 
     /// A copy of the nullification of the view to hand out, once.
-    pub fn broadcast_nullification(
+    pub(crate) fn broadcast_nullification(
         &mut self,
         alloc: Global,
         view: View,
@@ -377,7 +380,7 @@ impl<S: Scheme<D> + Drop, D: Digest> Rounds<S, D> {
     }
 
     /// A copy of the finalization of the view to hand out, once.
-    pub fn broadcast_finalization(
+    pub(crate) fn broadcast_finalization(
         &mut self,
         alloc: Global,
         view: View,
@@ -394,7 +397,7 @@ impl<S: Scheme<D> + Drop, D: Digest> Rounds<S, D> {
     }
 
     /// Takes in an artifact of this member's record.
-    pub fn replay(&mut self, artifact: &Artifact<S, D>) -> Result<(), AllocError>
+    pub(crate) fn replay(&mut self, artifact: &Artifact<S, D>) -> Result<(), AllocError>
         ensures { OnOk result (AtEach S.key_of self.old (λ s led past. (taken : Bool) × Takes past artifact.now taken × Keep S.key_of s self.new led (recalled taken artifact.now past))) }
     {
         let view = artifact.view();
@@ -406,7 +409,11 @@ impl<S: Scheme<D> + Drop, D: Digest> Rounds<S, D> {
     }
 
     /// Binds the proposal to its parent's payload, where there is one.
-    pub fn bind(&mut self, proposal: Proposal<D>, payload: Option<D>) -> Result<(), AllocError>
+    pub(crate) fn bind(
+        &mut self,
+        proposal: Proposal<D>,
+        payload: Option<D>,
+    ) -> Result<(), AllocError>
         ensures { OnOk result (AtEach S.key_of self.old (λ s led past. Keep S.key_of s self.new led (bind payload proposal past))) }
     {
         let Some(payload) = payload else {
@@ -421,7 +428,10 @@ impl<S: Scheme<D> + Drop, D: Digest> Rounds<S, D> {
     }
 
     /// Takes out the rounds of the views below the floor.
-    pub fn drop_below(&mut self, floor: View) -> Result<BTreeMap<View, Round<S, D>>, AllocError>
+    pub(crate) fn drop_below(
+        &mut self,
+        floor: View,
+    ) -> Result<BTreeMap<View, Round<S, D>>, AllocError>
         ensures keeps { OnOk result (AtEach S.key_of self.old (λ s led past. Keep S.key_of s self.new (λ view. if nat_lt view floor then None else led view) (forget floor past))) }
         ensures dropped { IfOk result (λ rounds. AtEach S.key_of self.old (λ s led past. AreBelow S.key_of s floor rounds led past)) }
     {

@@ -1,6 +1,8 @@
 //! All views together: their rounds, and who leads them.
 #![tactic(auto, unfolding(crate::specs::Tracked::Holds))]
 
+mod one_view;
+
 ghost use Rattle.std.specs.Prelude.{◌≡◌, ◌≢◌, ◌↔◌, ◌⊎◌, ◌<◌, ◌≤◌, ◌+◌, ◌-◌, ◌^◌, ◌==◌, if◌then◌else◌, ℕ, false, true, List, [], ◌∷◌, Option, Some, None, is_none, IsSome, IsTrue, IfOk, OnOk, MatchOption, option_map};
 ghost use Rattle.std.specs.Option.{option_or};
 ghost use Rattle.simplex_round.specs.Held.{held, Agrees, Differs};
@@ -25,7 +27,7 @@ use std::rc::Rc;
 #[derive(Drop)]
 pub struct Tracked<S: Scheme<D>, D: Digest> {
     lookahead: Lookahead,
-    pub rounds: Rounds<S, D>,
+    rounds: Rounds<S, D>,
     /// The views that have a notarization or finalization.
     direct: Marks,
     /// The views whose leader's proposal was forwarded.

@@ -1,12 +1,12 @@
 -- How far a voter is, where only what is known of views changes.
-use Rattle.std.specs.Prelude.{ℕ}
+use Rattle.std.specs.Prelude.{ℕ, List}
 use Rattle.simplex_types.specs.declared.scheme.Scheme.{Ghosts}
-use Rattle.simplex_tracking.specs.Rounds.{Keep}
-use Rattle.simplex_tracking.specs.Laws.{Holds-rounds}
+use Rattle.simplex_round.specs.Past.{Item}
 use Rattle.simplex_tracking.specs.declared.tracked.Tracked.{Tracked}
 use Rattle.simplex_tracking.specs.Tracked.{Tables, Holds}
 use Rattle.simplex_views.specs.declared.progress.Progress.{Progress}
-use Rattle.simplex_views.specs.History.{Setup}
+use Rattle.simplex_views.specs.History.{Setup, Point}
+use Rattle.simplex_views.specs.Leaders.{leader, was_forwarded}
 use Rattle.simplex_views.specs.Progress.{IsAt, frame_of}
 
 -- the current view and the timeouts stay where what is known of views changes
@@ -20,6 +20,6 @@ IsAt-tracked k holds = record {
   tracked = holds;
 }
 
--- the rounds of all views, apart
-pub IsAt-rounds : {S D P G C : Type 0} {g : Ghosts S D P G C} {s : Setup S C} {p : Progress S D P G C} {c : ℕ} {t : Tables S D P G C} → IsAt g s p c t → Keep g.key_of (frame_of s).common p.tracked.rounds t.led t.past
-IsAt-rounds {g = g} {s = s} {p = p} {t = t} k = Holds-rounds g (frame_of s) p.tracked t k.tracked
+-- what is known of all views where this happened to them, and leaders and notes are as they were
+abbrev pub grown-tables : {S D P G C : Type 0} → Setup S C → List (Point S D P G C) → (ℕ → List (Item S D P G C)) → Tables S D P G C
+grown-tables s h grown = record { led = leader s h; past = grown; noted = was_forwarded s h }

@@ -21,11 +21,12 @@ use Rattle.simplex_views.specs.Known.{backs}
 use Rattle.simplex_views.specs.Leaders.{leader, was_forwarded}
 use Rattle.simplex_tracking.specs.Marks.{Shows}
 use Rattle.simplex_views.specs.Progress.{frame_of, tables}
-use Rattle.simplex_tracking.specs.Rounds.{recalled}
-use Rattle.simplex_tracking.specs.Tracked.{Tables, IsClosedAt, Holds, inherits_by}
+use Rattle.simplex_tracking.specs.Handing.{extend}
+use Rattle.simplex_tracking.specs.Rounds.{Takes, recalled}
+use Rattle.simplex_tracking.specs.Tracked.{Tables, AtEach, IsClosedAt, Holds, inherits_by}
 use Rattle.simplex_views.specs.Views.{IsKept, recalls}
 use Rattle.simplex_tracking.specs.Laws.{put-fact}
-use Rattle.simplex_views.proofs.Advancing.{IsAt-tracked}
+use Rattle.simplex_views.proofs.Advancing.{IsAt-tracked, grown-tables}
 use Rattle.simplex_views.proofs.Stepping.{IsQuiet, like-put, like-seen, quiet-from, sent-quiet, spoken-closed, still-kept}
 
 module _ {S D P G C : Type 0} where
@@ -75,6 +76,19 @@ module _ {S D P G C : Type 0} (s : Setup S C) (h : List (Point S D P G C)) (p : 
       (recalled-votes (undecided_payload (seen s h p.parent)) p taken (seen s h))
 
 module _ {S L D P G C : Type 0} {g : Ghosts S D P G C} {leads : elector.Ghosts L S D P G C} {s : Setup S C} {v : Views S L D P G C} {h : List (Point S D P G C)} where
+  -- behind what it leaves, what its proposal is bound to, and what these hand on, views are where the own notarize leads
+  pub recalled-steps : (vote : Notarize S D P G C) (payload : Option D) (view : ℕ) (x y z : Tracked S D P G C) → IsKept g leads s v h
+      → payload ≡ undecided_payload (seen s h vote.proposal.parent) → view ≡ vote.proposal.round.view
+      → AtEach g v.progress.tracked (λ f t. (taken : Bool) × Takes t.past (artifact.Notarize vote) taken × Holds g f x (record t { past = recalled taken (artifact.Notarize vote) t.past }))
+      → AtEach g x (λ f t. Holds g f y (record t { past = bind payload vote.proposal t.past }))
+      → AtEach g y (λ f t. ((u : ℕ) → (view == u) ≡ false → IsClosedAt (inherits_by f t) t.led u) → Holds g f z (record t { led = extend (λ u. None) (inherits_by f t) t.led }))
+      → (taken : Bool) × Takes (seen s h) (artifact.Notarize vote) taken × Holds g (frame_of s) z (tables s (History.recalled_notarize vote.proposal taken ∷ h))
+  recalled-steps vote payload view x y z k decides named replays binds follows =
+      let p = vote.proposal in
+      let told = replays (frame_of s) (tables s h) k.progress.tracked in
+      let bound = rw decides at (binds (frame_of s) (grown-tables s h (recalled told.0 (artifact.Notarize vote) (seen s h))) told.2) in
+      (told.0, told.1, follows (frame_of s) (recalled-tables s h p told.0) bound (λ u apart. recalled-closed s h p told.0 u (rw named at apart)))
+
   -- the voter stands where the own notarize leads
   pub recalled-notarize : (p : Proposal D) (taken : Bool) (x : Tracked S D P G C) (marks : Marks) → IsKept g leads s v h
       → Holds g (frame_of s) x (tables s (History.recalled_notarize p taken ∷ h)) → Shows marks (is_marked s backs (History.recalled_notarize p taken ∷ h))

@@ -19,7 +19,7 @@ use Rattle.simplex_tracking.specs.declared.marks.Marks.{Marks}
 use Rattle.simplex_tracking.specs.declared.notice.Notice.{Notice}
 use Rattle.simplex_tracking.specs.declared.notice.Notice.TheVariants as notice
 use Rattle.simplex_views.specs.declared.progress.Progress.{Progress}
-use Rattle.simplex_tracking.specs.declared.rounds.Rounds.{Rounds}
+use Rattle.simplex_tracking.specs.declared.tracked.Tracked.{Tracked}
 use Rattle.simplex_views.specs.declared.views.Views.{Views}
 use Rattle.simplex_views.specs.History as History
 use Rattle.simplex_tracking.specs.Pasts.{is_direct, put}
@@ -29,11 +29,11 @@ use Rattle.simplex_tracking.specs.Handing.{extend}
 use Rattle.simplex_views.specs.Leaders.{named, named_early, inherits, leader, was_forwarded}
 use Rattle.simplex_tracking.specs.Marks.{Shows}
 use Rattle.simplex_views.specs.Progress.{IsAt, frame_of, tables}
-use Rattle.simplex_tracking.specs.Rounds.{Keep, told}
-use Rattle.simplex_tracking.specs.Tracked.{Tables, IsClosedAt, inherits_by, is_spoken}
+use Rattle.simplex_tracking.specs.Rounds.{told}
+use Rattle.simplex_tracking.specs.Tracked.{Tables, Holds, IsClosedAt, inherits_by, is_spoken}
 use Rattle.simplex_views.specs.Views.{IsKept, noticed}
-use Rattle.simplex_tracking.specs.Laws.{Holds-led, Holds-with, Shows-same, inherits-less, inherits-same, put-fact}
-use Rattle.simplex_views.proofs.Advancing.{IsAt-tracked}
+use Rattle.simplex_tracking.specs.Laws.{Holds-led, Holds-noted, Shows-same, inherits-less, inherits-same, put-fact}
+use Rattle.simplex_views.proofs.Advancing.{IsAt-tracked, grown-tables}
 use Rattle.simplex_views.proofs.Following.{leader-closed, leader-same}
 
 module _ {S D P G C : Type 0} (s : Setup S C) (h : List (Point S D P G C)) where
@@ -294,23 +294,15 @@ module _ {S L D P G C : Type 0} {g : Ghosts S D P G C} {leads : elector.Ghosts L
   quiet-progress x p k q at = still-kept x p v.backed v.waiting k q.still (unled-progress x p (current s (x ∷ h)) q.unled at) (Shows-same v.backed (is_marked s backs h) (is_marked s backs (x ∷ h)) k.backed q.backs_none) (Shows-same v.waiting (is_marked s waits h) (is_marked s waits (x ∷ h)) k.waiting q.waits_none)
 
   -- the same, where the current view stays
-  pub quiet : (x : Point S D P G C) (r : Rounds S D P G C) → IsKept g leads s v h → IsQuiet s h x → current s (x ∷ h) ≡ current s h
-      → Keep g.key_of (frame_of s).common r (leader s h) (seen s (x ∷ h))
-      → IsKept g leads s (record v { progress = record v.progress { tracked = record v.progress.tracked { rounds = r } } }) (x ∷ h)
-  quiet x r k q stays kept = quiet-progress x (record v.progress { tracked = record v.progress.tracked { rounds = r } }) k q
-      (subst (λ n. IsAt g s (record v.progress { tracked = record v.progress.tracked { rounds = r } }) n (stepped s h x)) (sym stays)
-      (IsAt-tracked k.progress (Holds-with g (frame_of s) v.progress.tracked (tables s h) r (seen s (x ∷ h)) (was_forwarded s (x ∷ h)) k.progress.tracked kept q.unled.certificates q.unled.notes)))
+  pub quiet : (x : Point S D P G C) (y : Tracked S D P G C) → IsKept g leads s v h → IsQuiet s h x → current s (x ∷ h) ≡ current s h → Holds g (frame_of s) y (grown-tables s h (seen s (x ∷ h)))
+      → IsKept g leads s (record v { progress = record v.progress { tracked = y } }) (x ∷ h)
+  quiet x y k q stays holds = quiet-progress x (record v.progress { tracked = y }) k q
+      (subst (λ n. IsAt g s (record v.progress { tracked = y }) n (stepped s h x)) (sym stays)
+      (IsAt-tracked k.progress (Holds-noted g (frame_of s) y (grown-tables s h (seen s (x ∷ h))) (was_forwarded s (x ∷ h)) holds q.unled.notes)))
 
-  -- the rounds were changed, and views stand where they did
-  pub rounds-at : (r : Rounds S D P G C) (grown : ℕ → List (Item S D P G C)) → IsKept g leads s v h → Keep g.key_of (frame_of s).common r (leader s h) grown
-      → ((u : ℕ) → is_direct (grown u) ≡ is_direct (seen s h u))
-      → IsAt g s (record v.progress { tracked = record v.progress.tracked { rounds = r } }) (current s h) (record { led = leader s h; past = grown; noted = was_forwarded s h })
-  rounds-at r grown k kept certificates = IsAt-tracked k.progress (Holds-with g (frame_of s) v.progress.tracked (tables s h) r grown (was_forwarded s h) k.progress.tracked kept certificates (λ u. refl))
-
-  -- nothing happened, though the rounds were looked at
-  pub unmoved : (r : Rounds S D P G C) → IsKept g leads s v h → Keep g.key_of (frame_of s).common r (leader s h) (seen s h)
-      → IsKept g leads s (record v { progress = record v.progress { tracked = record v.progress.tracked { rounds = r } } }) h
-  unmoved r k kept = record {
+  -- nothing happened, though the views were looked at
+  pub unmoved : (y : Tracked S D P G C) → IsKept g leads s v h → Holds g (frame_of s) y (tables s h) → IsKept g leads s (record v { progress = record v.progress { tracked = y } }) h
+  unmoved y k holds = record {
     scheme = k.scheme;
     me = k.me;
     epoch = k.epoch;
@@ -320,7 +312,7 @@ module _ {S L D P G C : Type 0} {g : Ghosts S D P G C} {leads : elector.Ghosts L
     mode = k.mode;
     elects = k.elects;
     members = k.members;
-    progress = rounds-at r (seen s h) k kept (λ u. refl);
+    progress = IsAt-tracked k.progress holds;
     last_finalized = k.last_finalized;
     behind = k.behind;
     genesis = k.genesis;
@@ -331,19 +323,17 @@ module _ {S L D P G C : Type 0} {g : Ghosts S D P G C} {leads : elector.Ghosts L
   }
 
   -- a point that is added where something says so
-  pub quiet-if : (b : Bool) (x : Point S D P G C) (r : Rounds S D P G C) → IsKept g leads s v h → IsQuiet s h x → current s (x ∷ h) ≡ current s h
-      → Keep g.key_of (frame_of s).common r (leader s h) (if b then seen s (x ∷ h) else seen s h)
-      → IsKept g leads s (record v { progress = record v.progress { tracked = record v.progress.tracked { rounds = r } } }) (if b then x ∷ h else h)
-  quiet-if true x r k q stays kept = quiet x r k q stays kept
-  quiet-if false x r k q stays kept = unmoved r k kept
+  pub quiet-if : (b : Bool) (x : Point S D P G C) (y : Tracked S D P G C) → IsKept g leads s v h → IsQuiet s h x → current s (x ∷ h) ≡ current s h
+      → Holds g (frame_of s) y (grown-tables s h (if b then seen s (x ∷ h) else seen s h)) → IsKept g leads s (record v { progress = record v.progress { tracked = y } }) (if b then x ∷ h else h)
+  quiet-if true x y k q stays holds = quiet x y k q stays holds
+  quiet-if false x y k q stays holds = unmoved y k holds
 
   -- a point that is added where something says which
-  pub quiet-option : {A : Type 0} (o : Option A) (x : A → Point S D P G C) (grown : ℕ → List (Item S D P G C)) (r : Rounds S D P G C) → IsKept g leads s v h → ((a : A) → IsQuiet s h (x a))
-      → ((a : A) → current s (x a ∷ h) ≡ current s h) → ((a : A) → grown ≡ seen s (x a ∷ h)) → Keep g.key_of (frame_of s).common r (leader s h) (if is_some o then grown else seen s h)
-      → MatchOption o (IsKept g leads s (record v { progress = record v.progress { tracked = record v.progress.tracked { rounds = r } } }) h)
-      (λ a. IsKept g leads s (record v { progress = record v.progress { tracked = record v.progress.tracked { rounds = r } } }) (x a ∷ h))
-  quiet-option None x grown r k q stays same kept = unmoved r k kept
-  quiet-option (Some a) x grown r k q stays same kept = quiet (x a) r k (q a) (stays a) (subst (λ t. Keep g.key_of (frame_of s).common r (leader s h) t) (same a) kept)
+  pub quiet-option : {A : Type 0} (o : Option A) (x : A → Point S D P G C) (grown : ℕ → List (Item S D P G C)) (y : Tracked S D P G C) → IsKept g leads s v h → ((a : A) → IsQuiet s h (x a))
+      → ((a : A) → current s (x a ∷ h) ≡ current s h) → ((a : A) → grown ≡ seen s (x a ∷ h)) → Holds g (frame_of s) y (grown-tables s h (if is_some o then grown else seen s h))
+      → MatchOption o (IsKept g leads s (record v { progress = record v.progress { tracked = y } }) h) (λ a. IsKept g leads s (record v { progress = record v.progress { tracked = y } }) (x a ∷ h))
+  quiet-option None x grown y k q stays same holds = unmoved y k holds
+  quiet-option (Some a) x grown y k q stays same holds = quiet (x a) y k (q a) (stays a) (subst (λ t. Holds g (frame_of s) y (grown-tables s h t)) (same a) holds)
 
 module _ {S D P G C : Type 0} {g : Ghosts S D P G C} (s : Setup S C) (h : List (Point S D P G C)) where
   -- a true verdict enters the next view

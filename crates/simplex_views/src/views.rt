@@ -217,7 +217,7 @@ impl<S: Scheme<D> + Drop, L: Elector<S, D>, D: Digest> Views<S, L, D> {
         ensures before { IfSome result (λ last. last < end) }
         ensures tracked { AtEach S.Scheme L.Elector self.now (λ s h. MatchOption result (AreUntracked (leader s h) (seen s h) 0 end) (λ last. IsLastTracked (leader s h) (seen s h) end last)) }
     {
-        self.progress.tracked.rounds.last_tracked(end)
+        self.progress.tracked.last_tracked(end)
     }
 
     /// The first view from this one on of which something is known.
@@ -225,7 +225,7 @@ impl<S: Scheme<D> + Drop, L: Elector<S, D>, D: Digest> Views<S, L, D> {
         ensures behind { IfSome result (λ first. from ≤ first) }
         ensures tracked { AtEach S.Scheme L.Elector self.now (λ s h. MatchOption result (AreUntracked (leader s h) (seen s h) from (2 ^ 64)) (λ first. IsFirstTracked (leader s h) (seen s h) from first)) }
     {
-        self.progress.tracked.rounds.first_tracked(from)
+        self.progress.tracked.first_tracked(from)
     }
 
     /// The notarization of the view.
@@ -282,7 +282,7 @@ impl<S: Scheme<D> + Drop, L: Elector<S, D>, D: Digest> Views<S, L, D> {
     fn tell(&mut self, view: View, notice: Notice) -> Result<(), AllocError>
         ensures { OnOk result (AtEach S.Scheme L.Elector self.old (λ s h. Keeps S.Scheme L.Elector s self.new (noticed view notice ∷ h))) }
     {
-        self.progress.tracked.rounds.tell(view, notice)?;
+        self.progress.tracked.tell(view, notice)?;
         Ok(())
     }
 }

@@ -23,7 +23,6 @@ impl<S: Scheme<D> + Drop, L: Elector<S, D>, D: Digest> Views<S, L, D> {
     {
         self.progress
             .tracked
-            .rounds
             .request_verify(view, proposal, parent_payload)
     }
 

@@ -169,7 +169,7 @@ impl<S: Scheme<D> + Drop, L: Elector<S, D>, D: Digest> Views<S, L, D> {
             return Ok(None);
         };
         let copy = notarization.duplicate(alloc)?;
-        self.progress.tracked.rounds.judge(view, is_success)?;
+        self.progress.tracked.judge(view, is_success)?;
         if is_success {
             self.progress.enter(now, view.next())?;
             return Ok(Some(copy));
@@ -178,7 +178,7 @@ impl<S: Scheme<D> + Drop, L: Elector<S, D>, D: Digest> Views<S, L, D> {
             return Ok(Some(copy));
         }
         let notice = Notice::Latched(now, TimeoutReason::FailedCertification);
-        self.progress.tracked.rounds.tell(view, notice)?;
+        self.progress.tracked.tell(view, notice)?;
         Ok(Some(copy))
     }
 

@@ -21,7 +21,7 @@ impl<S: Scheme<D> + Drop, L: Elector<S, D>, D: Digest> Views<S, L, D> {
         ensures keeps { AtEach S.Scheme L.Elector self.old (λ s h. Keeps S.Scheme L.Elector s self.new (if is_some result then build_asked view ∷ h else h)) }
         ensures answer { AtEach S.Scheme L.Elector self.old (λ s h. MatchOption result (¬ MayPropose s.me (leader s h view) (seen s h view)) (λ x. MayPropose s.me (leader s h view) (seen s h view) × IsLeader S.key_of (round_of s view) (leader s h view) x)) }
     {
-        self.progress.tracked.rounds.try_propose(view)
+        self.progress.tracked.try_propose(view)
     }
 
     /// Gives the build back that was asked for in the view.
@@ -53,7 +53,6 @@ impl<S: Scheme<D> + Drop, L: Elector<S, D>, D: Digest> Views<S, L, D> {
         let taken = self
             .progress
             .tracked
-            .rounds
             .proposed(now, proposal, parent_payload)?;
         Ok(taken)
     }
@@ -68,7 +67,7 @@ impl<S: Scheme<D> + Drop, L: Elector<S, D>, D: Digest> Views<S, L, D> {
         ensures keeps { OnOk result (AtEach S.Scheme L.Elector self.old (λ s h. Keeps S.Scheme L.Elector s self.new (confirmed view ∷ h))) }
         ensures answer { IfOk result (λ became. AtEach S.Scheme L.Elector self.old (λ s h. IsTrue became ↔ ((has_nullified (seen s h view) ≡ false) × IsUnverified (offers (seen s h view))))) }
     {
-        let became = self.progress.tracked.rounds.verified(view)?;
+        let became = self.progress.tracked.verified(view)?;
         Ok(became)
     }
 

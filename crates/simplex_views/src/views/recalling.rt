@@ -26,15 +26,15 @@ impl<S: Scheme<D> + Drop, L: Elector<S, D>, D: Digest> Views<S, L, D> {
         ensures { OnOk result (AtEach S.Scheme L.Elector self.old (λ s h. (taken : Bool) × Takes (seen s h) artifact.now taken × Keeps S.Scheme L.Elector s self.new (recalls taken artifact.now ∷ h))) }
     {
         let Artifact::Notarize(vote) = artifact else {
-            self.progress.tracked.rounds.replay(artifact)?;
+            self.progress.tracked.replay(artifact)?;
             return Ok(());
         };
         let proposal = vote.proposal;
         let view = proposal.view();
         let is_taken = self.takes(&proposal);
         let payload = self.undecided_payload(proposal.parent);
-        self.progress.tracked.rounds.replay(artifact)?;
-        self.progress.tracked.rounds.bind(proposal, payload)?;
+        self.progress.tracked.replay(artifact)?;
+        self.progress.tracked.bind(proposal, payload)?;
         self.progress.tracked.follow(view)?;
         if is_taken {
             self.backed.mark(view)?;

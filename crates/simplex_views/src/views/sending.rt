@@ -26,11 +26,7 @@ impl<S: Scheme<D> + Drop, L: Elector<S, D>, D: Digest> Views<S, L, D> {
         ensures keeps { IfOk result (λ copy. AtEach S.Scheme L.Elector self.old (λ s h. Keeps S.Scheme L.Elector s self.new (if is_some copy then sent kind.Notarization view ∷ h else h))) }
         ensures answer { IfOk result (λ copy. AtEach S.Scheme L.Elector self.old (λ s h. copy ≡ (if past.has_sent_notarization (seen s h view) then None else past.notarization (seen s h view)))) }
     {
-        let copy = self
-            .progress
-            .tracked
-            .rounds
-            .broadcast_notarization(alloc, view)?;
+        let copy = self.progress.tracked.broadcast_notarization(alloc, view)?;
         Ok(copy)
     }
 
@@ -47,11 +43,7 @@ impl<S: Scheme<D> + Drop, L: Elector<S, D>, D: Digest> Views<S, L, D> {
         ensures keeps { IfOk result (λ copy. AtEach S.Scheme L.Elector self.old (λ s h. Keeps S.Scheme L.Elector s self.new (if is_some copy then sent kind.Nullification view ∷ h else h))) }
         ensures answer { IfOk result (λ copy. AtEach S.Scheme L.Elector self.old (λ s h. copy ≡ (if past.has_sent_nullification (seen s h view) then None else past.nullification (seen s h view)))) }
     {
-        let copy = self
-            .progress
-            .tracked
-            .rounds
-            .broadcast_nullification(alloc, view)?;
+        let copy = self.progress.tracked.broadcast_nullification(alloc, view)?;
         Ok(copy)
     }
 
@@ -68,11 +60,7 @@ impl<S: Scheme<D> + Drop, L: Elector<S, D>, D: Digest> Views<S, L, D> {
         ensures keeps { IfOk result (λ copy. AtEach S.Scheme L.Elector self.old (λ s h. Keeps S.Scheme L.Elector s self.new (if is_some copy then sent kind.Finalization view ∷ h else h))) }
         ensures answer { IfOk result (λ copy. AtEach S.Scheme L.Elector self.old (λ s h. copy ≡ (if past.has_sent_finalization (seen s h view) then None else past.finalization (seen s h view)))) }
     {
-        let copy = self
-            .progress
-            .tracked
-            .rounds
-            .broadcast_finalization(alloc, view)?;
+        let copy = self.progress.tracked.broadcast_finalization(alloc, view)?;
         Ok(copy)
     }
 }

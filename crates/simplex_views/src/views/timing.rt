@@ -54,7 +54,6 @@ impl<S: Scheme<D> + Drop, L: Elector<S, D>, D: Digest> Views<S, L, D> {
         let timeout = self
             .progress
             .tracked
-            .rounds
             .next_timeout(view, now, retry_interval, allow_latched_timeout)?;
         Ok(timeout)
     }

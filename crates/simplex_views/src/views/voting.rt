@@ -21,7 +21,7 @@ impl<S: Scheme<D> + Drop, L: Elector<S, D>, D: Digest> Views<S, L, D> {
         ensures keeps { IfOk result (λ voted. AtEach S.Scheme L.Elector self.old (λ s h. MatchOption voted (Keeps S.Scheme L.Elector s self.new h) (λ p. Keeps S.Scheme L.Elector s self.new (voted_notarize view p ∷ h)))) }
         ensures answer { IfOk result (λ voted. AtEach S.Scheme L.Elector self.old (λ s h. MatchOption voted (¬ MayNotarize (seen s h view)) (λ p. MayNotarize (seen s h view) × (held (offers (seen s h view)) ≡ Some p)))) }
     {
-        let Some(proposal) = self.progress.tracked.rounds.construct_notarize(view) else {
+        let Some(proposal) = self.progress.tracked.construct_notarize(view) else {
             return Ok(None);
         };
         self.progress.tracked.follow(view)?;
@@ -39,7 +39,7 @@ impl<S: Scheme<D> + Drop, L: Elector<S, D>, D: Digest> Views<S, L, D> {
         ensures keeps { IfOk result (λ voted. AtEach S.Scheme L.Elector self.old (λ s h. Keeps S.Scheme L.Elector s self.new (if is_some voted then voted_nullify view ∷ h else h))) }
         ensures answer { IfOk result (λ voted. AtEach S.Scheme L.Elector self.old (λ s h. voted ≡ (if has_finalized (seen s h view) then None else Some (has_nullified (seen s h view))))) }
     {
-        let voted = self.progress.tracked.rounds.construct_nullify(view)?;
+        let voted = self.progress.tracked.construct_nullify(view)?;
         Ok(voted)
     }
 
@@ -48,6 +48,6 @@ impl<S: Scheme<D> + Drop, L: Elector<S, D>, D: Digest> Views<S, L, D> {
         ensures keeps { AtEach S.Scheme L.Elector self.old (λ s h. MatchOption result (Keeps S.Scheme L.Elector s self.new h) (λ p. Keeps S.Scheme L.Elector s self.new (voted_finalize view p ∷ h))) }
         ensures answer { AtEach S.Scheme L.Elector self.old (λ s h. MatchOption result (¬ MayFinalize (seen s h view)) (λ p. MayFinalize (seen s h view) × (held (offers (seen s h view)) ≡ Some p))) }
     {
-        self.progress.tracked.rounds.construct_finalize(view)
+        self.progress.tracked.construct_finalize(view)
     }
 }

@@ -1,11 +1,8 @@
 use Rattle.std.proofs.Common.{refl}
 use Rattle.std.specs.Prelude.{is_some}
 use Rattle.simplex_rules.specs.declared.kind.Kind.TheVariants as kind
-use Rattle.simplex_views.proofs.Advancing.{IsAt-rounds}
 use Rattle.simplex_views.specs.History as History
-use Rattle.simplex_views.specs.History.{seen}
-use Rattle.simplex_views.specs.Leaders.{leader}
-use Rattle.simplex_views.specs.Progress.{frame_of}
+use Rattle.simplex_views.specs.Progress.{frame_of, tables}
 use Rattle.simplex_views.specs.Views.{Keeps}
 use Rattle.simplex_views.proofs.Stepping.{quiet-if, sent-quiet}
 use Rattle.simplex_views.proofs.views.Views.broadcast_finalization.Goals as goal
@@ -14,8 +11,4 @@ pub returns-clause-keeps : goal.returns-clause-keeps
 unfolding Keeps
 returns-clause-keeps g c = λ s h k.
     quiet-if (is_some c.in_ok-copy.copy) (History.sent kind.Finalization c.args.view) c.broadcast_finalization.new.self k (sent-quiet s h kind.Finalization c.args.view) refl
-    (c.in_ok-copy.ensures.keeps (frame_of s).common (leader s h) (seen s h) (IsAt-rounds k.progress))
-
-pub returns-clause-answer : goal.returns-clause-answer
-unfolding Keeps
-returns-clause-answer g c = λ s h k. c.in_ok-copy.ensures.answer (frame_of s).common (leader s h) (seen s h) (IsAt-rounds k.progress)
+    (c.in_ok-copy.ensures.keeps (frame_of s) (tables s h) k.progress.tracked)

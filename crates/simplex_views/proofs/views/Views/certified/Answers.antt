@@ -2,16 +2,15 @@ use Rattle.std.proofs.Common.{refl, ◌≡◌, true, false, subst, arith, ◌∷
 use Rattle.std.specs.Prelude.{nat_le}
 use Rattle.std.proofs.lemmas.Bool.Decides.{nat_tests}
 use Rattle.simplex_round.specs.Past as past
-use Rattle.simplex_views.proofs.Advancing.{IsAt-rounds}
+use Rattle.simplex_views.proofs.Advancing.{IsAt-tracked, grown-tables}
 use Rattle.simplex_views.specs.History as History
-use Rattle.simplex_tracking.specs.Pasts.{is_direct, put}
+use Rattle.simplex_tracking.specs.Pasts.{put}
 use Rattle.simplex_views.specs.History.{current, seen}
 use Rattle.simplex_views.specs.Leaders.{leader, was_forwarded}
-use Rattle.simplex_views.specs.Progress.{frame_of}
-use Rattle.simplex_tracking.specs.Rounds.{Keep}
+use Rattle.simplex_views.specs.Progress.{frame_of, tables}
+use Rattle.simplex_tracking.specs.Tracked.{Holds}
 use Rattle.simplex_views.specs.Views.{Keeps}
-use Rattle.simplex_tracking.specs.Laws.{put-fact}
-use Rattle.simplex_views.proofs.Stepping.{quiet, quiet-progress, rounds-at, judged-quiet, judged-ahead, judged-behind, judged-stays, judged-true}
+use Rattle.simplex_views.proofs.Stepping.{quiet, quiet-progress, judged-quiet, judged-ahead, judged-behind, judged-stays, judged-true}
 use Rattle.simplex_views.proofs.views.Views.certified.Goals as goal
 
 pub returns-then-is_success-clause-keeps : goal.returns-then-is_success-clause-keeps
@@ -20,9 +19,8 @@ returns-then-is_success-clause-keeps g c = λ s h k time.
     let at = c.args.view in
     let ok = c.args.is_success in
     let grown = put at (past.judged ok) (seen s h) in
-    let judged = c.in_ok-judge.ensures (frame_of s).common (leader s h) (seen s h) (IsAt-rounds k.progress) in
-    let moved = rounds-at _ grown k judged (put-fact is_direct (past.judged ok) (λ l. refl) at (seen s h)) in
-    let entered = c.in_ok-enter.ensures s (current s h) (record { led = leader s h; past = grown; noted = was_forwarded s h }) moved time in
+    let judged = c.in_ok-judge.ensures (frame_of s) (tables s h) k.progress.tracked in
+    let entered = c.in_ok-enter.ensures s (current s h) (grown-tables s h grown) (IsAt-tracked k.progress judged) time in
     quiet-progress (History.judged c.args.now at ok) _ k (judged-quiet s h c.args.now at ok) (judged-true s h c.args.now at _ ok _ c.next.ensures c.if-is_success.true entered)
 
 pub returns-then-lt-clause-keeps : goal.returns-then-lt-clause-keeps
@@ -33,9 +31,9 @@ returns-then-lt-clause-keeps g c = λ s h k time.
     let bad : ok ≡ false = c.if-is_success.false in
     let view : c.args.self.now.progress.view ≡ current s h = k.progress.view in
     let behind : nat_le (current s h) at ≡ false = grind (arith, nat_tests, view, c.lt.ensures, c.if-lt.true) in
-    let judged = c.in_ok-judge.ensures (frame_of s).common (leader s h) (seen s h) (IsAt-rounds k.progress) in
-    let kept : Keep g.S.Scheme.key_of (frame_of s).common c.judge.new.self (leader s h) (seen s (History.judged c.args.now at ok ∷ h)) =
-    subst (λ t. Keep g.S.Scheme.key_of (frame_of s).common c.judge.new.self (leader s h) t) (judged-behind s h c.args.now at ok bad behind) judged in
+    let judged = c.in_ok-judge.ensures (frame_of s) (tables s h) k.progress.tracked in
+    let kept : Holds g.S.Scheme (frame_of s) c.judge.new.self (grown-tables s h (seen s (History.judged c.args.now at ok ∷ h))) =
+    subst (λ t. Holds g.S.Scheme (frame_of s) c.judge.new.self (grown-tables s h t)) (judged-behind s h c.args.now at ok bad behind) judged in
     quiet (History.judged c.args.now at ok) c.judge.new.self k (judged-quiet s h c.args.now at ok) (judged-stays s h c.args.now at ok bad) kept
 
 pub returns-clause-keeps : goal.returns-clause-keeps
@@ -47,8 +45,8 @@ returns-clause-keeps g c = λ s h k time.
     let view : c.args.self.now.progress.view ≡ current s h = k.progress.view in
     let ahead : nat_le (current s h) at ≡ true = grind (arith, nat_tests, view, c.lt.ensures, c.if-lt.false) in
     let grown = put at (past.judged ok) (seen s h) in
-    let judged = c.in_ok-judge.ensures (frame_of s).common (leader s h) (seen s h) (IsAt-rounds k.progress) in
-    let latched = c.in_ok-tell.ensures (frame_of s).common (leader s h) grown judged in
-    let kept : Keep g.S.Scheme.key_of (frame_of s).common c.tell.new.self (leader s h) (seen s (History.judged c.args.now at ok ∷ h)) =
-    subst (λ t. Keep g.S.Scheme.key_of (frame_of s).common c.tell.new.self (leader s h) t) (judged-ahead s h c.args.now at ok bad ahead) latched in
+    let judged = c.in_ok-judge.ensures (frame_of s) (tables s h) k.progress.tracked in
+    let latched = c.in_ok-tell.ensures (frame_of s) (grown-tables s h grown) judged in
+    let kept : Holds g.S.Scheme (frame_of s) c.tell.new.self (grown-tables s h (seen s (History.judged c.args.now at ok ∷ h))) =
+    subst (λ t. Holds g.S.Scheme (frame_of s) c.tell.new.self (grown-tables s h t)) (judged-ahead s h c.args.now at ok bad ahead) latched in
     quiet (History.judged c.args.now at ok) c.tell.new.self k (judged-quiet s h c.args.now at ok) (judged-stays s h c.args.now at ok bad) kept

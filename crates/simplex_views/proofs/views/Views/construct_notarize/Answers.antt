@@ -6,30 +6,29 @@ use Rattle.simplex_tracking.specs.Pasts.{is_direct, put}
 use Rattle.simplex_views.specs.History.{is_marked, seen}
 use Rattle.simplex_views.specs.Known.{backs}
 use Rattle.simplex_views.specs.Leaders.{leader, was_forwarded}
-use Rattle.simplex_views.specs.Progress.{frame_of}
-use Rattle.simplex_tracking.specs.Rounds.{Keep}
+use Rattle.simplex_views.specs.Progress.{frame_of, tables}
+use Rattle.simplex_tracking.specs.Tracked.{Holds}
 use Rattle.simplex_views.specs.Views.{Keeps}
 use Rattle.simplex_tracking.specs.Laws.{put-fact}
-use Rattle.simplex_views.proofs.Stepping.{notarize-still, rounds-at, spoken-closed, still-kept, unmoved}
-use Rattle.simplex_views.proofs.Advancing.{IsAt-tracked, IsAt-rounds}
+use Rattle.simplex_views.proofs.Stepping.{notarize-still, spoken-closed, still-kept, unmoved}
+use Rattle.simplex_views.proofs.Advancing.{IsAt-tracked, grown-tables}
 use Rattle.simplex_views.proofs.views.Views.construct_notarize.Goals as goal
 
 pub returns-in_default-clause-keeps : goal.returns-in_default-clause-keeps
 unfolding Keeps
 returns-in_default-clause-keeps g c = λ s h k.
     let none = c.in_default.is in
-    unmoved c.construct_notarize.new.self k (rw none at (c.construct_notarize.ensures.keeps (frame_of s).common (leader s h) (seen s h) (IsAt-rounds k.progress)))
+    unmoved c.construct_notarize.new.self k (rw none at (c.construct_notarize.ensures.keeps (frame_of s) (tables s h) k.progress.tracked))
 
 pub returns-clause-keeps : goal.returns-clause-keeps
 unfolding Keeps
 returns-clause-keeps g c = λ s h k.
     let view = c.args.view in
     let grown = put view past.voted_notarize (seen s h) in
-    let voted : Keep g.S.Scheme.key_of (frame_of s).common c.construct_notarize.new.self (leader s h) grown =
-    rw c.in-Some.is at (c.construct_notarize.ensures.keeps (frame_of s).common (leader s h) (seen s h) (IsAt-rounds k.progress)) in
+    let voted : Holds g.S.Scheme (frame_of s) c.construct_notarize.new.self (grown-tables s h grown) =
+    rw c.in-Some.is at (c.construct_notarize.ensures.keeps (frame_of s) (tables s h) k.progress.tracked) in
     let certificates = put-fact is_direct past.voted_notarize (λ l. refl) view (seen s h) in
-    let at = rounds-at c.construct_notarize.new.self grown k voted certificates in
-    let followed = c.in_ok-follow.ensures (frame_of s) (record { led = leader s h; past = grown; noted = was_forwarded s h }) at.tracked
+    let followed = c.in_ok-follow.ensures (frame_of s) (grown-tables s h grown) voted
     (spoken-closed s h grown view certificates (λ w apart. rw apart refl)) in
     still-kept (History.voted_notarize view c.in-Some.proposal) _ c.mark.new.self c.args.self.now.waiting k (notarize-still s h view c.in-Some.proposal)
     (IsAt-tracked k.progress followed)
@@ -37,8 +36,8 @@ returns-clause-keeps g c = λ s h k.
 
 pub returns-in_default-clause-answer : goal.returns-in_default-clause-answer
 unfolding Keeps
-returns-in_default-clause-answer g c = λ s h k. rw c.in_default.is at (c.construct_notarize.ensures.answer (frame_of s).common (leader s h) (seen s h) (IsAt-rounds k.progress))
+returns-in_default-clause-answer g c = λ s h k. rw c.in_default.is at (c.construct_notarize.ensures.answer (frame_of s) (tables s h) k.progress.tracked)
 
 pub returns-clause-answer : goal.returns-clause-answer
 unfolding Keeps
-returns-clause-answer g c = λ s h k. rw c.in-Some.is at (c.construct_notarize.ensures.answer (frame_of s).common (leader s h) (seen s h) (IsAt-rounds k.progress))
+returns-clause-answer g c = λ s h k. rw c.in-Some.is at (c.construct_notarize.ensures.answer (frame_of s) (tables s h) k.progress.tracked)

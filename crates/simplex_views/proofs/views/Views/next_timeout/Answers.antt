@@ -1,12 +1,11 @@
 use Rattle.std.proofs.Common.{◌≡◌, true, refl, sym, subst, arith}
 use Rattle.std.specs.Prelude.{nat_lt}
 use Rattle.std.proofs.lemmas.Bool.Decides.{nat_tests}
-use Rattle.simplex_views.proofs.Advancing.{IsAt-rounds}
+use Rattle.simplex_views.proofs.Advancing.{grown-tables}
 use Rattle.simplex_views.specs.History as History
-use Rattle.simplex_views.specs.History.{current, seen}
-use Rattle.simplex_views.specs.Leaders.{leader}
-use Rattle.simplex_views.specs.Progress.{frame_of}
-use Rattle.simplex_tracking.specs.Rounds.{Keep}
+use Rattle.simplex_views.specs.History.{current}
+use Rattle.simplex_views.specs.Progress.{frame_of, tables}
+use Rattle.simplex_tracking.specs.Tracked.{Holds}
 use Rattle.simplex_views.specs.Views.{Keeps}
 use Rattle.simplex_views.proofs.Stepping.{polled-none, polled-quiet, polled-some, quiet}
 use Rattle.simplex_views.proofs.views.Views.next_timeout.Goals as goal
@@ -15,16 +14,16 @@ pub returns-then-is_zero-clause-keeps : goal.returns-then-is_zero-clause-keeps
 unfolding Keeps
 returns-then-is_zero-clause-keeps g c = λ s h k same.
     let zero : c.args.self.now.progress.view ≡ 0 = c.is_zero.ensures.0 c.if-is_zero.true in
-    quiet (History.polled c.args.now) c.args.self.now.progress.tracked.rounds k (polled-quiet s h c.args.now) refl
-    (subst (λ t. Keep g.S.Scheme.key_of (frame_of s).common c.args.self.now.progress.tracked.rounds (leader s h) t) (polled-none s h c.args.now (rw zero at (sym k.progress.view))) (IsAt-rounds k.progress))
+    quiet (History.polled c.args.now) c.args.self.now.progress.tracked k (polled-quiet s h c.args.now) refl
+    (subst (λ t. Holds g.S.Scheme (frame_of s) c.args.self.now.progress.tracked (grown-tables s h t)) (polled-none s h c.args.now (rw zero at (sym k.progress.view))) k.progress.tracked)
 
 pub returns-clause-keeps : goal.returns-clause-keeps
 unfolding Keeps
 returns-clause-keeps g c = λ s h k same.
     let some : c.args.self.now.progress.view ≡ 0 → ⊥ = λ zero. absurd (let is = c.is_zero.ensures.1 zero in let isnt = c.if-is_zero.false in cc) in
-    let told = c.in_ok-timeout.ensures.keeps (frame_of s).common (leader s h) (seen s h) (IsAt-rounds k.progress) in
+    let told = c.in_ok-timeout.ensures.keeps (frame_of s) (tables s h) k.progress.tracked in
     quiet (History.polled c.args.now) c.next_timeout.new.self k (polled-quiet s h c.args.now) refl
-    (subst (λ t. Keep g.S.Scheme.key_of (frame_of s).common c.next_timeout.new.self (leader s h) t) (polled-some s h c.args.now c.args.self.now.progress.view c.args.retry_interval same k.progress.view some) told)
+    (subst (λ t. Holds g.S.Scheme (frame_of s) c.next_timeout.new.self (grown-tables s h t)) (polled-some s h c.args.now c.args.self.now.progress.view c.args.retry_interval same k.progress.view some) told)
 
 pub returns-clause-answer : goal.returns-clause-answer
 unfolding Keeps
@@ -32,4 +31,4 @@ returns-clause-answer g c = λ s h k.
     let some : c.args.self.now.progress.view ≡ 0 → ⊥ = λ zero. absurd (let is = c.is_zero.ensures.1 zero in let isnt = c.if-is_zero.false in cc) in
     let started : nat_lt 0 c.args.self.now.progress.view ≡ true = grind (arith, nat_tests, some) in
     let at : c.args.self.now.progress.view ≡ current s h = k.progress.view in
-    rw (← at) (rw started (c.in_ok-timeout.ensures.answer (frame_of s).common (leader s h) (seen s h) (IsAt-rounds k.progress)))
+    rw (← at) (rw started (c.in_ok-timeout.ensures.answer (frame_of s) (tables s h) k.progress.tracked))

@@ -1,9 +1,6 @@
 use Rattle.std.proofs.Common.{refl}
-use Rattle.simplex_views.proofs.Advancing.{IsAt-rounds}
 use Rattle.simplex_views.specs.History as History
-use Rattle.simplex_views.specs.History.{seen}
-use Rattle.simplex_views.specs.Leaders.{leader}
-use Rattle.simplex_views.specs.Progress.{frame_of}
+use Rattle.simplex_views.specs.Progress.{frame_of, tables}
 use Rattle.simplex_views.specs.Views.{Keeps}
 use Rattle.simplex_views.proofs.Stepping.{confirmed-quiet, quiet}
 use Rattle.simplex_views.proofs.views.Views.verified.Goals as goal
@@ -12,8 +9,4 @@ pub returns-clause-keeps : goal.returns-clause-keeps
 unfolding Keeps
 returns-clause-keeps g c = λ s h k.
     quiet (History.confirmed c.args.view) c.verified.new.self k (confirmed-quiet s h c.args.view) refl
-    (c.in_ok-became.ensures.keeps (frame_of s).common (leader s h) (seen s h) (IsAt-rounds k.progress))
-
-pub returns-clause-answer : goal.returns-clause-answer
-unfolding Keeps
-returns-clause-answer g c = λ s h k. c.in_ok-became.ensures.answer (frame_of s).common (leader s h) (seen s h) (IsAt-rounds k.progress)
+    (c.in_ok-became.ensures.keeps (frame_of s) (tables s h) k.progress.tracked)

@@ -1,0 +1,188 @@
+//! What happens to one view. It is no certificate, and hands no leader on: a proposal or an own notarize lets `follow` do that.
+
+ghost use Rattle.std.specs.Prelude.{◌≡◌, ◌↔◌, ◌<◌, ◌≤◌, ◌+◌, ◌^◌, if◌then◌else◌, Bool, false, ◌∷◌, Some, None, is_some, IsTrue, IfSome, IfOk, OnOk, MatchOption};
+ghost use Rattle.simplex_round.specs.Held.{held, building, confirmed, verifying, Agrees, IsUnverified};
+ghost use Rattle.simplex_round.specs.Past.{offered, sent_notarization, sent_nullification, sent_finalization, has_sent_notarization, has_sent_nullification, has_sent_finalization, judged, bound, built, polled, voted_finalize, voted_notarize, voted_nullify, notarization, nullification, finalization, offers, has_finalized, has_nullified, next_timeout, MayFinalize, MayNotarize, MayPropose, MayVerify};
+ghost use Rattle.simplex_round.specs.Round as one;
+ghost use Rattle.simplex_tracking.specs.Pasts.{bind, put};
+ghost use Rattle.simplex_tracking.specs.Rounds.{AreUntracked, IsFirstTracked, IsLastTracked, Takes, recalled, setup_of, told};
+ghost use Rattle.simplex_tracking.specs.Tracked.{Tables, Holds, AtEach};
+
+use crate::notice::Notice;
+use crate::tracked::Tracked;
+use simplex_messages::{Artifact, Finalization, Notarization, Nullification};
+use simplex_round::{Leader, TimeoutReason};
+use simplex_types::{Digest, Proposal, Scheme, View};
+use std::alloc::{AllocError, Global};
+
+impl<S: Scheme<D> + Drop, D: Digest> Tracked<S, D> {
+    /// The last view before the end of which something is known.
+    pub fn last_tracked(&self, end: View) -> Option<View>
+        ensures before { IfSome result (λ last. last < end) }
+        ensures tracked { AtEach S.Scheme self.now (λ f t. MatchOption result (AreUntracked t.led t.past 0 end) (λ last. IsLastTracked t.led t.past end last)) }
+    {
+        self.rounds.last_tracked(end)
+    }
+
+    /// The first view from this one on of which something is known.
+    pub fn first_tracked(&self, from: View) -> Option<View>
+        ensures behind { IfSome result (λ first. from ≤ first) }
+        ensures tracked { AtEach S.Scheme self.now (λ f t. MatchOption result (AreUntracked t.led t.past from (2 ^ 64)) (λ first. IsFirstTracked t.led t.past from first)) }
+    {
+        self.rounds.first_tracked(from)
+    }
+
+    /// Takes in the verdict on a view.
+    pub fn judge(&mut self, view: View, is_success: bool) -> Result<(), AllocError>
+        ensures { OnOk result (AtEach S.Scheme self.old (λ f t. Holds S.Scheme f self.new (record t { past = put view (judged is_success) t.past }))) }
+    {
+        self.rounds.judge(view, is_success)?;
+        Ok(())
+    }
+
+    /// Takes in what needs no answer.
+    pub fn tell(&mut self, view: View, notice: Notice) -> Result<(), AllocError>
+        ensures { OnOk result (AtEach S.Scheme self.old (λ f t. Holds S.Scheme f self.new (record t { past = put view (told notice) t.past }))) }
+    {
+        self.rounds.tell(view, notice)?;
+        Ok(())
+    }
+
+    /// Takes it that the held proposal was found good: whether it became verified. Behind an own nullify nothing changes.
+    pub fn verified(&mut self, view: View) -> Result<bool, AllocError>
+        ensures keeps { OnOk result (AtEach S.Scheme self.old (λ f t. Holds S.Scheme f self.new (record t { past = if has_nullified (t.past view) then t.past else put view (offered confirmed) t.past }))) }
+        ensures answer { IfOk result (λ became. AtEach S.Scheme self.old (λ f t. IsTrue became ↔ ((has_nullified (t.past view) ≡ false) × IsUnverified (offers (t.past view))))) }
+    {
+        let became = self.rounds.verified(view)?;
+        Ok(became)
+    }
+
+    /// Records an own build over its parent's payload: whether it is taken. Else nothing changes.
+    pub fn proposed(
+        &mut self,
+        now: u64,
+        proposal: Proposal<D>,
+        payload: D,
+    ) -> Result<bool, AllocError>
+        ensures keeps { IfOk result (λ taken. AtEach S.Scheme self.old (λ f t. Holds S.Scheme f self.new (record t { past = if taken then put proposal.round.view (bound proposal payload) (put proposal.round.view (built now proposal) t.past) else t.past }))) }
+        ensures answer { IfOk result (λ taken. AtEach S.Scheme self.old (λ f t. IsTrue taken ↔ ((has_nullified (t.past proposal.round.view) ≡ false) × Agrees (held (offers (t.past proposal.round.view))) proposal))) }
+    {
+        let taken = self.rounds.proposed(now, proposal, payload)?;
+        Ok(taken)
+    }
+
+    /// Votes to notarize the view, where it allows that: the held proposal.
+    pub fn construct_notarize(&mut self, view: View) -> Option<Proposal<D>>
+        ensures keeps { AtEach S.Scheme self.old (λ f t. Holds S.Scheme f self.new (record t { past = if is_some result then put view voted_notarize t.past else t.past })) }
+        ensures answer { AtEach S.Scheme self.old (λ f t. MatchOption result (¬ MayNotarize (t.past view)) (λ p. MayNotarize (t.past view) × (held (offers (t.past view)) ≡ Some p))) }
+    {
+        self.rounds.construct_notarize(view)
+    }
+
+    /// Votes to finalize the view, where it allows that: the held proposal.
+    pub fn construct_finalize(&mut self, view: View) -> Option<Proposal<D>>
+        ensures keeps { AtEach S.Scheme self.old (λ f t. Holds S.Scheme f self.new (record t { past = if is_some result then put view voted_finalize t.past else t.past })) }
+        ensures answer { AtEach S.Scheme self.old (λ f t. MatchOption result (¬ MayFinalize (t.past view)) (λ p. MayFinalize (t.past view) × (held (offers (t.past view)) ≡ Some p))) }
+    {
+        self.rounds.construct_finalize(view)
+    }
+
+    /// Votes to nullify the view, unless this member voted to finalize it: whether it did before.
+    pub fn construct_nullify(&mut self, view: View) -> Result<Option<bool>, AllocError>
+        ensures keeps { IfOk result (λ voted. AtEach S.Scheme self.old (λ f t. Holds S.Scheme f self.new (record t { past = if is_some voted then put view voted_nullify t.past else t.past }))) }
+        ensures answer { IfOk result (λ voted. AtEach S.Scheme self.old (λ f t. voted ≡ (if has_finalized (t.past view) then None else Some (has_nullified (t.past view))))) }
+    {
+        let voted = self.rounds.construct_nullify(view)?;
+        Ok(voted)
+    }
+
+    /// When and why the view is given up next, where a nullify that was voted is due again an interval after this look.
+    pub fn next_timeout(
+        &mut self,
+        view: View,
+        now: u64,
+        retry_interval: u64,
+        allow_latched_timeout: bool,
+    ) -> Result<Option<(u64, TimeoutReason)>, AllocError>
+        requires { now + retry_interval < 2 ^ 64 }
+        ensures keeps { OnOk result (AtEach S.Scheme self.old (λ f t. Holds S.Scheme f self.new (record t { past = put view (polled (now + retry_interval)) t.past }))) }
+        ensures answer { IfOk result (λ timeout. AtEach S.Scheme self.old (λ f t. timeout ≡ next_timeout (polled (now + retry_interval) ∷ t.past view) allow_latched_timeout)) }
+    {
+        let timeout = self
+            .rounds
+            .next_timeout(view, now, retry_interval, allow_latched_timeout)?;
+        Ok(timeout)
+    }
+
+    /// Asks for a build in the view: its leader, this member, where one may be asked for. Else nothing changes.
+    pub fn try_propose(&mut self, view: View) -> Option<Leader<S::PublicKey>>
+        ensures keeps { AtEach S.Scheme self.old (λ f t. Holds S.Scheme f self.new (record t { past = if is_some result then put view (offered building) t.past else t.past })) }
+        ensures answer { AtEach S.Scheme self.old (λ f t. MatchOption result (¬ MayPropose (S.own f.common.scheme) (t.led view) (t.past view)) (λ x. MayPropose (S.own f.common.scheme) (t.led view) (t.past view) × one.IsLeader S.key_of (setup_of f.common view) (t.led view) x)) }
+    {
+        self.rounds.try_propose(view)
+    }
+
+    /// Asks for a verification of the view's proposal over its parent's payload, and binds it to that: whether one may be asked
+    /// for. Else nothing changes.
+    pub fn request_verify(&mut self, view: View, proposal: Proposal<D>, payload: D) -> bool
+        ensures keeps { AtEach S.Scheme self.old (λ f t. Holds S.Scheme f self.new (record t { past = if result then put view (bound proposal payload) (put view (offered verifying) t.past) else t.past })) }
+        ensures answer { AtEach S.Scheme self.old (λ f t. IsTrue result ↔ MayVerify (S.own f.common.scheme) (t.led view) (t.past view)) }
+    {
+        self.rounds.request_verify(view, proposal, payload)
+    }
+
+    /// A copy of the notarization of the view to hand out, once.
+    pub fn broadcast_notarization(
+        &mut self,
+        alloc: Global,
+        view: View,
+    ) -> Result<Option<Notarization<S, D>>, AllocError>
+        ensures keeps { IfOk result (λ copy. AtEach S.Scheme self.old (λ f t. Holds S.Scheme f self.new (record t { past = if is_some copy then put view sent_notarization t.past else t.past }))) }
+        ensures answer { IfOk result (λ copy. AtEach S.Scheme self.old (λ f t. copy ≡ (if has_sent_notarization (t.past view) then None else notarization (t.past view)))) }
+    {
+        let copy = self.rounds.broadcast_notarization(alloc, view)?;
+        Ok(copy)
+    }
+
+    /// A copy of the nullification of the view to hand out, once.
+    pub fn broadcast_nullification(
+        &mut self,
+        alloc: Global,
+        view: View,
+    ) -> Result<Option<Nullification<S, D>>, AllocError>
+        ensures keeps { IfOk result (λ copy. AtEach S.Scheme self.old (λ f t. Holds S.Scheme f self.new (record t { past = if is_some copy then put view sent_nullification t.past else t.past }))) }
+        ensures answer { IfOk result (λ copy. AtEach S.Scheme self.old (λ f t. copy ≡ (if has_sent_nullification (t.past view) then None else nullification (t.past view)))) }
+    {
+        let copy = self.rounds.broadcast_nullification(alloc, view)?;
+        Ok(copy)
+    }
+
+    /// A copy of the finalization of the view to hand out, once.
+    pub fn broadcast_finalization(
+        &mut self,
+        alloc: Global,
+        view: View,
+    ) -> Result<Option<Finalization<S, D>>, AllocError>
+        ensures keeps { IfOk result (λ copy. AtEach S.Scheme self.old (λ f t. Holds S.Scheme f self.new (record t { past = if is_some copy then put view sent_finalization t.past else t.past }))) }
+        ensures answer { IfOk result (λ copy. AtEach S.Scheme self.old (λ f t. copy ≡ (if has_sent_finalization (t.past view) then None else finalization (t.past view)))) }
+    {
+        let copy = self.rounds.broadcast_finalization(alloc, view)?;
+        Ok(copy)
+    }
+
+    /// Takes in an artifact of this member's record.
+    pub fn replay(&mut self, artifact: &Artifact<S, D>) -> Result<(), AllocError>
+        ensures { OnOk result (AtEach S.Scheme self.old (λ f t. (taken : Bool) × Takes t.past artifact.now taken × Holds S.Scheme f self.new (record t { past = recalled taken artifact.now t.past }))) }
+    {
+        self.rounds.replay(artifact)?;
+        Ok(())
+    }
+
+    /// Binds the proposal to its parent's payload, where there is one.
+    pub fn bind(&mut self, proposal: Proposal<D>, payload: Option<D>) -> Result<(), AllocError>
+        ensures { OnOk result (AtEach S.Scheme self.old (λ f t. Holds S.Scheme f self.new (record t { past = bind payload proposal t.past }))) }
+    {
+        self.rounds.bind(proposal, payload)?;
+        Ok(())
+    }
+}
