@@ -392,5 +392,5 @@ module _ {S D P G C : Type 0} where
   recall_tells taken a u is = absurd (none-some u is)
 
   -- for none where nothing happened
-  pub none_among : (s : Setup S C) (views : BTreeSet ℕ) → AreAmong s [] views
+  pub none_among : (s : Setup S C) (views : BTreeSet ℕ) → AreAmong {D = D} {P = P} {G = G} s [] views
   none_among s views = record { all = λ view p fits may. absurd (none-some p may.opens.notarized) }

@@ -1,6 +1,7 @@
-use Rattle.std.proofs.Common.{◌∙◌, ◌∷◌}
+use Rattle.std.proofs.Common.{◌∙◌, ◌∷◌, refl}
 use Rattle.simplex_views.specs.History.{build_asked}
 use Rattle.simplex_voter.specs.State.{Keeps}
+use Rattle.simplex_voter.proofs.Waking.{stays}
 use Rattle.simplex_voter.proofs.state.State.try_propose.Goals as goal
 
 pub returns-clause-answer : goal.returns-clause-answer
@@ -10,3 +11,15 @@ returns-clause-answer g c = λ s h k.
       rw c.new.ensures.view (c.in_ok-view.ensures s h k),
       record { epoch = c.new.ensures.epoch ∙ c.epoch.ensures s (build_asked c.in_ok-view.view ∷ h) (c.in_ok-leader.ensures.keeps s h k.views); index = c.in_ok-leader.leader.idx; me = made.0.leads.1 ∙ made.1.0; key = made.1.1 },
     )
+
+pub returns-clause-keeps : goal.returns-clause-keeps
+unfolding Keeps
+returns-clause-keeps g c = λ s h k.
+    rw c.new.ensures.view (record {
+      scheme = k.scheme;
+      me = k.me;
+      timeout_retry = k.timeout_retry;
+      skip_budget = k.skip_budget;
+      views = c.in_ok-leader.ensures.keeps s h k.views;
+      candidates = stays s h (build_asked c.in_ok-view.view) c.args.self.now.candidates refl k.candidates;
+    })
