@@ -121,23 +121,23 @@ module _ {D : Type 0} (m : Member) (k : Known D) where
         → IsSorted (λ (f : CertificateFetch). f.proposal) (λ (f : CertificateFetch). CertificateIsWanted m k f.proposal f.view) (view + 1) fetches
     no_fetch not = passes (λ (f : CertificateFetch). f.proposal) (λ (f : CertificateFetch). CertificateIsWanted m k f.proposal f.view) view end fetches found.fetches from
         (λ f behind to wanted.
-          let may = put_off_may f.proposal f.view (wanted_is_put_off f.proposal f.view wanted) in
-          not f.view (subst (λ (u : ℕ). CertificateIsWanted m k u f.view) (here f.proposal may.0 behind to may.1) wanted))
+        let may = put_off_may f.proposal f.view (wanted_is_put_off f.proposal f.view wanted) in
+        not f.view (subst (λ (u : ℕ). CertificateIsWanted m k u f.view) (here f.proposal may.0 behind to may.1) wanted))
 
     one_fetch : (u : ℕ) → CertificateIsWanted m k view u
         → IsSorted (λ (f : CertificateFetch). f.proposal) (λ (f : CertificateFetch). CertificateIsWanted m k f.proposal f.view) (view + 1) (fetches ++ record { proposal = view; view = u } ∷ [])
     one_fetch u wanted = grows_by (λ (f : CertificateFetch). f.proposal) (λ (f : CertificateFetch). CertificateIsWanted m k f.proposal f.view) view end fetches (record { proposal = view; view = u }) found.fetches from refl wanted
         (λ f behind to other.
-          let may = put_off_may f.proposal f.view (wanted_is_put_off f.proposal f.view other) in
-          let own : f.proposal ≡ view = here f.proposal may.0 behind to may.1 in
-          let parent : f.view ≡ u = same_required view f.view u (subst (λ (w : ℕ). CertifyWaits m k w f.view) own other.waits) wanted.waits in
-          λ i. record { proposal = own i; view = parent i })
+        let may = put_off_may f.proposal f.view (wanted_is_put_off f.proposal f.view other) in
+        let own : f.proposal ≡ view = here f.proposal may.0 behind to may.1 in
+        let parent : f.view ≡ u = same_required view f.view u (subst (λ (w : ℕ). CertifyWaits m k w f.view) own other.waits) wanted.waits in
+        λ i. record { proposal = own i; view = parent i })
 
     no_put_off : ((u : ℕ) → IsPutOff m k view u → ⊥) → IsSorted (λ (u : ℕ). u) (λ (u : ℕ). (required : ℕ) × IsPutOff m k u required) (view + 1) waiting
     no_put_off not = passes (λ (u : ℕ). u) (λ (u : ℕ). (required : ℕ) × IsPutOff m k u required) view end waiting found.put_off from
         (λ u behind to is.
-          let may = put_off_may u is.0 is.1 in
-          not is.0 (subst (λ (w : ℕ). IsPutOff m k w is.0) (here u may.0 behind to may.1) is.1))
+        let may = put_off_may u is.0 is.1 in
+        not is.0 (subst (λ (w : ℕ). IsPutOff m k w is.0) (here u may.0 behind to may.1) is.1))
 
     one_put_off : (u : ℕ) → IsPutOff m k view u → IsSorted (λ (u : ℕ). u) (λ (u : ℕ). (required : ℕ) × IsPutOff m k u required) (view + 1) (waiting ++ view ∷ [])
     one_put_off u is = grows_by (λ (u : ℕ). u) (λ (u : ℕ). (required : ℕ) × IsPutOff m k u required) view end waiting view found.put_off from refl (u, is)

@@ -69,8 +69,8 @@ module _ {S D P G C : Type 0} (s : Setup S C) (h : List (Point S D P G C)) where
       let grown : seen s (polled now ∷ h) (current s h) ≡ x = at_current (current s h) (past.polled (now + s.timeout_retry)) (seen s h) started in
       let told : own ≡ past.next_timeout x (has_budget s h) = is ∙ rw (started, at, budget) refl in
       let undecided : (is_some (past.finalization x) || past.has_finalized x || past.has_nullified x) ≡ false =
-          subst (λ z. (is_some (past.finalization z) || past.has_finalized z || past.has_nullified z) ≡ false) grown may.undecided in
+      subst (λ z. (is_some (past.finalization z) || past.has_finalized z || past.has_nullified z) ≡ false) grown may.undecided in
       let whole : earlier now (past.next_timeout x (has_budget s h)) (term_deadline s (polled now ∷ h)) ≡ timeout s (polled now ∷ h) now =
-          subst (λ z. earlier now (past.next_timeout x (has_budget s h)) (term_deadline s (polled now ∷ h)) ≡ timeout_of now (has_budget s h) (term_deadline s (polled now ∷ h)) z) (sym grown)
-          (if_false (is_some (past.finalization x) || past.has_finalized x || past.has_nullified x) (past.next_timeout x (has_budget s h)) (earlier now (past.next_timeout x (has_budget s h)) (term_deadline s (polled now ∷ h))) undecided) in
+      subst (λ z. earlier now (past.next_timeout x (has_budget s h)) (term_deadline s (polled now ∷ h)) ≡ timeout_of now (has_budget s h) (term_deadline s (polled now ∷ h)) z) (sym grown)
+      (if_false (is_some (past.finalization x) || past.has_finalized x || past.has_nullified x) (past.next_timeout x (has_budget s h)) (earlier now (past.next_timeout x (has_budget s h)) (term_deadline s (polled now ∷ h))) undecided) in
       rw (told, due) whole ∙ if_true (nat_lt 0 (current s h)) (timeout s (polled now ∷ h) now) None started

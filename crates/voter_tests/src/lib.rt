@@ -10,6 +10,6 @@ mod starts;
 #[cfg(test)]
 mod timeouts;
 #[cfg(test)]
-mod votes;
-#[cfg(test)]
 mod verdicts;
+#[cfg(test)]
+mod votes;
