@@ -1,13 +1,12 @@
 -- What is found while views are looked at, ascending.
-use Rattle.std.proofs.Common.{◌≡◌, ◌≢◌, ◌⊎◌, inl, inr, true, false, ℕ, zero, suc, List, [], ◌∷◌, ◌++◌, refl, sym, ◌∙◌, ap, subst, get_or, ◌+◌, ◌<◌, ◌≤◌, ◌^◌, arith}
+use Rattle.std.proofs.Common.{◌≡◌, ◌⊎◌, inl, inr, false, ℕ, List, [], ◌∷◌, ◌++◌, refl, sym, ◌∙◌, ap, subst, get_or, ◌+◌, ◌<◌, ◌≤◌, ◌^◌, arith}
 use mathlib.Core.Bool.{true≢false}
 use Rattle.std.proofs.lemmas.Bool.{cases_lt}
 use Rattle.std.proofs.lemmas.Bool.Decides.{nat_tests}
-use Rattle.std.proofs.lemmas.Cmp.{ranked}
 use Rattle.std.proofs.lemmas.List.Elements.{Contains-append_left, Contains-append_right, Contains-append_cases, Contains-get_or}
 use Rattle.std.proofs.lemmas.List.Quantifiers.{all_pairs_push}
-use Rattle.std.proofs.lemmas.Option.{none-some, same_Some}
-use Rattle.std.specs.Prelude.{◌↔◌, AllPairs, Contains, Option, Some, None, is_some, IsSome, IsTrue}
+use Rattle.std.proofs.lemmas.Option.{same_Some}
+use Rattle.std.specs.Prelude.{◌↔◌, AllPairs, Contains, Some, None, is_some, IsSome, IsTrue}
 use Rattle.std.specs.Ordering.{nat_cmp}
 use Rattle.std.specs.BTreeMap.{is_at}
 use Rattle.std.specs.BTreeSet.{BTreeSet, contains, IsLowerBound, Updates}
@@ -17,12 +16,12 @@ use Rattle.simplex_record.specs.Spans.{term_end-above}
 use Rattle.simplex_views.specs.Known.{Known}
 use Rattle.simplex_due.specs.Ancestry.{Member, explicit, IsRequired}
 use Rattle.simplex_due.specs.Asking.{Decides}
-use Rattle.simplex_due.specs.Requests.{VerdictIsOpen, CertifyIsDue, CertifyWaits, IsPutOff, CertificateIsWanted, MayBeAsked, AreReady, ArePutOff}
+use Rattle.simplex_due.specs.Requests.{VerdictIsOpen, CertifyIsDue, CertifyWaits, IsPutOff, CertificateIsWanted, MayBeAsked}
 use Rattle.simplex_due.specs.declared.requests.CertifyRequest.{CertifyRequest}
 use Rattle.simplex_due.specs.declared.requests.CertifyRequest.TheVariants as certify
 use Rattle.simplex_voter.specs.declared.certificate_fetch.CertificateFetch.{CertificateFetch}
 use Rattle.simplex_voter.specs.declared.state.certifying.Verdicts.{Verdicts}
-use Rattle.simplex_voter.specs.Candidates.{Adds, AreAll, AreWanted}
+use Rattle.simplex_voter.specs.Candidates.{Adds, AreAll}
 use Rattle.simplex_voter.proofs.Members.{only_element}
 
 in_push : {X : Type 0} (xs : List X) (x : X) → Contains (xs ++ x ∷ []) x

@@ -10,7 +10,7 @@ use Rattle.std.specs.Ordering.{nat_cmp}
 use Rattle.std.specs.BTreeSet.{BTreeSet, contains}
 use Rattle.simplex_types.specs.declared.proposal.Proposal.{Proposal}
 use Rattle.simplex_types.specs.Counting.{Contains-nil, Contains-cases}
-use Rattle.simplex_types.specs.Positions.{IsTermStart, next_term_start, term_start}
+use Rattle.simplex_types.specs.Positions.{next_term_start, term_start}
 use Rattle.simplex_messages.specs.ProposalCertificate.{Notarization, Finalization}
 use Rattle.simplex_messages.specs.Artifact.{artifact_round}
 use Rattle.simplex_messages.specs.declared.artifact.Artifact.{Artifact}

@@ -1,4 +1,4 @@
-use Rattle.std.proofs.Common.{◌≡◌, sym, subst}
+use Rattle.std.proofs.Common.{sym, subst}
 use Rattle.std.specs.Prelude.{Contains}
 use Rattle.simplex_views.specs.Views as above
 use Rattle.simplex_voter.specs.Candidates.{AreAmong, put_off}

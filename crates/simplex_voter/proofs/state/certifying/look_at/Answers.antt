@@ -1,5 +1,4 @@
-use Rattle.std.proofs.Common.{◌≡◌, ◌+◌, suc, ap, arith}
-use Rattle.std.specs.Prelude.{length}
+use Rattle.std.proofs.Common.{◌+◌}
 use Rattle.simplex_views.specs.Known.{known}
 use Rattle.simplex_due.specs.Ancestry.{member}
 use Rattle.simplex_facts.specs.Facts.{at}
