@@ -1,13 +1,12 @@
 -- What is found while views are looked at, ascending.
-use Rattle.std.proofs.Common.{◌≡◌, ◌≢◌, ◌⊎◌, inl, inr, true, false, ℕ, zero, suc, List, [], ◌∷◌, ◌++◌, refl, sym, ◌∙◌, ap, subst, get_or, ◌+◌, ◌<◌, ◌≤◌, ◌^◌, arith}
+use Rattle.std.proofs.Common.{◌≡◌, ◌⊎◌, inl, inr, false, ℕ, List, [], ◌∷◌, ◌++◌, refl, sym, ◌∙◌, ap, subst, get_or, ◌+◌, ◌<◌, ◌≤◌, ◌^◌, arith}
 use mathlib.Core.Bool.{true≢false}
 use Rattle.std.proofs.lemmas.Bool.{cases_lt}
 use Rattle.std.proofs.lemmas.Bool.Decides.{nat_tests}
-use Rattle.std.proofs.lemmas.Cmp.{ranked}
 use Rattle.std.proofs.lemmas.List.Elements.{Contains-append_left, Contains-append_right, Contains-append_cases, Contains-get_or}
 use Rattle.std.proofs.lemmas.List.Quantifiers.{all_pairs_push}
-use Rattle.std.proofs.lemmas.Option.{none-some, same_Some}
-use Rattle.std.specs.Prelude.{◌↔◌, AllPairs, Contains, Option, Some, None, is_some, IsSome, IsTrue}
+use Rattle.std.proofs.lemmas.Option.{same_Some}
+use Rattle.std.specs.Prelude.{◌↔◌, AllPairs, Contains, Some, None, is_some, IsSome, IsTrue}
 use Rattle.std.specs.Ordering.{nat_cmp}
 use Rattle.std.specs.BTreeMap.{is_at}
 use Rattle.std.specs.BTreeSet.{BTreeSet, contains, IsLowerBound, Updates}
@@ -17,12 +16,12 @@ use Rattle.simplex_record.specs.Spans.{term_end-above}
 use Rattle.simplex_views.specs.Known.{Known}
 use Rattle.simplex_due.specs.Ancestry.{Member, explicit, IsRequired}
 use Rattle.simplex_due.specs.Asking.{Decides}
-use Rattle.simplex_due.specs.Requests.{VerdictIsOpen, CertifyIsDue, CertifyWaits, IsPutOff, CertificateIsWanted, MayBeAsked, AreReady, ArePutOff}
+use Rattle.simplex_due.specs.Requests.{VerdictIsOpen, CertifyIsDue, CertifyWaits, IsPutOff, CertificateIsWanted, MayBeAsked}
 use Rattle.simplex_due.specs.declared.requests.CertifyRequest.{CertifyRequest}
 use Rattle.simplex_due.specs.declared.requests.CertifyRequest.TheVariants as certify
 use Rattle.simplex_voter.specs.declared.certificate_fetch.CertificateFetch.{CertificateFetch}
 use Rattle.simplex_voter.specs.declared.state.certifying.Verdicts.{Verdicts}
-use Rattle.simplex_voter.specs.Candidates.{Adds, AreAll, AreWanted}
+use Rattle.simplex_voter.specs.Candidates.{Adds, AreAll}
 use Rattle.simplex_voter.proofs.Members.{only_element}
 
 in_push : {X : Type 0} (xs : List X) (x : X) → Contains (xs ++ x ∷ []) x
@@ -121,23 +120,23 @@ module _ {D : Type 0} (m : Member) (k : Known D) where
         → IsSorted (λ (f : CertificateFetch). f.proposal) (λ (f : CertificateFetch). CertificateIsWanted m k f.proposal f.view) (view + 1) fetches
     no_fetch not = passes (λ (f : CertificateFetch). f.proposal) (λ (f : CertificateFetch). CertificateIsWanted m k f.proposal f.view) view end fetches found.fetches from
         (λ f behind to wanted.
-          let may = put_off_may f.proposal f.view (wanted_is_put_off f.proposal f.view wanted) in
-          not f.view (subst (λ (u : ℕ). CertificateIsWanted m k u f.view) (here f.proposal may.0 behind to may.1) wanted))
+        let may = put_off_may f.proposal f.view (wanted_is_put_off f.proposal f.view wanted) in
+        not f.view (subst (λ (u : ℕ). CertificateIsWanted m k u f.view) (here f.proposal may.0 behind to may.1) wanted))
 
     one_fetch : (u : ℕ) → CertificateIsWanted m k view u
         → IsSorted (λ (f : CertificateFetch). f.proposal) (λ (f : CertificateFetch). CertificateIsWanted m k f.proposal f.view) (view + 1) (fetches ++ record { proposal = view; view = u } ∷ [])
     one_fetch u wanted = grows_by (λ (f : CertificateFetch). f.proposal) (λ (f : CertificateFetch). CertificateIsWanted m k f.proposal f.view) view end fetches (record { proposal = view; view = u }) found.fetches from refl wanted
         (λ f behind to other.
-          let may = put_off_may f.proposal f.view (wanted_is_put_off f.proposal f.view other) in
-          let own : f.proposal ≡ view = here f.proposal may.0 behind to may.1 in
-          let parent : f.view ≡ u = same_required view f.view u (subst (λ (w : ℕ). CertifyWaits m k w f.view) own other.waits) wanted.waits in
-          λ i. record { proposal = own i; view = parent i })
+        let may = put_off_may f.proposal f.view (wanted_is_put_off f.proposal f.view other) in
+        let own : f.proposal ≡ view = here f.proposal may.0 behind to may.1 in
+        let parent : f.view ≡ u = same_required view f.view u (subst (λ (w : ℕ). CertifyWaits m k w f.view) own other.waits) wanted.waits in
+        λ i. record { proposal = own i; view = parent i })
 
     no_put_off : ((u : ℕ) → IsPutOff m k view u → ⊥) → IsSorted (λ (u : ℕ). u) (λ (u : ℕ). (required : ℕ) × IsPutOff m k u required) (view + 1) waiting
     no_put_off not = passes (λ (u : ℕ). u) (λ (u : ℕ). (required : ℕ) × IsPutOff m k u required) view end waiting found.put_off from
         (λ u behind to is.
-          let may = put_off_may u is.0 is.1 in
-          not is.0 (subst (λ (w : ℕ). IsPutOff m k w is.0) (here u may.0 behind to may.1) is.1))
+        let may = put_off_may u is.0 is.1 in
+        not is.0 (subst (λ (w : ℕ). IsPutOff m k w is.0) (here u may.0 behind to may.1) is.1))
 
     one_put_off : (u : ℕ) → IsPutOff m k view u → IsSorted (λ (u : ℕ). u) (λ (u : ℕ). (required : ℕ) × IsPutOff m k u required) (view + 1) (waiting ++ view ∷ [])
     one_put_off u is = grows_by (λ (u : ℕ). u) (λ (u : ℕ). (required : ℕ) × IsPutOff m k u required) view end waiting view found.put_off from refl (u, is)

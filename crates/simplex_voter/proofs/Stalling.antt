@@ -11,7 +11,7 @@ use Rattle.simplex_round.specs.Past as past
 use Rattle.simplex_round.specs.Past.{Item}
 use Rattle.simplex_tracking.specs.Pasts.{put}
 use Rattle.simplex_views.specs.History.{Setup, Point, current, polled, seen}
-use Rattle.simplex_due.specs.Due.{IsTracked, MayLatch, has_budget, term_deadline, timeout, timeout_of}
+use Rattle.simplex_due.specs.Due.{IsTracked, MayLatch, earlier, has_budget, term_deadline, timeout, timeout_of}
 use Rattle.simplex_voter.specs.Timing.{MayStall}
 
 -- what happened to a view last happened to it
@@ -25,6 +25,9 @@ at_current view x t started = rw started (put-here view x t)
 -- the first of two, where a test says so
 if_true : {X : Type 0} (b : Bool) (x y : X) → b ≡ true → x ≡ (if b then x else y)
 if_true b x y is = rw is refl
+
+if_false : {X : Type 0} (b : Bool) (x y : X) → b ≡ false → y ≡ (if b then x else y)
+if_false b x y is = rw is refl
 
 -- a view that is decided is given up by its own rules alone
 alone : {S D P G C : Type 0} (now : ℕ) (counts : Bool) (stall : Option ℕ) (x y : List (Item S D P G C)) → y ≡ x → (is_some (past.finalization x) || past.has_finalized x || past.has_nullified x) ≡ true
@@ -55,3 +58,19 @@ module _ {S D P G C : Type 0} (s : Setup S C) (h : List (Point S D P G C)) where
       ∙ if_true (nat_lt 0 (current s h)) (timeout s (polled now ∷ h) now) None started)
       (λ before. is ∙ rw before refl)
       (cases_Bool (nat_lt 0 (current s h)))
+
+  -- where it does, the earlier of both is the timeout
+  pub own_or_stall : (now moment : ℕ) (counts : Bool) (own : Option (ℕ × TimeoutReason)) (stall : Option ℕ) → MayStall s (polled now ∷ h) → counts ≡ has_budget s h → stall ≡ term_deadline s (polled now ∷ h)
+      → moment ≡ now + s.timeout_retry → own ≡ (if nat_lt 0 (current s h) then past.next_timeout (past.polled moment ∷ seen s h (current s h)) counts else None)
+      → earlier now own stall ≡ (if nat_lt 0 (current s h) then timeout s (polled now ∷ h) now else None)
+  own_or_stall now moment counts own stall may budget due at is =
+      let started : nat_lt 0 (current s h) ≡ true = grind (arith, nat_tests, may.started) in
+      let x : List (Item S D P G C) = past.polled (now + s.timeout_retry) ∷ seen s h (current s h) in
+      let grown : seen s (polled now ∷ h) (current s h) ≡ x = at_current (current s h) (past.polled (now + s.timeout_retry)) (seen s h) started in
+      let told : own ≡ past.next_timeout x (has_budget s h) = is ∙ rw (started, at, budget) refl in
+      let undecided : (is_some (past.finalization x) || past.has_finalized x || past.has_nullified x) ≡ false =
+      subst (λ z. (is_some (past.finalization z) || past.has_finalized z || past.has_nullified z) ≡ false) grown may.undecided in
+      let whole : earlier now (past.next_timeout x (has_budget s h)) (term_deadline s (polled now ∷ h)) ≡ timeout s (polled now ∷ h) now =
+      subst (λ z. earlier now (past.next_timeout x (has_budget s h)) (term_deadline s (polled now ∷ h)) ≡ timeout_of now (has_budget s h) (term_deadline s (polled now ∷ h)) z) (sym grown)
+      (if_false (is_some (past.finalization x) || past.has_finalized x || past.has_nullified x) (past.next_timeout x (has_budget s h)) (earlier now (past.next_timeout x (has_budget s h)) (term_deadline s (polled now ∷ h))) undecided) in
+      rw (told, due) whole ∙ if_true (nat_lt 0 (current s h)) (timeout s (polled now ∷ h) now) None started

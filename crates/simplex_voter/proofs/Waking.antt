@@ -10,7 +10,7 @@ use Rattle.std.specs.Ordering.{nat_cmp}
 use Rattle.std.specs.BTreeSet.{BTreeSet, contains}
 use Rattle.simplex_types.specs.declared.proposal.Proposal.{Proposal}
 use Rattle.simplex_types.specs.Counting.{Contains-nil, Contains-cases}
-use Rattle.simplex_types.specs.Positions.{IsTermStart, next_term_start, term_start}
+use Rattle.simplex_types.specs.Positions.{next_term_start, term_start}
 use Rattle.simplex_messages.specs.ProposalCertificate.{Notarization, Finalization}
 use Rattle.simplex_messages.specs.Artifact.{artifact_round}
 use Rattle.simplex_messages.specs.declared.artifact.Artifact.{Artifact}
@@ -368,18 +368,20 @@ module _ {S D P G C : Type 0} where
     -- something may be to ask only where a verdict was
     pub kept_among : (h : List (Point S D P G C)) (v : Verdicts D) (views : BTreeSet ℕ) → AreAll (member s) (known s h) v → ((p : Proposal D) → Contains v.ready.items p → IsTrue (contains nat_cmp views p.round.view))
         → AreAmong s (put_off v.put_off.items h) views
-    kept_among h v views all kept = record { all = λ view p fits may. elim (all.sorted view p (put_off_before v.put_off.items h view p may)) [
-      | inl ready ↦ subst (λ (u : ℕ). IsTrue (contains nat_cmp views u)) ready.2 (kept ready.0 ready.1)
-      | inr waiting ↦
-          let is = (all.put_off.exact view).0 waiting in
-          let one : is.1.waits.proposal ≡ p = same_Some is.1.waits.proposal p (sym is.1.waits.opens.notarized ∙ (put_off_before v.put_off.items h view p may).opens.notarized) in
-          let asked : IsRequired (member s) (known s h) view p.parent is.0 = subst (λ (q : Proposal D). IsRequired (member s) (known s h) view q.parent is.0) one is.1.waits.requires_it in
-          let some = may.woken (put_off_marks v.put_off.items h view waiting) is.0 (record {
-            next = asked.next;
-            early = λ start. let early = asked.early start in (early.0, early.1, ap (λ (t : ℕ → List (Item S D P G C)). past.has_notarized (t view)) (put_off_seen v.put_off.items h) ∙ early.2);
-          }) in
-          absurd (true≢false (sym some ∙ ap is_some (put_off_explicit v.put_off.items h is.0 ∙ is.1.waits.missing)))
-    ] }
+    kept_among h v views all kept = record {
+      all = λ view p fits may. elim (all.sorted view p (put_off_before v.put_off.items h view p may)) [
+        | inl ready ↦ subst (λ (u : ℕ). IsTrue (contains nat_cmp views u)) ready.2 (kept ready.0 ready.1)
+        | inr waiting ↦
+            let is = (all.put_off.exact view).0 waiting in
+            let one : is.1.waits.proposal ≡ p = same_Some is.1.waits.proposal p (sym is.1.waits.opens.notarized ∙ (put_off_before v.put_off.items h view p may).opens.notarized) in
+            let asked : IsRequired (member s) (known s h) view p.parent is.0 = subst (λ (q : Proposal D). IsRequired (member s) (known s h) view q.parent is.0) one is.1.waits.requires_it in
+            let some = may.woken (put_off_marks v.put_off.items h view waiting) is.0 (record {
+              next = asked.next;
+              early = λ start. let early = asked.early start in (early.0, early.1, ap (λ (t : ℕ → List (Item S D P G C)). past.has_notarized (t view)) (put_off_seen v.put_off.items h) ∙ early.2);
+            }) in
+            absurd (true≢false (sym some ∙ ap is_some (put_off_explicit v.put_off.items h is.0 ∙ is.1.waits.missing)))
+      ];
+    }
 
   pub put_off_push : (views : List ℕ) (view : ℕ) (h : List (Point S D P G C)) → put_off (views ++ view ∷ []) h ≡ certify_waited view ∷ put_off views h
   put_off_push [] view h = refl
@@ -392,5 +394,5 @@ module _ {S D P G C : Type 0} where
   recall_tells taken a u is = absurd (none-some u is)
 
   -- for none where nothing happened
-  pub none_among : (s : Setup S C) (views : BTreeSet ℕ) → AreAmong s [] views
+  pub none_among : (s : Setup S C) (views : BTreeSet ℕ) → AreAmong {D = D} {P = P} {G = G} s [] views
   none_among s views = record { all = λ view p fits may. absurd (none-some p may.opens.notarized) }

@@ -135,10 +135,7 @@ fn put_off_verdicts<S: Scheme<D> + Drop, L: Elector<S, D>, D: Digest>(
 }
 
 /// Adds the views of these proposals.
-fn keep<D: Digest>(
-    candidates: &mut BTreeSet<View>,
-    ready: &[Proposal<D>],
-) -> Result<(), AllocError>
+fn keep<D: Digest>(candidates: &mut BTreeSet<View>, ready: &[Proposal<D>]) -> Result<(), AllocError>
     ensures { OnOk result ((p : Proposal D) → Contains ready.now p → IsTrue (contains nat_cmp candidates.new p.round.view)) }
 {
     for proposal in ready {

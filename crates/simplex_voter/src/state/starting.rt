@@ -47,6 +47,7 @@ impl<S: Scheme<D> + Drop, L: Elector<S, D>, D: Digest> State<S, L, D> {
     {
         let view = finalization.view();
         let _taken = self.add_finalization(now, finalization)?;
-        self.broadcast_finalization(alloc, view)
+        let copy = self.broadcast_finalization(alloc, view)?;
+        Ok(copy)
     }
 }

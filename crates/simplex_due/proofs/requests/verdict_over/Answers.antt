@@ -13,7 +13,7 @@ returns-then-is_waiting g c = λ m k shown opens q other. (
   (
     c.in-Some.required,
     waits_for m k c.args.view c.args.proposal opens c.in-Some.required (c.in-Some.ensures m k shown)
-    (nothing (explicit m k c.in-Some.required) (ap is_some (sym (c.explicit_payload.ensures m k shown)) ∙ sym c.is_some.ensures ∙ c.if-is_some.false)),
+        (nothing (explicit m k c.in-Some.required) (ap is_some (sym (c.explicit_payload.ensures m k shown)) ∙ sym c.is_some.ensures ∙ c.if-is_some.false)),
   ),
 )
 

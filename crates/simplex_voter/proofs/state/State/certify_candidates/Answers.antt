@@ -1,5 +1,7 @@
-use Rattle.std.proofs.Common.{◌≡◌, sym, subst}
-use Rattle.simplex_voter.specs.Candidates.{AreAmong}
+use Rattle.std.proofs.Common.{sym, subst}
+use Rattle.std.specs.Prelude.{Contains}
+use Rattle.simplex_views.specs.Views as above
+use Rattle.simplex_voter.specs.Candidates.{AreAmong, put_off}
 use Rattle.simplex_voter.specs.State.{Keeps}
 use Rattle.simplex_voter.proofs.Waking.{kept_among}
 use Rattle.simplex_voter.proofs.state.State.certify_candidates.Goals as goal
@@ -8,15 +10,15 @@ pub returns-clause-keeps : goal.returns-clause-keeps
 unfolding Keeps
 returns-clause-keeps g c = λ s h k.
     let all = c.in_ok-ready.ensures s h k.views (subst (λ views. AreAmong s h views) (sym c.replace-candidates.ensures.value) k.candidates) in (
-      c.in_ok-ready.put_off.items,
+      c.in_ok-ready.field-0.put_off.items,
       all.put_off,
       record {
         scheme = k.scheme;
         me = k.me;
         timeout_retry = k.timeout_retry;
         skip_budget = k.skip_budget;
-        views = c.in_ok-put_off_verdicts.ensures s h k.views;
-        candidates = kept_among s h c.in_ok-ready.field-0 c.keep.new.candidates all c.in_ok-keep.ensures;
+        views = subst (λ xs. above.Keeps g.S.Scheme g.L.Elector s c.put_off_verdicts.new.views (put_off xs h)) c.deref.ensures.value (c.in_ok-put_off_verdicts.ensures s h k.views);
+        candidates = kept_among s h c.in_ok-ready.field-0 c.keep.new.candidates all (λ p there. c.in_ok-keep.ensures p (subst (λ ps. Contains ps p) (sym c.deref-2.ensures.value) there));
       },
     )
 

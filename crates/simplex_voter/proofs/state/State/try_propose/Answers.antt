@@ -1,12 +1,20 @@
-use Rattle.std.proofs.Common.{◌∙◌, ◌∷◌}
+use Rattle.std.proofs.Common.{◌∙◌, ◌∷◌, refl}
 use Rattle.simplex_views.specs.History.{build_asked}
 use Rattle.simplex_voter.specs.State.{Keeps}
+use Rattle.simplex_voter.proofs.Waking.{stays}
 use Rattle.simplex_voter.proofs.state.State.try_propose.Goals as goal
 
 pub returns-clause-keeps : goal.returns-clause-keeps
 unfolding Keeps
-returns-clause-keeps g c = λ s h k. rw (c.new-2.ensures.context, c.new.ensures.view)
-    (record { scheme = k.scheme; me = k.me; timeout_retry = k.timeout_retry; skip_budget = k.skip_budget; views = c.in_ok-leader.ensures.keeps s h k.views })
+returns-clause-keeps g c = λ s h k.
+    rw (c.new-2.ensures.context, c.new.ensures.view) (record {
+      scheme = k.scheme;
+      me = k.me;
+      timeout_retry = k.timeout_retry;
+      skip_budget = k.skip_budget;
+      views = c.in_ok-leader.ensures.keeps s h k.views;
+      candidates = stays s h (build_asked c.in_ok-view.view) c.args.self.now.candidates refl k.candidates;
+    })
 
 pub returns-clause-answer : goal.returns-clause-answer
 unfolding Keeps

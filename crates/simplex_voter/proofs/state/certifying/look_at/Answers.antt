@@ -1,5 +1,4 @@
-use Rattle.std.proofs.Common.{◌≡◌, ◌+◌, suc, ap, arith}
-use Rattle.std.specs.Prelude.{length}
+use Rattle.std.proofs.Common.{◌+◌}
 use Rattle.simplex_views.specs.Known.{known}
 use Rattle.simplex_due.specs.Ancestry.{member}
 use Rattle.simplex_facts.specs.Facts.{at}
@@ -18,7 +17,7 @@ loop-view-preserved g c = λ s h k among.
     let before = c.loop-view.invariant s h k among in (
       c.in-Some.view + 1,
       looked_at_more (member s) (known s h) (notarized_at s h) c.in-Some.view before.0 c.loop-view.found c.add.new.self c.loop-view.rest c.pop_first.new.self before.1 c.in-Some.ensures.member c.in-Some.ensures.least c.in-Some.ensures.updates
-      c.verdict_for.result (c.verdict_for.ensures _ _ (at s h k)) c.in_ok-add.ensures,
+          c.verdict_for.result (c.verdict_for.ensures _ _ (at s h k)) c.in_ok-add.ensures,
     )
 
 pub returns : goal.returns
