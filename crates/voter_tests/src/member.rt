@@ -255,23 +255,21 @@ impl Member {
     /// What is asked for at this moment, to judge the proposals of others.
     pub fn ask(&mut self, now: u64) -> Result<Asked, Fail> {
         match self.state.try_verify(now)? {
-            Verify::Ready(context, _proposal) => Ok(Asked::Verification(
-                context.round.view.get(),
-                context.parent.0.get(),
-                context.parent.1 == payload(0),
-            )),
+            Verify::Ready(context, _proposal) => {
+                let (parent, parent_payload) = context.parent;
+                let is_start = parent_payload == payload(0);
+                let view = context.round.view.get();
+                Ok(Asked::Verification(view, parent.get(), is_start))
+            }
             Verify::Resolve {
                 proposal,
                 view,
-                kind: Kind::Nullification,
+                kind,
                 ..
-            } => Ok(Asked::Nullification(proposal.get(), view.get())),
-            Verify::Resolve {
-                proposal,
-                view,
-                kind: Kind::Notarization,
-                ..
-            } => Ok(Asked::Notarization(proposal.get(), view.get())),
+            } => match kind {
+                Kind::Nullification => Ok(Asked::Nullification(proposal.get(), view.get())),
+                Kind::Notarization => Ok(Asked::Notarization(proposal.get(), view.get())),
+            },
             Verify::Wait => Ok(Asked::Nothing),
         }
     }
