@@ -9,9 +9,7 @@ use std::time::Instant;
 mod voter_round;
 mod voter_state;
 
-use voter_round::{
-    Attestation, Certificate, Digest, Nullification, Proposal, Reason, View,
-};
+use voter_round::{Attestation, Certificate, Digest, Nullification, Proposal, Reason, View};
 use voter_state::{Config, Context, Fetch, Kind, State, Verify, Vote};
 
 /// So many views or looks are measured at once, with their certificates made before the clock goes on.
@@ -66,7 +64,8 @@ impl Answers {
     }
 
     fn timeout(&mut self, next: Option<(u64, Reason)>) {
-        let (moment, reason) = next.map_or((0, 0), |(moment, reason)| (moment, reason.as_str().len()));
+        let (moment, reason) =
+            next.map_or((0, 0), |(moment, reason)| (moment, reason.as_str().len()));
         self.add(moment);
         self.add(reason as u64);
     }
@@ -291,7 +290,9 @@ impl Play {
             Outcome::Finalized(notarization, finalization) => {
                 self.finalize(&proposal, notarization, finalization);
             }
-            Outcome::Nullified(nullification) if self.shape == Shape::Hole && proposal.view == 1 => {
+            Outcome::Nullified(nullification)
+                if self.shape == Shape::Hole && proposal.view == 1 =>
+            {
                 drop(nullification);
             }
             Outcome::Nullified(nullification) => self.nullify(proposal.view, nullification),
@@ -310,23 +311,32 @@ impl Play {
     }
 
     /// A view from entry to finalization.
-    fn finalize(&mut self, proposal: &Proposal, notarization: Certificate, finalization: Certificate) {
+    fn finalize(
+        &mut self,
+        proposal: &Proposal,
+        notarization: Certificate,
+        finalization: Certificate,
+    ) {
         let view = proposal.view;
         self.look();
         if !self.build(view) {
-            self.answers.add(u64::from(self.state.set_proposal(view, proposal)));
+            self.answers
+                .add(u64::from(self.state.set_proposal(view, proposal)));
             self.answers.verify(&self.state.try_verify(self.now));
             self.answers.add(u64::from(self.state.verified(view)));
         }
         self.answers.vote(self.state.construct_notarize(view));
         self.look();
-        self.answers.added(self.state.add_notarization(notarization));
+        self.answers
+            .added(self.state.add_notarization(notarization));
         self.certify();
         self.answers.copy(self.state.broadcast_notarization(view));
         self.now += QUICK;
-        self.answers.copy(self.state.certified(self.now, view, true));
+        self.answers
+            .copy(self.state.certified(self.now, view, true));
         self.answers.vote(self.state.construct_finalize(view));
-        self.answers.added(self.state.add_finalization(self.now, finalization));
+        self.answers
+            .added(self.state.add_finalization(self.now, finalization));
         self.answers.copy(self.state.broadcast_finalization(view));
         self.answers.views(&self.state.prune());
     }

@@ -170,12 +170,17 @@ impl Round {
         if self.verdict == Verdict::Given(false) {
             return None;
         }
-        self.notarization.as_ref().map(|notarization| notarization.proposal.payload)
+        self.notarization
+            .as_ref()
+            .map(|notarization| notarization.proposal.payload)
     }
 
     /// The leader's proposal: whether it is the first.
     pub fn set_proposal(&mut self, proposal: &Proposal) -> bool {
-        if self.has_nullified() || self.proposal.is_some_and(|_| self.status == Status::Equivocated)
+        if self.has_nullified()
+            || self
+                .proposal
+                .is_some_and(|_| self.status == Status::Equivocated)
         {
             return false;
         }
@@ -313,7 +318,9 @@ impl Round {
         if self.verdict != Verdict::Open {
             return None;
         }
-        self.notarization.as_ref().map(|notarization| notarization.proposal)
+        self.notarization
+            .as_ref()
+            .map(|notarization| notarization.proposal)
     }
 
     pub fn ask_verdict(&mut self, name: u64) {

@@ -165,7 +165,11 @@ impl State {
         let Some(floor) = self.issuance_floor(view) else {
             return false;
         };
-        floor == 0 || self.rounds.range(floor..view).any(|(_, round)| round.is_direct())
+        floor == 0
+            || self
+                .rounds
+                .range(floor..view)
+                .any(|(_, round)| round.is_direct())
     }
 
     fn min_active(&self) -> View {
@@ -188,7 +192,11 @@ impl State {
 
     fn set_leader(&mut self, view: View) {
         let leader = self.elect(view);
-        self.rounds.entry(view).or_default().leader.get_or_insert(leader);
+        self.rounds
+            .entry(view)
+            .or_default()
+            .leader
+            .get_or_insert(leader);
     }
 
     /// Hands the leader of a view on to the next one: whether that became known.
@@ -214,7 +222,10 @@ impl State {
     /// All views that a certificate's window reaches have its view's leader.
     fn slide(&mut self, anchor: View) {
         let mut view = anchor;
-        while self.issuance_floor(view + 1).is_some_and(|floor| floor <= anchor) {
+        while self
+            .issuance_floor(view + 1)
+            .is_some_and(|floor| floor <= anchor)
+        {
             self.inherit(view);
             view += 1;
         }
@@ -266,7 +277,9 @@ impl State {
         }
         let round = self.rounds.get(&view)?;
         if round.is_direct() {
-            return round.certificate_payload().filter(|_| !self.has_failed(view));
+            return round
+                .certificate_payload()
+                .filter(|_| !self.has_failed(view));
         }
         if !round.has_notarized() || !round.is_verified() || !self.is_in_window(view + 1) {
             return None;
@@ -314,7 +327,12 @@ impl State {
             let parent = view - 1;
             return Some((parent, self.supported_payload(view, parent)?));
         }
-        let parent = self.certified.range(..view).next_back().copied().unwrap_or(0);
+        let parent = self
+            .certified
+            .range(..view)
+            .next_back()
+            .copied()
+            .unwrap_or(0);
         if self.first_uncovered(parent, view).is_some() {
             return None;
         }
@@ -322,7 +340,8 @@ impl State {
     }
 
     fn allows(&self, view: View, parent: (View, Digest)) -> bool {
-        self.parent_payload(view, parent.0).is_ok_and(|payload| payload == parent.1)
+        self.parent_payload(view, parent.0)
+            .is_ok_and(|payload| payload == parent.1)
     }
 
     /// Whether what the view's proposal was bound to hasn't fallen.
@@ -359,7 +378,10 @@ impl State {
 
     /// The views from the current one on of which something may be asked.
     fn next_open(&self, from: View) -> Option<View> {
-        let (&view, _) = self.rounds.range(from..=self.term_end(self.view) + 1).next()?;
+        let (&view, _) = self
+            .rounds
+            .range(from..=self.term_end(self.view) + 1)
+            .next()?;
         Some(view)
     }
 
@@ -367,8 +389,8 @@ impl State {
         let mut from = self.view;
         while let Some(view) = self.next_open(from) {
             from = view + 1;
-            let may_ask = self.admits_outbound(view)
-                && self.rounds[&view].should_propose(self.config.me);
+            let may_ask =
+                self.admits_outbound(view) && self.rounds[&view].should_propose(self.config.me);
             if !may_ask {
                 continue;
             }
@@ -397,7 +419,10 @@ impl State {
             parent: parent.0,
             payload,
         };
-        self.rounds.entry(view).or_default().proposed(now, proposal, parent.1)
+        self.rounds
+            .entry(view)
+            .or_default()
+            .proposed(now, proposal, parent.1)
     }
 
     pub fn set_proposal(&mut self, view: View, proposal: &Proposal) -> bool {
@@ -427,7 +452,11 @@ impl State {
                 Err(Fault::Missing) if self.is_in_window(view) => continue,
                 Err(Fault::Missing) => (proposal.parent, Kind::Notarization),
             };
-            if self.rounds.get_mut(&view).is_some_and(|round| round.request(missing)) {
+            if self
+                .rounds
+                .get_mut(&view)
+                .is_some_and(|round| round.request(missing))
+            {
                 return Verify::Resolve {
                     proposal: view,
                     view: missing,
@@ -474,7 +503,10 @@ impl State {
     pub fn certify_candidates(&mut self) -> (Vec<Proposal>, Vec<Fetch>) {
         let (mut ready, mut fetches) = (Vec::new(), Vec::new());
         for view in take(&mut self.candidates) {
-            let Some(proposal) = self.rounds.get(&view).and_then(Round::pending_certification)
+            let Some(proposal) = self
+                .rounds
+                .get(&view)
+                .and_then(Round::pending_certification)
             else {
                 continue;
             };
@@ -491,7 +523,11 @@ impl State {
             }
             if self.explicit_payload(required).is_some() {
                 ready.push(proposal);
-            } else if self.rounds.get(&required).is_none_or(|round| round.notarization.is_none()) {
+            } else if self
+                .rounds
+                .get(&required)
+                .is_none_or(|round| round.notarization.is_none())
+            {
                 fetches.push(Fetch {
                     proposal: view,
                     view: required,
@@ -507,7 +543,10 @@ impl State {
         if child <= self.last_finalized {
             return;
         }
-        let notarization = self.rounds.get(&child).and_then(|round| round.notarization.as_ref());
+        let notarization = self
+            .rounds
+            .get(&child)
+            .and_then(|round| round.notarization.as_ref());
         if notarization
             .is_some_and(|it| self.required_parent(child, it.proposal.parent) == Some(parent))
         {
@@ -550,7 +589,10 @@ impl State {
         let stall = self.config.stall_timeout.map(|timeout| now + timeout);
         let leader = now + self.config.leader_timeout;
         let certification = now + self.config.certification_timeout;
-        self.rounds.entry(view).or_default().enter(now, leader, certification, stall);
+        self.rounds
+            .entry(view)
+            .or_default()
+            .enter(now, leader, certification, stall);
         self.view = view;
     }
 
@@ -684,21 +726,30 @@ impl State {
     // What is handed out
 
     pub fn broadcast_notarization(&mut self, view: View) -> Option<Certificate> {
-        let round = self.rounds.get_mut(&view).filter(|round| !round.sent_notarization)?;
+        let round = self
+            .rounds
+            .get_mut(&view)
+            .filter(|round| !round.sent_notarization)?;
         let copy = round.notarization.clone()?;
         round.sent_notarization = true;
         Some(copy)
     }
 
     pub fn broadcast_nullification(&mut self, view: View) -> Option<Nullification> {
-        let round = self.rounds.get_mut(&view).filter(|round| !round.sent_nullification)?;
+        let round = self
+            .rounds
+            .get_mut(&view)
+            .filter(|round| !round.sent_nullification)?;
         let copy = round.nullification.clone()?;
         round.sent_nullification = true;
         Some(copy)
     }
 
     pub fn broadcast_finalization(&mut self, view: View) -> Option<Certificate> {
-        let round = self.rounds.get_mut(&view).filter(|round| !round.sent_finalization)?;
+        let round = self
+            .rounds
+            .get_mut(&view)
+            .filter(|round| !round.sent_finalization)?;
         let copy = round.finalization.clone()?;
         round.sent_finalization = true;
         Some(copy)
@@ -760,7 +811,11 @@ impl State {
     pub fn prune(&mut self) -> Vec<View> {
         let (floor, last) = (self.min_active(), self.last_finalized);
         let mut dropped = Vec::new();
-        while let Some(entry) = self.rounds.first_entry().filter(|entry| *entry.key() < floor) {
+        while let Some(entry) = self
+            .rounds
+            .first_entry()
+            .filter(|entry| *entry.key() < floor)
+        {
             let (view, round) = entry.remove_entry();
             dropped.push(view);
             if let Some(certificate) = round.nullification.filter(|_| self.term_end(view) > last) {
@@ -768,12 +823,20 @@ impl State {
             }
         }
         let first = self.term_start(last + 1).min(floor);
-        while let Some(entry) = self.reaching.first_entry().filter(|entry| *entry.key() < first) {
+        while let Some(entry) = self
+            .reaching
+            .first_entry()
+            .filter(|entry| *entry.key() < first)
+        {
             entry.remove();
         }
         drop_below(&mut self.nullified, floor);
         drop_below(&mut self.certified, floor);
-        while let Some(span) = self.covered.first_entry().filter(|span| *span.get() <= last) {
+        while let Some(span) = self
+            .covered
+            .first_entry()
+            .filter(|span| *span.get() <= last)
+        {
             span.remove();
         }
         dropped
