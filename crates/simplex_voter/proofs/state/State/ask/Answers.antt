@@ -1,10 +1,12 @@
 use Rattle.std.proofs.Common.{◌≡◌, true, ◌∙◌, refl}
 use Rattle.std.specs.Prelude.{None}
+use Rattle.simplex_views.specs.History.{ancestry_asked, verify_asked}
 use Rattle.simplex_views.specs.Known.{known}
 use Rattle.simplex_views.specs.Leaders.{leader}
 use Rattle.simplex_due.specs.Ancestry.{member}
 use Rattle.simplex_due.specs.Requests.{VerifyIsDue}
 use Rattle.simplex_voter.specs.State.{Keeps}
+use Rattle.simplex_voter.proofs.Waking.{stays}
 use Rattle.simplex_voter.proofs.Wanting.{may_verify, wanted_led}
 use Rattle.simplex_voter.proofs.state.State.ask.Goals as goal
 
@@ -28,7 +30,7 @@ returns-in-Verification g c = λ s h k wants.
         parent = refl;
         epoch = c.new.ensures.epoch ∙ c.epoch.ensures s h k.views;
         leader = rw c.new.ensures.view (c.in-Some.ensures s h k);
-        keeps = rw c.new.ensures.view (record { scheme = k.scheme; me = k.me; timeout_retry = k.timeout_retry; skip_budget = k.skip_budget; views = rw asked at (c.request_verify-asked.ensures.keeps s h k.views) });
+        keeps = rw c.new.ensures.view (record { scheme = k.scheme; me = k.me; timeout_retry = k.timeout_retry; skip_budget = k.skip_budget; views = rw asked at (c.request_verify-asked.ensures.keeps s h k.views); candidates = stays s h (verify_asked c.args.view p payload) c.args.self.now.candidates refl k.candidates });
       },
     )
 
@@ -39,6 +41,6 @@ returns-in_ok-request-in-Certificate g c = λ s h k wants. (
   record {
     missing = rw c.in-Certificate.is at wants;
     leader = c.in-Some.ensures s h k;
-    keeps = record { scheme = k.scheme; me = k.me; timeout_retry = k.timeout_retry; skip_budget = k.skip_budget; views = c.in_ok-request-in-Certificate.ensures s h k.views };
+    keeps = record { scheme = k.scheme; me = k.me; timeout_retry = k.timeout_retry; skip_budget = k.skip_budget; views = c.in_ok-request-in-Certificate.ensures s h k.views; candidates = stays s h (ancestry_asked c.args.view c.in-Certificate.missing) c.args.self.now.candidates refl k.candidates };
   },
 )

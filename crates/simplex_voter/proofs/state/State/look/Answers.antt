@@ -1,5 +1,8 @@
-use Rattle.std.proofs.Common.{inl, inr}
+use Rattle.std.proofs.Common.{inl, inr, refl}
+use Rattle.simplex_round.specs.declared.timeout_reason.TimeoutReason.TheVariants as reason
+use Rattle.simplex_views.specs.History.{latched}
 use Rattle.simplex_voter.specs.State.{Keeps}
+use Rattle.simplex_voter.proofs.Waking.{stays}
 use Rattle.simplex_voter.proofs.state.State.look.Goals as goal
 
 pub returns-in-Ready : goal.returns-in-Ready
@@ -19,7 +22,7 @@ unfolding Keeps
 returns-in_ok-latch_timeout-in-Invalid g c = λ s h k.
     inr (
       rw c.in-Invalid.is at (c.request_for.ensures s h k),
-      record { scheme = k.scheme; me = k.me; timeout_retry = k.timeout_retry; skip_budget = k.skip_budget; views = c.in_ok-latch_timeout-in-Invalid.ensures s h k.views },
+      record { scheme = k.scheme; me = k.me; timeout_retry = k.timeout_retry; skip_budget = k.skip_budget; views = c.in_ok-latch_timeout-in-Invalid.ensures s h k.views; candidates = stays s h (latched c.args.now c.args.view reason.InvalidProposal) c.args.self.now.candidates refl k.candidates },
     )
 
 pub returns-in-Wait : goal.returns-in-Wait
