@@ -3,6 +3,7 @@
 
 use due_plain::answers::Answer;
 use due_plain::calls::Reply;
+use simplex_messages::Nullify;
 use simplex_resolver::Kind;
 use simplex_round::{HandoffAbandonedReason, TimeoutReason, Token};
 use simplex_types::{
@@ -22,6 +23,9 @@ use voter_plain::{Point, Setup};
 
 /// What a build is to stand on.
 type Building = Context<Sha256Digest, PlainKey>;
+
+/// A vote to give a view up.
+type OwnNullify = Nullify<PlainScheme, Sha256Digest>;
 
 /// On which proposals verdicts are to be asked for, and which notarizations.
 pub type Verdicts = (Vec<Proposal<Sha256Digest>>, Vec<CertificateFetch>);
@@ -230,18 +234,22 @@ impl Voter {
             .state
             .construct_nullify(view, TimeoutReason::LeaderTimeout)
             .ok()?;
-        let Some((is_repetition, vote)) = voted else {
-            return Some(Answer::No);
-        };
-        let signer = vote.attestation.signer;
-        if vote.round.view != view || !self.is_me(signer) {
-            return None;
+        match voted {
+            Some((is_repetition, vote)) => Some(self.given_up(view, &vote, is_repetition)),
+            None => Some(Answer::No),
         }
-        Some(if is_repetition {
+    }
+
+    /// What a vote to give a view up answers: no, where it is of another view, or not in this member's name.
+    fn given_up(&self, view: View, vote: &OwnNullify, is_repetition: bool) -> Answer {
+        if !self.is_me(vote.attestation.signer) || vote.round.view.get() != view.get() {
+            return Answer::No;
+        }
+        if is_repetition {
             Answer::Again
         } else {
             Answer::Yes
-        })
+        }
     }
 
     fn vote_finalize(&mut self, view: View) -> Answer {
