@@ -2,11 +2,12 @@
 use Rattle.std.specs.BTreeSet.{BTreeSet, IsKeyRangeOf, IsLowerBound, contains}
 use Rattle.std.specs.Ordering.{nat_cmp}
 use Rattle.std.specs.declared.ops.Bound.TheVariants.{Included}
-use Rattle.std.proofs.Common.{◌≡◌, ◌≤◌, ◌+◌, ◌↔◌, ℕ, true, false, List, [], ◌∷◌, ⊎_elim, sym, ◌∙◌, Bor, arith, if◌then◌else◌}
+use Rattle.std.proofs.Common.{◌≡◌, ◌≤◌, ◌+◌, ◌++◌, ◌<◌, ◌↔◌, ℕ, true, false, List, [], ◌∷◌, ⊎_elim, sym, ◌∙◌, Bor, arith, if◌then◌else◌}
 use Rattle.std.proofs.lemmas.Bool.{cases_lt}
 use Rattle.std.proofs.lemmas.Bool.Decides.{nat_tests}
 use Rattle.std.specs.Prelude.{Option, Some, None, Bool, IsTrue, is_some, MatchOption, nat_lt}
-use Rattle.simplex_tracking.specs.Marks.{IsMarkedWithin}
+use Rattle.std.proofs.lemmas.Map.Keys.{ge_from_not_lt}
+use Rattle.simplex_tracking.specs.Marks.{IsLastMarked, IsMarkedWithin}
 use Rattle.std.proofs.lemmas.Bool.{cases_Bool}
 use Rattle.simplex_tracking.proofs.Choices.{false_is_not}
 
@@ -20,6 +21,23 @@ module _ (set : BTreeSet ℕ) (low high : ℕ) (range : List ℕ) (is_range : Is
   first_within view rest is =
       let inside = rw is at is_range.1 in
       (grind (arith, nat_tests, inside.0.0), grind (arith, nat_tests, inside.0.1), inside.1)
+
+  -- the last of the range is the last that does
+  pub last_marked : (f : ℕ → Bool) → ((u : ℕ) → contains nat_cmp set u ≡ f u) → (view : ℕ) (rest : List ℕ) → range ≡ rest ++ view ∷ [] → IsLastMarked f low high view
+  last_marked f shows view rest is =
+      let inside = is_range.3 view rest is in
+      record {
+        behind = grind (arith, nat_tests, inside.0.0);
+        up_to = grind (arith, nat_tests, inside.0.1);
+        marked = sym (shows view) ∙ inside.1;
+        none_above = λ u above below. ⊎_elim
+            (λ there.
+            let from : low ≤ u = grind (arith, nat_tests, inside.0.0, above) in
+            let le : u ≤ view = ge_from_not_lt view u (is_range.4 view rest is u (grind (arith, nat_tests, from), grind (arith, nat_tests, below)) there) in
+            absurd (omega (arith, le, above)))
+            (λ gone. sym (shows u) ∙ gone)
+            (cases_Bool (contains nat_cmp set u));
+      }
 
 -- whether a range of the set has a first says whether a key in it is marked
 pub range_marks : (set : BTreeSet ℕ) (low high : ℕ) (range rest : List ℕ) → IsKeyRangeOf nat_cmp (Included low) (Included high) set range → (o : Option (Bor ℕ))

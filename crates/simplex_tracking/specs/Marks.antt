@@ -1,5 +1,5 @@
 -- Which views carry a mark.
-use Rattle.std.specs.Prelude.{◌≡◌, ◌<◌, ◌≤◌, ℕ, Bool, true}
+use Rattle.std.specs.Prelude.{◌≡◌, ◌<◌, ◌≤◌, ℕ, Bool, true, false}
 use Rattle.std.specs.Ordering.{nat_cmp}
 use Rattle.std.specs.BTreeSet.{contains}
 use Rattle.simplex_tracking.specs.declared.marks.Marks.{Marks}
@@ -11,3 +11,10 @@ Shows marks f = (view : ℕ) → contains nat_cmp marks.views view ≡ f view
 -- one of the views from the first on and before the end is marked
 abbrev pub IsMarkedWithin : (ℕ → Bool) → ℕ → ℕ → Type 0
 IsMarkedWithin f first end = (view : ℕ) × (first ≤ view) × (view < end) × (f view ≡ true)
+
+-- the last marked one of the views from the first on and up to the last
+pub record IsLastMarked (f : ℕ → Bool) (first last view : ℕ) : Type 0 where
+  pub behind : first ≤ view
+  pub up_to : view ≤ last
+  pub marked : f view ≡ true
+  pub none_above : (u : ℕ) → view < u → u ≤ last → f u ≡ false

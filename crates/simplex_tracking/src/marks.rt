@@ -1,8 +1,8 @@
 //! Marks on views.
 #![tactic(auto, unfolding(crate::specs::Marks::Shows))]
 
-ghost use Rattle.std.specs.Prelude.{◌≡◌, ◌↔◌, ◌==◌, ◌||◌, if◌then◌else◌, nat_lt, ℕ, Bool, false, IsTrue, OnOk};
-ghost use Rattle.simplex_tracking.specs.Marks.{Shows, IsMarkedWithin};
+ghost use Rattle.std.specs.Prelude.{◌≡◌, ◌↔◌, ◌≤◌, ◌==◌, ◌||◌, if◌then◌else◌, nat_lt, ℕ, Bool, false, IsTrue, OnOk, MatchOption};
+ghost use Rattle.simplex_tracking.specs.Marks.{Shows, IsLastMarked, IsMarkedWithin};
 
 use simplex_types::View;
 use std::alloc::{AllocError, Global};
@@ -54,6 +54,23 @@ impl Marks {
             .range((Bound::Included(first), Bound::Included(last)))
             .next()
             .is_some()
+    }
+
+    /// The last marked one of the views from the first on and up to the last.
+    pub fn last_within(&self, first: View, last: View) -> Option<View>
+        ensures { (f : ℕ → Bool) → Shows self.now f → MatchOption result ((view : ℕ) → first ≤ view → view ≤ last → f view ≡ false) (λ found. IsLastMarked f first last found) }
+    {
+        if last < first {
+            return None;
+        }
+        match self
+            .views
+            .range((Bound::Included(first), Bound::Included(last)))
+            .next_back()
+        {
+            Some(view) => Some(*view),
+            None => None,
+        }
     }
 
     /// Takes the marks off the views below the floor.

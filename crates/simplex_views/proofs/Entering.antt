@@ -1,6 +1,6 @@
 -- What a point leaves as it was.
 use Rattle.std.proofs.Common.{◌≡◌, ℕ, true, false, ◌==◌, ◌+◌, ⊎_elim, List, ◌∷◌, refl, ◌∙◌, arith, if◌then◌else◌}
-use Rattle.std.specs.Prelude.{Option, Some, None, nat_lt}
+use Rattle.std.specs.Prelude.{Option, Some, None, Bool, is_some, nat_lt, ◌||◌}
 use Rattle.std.specs.Option.{option_or}
 use Rattle.std.proofs.lemmas.Grind.{common_steps}
 use Rattle.std.proofs.lemmas.Bool.{cases_Bool, cases_eq}
@@ -15,6 +15,12 @@ use Rattle.simplex_views.specs.History.{Setup, enter, later}
 pub or-assoc : {A : Type 0} (a b c : Option A) → option_or (option_or a b) c ≡ option_or a (option_or b c)
 or-assoc None b c = refl
 or-assoc (Some x) b c = refl
+
+-- what there is where there was something before, or there is one more
+pub is_some-next : {A : Type 0} (b : Bool) (o : Option A) (x : A) → is_some (if b then option_or o (Some x) else o) ≡ (b || is_some o)
+is_some-next true None x = refl
+is_some-next true (Some y) x = refl
+is_some-next false o x = refl
 
 module _ {S D P G C : Type 0} where
   -- entering a view changes nothing but its moment and its deadlines

@@ -1,5 +1,6 @@
 pub mod Advancing
 pub mod Choices
+pub mod Covering
 pub mod Entering
 pub mod Following
 pub mod Pruning

@@ -161,6 +161,27 @@ module _ {S D P G C : Type 0} where
       rw (above, new_same) is_was)
       (cases_lt view floor)
 
+-- what there is behind a prune is what there was from the first on
+pub pruned-is_some : {A : Type 0} (views last floor first view : ℕ) (was : Option A) → first ≤ floor → (view < floor → (view < first) ↔ (term_end views view ≤ last))
+    → is_some (if nat_lt view floor && nat_le (term_end views view) last then None else was) ≡ (if nat_lt view first then false else is_some was)
+pruned-is_some views last floor first view was up reaches = ⊎_elim
+    (λ gone.
+    let lt : view < floor = omega (arith, gone, up) in
+    let below : nat_lt view floor ≡ true = grind (arith, nat_tests, lt) in
+    let ended : nat_le (term_end views view) last ≡ true = grind (arith, nat_tests, (reaches lt).0 gone) in
+    let before : nat_lt view first ≡ true = grind (arith, nat_tests, gone) in
+    rw (below, ended, before) refl)
+    (λ kept.
+    let from : nat_lt view first ≡ false = grind (arith, nat_tests, kept) in
+    ⊎_elim
+    (λ lt.
+    let below : nat_lt view floor ≡ true = grind (arith, nat_tests, lt) in
+    let reaching : nat_le (term_end views view) last ≡ false = grind (arith, nat_tests, kept, reaches lt) in
+    rw (below, reaching, from) refl)
+    (λ ge. let above : nat_lt view floor ≡ false = grind (arith, nat_tests, ge) in rw (above, from) refl)
+    (cases_lt view floor))
+    (cases_lt view first)
+
 -- nothing is left of what has no length
 pub none-left : {A : Type 0} (xs : List A) → ¬ (0 < length xs) → xs ≡ []
 none-left [] never = refl

@@ -285,6 +285,7 @@ module _ {S L D P G C : Type 0} {g : Ghosts S D P G C} {leads : elector.Ghosts L
     );
     backed = backs_are;
     waiting = waits_are;
+    nullified = Shows-same v.nullified (λ u. is_some (History.nullification s h u)) (λ u. is_some (History.nullification s (x ∷ h) u)) k.nullified (λ u. ap (λ n. is_some n) (q.nullifies u));
     nullifications = λ u. q.nullifies u ∙ k.nullifications u ∙ ap (λ n. option_or (get nat_cmp v.reaching u) n) (sym (q.kept_nullification u));
   }
 
@@ -319,6 +320,7 @@ module _ {S L D P G C : Type 0} {g : Ghosts S D P G C} {leads : elector.Ghosts L
     coverage = k.coverage;
     backed = k.backed;
     waiting = k.waiting;
+    nullified = k.nullified;
     nullifications = k.nullifications;
   }
 

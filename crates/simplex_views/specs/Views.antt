@@ -1,5 +1,5 @@
 -- At which history the views of a voter stand.
-use Rattle.std.specs.Prelude.{◌≡◌, ◌≢◌, ◌↔◌, ◌⊎◌, ◌+◌, ◌<◌, ◌^◌, ℕ, Bool, true, List, [], AllPairs, Contains, Option, IsSome, None, nat_lt, if◌then◌else◌}
+use Rattle.std.specs.Prelude.{◌≡◌, ◌≢◌, ◌↔◌, ◌⊎◌, ◌+◌, ◌<◌, ◌^◌, ℕ, Bool, true, List, [], AllPairs, Contains, Option, IsSome, Some, None, is_some, nat_lt, if◌then◌else◌}
 use Rattle.std.specs.Option.{option_or}
 use Rattle.std.specs.BTreeMap.{get}
 use Rattle.std.specs.Ordering.{nat_cmp}
@@ -44,6 +44,13 @@ module _ {S D P G C : Type 0} where
     pub before : first < view
     pub bare : ¬ IsCovered s h first
     pub least : AreCoveredBetween s h parent first
+
+  -- this is the highest nullification that covers the view, of those that are kept
+  pub record IsHighestCovering (s : Setup S C) (h : List (Point S D P G C)) (view : ℕ) (c : Nullification S D P G C) : Type 0 where
+    pub at : ℕ
+    pub covers : InCoveringRange s.length view at
+    pub there : nullification s h at ≡ Some c
+    pub highest : (u : ℕ) → at < u → u ≤ view → nullification s h u ≡ None
 
   -- a view is tracked: something happened to it, or its leader is known
   abbrev pub IsTracked : Setup S C → List (Point S D P G C) → ℕ → Type 0
@@ -113,6 +120,7 @@ module _ {S L D P G C : Type 0} where
     pub coverage : (view : ℕ) → spans.IsCovered v.coverage view ↔ IsCovered s h view
     pub backed : Shows v.backed (is_marked s backs h)
     pub waiting : Shows v.waiting (is_marked s waits h)
+    pub nullified : Shows v.nullified (λ view. is_some (nullification s h view))
     pub nullifications : (view : ℕ) → nullification s h view ≡ option_or (get nat_cmp v.reaching view) (past.nullification (seen s h view))
 
   -- the views stand where this history leads, closed for those who stand above

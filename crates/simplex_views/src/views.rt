@@ -10,14 +10,15 @@ mod sending;
 mod timing;
 mod voting;
 
-ghost use Rattle.std.specs.Prelude.{◌≡◌, ◌↔◌, ◌+◌, ◌<◌, ◌≤◌, ◌^◌, ◌∷◌, ℕ, [], Some, IsTrue, IfSome, IfOk, OnOk, MatchOption, option_copied};
+ghost use Rattle.std.specs.Prelude.{◌≡◌, ◌↔◌, ◌+◌, ◌<◌, ◌≤◌, ◌^◌, ◌∷◌, ℕ, [], Some, None, IsTrue, IfSome, IfOk, OnOk, MatchOption, option_copied};
+ghost use Rattle.simplex_types.specs.Positions.{InCoveringRange};
 ghost use Rattle.simplex_rules.specs.Windows.{Admits, Retains};
 ghost use Rattle.simplex_round.specs.Past as past;
 ghost use Rattle.simplex_round.specs.Round as one;
 ghost use Rattle.simplex_tracking.specs.Rounds.{AreUntracked, IsFirstTracked, IsLastTracked};
 ghost use Rattle.simplex_views.specs.History.{current, last_finalized, min_active, genesis, nullification, scheduled_leader, seen};
 ghost use Rattle.simplex_views.specs.Leaders.{leader};
-ghost use Rattle.simplex_views.specs.Views.{Keeps, AtEach, built, AreCoveredBetween, IsFirstUncovered, IsTracked, noticed, round_of};
+ghost use Rattle.simplex_views.specs.Views.{Keeps, AtEach, built, AreCoveredBetween, IsFirstUncovered, IsHighestCovering, IsTracked, noticed, round_of};
 
 use crate::progress::Progress;
 use simplex_messages::{Finalization, Notarization, Nullification};
@@ -49,6 +50,8 @@ pub struct Views<S: Scheme<D>, L: Elector<S, D>, D: Digest> {
     backed: Marks,
     /// The views whose verdict was put off.
     waiting: Marks,
+    /// The views whose nullification is kept.
+    nullified: Marks,
     /// The nullifications of dropped views that cover views above the last finalized one.
     reaching: BTreeMap<View, Nullification<S, D>>,
 }
@@ -92,6 +95,7 @@ impl<S: Scheme<D> + Drop, L: Elector<S, D>, D: Digest> Views<S, L, D> {
             coverage: Coverage::new(alloc),
             backed: Marks::new(alloc),
             waiting: Marks::new(alloc),
+            nullified: Marks::new(alloc),
             reaching: BTreeMap::new(alloc),
         })
     }
@@ -249,6 +253,15 @@ impl<S: Scheme<D> + Drop, L: Elector<S, D>, D: Digest> Views<S, L, D> {
             Some(round) => round.nullification(),
             None => None,
         }
+    }
+
+    /// The highest nullification that covers the view: of those that are kept of the views from the start of its term up to it.
+    pub fn covering_nullification(&self, view: View) -> Option<&Nullification<S, D>>
+        ensures { AtEach S.Scheme L.Elector self.now (λ s h. MatchOption result ((u : ℕ) → InCoveringRange s.length view u → nullification s h u ≡ None) (λ c. IsHighestCovering s h view c.now)) }
+    {
+        let start = view.term_start(self.lookahead.length);
+        let last = self.nullified.last_within(start, view)?;
+        self.nullification(last)
     }
 
     /// The finalization of the view.

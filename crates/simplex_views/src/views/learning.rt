@@ -101,6 +101,7 @@ impl<S: Scheme<D> + Drop, L: Elector<S, D>, D: Digest> Views<S, L, D> {
         self.progress.tracked.lead(next, leader, next)?;
         self.coverage
             .cover(view, view.term_end(self.lookahead.length))?;
+        self.nullified.mark(view)?;
         Ok(true)
     }
 

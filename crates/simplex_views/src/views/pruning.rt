@@ -39,6 +39,7 @@ impl<S: Scheme<D> + Drop, L: Elector<S, D>, D: Digest> Views<S, L, D> {
         let rounds = self.progress.tracked.drop_below(floor)?;
         self.backed.forget_below(floor);
         self.waiting.forget_below(floor);
+        self.nullified.forget_below(first);
         drop_before(&mut self.reaching, first);
         let views = keep_from(&mut self.reaching, alloc, rounds, first)?;
         Ok(views)

@@ -63,6 +63,7 @@ returns-clause-keeps g c = λ s h k time.
       coverage = k.coverage;
       backed = k.backed;
       waiting = k.waiting;
+      nullified = k.nullified;
       nullifications = λ w. k.nullifications w ∙ ap (λ n. option_or (get nat_cmp c.args.self.now.reaching w) n)
           (sym (put-fact past.nullification (past.finalized c.args.certificate) (λ l. refl) at (enter s (current s h) c.args.now (at + 1) (seen s h)) w
           ∙ enter-fact past.nullification (λ m l. refl) (λ a b o l. refl) s (current s h) c.args.now (at + 1) (seen s h) w));

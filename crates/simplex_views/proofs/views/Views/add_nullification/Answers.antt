@@ -1,5 +1,5 @@
 use Rattle.std.proofs.Common.{suc, refl, sym, ◌∙◌, ◌≡◌, ap, arith}
-use Rattle.std.specs.Prelude.{Some, None, ◌||◌}
+use Rattle.std.specs.Prelude.{Some, None, is_some, ◌||◌, ◌==◌}
 use Rattle.std.specs.Ordering.{nat_cmp}
 use Rattle.std.specs.BTreeMap.{get}
 use Rattle.simplex_types.specs.Positions.{next_term_start}
@@ -13,8 +13,8 @@ use Rattle.simplex_views.specs.Views.{Keeps}
 use Rattle.simplex_views.proofs.Choices.{copied-none, or_neither}
 use Rattle.simplex_record.specs.Spans.{term_end-above}
 use Rattle.simplex_views.proofs.Uncovering.{covered-next}
-use Rattle.simplex_tracking.specs.Laws.{put-fact, inherits-same}
-use Rattle.simplex_views.proofs.Entering.{enter-fact, nullification-next}
+use Rattle.simplex_tracking.specs.Laws.{Shows-same, put-fact, inherits-same}
+use Rattle.simplex_views.proofs.Entering.{enter-fact, is_some-next, nullification-next}
 use Rattle.simplex_views.proofs.Following.{leader-closed, nullified-at}
 use Rattle.simplex_views.proofs.views.Views.add_nullification.Goals as goal
 
@@ -63,5 +63,6 @@ returns-clause-keeps g c = λ s h k time.
       coverage = λ w. covered-next s h c.args.now c.args.certificate _ _ w (rw (← k.length) c.get-views.ensures.at_least_one) (rw (← k.length, ← c.view-view.ensures, ← c.term_end.ensures) (c.in_ok-cover.ensures.ok w)) (k.coverage w);
       backed = k.backed;
       waiting = k.waiting;
+      nullified = Shows-same _ _ _ (c.in_ok-mark.ensures (λ u. is_some (nullification s h u)) k.nullified) (λ u. rw c.view-view.ensures (is_some-next (at == u) (nullification s h u) c.args.certificate));
       nullifications = λ w. nullification-next s (current s h) c.args.now (next_term_start s.length at) c.args.certificate at (seen s h) (nullification s h) (λ v. get nat_cmp c.args.self.now.reaching v) w (k.nullifications w);
     }

@@ -32,5 +32,6 @@ returns g c = λ retry budget.
       coverage = λ view. (λ is. absurd (c.new-3.ensures view is), λ there. absurd (cc there.2));
       backed = Shows-same _ _ _ c.new-4.ensures (λ u. refl);
       waiting = Shows-same _ _ _ c.new-5.ensures (λ u. refl);
-      nullifications = λ view. rw c.new-6.ensures.empty refl;
+      nullified = Shows-same _ _ _ c.new-6.ensures (λ u. refl);
+      nullifications = λ view. rw c.new-7.ensures.empty refl;
     }

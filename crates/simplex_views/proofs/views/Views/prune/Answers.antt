@@ -1,4 +1,5 @@
 use Rattle.std.proofs.Common.{◌≡◌}
+use Rattle.std.specs.Prelude.{is_some}
 use Rattle.std.specs.Ordering.{nat_cmp}
 use Rattle.std.specs.BTreeMap.{get}
 use Rattle.simplex_views.specs.History as History
@@ -7,7 +8,8 @@ use Rattle.simplex_views.specs.Known.{backs, waits}
 use Rattle.simplex_views.specs.Leaders.{leader}
 use Rattle.simplex_views.specs.Progress.{frame_of, tables}
 use Rattle.simplex_views.specs.Views.{Keeps}
-use Rattle.simplex_views.proofs.Pruning.{dropped-exact, keys-ascend, pruned-nullification}
+use Rattle.simplex_tracking.specs.Laws.{Shows-same}
+use Rattle.simplex_views.proofs.Pruning.{dropped-exact, keys-ascend, pruned-is_some, pruned-nullification}
 use Rattle.simplex_views.proofs.Advancing.{IsAt-tracked}
 use Rattle.simplex_views.proofs.views.Views.prune.Goals as goal
 
@@ -36,6 +38,8 @@ returns-clause-keeps g c = λ s h k.
       coverage = k.coverage;
       backed = rw floor at (c.forget_below.ensures (is_marked s backs h) k.backed);
       waiting = rw floor at (c.forget_below-2.ensures (is_marked s waits h) k.waiting);
+      nullified = Shows-same _ _ _ (c.forget_below-3.ensures (λ u. is_some (nullification s h u)) k.nullified)
+          (λ u. rw (← floor) (pruned-is_some s.length (History.last_finalized h) c.min_active-floor.result first u (nullification s h u) c.first_reaching-first.ensures.up_to_floor (c.first_reaching-first.ensures.reaches s h k u)));
       nullifications = λ u. rw floor at (pruned-nullification s.length (History.last_finalized h) c.min_active-floor.result first u (nullification s h u) (get nat_cmp c.args.self.now.reaching u) _ _ (seen s h u)
           c.first_reaching-first.ensures.up_to_floor (c.first_reaching-first.ensures.reaches s h k u) (k.nullifications u) (c.drop_before.ensures u) (kept u));
     }

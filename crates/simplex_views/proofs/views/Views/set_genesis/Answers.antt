@@ -52,6 +52,7 @@ returns g c = λ s h k time.
       coverage = k.coverage;
       backed = k.backed;
       waiting = k.waiting;
+      nullified = k.nullified;
       nullifications = λ w. k.nullifications w ∙ ap (λ n. option_or (get nat_cmp c.args.self.now.reaching w) n)
           (sym (enter-fact past.nullification (λ m l. refl) (λ a b o l. refl) s (current s h) c.args.now 1 (seen s h) w));
     }

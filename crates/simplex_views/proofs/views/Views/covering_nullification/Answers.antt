@@ -1,0 +1,12 @@
+use Rattle.std.proofs.Common.{sym, ◌∙◌}
+use Rattle.std.specs.Prelude.{is_some}
+use Rattle.simplex_views.specs.History.{nullification}
+use Rattle.simplex_views.specs.Views.{Keeps}
+use Rattle.simplex_views.proofs.Covering.{highest_covering, none_covering}
+use Rattle.simplex_views.proofs.views.Views.covering_nullification.Goals as goal
+
+pub returns : goal.returns
+unfolding Keeps
+returns g c = λ s h k.
+    highest_covering s h c.args.view c.term_start-start.result (rw k.length at c.term_start-start.ensures) c.in_ok-last.last c.nullification.result
+    (c.in_ok-last.ensures (λ u. is_some (nullification s h u)) k.nullified) (c.nullification.ensures s h k)
