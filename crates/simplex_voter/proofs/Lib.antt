@@ -1,3 +1,4 @@
+pub mod Entering
 pub mod Entries
 pub mod Looking
 pub mod Lowest

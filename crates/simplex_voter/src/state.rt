@@ -4,6 +4,7 @@
 mod answering;
 mod building;
 mod certifying;
+mod entry;
 mod keeping;
 mod knowing;
 mod learning;

@@ -1,0 +1,22 @@
+use Rattle.std.proofs.Common.{◌≡◌, ◌-◌, arith}
+use Rattle.simplex_voter.specs.State.{Keeps}
+use Rattle.simplex_voter.proofs.Entering.{best_of, entered_at_start}
+use Rattle.simplex_voter.proofs.state.State.get_best_certificate.Goals as goal
+
+pub returns-in_default : goal.returns-in_default
+unfolding Keeps
+returns-in_default g c = λ s h k.
+    let at = c.current_view-view.ensures s h k.views in
+    best_of s h c.current_view-view.result (c.current_view-view.result - 1) _ at refl (entered_at_start s h _ _ (omega (arith, c.in_default.ensures)))
+
+pub returns-then-is_zero : goal.returns-then-is_zero
+unfolding Keeps
+returns-then-is_zero g c = λ s h k.
+    let at = c.current_view-view.ensures s h k.views in
+    best_of s h c.current_view-view.result c.in-Some.before _ at c.in-Some.ensures.before (entered_at_start s h _ _ (c.is_zero.ensures.0 c.if-is_zero.true))
+
+pub returns : goal.returns
+unfolding Keeps
+returns g c = λ s h k.
+    let at = c.current_view-view.ensures s h k.views in
+    best_of s h c.current_view-view.result c.in-Some.before _ at c.in-Some.ensures.before (c.in_ok-best.ensures s h k (positive c.in-Some.before c.is_zero.result c.is_zero.ensures c.if-is_zero.false))
