@@ -53,6 +53,10 @@ where_starts view start b x y law is = let at : (view == start) ≡ true = eq-eq
 pub where_not : {A : Type 0} (view start : ℕ) (b : Bool) (x y : A) → IsTrue b ↔ (view ≡ start) → b ≡ false → y ≡ (if view == start then x else y)
 where_not view start b x y law isnt = let apart : (view == start) ≡ false = ne_eqb view start (λ e. both_ways b isnt (law.1 e)) in rw apart refl
 
+-- a number that isn't zero is positive
+pub positive : (n : ℕ) (b : Bool) → IsTrue b ↔ (n ≡ 0) → b ≡ false → 0 < n
+positive n b zero isnt = ⊎_elim (λ some. some) (λ none. absurd (both_ways b isnt (zero.1 (omega (arith, none))))) (cases_lt 0 n)
+
 -- behind the start there is something to choose from
 behind_start : {A : Type 0} (before : ℕ) (x y : A) → 0 < before → y ≡ (if before == 0 then x else y)
 behind_start before x y some = let apart : (before == 0) ≡ false = grind (arith, nat_tests, some) in rw apart refl

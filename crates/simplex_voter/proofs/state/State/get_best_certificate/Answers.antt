@@ -1,6 +1,6 @@
 use Rattle.std.proofs.Common.{◌≡◌, ◌-◌, arith}
 use Rattle.simplex_voter.specs.State.{Keeps}
-use Rattle.simplex_voter.proofs.Entering.{best_of, entered_at_start}
+use Rattle.simplex_voter.proofs.Entering.{best_of, entered_at_start, positive}
 use Rattle.simplex_voter.proofs.state.State.get_best_certificate.Goals as goal
 
 pub returns-in_default : goal.returns-in_default
