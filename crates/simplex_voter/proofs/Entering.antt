@@ -55,45 +55,7 @@ where_not view start b x y law isnt = let apart : (view == start) ≡ false = ne
 
 -- a number that isn't zero is positive
 pub positive : (n : ℕ) (b : Bool) → IsTrue b ↔ (n ≡ 0) → b ≡ false → 0 < n
-positive n b zero isnt = ⊎_elim (λ some. some) (λ none. absurd (both_ways b isnt (zero.1 (omega (arith, none))))) (cases_lt 0 n)
-
--- behind the start there is something to choose from
-behind_start : {A : Type 0} (before : ℕ) (x y : A) → 0 < before → y ≡ (if before == 0 then x else y)
-behind_start before x y some = let apart : (before == 0) ≡ false = grind (arith, nat_tests, some) in rw apart refl
-
-module _ {S D P G C : Type 0} (f : Option (Finalization S D P G C)) (starts : Bool) (n : Option (Nullification S D P G C)) (z : Option (Notarization S D P G C)) where
-  abbrev chosen : Option (Certificate S D P G C)
-  chosen = option_or (option_map certificate.Finalization f) (option_or (if starts then option_map certificate.Nullification n else None) (option_map certificate.Notarization z))
-
-  by_finalization : (c : Finalization S D P G C) → f ≡ Some c → Some (certificate.Finalization c) ≡ chosen
-  by_finalization c is = rw is refl
-
-  by_nullification : (c : Nullification S D P G C) → f ≡ None → (if starts then n else None) ≡ Some c → Some (certificate.Nullification c) ≡ chosen
-  by_nullification c none is = rw none (by starts is)
-    where
-      by : (b : Bool) → (if b then n else None) ≡ Some c → Some (certificate.Nullification c) ≡ option_or (if b then option_map certificate.Nullification n else None) (option_map certificate.Notarization z)
-      by true there = rw there refl
-      by false there = absurd (cc (there))
-
-  others : f ≡ None → (if starts then n else None) ≡ None → option_map certificate.Notarization z ≡ chosen
-  others none isnt = rw none (by starts isnt)
-    where
-      by : (b : Bool) → (if b then n else None) ≡ None → option_map certificate.Notarization z ≡ option_or (if b then option_map certificate.Nullification n else None) (option_map certificate.Notarization z)
-      by true gone = rw gone refl
-      by false gone = refl
-
-module _ {S D P G C : Type 0} (s : Setup S C) (h : List (Point S D P G C)) (view before : ℕ) (some : 0 < before) where
-  abbrev skipping : Option (Nullification S D P G C)
-  skipping = if view == term_start s.length view then covering_nullification s h before else None
-
-  pub entered_by_finalization : (c : Finalization S D P G C) → past.finalization (seen s h before) ≡ Some c → Some (certificate.Finalization c) ≡ entry_certificate s h view before
-  entered_by_finalization c is = by_finalization (past.finalization (seen s h before)) (view == term_start s.length view) (covering_nullification s h before) (past.notarization (seen s h before)) c is ∙ behind_start before None _ some
-
-  pub entered_by_nullification : (c : Nullification S D P G C) → past.finalization (seen s h before) ≡ None → skipping ≡ Some c → Some (certificate.Nullification c) ≡ entry_certificate s h view before
-  entered_by_nullification c none is = by_nullification (past.finalization (seen s h before)) (view == term_start s.length view) (covering_nullification s h before) (past.notarization (seen s h before)) c none is ∙ behind_start before None _ some
-
-  pub entered_otherwise : (o : Option (Notarization S D P G C)) → past.finalization (seen s h before) ≡ None → skipping ≡ None → past.notarization (seen s h before) ≡ o → option_map certificate.Notarization o ≡ entry_certificate s h view before
-  entered_otherwise o none isnt is = rw (← is) (others (past.finalization (seen s h before)) (view == term_start s.length view) (covering_nullification s h before) (past.notarization (seen s h before)) none isnt ∙ behind_start before None _ some)
+positive n b law isnt = ⊎_elim (λ some. some) (λ none. absurd (both_ways b isnt (law.1 (omega (arith, none))))) (cases_lt 0 n)
 
 -- of the start there is none
 pub entered_at_start : {S D P G C : Type 0} (s : Setup S C) (h : List (Point S D P G C)) (view before : ℕ) → before ≡ 0 → None ≡ entry_certificate s h view before

@@ -1,4 +1,4 @@
-use Rattle.std.proofs.Common.{◌≡◌, ◌-◌, arith}
+use Rattle.std.proofs.Common.{◌≡◌, ◌-◌, refl, arith}
 use Rattle.simplex_voter.specs.State.{Keeps}
 use Rattle.simplex_voter.proofs.Entering.{best_of, entered_at_start, positive}
 use Rattle.simplex_voter.proofs.state.State.get_best_certificate.Goals as goal
@@ -7,7 +7,7 @@ pub returns-in_default : goal.returns-in_default
 unfolding Keeps
 returns-in_default g c = λ s h k.
     let at = c.current_view-view.ensures s h k.views in
-    best_of s h c.current_view-view.result (c.current_view-view.result - 1) _ at refl (entered_at_start s h _ _ (omega (arith, c.in_default.ensures)))
+    best_of s h c.current_view-view.result (c.current_view-view.result - 1) _ at refl (entered_at_start s h _ _ (let none : c.current_view-view.result ≡ 0 = c.in_default.ensures.none.0 refl in omega (arith, none)))
 
 pub returns-then-is_zero : goal.returns-then-is_zero
 unfolding Keeps

@@ -1,2 +1,0 @@
-use Rattle.simplex_voter.specs.State.{Keeps}
-use Rattle.simplex_voter.proofs.state.State.entry_certificate.Goals as goal
