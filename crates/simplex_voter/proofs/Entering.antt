@@ -1,16 +1,11 @@
 -- The best certificate to enter a view by.
 use Rattle.std.proofs.Common.{◌≡◌, ◌≤◌, ◌<◌, ◌+◌, ◌-◌, ◌==◌, ℕ, zero, suc, Bool, true, false, Bor, refl, sym, ap, ◌∙◌, ⊎_elim, arith, if◌then◌else◌}
-use Rattle.std.specs.Prelude.{◌↔◌, List, Option, Some, None, IsTrue, MatchOption, option_copied, option_map}
-use Rattle.std.specs.Option.{option_or}
+use Rattle.std.specs.Prelude.{◌↔◌, List, Option, Some, None, IsTrue, MatchOption, option_copied}
 use Rattle.std.proofs.lemmas.Bool.{cases_lt, both_ways, eq-eqb, ne_eqb}
-use Rattle.std.proofs.lemmas.Bool.Decides.{nat_tests}
 use Rattle.simplex_types.specs.Positions.{InCoveringRange, term_start}
 use Rattle.simplex_messages.specs.declared.certificate.Certificate.{Certificate}
-use Rattle.simplex_messages.specs.declared.certificate.Certificate.TheVariants as certificate
 use Rattle.simplex_messages.specs.declared.nullification.Nullification.{Nullification}
-use Rattle.simplex_messages.specs.ProposalCertificate.{Finalization, Notarization}
-use Rattle.simplex_round.specs.Past as past
-use Rattle.simplex_views.specs.History.{Setup, Point, current, nullification, seen}
+use Rattle.simplex_views.specs.History.{Setup, Point, current, nullification}
 use Rattle.simplex_views.specs.Views.{IsHighestCovering}
 use Rattle.simplex_due.specs.Answers.{best_certificate, covering_nullification, entry_certificate, last_of}
 
