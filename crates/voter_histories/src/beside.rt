@@ -6,12 +6,14 @@ use due_plain::Plain;
 use due_plain::answers::Answer;
 use due_plain::calls::{Call, Reply};
 use due_plain::requests::{Judging, Look};
+use simplex_messages::Certificate;
 use simplex_round::{HandoffAbandonedReason, TimeoutReason};
-use simplex_types::{Participant, Proposal, Sha256Digest, View};
+use simplex_types::{Participant, PlainScheme, Proposal, Sha256Digest, View};
 use std::alloc::Global;
 use std::process::Abort;
 use voter_fakes::samples::{A, B, GENESIS, byte_of, named, payload};
 use voter_plain as plain;
+use voter_plain::getters::Entry;
 use voter_plain::world::World;
 use voter_plain::{History, Point, Setup, VIEWS};
 
@@ -205,6 +207,16 @@ impl Beside {
         holds(rt, state.epoch().get() == known.setup.epoch);
     }
 
+    /// So it does of the best certificate to enter the current view by. None where memory is refused.
+    pub fn agrees_on_entry(&self, rt: &impl Abort, alloc: Global) -> Option<()> {
+        let best = self.voter.state.get_best_certificate(alloc).ok()?;
+        holds(
+            rt,
+            entry(best.as_ref()) == self.plain().known.best_certificate(),
+        );
+        Some(())
+    }
+
     /// So it is of who leads this view, of which messages of it are taken, and of its own votes and moments.
     fn agrees_on_times(&self, rt: &impl Abort, now: u64, view: u64) {
         let (at, known) = (View::new(view), self.plain().known);
@@ -286,6 +298,15 @@ fn since(now: u64, moment: Option<u64>) -> Option<u64> {
     Some(now.saturating_sub(moment?))
 }
 
+/// The plain program's name for a certificate that is there.
+fn entry(certificate: Option<&Certificate<PlainScheme, Sha256Digest>>) -> Option<Entry> {
+    match certificate? {
+        Certificate::Notarization(c) => Some(Entry::Notarization(c.proposal.round.view.get())),
+        Certificate::Nullification(c) => Some(Entry::Nullification(c.round.view.get())),
+        Certificate::Finalization(c) => Some(Entry::Finalization(c.proposal.round.view.get())),
+    }
+}
+
 /// These are the proposals on which verdicts are to be asked for and the notarizations that are, both by the views of the verdicts.
 fn are_asked(rt: &impl Abort, plain: Plain<'_>, verdicts: &Verdicts) {
     let (ready, fetches) = verdicts;
@@ -342,6 +363,7 @@ pub fn walk(rt: &impl Abort, alloc: Global, setup: &Setup, steps: &[Step]) -> Op
         holds(rt, reply == *expected);
     }
     beside.agrees(rt);
+    beside.agrees_on_entry(rt, alloc)?;
     for view in 0..VIEWS as u64 {
         beside.agrees_at(rt, 10_000, view);
     }

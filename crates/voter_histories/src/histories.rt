@@ -309,6 +309,9 @@ fn history(rt: &impl Abort, alloc: Global, seed: u64, length: u64) -> usize {
     ] {
         let _reply = beside.call(rt, alloc, call).expect(rt, "there is memory");
     }
+    beside
+        .agrees_on_entry(rt, alloc)
+        .expect(rt, "there is memory");
     beside.agrees_at(rt, now, chance.below(12));
     beside.knows_itself(rt);
     beside.plain().known.points.len()

@@ -2,6 +2,8 @@
 #![tactic(auto)]
 
 #[cfg(test)]
+mod entry;
+#[cfg(test)]
 mod member;
 #[cfg(test)]
 mod requests;

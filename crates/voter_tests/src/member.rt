@@ -1,6 +1,7 @@
 //! Member 0 of a committee of four, with numbers for views.
 
 use crate::samples::{Finalized, finalization, notarization, nullification, payload, proposal};
+use simplex_messages::Certificate;
 use simplex_resolver::Kind;
 use simplex_round::TimeoutReason;
 use simplex_rules::elector::{Config as Building, RoundRobin, RoundRobinElector};
@@ -25,6 +26,16 @@ pub enum Asked {
     Nothing,
 }
 
+/// By which certificate others are helped into the current view, with the number of its view.
+#[derive(Clone, Copy, PartialEq, Eq)]
+pub enum Entry {
+    Notarization(u64),
+    Nullification(u64),
+    Finalization(u64),
+    /// By none.
+    Nothing,
+}
+
 /// A voter, which started at moment 0.
 #[derive(Drop)]
 pub struct Member {
@@ -33,11 +44,13 @@ pub struct Member {
 }
 
 /// The voter of the member with this index, to which nothing has happened: its leader may take 1,000 milliseconds, its verdict
-/// 2,000, a nullify is repeated after 5,000, and as many terms may be skipped as there are members.
+/// 2,000, a nullify is repeated after 5,000, and as many terms may be skipped as there are members. So many views are kept below
+/// the last finalized one.
 fn voter(
     alloc: Global,
     index: Option<u32>,
     terms: RoundRobin,
+    retention: u64,
 ) -> Result<State<PlainScheme, RoundRobinElector, Sha256Digest>, Fail> {
     let me = match index {
         Some(index) if index < 4 => Some(Participant::new(index)),
@@ -51,7 +64,7 @@ fn voter(
         scheme: Rc::new(alloc, scheme)?,
         elector,
         epoch: Epoch::new(0),
-        view_retention: ViewDelta::new(10),
+        view_retention: ViewDelta::new(retention),
         leader_timeout: 1000,
         certification_timeout: 2000,
         timeout_retry: 5000,
@@ -77,7 +90,7 @@ fn is_finalization(
 impl Member {
     /// With terms of one view.
     pub fn rotating(alloc: Global) -> Result<Self, Fail> {
-        Member::started(alloc, voter(alloc, Some(0), RoundRobin::default())?)
+        Member::started(alloc, voter(alloc, Some(0), RoundRobin::default(), 10)?)
     }
 
     /// With terms of five views that stall after 3,000 milliseconds, and so many optimistic views.
@@ -87,12 +100,18 @@ impl Member {
             3000,
             ViewDelta::new(optimistic),
         );
-        Member::started(alloc, voter(alloc, Some(0), terms)?)
+        Member::started(alloc, voter(alloc, Some(0), terms, 10)?)
+    }
+
+    /// With terms of five views, of which one is kept below the last finalized view.
+    pub fn forgetful(alloc: Global) -> Result<Self, Fail> {
+        let terms = RoundRobin::default().with_term(TermLength::new(5), 3000, ViewDelta::new(0));
+        Member::started(alloc, voter(alloc, Some(0), terms, 1)?)
     }
 
     /// Without a key.
     pub fn keyless(alloc: Global) -> Result<Self, Fail> {
-        Member::started(alloc, voter(alloc, None, RoundRobin::default())?)
+        Member::started(alloc, voter(alloc, None, RoundRobin::default(), 10)?)
     }
 
     /// The voter started at moment 0.
@@ -106,7 +125,7 @@ impl Member {
 
     /// Not started.
     pub fn waiting(alloc: Global) -> Result<Self, Fail> {
-        let state = voter(alloc, Some(0), RoundRobin::default())?;
+        let state = voter(alloc, Some(0), RoundRobin::default(), 10)?;
         Ok(Member { state, alloc })
     }
 
@@ -121,6 +140,32 @@ impl Member {
         let floor = Floor::Finalized(finalization(self.alloc, view, parent)?);
         let answer = self.state.set_floor(self.alloc, 0, floor)?;
         is_finalization(self.alloc, &answer, view, parent)
+    }
+
+    /// By which certificate others are helped into the current view.
+    pub fn entry(&self) -> Result<Entry, Fail> {
+        let Some(best) = self.state.get_best_certificate(self.alloc)? else {
+            return Ok(Entry::Nothing);
+        };
+        Ok(match best {
+            Certificate::Notarization(c) => Entry::Notarization(c.view().get()),
+            Certificate::Nullification(c) => Entry::Nullification(c.view().get()),
+            Certificate::Finalization(c) => Entry::Finalization(c.view().get()),
+        })
+    }
+
+    /// Whether these are the views that are dropped now.
+    pub fn drops(&mut self, views: &[u64]) -> Result<bool, Fail> {
+        let dropped = self.state.prune(self.alloc)?;
+        if dropped.len() != views.len() {
+            return Ok(false);
+        }
+        for i in 0..dropped.len() {
+            if dropped[i].get() != views[i] {
+                return Ok(false);
+            }
+        }
+        Ok(true)
     }
 
     /// The current view.
