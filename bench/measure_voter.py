@@ -25,12 +25,13 @@ BY_SIZE = {
     "mixed": "every third view nullified, the others finalized",
     "nullified": "each view nullified, none finalized",
 }
+# A row of nullified views is kept as a whole, so that the last three shapes go no further than 10^4.
 BY_HISTORY = {
-    "finalized": "a view, behind so many that were finalized",
-    "mixed": "a view, behind so many of which every third was nullified",
-    "nullified": "a view that is nullified, behind so many that were",
-    "polls": "a look with nothing due, behind so many that were nullified",
-    "hole": "a look of a leader that finds no parent, behind so many that were nullified but the first",
+    "finalized": ("a view, behind so many that were finalized", 10**5),
+    "mixed": ("a view, behind so many of which every third was nullified", 10**5),
+    "nullified": ("a view that is nullified, behind so many that were", 10**4),
+    "polls": ("a look with nothing due, behind so many that were nullified", 10**4),
+    "hole": ("a look of a leader that finds no parent, behind so many that were nullified but the first", 10**4),
 }
 
 
@@ -44,8 +45,9 @@ def arguments():
 
 
 def run(program, shape, members, behind):
-    """The answer, and the nanoseconds of one view or look."""
-    command = [program, shape, str(members), str(behind), str(CHUNKS[members])]
+    """The answer, and the nanoseconds of one view or look. Nullified views pile up, so few are measured."""
+    chunks = 5 if shape == "nullified" else CHUNKS[members]
+    command = [program, shape, str(members), str(behind), str(chunks)]
     done = subprocess.run(command, check=True, capture_output=True, text=True).stdout
     answer, taken = map(int, done.split())
     return answer, taken / CHUNK
@@ -81,11 +83,13 @@ def by_history(programs, runs, histories):
     columns = " | ".join(f"{behind:,}" for behind in histories)
     print(f"| With 4 members, ns | Program | {columns} |")
     print("|---|---|" + "---:|" * len(histories))
-    for shape, meaning in BY_HISTORY.items():
-        cells = [measure(programs, shape, 4, behind, runs) for behind in histories]
+    for shape, (meaning, greatest) in BY_HISTORY.items():
+        reached = [behind for behind in histories if behind <= greatest]
+        rest = " | " * (len(histories) - len(reached))
+        cells = [measure(programs, shape, 4, behind, runs) for behind in reached]
         for place, program in enumerate(("plain Rust", "`simplex_voter`")):
-            print(f"| {meaning} | {program} | " + " | ".join(f"{least[place]:,.0f}" for least, _ in cells) + " |")
-        print("| | ratio, by medians | " + " | ".join(f"{median:.2f}" for _, median in cells) + " |")
+            print(f"| {meaning} | {program} | " + " | ".join(f"{least[place]:,.0f}" for least, _ in cells) + rest + " |")
+        print("| | ratio, by medians | " + " | ".join(f"{median:.2f}" for _, median in cells) + rest + " |")
 
 
 def main():
