@@ -1,19 +1,27 @@
-//! What no contract of the voter says: worked cases, and each call once.
+//! What no contract of the voter says: worked cases in which each call is made, refused memory, and histories beside a plain program.
 #![tactic(auto)]
 
 #[cfg(test)]
-mod entry;
+mod beside;
 #[cfg(test)]
-mod member;
+mod entering;
 #[cfg(test)]
-mod requests;
+mod histories;
 #[cfg(test)]
-mod samples;
+mod holding;
 #[cfg(test)]
-mod starts;
+mod memory;
 #[cfg(test)]
-mod timeouts;
+mod rows;
 #[cfg(test)]
-mod verdicts;
+mod starting;
 #[cfg(test)]
-mod votes;
+mod steps;
+#[cfg(test)]
+mod timing;
+#[cfg(test)]
+mod verifying;
+#[cfg(test)]
+mod voter;
+#[cfg(test)]
+mod voting;

@@ -1,62 +1,17 @@
 //! Worked cases, in which each call is made: what it answers is told here, and by the plain program.
 
-use crate::beside::{Beside, Step, walk};
+use crate::beside::Step;
+use crate::steps::{
+    NO, PASS, YES, about, gives_up, refuses, rotating, stable, tell, times, walked,
+};
 use due_plain::answers::Answer;
 use due_plain::calls::{Call, Reply};
 use simplex_round::{HandoffAbandonedReason, TimeoutReason};
-use std::alloc::Global;
-use std::process::Abort;
 use voter_fakes::samples::{
-    A, B, GENESIS, finalized, forwarded, judged, member, notarized, nullified, plain, started,
+    A, B, GENESIS, finalized, forwarded, judged, notarized, nullified, plain, started,
 };
+use voter_plain::Point;
 use voter_plain::getters::Entry;
-use voter_plain::{Point, Proposal, Setup};
-
-/// It is so.
-const YES: Reply = Reply::Told(Answer::Yes);
-
-/// It isn't.
-const NO: Reply = Reply::Told(Answer::No);
-
-/// Member 0 of four, in terms of one view.
-pub fn rotating() -> Setup {
-    Setup {
-        me: Some(0),
-        stall_timeout: None,
-        ..member(1, 0)
-    }
-}
-
-/// Member 0 of four, in terms of five views, none of them optimistic.
-pub fn stable() -> Setup {
-    Setup {
-        me: Some(0),
-        ..member(5, 0)
-    }
-}
-
-/// The call that adds the point, which does.
-fn tell(point: Point) -> Step {
-    (Call::Tell(point), YES)
-}
-
-/// The call that adds the point, with the proposal that it answers.
-fn about(point: Point, proposal: Proposal) -> Step {
-    (Call::Tell(point), Reply::Told(Answer::Proposal(proposal)))
-}
-
-/// A nullify of the view, with what is answered.
-fn gives_up(view: u64, answer: Answer) -> Step {
-    (
-        Call::Tell(Point::VotedNullify { view }),
-        Reply::Told(answer),
-    )
-}
-
-/// At this moment, the next timeout.
-fn times(now: u64, moment: u64, reason: TimeoutReason) -> Step {
-    (Call::Time { now }, Reply::Time(moment, reason))
-}
 
 /// How many verdicts and notarizations are to be asked for.
 fn certifies(ready: usize, fetches: usize) -> Step {
@@ -73,9 +28,6 @@ fn resolves(missing: u64, is_nullification: bool) -> Step {
     };
     (Call::Verify { now: 0 }, reply)
 }
-
-/// Nothing is to be verified.
-const PASS: Step = (Call::Verify { now: 0 }, Reply::Nothing);
 
 /// A view of another member, from its proposal to its finalization.
 pub fn votes() -> [Step; 19] {
@@ -102,7 +54,7 @@ pub fn votes() -> [Step; 19] {
         tell(finalized(400, 1, 0, A)),
         tell(Point::Sent(Entry::Notarization(1))),
         tell(Point::Sent(Entry::Finalization(1))),
-        (Call::Tell(Point::Sent(Entry::Finalization(1))), NO),
+        refuses(Point::Sent(Entry::Finalization(1))),
         times(400, 1_300, TimeoutReason::LeaderTimeout),
         tell(finalized(500, 12, 1, B)),
         tell(Point::Pruned),
@@ -110,7 +62,7 @@ pub fn votes() -> [Step; 19] {
 }
 
 /// An own build, and one that is superseded.
-pub fn builds() -> [Step; 15] {
+pub fn builds() -> [Step; 16] {
     [
         tell(started()),
         (Call::Build, Reply::Nothing),
@@ -153,6 +105,7 @@ pub fn builds() -> [Step; 15] {
                 parent: (3, A),
             },
         ),
+        (Call::Build, Reply::Nothing),
         tell(Point::BuildReleased { view: 4 }),
         (
             Call::Build,
@@ -210,7 +163,7 @@ pub fn record() -> [Step; 8] {
         tell(Point::RecalledFinalize { view: 3 }),
         tell(Point::RecalledVerdict { view: 1, ok: true }),
         tell(Point::RecalledSent(Entry::Nullification(5))),
-        (Call::Tell(Point::VotedNotarize { view: 1 }), NO),
+        refuses(Point::VotedNotarize { view: 1 }),
         tell(nullified(0, 2)),
     ]
 }
@@ -230,7 +183,7 @@ pub fn asks() -> [Step; 8] {
 }
 
 /// A verdict waits for its parent, whose notarization is asked for once.
-pub fn verdicts() -> [Step; 9] {
+pub fn verdicts() -> [Step; 10] {
     [
         tell(started()),
         tell(notarized(2, 1, B)),
@@ -241,12 +194,8 @@ pub fn verdicts() -> [Step; 9] {
         tell(Point::CertifyAsked { view: 1 }),
         about(judged(0, 1, true), plain(1, 0, A)),
         certifies(1, 0),
+        certifies(1, 0),
     ]
-}
-
-/// Makes these calls, where no memory is refused.
-fn walked(rt: &impl Abort, alloc: Global, setup: &Setup, steps: &[Step]) {
-    let _beside: Beside = walk(rt, alloc, setup, steps).expect(rt, "there is memory");
 }
 
 #[test]

@@ -3,14 +3,14 @@
 
 use due_plain::answers::Answer;
 use due_plain::calls::Reply;
-use simplex_messages::Nullify;
+use simplex_messages::{Certificate, Nullify};
 use simplex_resolver::Kind;
 use simplex_round::{HandoffAbandonedReason, TimeoutReason, Token};
 use simplex_types::{
     Context, Epoch, Participant, PlainKey, PlainScheme, Proposal, Round, Sha256Digest, View,
     ViewDelta,
 };
-use simplex_voter::{CertificateFetch, Config, State, Verify};
+use simplex_voter::{CertificateFetch, Config, Floor, State, Verify};
 use std::alloc::Global;
 use voter_fakes::samples::{
     Finalized, Kept, Notarized, Nullified, byte_of, finalization, named, notarization,
@@ -115,6 +115,15 @@ impl Voter {
     fn start(&mut self, now: u64, byte: u8) -> Option<Answer> {
         self.state.set_genesis(now, payload(byte)).ok()?;
         Some(Answer::Yes)
+    }
+
+    /// Starts on this at moment 0: the finalization that is answered. The outer one is none where memory is refused.
+    pub fn set_floor(
+        &mut self,
+        alloc: Global,
+        floor: Floor<PlainScheme, Sha256Digest>,
+    ) -> Option<Option<Finalized>> {
+        self.state.set_floor(alloc, 0, floor).ok()
     }
 
     fn notarize(&mut self, certificate: Option<Notarized>) -> Option<Answer> {
@@ -415,9 +424,24 @@ impl Voter {
         }
     }
 
+    /// By which certificate others are helped into the current view. The outer one is none where memory is refused.
+    pub fn best_certificate(&self, alloc: Global) -> Option<Option<Entry>> {
+        let best = self.state.get_best_certificate(alloc).ok()?;
+        Some(entry(best.as_ref()))
+    }
+
     /// Drops what need not be kept: the views of which something was known.
     pub fn prune(&mut self, alloc: Global) -> Option<Vec<View>> {
         self.state.prune(alloc).ok()
+    }
+}
+
+/// The plain program's name for a certificate that is there.
+fn entry(certificate: Option<&Certificate<PlainScheme, Sha256Digest>>) -> Option<Entry> {
+    match certificate? {
+        Certificate::Notarization(c) => Some(Entry::Notarization(c.proposal.round.view.get())),
+        Certificate::Nullification(c) => Some(Entry::Nullification(c.round.view.get())),
+        Certificate::Finalization(c) => Some(Entry::Finalization(c.proposal.round.view.get())),
     }
 }
 

@@ -1,7 +1,8 @@
 //! What is answered where memory is refused.
 
 use crate::beside::{Beside, Step, walk};
-use crate::rows::{asks, builds, record, rotating, stable, timeouts, verdicts, votes};
+use crate::rows::{asks, builds, record, timeouts, verdicts, votes};
+use crate::steps::{rotating, stable};
 use std::alloc::Global;
 use std::process::Abort;
 use voter_plain::Setup;

@@ -6,9 +6,8 @@ use due_plain::Plain;
 use due_plain::answers::Answer;
 use due_plain::calls::{Call, Reply};
 use due_plain::requests::{Judging, Look};
-use simplex_messages::Certificate;
 use simplex_round::{HandoffAbandonedReason, TimeoutReason};
-use simplex_types::{Participant, PlainScheme, Proposal, Sha256Digest, View};
+use simplex_types::{Participant, Proposal, Sha256Digest, View};
 use std::alloc::Global;
 use std::process::Abort;
 use voter_fakes::samples::{A, B, GENESIS, byte_of, named, payload};
@@ -209,11 +208,22 @@ impl Beside {
 
     /// So it does of the best certificate to enter the current view by. None where memory is refused.
     pub fn agrees_on_entry(&self, rt: &impl Abort, alloc: Global) -> Option<()> {
-        let best = self.voter.state.get_best_certificate(alloc).ok()?;
-        holds(
-            rt,
-            entry(best.as_ref()) == self.plain().known.best_certificate(),
-        );
+        let best = self.voter.best_certificate(alloc)?;
+        holds(rt, best == self.plain().known.best_certificate());
+        Some(())
+    }
+
+    /// The voter stands at this view, and others are helped into it by this certificate. None where memory is refused.
+    pub fn stands_at(
+        &self,
+        rt: &impl Abort,
+        alloc: Global,
+        view: u64,
+        by: Option<Entry>,
+    ) -> Option<()> {
+        let best = self.voter.best_certificate(alloc)?;
+        holds(rt, self.voter.state.current_view().get() == view);
+        holds(rt, best == by);
         Some(())
     }
 
@@ -296,15 +306,6 @@ fn names(proposal: Option<Proposal<Sha256Digest>>) -> Option<plain::Proposal> {
 /// How long ago that was, where it was.
 fn since(now: u64, moment: Option<u64>) -> Option<u64> {
     Some(now.saturating_sub(moment?))
-}
-
-/// The plain program's name for a certificate that is there.
-fn entry(certificate: Option<&Certificate<PlainScheme, Sha256Digest>>) -> Option<Entry> {
-    match certificate? {
-        Certificate::Notarization(c) => Some(Entry::Notarization(c.proposal.round.view.get())),
-        Certificate::Nullification(c) => Some(Entry::Nullification(c.round.view.get())),
-        Certificate::Finalization(c) => Some(Entry::Finalization(c.proposal.round.view.get())),
-    }
 }
 
 /// These are the proposals on which verdicts are to be asked for and the notarizations that are, both by the views of the verdicts.
