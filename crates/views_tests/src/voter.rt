@@ -9,8 +9,8 @@ use simplex_types::{Epoch, PlainKey, PlainScheme, Proposal, Sha256Digest, View, 
 use simplex_views::Views;
 use std::alloc::Global;
 use voter_fakes::samples::{
-    Finalized, Kept, Notarized, Nullified, finalization, named, notarization, nullification,
-    own_nullify, own_vote, payload, proposal, verdict,
+    Finalized, Notarized, Nullified, finalization, named, notarization, nullification, payload,
+    proposal, recalled,
 };
 use voter_fakes::{Chosen, committee};
 use voter_plain as plain;
@@ -268,55 +268,10 @@ impl Voter {
         }
     }
 
-    fn replay(&mut self, kept: Option<Kept>) -> Option<Answer> {
-        self.views.replay(&kept?).ok()?;
-        Some(Answer::Yes)
-    }
-
     fn recall(&mut self, alloc: Global, point: Point) -> Option<Answer> {
-        let epoch = self.epoch;
-        match point {
-            Point::RecalledNotarize { proposal } => self.replay(own_vote(
-                alloc, 0, epoch, proposal,
-            )),
-            Point::RecalledNullify { view } => self.replay(own_nullify(alloc, epoch, view)),
-            Point::RecalledFinalize { view } => {
-                self.replay(own_vote(alloc, 5, epoch, of_view(view)))
-            }
-            Point::RecalledVerdict { view, ok } => self.replay(Some(verdict(epoch, view, ok))),
-            Point::RecalledSent(entry) => self.replay(handed_out(alloc, epoch, entry)),
-            _ => None,
-        }
-    }
-}
-
-/// Some proposal of the view.
-fn of_view(view: u64) -> plain::Proposal {
-    plain::Proposal {
-        view,
-        parent: 0,
-        payload: 0xaa,
-    }
-}
-
-/// The certificate of the view, as it stands in a record.
-fn handed_out(alloc: Global, epoch: u64, entry: Entry) -> Option<Kept> {
-    match entry {
-        Entry::Notarization(view) => Some(Kept::Notarization(notarization(
-            alloc,
-            epoch,
-            of_view(view),
-            3,
-        )?)),
-        Entry::Nullification(view) => Some(Kept::Nullification(nullification(
-            alloc, epoch, view, 3,
-        )?)),
-        Entry::Finalization(view) => Some(Kept::Finalization(finalization(
-            alloc,
-            epoch,
-            of_view(view),
-            3,
-        )?)),
+        let artifact = recalled(alloc, self.epoch, point)?;
+        self.views.replay(&artifact).ok()?;
+        Some(Answer::Yes)
     }
 }
 

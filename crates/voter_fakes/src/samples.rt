@@ -4,6 +4,7 @@ use simplex_messages::{Artifact, Finalization, Notarization, Nullification};
 use simplex_types::{Digest, Epoch, PlainScheme, Proposal, Read, Round, Sha256Digest, View};
 use std::alloc::{AllocError, Global};
 use voter_plain as plain;
+use voter_plain::getters::Entry;
 use voter_plain::{Point, Setup};
 
 pub type Kept = Artifact<PlainScheme, Sha256Digest>;
@@ -193,20 +194,58 @@ fn kept(alloc: Global, bytes: &[u8]) -> Option<Kept> {
 }
 
 /// An own vote on the proposal, behind the tag of its kind. What stands for its signature attests nothing.
-pub fn own_vote(alloc: Global, tag: u8, epoch: u64, plain: plain::Proposal) -> Option<Kept> {
+fn own_vote(alloc: Global, tag: u8, epoch: u64, plain: plain::Proposal) -> Option<Kept> {
     let mut bytes = spelled(alloc, &[tag], epoch, plain).ok()?;
     bytes.extend_from_slice(&[1; 33]).ok()?;
     kept(alloc, &bytes)
 }
 
 /// An own nullify of the view.
-pub fn own_nullify(alloc: Global, epoch: u64, view: u64) -> Option<Kept> {
+fn own_nullify(alloc: Global, epoch: u64, view: u64) -> Option<Kept> {
     let mut bytes = round_spelled(alloc, &[3], epoch, view).ok()?;
     bytes.extend_from_slice(&[1; 33]).ok()?;
     kept(alloc, &bytes)
 }
 
 /// The verdict on the view.
-pub fn verdict(epoch: u64, view: u64, is_success: bool) -> Kept {
+fn verdict(epoch: u64, view: u64, is_success: bool) -> Kept {
     Artifact::Certification(Round::new(Epoch::new(epoch), View::new(view)), is_success)
+}
+
+/// Some proposal of the view.
+fn of_view(view: u64) -> plain::Proposal {
+    plain(view, 0, A)
+}
+
+/// The certificate of the view, as it stands in a record.
+fn handed_out(alloc: Global, epoch: u64, entry: Entry) -> Option<Kept> {
+    match entry {
+        Entry::Notarization(view) => Some(Kept::Notarization(notarization(
+            alloc,
+            epoch,
+            of_view(view),
+            3,
+        )?)),
+        Entry::Nullification(view) => Some(Kept::Nullification(nullification(
+            alloc, epoch, view, 3,
+        )?)),
+        Entry::Finalization(view) => Some(Kept::Finalization(finalization(
+            alloc,
+            epoch,
+            of_view(view),
+            3,
+        )?)),
+    }
+}
+
+/// The artifact of a record by which the point happens. None for another point, or where memory is refused.
+pub fn recalled(alloc: Global, epoch: u64, point: Point) -> Option<Kept> {
+    match point {
+        Point::RecalledNotarize { proposal } => own_vote(alloc, 0, epoch, proposal),
+        Point::RecalledNullify { view } => own_nullify(alloc, epoch, view),
+        Point::RecalledFinalize { view } => own_vote(alloc, 5, epoch, of_view(view)),
+        Point::RecalledVerdict { view, ok } => Some(verdict(epoch, view, ok)),
+        Point::RecalledSent(entry) => handed_out(alloc, epoch, entry),
+        _ => None,
+    }
 }

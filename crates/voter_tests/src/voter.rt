@@ -13,8 +13,8 @@ use simplex_types::{
 use simplex_voter::{CertificateFetch, Config, Floor, State, Verify};
 use std::alloc::Global;
 use voter_fakes::samples::{
-    Finalized, Kept, Notarized, Nullified, byte_of, finalization, named, notarization,
-    nullification, own_nullify, own_vote, payload, proposal, verdict,
+    Finalized, Notarized, Nullified, byte_of, finalization, named, notarization, nullification,
+    payload, proposal, recalled,
 };
 use voter_fakes::{Chosen, committee};
 use voter_plain as plain;
@@ -301,25 +301,10 @@ impl Voter {
         }
     }
 
-    fn replay(&mut self, kept: Option<Kept>) -> Option<Answer> {
-        self.state.replay(&kept?).ok()?;
-        Some(Answer::Yes)
-    }
-
     fn recall(&mut self, alloc: Global, point: Point) -> Option<Answer> {
-        let epoch = self.epoch;
-        match point {
-            Point::RecalledNotarize { proposal } => self.replay(own_vote(
-                alloc, 0, epoch, proposal,
-            )),
-            Point::RecalledNullify { view } => self.replay(own_nullify(alloc, epoch, view)),
-            Point::RecalledFinalize { view } => {
-                self.replay(own_vote(alloc, 5, epoch, of_view(view)))
-            }
-            Point::RecalledVerdict { view, ok } => self.replay(Some(verdict(epoch, view, ok))),
-            Point::RecalledSent(entry) => self.replay(handed_out(alloc, epoch, entry)),
-            _ => None,
-        }
+        let artifact = recalled(alloc, self.epoch, point)?;
+        self.state.replay(&artifact).ok()?;
+        Some(Answer::Yes)
     }
 
     /// Makes the call that would add the point. None where memory is refused.
@@ -342,36 +327,6 @@ impl Voter {
             | Point::RecalledSent(_) => self.recall(alloc, point),
             _ => self.hear(point),
         }
-    }
-}
-
-/// Some proposal of the view.
-fn of_view(view: u64) -> plain::Proposal {
-    plain::Proposal {
-        view,
-        parent: 0,
-        payload: 0xaa,
-    }
-}
-
-/// The certificate of the view, as it stands in a record.
-fn handed_out(alloc: Global, epoch: u64, entry: Entry) -> Option<Kept> {
-    match entry {
-        Entry::Notarization(view) => Some(Kept::Notarization(notarization(
-            alloc,
-            epoch,
-            of_view(view),
-            3,
-        )?)),
-        Entry::Nullification(view) => Some(Kept::Nullification(nullification(
-            alloc, epoch, view, 3,
-        )?)),
-        Entry::Finalization(view) => Some(Kept::Finalization(finalization(
-            alloc,
-            epoch,
-            of_view(view),
-            3,
-        )?)),
     }
 }
 
