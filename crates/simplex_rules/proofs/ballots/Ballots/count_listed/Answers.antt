@@ -5,11 +5,11 @@ use Rattle.simplex_rules.proofs.Listed.{Adds, Adds-none, Adds-next, Adds-all, Ho
 use Rattle.simplex_rules.proofs.ballots.Ballots.count_listed.Goals as goal
 
 pub loop-attestation-init : goal.loop-attestation-init
-loop-attestation-init g c = Adds-none (HoldsAlike c.args.made.now g.K.ProposalKind.states (g.S.Scheme.attests c.args.scheme.now) g.D.Ord.cmp) (vote_by c.args.made.now) c.args.self.now.kept c.attestations-attestation-items.result.now
+loop-attestation-init g c = Adds-none (HoldsAlike c.args.made.now g.K.ProposalKind.states (g.S.Scheme.attests c.args.scheme.now) g.D.Ord.cmp c.args.contested.now) (vote_by c.args.made.now) c.args.self.now.kept c.attestations-attestation-items.result.now
 
 pub loop-attestation-preserved : goal.loop-attestation-preserved
 loop-attestation-preserved g c =
-    let Holds = HoldsAlike c.args.made.now g.K.ProposalKind.states (g.S.Scheme.attests c.args.scheme.now) g.D.Ord.cmp in
+    let Holds = HoldsAlike c.args.made.now g.K.ProposalKind.states (g.S.Scheme.attests c.args.scheme.now) g.D.Ord.cmp c.args.contested.now in
     let is = vote_by-is c.args.made.now c.attestation-item.result c.new.result c.new.ensures.proposal c.new.ensures.attestation in
     let counted = subst (λ (v : ProposalVote _ _ _ _ _ _). Adds Holds c.loop-attestation.self.kept c.count.new.self.kept (v ∷ [])) is c.in_ok-count.ensures in
     Adds-next Holds (vote_by c.args.made.now) c.args.self.now.kept c.loop-attestation.self.kept c.count.new.self.kept
@@ -17,7 +17,7 @@ loop-attestation-preserved g c =
 
 pub returns : goal.returns
 returns g c = λ votes h.
-    let Holds = HoldsAlike c.args.made.now g.K.ProposalKind.states (g.S.Scheme.attests c.args.scheme.now) g.D.Ord.cmp in
+    let Holds = HoldsAlike c.args.made.now g.K.ProposalKind.states (g.S.Scheme.attests c.args.scheme.now) g.D.Ord.cmp c.args.contested.now in
     let all = Adds-all Holds (vote_by c.args.made.now) c.args.self.now.kept c.loop-attestation.self.kept
     c.attestations-attestation-items.result.now c.loop-attestation.attestation-index c.loop-attestation-test.false c.loop-attestation.invariant votes h in
     subst (λ (listed : List (Attestation _)). Holds (votes ++ map (vote_by c.args.made.now) listed) c.loop-attestation.self.kept) c.attestations-attestation-items.ensures.listed all
