@@ -239,11 +239,8 @@ impl<K: ProposalKind<D>, S: Listing<D>, D: Digest> Ballots<K, S, D> {
         ensures { OnOk result ((votes : List (ProposalVote K S D S.PublicKey S.Signature S.Certificate)) → HoldsVotes K.states (S.attests scheme.now) D.cmp contested.now votes self.old.kept → HoldsVotes K.states (S.attests scheme.now) D.cmp contested.now (votes ++ votes_listed S.lists made.now) self.new.kept) }
     {
         for attestation in S::attestations(&made.certificate) {
-            self.count(
-                scheme,
-                contested,
-                &ProposalVote::new(made.proposal, *attestation),
-            )?;
+            let vote = ProposalVote::new(made.proposal, *attestation);
+            self.count(scheme, contested, &vote)?;
         }
         Ok(())
     }

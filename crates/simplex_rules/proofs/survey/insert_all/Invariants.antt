@@ -10,5 +10,5 @@ use Rattle.simplex_rules.proofs.survey.insert_all.Given as goal
 abbrev pub invariant-loop-attestation : goal.invariant-loop-attestation
 invariant-loop-attestation g l = record {
   stay : IsSubset suspect_cmp l.initial.suspects l.suspects;
-  added : Gathers (λ a. suspect_from l.round a.signer) (λ a. ⊤) (take l.attestation-index l.attestation-items) l.suspects;
+  added : Gathers (λ a. suspect_from l.round a.signer) (λ a. ⊤) (take l.attestation-index l.listed) l.suspects;
 }

@@ -10,7 +10,7 @@ loop-attestation-init g c = Adds-none (HoldsAlike c.args.made.now g.K.ProposalKi
 pub loop-attestation-preserved : goal.loop-attestation-preserved
 loop-attestation-preserved g c =
     let Holds = HoldsAlike c.args.made.now g.K.ProposalKind.states (g.S.Scheme.attests c.args.scheme.now) g.D.Ord.cmp c.args.contested.now in
-    let is = vote_by-is c.args.made.now c.attestation-item.result c.new.result c.new.ensures.proposal c.new.ensures.attestation in
+    let is = vote_by-is c.args.made.now c.attestation-item.result c.new-vote.result c.new-vote.ensures.proposal c.new-vote.ensures.attestation in
     let counted = subst (λ (v : ProposalVote _ _ _ _ _ _). Adds Holds c.loop-attestation.self.kept c.count.new.self.kept (v ∷ [])) is c.in_ok-count.ensures in
     Adds-next Holds (vote_by c.args.made.now) c.args.self.now.kept c.loop-attestation.self.kept c.count.new.self.kept
     c.attestations-attestation-items.result.now c.loop-attestation.attestation-index c.attestation-item.result c.loop-attestation-test.true c.attestation-item.is c.loop-attestation.invariant counted
