@@ -39,7 +39,7 @@ module _ {K S D P G C : Type 0} where
   vote_of-parts : (q : Suspect) (a : Cast D G) (v : ProposalVote K S D P G C) → parts_of v ≡ (q, a) → v ≡ vote_of q a
   vote_of-parts q a v is = ap (λ (p : Suspect × Cast D G). vote_of {K = K} {S = S} {P = P} {C = C} p.0 p.1) is
 
-  suspect_is : (q : Suspect) (v : ProposalVote K S D P G C) → v.proposal.round ≡ q.round → v.attestation.signer ≡ q.signer → suspect_of v ≡ q
+  pub suspect_is : (q : Suspect) (v : ProposalVote K S D P G C) → v.proposal.round ≡ q.round → v.attestation.signer ≡ q.signer → suspect_of v ≡ q
   suspect_is q v round signer = ap (λ (r : Round). suspect_from r v.attestation.signer) round ∙ ap (λ (i : ℕ). suspect_from q.round i) signer
 
   module _ (states : Proposal D → Statement D) (attests : ℕ → Statement D → G → Type 0) (votes : List (ProposalVote K S D P G C)) where

@@ -1,6 +1,6 @@
 -- One more report read.
 use Rattle.std.proofs.Common.{◌≡◌, ◌<◌, ◌⊎◌, ℕ, List, [], ◌∷◌, ◌++◌, length, length-append, refl, sym, ap, ◌∙◌, append_assoc, arith, inl, inr, subst}
-use Rattle.std.specs.Prelude.{◌≢◌, ◌+◌, Option, Some, None, MatchOption, All, Bool, Result, Ok, Err, IfOk, IsErr, MatchBool}
+use Rattle.std.specs.Prelude.{◌≢◌, ◌+◌, Option, Some, None, MatchOption, All, Bool, true, false, Result, Ok, Err, IfOk, IsErr, MatchBool}
 use Rattle.std.specs.List.{flat_map}
 use Rattle.std.proofs.lemmas.List.{append-nil}
 use Rattle.std.proofs.lemmas.List.Concat.{flat_map-append}
@@ -63,7 +63,10 @@ module _ {A : Type 0} {Fits : A → Type 0} {spelling : A → List ℕ} {reading
   Ends rest = (rest ≡ []) ⊎ IsErr (reading rest)
 
   not_both : (r : Result (A × List ℕ) CodecError) (p : A × List ℕ) → r ≡ Ok p → IsErr r → ⊥
-  not_both r p is err = let bad : IsErr (Ok p) = subst (λ (q : Result (A × List ℕ) CodecError). IsErr q) is err in absurd bad
+  not_both r p is err = let bad : false ≡ true = subst (λ (q : Result (A × List ℕ) CodecError). IsErr q) is err in cc
+
+  ok_is : (r : Result (A × List ℕ) CodecError) (p q : A × List ℕ) → r ≡ Ok p → r ≡ Ok q → p ≡ q
+  ok_is r p q first second = cc
 
   -- where nothing more is read, no value stands
   nothing_stands : (x : A) (rest after : List ℕ) → Fits x → rest ≡ spelling x ++ after → Ends rest → ⊥
@@ -75,23 +78,18 @@ module _ {A : Type 0} {Fits : A → Type 0} {spelling : A → List ℕ} {reading
   -- bytes are read in one way
   same_read : (xs ys : List A) (r s : List ℕ) → All Fits xs → All Fits ys → flat_map spelling xs ++ r ≡ flat_map spelling ys ++ s → Ends r → Ends s → xs ≡ ys
   same_read [] [] r s fx fy is ends_r ends_s = refl
-  same_read [] (y ∷ ys) r s fx fy is ends_r ends_s = absurd (nothing_stands y r (flat_map spelling ys ++ s) (All-head y ys fy) (is ∙ append_assoc (spelling y) (flat_map spelling ys) s) ends_r)
-  same_read (x ∷ xs) [] r s fx fy is ends_r ends_s = absurd (nothing_stands x s (flat_map spelling xs ++ r) (All-head x xs fx) (sym is ∙ append_assoc (spelling x) (flat_map spelling xs) r) ends_s)
+  same_read [] (y ∷ ys) r s fx fy is ends_r ends_s = absurd (nothing_stands y r (flat_map spelling ys ++ s) (All-head Fits y ys fy) (is ∙ append_assoc (spelling y) (flat_map spelling ys) s) ends_r)
+  same_read (x ∷ xs) [] r s fx fy is ends_r ends_s = absurd (nothing_stands x s (flat_map spelling xs ++ r) (All-head Fits x xs fx) (sym is ∙ append_assoc (spelling x) (flat_map spelling xs) r) ends_s)
   same_read (x ∷ xs) (y ∷ ys) r s fx fy is ends_r ends_s =
-      let first = codec.again x (flat_map spelling xs ++ r) (All-head x xs fx) in
-      let second = codec.again y (flat_map spelling ys ++ s) (All-head y ys fy) in
+      let first = codec.again x (flat_map spelling xs ++ r) (All-head Fits x xs fx) in
+      let second = codec.again y (flat_map spelling ys ++ s) (All-head Fits y ys fy) in
       let bytes : spelling x ++ (flat_map spelling xs ++ r) ≡ spelling y ++ (flat_map spelling ys ++ s) = sym (append_assoc (spelling x) (flat_map spelling xs) r) ∙ is ∙ append_assoc (spelling y) (flat_map spelling ys) s in
-      let one : Ok (x, flat_map spelling xs ++ r) ≡ Ok (y, flat_map spelling ys ++ s) = sym first ∙ ap reading bytes ∙ second in
-      let pair = ok_is _ _ one in
-      let rest : xs ≡ ys = same_read xs ys r s (All-tail x xs fx) (All-tail y ys fy) (ap (λ (p : A × List ℕ). p.1) pair) ends_r ends_s in
+      let pair = ok_is (reading (spelling x ++ (flat_map spelling xs ++ r))) _ _ first (ap reading bytes ∙ second) in
+      let rest : xs ≡ ys = same_read xs ys r s (All-tail Fits x xs fx) (All-tail Fits y ys fy) (ap (λ (p : A × List ℕ). p.1) pair) ends_r ends_s in
       ap (λ (z : A). z ∷ xs) (ap (λ (p : A × List ℕ). p.0) pair) ∙ ap (λ (zs : List A). y ∷ zs) rest
-    where
-      ok_is : (p q : A × List ℕ) → Ok p ≡ Ok q → p ≡ q
-      ok_is p q e = cc
-
   read_ends : (fault : Option ℕ) (bytes rest : List ℕ) → MatchOption fault (rest ≡ []) (λ place. (place + length rest ≡ length bytes) × (rest ≢ []) × IsErr (reading rest)) → Ends rest
   read_ends None bytes rest ends = inl ends
-  read_ends (Some place) bytes rest ends = inr ends.2.1
+  read_ends (Some place) bytes rest ends = inr ends.2
 
   -- the reports that bytes hold are these alone
   pub IsRead-unique : (bytes : List ℕ) (xs ys : List A) (f g : Option ℕ) → IsRead Fits spelling reading bytes xs f → IsRead Fits spelling reading bytes ys g → xs ≡ ys
