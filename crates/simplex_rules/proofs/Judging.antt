@@ -1,5 +1,5 @@
 -- What is kept of the votes is the verdict on them.
-use Rattle.std.proofs.Common.{◌≡◌, ℕ, List, [], Option, Some, None, Box, refl, sym, ap, ◌∙◌, subst, inl, inr, map}
+use Rattle.std.proofs.Common.{◌≡◌, ℕ, List, Option, Some, None, Box, refl, sym, ap, ◌∙◌, subst, inl, inr, map}
 use Rattle.std.specs.Prelude.{Contains, IsTrue}
 use Rattle.std.specs.Cmp.{IsTotalOrder}
 use Rattle.std.specs.BTreeMap.{BTreeMap, get}

@@ -87,6 +87,7 @@ module _ {A : Type 0} {Fits : A → Type 0} {spelling : A → List ℕ} {reading
       let pair = ok_is (reading (spelling x ++ (flat_map spelling xs ++ r))) _ _ first (ap reading bytes ∙ second) in
       let rest : xs ≡ ys = same_read xs ys r s (All-tail Fits x xs fx) (All-tail Fits y ys fy) (ap (λ (p : A × List ℕ). p.1) pair) ends_r ends_s in
       ap (λ (z : A). z ∷ xs) (ap (λ (p : A × List ℕ). p.0) pair) ∙ ap (λ (zs : List A). y ∷ zs) rest
+
   read_ends : (fault : Option ℕ) (bytes rest : List ℕ) → MatchOption fault (rest ≡ []) (λ place. (place + length rest ≡ length bytes) × (rest ≢ []) × IsErr (reading rest)) → Ends rest
   read_ends None bytes rest ends = inl ends
   read_ends (Some place) bytes rest ends = inr ends.2

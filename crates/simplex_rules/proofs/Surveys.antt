@@ -1,5 +1,5 @@
 -- What is noted of the votes tells who may be guilty.
-use Rattle.std.proofs.Common.{◌≡◌, ◌⊎◌, ℕ, List, [], ◌∷◌, ◌++◌, Option, Some, None, refl, sym, ap, ◌∙◌, subst, inl, inr}
+use Rattle.std.proofs.Common.{◌≡◌, ◌⊎◌, ℕ, List, [], ◌∷◌, ◌++◌, Some, None, refl, sym, ap, ◌∙◌, subst, inl, inr}
 use Rattle.std.specs.Prelude.{Contains, IsSome, IsTrue, OnOk, Result, Ok, Err}
 use Rattle.std.specs.List.{flat_map}
 use Rattle.std.specs.BTreeMap.{BTreeMap, Updates, get}
@@ -21,7 +21,7 @@ use Rattle.simplex_messages.specs.declared.nullification.Nullification.{Nullific
 use Rattle.simplex_messages.specs.declared.proposal_certificate.ProposalCertificate.{ProposalCertificate}
 use Rattle.simplex_messages.specs.Nullify.{nullify_of_parts}
 use Rattle.simplex_messages.specs.ProposalVote.{Notarize, Finalize, vote_of_parts}
-use Rattle.simplex_messages.specs.Guilt.{votes_listed, nullifies_listed, notarizes_in, nullifies_in, finalizes_in, notarizes_of, nullifies_of, finalizes_of, IsGuilty, IsGuiltyBeside}
+use Rattle.simplex_messages.specs.Guilt.{votes_listed, nullifies_listed, notarizes_in, nullifies_in, finalizes_in, notarizes_of, nullifies_of, finalizes_of, IsGuilty}
 use Rattle.simplex_rules.specs.declared.cast.Choice.{Choice}
 use Rattle.simplex_rules.specs.declared.cast.Suspect.{Suspect}
 use Rattle.simplex_rules.specs.declared.survey.Survey.{Survey}
@@ -135,32 +135,6 @@ module _ {K S D P G C : Type 0} where
       some_is a b e = cc
 
 module _ {S D P G C : Type 0} (lists : C → List (Attestation G)) where
-  -- a report of notarizes
-  pub one-notarizes : (report : Activity S D P G C) (old new : Survey D) → Notes old.notarized new.notarized old.contested new.contested (notarizes_in lists report) → old.finalized ≡ new.finalized → old.nullified ≡ new.nullified
-      → finalizes_in lists report ≡ [] → nullifies_in lists report ≡ [] → SurveysOne lists report old new
-  one-notarizes report old new notes finalized nullified no_finalizes no_nullifies = record {
-    notarized = notes.extends;
-    finalized = λ r c before. subst (λ (m : BTreeMap Round (Choice D)). get round_cmp m r ≡ Some c) finalized before;
-    nullified = λ q before. subst (λ (s : BTreeSet Suspect). IsTrue (contains suspect_cmp s q)) nullified before;
-    contested = notes.stay;
-    notarizes = notes.noted;
-    finalizes = λ v there. absurd (Contains-nil v (subst (λ (vs : List (Finalize S D P G C)). Contains vs v) no_finalizes there));
-    nullifies = λ v there. absurd (Contains-nil v (subst (λ (vs : List (Nullify S D P G C)). Contains vs v) no_nullifies there));
-  }
-
-  -- a report of finalizes
-  pub one-finalizes : (report : Activity S D P G C) (old new : Survey D) → Notes old.finalized new.finalized old.contested new.contested (finalizes_in lists report) → old.notarized ≡ new.notarized → IsSubset suspect_cmp old.nullified new.nullified
-      → notarizes_in lists report ≡ [] → AreGivenUp new.nullified (nullifies_in lists report) → SurveysOne lists report old new
-  one-finalizes report old new notes notarized nullified no_notarizes given_up = record {
-    notarized = λ r c before. subst (λ (m : BTreeMap Round (Choice D)). get round_cmp m r ≡ Some c) notarized before;
-    finalized = notes.extends;
-    nullified = nullified;
-    contested = notes.stay;
-    notarizes = λ v there. absurd (Contains-nil v (subst (λ (vs : List (Notarize S D P G C)). Contains vs v) no_notarizes there));
-    finalizes = notes.noted;
-    nullifies = given_up;
-  }
-
   -- a report of nullifies
   pub one-nullifies : (report : Activity S D P G C) (old new : Survey D) → old.notarized ≡ new.notarized → old.finalized ≡ new.finalized → old.contested ≡ new.contested → IsSubset suspect_cmp old.nullified new.nullified
       → notarizes_in lists report ≡ [] → finalizes_in lists report ≡ [] → AreGivenUp new.nullified (nullifies_in lists report) → SurveysOne lists report old new
@@ -173,10 +147,6 @@ module _ {S D P G C : Type 0} (lists : C → List (Attestation G)) where
     finalizes = λ v there. absurd (Contains-nil v (subst (λ (vs : List (Finalize S D P G C)). Contains vs v) no_finalizes there));
     nullifies = given_up;
   }
-
-  -- the nullify of one suspect
-  pub given_up-one : (s : BTreeSet Suspect) (v : Nullify S D P G C) → IsTrue (contains suspect_cmp s (nullify_suspect v)) → AreGivenUp s (v ∷ [])
-  given_up-one s v there = λ w among. subst (λ (x : Nullify S D P G C). IsTrue (contains suspect_cmp s (nullify_suspect x))) (only_element v w among) there
 
   -- the nullifies that a nullification lists
   pub given_up-listed : (s : BTreeSet Suspect) (made : Nullification S D P G C) → ((a : Attestation G) → Contains (lists made.certificate) a → IsTrue (contains suspect_cmp s (suspect_from made.round a.signer))) → AreGivenUp s (nullifies_listed lists made)

@@ -11,7 +11,6 @@ use Rattle.simplex_rules.specs.declared.cast.Suspect.{Suspect}
 use Rattle.simplex_rules.specs.Audit.{Accusation, Offence, StandsBefore}
 use Rattle.simplex_rules.specs.Kept.{suspect_cmp}
 use Rattle.simplex_rules.specs.Survey.{round_cmp}
-use Rattle.simplex_types.specs.declared.position.Round.{Round}
 
 pub suspects_total : IsTotalOrder suspect_cmp
 suspects_total =

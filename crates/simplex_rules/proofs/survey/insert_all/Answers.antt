@@ -1,4 +1,3 @@
-use Rattle.std.proofs.Common.{◌≡◌, List, [], take}
 use Rattle.std.specs.Prelude.{⊤}
 use Rattle.std.proofs.lemmas.List.{take_all}
 use Rattle.simplex_rules.proofs.Gathering.{Gathers-none, Gathers-take}
