@@ -1,12 +1,12 @@
 //! The audit in plain Rust that puts verifying off: what `simplex audit COUNT` is measured against where
 //! honest votes cost no hash.
 //!
-//! It keeps what `simplex` keeps. A signer's first vote of a round is a claim that nobody verified; a vote is
-//! verified only where it can change what is kept. The claims of a round that are for one proposal stand
-//! side by side, on benches of `BENCH` signers, each of which has the proposal once; whoever votes
-//! otherwise, or had a claim verified, is kept apart.
+//! It reads the reports twice, as `simplex` does. The first time it keeps of each round what its first vote is
+//! for, and of the other votes only whose they are: the contested. The second time it weighs the votes of
+//! the contested alone. Of those the first vote of a round is a claim that nobody verified, and a vote is verified
+//! only where it can change what is kept.
 
-use std::collections::btree_map::{BTreeMap, Entry};
+use std::collections::{BTreeMap, BTreeSet, btree_map::Entry};
 use std::process::ExitCode;
 
 mod lines;
@@ -19,31 +19,87 @@ use messages::{Activity, Attestation, Choice, Round, Signed, Statement, Subject}
 use reader::Reader;
 use sha256::DIGEST_BYTES;
 
-/// How many signers share a bench: what stands on one is searched in a row.
-const BENCH: u32 = 32;
-
 fn main() -> ExitCode {
     lines::run(audit)
 }
 
-/// Gathers the votes up to the first place without a whole message, and gives that place.
+/// Surveys the votes up to the first place without a whole message, then gathers those of the contested.
 fn audit(input: &[u8], count: u64) -> Verdict<'_> {
-    let mut ledger = Ledger::default();
-    ledger.count = count;
+    let mut survey = Survey::default();
+    read(input, count, |subject, attestations| survey.note(subject, attestations));
+    let contested = survey.contested();
+    let mut ledger = Ledger { count, contested, ..Ledger::default() };
+    let fault = read(input, count, |subject, attestations| ledger.record(subject, attestations));
+    (ledger.lines(), fault)
+}
+
+/// Takes the votes of each report up to the first place without a whole one, and gives that place.
+fn read<'a>(
+    input: &'a [u8],
+    count: u64,
+    mut take: impl FnMut(&Subject<'a>, &[Attestation<'a>]),
+) -> Option<usize> {
     let mut reader = Reader { input, place: 0 };
     while reader.place < input.len() {
         let start = reader.place;
         match reader.activity(count) {
-            Some(Activity::Vote(vote)) => ledger.record(&vote.subject, &[vote.attestation]),
+            Some(Activity::Vote(vote)) => take(&vote.subject, &[vote.attestation]),
             Some(Activity::Evidence(first, second)) => {
-                ledger.record(&first.subject, &[first.attestation]);
-                ledger.record(&second.subject, &[second.attestation]);
+                take(&first.subject, &[first.attestation]);
+                take(&second.subject, &[second.attestation]);
             }
-            Some(Activity::Certificate(subject, listed)) => ledger.record(&subject, &listed),
-            None => return (ledger.lines(), Some(start)),
+            Some(Activity::Certificate(subject, listed)) => take(&subject, &listed),
+            None => return Some(start),
         }
     }
-    (ledger.lines(), None)
+    None
+}
+
+/// What the votes of one kind are for.
+#[derive(Default)]
+struct Proposed<'a> {
+    /// By rounds what the first vote is for.
+    chosen: BTreeMap<Round, Choice<'a>>,
+    /// Who voted for something else.
+    contested: BTreeSet<Suspect>,
+}
+
+impl<'a> Proposed<'a> {
+    fn note(&mut self, round: Round, choice: Choice<'a>, attestations: &[Attestation]) {
+        if *self.chosen.entry(round).or_insert(choice) != choice {
+            self.contested.extend(attestations.iter().map(|attestation| (round, attestation.signer)));
+        }
+    }
+}
+
+#[derive(Default)]
+struct Survey<'a> {
+    notarizes: Proposed<'a>,
+    finalizes: Proposed<'a>,
+    nullifies: BTreeSet<Suspect>,
+}
+
+impl<'a> Survey<'a> {
+    /// Notes what the votes for the subject are for.
+    fn note(&mut self, subject: &Subject<'a>, attestations: &[Attestation]) {
+        match subject.statement {
+            Statement::Notarize(choice) => self.notarizes.note(subject.round, choice, attestations),
+            Statement::Finalize(choice) => self.finalizes.note(subject.round, choice, attestations),
+            Statement::Nullify => {
+                let suspects = attestations.iter().map(|vote| (subject.round, vote.signer));
+                self.nullifies.extend(suspects);
+            }
+        }
+    }
+
+    /// Whose votes may contradict each other.
+    fn contested(mut self) -> BTreeSet<Suspect> {
+        let mut contested = self.notarizes.contested;
+        contested.append(&mut self.finalizes.contested);
+        let finalized = &self.finalizes.chosen;
+        contested.extend(self.nullifies.iter().filter(|(round, _)| finalized.contains_key(round)));
+        contested
+    }
 }
 
 /// A vote of a known signer.
@@ -73,7 +129,7 @@ impl<'a> Cast<'a> {
     }
 }
 
-/// What is kept of a signer that stands apart: of the first votes that verify for the least two proposals
+/// What is kept of a contested signer: of the first votes that verify for the least two proposals
 /// one or both, or the vote that stands for all.
 enum Kept<'a> {
     Claim(Cast<'a>),
@@ -133,89 +189,44 @@ impl<'a> Kept<'a> {
     }
 }
 
-/// Claims of one round for one subject.
-struct Bench<'a> {
-    subject: Subject<'a>,
-    claims: Vec<(u32, Signature)>,
-}
-
 #[derive(Default)]
 struct Ballots<'a> {
-    benches: BTreeMap<(Round, u32), Bench<'a>>,
-    apart: BTreeMap<Suspect, Kept<'a>>,
+    kept: BTreeMap<Suspect, Kept<'a>>,
 }
 
 impl<'a> Ballots<'a> {
     fn count(&mut self, count: u64, signer: u32, cast: Cast<'a>) {
-        let suspect = (cast.subject.round, signer);
-        if let Some(kept) = self.apart.get_mut(&suspect) {
-            kept.weigh(count, signer, cast);
-            return;
-        }
-        let bench = match self.benches.entry((cast.subject.round, signer / BENCH)) {
-            Entry::Occupied(entry) => entry.into_mut(),
-            Entry::Vacant(entry) => entry.insert(Bench {
-                subject: cast.subject,
-                claims: Vec::new(),
-            }),
-        };
-        let subject = bench.subject;
-        let first = Cast { subject, ..cast };
-        if let Some((_, signature)) = bench.claims.iter().find(|(other, _)| *other == signer) {
-            let claim = Cast { subject, signature: *signature };
-            if !claim.is_same(&cast) {
-                let mut kept = Kept::Claim(claim);
-                kept.weigh(count, signer, cast);
-                self.apart.insert(suspect, kept);
+        match self.kept.entry((cast.subject.round, signer)) {
+            Entry::Occupied(mut entry) => entry.get_mut().weigh(count, signer, cast),
+            Entry::Vacant(entry) => {
+                entry.insert(Kept::Claim(cast));
             }
-        } else if first.choice() == cast.choice() {
-            bench.claims.push((signer, cast.signature));
-        } else {
-            self.apart.insert(suspect, Kept::Claim(cast));
         }
     }
 
     /// The least proposal that the suspect's votes that verify are for.
     fn least(&self, count: u64, suspect: &Suspect) -> Option<Choice<'a>> {
-        let (round, signer) = *suspect;
-        if let Some(kept) = self.apart.get(suspect) {
-            return kept.least(count, signer);
-        }
-        let bench = self.benches.get(&(round, signer / BENCH))?;
-        let (_, signature) = bench.claims.iter().find(|(other, _)| *other == signer)?;
-        let claim = Cast { subject: bench.subject, signature: *signature };
-        Kept::Claim(claim).least(count, signer)
+        self.kept.get(suspect)?.least(count, suspect.1)
     }
 
     /// Whether a vote of the suspect that is kept verifies.
     fn verifies(&self, count: u64, suspect: &Suspect) -> bool {
-        let (round, signer) = *suspect;
-        match self.apart.get(suspect) {
-            Some(Kept::Claim(claim)) => claim.verifies(count, signer),
-            Some(_) => true,
-            None => self.benches.get(&(round, signer / BENCH)).is_some_and(|bench| {
-                let found = bench.claims.iter().find(|(other, _)| *other == signer);
-                found.is_some_and(|(_, signature)| {
-                    Cast { subject: bench.subject, signature: *signature }.verifies(count, signer)
-                })
-            }),
+        match self.kept.get(suspect) {
+            Some(Kept::Claim(claim)) => claim.verifies(count, suspect.1),
+            found => found.is_some(),
         }
     }
 
     fn conflicts(&self, kind: Kind) -> impl Iterator<Item = Line<'a>> + use<'a, '_> {
-        self.apart.iter().filter_map(move |(suspect, kept)| match kept {
+        self.kept.iter().filter_map(move |(suspect, kept)| match kept {
             Kept::Two(both) => Some((*suspect, kind, both[0].choice()?, both[1].choice())),
             _ => None,
         })
     }
 
-    /// Each suspect of whom a vote is kept, some of them twice.
+    /// Each suspect of whom a vote is kept.
     fn suspects(&self) -> impl Iterator<Item = Suspect> + use<'a, '_> {
-        let benches = self.benches.iter();
-        let seated = benches.flat_map(|((round, _), bench)| {
-            bench.claims.iter().map(|(signer, _)| (*round, *signer))
-        });
-        seated.chain(self.apart.keys().copied())
+        self.kept.keys().copied()
     }
 }
 
@@ -223,6 +234,8 @@ impl<'a> Ballots<'a> {
 struct Ledger<'a> {
     /// How many participants there are: a signer from this index on attests nothing.
     count: u64,
+    /// Whose votes are weighed.
+    contested: BTreeSet<Suspect>,
     notarizes: Ballots<'a>,
     nullifies: Ballots<'a>,
     finalizes: Ballots<'a>,
@@ -237,6 +250,9 @@ impl<'a> Ledger<'a> {
             Statement::Finalize(_) => &mut self.finalizes,
         };
         for Attestation { signer, signature } in attestations {
+            if !self.contested.contains(&(subject.round, *signer)) {
+                continue;
+            }
             let cast = Cast { subject: *subject, signature: **signature };
             ballots.count(self.count, *signer, cast);
         }

@@ -1,4 +1,6 @@
-//! Votes of one member as they stand in a stream, and what an audit finds in a stream.
+//! Votes as they stand in a stream, and what an audit finds in a stream.
+
+ghost use Rattle.std.specs.Prelude.{◌<◌};
 
 use simplex_rules::{Audit, SaltedScheme, SaltedSignature, audit};
 use simplex_types::{
@@ -9,7 +11,7 @@ use std::alloc::{AllocError, Global};
 use std::process::Abort;
 use std::test::Fail;
 
-/// Member 1's vote in view 2, by the byte that its payload repeats, if it has one, and its signature's
+/// A member's vote in view 2, by the byte that its payload repeats, if it has one, and its signature's
 /// counter. A signature with the counter 0, or one of 100 and more, is on something else.
 #[derive(Clone, Copy)]
 pub(crate) enum Vote {
@@ -88,19 +90,29 @@ fn append_votes(out: &mut Vec<u8>, scheme: &SaltedScheme, votes: &[Vote]) -> Res
     Ok(())
 }
 
-/// Reports of these tags and votes, one behind the other.
+/// Reports of these tags and votes of member 1, one behind the other.
 pub(crate) fn stream(alloc: Global, reports: &[(u8, &[Vote])]) -> Result<Vec<u8>, Fail> {
-    let scheme = salted(alloc)?;
+    stream_by(alloc, &salted(alloc)?, reports)
+}
+
+/// Reports of these tags and votes of the scheme's member, one behind the other.
+pub(crate) fn stream_by(
+    alloc: Global,
+    scheme: &SaltedScheme,
+    reports: &[(u8, &[Vote])],
+) -> Result<Vec<u8>, Fail> {
     let mut out = Vec::new(alloc);
     for (tag, votes) in reports {
         out.push(*tag)?;
-        append_votes(&mut out, &scheme, votes)?;
+        append_votes(&mut out, scheme, votes)?;
     }
     Ok(out)
 }
 
-/// The tag of the vote as a loose report.
-pub(crate) fn tag_of(vote: Vote) -> u8 {
+/// The tag of the vote as a loose report. That of a certificate of such votes is the next.
+pub(crate) fn tag_of(vote: Vote) -> u8
+    ensures { result < 255 }
+{
     match vote {
         Vote::Notarize(_, _) => 0,
         Vote::Nullify(_) => 3,
@@ -108,7 +120,7 @@ pub(crate) fn tag_of(vote: Vote) -> u8 {
     }
 }
 
-/// The votes as loose reports, one behind the other.
+/// Member 1's votes as loose reports, one behind the other.
 pub(crate) fn loose(alloc: Global, votes: &[Vote]) -> Result<Vec<u8>, Fail> {
     let scheme = salted(alloc)?;
     let mut out = Vec::new(alloc);
@@ -117,6 +129,20 @@ pub(crate) fn loose(alloc: Global, votes: &[Vote]) -> Result<Vec<u8>, Fail> {
         append_votes(&mut out, &scheme, &[*vote])?;
     }
     Ok(out)
+}
+
+/// Appends a certificate that lists the vote of the scheme's member alone.
+pub(crate) fn append_listed(
+    out: &mut Vec<u8>,
+    scheme: &SaltedScheme,
+    vote: Vote,
+) -> Result<(), Fail> {
+    let signed = attestation(scheme, vote).ok_or("no key")?;
+    out.push(tag_of(vote) + 1)?;
+    append_content(out, vote)?;
+    out.push(1)?;
+    signed.write(out)?;
+    Ok(())
 }
 
 /// The spelled evidence of an audit of whole reports.

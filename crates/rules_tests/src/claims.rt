@@ -1,15 +1,15 @@
 //! Votes that no audit needs to verify, and forged ones that stand before, between and behind true ones.
 
 use crate::ballots::Vote::{Finalize, Notarize, Nullify};
-use crate::ballots::{Vote, evidence, loose, salted, stream, tag_of, verifies};
+use crate::ballots::{Vote, evidence, loose, salted, stream, stream_by, tag_of, verifies};
 use crate::holds::holds;
 use simplex_rules::SaltedScheme;
 use std::alloc::Global;
 use std::process::Abort;
 use std::test::Fail;
 
-/// Forged votes have these counters.
-const FORGED: u64 = 100;
+/// Forged votes have counters from here on.
+pub(crate) const FORGED: u64 = 100;
 
 /// The audit of the loose votes gives this evidence, by its tags and votes.
 fn finds(
@@ -91,34 +91,6 @@ fn claims_stand_on_both_sides_of_a_nullify_beside_a_finalize(rt: HostRuntime) ->
     Ok(())
 }
 
-/// Votes to certify by so many forged signatures, growing or falling by the payload, around two true
-/// ones.
-fn flood(alloc: Global, falling: bool) -> Result<Vec<u8>, Fail> {
-    let mut votes = Vec::new(alloc);
-    for step in 0..200_u8 {
-        let payload = if falling { 255 - step } else { step };
-        votes.push(Notarize(payload, FORGED + u64::from(step)))?;
-        if step == 99 {
-            votes.push(Notarize(120, 1))?;
-        }
-        if step == 150 {
-            votes.push(Notarize(110, 2))?;
-        }
-    }
-    loose(alloc, &votes)
-}
-
-#[test]
-fn a_flood_of_forged_proposals_hides_nothing(rt: HostRuntime) -> Result<(), Fail> {
-    let alloc = rt.alloc();
-    let wanted = stream(alloc, &[(7, &[Notarize(110, 2), Notarize(120, 1)])])?;
-    for falling in [false, true] {
-        let found = evidence(&rt, alloc, &salted(alloc)?, &flood(alloc, falling)?)?;
-        holds(&rt, found == wanted);
-    }
-    Ok(())
-}
-
 /// The byte that the payload repeats; of a nullify the first of those below.
 fn payload_of(vote: Vote) -> u8 {
     match vote {
@@ -150,26 +122,37 @@ fn firsts(
     Ok(found)
 }
 
-/// The evidence by an audit that verifies each vote.
-fn verified_first(alloc: Global, scheme: &SaltedScheme, votes: &[Vote]) -> Result<Vec<u8>, Fail> {
+/// The evidence against the scheme's member by an audit that verifies each of its votes.
+pub(crate) fn verified_first(
+    alloc: Global,
+    scheme: &SaltedScheme,
+    votes: &[Vote],
+) -> Result<Vec<u8>, Fail> {
     let notarizes = firsts(alloc, scheme, votes, 0)?;
     let nullifies = firsts(alloc, scheme, votes, 3)?;
     let finalizes = firsts(alloc, scheme, votes, 5)?;
     let mut out = Vec::new(alloc);
     if let [least, next, ..] = notarizes.as_slice() {
-        out.extend_from_slice(&stream(alloc, &[(7, &[*least, *next])])?)?;
+        out.extend_from_slice(&stream_by(alloc, scheme, &[(7, &[*least, *next])])?)?;
     }
     if let [least, next, ..] = finalizes.as_slice() {
-        out.extend_from_slice(&stream(alloc, &[(8, &[*least, *next])])?)?;
+        out.extend_from_slice(&stream_by(alloc, scheme, &[(8, &[*least, *next])])?)?;
     }
     if let ([nullify, ..], [finalize, ..]) = (nullifies.as_slice(), finalizes.as_slice()) {
-        out.extend_from_slice(&stream(alloc, &[(9, &[*nullify, *finalize])])?)?;
+        out.extend_from_slice(&stream_by(alloc, scheme, &[(9, &[*nullify, *finalize])])?)?;
     }
     Ok(out)
 }
 
+/// The number drawn behind this one.
+pub(crate) fn drawn(state: u64) -> u64 {
+    state
+        .wrapping_mul(6_364_136_223_846_793_005)
+        .wrapping_add(1)
+}
+
 /// The vote of these bits: of three kinds, three proposals, and two true and two forged signatures.
-fn vote_of(bits: u64) -> Vote {
+pub(crate) fn vote_of(bits: u64) -> Vote {
     let payload = [10, 11, 12][(bits / 3 % 3) as usize];
     let counter = [1, 2, FORGED, FORGED + 1][(bits / 9 % 4) as usize];
     match bits % 3 {
@@ -187,9 +170,7 @@ fn ten_thousand_streams_are_judged_as_by_verifying_each_vote(rt: HostRuntime) ->
     for _ in 0..10_000 {
         let mut votes = Vec::new(alloc);
         for _ in 0..10 {
-            state = state
-                .wrapping_mul(6_364_136_223_846_793_005)
-                .wrapping_add(1);
+            state = drawn(state);
             votes.push(vote_of(state >> 33))?;
         }
         let found = evidence(&rt, alloc, &scheme, &loose(alloc, &votes)?)?;

@@ -8,6 +8,8 @@ mod ballots;
 #[cfg(test)]
 mod claims;
 #[cfg(test)]
+mod crowds;
+#[cfg(test)]
 mod elector;
 #[cfg(test)]
 mod holds;

@@ -1,8 +1,9 @@
 -- What is kept of the votes is the verdict on them.
-use Rattle.std.proofs.Common.{◌≡◌, ℕ, List, [], Option, Some, None, Box, refl, sym, ap, ◌∙◌, subst, inl, inr, map}
-use Rattle.std.specs.Prelude.{Contains, IsSome}
+use Rattle.std.proofs.Common.{◌≡◌, ℕ, List, Option, Some, None, Box, refl, sym, ap, ◌∙◌, subst, inl, inr, map}
+use Rattle.std.specs.Prelude.{Contains, IsTrue}
 use Rattle.std.specs.Cmp.{IsTotalOrder}
 use Rattle.std.specs.BTreeMap.{BTreeMap, get}
+use Rattle.std.specs.BTreeSet.{BTreeSet, contains}
 use Rattle.std.specs.declared.alloc.Global.{Global}
 use Rattle.std.specs.declared.cmp.Ordering.{Ordering}
 use Rattle.simplex_types.specs.declared.position.Round.{Round}
@@ -38,7 +39,7 @@ module _ {K S D P G C : Type 0} where
   vote_of-parts : (q : Suspect) (a : Cast D G) (v : ProposalVote K S D P G C) → parts_of v ≡ (q, a) → v ≡ vote_of q a
   vote_of-parts q a v is = ap (λ (p : Suspect × Cast D G). vote_of {K = K} {S = S} {P = P} {C = C} p.0 p.1) is
 
-  suspect_is : (q : Suspect) (v : ProposalVote K S D P G C) → v.proposal.round ≡ q.round → v.attestation.signer ≡ q.signer → suspect_of v ≡ q
+  pub suspect_is : (q : Suspect) (v : ProposalVote K S D P G C) → v.proposal.round ≡ q.round → v.attestation.signer ≡ q.signer → suspect_of v ≡ q
   suspect_is q v round signer = ap (λ (r : Round). suspect_from r v.attestation.signer) round ∙ ap (λ (i : ℕ). suspect_from q.round i) signer
 
   module _ (states : Proposal D → Statement D) (attests : ℕ → Statement D → G → Type 0) (votes : List (ProposalVote K S D P G C)) where
@@ -98,10 +99,14 @@ module _ {K S D P G C : Type 0} where
             ],
       )
 
-      module _ (kept : BTreeMap Suspect (Kept D G)) (h : HoldsVotes states attests cmp votes kept) where
+      module _ (contested : BTreeSet Suspect) (kept : BTreeMap Suspect (Kept D G)) (h : HoldsVotes states attests cmp contested votes kept) where
+        -- the suspect is in the set
+        abbrev IsContested : Suspect → Type 0
+        IsContested q = IsTrue (contains suspect_cmp contested q)
+
         -- what the map has of a suspect is what is kept of its votes
         kept_at : (q : Suspect) (k : Kept D G) → get suspect_cmp kept q ≡ Some k → KeepsVotes states attests cmp q (casts q) k
-        kept_at q k found = rw found at (tallied (KeepsVotes states attests cmp) parts_of votes kept h q)
+        kept_at q k found = let t = rw found at (tallied contested (KeepsVotes states attests cmp) parts_of votes kept h q) in t.1
 
         -- what is kept of two proposals is of two
         pub apart : IsTotalOrder cmp → AreApart kept
@@ -128,8 +133,8 @@ module _ {K S D P G C : Type 0} where
             }
 
         -- of the guilty two votes are kept
-        pub guilty_are_kept : (round : Round) (signer : ℕ) → IsGuilty states attests votes round signer → (a : Cast D G) × (b : Box (Cast D G) Global) × (get suspect_cmp kept (suspect_from round signer) ≡ Some (Two a b))
-        guilty_are_kept round signer guilty = among (get suspect_cmp kept (suspect_from round signer)) refl
+        pub guilty_are_kept : (round : Round) (signer : ℕ) → IsContested (suspect_from round signer) → IsGuilty states attests votes round signer → (a : Cast D G) × (b : Box (Cast D G) Global) × (get suspect_cmp kept (suspect_from round signer) ≡ Some (Two a b))
+        guilty_are_kept round signer contests guilty = among (get suspect_cmp kept (suspect_from round signer)) refl
           where
             first_is : suspect_of guilty.first ≡ (suspect_from round signer)
             first_is = suspect_is (suspect_from round signer) guilty.first guilty.first_is_theirs.round_is guilty.first_is_theirs.signer_is
@@ -153,29 +158,19 @@ module _ {K S D P G C : Type 0} where
 
             among : (k : Option (Kept D G)) → get suspect_cmp kept (suspect_from round signer) ≡ k → (a : Cast D G) × (b : Box (Cast D G) Global) × (get suspect_cmp kept (suspect_from round signer) ≡ Some (Two a b))
             among None found =
-                let none : casts (suspect_from round signer) ≡ [] = rw found at (tallied (KeepsVotes states attests cmp) parts_of votes kept h (suspect_from round signer)) in
-                absurd (Contains-nil (cast_of guilty.first) (subst (λ (cs : List (Cast D G)). Contains cs (cast_of guilty.first)) none first_cast))
+                let none = rw found at (tallied contested (KeepsVotes states attests cmp) parts_of votes kept h (suspect_from round signer)) in
+                absurd (Contains-nil (cast_of guilty.first) (subst (λ (cs : List (Cast D G)). Contains cs (cast_of guilty.first)) (none contests) first_cast))
             among (Some (Claim a)) found =
                 let s = kept_at (suspect_from round signer) (Claim a) found in
                 absurd (s.1 (λ verifies. not_one a (s.0 verifies)) (cast_of guilty.first) first_cast first_verifies)
             among (Some (One a)) found = absurd (not_one a (kept_at (suspect_from round signer) (One a) found))
             among (Some (Two a b)) found = (a, b, found)
 
-        -- of whom there is a vote, one is kept
-        pub voters_are_kept : (v : ProposalVote K S D P G C) → Contains votes v → IsSome (get suspect_cmp kept (suspect_of v))
-        voters_are_kept v there = among (get suspect_cmp kept (suspect_of v)) refl
-          where
-            among : (k : Option (Kept D G)) → get suspect_cmp kept (suspect_of v) ≡ k → IsSome (get suspect_cmp kept (suspect_of v))
-            among None found =
-                let none : casts (suspect_of v) ≡ [] = rw found at (tallied (KeepsVotes states attests cmp) parts_of votes kept h (suspect_of v)) in
-                absurd (Contains-nil (cast_of v) (subst (λ (cs : List (Cast D G)). Contains cs (cast_of v)) none (vote_there (suspect_of v) v there refl)))
-            among (Some k) found = rw found refl
-
         -- the least, by what is kept
-        pub least-none : (q : Suspect) → get suspect_cmp kept q ≡ None → IsLeastOf states attests cmp votes q None
-        least-none q found =
-            let none : casts q ≡ [] = rw found at (tallied (KeepsVotes states attests cmp) parts_of votes kept h q) in
-            IsLeastOf-from_none q (λ c there verifies. Contains-nil c (subst (λ (cs : List (Cast D G)). Contains cs c) none there))
+        pub least-none : (q : Suspect) → IsContested q → get suspect_cmp kept q ≡ None → IsLeastOf states attests cmp votes q None
+        least-none q contests found =
+            let none = rw found at (tallied contested (KeepsVotes states attests cmp) parts_of votes kept h q) in
+            IsLeastOf-from_none q (λ c there verifies. Contains-nil c (subst (λ (cs : List (Cast D G)). Contains cs c) (none contests) there))
 
         pub least-failed : (q : Suspect) (a : Cast D G) → get suspect_cmp kept q ≡ Some (Claim a) → (CastIsAttested states attests q a → ⊥) → IsLeastOf states attests cmp votes q None
         least-failed q a found fails = IsLeastOf-from_none q ((kept_at q (Claim a) found).1 fails)
@@ -223,25 +218,15 @@ module _ {S D P G C : Type 0} where
     IsFirstOf-from_none : (q : Suspect) → AreNone (GivenIsAttested attests q) (signatures q) → IsFirstOf attests votes q None
     IsFirstOf-from_none q none = λ v there verifies is. none v.attestation.signature (nullify_there q v there is) (given_there q v verifies is)
 
-    module _ (kept : BTreeMap Suspect (Given G)) (h : HoldsNullifies attests votes kept) where
+    module _ (contested : BTreeSet Suspect) (kept : BTreeMap Suspect (Given G)) (h : HoldsNullifies attests contested votes kept) where
       given_at : (q : Suspect) (k : Given G) → get suspect_cmp kept q ≡ Some k → KeepsNullifies attests q (signatures q) k
-      given_at q k found = rw found at (tallied (KeepsNullifies attests) nullify_parts votes kept h q)
-
-      -- of whom there is a nullify, one is kept
-      pub nullifiers_are_kept : (v : Nullify S D P G C) → Contains votes v → IsSome (get suspect_cmp kept (nullify_suspect v))
-      nullifiers_are_kept v there = among (get suspect_cmp kept (nullify_suspect v)) refl
-        where
-          among : (k : Option (Given G)) → get suspect_cmp kept (nullify_suspect v) ≡ k → IsSome (get suspect_cmp kept (nullify_suspect v))
-          among None found =
-              let none : signatures (nullify_suspect v) ≡ [] = rw found at (tallied (KeepsNullifies attests) nullify_parts votes kept h (nullify_suspect v)) in
-              absurd (Contains-nil v.attestation.signature (subst (λ (cs : List G). Contains cs v.attestation.signature) none (nullify_there (nullify_suspect v) v there refl)))
-          among (Some k) found = rw found refl
+      given_at q k found = let t = rw found at (tallied contested (KeepsNullifies attests) nullify_parts votes kept h q) in t.1
 
       -- the first, by what is kept
-      pub first-none : (q : Suspect) → get suspect_cmp kept q ≡ None → IsFirstOf attests votes q None
-      first-none q found =
-          let none : signatures q ≡ [] = rw found at (tallied (KeepsNullifies attests) nullify_parts votes kept h q) in
-          IsFirstOf-from_none q (λ c there verifies. Contains-nil c (subst (λ (cs : List G). Contains cs c) none there))
+      pub first-none : (q : Suspect) → IsTrue (contains suspect_cmp contested q) → get suspect_cmp kept q ≡ None → IsFirstOf attests votes q None
+      first-none q contests found =
+          let none = rw found at (tallied contested (KeepsNullifies attests) nullify_parts votes kept h q) in
+          IsFirstOf-from_none q (λ c there verifies. Contains-nil c (subst (λ (cs : List G). Contains cs c) (none contests) there))
 
       pub first-failed : (q : Suspect) (a : G) → get suspect_cmp kept q ≡ Some (given.Claim a) → (GivenIsAttested attests q a → ⊥) → IsFirstOf attests votes q None
       first-failed q a found fails = IsFirstOf-from_none q ((given_at q (given.Claim a) found).1 fails)

@@ -1,6 +1,7 @@
 -- The votes that a certificate lists are counted one after the other.
 use Rattle.std.proofs.Common.{◌≡◌, ℕ, ◌+◌, ◌<◌, ◌≤◌, List, [], ◌∷◌, ◌++◌, length, take, get_or, map, sym, ap, ◌∙◌, subst, append_assoc}
 use Rattle.std.specs.BTreeMap.{BTreeMap}
+use Rattle.std.specs.BTreeSet.{BTreeSet}
 use Rattle.std.specs.declared.cmp.Ordering.{Ordering}
 use Rattle.std.proofs.lemmas.List.{append-nil, map-append, take_more, take_all}
 use Rattle.simplex_types.specs.declared.attestation.Attestation.{Attestation}
@@ -49,13 +50,13 @@ module _ {K S D P G C : Type 0} (c : ProposalCertificate K S D P G C) where
   vote_by-is a v proposal attestation =
       ap (λ (p : Proposal D). vote_of_parts {K = K} {S = S} {P = P} {C = C} (p, v.attestation)) proposal ∙ ap (λ (b : Attestation G). vote_by b) attestation
 
-  abbrev pub HoldsAlike : (Proposal D → Statement D) → (ℕ → Statement D → G → Type 0) → (D → D → Ordering) → List (ProposalVote K S D P G C) → BTreeMap Suspect (Kept D G) → Type 0
-  HoldsAlike states attests cmp votes kept = HoldsVotes states attests cmp votes kept
+  abbrev pub HoldsAlike : (Proposal D → Statement D) → (ℕ → Statement D → G → Type 0) → (D → D → Ordering) → BTreeSet Suspect → List (ProposalVote K S D P G C) → BTreeMap Suspect (Kept D G) → Type 0
+  HoldsAlike states attests cmp contested votes kept = HoldsVotes states attests cmp contested votes kept
 
 -- the nullifies that a nullification lists
 module _ {S D P G C : Type 0} (c : Nullification S D P G C) where
   abbrev pub nullify_by : Attestation G → Nullify S D P G C
   nullify_by a = nullify_of_parts (c.round, a)
 
-  abbrev pub HoldsGivenUp : (ℕ → Statement D → G → Type 0) → List (Nullify S D P G C) → BTreeMap Suspect (Given G) → Type 0
-  HoldsGivenUp attests votes kept = HoldsNullifies attests votes kept
+  abbrev pub HoldsGivenUp : (ℕ → Statement D → G → Type 0) → BTreeSet Suspect → List (Nullify S D P G C) → BTreeMap Suspect (Given G) → Type 0
+  HoldsGivenUp attests contested votes kept = HoldsNullifies attests contested votes kept

@@ -2,6 +2,7 @@
 use Rattle.std.proofs.Common.{◌≡◌, ℕ, List, [], ◌∷◌, ◌++◌, Option, refl, sym, ap, ◌∙◌, map}
 use Rattle.std.specs.Prelude.{Contains}
 use Rattle.std.specs.List.{flat_map}
+use Rattle.std.specs.BTreeSet.{BTreeSet}
 use Rattle.std.specs.declared.cmp.Ordering.{Ordering}
 use Rattle.std.proofs.lemmas.List.{append-nil, map-append}
 use Rattle.std.proofs.lemmas.List.Concat.{flat_map-append}
@@ -22,22 +23,22 @@ module _ {S D P G C : Type 0} where
   piece t p = evidence_at t p.0 p.1
 
   -- the evidence is that of these suspects, one after the other
-  pub record Pieces (lists : C → List (Attestation G)) (attests : ℕ → Statement D → G → Type 0) (cmp : D → D → Ordering) (t : Tally S D P G C) (suspects : List Suspect) (evidence : List (Activity S D P G C)) : Type 0 where
+  pub record Pieces (lists : C → List (Attestation G)) (attests : ℕ → Statement D → G → Type 0) (cmp : D → D → Ordering) (contested : BTreeSet Suspect) (t : Tally S D P G C) (suspects : List Suspect) (evidence : List (Activity S D P G C)) : Type 0 where
     pub pieces : List (Suspect × Option (Nullify S D P G C × Finalize S D P G C))
     pub suspects_are : map (λ p. p.0) pieces ≡ suspects
-    pub besides : (p : Suspect × Option (Nullify S D P G C × Finalize S D P G C)) → Contains pieces p → IsBesideIn lists attests cmp t p.0 p.1
+    pub besides : (p : Suspect × Option (Nullify S D P G C × Finalize S D P G C)) → Contains pieces p → IsBesideIn lists attests cmp contested t p.0 p.1
     pub whole : evidence ≡ flat_map (piece t) pieces
 
-  module _ (lists : C → List (Attestation G)) (attests : ℕ → Statement D → G → Type 0) (cmp : D → D → Ordering) (t : Tally S D P G C) where
-    pub pieces_none : Pieces lists attests cmp t [] []
+  module _ (lists : C → List (Attestation G)) (attests : ℕ → Statement D → G → Type 0) (cmp : D → D → Ordering) (contested : BTreeSet Suspect) (t : Tally S D P G C) where
+    pub pieces_none : Pieces lists attests cmp contested t [] []
     pieces_none = record { pieces = []; suspects_are = refl; besides = λ p there. absurd (Contains-nil p there); whole = refl }
 
     -- one more suspect
-    pub pieces_more : (suspects : List Suspect) (q : Suspect) (old new : List (Activity S D P G C)) → Pieces lists attests cmp t suspects old → AddsEvidence lists attests cmp t q (evidence_at t q) old new → Pieces lists attests cmp t (suspects ++ q ∷ []) new
+    pub pieces_more : (suspects : List Suspect) (q : Suspect) (old new : List (Activity S D P G C)) → Pieces lists attests cmp contested t suspects old → AddsEvidence lists attests cmp contested t q (evidence_at t q) old new → Pieces lists attests cmp contested t (suspects ++ q ∷ []) new
     pieces_more suspects q old new ps a = record {
       pieces = ps.pieces ++ (q, a.beside) ∷ [];
       suspects_are = map-append (λ (p : Suspect × Option (Nullify S D P G C × Finalize S D P G C)). p.0) ps.pieces ((q, a.beside) ∷ []) ∙ ap (λ (qs : List Suspect). qs ++ q ∷ []) ps.suspects_are;
-      besides = each_push (λ p. IsBesideIn lists attests cmp t p.0 p.1) ps.pieces (q, a.beside) ps.besides a.is_beside;
+      besides = each_push (λ p. IsBesideIn lists attests cmp contested t p.0 p.1) ps.pieces (q, a.beside) ps.besides a.is_beside;
       whole = a.whole ∙ ap (λ (xs : List (Activity S D P G C)). xs ++ evidence_at t q a.beside) ps.whole
           ∙ sym (flat_map-append (piece t) ps.pieces ((q, a.beside) ∷ []) ∙ ap (λ (xs : List (Activity S D P G C)). flat_map (piece t) ps.pieces ++ xs) (append-nil (evidence_at t q a.beside)));
     }

@@ -10,6 +10,7 @@ use Rattle.std.proofs.lemmas.Map.Lookups.{CmpEqualImpliesEq, exact_unsigned}
 use Rattle.simplex_rules.specs.declared.cast.Suspect.{Suspect}
 use Rattle.simplex_rules.specs.Audit.{Accusation, Offence, StandsBefore}
 use Rattle.simplex_rules.specs.Kept.{suspect_cmp}
+use Rattle.simplex_rules.specs.Survey.{round_cmp}
 
 pub suspects_total : IsTotalOrder suspect_cmp
 suspects_total =
@@ -39,6 +40,11 @@ suspects_exact x y e =
     let view : x.round.view ≡ y.round.view = exact_unsigned x.round.view y.round.view inner.1 in
     let signer : x.signer ≡ y.signer = exact_unsigned x.signer y.signer outer.1 in
     ap (λ (n : ℕ). suspect n x.round.view x.signer) epoch ∙ ap (λ (n : ℕ). suspect y.round.epoch n x.signer) view ∙ ap (λ (n : ℕ). suspect y.round.epoch y.round.view n) signer
+
+-- rounds that compare equal are one
+pub rounds_exact : CmpEqualImpliesEq round_cmp
+rounds_exact x y e =
+    ap (λ (s : Suspect). s.round) (suspects_exact (record { round = x; signer = 0 }) (record { round = y; signer = 0 }) (rw e refl))
 
 pub suspect_cmp-exact : (x y : Suspect) → is_eq (suspect_cmp x y) ≡ true → x ≡ y
 suspect_cmp-exact x y e = suspects_exact x y ((Equal-is (suspect_cmp x y)).0 e)

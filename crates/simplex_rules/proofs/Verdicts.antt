@@ -1,6 +1,6 @@
 -- The evidence that is kept is the verdict.
 use Rattle.std.proofs.Common.{◌≡◌, ℕ, List, [], ◌∷◌, ◌++◌, Option, Some, None, refl, sym, ap, ◌∙◌, subst, inl, inr, arith, map}
-use Rattle.std.specs.Prelude.{⊤, Contains, IsSome, IsTrue, AllPairs}
+use Rattle.std.specs.Prelude.{⊤, Contains, IsTrue, AllPairs}
 use Rattle.std.specs.List.{flat_map}
 use Rattle.std.specs.List.Sorted.{IsStrictlySortedBy}
 use Rattle.std.specs.Cmp.{IsTotalOrder}
@@ -26,11 +26,12 @@ use Rattle.simplex_rules.specs.declared.cast.Suspect.{Suspect}
 use Rattle.simplex_rules.specs.declared.tally.Tally.{Tally}
 use Rattle.simplex_rules.specs.Kept.{suspect_cmp}
 use Rattle.simplex_rules.specs.Audit.{Accusation, Offence, TwoNotarizes, TwoFinalizes, NullifyBeside, accused, AreInOrder, IsAccused, IsLeast, IsVerdict}
-use Rattle.simplex_rules.specs.Tally.{HoldsReports, IsBesideIn, IsBesideOf, IsGathered, vote_of, nullify_suspect, suspect_of, conflict_in, reported, evidence_at}
+use Rattle.simplex_rules.specs.Survey.{HasGuilty}
+use Rattle.simplex_rules.specs.Tally.{HoldsReports, IsBesideIn, IsBesideOf, vote_of, nullify_suspect, conflict_in, reported, evidence_at}
 use Rattle.simplex_rules.proofs.Lists.{only_element, Contains-map, in-map, Contains-flat_map, in-flat_map, AllPairs-nil, AllPairs-append}
 use Rattle.simplex_rules.proofs.Pieces.{Pieces, piece}
 use Rattle.simplex_rules.proofs.Suspects.{suspects_total, suspects_exact, accusation_of, StandsBefore-from_less}
-use Rattle.simplex_rules.proofs.Judging.{suspect_from, IsLeastEvidence-from_two, guilty_are_kept, voters_are_kept, nullifiers_are_kept}
+use Rattle.simplex_rules.proofs.Judging.{suspect_from, IsLeastEvidence-from_two, guilty_are_kept}
 
 module _ {S D P G C : Type 0} where
   -- each of these accuses the suspect of the offence
@@ -118,18 +119,18 @@ module _ {S D P G C : Type 0} where
       let below : suspect_cmp p.0 found.0.0 ≡ Less = All-contains (λ r. suspect_cmp p.0 r ≡ Less) qs found.0.0 (All-after_first suspect_cmp p.0 qs ordered) (in-map (λ (r : Suspect × Option (Nullify S D P G C × Finalize S D P G C)). r.0) ps found.0 found.1) in
       in_order a b (accusation_of p.0 mine.0) (accusation_of found.0.0 other.0) mine.1 other.1 (StandsBefore-from_less p.0 found.0.0 mine.0 other.0 below))
 
-  module _ (lists : C → List (Attestation G)) (attests : ℕ → Statement D → G → Type 0) (cmp : D → D → Ordering) (order : IsTotalOrder cmp) (reports : List (Activity S D P G C)) (t : Tally S D P G C) (h : HoldsReports lists attests cmp reports t) where
+  module _ (lists : C → List (Attestation G)) (attests : ℕ → Statement D → G → Type 0) (cmp : D → D → Ordering) (order : IsTotalOrder cmp) (contested : BTreeSet Suspect) (reports : List (Activity S D P G C)) (t : Tally S D P G C) (h : HoldsReports lists attests cmp contested reports t) where
     two_notarizes-least : (q : Suspect) (k : Option (Kept D G)) → get suspect_cmp t.notarizes.kept q ≡ k → (a : Activity S D P G C) → Contains (reported conflicting_notarize_report (conflict_in q k)) a → IsLeast lists attests cmp reports a
     two_notarizes-least q None found a there = absurd (Contains-nil a there)
     two_notarizes-least q (Some (Claim b)) found a there = absurd (Contains-nil a there)
     two_notarizes-least q (Some (One b)) found a there = absurd (Contains-nil a there)
-    two_notarizes-least q (Some (Two b c)) found a there = subst (λ (x : Activity S D P G C). IsLeast lists attests cmp reports x) (only_element _ a there) (IsLeastEvidence-from_two notarize attests (notarizes_of lists reports) cmp t.notarizes.kept h.notarizes order q b c found)
+    two_notarizes-least q (Some (Two b c)) found a there = subst (λ (x : Activity S D P G C). IsLeast lists attests cmp reports x) (only_element _ a there) (IsLeastEvidence-from_two notarize attests (notarizes_of lists reports) cmp contested t.notarizes.kept h.notarizes order q b c found)
 
     two_finalizes-least : (q : Suspect) (k : Option (Kept D G)) → get suspect_cmp t.finalizes.kept q ≡ k → (a : Activity S D P G C) → Contains (reported conflicting_finalize_report (conflict_in q k)) a → IsLeast lists attests cmp reports a
     two_finalizes-least q None found a there = absurd (Contains-nil a there)
     two_finalizes-least q (Some (Claim b)) found a there = absurd (Contains-nil a there)
     two_finalizes-least q (Some (One b)) found a there = absurd (Contains-nil a there)
-    two_finalizes-least q (Some (Two b c)) found a there = subst (λ (x : Activity S D P G C). IsLeast lists attests cmp reports x) (only_element _ a there) (IsLeastEvidence-from_two finalize attests (finalizes_of lists reports) cmp t.finalizes.kept h.finalizes order q b c found)
+    two_finalizes-least q (Some (Two b c)) found a there = subst (λ (x : Activity S D P G C). IsLeast lists attests cmp reports x) (only_element _ a there) (IsLeastEvidence-from_two finalize attests (finalizes_of lists reports) cmp contested t.finalizes.kept h.finalizes order q b c found)
 
     beside-least : (q : Suspect) (b : Option (Nullify S D P G C × Finalize S D P G C)) → IsBesideOf attests cmp (nullifies_of lists reports) (finalizes_of lists reports) q b → (a : Activity S D P G C) → Contains (reported nullify_finalize_report b) a → IsLeast lists attests cmp reports a
     beside-least q None beside a there = absurd (Contains-nil a there)
@@ -140,12 +141,12 @@ module _ {S D P G C : Type 0} where
     beside-own q (Some x) beside = beside.0
 
     -- each piece of a suspect's evidence is the least
-    evidence_at-least : (q : Suspect) (b : Option (Nullify S D P G C × Finalize S D P G C)) → IsBesideIn lists attests cmp t q b → (a : Activity S D P G C) → Contains (evidence_at t q b) a → IsLeast lists attests cmp reports a
-    evidence_at-least q b beside a there = elim (Contains-append_cases (notarized t q) (finalized t q ++ reported nullify_finalize_report b) a there) [
+    evidence_at-least : (q : Suspect) (b : Option (Nullify S D P G C × Finalize S D P G C)) → IsTrue (contains suspect_cmp contested q) → IsBesideIn lists attests cmp contested t q b → (a : Activity S D P G C) → Contains (evidence_at t q b) a → IsLeast lists attests cmp reports a
+    evidence_at-least q b contests beside a there = elim (Contains-append_cases (notarized t q) (finalized t q ++ reported nullify_finalize_report b) a there) [
       | inl first ↦ two_notarizes-least q (get suspect_cmp t.notarizes.kept q) refl a first
       | inr later ↦ elim (Contains-append_cases (finalized t q) (reported nullify_finalize_report b) a later) [
         | inl second ↦ two_finalizes-least q (get suspect_cmp t.finalizes.kept q) refl a second
-        | inr third ↦ beside-least q b (beside reports h) a third
+        | inr third ↦ beside-least q b (beside reports h contests) a third
       ]
     ]
 
@@ -156,57 +157,59 @@ module _ {S D P G C : Type 0} where
     beside-told round signer None beside g = absurd (beside g)
     beside-told round signer (Some x) beside g = (nullify_finalize_report x, Contains-head (nullify_finalize_report x) [], own_accusation (suspect_from round signer) x beside.0)
 
-    module _ (guilty : BTreeSet Suspect) (gathered : IsGathered t guilty) (evidence : List (Activity S D P G C)) (ps : Pieces lists attests cmp t guilty.keys evidence) where
+    module _ (all : HasGuilty lists attests reports contested) (evidence : List (Activity S D P G C)) (ps : Pieces lists attests cmp contested t contested.keys evidence) where
       abbrev told : List (Activity S D P G C)
       told = flat_map (piece t) ps.pieces
 
       -- of each suspect in the set there is a piece
-      piece_of : (q : Suspect) → IsTrue (contains suspect_cmp guilty q) → (b : Option (Nullify S D P G C × Finalize S D P G C)) × Contains ps.pieces (q, b)
+      piece_of : (q : Suspect) → IsTrue (contains suspect_cmp contested q) → (b : Option (Nullify S D P G C × Finalize S D P G C)) × Contains ps.pieces (q, b)
       piece_of q there =
-          let key : Contains guilty.keys q = (btree_set_contains_iff suspects_total suspects_exact guilty q).0 there in
+          let key : Contains contested.keys q = (btree_set_contains_iff suspects_total suspects_exact contested q).0 there in
           let found = Contains-map (λ (p : Suspect × Option (Nullify S D P G C × Finalize S D P G C)). p.0) ps.pieces q (subst (λ (qs : List Suspect). Contains qs q) (sym ps.suspects_are) key) in
           (found.0.1, subst (λ (x : Suspect). Contains ps.pieces (x, found.0.1)) found.2 found.1)
+
+      -- the suspect of each piece is in the set
+      piece-contested : (p : Suspect × Option (Nullify S D P G C × Finalize S D P G C)) → Contains ps.pieces p → IsTrue (contains suspect_cmp contested p.0)
+      piece-contested p there =
+          let key : Contains contested.keys p.0 = subst (λ (qs : List Suspect). Contains qs p.0) ps.suspects_are (in-map (λ (r : Suspect × Option (Nullify S D P G C × Finalize S D P G C)). r.0) ps.pieces p there) in
+          (btree_set_contains_iff suspects_total suspects_exact contested p.0).1 key
 
       two_notarizes-told : (round : Round) (signer : ℕ) → IsGuilty notarize attests (notarizes_of lists reports) round signer → IsAccused told (accusation_of (suspect_from round signer) TwoNotarizes)
       two_notarizes-told round signer g =
           let q = suspect_from round signer in
-          let kept = guilty_are_kept notarize attests (notarizes_of lists reports) cmp t.notarizes.kept h.notarizes round signer g in
+          let kept = guilty_are_kept notarize attests (notarizes_of lists reports) cmp contested t.notarizes.kept h.notarizes round signer (all.two_notarizes round signer g) g in
           let report = conflicting_notarize_report (vote_of q kept.0, vote_of q kept.1.value) in
           let own : Contains (notarized t q) report = rw kept.2 (Contains-head report []) in
-          let p = piece_of q (gathered.notarized q (Two kept.0 kept.1) kept.2 tt) in
+          let p = piece_of q (all.two_notarizes round signer g) in
           (report, in-flat_map (piece t) ps.pieces (q, p.0) report p.1 (Contains-append_left (notarized t q) _ report own), refl)
 
       two_finalizes-told : (round : Round) (signer : ℕ) → IsGuilty finalize attests (finalizes_of lists reports) round signer → IsAccused told (accusation_of (suspect_from round signer) TwoFinalizes)
       two_finalizes-told round signer g =
           let q = suspect_from round signer in
-          let kept = guilty_are_kept finalize attests (finalizes_of lists reports) cmp t.finalizes.kept h.finalizes round signer g in
+          let kept = guilty_are_kept finalize attests (finalizes_of lists reports) cmp contested t.finalizes.kept h.finalizes round signer (all.two_finalizes round signer g) g in
           let report = conflicting_finalize_report (vote_of q kept.0, vote_of q kept.1.value) in
           let own : Contains (finalized t q) report = rw kept.2 (Contains-head report []) in
-          let p = piece_of q (gathered.finalized q (Two kept.0 kept.1) kept.2 tt) in
+          let p = piece_of q (all.two_finalizes round signer g) in
           (report, in-flat_map (piece t) ps.pieces (q, p.0) report p.1 (Contains-append_right (notarized t q) _ report (Contains-append_left (finalized t q) _ report own)), refl)
 
       nullify_beside-told : (round : Round) (signer : ℕ) → IsGuiltyBeside attests (nullifies_of lists reports) (finalizes_of lists reports) round signer → IsAccused told (accusation_of (suspect_from round signer) NullifyBeside)
       nullify_beside-told round signer g =
           let q = suspect_from round signer in
-          let first_is : nullify_suspect g.first ≡ q = ap (λ (r : Round). suspect_from r g.first.attestation.signer) g.round_is ∙ ap (λ (i : ℕ). suspect_from round i) g.signer_is in
-          let second_is : suspect_of g.second ≡ q = ap (λ (r : Round). suspect_from r g.second.attestation.signer) (sym g.beside.one_round) ∙ ap (λ (i : ℕ). suspect_from g.first.round i) (sym g.beside.one_signer) ∙ first_is in
-          let nullify_kept : IsSome (get suspect_cmp t.nullifies.kept q) = subst (λ (x : Suspect). IsSome (get suspect_cmp t.nullifies.kept x)) first_is (nullifiers_are_kept attests (nullifies_of lists reports) t.nullifies.kept h.nullifies g.first g.first_is_there) in
-          let finalize_kept : IsSome (get suspect_cmp t.finalizes.kept q) = subst (λ (x : Suspect). IsSome (get suspect_cmp t.finalizes.kept x)) second_is (voters_are_kept finalize attests (finalizes_of lists reports) cmp t.finalizes.kept h.finalizes g.second g.second_is_there) in
-          let p = piece_of q (gathered.nullified q nullify_kept finalize_kept) in
-          let found = beside-told round signer p.0 (ps.besides (q, p.0) p.1 reports h) g in
+          let p = piece_of q (all.nullify_beside round signer g) in
+          let found = beside-told round signer p.0 (ps.besides (q, p.0) p.1 reports h (all.nullify_beside round signer g)) g in
           (found.0, in-flat_map (piece t) ps.pieces (q, p.0) found.0 p.1 (Contains-append_right (notarized t q) _ found.0 (Contains-append_right (finalized t q) _ found.0 found.1)), found.2)
 
       told_least : (a : Activity S D P G C) → Contains told a → IsLeast lists attests cmp reports a
       told_least a there =
           let found = Contains-flat_map (piece t) ps.pieces a there in
-          evidence_at-least found.0.0 found.0.1 (ps.besides found.0 found.1) a found.2
+          evidence_at-least found.0.0 found.0.1 (piece-contested found.0 found.1) (ps.besides found.0 found.1) a found.2
 
       -- the evidence that is kept of the suspects in the set is the verdict
-      pub IsVerdict-from_gathered : IsOrdered suspect_cmp guilty → IsVerdict lists attests cmp reports evidence
-      IsVerdict-from_gathered ordered = subst (λ (xs : List (Activity S D P G C)). IsVerdict lists attests cmp reports xs) (sym ps.whole) (record {
+      pub IsVerdict-from_pieces : IsOrdered suspect_cmp contested → IsVerdict lists attests cmp reports evidence
+      IsVerdict-from_pieces ordered = subst (λ (xs : List (Activity S D P G C)). IsVerdict lists attests cmp reports xs) (sym ps.whole) (record {
         sound = told_least;
         two_notarizes = two_notarizes-told;
         two_finalizes = two_finalizes-told;
         nullify_beside = nullify_beside-told;
-        sorted = evidence-sorted t ps.pieces (subst (λ (qs : List Suspect). IsStrictlySortedBy suspect_cmp qs) (sym ps.suspects_are) ordered) (λ p there. beside-own p.0 p.1 (ps.besides p there reports h));
+        sorted = evidence-sorted t ps.pieces (subst (λ (qs : List Suspect). IsStrictlySortedBy suspect_cmp qs) (sym ps.suspects_are) ordered) (λ p there. beside-own p.0 p.1 (ps.besides p there reports h (piece-contested p there)));
       })

@@ -67,9 +67,3 @@ module _ {D G : Type 0} where
   IsPlacedAt cmp (Two a b) choice None = (choice ≡ a.choice) ⊎ ((choice ≡ b.value.choice) ⊎ IsLower cmp b.value.choice choice)
   IsPlacedAt cmp (Two a b) choice (Some First) = IsLower cmp choice a.choice
   IsPlacedAt cmp (Two a b) choice (Some Second) = IsLower cmp a.choice choice × IsLower cmp choice b.value.choice
-
-  -- two votes are kept
-  abbrev pub IsTwo : Kept D G → Type 0
-  IsTwo (Claim a) = ⊥
-  IsTwo (One a) = ⊥
-  IsTwo (Two a b) = ⊤

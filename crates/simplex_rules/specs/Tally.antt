@@ -1,5 +1,5 @@
 -- What the audit keeps of the reports that it has counted, and the evidence that this gives.
-use Rattle.std.specs.Prelude.{◌≡◌, ◌≢◌, ◌⊎◌, ℕ, List, [], ◌∷◌, ◌++◌, Contains, Option, Some, None, Box, IsSome, IsTrue}
+use Rattle.std.specs.Prelude.{◌≡◌, ◌≢◌, ◌⊎◌, ℕ, List, [], ◌∷◌, ◌++◌, Contains, Option, Some, None, Box, IsTrue}
 use Rattle.std.specs.declared.alloc.Global.{Global}
 use Rattle.std.specs.BTreeMap.{BTreeMap, get}
 use Rattle.std.specs.BTreeSet.{BTreeSet, contains}
@@ -21,7 +21,7 @@ use Rattle.simplex_rules.specs.declared.cast.Suspect.{Suspect}
 use Rattle.simplex_rules.specs.declared.nullifies.Given.{Given}
 use Rattle.simplex_rules.specs.declared.nullifies.Given.TheVariants as given
 use Rattle.simplex_rules.specs.declared.tally.Tally.{Tally}
-use Rattle.simplex_rules.specs.Cast.{IsFirst, AreNone, Summarizes, IsTwo}
+use Rattle.simplex_rules.specs.Cast.{IsFirst, AreNone, Summarizes}
 use Rattle.simplex_rules.specs.Kept.{suspect_cmp, Holds}
 
 -- the suspect's vote that was cast so is attested
@@ -50,9 +50,9 @@ module _ {K S D P G C : Type 0} where
   abbrev pub vote_of : Suspect → Cast D G → ProposalVote K S D P G C
   vote_of q c = record { proposal = record { round = q.round; parent = c.choice.parent; payload = c.choice.payload }; attestation = record { signer = q.signer; signature = c.signature }; kind = record {} }
 
-  -- the map keeps of each suspect what there is to keep of these votes
-  abbrev pub HoldsVotes : (Proposal D → Statement D) → (ℕ → Statement D → G → Type 0) → (D → D → Ordering) → List (ProposalVote K S D P G C) → BTreeMap Suspect (Kept D G) → Type 0
-  HoldsVotes states attests cmp votes kept = Holds parts_of (KeepsVotes states attests cmp) votes kept
+  -- the map keeps of each suspect in the set what there is to keep of these votes
+  abbrev pub HoldsVotes : (Proposal D → Statement D) → (ℕ → Statement D → G → Type 0) → (D → D → Ordering) → BTreeSet Suspect → List (ProposalVote K S D P G C) → BTreeMap Suspect (Kept D G) → Type 0
+  HoldsVotes states attests cmp contested votes kept = Holds parts_of contested (KeepsVotes states attests cmp) votes kept
 
   -- the two votes that are kept of a suspect
   abbrev pub conflict_in : Suspect → Option (Kept D G) → Option (ProposalVote K S D P G C × ProposalVote K S D P G C)
@@ -94,9 +94,9 @@ module _ {S D P G C : Type 0} where
   abbrev pub nullify_parts : Nullify S D P G C → Suspect × G
   nullify_parts v = (nullify_suspect v, v.attestation.signature)
 
-  -- the map keeps of each suspect what there is to keep of these nullifies
-  abbrev pub HoldsNullifies : (ℕ → Statement D → G → Type 0) → List (Nullify S D P G C) → BTreeMap Suspect (Given G) → Type 0
-  HoldsNullifies attests votes kept = Holds nullify_parts (KeepsNullifies attests) votes kept
+  -- the map keeps of each suspect in the set what there is to keep of these nullifies
+  abbrev pub HoldsNullifies : (ℕ → Statement D → G → Type 0) → BTreeSet Suspect → List (Nullify S D P G C) → BTreeMap Suspect (Given G) → Type 0
+  HoldsNullifies attests contested votes kept = Holds nullify_parts contested (KeepsNullifies attests) votes kept
 
   -- of a suspect's nullifies the first that verifies
   abbrev pub IsFirstOf : (ℕ → Statement D → G → Type 0) → List (Nullify S D P G C) → Suspect → Option (Nullify S D P G C) → Type 0
@@ -108,11 +108,11 @@ module _ {S D P G C : Type 0} where
   IsBesideOf attests cmp nullifies finalizes q None = IsGuiltyBeside attests nullifies finalizes q.round q.signer → ⊥
   IsBesideOf attests cmp nullifies finalizes q (Some x) = (nullify_suspect x.0 ≡ q) × IsLeastBeside attests cmp nullifies finalizes x.0 x.1
 
-  -- the tally keeps what there is to keep of the votes of these reports
-  pub record HoldsReports (lists : C → List (Attestation G)) (attests : ℕ → Statement D → G → Type 0) (cmp : D → D → Ordering) (reports : List (Activity S D P G C)) (tally : Tally S D P G C) : Type 0 where
-    pub notarizes : HoldsVotes notarize attests cmp (notarizes_of lists reports) tally.notarizes.kept
-    pub nullifies : HoldsNullifies attests (nullifies_of lists reports) tally.nullifies.kept
-    pub finalizes : HoldsVotes finalize attests cmp (finalizes_of lists reports) tally.finalizes.kept
+  -- the tally keeps what there is to keep of the votes of these reports, of each suspect in the set
+  pub record HoldsReports (lists : C → List (Attestation G)) (attests : ℕ → Statement D → G → Type 0) (cmp : D → D → Ordering) (contested : BTreeSet Suspect) (reports : List (Activity S D P G C)) (tally : Tally S D P G C) : Type 0 where
+    pub notarizes : HoldsVotes notarize attests cmp contested (notarizes_of lists reports) tally.notarizes.kept
+    pub nullifies : HoldsNullifies attests contested (nullifies_of lists reports) tally.nullifies.kept
+    pub finalizes : HoldsVotes finalize attests cmp contested (finalizes_of lists reports) tally.finalizes.kept
 
   -- the report of evidence, where there is some
   abbrev pub reported : {A : Type 0} → (A → Activity S D P G C) → Option A → List (Activity S D P G C)
@@ -126,18 +126,12 @@ module _ {S D P G C : Type 0} where
       ++ (reported conflicting_finalize_report (conflict_in q (get suspect_cmp t.finalizes.kept q))
       ++ reported nullify_finalize_report beside)
 
-  -- this is a suspect's nullify beside its finalize by whatever reports the tally holds
-  abbrev pub IsBesideIn : (C → List (Attestation G)) → (ℕ → Statement D → G → Type 0) → (D → D → Ordering) → Tally S D P G C → Suspect → Option (Nullify S D P G C × Finalize S D P G C) → Type 0
-  IsBesideIn lists attests cmp t q beside = (reports : List (Activity S D P G C)) → HoldsReports lists attests cmp reports t → IsBesideOf attests cmp (nullifies_of lists reports) (finalizes_of lists reports) q beside
+  -- this is a suspect's nullify beside its finalize by whatever reports the tally holds, where the suspect is in the set
+  abbrev pub IsBesideIn : (C → List (Attestation G)) → (ℕ → Statement D → G → Type 0) → (D → D → Ordering) → BTreeSet Suspect → Tally S D P G C → Suspect → Option (Nullify S D P G C × Finalize S D P G C) → Type 0
+  IsBesideIn lists attests cmp contested t q beside = (reports : List (Activity S D P G C)) → HoldsReports lists attests cmp contested reports t → IsTrue (contains suspect_cmp contested q) → IsBesideOf attests cmp (nullifies_of lists reports) (finalizes_of lists reports) q beside
 
   -- a list grew by a suspect's evidence, which rests on its nullify beside its finalize
-  pub record AddsEvidence (lists : C → List (Attestation G)) (attests : ℕ → Statement D → G → Type 0) (cmp : D → D → Ordering) (t : Tally S D P G C) (q : Suspect) (evidence : Option (Nullify S D P G C × Finalize S D P G C) → List (Activity S D P G C)) (old new : List (Activity S D P G C)) : Type 0 where
+  pub record AddsEvidence (lists : C → List (Attestation G)) (attests : ℕ → Statement D → G → Type 0) (cmp : D → D → Ordering) (contested : BTreeSet Suspect) (t : Tally S D P G C) (q : Suspect) (evidence : Option (Nullify S D P G C × Finalize S D P G C) → List (Activity S D P G C)) (old new : List (Activity S D P G C)) : Type 0 where
     pub beside : Option (Nullify S D P G C × Finalize S D P G C)
-    pub is_beside : IsBesideIn lists attests cmp t q beside
+    pub is_beside : IsBesideIn lists attests cmp contested t q beside
     pub whole : new ≡ old ++ evidence beside
-
-  -- the set has each suspect of whom evidence is kept
-  pub record IsGathered (t : Tally S D P G C) (guilty : BTreeSet Suspect) : Type 0 where
-    pub notarized : (q : Suspect) (k : Kept D G) → get suspect_cmp t.notarizes.kept q ≡ Some k → IsTwo k → IsTrue (contains suspect_cmp guilty q)
-    pub finalized : (q : Suspect) (k : Kept D G) → get suspect_cmp t.finalizes.kept q ≡ Some k → IsTwo k → IsTrue (contains suspect_cmp guilty q)
-    pub nullified : (q : Suspect) → IsSome (get suspect_cmp t.nullifies.kept q) → IsSome (get suspect_cmp t.finalizes.kept q) → IsTrue (contains suspect_cmp guilty q)

@@ -1,20 +1,24 @@
 //! The audit of reports: whose votes contradict each other.
 
-ghost use Rattle.std.specs.Prelude.{◌≡◌, ◌+◌, ◌++◌, [], List, IfOk, IsErr, MatchBool};
+ghost use Rattle.std.specs.Prelude.{◌≡◌, ℕ, Option, ◌+◌, ◌++◌, [], List, IfOk, IsErr, MatchBool};
 ghost use Rattle.simplex_types.specs.Codec.{Gives, Readable};
 ghost use Rattle.simplex_types.specs.Quorum.{faults};
 ghost use Rattle.simplex_types.specs.declared.position.Round.{Round};
 ghost use Rattle.simplex_messages.specs.declared.activity.Activity.{Activity};
 ghost use Rattle.simplex_rules.specs.Accountability.{IsContradicted, NamesAtLeast};
-ghost use Rattle.simplex_rules.specs.Audit.{IsAudit, IsVerdict};
+ghost use Rattle.simplex_rules.specs.Audit.{IsAudit, IsRead, IsVerdict};
 ghost use Rattle.simplex_rules.specs.Counted.{Counts, CountsOne, CountsRead};
+ghost use Rattle.simplex_rules.specs.Survey.{AreSurveyed, HasGuilty, SurveysOne};
 ghost use Rattle.simplex_rules.specs.Tally.{HoldsReports};
 
+use crate::cast::Suspect;
+use crate::survey::Survey;
 use crate::tally::Tally;
 use crate::verdict::Audit;
 use simplex_messages::Activity;
 use simplex_types::{CodecError, Digest, Listing, Read, Write};
 use std::alloc::{AllocError, Global};
+use std::collections::BTreeSet;
 
 /// Finds the signers of which two verifying votes contradict each other, among the reports that the
 /// bytes hold up to the first place where none stands. Loose votes count, both votes of
@@ -36,10 +40,85 @@ pub fn audit<S: Listing<D>, D: Digest>(
     ensures accountable { IfOk result (λ a. (reports : List (Activity S D S.PublicKey S.Signature S.Certificate)) → IsVerdict S.lists (S.attests scheme.now) D.cmp reports a.evidence.items → (round : Round) → IsContradicted (S.certifies scheme.now) reports round → NamesAtLeast (faults (S.size scheme.now) + 1) (S.size scheme.now) a.evidence.items round) }
 {
     let participants = scheme.participants();
+    let contested = contested(alloc, scheme, participants, bytes)?;
     let mut tally = Tally::new(alloc);
-    let fault = count_reports(alloc, scheme, participants, bytes, &mut tally)?;
-    let evidence = tally.evidence(alloc, scheme)?;
+    let fault = count_reports(alloc, scheme, participants, &contested, bytes, &mut tally)?;
+    let evidence = tally.evidence(alloc, scheme, &contested)?;
     Ok(Audit { evidence, fault })
+}
+
+/// Whose votes among the reports may contradict each other. An honest signer's don't, so few votes are left to
+/// be weighed, and the reports are read twice in place of being kept.
+fn contested<S: Listing<D>, D: Digest>(
+    alloc: Global,
+    scheme: &S,
+    participants: u32,
+    bytes: &[u8],
+) -> Result<BTreeSet<Suspect>, AllocError>
+    requires bound { participants ≡ S.size scheme.now }
+    ensures { IfOk result (λ contested. (reports : List (Activity S D S.PublicKey S.Signature S.Certificate)) (fault : Option ℕ) → IsRead (Readable ⟦<Activity<S, D> as Write>⟧.fits (⟦<Activity<S, D> as Read>⟧.within (S.size scheme.now))) ⟦<Activity<S, D> as Write>⟧.spelling (⟦<Activity<S, D> as Read>⟧.reading (S.size scheme.now)) bytes.now reports fault → HasGuilty S.lists (S.attests scheme.now) reports contested) }
+{
+    let mut survey: Survey<D> = Survey::new::<S>(alloc);
+    let _fault = survey_reports(alloc, scheme, participants, bytes, &mut survey)?;
+    survey.contest_beside()?;
+    Ok(survey.contested)
+}
+
+/// Notes the votes of the reports, and tells the place of the first byte at which none stands.
+fn survey_reports<S: Listing<D>, D: Digest>(
+    alloc: Global,
+    scheme: &S,
+    participants: u32,
+    bytes: &[u8],
+    survey: &mut Survey<D>,
+) -> Result<Option<usize>, AllocError>
+    requires bound { participants ≡ S.size scheme.now }
+    requires empty { AreSurveyed {S = S} {P = S.PublicKey} S.lists [] survey.old }
+    ensures { IfOk result (λ fault. Counts (AreSurveyed {S = S} {P = S.PublicKey} S.lists) (Readable ⟦<Activity<S, D> as Write>⟧.fits (⟦<Activity<S, D> as Read>⟧.within (S.size scheme.now))) ⟦<Activity<S, D> as Write>⟧.spelling (⟦<Activity<S, D> as Read>⟧.reading (S.size scheme.now)) bytes.now fault survey.new) }
+{
+    let mut rest = bytes;
+    while !rest.is_empty() {
+        if !survey_next(alloc, scheme, participants, &mut rest, survey)? {
+            return Ok(Some(bytes.len() - rest.len()));
+        }
+    }
+    Ok(None)
+}
+
+/// Notes the votes of the next report, or tells that none stands there.
+fn survey_next<S: Listing<D>, D: Digest>(
+    alloc: Global,
+    scheme: &S,
+    participants: u32,
+    rest: &mut &[u8],
+    survey: &mut Survey<D>,
+) -> Result<bool, AllocError>
+    requires bound { participants ≡ S.size scheme.now }
+    ensures { IfOk result (λ counted. MatchBool counted
+        (CountsOne (AreSurveyed {S = S} {P = S.PublicKey} S.lists) (Readable ⟦<Activity<S, D> as Write>⟧.fits (⟦<Activity<S, D> as Read>⟧.within (S.size scheme.now))) ⟦<Activity<S, D> as Write>⟧.spelling rest.old.now rest.new.now survey.old survey.new)
+        (IsErr (⟦<Activity<S, D> as Read>⟧.reading (S.size scheme.now) rest.old.now) × (rest.new.now ≡ rest.old.now) × (survey.new ≡ survey.old))) }
+{
+    let read: Result<Activity<S, D>, CodecError> = next_message(alloc, rest, participants);
+    let noted = survey_read(&read, survey);
+    drop(read);
+    noted
+}
+
+/// Notes the votes of the report that was read, or tells that none was.
+fn survey_read<S: Listing<D>, D: Digest>(
+    read: &Result<Activity<S, D>, CodecError>,
+    survey: &mut Survey<D>,
+) -> Result<bool, AllocError>
+    ensures { IfOk result (CountsRead (AreSurveyed {S = S} {P = S.PublicKey} S.lists) read.now survey.old survey.new) }
+{
+    match read {
+        Ok(report) => {
+            survey.note_report(report)?;
+            Ok(true)
+        }
+        Err(CodecError::Memory) => Err(AllocError),
+        Err(_) => Ok(false),
+    }
 }
 
 /// Counts the votes of the reports, and tells the place of the first byte at which none stands.
@@ -47,16 +126,17 @@ fn count_reports<S: Listing<D>, D: Digest>(
     alloc: Global,
     scheme: &S,
     participants: u32,
+    contested: &BTreeSet<Suspect>,
     bytes: &[u8],
     tally: &mut Tally<S, D>,
 ) -> Result<Option<usize>, AllocError>
     requires bound { participants ≡ S.size scheme.now }
-    requires empty { HoldsReports S.lists (S.attests scheme.now) D.cmp [] tally.old }
-    ensures { IfOk result (λ fault. Counts S.lists (S.attests scheme.now) D.cmp (Readable ⟦<Activity<S, D> as Write>⟧.fits (⟦<Activity<S, D> as Read>⟧.within (S.size scheme.now))) ⟦<Activity<S, D> as Write>⟧.spelling (⟦<Activity<S, D> as Read>⟧.reading (S.size scheme.now)) bytes.now fault tally.new) }
+    requires empty { HoldsReports S.lists (S.attests scheme.now) D.cmp contested.now [] tally.old }
+    ensures { IfOk result (λ fault. Counts (HoldsReports S.lists (S.attests scheme.now) D.cmp contested.now) (Readable ⟦<Activity<S, D> as Write>⟧.fits (⟦<Activity<S, D> as Read>⟧.within (S.size scheme.now))) ⟦<Activity<S, D> as Write>⟧.spelling (⟦<Activity<S, D> as Read>⟧.reading (S.size scheme.now)) bytes.now fault tally.new) }
 {
     let mut rest = bytes;
     while !rest.is_empty() {
-        if !count_next(alloc, scheme, participants, &mut rest, tally)? {
+        if !count_next(alloc, scheme, participants, contested, &mut rest, tally)? {
             return Ok(Some(bytes.len() - rest.len()));
         }
     }
@@ -68,16 +148,17 @@ fn count_next<S: Listing<D>, D: Digest>(
     alloc: Global,
     scheme: &S,
     participants: u32,
+    contested: &BTreeSet<Suspect>,
     rest: &mut &[u8],
     tally: &mut Tally<S, D>,
 ) -> Result<bool, AllocError>
     requires bound { participants ≡ S.size scheme.now }
     ensures { IfOk result (λ counted. MatchBool counted
-        (CountsOne S.lists (S.attests scheme.now) D.cmp (Readable ⟦<Activity<S, D> as Write>⟧.fits (⟦<Activity<S, D> as Read>⟧.within (S.size scheme.now))) ⟦<Activity<S, D> as Write>⟧.spelling rest.old.now rest.new.now tally.old tally.new)
+        (CountsOne (HoldsReports S.lists (S.attests scheme.now) D.cmp contested.now) (Readable ⟦<Activity<S, D> as Write>⟧.fits (⟦<Activity<S, D> as Read>⟧.within (S.size scheme.now))) ⟦<Activity<S, D> as Write>⟧.spelling rest.old.now rest.new.now tally.old tally.new)
         (IsErr (⟦<Activity<S, D> as Read>⟧.reading (S.size scheme.now) rest.old.now) × (rest.new.now ≡ rest.old.now) × (tally.new ≡ tally.old))) }
 {
     let read = next_message(alloc, rest, participants);
-    let counted = count_read(scheme, &read, tally);
+    let counted = count_read(scheme, contested, &read, tally);
     drop(read);
     counted
 }
@@ -85,14 +166,15 @@ fn count_next<S: Listing<D>, D: Digest>(
 /// Counts the votes of the report that was read, or tells that none was.
 fn count_read<S: Listing<D>, D: Digest>(
     scheme: &S,
+    contested: &BTreeSet<Suspect>,
     read: &Result<Activity<S, D>, CodecError>,
     tally: &mut Tally<S, D>,
 ) -> Result<bool, AllocError>
-    ensures { IfOk result (CountsRead S.lists (S.attests scheme.now) D.cmp read.now tally.old tally.new) }
+    ensures { IfOk result (CountsRead (HoldsReports S.lists (S.attests scheme.now) D.cmp contested.now) read.now tally.old tally.new) }
 {
     match read {
         Ok(report) => {
-            tally.count_report(scheme, report)?;
+            tally.count_report(scheme, contested, report)?;
             Ok(true)
         }
         Err(CodecError::Memory) => Err(AllocError),

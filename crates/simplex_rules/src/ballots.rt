@@ -1,14 +1,14 @@
 //! What is kept of each signer's votes of each round on a proposal.
 
-ghost use Rattle.std.specs.Prelude.{◌≡◌, ◌↔◌, ◌++◌, ◌∷◌, [], List, OnOk, IsTrue, IsSome, IfSome, MatchBool, Some};
+ghost use Rattle.std.specs.Prelude.{◌≡◌, ◌↔◌, ◌++◌, ◌∷◌, [], List, OnOk, IsTrue, IsSome, IfSome, MatchBool};
 ghost use Rattle.std.specs.BTreeMap.{get};
-ghost use Rattle.std.specs.BTreeSet.{IsSubset, contains};
+ghost use Rattle.std.specs.BTreeSet.{contains};
 ghost use Rattle.simplex_messages.specs.declared.proposal_vote.ProposalVote.{ProposalVote};
 ghost use Rattle.simplex_messages.specs.Guilt.{votes_listed};
 ghost use Rattle.simplex_rules.specs.declared.cast.Cast.{Cast};
 ghost use Rattle.simplex_rules.specs.declared.cast.Kept.{Kept};
 ghost use Rattle.simplex_rules.specs.declared.cast.Suspect.{Suspect};
-ghost use Rattle.simplex_rules.specs.Cast.{IsSettled, IsTwo};
+ghost use Rattle.simplex_rules.specs.Cast.{IsSettled};
 ghost use Rattle.simplex_rules.specs.Kept.{suspect_cmp, Tallies};
 ghost use Rattle.simplex_rules.specs.Tally.{AreApart, CastIsAttested, HoldsVotes, IsLeastOf, KeepsVotes, conflict_in, suspect_of, vote_of};
 
@@ -31,7 +31,7 @@ pub(crate) struct Ballots<K: ProposalKind<D>, S: Scheme<D>, D: Digest> {
 impl<K: ProposalKind<D>, S: Scheme<D>, D: Digest> Ballots<K, S, D> {
     /// Nothing counted.
     pub(crate) fn new(alloc: Global) -> Self
-        ensures { (scheme : S) → HoldsVotes {K = K} {S = S} {P = S.PublicKey} {C = S.Certificate} K.states (S.attests scheme) D.cmp [] result.kept }
+        ensures { (scheme : S) (contested : BTreeSet Suspect Global) → HoldsVotes {K = K} {S = S} {P = S.PublicKey} {C = S.Certificate} K.states (S.attests scheme) D.cmp contested [] result.kept }
     {
         Ballots {
             kept: BTreeMap::new(alloc),
@@ -137,7 +137,7 @@ impl<K: ProposalKind<D>, S: Scheme<D>, D: Digest> Ballots<K, S, D> {
         suspect: Suspect,
         cast: Cast<D, S::Signature>,
     ) -> Result<(), AllocError>
-        ensures { OnOk result ((counted : List (Suspect × Cast D S.Signature)) → Tallies (KeepsVotes K.states (S.attests scheme.now) D.cmp) counted self.old.kept → Tallies (KeepsVotes K.states (S.attests scheme.now) D.cmp) (counted ++ (suspect, cast) ∷ []) self.new.kept) }
+        ensures { OnOk result ((contested : BTreeSet Suspect Global) (counted : List (Suspect × Cast D S.Signature)) → IsTrue (contains suspect_cmp contested suspect) → Tallies contested (KeepsVotes K.states (S.attests scheme.now) D.cmp) counted self.old.kept → Tallies contested (KeepsVotes K.states (S.attests scheme.now) D.cmp) (counted ++ (suspect, cast) ∷ []) self.new.kept) }
     {
         match self.kept.entry(suspect)? {
             Entry::Vacant(entry) => {
@@ -150,18 +150,22 @@ impl<K: ProposalKind<D>, S: Scheme<D>, D: Digest> Ballots<K, S, D> {
         Ok(())
     }
 
-    /// Counts a vote.
+    /// Counts a vote. It is weighed only where its suspect is contested.
     pub(crate) fn count(
         &mut self,
         scheme: &S,
+        contested: &BTreeSet<Suspect>,
         vote: &ProposalVote<K, S, D>,
     ) -> Result<(), AllocError>
-        ensures { OnOk result ((votes : List (ProposalVote K S D S.PublicKey S.Signature S.Certificate)) → HoldsVotes K.states (S.attests scheme.now) D.cmp votes self.old.kept → HoldsVotes K.states (S.attests scheme.now) D.cmp (votes ++ vote.now ∷ []) self.new.kept) }
+        ensures { OnOk result ((votes : List (ProposalVote K S D S.PublicKey S.Signature S.Certificate)) → HoldsVotes K.states (S.attests scheme.now) D.cmp contested.now votes self.old.kept → HoldsVotes K.states (S.attests scheme.now) D.cmp contested.now (votes ++ vote.now ∷ []) self.new.kept) }
     {
         let suspect = Suspect {
             round: vote.proposal.round,
             signer: vote.attestation.signer,
         };
+        if !contested.contains(&suspect) {
+            return Ok(());
+        }
         let choice = Choice {
             parent: vote.proposal.parent,
             payload: vote.proposal.payload,
@@ -175,12 +179,13 @@ impl<K: ProposalKind<D>, S: Scheme<D>, D: Digest> Ballots<K, S, D> {
     pub(crate) fn count_both(
         &mut self,
         scheme: &S,
+        contested: &BTreeSet<Suspect>,
         both: &ConflictingVotes<K, S, D>,
     ) -> Result<(), AllocError>
-        ensures { OnOk result ((votes : List (ProposalVote K S D S.PublicKey S.Signature S.Certificate)) → HoldsVotes K.states (S.attests scheme.now) D.cmp votes self.old.kept → HoldsVotes K.states (S.attests scheme.now) D.cmp (votes ++ both.now.0 ∷ both.now.1 ∷ []) self.new.kept) }
+        ensures { OnOk result ((votes : List (ProposalVote K S D S.PublicKey S.Signature S.Certificate)) → HoldsVotes K.states (S.attests scheme.now) D.cmp contested.now votes self.old.kept → HoldsVotes K.states (S.attests scheme.now) D.cmp contested.now (votes ++ both.now.0 ∷ both.now.1 ∷ []) self.new.kept) }
     {
-        self.count(scheme, both.first())?;
-        self.count(scheme, both.second())
+        self.count(scheme, contested, both.first())?;
+        self.count(scheme, contested, both.second())
     }
 
     /// Whether votes of the suspect are kept.
@@ -188,19 +193,6 @@ impl<K: ProposalKind<D>, S: Scheme<D>, D: Digest> Ballots<K, S, D> {
         ensures { IsTrue result ↔ IsSome (get suspect_cmp self.now.kept suspect.now) }
     {
         self.kept.contains_key(suspect)
-    }
-
-    /// Adds each suspect of whom votes for two proposals are kept.
-    pub(crate) fn gather(&self, guilty: &mut BTreeSet<Suspect>) -> Result<(), AllocError>
-        ensures stay { OnOk result (IsSubset suspect_cmp guilty.old guilty.new) }
-        ensures added { OnOk result ((q : Suspect) (kept : Kept D S.Signature) → get suspect_cmp self.now.kept q ≡ Some kept → IsTwo kept → IsTrue (contains suspect_cmp guilty.new q)) }
-    {
-        for (suspect, kept) in &self.kept {
-            if let Kept::Two(_, _) = kept {
-                guilty.insert(*suspect)?;
-            }
-        }
-        Ok(())
     }
 
     /// The two votes that are kept of the suspect, if there are two.
@@ -221,7 +213,7 @@ impl<K: ProposalKind<D>, S: Scheme<D>, D: Digest> Ballots<K, S, D> {
     /// Of the suspect's votes that verify the first for the least proposal.
     pub(crate) fn least(&self, scheme: &S, suspect: &Suspect) -> Option<ProposalVote<K, S, D>>
         ensures own { IfSome result (λ v. suspect_of v ≡ suspect.now) }
-        ensures least { (votes : List (ProposalVote K S D S.PublicKey S.Signature S.Certificate)) → HoldsVotes K.states (S.attests scheme.now) D.cmp votes self.now.kept → IsLeastOf K.states (S.attests scheme.now) D.cmp votes suspect.now result }
+        ensures least { (contested : BTreeSet Suspect Global) (votes : List (ProposalVote K S D S.PublicKey S.Signature S.Certificate)) → IsTrue (contains suspect_cmp contested suspect.now) → HoldsVotes K.states (S.attests scheme.now) D.cmp contested votes self.now.kept → IsLeastOf K.states (S.attests scheme.now) D.cmp votes suspect.now result }
     {
         match self.kept.get(suspect)? {
             Kept::Claim(claim) => {
@@ -241,12 +233,14 @@ impl<K: ProposalKind<D>, S: Listing<D>, D: Digest> Ballots<K, S, D> {
     pub(crate) fn count_listed(
         &mut self,
         scheme: &S,
+        contested: &BTreeSet<Suspect>,
         made: &ProposalCertificate<K, S, D>,
     ) -> Result<(), AllocError>
-        ensures { OnOk result ((votes : List (ProposalVote K S D S.PublicKey S.Signature S.Certificate)) → HoldsVotes K.states (S.attests scheme.now) D.cmp votes self.old.kept → HoldsVotes K.states (S.attests scheme.now) D.cmp (votes ++ votes_listed S.lists made.now) self.new.kept) }
+        ensures { OnOk result ((votes : List (ProposalVote K S D S.PublicKey S.Signature S.Certificate)) → HoldsVotes K.states (S.attests scheme.now) D.cmp contested.now votes self.old.kept → HoldsVotes K.states (S.attests scheme.now) D.cmp contested.now (votes ++ votes_listed S.lists made.now) self.new.kept) }
     {
         for attestation in S::attestations(&made.certificate) {
-            self.count(scheme, &ProposalVote::new(made.proposal, *attestation))?;
+            let vote = ProposalVote::new(made.proposal, *attestation);
+            self.count(scheme, contested, &vote)?;
         }
         Ok(())
     }

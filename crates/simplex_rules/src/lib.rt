@@ -10,6 +10,7 @@ mod laws;
 mod lookahead;
 mod nullifies;
 mod salted;
+mod survey;
 mod tally;
 mod terms;
 mod verdict;

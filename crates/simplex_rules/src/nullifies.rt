@@ -4,15 +4,16 @@ ghost use Rattle.std.specs.Prelude.{◌≡◌, ◌↔◌, ◌++◌, ◌∷◌, [
 ghost use Rattle.simplex_messages.specs.declared.nullify.Nullify.{Nullify};
 ghost use Rattle.simplex_messages.specs.Guilt.{nullifies_listed};
 ghost use Rattle.simplex_rules.specs.declared.cast.Suspect.{Suspect};
-ghost use Rattle.simplex_rules.specs.Kept.{Tallies};
+ghost use Rattle.std.specs.BTreeSet.{contains};
+ghost use Rattle.simplex_rules.specs.Kept.{Tallies, suspect_cmp};
 ghost use Rattle.simplex_rules.specs.Tally.{GivenIsAttested, HoldsNullifies, IsFirstOf, KeepsNullifies, nullify_of, nullify_suspect};
 
 use crate::cast::Suspect;
 use simplex_messages::{Nullification, Nullify};
 use simplex_types::{Attestation, Digest, Listing, Scheme};
 use std::alloc::{AllocError, Global};
-use std::collections::BTreeMap;
 use std::collections::btree_map::Entry;
+use std::collections::{BTreeMap, BTreeSet};
 
 /// What is kept of one signer's nullifies of one round, by its signature.
 #[derive(Drop)]
@@ -32,7 +33,7 @@ pub(crate) struct Nullifies<S: Scheme<D>, D: Digest> {
 impl<S: Scheme<D>, D: Digest> Nullifies<S, D> {
     /// Nothing counted.
     pub(crate) fn new(alloc: Global) -> Self
-        ensures { (scheme : S) → HoldsNullifies {S = S} {P = S.PublicKey} {C = S.Certificate} (S.attests scheme) [] result.kept }
+        ensures { (scheme : S) (contested : BTreeSet Suspect Global) → HoldsNullifies {S = S} {P = S.PublicKey} {C = S.Certificate} (S.attests scheme) contested [] result.kept }
     {
         Nullifies {
             kept: BTreeMap::new(alloc),
@@ -77,7 +78,7 @@ impl<S: Scheme<D>, D: Digest> Nullifies<S, D> {
         suspect: Suspect,
         signature: S::Signature,
     ) -> Result<(), AllocError>
-        ensures { OnOk result ((counted : List (Suspect × S.Signature)) → Tallies (KeepsNullifies (S.attests scheme.now)) counted self.old.kept → Tallies (KeepsNullifies (S.attests scheme.now)) (counted ++ (suspect, signature) ∷ []) self.new.kept) }
+        ensures { OnOk result ((contested : BTreeSet Suspect Global) (counted : List (Suspect × S.Signature)) → IsTrue (contains suspect_cmp contested suspect) → Tallies contested (KeepsNullifies (S.attests scheme.now)) counted self.old.kept → Tallies contested (KeepsNullifies (S.attests scheme.now)) (counted ++ (suspect, signature) ∷ []) self.new.kept) }
     {
         match self.kept.entry(suspect)? {
             Entry::Vacant(entry) => {
@@ -90,14 +91,22 @@ impl<S: Scheme<D>, D: Digest> Nullifies<S, D> {
         Ok(())
     }
 
-    /// Counts a nullify.
-    pub(crate) fn count(&mut self, scheme: &S, vote: &Nullify<S, D>) -> Result<(), AllocError>
-        ensures { OnOk result ((votes : List (Nullify S D S.PublicKey S.Signature S.Certificate)) → HoldsNullifies (S.attests scheme.now) votes self.old.kept → HoldsNullifies (S.attests scheme.now) (votes ++ vote.now ∷ []) self.new.kept) }
+    /// Counts a nullify. It is weighed only where its suspect is contested.
+    pub(crate) fn count(
+        &mut self,
+        scheme: &S,
+        contested: &BTreeSet<Suspect>,
+        vote: &Nullify<S, D>,
+    ) -> Result<(), AllocError>
+        ensures { OnOk result ((votes : List (Nullify S D S.PublicKey S.Signature S.Certificate)) → HoldsNullifies (S.attests scheme.now) contested.now votes self.old.kept → HoldsNullifies (S.attests scheme.now) contested.now (votes ++ vote.now ∷ []) self.new.kept) }
     {
         let suspect = Suspect {
             round: vote.round,
             signer: vote.attestation.signer,
         };
+        if !contested.contains(&suspect) {
+            return Ok(());
+        }
         self.keep(scheme, suspect, vote.attestation.signature)?;
         Ok(())
     }
@@ -105,7 +114,7 @@ impl<S: Scheme<D>, D: Digest> Nullifies<S, D> {
     /// Of the suspect's nullifies the first that verifies.
     pub(crate) fn first(&self, scheme: &S, suspect: &Suspect) -> Option<Nullify<S, D>>
         ensures own { IfSome result (λ v. nullify_suspect v ≡ suspect.now) }
-        ensures first { (votes : List (Nullify S D S.PublicKey S.Signature S.Certificate)) → HoldsNullifies (S.attests scheme.now) votes self.now.kept → IsFirstOf (S.attests scheme.now) votes suspect.now result }
+        ensures first { (contested : BTreeSet Suspect Global) (votes : List (Nullify S D S.PublicKey S.Signature S.Certificate)) → IsTrue (contains suspect_cmp contested suspect.now) → HoldsNullifies (S.attests scheme.now) contested votes self.now.kept → IsFirstOf (S.attests scheme.now) votes suspect.now result }
     {
         match self.kept.get(suspect)? {
             Given::Claim(claim) => {
@@ -124,16 +133,17 @@ impl<S: Listing<D>, D: Digest> Nullifies<S, D> {
     pub(crate) fn count_listed(
         &mut self,
         scheme: &S,
+        contested: &BTreeSet<Suspect>,
         made: &Nullification<S, D>,
     ) -> Result<(), AllocError>
-        ensures { OnOk result ((votes : List (Nullify S D S.PublicKey S.Signature S.Certificate)) → HoldsNullifies (S.attests scheme.now) votes self.old.kept → HoldsNullifies (S.attests scheme.now) (votes ++ nullifies_listed S.lists made.now) self.new.kept) }
+        ensures { OnOk result ((votes : List (Nullify S D S.PublicKey S.Signature S.Certificate)) → HoldsNullifies (S.attests scheme.now) contested.now votes self.old.kept → HoldsNullifies (S.attests scheme.now) contested.now (votes ++ nullifies_listed S.lists made.now) self.new.kept) }
     {
         for attestation in S::attestations(&made.certificate) {
             let vote = Nullify {
                 round: made.round,
                 attestation: *attestation,
             };
-            self.count(scheme, &vote)?;
+            self.count(scheme, contested, &vote)?;
         }
         Ok(())
     }

@@ -1,14 +1,14 @@
 //! The count of an audit: what is kept of each signer's votes of each round.
 
-ghost use Rattle.std.specs.Prelude.{◌≡◌, ◌++◌, ◌∷◌, [], List, OnOk, IfOk, IsTrue, IsSome, Some};
+ghost use Rattle.std.specs.Prelude.{◌≡◌, ◌++◌, ◌∷◌, [], List, OnOk, IfOk};
 ghost use Rattle.std.specs.BTreeMap.{get};
-ghost use Rattle.std.specs.BTreeSet.{IsSubset, contains};
 ghost use Rattle.simplex_messages.specs.Activity.{conflicting_finalize_report, conflicting_notarize_report, nullify_finalize_report};
 ghost use Rattle.simplex_messages.specs.declared.activity.Activity.{Activity};
 ghost use Rattle.simplex_rules.specs.declared.cast.Suspect.{Suspect};
 ghost use Rattle.simplex_rules.specs.Audit.{IsVerdict};
 ghost use Rattle.simplex_rules.specs.Kept.{suspect_cmp};
-ghost use Rattle.simplex_rules.specs.Tally.{AddsEvidence, AreApart, HoldsReports, IsBesideIn, IsGathered, conflict_in, evidence_at, reported};
+ghost use Rattle.simplex_rules.specs.Survey.{HasGuilty};
+ghost use Rattle.simplex_rules.specs.Tally.{AddsEvidence, AreApart, HoldsReports, IsBesideIn, conflict_in, evidence_at, reported};
 
 use crate::ballots::Ballots;
 use crate::cast::Suspect;
@@ -29,7 +29,7 @@ pub(crate) struct Tally<S: Scheme<D>, D: Digest> {
 impl<S: Scheme<D>, D: Digest> Tally<S, D> {
     /// Nothing counted.
     pub(crate) fn new(alloc: Global) -> Self
-        ensures { (scheme : S) → HoldsReports S.lists (S.attests scheme) D.cmp [] result }
+        ensures { (scheme : S) (contested : BTreeSet Suspect Global) → HoldsReports S.lists (S.attests scheme) D.cmp contested [] result }
     {
         Tally {
             notarizes: Ballots::new(alloc),
@@ -38,45 +38,21 @@ impl<S: Scheme<D>, D: Digest> Tally<S, D> {
         }
     }
 
-    /// The evidence against the guilty, sorted by epoch, view, signer and kind.
+    /// The evidence against the guilty, who are among the contested, sorted by epoch, view, signer and kind.
     pub(crate) fn evidence(
         &self,
         alloc: Global,
         scheme: &S,
+        contested: &BTreeSet<Suspect>,
     ) -> Result<Vec<Activity<S, D>>, AllocError>
-        requires { (reports : List (Activity S D S.PublicKey S.Signature S.Certificate)) × HoldsReports S.lists (S.attests scheme.now) D.cmp reports self.now }
-        ensures { IfOk result (λ evidence. (reports : List (Activity S D S.PublicKey S.Signature S.Certificate)) → HoldsReports S.lists (S.attests scheme.now) D.cmp reports self.now → IsVerdict S.lists (S.attests scheme.now) D.cmp reports evidence.items) }
+        requires { (reports : List (Activity S D S.PublicKey S.Signature S.Certificate)) × HoldsReports S.lists (S.attests scheme.now) D.cmp contested.now reports self.now }
+        ensures { IfOk result (λ evidence. (reports : List (Activity S D S.PublicKey S.Signature S.Certificate)) → HasGuilty S.lists (S.attests scheme.now) reports contested.now → HoldsReports S.lists (S.attests scheme.now) D.cmp contested.now reports self.now → IsVerdict S.lists (S.attests scheme.now) D.cmp reports evidence.items) }
     {
-        let guilty = self.guilty(alloc)?;
         let mut evidence = Vec::new(alloc);
-        for suspect in &guilty {
+        for suspect in contested {
             self.push_evidence(scheme, suspect, &mut evidence)?;
         }
         Ok(evidence)
-    }
-
-    /// Each suspect of which evidence is kept.
-    fn guilty(&self, alloc: Global) -> Result<BTreeSet<Suspect>, AllocError>
-        ensures { IfOk result (λ guilty. IsGathered self.now guilty) }
-    {
-        let mut guilty = BTreeSet::new(alloc);
-        self.notarizes.gather(&mut guilty)?;
-        self.finalizes.gather(&mut guilty)?;
-        self.gather_beside(&mut guilty)?;
-        Ok(guilty)
-    }
-
-    /// AddsEvidence each suspect of which both a nullify and a finalize are kept, be they claims or not.
-    fn gather_beside(&self, guilty: &mut BTreeSet<Suspect>) -> Result<(), AllocError>
-        ensures stay { OnOk result (IsSubset suspect_cmp guilty.old guilty.new) }
-        ensures added { OnOk result ((q : Suspect) → IsSome (get suspect_cmp self.now.nullifies.kept q) → IsSome (get suspect_cmp self.now.finalizes.kept q) → IsTrue (contains suspect_cmp guilty.new q)) }
-    {
-        for suspect in self.nullifies.kept.keys() {
-            if self.finalizes.contains(suspect) {
-                guilty.insert(*suspect)?;
-            }
-        }
-        Ok(())
     }
 
     /// Appends the evidence against the suspect, in the order of kinds.
@@ -88,7 +64,7 @@ impl<S: Scheme<D>, D: Digest> Tally<S, D> {
     ) -> Result<(), AllocError>
         requires notarizes { AreApart self.now.notarizes.kept }
         requires finalizes { AreApart self.now.finalizes.kept }
-        ensures { OnOk result (AddsEvidence S.lists (S.attests scheme.now) D.cmp self.now suspect.now (evidence_at self.now suspect.now) evidence.old.items evidence.new.items) }
+        ensures { OnOk result ((contested : BTreeSet Suspect Global) → AddsEvidence S.lists (S.attests scheme.now) D.cmp contested self.now suspect.now (evidence_at self.now suspect.now) evidence.old.items evidence.new.items) }
     {
         self.push_notarizes(suspect, evidence)?;
         self.push_finalizes(suspect, evidence)?;
@@ -132,7 +108,7 @@ impl<S: Scheme<D>, D: Digest> Tally<S, D> {
         suspect: &Suspect,
         evidence: &mut Vec<Activity<S, D>>,
     ) -> Result<(), AllocError>
-        ensures { OnOk result (AddsEvidence S.lists (S.attests scheme.now) D.cmp self.now suspect.now (reported nullify_finalize_report) evidence.old.items evidence.new.items) }
+        ensures { OnOk result ((contested : BTreeSet Suspect Global) → AddsEvidence S.lists (S.attests scheme.now) D.cmp contested self.now suspect.now (reported nullify_finalize_report) evidence.old.items evidence.new.items) }
     {
         match self.beside(scheme, suspect) {
             None => Ok(()),
@@ -143,8 +119,11 @@ impl<S: Scheme<D>, D: Digest> Tally<S, D> {
     /// The suspect's first nullify that verifies, and beside it its first finalize for the least
     /// proposal that does.
     fn beside(&self, scheme: &S, suspect: &Suspect) -> Option<NullifyFinalize<S, D>>
-        ensures { IsBesideIn S.lists (S.attests scheme.now) D.cmp self.now suspect.now result }
+        ensures { (contested : BTreeSet Suspect Global) → IsBesideIn S.lists (S.attests scheme.now) D.cmp contested self.now suspect.now result }
     {
+        if !self.finalizes.contains(suspect) {
+            return None;
+        }
         let nullify = self.nullifies.first(scheme, suspect)?;
         let finalize = self.finalizes.least(scheme, suspect)?;
         Some(NullifyFinalize::new(nullify, finalize))
@@ -153,34 +132,44 @@ impl<S: Scheme<D>, D: Digest> Tally<S, D> {
 
 impl<S: Listing<D>, D: Digest> Tally<S, D> {
     /// Counts the votes of a report: a loose vote, one for each attestation that a
-    /// certificate lists, and both votes of evidence.
+    /// certificate lists, and both votes of evidence. Those of the contested are weighed.
     pub(crate) fn count_report(
         &mut self,
         scheme: &S,
+        contested: &BTreeSet<Suspect>,
         report: &Activity<S, D>,
     ) -> Result<(), AllocError>
-        ensures { OnOk result ((reports : List (Activity S D S.PublicKey S.Signature S.Certificate)) → HoldsReports S.lists (S.attests scheme.now) D.cmp reports self.old → HoldsReports S.lists (S.attests scheme.now) D.cmp (reports ++ report.now ∷ []) self.new) }
+        ensures { OnOk result ((reports : List (Activity S D S.PublicKey S.Signature S.Certificate)) → HoldsReports S.lists (S.attests scheme.now) D.cmp contested.now reports self.old → HoldsReports S.lists (S.attests scheme.now) D.cmp contested.now (reports ++ report.now ∷ []) self.new) }
     {
         match report {
-            Activity::Notarize(vote) => self.notarizes.count(scheme, vote),
-            Activity::Nullify(vote) => self.nullifies.count(scheme, vote),
-            Activity::Finalize(vote) => self.finalizes.count(scheme, vote),
-            Activity::Notarization(made) => self.notarizes.count_listed(scheme, made),
-            Activity::Certification(made) => self.notarizes.count_listed(scheme, made),
-            Activity::Nullification(made) => self.nullifies.count_listed(scheme, made),
-            Activity::Finalization(made) => self.finalizes.count_listed(scheme, made),
-            Activity::ConflictingNotarize(both) => self.notarizes.count_both(scheme, both),
-            Activity::ConflictingFinalize(both) => self.finalizes.count_both(scheme, both),
-            Activity::NullifyFinalize(both) => self.count_beside(scheme, both),
+            Activity::Notarize(vote) => self.notarizes.count(scheme, contested, vote),
+            Activity::Nullify(vote) => self.nullifies.count(scheme, contested, vote),
+            Activity::Finalize(vote) => self.finalizes.count(scheme, contested, vote),
+            Activity::Notarization(made) => self.notarizes.count_listed(scheme, contested, made),
+            Activity::Certification(made) => self.notarizes.count_listed(scheme, contested, made),
+            Activity::Nullification(made) => self.nullifies.count_listed(scheme, contested, made),
+            Activity::Finalization(made) => self.finalizes.count_listed(scheme, contested, made),
+            Activity::ConflictingNotarize(both) => self
+                .notarizes
+                .count_both(scheme, contested, both),
+            Activity::ConflictingFinalize(both) => self
+                .finalizes
+                .count_both(scheme, contested, both),
+            Activity::NullifyFinalize(both) => self.count_beside(scheme, contested, both),
         }
     }
 
     /// Counts both votes of evidence of a nullify beside a finalize.
-    fn count_beside(&mut self, scheme: &S, both: &NullifyFinalize<S, D>) -> Result<(), AllocError>
-        ensures { OnOk result ((reports : List (Activity S D S.PublicKey S.Signature S.Certificate)) → HoldsReports S.lists (S.attests scheme.now) D.cmp reports self.old → HoldsReports S.lists (S.attests scheme.now) D.cmp (reports ++ nullify_finalize_report both.now ∷ []) self.new) }
+    fn count_beside(
+        &mut self,
+        scheme: &S,
+        contested: &BTreeSet<Suspect>,
+        both: &NullifyFinalize<S, D>,
+    ) -> Result<(), AllocError>
+        ensures { OnOk result ((reports : List (Activity S D S.PublicKey S.Signature S.Certificate)) → HoldsReports S.lists (S.attests scheme.now) D.cmp contested.now reports self.old → HoldsReports S.lists (S.attests scheme.now) D.cmp contested.now (reports ++ nullify_finalize_report both.now ∷ []) self.new) }
     {
-        self.nullifies.count(scheme, both.nullify())?;
-        self.finalizes.count(scheme, both.finalize())
+        self.nullifies.count(scheme, contested, both.nullify())?;
+        self.finalizes.count(scheme, contested, both.finalize())
     }
 }
 
