@@ -164,7 +164,7 @@ module _ {S D P G C : Type 0} where
     length = k.length;
     optimistic_views = k.optimistic_views;
     rounds = Kept-led led' k.rounds same;
-    direct = k.direct;
+    signs = k.signs;
     noted = k.noted;
     members = λ view i fits is. k.members view i fits (same view fits ∙ is);
   }
@@ -197,7 +197,7 @@ module _ {S D P G C : Type 0} where
     length = k.length;
     optimistic_views = k.optimistic_views;
     rounds = k.rounds;
-    direct = k.direct;
+    signs = k.signs;
     noted = Shows-same x.noted t.noted noted k.noted same;
     members = k.members;
   }

@@ -15,6 +15,8 @@ ghost use Rattle.simplex_types.specs.Positions.{InCoveringRange};
 ghost use Rattle.simplex_rules.specs.Windows.{Admits, Retains};
 ghost use Rattle.simplex_round.specs.Past as past;
 ghost use Rattle.simplex_round.specs.Round as one;
+ghost use Rattle.simplex_tracking.specs.Marks.{Shows};
+ghost use Rattle.simplex_tracking.specs.Pasts.{bears};
 ghost use Rattle.simplex_tracking.specs.Rounds.{AreUntracked, IsFirstTracked, IsLastTracked};
 ghost use Rattle.simplex_views.specs.History.{current, last_finalized, min_active, genesis, nullification, scheduled_leader, seen};
 ghost use Rattle.simplex_views.specs.Leaders.{leader};
@@ -25,7 +27,7 @@ use simplex_messages::{Finalization, Notarization, Nullification};
 use simplex_record::Coverage;
 use simplex_round::Round;
 use simplex_rules::{Elector, Lookahead, Mode, Viewport};
-use simplex_tracking::{Marks, Notice, Tracked};
+use simplex_tracking::{Marks, Notice, Sign, Tracked};
 use simplex_types::{
     Digest, Epoch, Participant, Proposal, Round as Position, Scheme, View, ViewDelta,
 };
@@ -230,6 +232,13 @@ impl<S: Scheme<D> + Drop, L: Elector<S, D>, D: Digest> Views<S, L, D> {
         ensures tracked { AtEach S.Scheme L.Elector self.now (λ s h. MatchOption result (AreUntracked (leader s h) (seen s h) from (2 ^ 64)) (λ first. IsFirstTracked (leader s h) (seen s h) from first)) }
     {
         self.progress.tracked.first_tracked(from)
+    }
+
+    /// The views that bear a sign, as far as they are kept.
+    pub fn bearing(&self, sign: Sign) -> &Marks
+        ensures { AtEach S.Scheme L.Elector self.now (λ s h. Shows result.now (λ view. bears sign (seen s h view))) }
+    {
+        self.progress.tracked.bearing(sign)
     }
 
     /// The notarization of the view.
