@@ -1,8 +1,10 @@
 //! Looks for what is explicit.
 
-ghost use Rattle.std.specs.Prelude.{◌≡◌, ℕ, ◌<◌, MatchOption, None, Some, option_map};
+ghost use Rattle.std.specs.Prelude.{◌≡◌, ◌<◌, ◌-◌, ℕ, false, IfSome, MatchOption, None, option_map};
 ghost use Rattle.simplex_types.specs.declared.proposal.Proposal.{Proposal};
 ghost use Rattle.simplex_round.specs.Past.{certified_proposal};
+ghost use Rattle.simplex_tracking.specs.Marks.{IsLastMarked};
+ghost use Rattle.simplex_tracking.specs.Pasts.{is_certified};
 ghost use Rattle.simplex_views.specs.History.{seen};
 ghost use Rattle.simplex_views.specs.Known.{known};
 ghost use Rattle.simplex_views.specs.Views.{AtEach};
@@ -34,20 +36,32 @@ pub(crate) fn last_explicit<S: Scheme<D> + Drop, L: Elector<S, D>, D: Digest>(
 ) -> Option<(View, D)>
     ensures { AtEach S.Scheme L.Elector views.now (λ s h. MatchOption result ((u : ℕ) → u < view → explicit (member s) (known s h) u ≡ None) (λ last. IsHighest (member s) (known s h) view last.0 last.1)) }
 {
-    let certified = views.bearing(Sign::Certified);
     let mut end = view;
-    // A certified view is explicit, and so the first found: but for one of which the record recalls a true verdict, while no
+    // A certified view is explicit, and so the first one found: but for one of which the record recalls a true verdict, while no
     // proposal of it is known.
-    'views: while let Some(below) = end.previous() {
-        let Some(last) = certified.last_within(View::new(1), below) else {
-            return start_below(views, view);
-        };
+    'views: while let Some(last) = last_certified(views, end) {
         if let Some(payload) = certified_payload(views, last) {
             return Some((last, payload));
         }
         end = last;
     }
     start_below(views, view)
+}
+
+/// The last view behind the start and before the end that is finalized, or whose verdict is true.
+fn last_certified<S: Scheme<D> + Drop, L: Elector<S, D>, D: Digest>(
+    views: &Views<S, L, D>,
+    end: View,
+) -> Option<View>
+    ensures before { IfSome result (λ last. last < end) }
+    ensures certified { AtEach S.Scheme L.Elector views.now (λ s h. MatchOption result ((u : ℕ) → 0 < u → u < end → is_certified (seen s h u) ≡ false) (λ last. IsLastMarked (λ u. is_certified (seen s h u)) 1 (end - 1) last)) }
+{
+    let Some(below) = end.previous() else {
+        return None;
+    };
+    views
+        .bearing(Sign::Certified)
+        .last_within(View::new(1), below)
 }
 
 /// The start with its payload, where it lies below this view and has one.
