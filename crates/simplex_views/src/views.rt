@@ -17,7 +17,7 @@ ghost use Rattle.simplex_round.specs.Past as past;
 ghost use Rattle.simplex_round.specs.Round as one;
 ghost use Rattle.simplex_tracking.specs.Marks.{Shows};
 ghost use Rattle.simplex_tracking.specs.Pasts.{bears};
-ghost use Rattle.simplex_tracking.specs.Rounds.{AreUntracked, IsFirstTracked, IsLastTracked};
+ghost use Rattle.simplex_tracking.specs.Rounds.{AreUntracked, IsFirstTracked};
 ghost use Rattle.simplex_views.specs.History.{current, last_finalized, min_active, genesis, nullification, scheduled_leader, seen};
 ghost use Rattle.simplex_views.specs.Leaders.{leader};
 ghost use Rattle.simplex_views.specs.Views.{Keeps, AtEach, built, AreCoveredBetween, IsFirstUncovered, IsHighestCovering, IsTracked, noticed, round_of};
@@ -216,14 +216,6 @@ impl<S: Scheme<D> + Drop, L: Elector<S, D>, D: Digest> Views<S, L, D> {
         ensures { AtEach S.Scheme L.Elector self.now (λ s h. IsTrue result ↔ IsTracked s h view) }
     {
         self.progress.tracked.round(view).is_some()
-    }
-
-    /// The last view before the end of which something is known.
-    pub fn last_tracked(&self, end: View) -> Option<View>
-        ensures before { IfSome result (λ last. last < end) }
-        ensures tracked { AtEach S.Scheme L.Elector self.now (λ s h. MatchOption result (AreUntracked (leader s h) (seen s h) 0 end) (λ last. IsLastTracked (leader s h) (seen s h) end last)) }
-    {
-        self.progress.tracked.last_tracked(end)
     }
 
     /// The first view from this one on of which something is known.

@@ -5,7 +5,7 @@ ghost use Rattle.simplex_round.specs.Held.{held, building, confirmed, verifying,
 ghost use Rattle.simplex_round.specs.Past.{offered, sent_notarization, sent_nullification, sent_finalization, has_sent_notarization, has_sent_nullification, has_sent_finalization, judged, bound, built, polled, voted_finalize, voted_notarize, voted_nullify, notarization, nullification, finalization, offers, has_finalized, has_nullified, next_timeout, verdict, MayFinalize, MayNotarize, MayPropose, MayVerify};
 ghost use Rattle.simplex_round.specs.Round as one;
 ghost use Rattle.simplex_tracking.specs.Pasts.{bind, put};
-ghost use Rattle.simplex_tracking.specs.Rounds.{AreUntracked, IsFirstTracked, IsLastTracked, Takes, recalled, setup_of, told};
+ghost use Rattle.simplex_tracking.specs.Rounds.{AreUntracked, IsFirstTracked, Takes, recalled, setup_of, told};
 ghost use Rattle.simplex_tracking.specs.Tracked.{Tables, Holds, AtEach};
 
 use crate::notice::Notice;
@@ -16,14 +16,6 @@ use simplex_types::{Digest, Proposal, Scheme, View, Viewable};
 use std::alloc::{AllocError, Global};
 
 impl<S: Scheme<D> + Drop, D: Digest> Tracked<S, D> {
-    /// The last view before the end of which something is known.
-    pub fn last_tracked(&self, end: View) -> Option<View>
-        ensures before { IfSome result (λ last. last < end) }
-        ensures tracked { AtEach S.Scheme self.now (λ f t. MatchOption result (AreUntracked t.led t.past 0 end) (λ last. IsLastTracked t.led t.past end last)) }
-    {
-        self.rounds.last_tracked(end)
-    }
-
     /// The first view from this one on of which something is known.
     pub fn first_tracked(&self, from: View) -> Option<View>
         ensures behind { IfSome result (λ first. from ≤ first) }
