@@ -32,31 +32,32 @@ judged-failed None true = refl
 judged-failed None false = refl
 judged-failed (Some was) ok = refl
 
+-- at the marked view this is so now, elsewhere it is what it was
+marked : (is_so was now : Bool) → now ≡ (is_so || was) → ((is_so && true) || was) ≡ now
+marked true was now is = sym is
+marked false was now is = sym is
+
+unmarked : (is_so was : Bool) → ((is_so && false) || was) ≡ was
+unmarked true was = refl
+unmarked false was = refl
+
 module _ {S D P G C : Type 0} where
-  -- a fact that holds behind an item where it held before, or this is so, holds of each view where the view of the item is marked
-  -- if this is so
+  -- the views that a fact holds of behind an item are those of before, and its view where this is so
   put-marked : (q : List (Item S D P G C) → Bool) (x : Item S D P G C) (view : ℕ) (t : ℕ → List (Item S D P G C)) (is_so : Bool)
       → q (x ∷ t view) ≡ (is_so || q (t view)) → (u : ℕ) → ((is_so && (view == u)) || q (t u)) ≡ q (put view x t u)
   put-marked q x view t is_so now u = ⊎_elim
-      (λ e. let here : (view == u) ≡ true = grind (arith, common_steps) in rw here (marked is_so (t u) (subst (λ n. q (x ∷ t n) ≡ (is_so || q (t n))) e now)))
+      (λ e. let here : (view == u) ≡ true = grind (arith, common_steps) in rw here (marked is_so (q (t u)) (q (x ∷ t u)) (subst (λ n. q (x ∷ t n) ≡ (is_so || q (t n))) e now)))
       (λ ne. let apart : (view == u) ≡ false = grind (arith, common_steps) in rw apart (unmarked is_so (q (t u))))
       (cases_eq view u)
-    where
-      marked : (is_so : Bool) (l : List (Item S D P G C)) → q (x ∷ l) ≡ (is_so || q l) → ((is_so && true) || q l) ≡ q (x ∷ l)
-      marked true l now = sym now
-      marked false l now = sym now
-      unmarked : (is_so was : Bool) → ((is_so && false) || was) ≡ was
-      unmarked true was = refl
-      unmarked false was = refl
 
   module _ {d c f g : Marks} {t : ℕ → List (Item S D P G C)} (shown : AreShown d c f g t) (view : ℕ) where
     -- a notarization makes its view a direct one
     pub notarized-shown : {d' : Marks} (n : Notarization S D P G C) → Shows d' (λ u. (view == u) || bears sign.Direct (t u)) → AreShown d' c f g (put view (past.notarized n) t)
     unfolding Shows
-    notarized-shown n marked =
+    notarized-shown n said =
         let x : Item S D P G C = past.notarized n in
         record {
-          direct = λ u. marked u ∙ put-marked (bears sign.Direct) x view t true (rw (or-some (notarization (t view)) n) refl) u;
+          direct = λ u. said u ∙ put-marked (bears sign.Direct) x view t true (rw (or-some (notarization (t view)) n) refl) u;
           certified = λ u. shown.certified u ∙ sym (put-fact (bears sign.Certified) x (λ l. refl) view t u);
           failed = λ u. shown.failed u ∙ sym (put-fact (bears sign.Failed) x (λ l. refl) view t u);
           given_up = λ u. shown.given_up u ∙ sym (put-fact (bears sign.GivenUp) x (λ l. refl) view t u);
@@ -93,12 +94,12 @@ module _ {S D P G C : Type 0} where
     -- an own nullify makes it one that is given up
     pub nullified-shown : {g' : Marks} (voted : Bool) → Shows g' (λ u. (voted && (view == u)) || bears sign.GivenUp (t u)) → AreShown d c f g' (if voted then put view past.voted_nullify t else t)
     unfolding Shows
-    nullified-shown true marked =
+    nullified-shown true said =
         let x : Item S D P G C = past.voted_nullify in
         record {
           direct = λ u. shown.direct u ∙ sym (put-fact (bears sign.Direct) x (λ l. refl) view t u);
           certified = λ u. shown.certified u ∙ sym (put-fact (bears sign.Certified) x (λ l. refl) view t u);
           failed = λ u. shown.failed u ∙ sym (put-fact (bears sign.Failed) x (λ l. refl) view t u);
-          given_up = λ u. marked u ∙ put-marked (bears sign.GivenUp) x view t true refl u;
+          given_up = λ u. said u ∙ put-marked (bears sign.GivenUp) x view t true refl u;
         }
-    nullified-shown false marked = record { direct = shown.direct; certified = shown.certified; failed = shown.failed; given_up = marked }
+    nullified-shown false said = record { direct = shown.direct; certified = shown.certified; failed = shown.failed; given_up = said }
