@@ -1,10 +1,12 @@
 -- What stands of all views where something happens to one that leaves no sign.
 use Rattle.std.proofs.Common.{◌≡◌, ◌∙◌, ℕ, List, ◌∷◌, Bool, true, false, refl, sym, ap, if◌then◌else◌}
-use Rattle.std.specs.Prelude.{Option, Some, None, ⊤}
+use Rattle.std.specs.Prelude.{Option, Some, None}
+use Rattle.simplex_types.specs.declared.position.Round.{Round}
 use Rattle.simplex_types.specs.declared.proposal.Proposal.{Proposal}
 use Rattle.simplex_types.specs.declared.scheme.Scheme.{Ghosts}
 use Rattle.simplex_messages.specs.declared.artifact.Artifact.{Artifact}
 use Rattle.simplex_messages.specs.declared.artifact.Artifact.TheVariants as artifact
+use Rattle.simplex_messages.specs.declared.nullify.Nullify.{Nullify}
 use Rattle.simplex_round.specs.Held as offer
 use Rattle.simplex_round.specs.Past as past
 use Rattle.simplex_round.specs.Past.{Item}
@@ -51,20 +53,16 @@ module _ {S D P G C : Type 0} where
   told-plain (notice.CertifyAsked handle) l = refl
 
   -- nor does what a record recalls, but for a verdict and a nullify
-  abbrev pub IsPlainArtifact : Artifact S D P G C → Type 0
-  IsPlainArtifact (artifact.Certification round ok) = ⊥
-  IsPlainArtifact (artifact.Nullify v) = ⊥
-  IsPlainArtifact x = ⊤
-
-  pub recalled-plain : (taken : Bool) (a : Artifact S D P G C) (t : ℕ → List (Item S D P G C)) → IsPlainArtifact a → IsPlain (recalled taken a t) t
-  recalled-plain taken (artifact.Notarize v) t plain = put-plain v.proposal.round.view past.voted_notarize (λ l. refl)
+  pub recalled-plain : (taken : Bool) (a : Artifact S D P G C) (t : ℕ → List (Item S D P G C))
+      → ((r : Round) (ok : Bool) → ¬ (a ≡ artifact.Certification r ok)) → ((v : Nullify S D P G C) → ¬ (a ≡ artifact.Nullify v)) → IsPlain (recalled taken a t) t
+  recalled-plain taken (artifact.Notarize v) t _ _ = put-plain v.proposal.round.view past.voted_notarize (λ l. refl)
       (either-plain taken (put-plain v.proposal.round.view (past.offered (offer.recorded v.proposal)) (λ l. refl) (still-plain t)) (still-plain t))
-  recalled-plain taken (artifact.Notarization c) t plain = put-plain c.proposal.round.view past.sent_notarization (λ l. refl) (still-plain t)
-  recalled-plain taken (artifact.Certification round ok) t plain = absurd plain
-  recalled-plain taken (artifact.Nullify v) t plain = absurd plain
-  recalled-plain taken (artifact.Nullification c) t plain = put-plain c.round.view past.sent_nullification (λ l. refl) (still-plain t)
-  recalled-plain taken (artifact.Finalize v) t plain = put-plain v.proposal.round.view past.voted_finalize (λ l. refl) (still-plain t)
-  recalled-plain taken (artifact.Finalization c) t plain = put-plain c.proposal.round.view past.sent_finalization (λ l. refl) (still-plain t)
+  recalled-plain taken (artifact.Notarization c) t _ _ = put-plain c.proposal.round.view past.sent_notarization (λ l. refl) (still-plain t)
+  recalled-plain taken (artifact.Certification round ok) t never _ = absurd (never round ok refl)
+  recalled-plain taken (artifact.Nullify v) t _ never = absurd (never v refl)
+  recalled-plain taken (artifact.Nullification c) t _ _ = put-plain c.round.view past.sent_nullification (λ l. refl) (still-plain t)
+  recalled-plain taken (artifact.Finalize v) t _ _ = put-plain v.proposal.round.view past.voted_finalize (λ l. refl) (still-plain t)
+  recalled-plain taken (artifact.Finalization c) t _ _ = put-plain c.proposal.round.view past.sent_finalization (λ l. refl) (still-plain t)
 
   -- nor does what a proposal is bound to
   pub bound-plain : (payload : Option D) (p : Proposal D) (t : ℕ → List (Item S D P G C)) → IsPlain (bind payload p t) t

@@ -1,4 +1,3 @@
-use Rattle.simplex_round.specs.Past.{finalized}
 use Rattle.simplex_tracking.specs.declared.sign.Sign.TheVariants as sign
 use Rattle.simplex_tracking.specs.Pasts.{bears}
 use Rattle.simplex_tracking.specs.Tracked.{Holds}

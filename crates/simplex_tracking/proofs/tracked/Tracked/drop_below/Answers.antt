@@ -1,4 +1,4 @@
-use Rattle.std.proofs.Common.{◌∙◌, ℕ, Bool, refl, if◌then◌else◌}
+use Rattle.std.proofs.Common.{◌∙◌, refl}
 use Rattle.simplex_tracking.specs.declared.sign.Sign.TheVariants as sign
 use Rattle.simplex_tracking.specs.Marks.{Shows}
 use Rattle.simplex_tracking.specs.Pasts.{bears}
