@@ -1,6 +1,6 @@
 -- What a view's round answers, as what is known of the view.
 use Rattle.std.proofs.Common.{◌≡◌, ◌∙◌, ℕ, Bool, true, false, refl, sym, ap, subst}
-use Rattle.std.specs.Prelude.{◌↔◌, ◌&&◌, not, List, Option, Some, None, IsTrue, IsSome, MatchOption, option_map, if◌then◌else◌}
+use Rattle.std.specs.Prelude.{◌↔◌, ◌&&◌, ◌||◌, not, List, Option, Some, None, IsTrue, IsSome, MatchOption, is_some, option_map, if◌then◌else◌}
 use Rattle.std.specs.Option.{option_or}
 use Rattle.std.proofs.lemmas.Bool.{and_from}
 use Rattle.simplex_types.specs.declared.proposal.Proposal.{Proposal}
@@ -10,15 +10,18 @@ use Rattle.simplex_rules.specs.declared.elector.Elector as elector
 use Rattle.simplex_round.specs.Held.{held, IsVerified}
 use Rattle.simplex_round.specs.Past as past
 use Rattle.simplex_round.specs.Past.{Item, MayFinalize, MayNotarize, MayPropose, MayVerify}
+use Rattle.simplex_tracking.specs.declared.sign.Sign.TheVariants as sign
+use Rattle.simplex_tracking.specs.Marks.{IsMarkedWithin}
+use Rattle.simplex_tracking.specs.Pasts.{bears}
 use Rattle.simplex_views.specs.declared.views.Views.{Views}
 use Rattle.simplex_views.specs.History.{Setup, Point, is_marked, seen}
 use Rattle.simplex_views.specs.Known.{Known, backs, known}
 use Rattle.simplex_views.specs.Leaders.{leader}
 use Rattle.simplex_views.specs.Views as views
 use Rattle.simplex_views.specs.Views.{Keeps}
-use Rattle.simplex_due.specs.Ancestry.{Member, member, certificate_payload, held_at}
+use Rattle.simplex_due.specs.Ancestry.{Member, member, certificate_payload, has_certificate, held_at}
 use Rattle.simplex_due.specs.Ancestry as due
-use Rattle.simplex_due.specs.Knowing.{AllowsBuild, AllowsFinalize, AllowsNotarize, AllowsVerify, IsBacked}
+use Rattle.simplex_due.specs.Knowing.{AllowsBuild, AllowsFinalize, AllowsNotarize, AllowsVerify, HasCertificateWithin, HasFailedWithin, IsBacked}
 use Rattle.simplex_facts.specs.Facts.{Shows, at}
 
 -- what holds of what each history makes known holds of what is shown
@@ -53,6 +56,33 @@ map_some f (Some a) there = refl
 -- what is there isn't nothing
 pub not_there : {A : Type 0} {o p : Option A} → o ≡ p → o ≡ None → ¬ IsSome p
 not_there {o = o} {p = p} same none there = absurd (let is : p ≡ None = sym same ∙ none in cc (rw is at there))
+
+-- a thing is there exactly where what it maps to is
+there_map : {A B : Type 0} (f : A → B) (o : Option A) → is_some (option_map f o) ≡ is_some o
+there_map f None = refl
+there_map f (Some a) = refl
+
+-- a verdict is false where it says so
+false_verdict : (o : Option Bool) → past.verdict_is_false o ≡ true → o ≡ Some false
+false_verdict None never = absurd (cc never)
+false_verdict (Some true) never = absurd (cc never)
+false_verdict (Some false) so = refl
+
+module _ {S D P G C : Type 0} (s : Setup S C) (h : List (Point S D P G C)) (first end : ℕ) (b : Bool) where
+  -- a view that bears a sign is one of which that is known
+  pub certificate_within : IsTrue b ↔ IsMarkedWithin (λ u. bears sign.Direct (seen s h u)) first end → IsTrue b ↔ HasCertificateWithin (member s) (known s h) first end
+  certificate_within some =
+      let same : (u : ℕ) → has_certificate (member s) (known s h) u ≡ bears sign.Direct (seen s h u) =
+          λ u. rw (there_map (λ (c : Notarization S D P G C). c.proposal) (past.notarization (seen s h u)), there_map (λ (c : Finalization S D P G C). c.proposal) (past.finalization (seen s h u))) refl in (
+        λ yes. let there = some.0 yes in (there.0, there.1, there.2, same there.0 ∙ there.3),
+        λ there. some.1 (there.0, there.1, there.2, sym (same there.0) ∙ there.3),
+      )
+
+  pub failed_within : IsTrue b ↔ IsMarkedWithin (λ u. bears sign.Failed (seen s h u)) first end → IsTrue b ↔ HasFailedWithin (member s) (known s h) first end
+  failed_within some = (
+    λ yes. let there = some.0 yes in (there.0, there.1, there.2, false_verdict (past.verdict (seen s h there.0)) there.3),
+    λ there. some.1 (there.0, there.1, there.2, rw there.3 refl),
+  )
 
 module _ {S D P G C : Type 0} (s : Setup S C) (h : List (Point S D P G C)) (view : ℕ) where
   abbrev x : List (Item S D P G C)

@@ -2,9 +2,10 @@
 
 ghost use Rattle.simplex_facts.specs.Facts.{Shows};
 
-use crate::looking::{Sign, bears_within, certified_payload, last_explicit};
+use crate::looking::{certified_payload, last_explicit};
 use simplex_due::knowledge::Knowledge;
 use simplex_rules::{Elector, Lookahead};
+use simplex_tracking::Sign;
 use simplex_types::{Digest, Proposal, Scheme, View};
 use simplex_views::Views;
 
@@ -46,11 +47,11 @@ impl<'a, S: Scheme<D> + Drop, L: Elector<S, D>, D: Digest> Knowledge<D> for Fact
     }
 
     fn has_certificate_within(&self, first: View, end: View) -> bool {
-        bears_within(self.0, Sign::Certificate, first, end)
+        self.0.bearing(Sign::Direct).any_within(first, end)
     }
 
     fn has_failed_within(&self, first: View, end: View) -> bool {
-        bears_within(self.0, Sign::Failure, first, end)
+        self.0.bearing(Sign::Failed).any_within(first, end)
     }
 
     fn backed_proposal(&self, view: View) -> Option<Proposal<D>> {
@@ -123,7 +124,7 @@ impl<'a, S: Scheme<D> + Drop, L: Elector<S, D>, D: Digest> Knowledge<D> for Fact
     }
 
     fn has_given_up_within(&self, first: View, end: View) -> bool {
-        bears_within(self.0, Sign::GivenUp, first, end)
+        self.0.bearing(Sign::GivenUp).any_within(first, end)
     }
 
     fn can_construct_notarize(&self, view: View) -> bool {

@@ -1,69 +1,20 @@
-//! Looks at the views of which something is known, from the last one downwards.
+//! Looks for what is explicit.
 
-ghost use Rattle.std.specs.Prelude.{◌≡◌, ◌↔◌, ℕ, ◌<◌, IsTrue, MatchOption, None, option_map};
+ghost use Rattle.std.specs.Prelude.{◌≡◌, ◌<◌, ◌-◌, ℕ, false, IfSome, MatchOption, None, option_map};
 ghost use Rattle.simplex_types.specs.declared.proposal.Proposal.{Proposal};
 ghost use Rattle.simplex_round.specs.Past.{certified_proposal};
+ghost use Rattle.simplex_tracking.specs.Marks.{IsLastMarked};
+ghost use Rattle.simplex_tracking.specs.Pasts.{is_certified};
 ghost use Rattle.simplex_views.specs.History.{seen};
 ghost use Rattle.simplex_views.specs.Known.{known};
 ghost use Rattle.simplex_views.specs.Views.{AtEach};
 ghost use Rattle.simplex_due.specs.Ancestry.{explicit, member};
 ghost use Rattle.simplex_due.specs.Knowing.{IsHighest};
-ghost use Rattle.simplex_facts.specs.Facts.{BearsWithin, bears};
 
 use simplex_rules::Elector;
+use simplex_tracking::Sign;
 use simplex_types::{Digest, Scheme, View};
 use simplex_views::Views;
-
-/// What may be looked for in a view.
-#[derive(Clone, Copy)]
-pub(crate) enum Sign {
-    /// A notarization or finalization.
-    Certificate,
-    /// A false verdict.
-    Failure,
-    /// An own nullify.
-    GivenUp,
-}
-
-/// Whether a view bears the sign.
-fn bears<S: Scheme<D> + Drop, L: Elector<S, D>, D: Digest>(
-    views: &Views<S, L, D>,
-    sign: Sign,
-    view: View,
-) -> bool
-    ensures { AtEach S.Scheme L.Elector views.now (λ s h. result ≡ bears sign (seen s h view)) }
-{
-    let Some(round) = views.round(view) else {
-        return false;
-    };
-    match sign {
-        Sign::Certificate => round.is_directly_notarized(),
-        Sign::Failure => round.has_failed(),
-        Sign::GivenUp => round.broadcast_nullify(),
-    }
-}
-
-/// Whether one of the views from the first on and before the end bears the sign.
-pub(crate) fn bears_within<S: Scheme<D> + Drop, L: Elector<S, D>, D: Digest>(
-    views: &Views<S, L, D>,
-    sign: Sign,
-    first: View,
-    end: View,
-) -> bool
-    ensures { AtEach S.Scheme L.Elector views.now (λ s h. IsTrue result ↔ BearsWithin sign (seen s h) first end) }
-{
-    let mut behind = end;
-    'views: while let Some(last) = views.last_tracked(behind) {
-        if last < first {
-            return false;
-        }
-        if bears(views, sign, last) {
-            return true;
-        }
-        behind = last;
-    }
-    false
-}
 
 /// The payload of the proposal that a view holds, where it is finalized or its verdict true.
 pub(crate) fn certified_payload<S: Scheme<D> + Drop, L: Elector<S, D>, D: Digest>(
@@ -85,17 +36,32 @@ pub(crate) fn last_explicit<S: Scheme<D> + Drop, L: Elector<S, D>, D: Digest>(
 ) -> Option<(View, D)>
     ensures { AtEach S.Scheme L.Elector views.now (λ s h. MatchOption result ((u : ℕ) → u < view → explicit (member s) (known s h) u ≡ None) (λ last. IsHighest (member s) (known s h) view last.0 last.1)) }
 {
-    let mut behind = view;
-    'views: while let Some(last) = views.last_tracked(behind) {
-        if last.is_zero() {
-            return start_below(views, view);
-        }
+    let mut end = view;
+    // A certified view is explicit, and so the first one found: but for one of which the record recalls a true verdict, while no
+    // proposal of it is known.
+    'views: while let Some(last) = last_certified(views, end) {
         if let Some(payload) = certified_payload(views, last) {
             return Some((last, payload));
         }
-        behind = last;
+        end = last;
     }
     start_below(views, view)
+}
+
+/// The last view behind the start and before the end that is finalized, or whose verdict is true.
+fn last_certified<S: Scheme<D> + Drop, L: Elector<S, D>, D: Digest>(
+    views: &Views<S, L, D>,
+    end: View,
+) -> Option<View>
+    ensures before { IfSome result (λ last. last < end) }
+    ensures certified { AtEach S.Scheme L.Elector views.now (λ s h. MatchOption result ((u : ℕ) → 0 < u → u < end → is_certified (seen s h u) ≡ false) (λ last. IsLastMarked (λ u. is_certified (seen s h u)) 1 (end - 1) last)) }
+{
+    let Some(below) = end.previous() else {
+        return None;
+    };
+    views
+        .bearing(Sign::Certified)
+        .last_within(View::new(1), below)
 }
 
 /// The start with its payload, where it lies below this view and has one.

@@ -1,6 +1,6 @@
 -- What is left where views are dropped.
-use Rattle.std.proofs.Common.{◌≡◌, ◌<◌, ◌≤◌, ◌^◌, ℕ, true, false, ⊎_elim, List, refl, arith, if◌then◌else◌}
-use Rattle.std.specs.Prelude.{Option, None, nat_lt}
+use Rattle.std.proofs.Common.{◌≡◌, ◌<◌, ◌≤◌, ◌^◌, ℕ, true, false, ⊎_elim, List, [], refl, sym, arith, if◌then◌else◌}
+use Rattle.std.specs.Prelude.{Bool, Option, None, nat_lt}
 use Rattle.std.specs.Ordering.{nat_cmp, is_gt, is_le}
 use Rattle.std.specs.Cmp.{nat_cmp_total}
 use Rattle.std.specs.BTreeMap.{BTreeMap, get}
@@ -10,7 +10,7 @@ use Rattle.std.proofs.lemmas.Bool.{cases_lt}
 use Rattle.std.proofs.lemmas.Bool.Decides.{nat_tests}
 use Rattle.simplex_round.specs.declared.round.Round.{Round}
 use Rattle.simplex_round.specs.Past.{Item}
-use Rattle.simplex_tracking.specs.Pasts.{forget, is_direct}
+use Rattle.simplex_tracking.specs.Pasts.{forget}
 use Rattle.simplex_tracking.specs.Rounds.{Common, AreKept, AreBelow}
 use Rattle.simplex_tracking.specs.Tracked.{AreMembers}
 use Rattle.std.proofs.lemmas.Bool.{cases_Bool}
@@ -59,8 +59,9 @@ module _ {S D P G C : Type 0} {key_of : S → ℕ → P} {s : Common S} {m cut :
   }
 
 module _ {S D P G C : Type 0} where
-  pub forget-direct : (floor : ℕ) (t : ℕ → List (Item S D P G C)) (u : ℕ) → (if nat_lt u floor then false else is_direct (t u)) ≡ is_direct (forget floor t u)
-  forget-direct floor t u = ⊎_elim (λ e. rw e refl) (λ e. rw e refl) (cases_Bool (nat_lt u floor))
+  -- a view of which nothing is known bears no sign
+  pub forget-fact : (q : List (Item S D P G C) → Bool) → q [] ≡ false → (floor : ℕ) (t : ℕ → List (Item S D P G C)) (u : ℕ) → (if nat_lt u floor then false else q (t u)) ≡ q (forget floor t u)
+  forget-fact q bare floor t u = ⊎_elim (λ e. rw e (sym bare)) (λ e. rw e refl) (cases_Bool (nat_lt u floor))
 
 pub forget-members : (size floor : ℕ) (led : ℕ → Option ℕ) → AreMembers size led → AreMembers size (λ view. if nat_lt view floor then None else led view)
 forget-members size floor led members view i fits is = ⊎_elim

@@ -1,21 +1,15 @@
 -- Of which views something is known, by what is kept.
-use Rattle.std.proofs.Common.{◌≡◌, ◌<◌, ◌≤◌, ◌++◌, ◌^◌, ℕ, false, List, [], ◌∷◌, Some, None, refl, sym, arith}
+use Rattle.std.proofs.Common.{◌≡◌, ◌<◌, ◌≤◌, ◌^◌, ℕ, false, List, [], ◌∷◌, Some, None, refl, arith}
 use Rattle.std.specs.Prelude.{Option, IsSome}
 use Rattle.std.specs.Ordering.{nat_cmp, is_gt}
-use Rattle.std.specs.Cmp.{nat_cmp_is}
-use Rattle.std.specs.declared.cmp.Ordering.TheVariants.{Less}
-use Rattle.std.specs.declared.ops.Bound.TheVariants.{Included, Excluded, Unbounded}
+use Rattle.std.specs.declared.ops.Bound.TheVariants.{Included, Unbounded}
 use Rattle.std.specs.BTreeMap.{BTreeMap, get}
 use Rattle.std.specs.BTreeMap.Range.{IsRangeOf}
 use Rattle.std.proofs.lemmas.Bool.Decides.{nat_tests}
-use Rattle.std.proofs.lemmas.Cmp.{ranked}
-use Rattle.std.proofs.lemmas.Map.Keys.{ge_from_not_lt, le_from_not_gt}
+use Rattle.std.proofs.lemmas.Map.Keys.{le_from_not_gt}
 use Rattle.simplex_round.specs.declared.round.Round.{Round}
 use Rattle.simplex_round.specs.Past.{Item}
-use Rattle.simplex_tracking.specs.Rounds.{Common, AreKept, AreUntracked, IsFirstTracked, IsLastTracked, IsRight, IsTracked}
-
-less : (a b : ℕ) → a < b → nat_cmp a b ≡ Less
-less a b lt = sym (nat_cmp_is a b Less lt)
+use Rattle.simplex_tracking.specs.Rounds.{Common, AreKept, AreUntracked, IsFirstTracked, IsRight, IsTracked}
 
 not_above : (a b : ℕ) → a ≤ b → is_gt (nat_cmp a b) ≡ false
 not_above a b le = grind (arith, nat_tests)
@@ -35,30 +29,11 @@ module _ {S D P G C : Type 0} (key_of : S → ℕ → P) (s : Common S) where
   there_at view found round led past right some = (rw some at right).0
 
 module _ {X : Type 0} (m : BTreeMap ℕ X) where
-  -- the last of the views before an end lies before it, and the first of those from one on doesn't
-  pub ends_before : (end : ℕ) (range : List (ℕ × X)) → IsRangeOf nat_cmp Unbounded (Excluded end) m range → (rest : List (ℕ × X)) (e : ℕ × X) → range ≡ rest ++ e ∷ [] → e.0 < end
-  ends_before end range is_range rest e is = ranked e.0 end Less (sym (is_range.3 e rest is).0.1)
-
+  -- the first of the views from one on doesn't lie before it
   pub begins_behind : (from : ℕ) (range : List (ℕ × X)) → IsRangeOf nat_cmp (Included from) Unbounded m range → (rest : List (ℕ × X)) (e : ℕ × X) → range ≡ e ∷ rest → from ≤ e.0
   begins_behind from range is_range rest e is = le_from_not_gt from e.0 (rw is at is_range.1).0.0
 
 module _ {S D P G C : Type 0} {key_of : S → ℕ → P} {s : Common S} {m : BTreeMap ℕ (Round S D P G C)} {led : ℕ → Option ℕ} {past : ℕ → List (Item S D P G C)} (k : AreKept key_of s m led past) where
-  module _ (end : ℕ) (fits : end < 2 ^ 64) (range : List (ℕ × Round S D P G C)) (is_range : IsRangeOf nat_cmp Unbounded (Excluded end) m range) where
-    pub none_before : range ≡ [] → AreUntracked led past 0 end
-    none_before none view from before = bare_at key_of s view (get nat_cmp m view) (led view) (past view) (k.at view (omega (arith, before, fits))) (is_range.5 none view (tt, less view end before))
-
-    pub last_before : (rest : List (ℕ × Round S D P G C)) (e : ℕ × Round S D P G C) → range ≡ rest ++ e ∷ [] → IsLastTracked led past end e.0
-    last_before rest e is =
-        let inside = is_range.3 e rest is in
-        let before = ends_before m end range is_range rest e is in
-        record {
-          before = before;
-          tracked = there_at key_of s e.0 (get nat_cmp m e.0) e.1 (led e.0) (past e.0) (k.at e.0 (omega (arith, before, fits))) inside.1;
-          bare = λ view behind below. bare_at key_of s view (get nat_cmp m view) (led view) (past view) (k.at view (omega (arith, below, fits)))
-              (cases_there (get nat_cmp m view ≡ None) (get nat_cmp m view) (λ none. none)
-              (λ there. let le : view ≤ e.0 = ge_from_not_lt e.0 view (is_range.4 e rest is view (tt, less view end below) there) in absurd (omega (arith, le, behind))));
-        }
-
   module _ (from : ℕ) (range : List (ℕ × Round S D P G C)) (is_range : IsRangeOf nat_cmp (Included from) Unbounded m range) where
     pub none_from : range ≡ [] → AreUntracked led past from (2 ^ 64)
     none_from none view above fits = bare_at key_of s view (get nat_cmp m view) (led view) (past view) (k.at view fits) (is_range.5 none view (not_above from view above, tt))

@@ -1,4 +1,3 @@
-pub mod Certifying
 pub mod Choices
 pub mod Dropping
 pub mod Finding
@@ -7,4 +6,5 @@ pub mod Growing
 pub mod Leading
 pub mod Marking
 pub mod Recalling
+pub mod Showing
 pub mod Tables

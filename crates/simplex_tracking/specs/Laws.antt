@@ -2,6 +2,8 @@
 use Rattle.std.proofs.Common.{◌≡◌, ◌≢◌, ◌≤◌, ◌<◌, ◌+◌, ◌-◌, ◌==◌, ◌^◌, ℕ, zero, suc, Bool, List, ◌∷◌, true, false, ⊎_elim, inl, inr, refl, sym, ◌∙◌, subst, arith, if◌then◌else◌}
 use Rattle.std.specs.Prelude.{Option, Some, None, ◌&&◌, ◌||◌, not, nat_le}
 use Rattle.std.specs.Option.{option_or}
+use Rattle.std.specs.BTreeSet.{contains}
+use Rattle.std.specs.Ordering.{nat_cmp}
 use Rattle.std.proofs.lemmas.Grind.{common_steps}
 use Rattle.std.proofs.lemmas.Bool.{cases_lt, cases_eq, or_cases, or_left, or_right, and_parts, and_from, leb-true, le-leb, eqb-true, eq-eqb}
 use Rattle.simplex_types.specs.Positions.{term_start}
@@ -22,6 +24,11 @@ use Rattle.simplex_tracking.specs.Tracked.{Frame, Tables, Inherits, IsClosedAt, 
 pub Shows-same : (m : Marks) (f f' : ℕ → Bool) → Shows m f → ((u : ℕ) → f' u ≡ f u) → Shows m f'
 unfolding Shows
 Shows-same m f f' shows same = λ u. shows u ∙ sym (same u)
+
+-- there is something that they show
+pub Shows-some : (m : Marks) → (f : ℕ → Bool) × Shows m f
+unfolding Shows
+Shows-some m = (λ u. contains nat_cmp m.views u, λ u. refl)
 
 module _ {S D P G C : Type 0} where
   -- a fact that an item doesn't change is as it was of each view
@@ -164,7 +171,7 @@ module _ {S D P G C : Type 0} where
     length = k.length;
     optimistic_views = k.optimistic_views;
     rounds = Kept-led led' k.rounds same;
-    direct = k.direct;
+    signs = k.signs;
     noted = k.noted;
     members = λ view i fits is. k.members view i fits (same view fits ∙ is);
   }
@@ -197,7 +204,7 @@ module _ {S D P G C : Type 0} where
     length = k.length;
     optimistic_views = k.optimistic_views;
     rounds = k.rounds;
-    direct = k.direct;
+    signs = k.signs;
     noted = Shows-same x.noted t.noted noted k.noted same;
     members = k.members;
   }

@@ -3,6 +3,8 @@ use Rattle.std.specs.Prelude.{◌==◌, ◌||◌, nat_lt, ℕ, Bool, List, [], �
 use Rattle.simplex_types.specs.declared.proposal.Proposal.{Proposal}
 use Rattle.simplex_round.specs.Past as past
 use Rattle.simplex_round.specs.Past.{Item}
+use Rattle.simplex_tracking.specs.declared.sign.Sign.{Sign}
+use Rattle.simplex_tracking.specs.declared.sign.Sign.TheVariants as sign
 
 module _ {X : Type 0} where
   -- one more thing happened to a view
@@ -17,6 +19,17 @@ module _ {S D P G C : Type 0} where
   -- a view has a notarization or finalization
   abbrev pub is_direct : List (Item S D P G C) → Bool
   is_direct x = is_some (past.notarization x) || is_some (past.finalization x)
+
+  -- a view is finalized, or its verdict is true
+  abbrev pub is_certified : List (Item S D P G C) → Bool
+  is_certified x = is_some (past.finalization x) || past.verdict_is_true (past.verdict x)
+
+  -- what happened to a view leaves this sign
+  abbrev pub bears : Sign → List (Item S D P G C) → Bool
+  bears sign.Direct x = is_direct x
+  bears sign.Certified x = is_certified x
+  bears sign.Failed x = past.verdict_is_false (past.verdict x)
+  bears sign.GivenUp x = past.has_nullified x
 
   -- a proposal is bound to its parent's payload, where there is one
   abbrev pub bind : Option D → Proposal D → (ℕ → List (Item S D P G C)) → ℕ → List (Item S D P G C)

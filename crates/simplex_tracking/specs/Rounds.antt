@@ -1,5 +1,5 @@
 -- What the rounds of all views keep.
-use Rattle.std.specs.Prelude.{◌≡◌, ◌≢◌, ◌⊎◌, ◌↔◌, ◌<◌, ◌≤◌, ◌+◌, ◌^◌, ◌==◌, ℕ, Bool, false, List, [], Option, Some, None, IsSome, IsTrue, MatchOption, if◌then◌else◌, ⊤}
+use Rattle.std.specs.Prelude.{◌≡◌, ◌≢◌, ◌⊎◌, ◌↔◌, ◌<◌, ◌≤◌, ◌^◌, ◌==◌, ℕ, Bool, false, List, [], Option, Some, None, IsSome, IsTrue, MatchOption, if◌then◌else◌, ⊤}
 use Rattle.std.specs.Option.{option_or}
 use Rattle.std.specs.Ordering.{nat_cmp}
 use Rattle.std.specs.BTreeMap.{BTreeMap, get}
@@ -37,12 +37,6 @@ module _ {S D P G C : Type 0} where
   -- nothing is known of the views from the first on and before the end
   abbrev pub AreUntracked : (ℕ → Option ℕ) → (ℕ → List (Item S D P G C)) → ℕ → ℕ → Type 0
   AreUntracked led past first end = (view : ℕ) → first ≤ view → view < end → (past view ≡ []) × (led view ≡ None)
-
-  -- the last view before the end that is tracked
-  pub record IsLastTracked (led : ℕ → Option ℕ) (past : ℕ → List (Item S D P G C)) (end last : ℕ) : Type 0 where
-    pub before : last < end
-    pub tracked : IsTracked (past last) (led last)
-    pub bare : AreUntracked led past (last + 1) end
 
   -- the first view from this one on that is tracked
   pub record IsFirstTracked (led : ℕ → Option ℕ) (past : ℕ → List (Item S D P G C)) (from first : ℕ) : Type 0 where

@@ -8,8 +8,10 @@ use Rattle.simplex_rules.specs.Windows.{issuance_floor}
 use Rattle.simplex_round.specs.Held as offer
 use Rattle.simplex_round.specs.Past as past
 use Rattle.simplex_round.specs.Past.{Item}
+use Rattle.simplex_tracking.specs.declared.marks.Marks.{Marks}
+use Rattle.simplex_tracking.specs.declared.sign.Sign.TheVariants as sign
 use Rattle.simplex_tracking.specs.declared.tracked.Tracked.{Tracked}
-use Rattle.simplex_tracking.specs.Pasts.{forget, is_direct, put}
+use Rattle.simplex_tracking.specs.Pasts.{bears, forget, is_direct, put}
 use Rattle.simplex_tracking.specs.Handing.{any_from, extend}
 use Rattle.simplex_tracking.specs.Marks.{Shows, IsMarkedWithin}
 use Rattle.simplex_tracking.specs.Rounds.{Common, Keep}
@@ -90,12 +92,19 @@ module _ {S D P G C : Type 0} where
     pub closed : (u : ℕ) → last ≤ u → u + 1 < 2 ^ 64 → IsClosedAt (inherits_by f t) known u
 
 module _ {S D P G C : Type 0} where
+  -- these marks show which views bear each sign
+  pub record AreShown (on_direct on_certified on_failed on_given_up : Marks) (past : ℕ → List (Item S D P G C)) : Type 0 where
+    pub direct : Shows on_direct (λ view. bears sign.Direct (past view))
+    pub certified : Shows on_certified (λ view. bears sign.Certified (past view))
+    pub failed : Shows on_failed (λ view. bears sign.Failed (past view))
+    pub given_up : Shows on_given_up (λ view. bears sign.GivenUp (past view))
+
   -- what is kept is this
   pub record IsKept (g : Ghosts S D P G C) (f : Frame S) (x : Tracked S D P G C) (t : Tables S D P G C) : Type 0 where
     pub length : x.lookahead.length ≡ f.length
     pub optimistic_views : x.lookahead.optimistic_views ≡ f.optimistic_views
     pub rounds : Keep g.key_of f.common x.rounds t.led t.past
-    pub direct : Shows x.direct (direct t)
+    pub signs : AreShown x.direct x.certified x.failed x.given_up t.past
     pub noted : Shows x.noted t.noted
     pub members : AreMembers (g.size f.common.scheme) t.led
 

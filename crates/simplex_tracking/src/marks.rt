@@ -1,7 +1,7 @@
 //! Marks on views.
 #![tactic(auto, unfolding(crate::specs::Marks::Shows))]
 
-ghost use Rattle.std.specs.Prelude.{◌≡◌, ◌↔◌, ◌≤◌, ◌==◌, ◌||◌, if◌then◌else◌, nat_lt, ℕ, Bool, false, IsTrue, OnOk, MatchOption};
+ghost use Rattle.std.specs.Prelude.{◌≡◌, ◌↔◌, ◌≤◌, ◌==◌, ◌&&◌, ◌||◌, if◌then◌else◌, nat_lt, ℕ, Bool, false, IsTrue, OnOk, MatchOption};
 ghost use Rattle.simplex_tracking.specs.Marks.{Shows, IsLastMarked, IsMarkedWithin};
 
 use simplex_types::View;
@@ -37,6 +37,16 @@ impl Marks {
         ensures { OnOk result ((f : ℕ → Bool) → Shows self.old f → Shows self.new (λ u. (view == u) || f u)) }
     {
         self.views.insert(view)?;
+        Ok(())
+    }
+
+    /// Marks the view where this is so.
+    pub fn mark_if(&mut self, view: View, is_so: bool) -> Result<(), AllocError>
+        ensures { OnOk result ((f : ℕ → Bool) → Shows self.old f → Shows self.new (λ u. (is_so && (view == u)) || f u)) }
+    {
+        if is_so {
+            self.mark(view)?;
+        }
         Ok(())
     }
 

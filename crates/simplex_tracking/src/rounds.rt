@@ -8,7 +8,7 @@ ghost use Rattle.simplex_round.specs.Held.{held, building, forwarded, confirmed,
 ghost use Rattle.simplex_round.specs.Past.{offered, sent_notarization, sent_nullification, sent_finalization, has_sent_notarization, has_sent_nullification, has_sent_finalization, entered, armed, notarized, nullified, finalized, judged, bound, built, polled, voted_finalize, voted_notarize, voted_nullify, notarization, nullification, finalization, offers, has_finalized, has_nullified, next_timeout, MayFinalize, MayNotarize, MayPropose, MayVerify};
 ghost use Rattle.simplex_round.specs.Round as one;
 ghost use Rattle.simplex_tracking.specs.Pasts.{bind, forget, put};
-ghost use Rattle.simplex_tracking.specs.Rounds.{Common, Keep, AreBelow, AreUntracked, AtEach, IsFirstTracked, IsLastTracked, IsOpen, IsTracked, Takes, learn, recalled, setup_of, told};
+ghost use Rattle.simplex_tracking.specs.Rounds.{Common, Keep, AreBelow, AreUntracked, AtEach, IsFirstTracked, IsOpen, IsTracked, Takes, learn, recalled, setup_of, told};
 
 use crate::notice::Notice;
 use simplex_messages::{Artifact, Finalization, Notarization, Nullification};
@@ -49,23 +49,6 @@ impl<S: Scheme<D> + Drop, D: Digest> Rounds<S, D> {
         // The proof takes from the number that it has 64 bits.
         let _number = view.get();
         self.by_view.get(&view)
-    }
-
-    /// The last view before the end of which something is known.
-    pub(crate) fn last_tracked(&self, end: View) -> Option<View>
-        ensures before { IfSome result (λ last. last < end) }
-        ensures tracked { AtEach S.key_of self.now (λ s led past. MatchOption result (AreUntracked led past 0 end) (λ last. IsLastTracked led past end last)) }
-    {
-        // The proof takes from the number that it has 64 bits.
-        let _number = end.get();
-        match self
-            .by_view
-            .range((Bound::Unbounded, Bound::Excluded(end)))
-            .next_back()
-        {
-            Some((last, _)) => Some(*last),
-            None => None,
-        }
     }
 
     /// The first view from this one on of which something is known.

@@ -8,13 +8,15 @@ ghost use Rattle.std.specs.Option.{option_or};
 ghost use Rattle.simplex_round.specs.Held.{held, Agrees, Differs};
 ghost use Rattle.simplex_round.specs.Past.{entered, armed, notarized, nullified, finalized, notarization, nullification, finalization, offers, has_nullified};
 ghost use Rattle.simplex_round.specs.Round as one;
-ghost use Rattle.simplex_tracking.specs.Pasts.{put};
+ghost use Rattle.simplex_tracking.specs.Marks.{Shows};
+ghost use Rattle.simplex_tracking.specs.Pasts.{bears, put};
 ghost use Rattle.simplex_tracking.specs.Handing.{extend};
 ghost use Rattle.simplex_tracking.specs.Rounds.{AreBelow, IsTracked, setup_of};
 ghost use Rattle.simplex_tracking.specs.Tracked.{Frame, Tables, Holds, AtEach, Inherits, IsBegun, IsClosedAt, forgotten, inherits_by, is_spoken, proposed};
 
 use crate::marks::Marks;
 use crate::rounds::Rounds;
+use crate::sign::Sign;
 use simplex_messages::{Finalization, Notarization, Nullification};
 use simplex_round::Round;
 use simplex_rules::Lookahead;
@@ -30,6 +32,12 @@ pub struct Tracked<S: Scheme<D>, D: Digest> {
     rounds: Rounds<S, D>,
     /// The views that have a notarization or finalization.
     direct: Marks,
+    /// The views that are finalized, or whose verdict is true.
+    certified: Marks,
+    /// The views whose verdict is false.
+    failed: Marks,
+    /// The views that this member voted to nullify.
+    given_up: Marks,
     /// The views whose leader's proposal was forwarded.
     noted: Marks,
 }
@@ -43,6 +51,9 @@ impl<S: Scheme<D> + Drop, D: Digest> Tracked<S, D> {
             lookahead,
             rounds: Rounds::new(alloc, scheme, epoch),
             direct: Marks::new(alloc),
+            certified: Marks::new(alloc),
+            failed: Marks::new(alloc),
+            given_up: Marks::new(alloc),
             noted: Marks::new(alloc),
         }
     }
@@ -189,6 +200,7 @@ impl<S: Scheme<D> + Drop, D: Digest> Tracked<S, D> {
     {
         let view = certificate.view();
         self.direct.mark(view)?;
+        self.certified.mark(view)?;
         let key = self.rounds.add_finalization(certificate)?;
         Ok(key)
     }
@@ -231,8 +243,23 @@ impl<S: Scheme<D> + Drop, D: Digest> Tracked<S, D> {
     {
         let dropped = self.rounds.drop_below(floor)?;
         self.direct.forget_below(floor);
+        self.certified.forget_below(floor);
+        self.failed.forget_below(floor);
+        self.given_up.forget_below(floor);
         self.noted.forget_below(floor);
         Ok(dropped)
+    }
+
+    /// The views that bear a sign.
+    pub fn bearing(&self, sign: Sign) -> &Marks
+        ensures { AtEach S.Scheme self.now (λ f t. Shows result.now (λ view. bears sign (t.past view))) }
+    {
+        match sign {
+            Sign::Direct => &self.direct,
+            Sign::Certified => &self.certified,
+            Sign::Failed => &self.failed,
+            Sign::GivenUp => &self.given_up,
+        }
     }
 
     /// What is known of a view, where something is.

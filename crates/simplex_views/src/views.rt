@@ -15,7 +15,9 @@ ghost use Rattle.simplex_types.specs.Positions.{InCoveringRange};
 ghost use Rattle.simplex_rules.specs.Windows.{Admits, Retains};
 ghost use Rattle.simplex_round.specs.Past as past;
 ghost use Rattle.simplex_round.specs.Round as one;
-ghost use Rattle.simplex_tracking.specs.Rounds.{AreUntracked, IsFirstTracked, IsLastTracked};
+ghost use Rattle.simplex_tracking.specs.Marks.{Shows};
+ghost use Rattle.simplex_tracking.specs.Pasts.{bears};
+ghost use Rattle.simplex_tracking.specs.Rounds.{AreUntracked, IsFirstTracked};
 ghost use Rattle.simplex_views.specs.History.{current, last_finalized, min_active, genesis, nullification, scheduled_leader, seen};
 ghost use Rattle.simplex_views.specs.Leaders.{leader};
 ghost use Rattle.simplex_views.specs.Views.{Keeps, AtEach, built, AreCoveredBetween, IsFirstUncovered, IsHighestCovering, IsTracked, noticed, round_of};
@@ -25,7 +27,7 @@ use simplex_messages::{Finalization, Notarization, Nullification};
 use simplex_record::Coverage;
 use simplex_round::Round;
 use simplex_rules::{Elector, Lookahead, Mode, Viewport};
-use simplex_tracking::{Marks, Notice, Tracked};
+use simplex_tracking::{Marks, Notice, Sign, Tracked};
 use simplex_types::{
     Digest, Epoch, Participant, Proposal, Round as Position, Scheme, View, ViewDelta,
 };
@@ -216,20 +218,19 @@ impl<S: Scheme<D> + Drop, L: Elector<S, D>, D: Digest> Views<S, L, D> {
         self.progress.tracked.round(view).is_some()
     }
 
-    /// The last view before the end of which something is known.
-    pub fn last_tracked(&self, end: View) -> Option<View>
-        ensures before { IfSome result (λ last. last < end) }
-        ensures tracked { AtEach S.Scheme L.Elector self.now (λ s h. MatchOption result (AreUntracked (leader s h) (seen s h) 0 end) (λ last. IsLastTracked (leader s h) (seen s h) end last)) }
-    {
-        self.progress.tracked.last_tracked(end)
-    }
-
     /// The first view from this one on of which something is known.
     pub fn first_tracked(&self, from: View) -> Option<View>
         ensures behind { IfSome result (λ first. from ≤ first) }
         ensures tracked { AtEach S.Scheme L.Elector self.now (λ s h. MatchOption result (AreUntracked (leader s h) (seen s h) from (2 ^ 64)) (λ first. IsFirstTracked (leader s h) (seen s h) from first)) }
     {
         self.progress.tracked.first_tracked(from)
+    }
+
+    /// The views that bear a sign, as far as they are kept.
+    pub fn bearing(&self, sign: Sign) -> &Marks
+        ensures { AtEach S.Scheme L.Elector self.now (λ s h. Shows result.now (λ view. bears sign (seen s h view))) }
+    {
+        self.progress.tracked.bearing(sign)
     }
 
     /// The notarization of the view.

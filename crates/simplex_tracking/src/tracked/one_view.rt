@@ -2,28 +2,20 @@
 
 ghost use Rattle.std.specs.Prelude.{◌≡◌, ◌↔◌, ◌<◌, ◌≤◌, ◌+◌, ◌^◌, if◌then◌else◌, Bool, false, ◌∷◌, Some, None, is_some, IsTrue, IfSome, IfOk, OnOk, MatchOption};
 ghost use Rattle.simplex_round.specs.Held.{held, building, confirmed, verifying, Agrees, IsUnverified};
-ghost use Rattle.simplex_round.specs.Past.{offered, sent_notarization, sent_nullification, sent_finalization, has_sent_notarization, has_sent_nullification, has_sent_finalization, judged, bound, built, polled, voted_finalize, voted_notarize, voted_nullify, notarization, nullification, finalization, offers, has_finalized, has_nullified, next_timeout, MayFinalize, MayNotarize, MayPropose, MayVerify};
+ghost use Rattle.simplex_round.specs.Past.{offered, sent_notarization, sent_nullification, sent_finalization, has_sent_notarization, has_sent_nullification, has_sent_finalization, judged, bound, built, polled, voted_finalize, voted_notarize, voted_nullify, notarization, nullification, finalization, offers, has_finalized, has_nullified, next_timeout, verdict, MayFinalize, MayNotarize, MayPropose, MayVerify};
 ghost use Rattle.simplex_round.specs.Round as one;
 ghost use Rattle.simplex_tracking.specs.Pasts.{bind, put};
-ghost use Rattle.simplex_tracking.specs.Rounds.{AreUntracked, IsFirstTracked, IsLastTracked, Takes, recalled, setup_of, told};
+ghost use Rattle.simplex_tracking.specs.Rounds.{AreUntracked, IsFirstTracked, Takes, recalled, setup_of, told};
 ghost use Rattle.simplex_tracking.specs.Tracked.{Tables, Holds, AtEach};
 
 use crate::notice::Notice;
 use crate::tracked::Tracked;
 use simplex_messages::{Artifact, Finalization, Notarization, Nullification};
 use simplex_round::{Leader, TimeoutReason};
-use simplex_types::{Digest, Proposal, Scheme, View};
+use simplex_types::{Digest, Proposal, Scheme, View, Viewable};
 use std::alloc::{AllocError, Global};
 
 impl<S: Scheme<D> + Drop, D: Digest> Tracked<S, D> {
-    /// The last view before the end of which something is known.
-    pub fn last_tracked(&self, end: View) -> Option<View>
-        ensures before { IfSome result (λ last. last < end) }
-        ensures tracked { AtEach S.Scheme self.now (λ f t. MatchOption result (AreUntracked t.led t.past 0 end) (λ last. IsLastTracked t.led t.past end last)) }
-    {
-        self.rounds.last_tracked(end)
-    }
-
     /// The first view from this one on of which something is known.
     pub fn first_tracked(&self, from: View) -> Option<View>
         ensures behind { IfSome result (λ first. from ≤ first) }
@@ -36,8 +28,22 @@ impl<S: Scheme<D> + Drop, D: Digest> Tracked<S, D> {
     pub fn judge(&mut self, view: View, is_success: bool) -> Result<(), AllocError>
         ensures { OnOk result (AtEach S.Scheme self.old (λ f t. Holds S.Scheme f self.new (record t { past = put view (judged is_success) t.past }))) }
     {
+        // The first verdict stays.
+        let is_first = !self.is_judged(view);
+        self.certified.mark_if(view, is_first && is_success)?;
+        self.failed.mark_if(view, is_first && !is_success)?;
         self.rounds.judge(view, is_success)?;
         Ok(())
+    }
+
+    /// Whether a verdict on the view came.
+    fn is_judged(&self, view: View) -> bool
+        ensures { AtEach S.Scheme self.now (λ f t. result ≡ is_some (verdict (t.past view))) }
+    {
+        match self.rounds.get(view) {
+            Some(round) => round.is_certified() || round.has_failed(),
+            None => false,
+        }
     }
 
     /// Takes in what needs no answer.
@@ -93,6 +99,7 @@ impl<S: Scheme<D> + Drop, D: Digest> Tracked<S, D> {
         ensures answer { IfOk result (λ voted. AtEach S.Scheme self.old (λ f t. voted ≡ (if has_finalized (t.past view) then None else Some (has_nullified (t.past view))))) }
     {
         let voted = self.rounds.construct_nullify(view)?;
+        self.given_up.mark_if(view, voted.is_some())?;
         Ok(voted)
     }
 
@@ -174,7 +181,14 @@ impl<S: Scheme<D> + Drop, D: Digest> Tracked<S, D> {
     pub fn replay(&mut self, artifact: &Artifact<S, D>) -> Result<(), AllocError>
         ensures { OnOk result (AtEach S.Scheme self.old (λ f t. (taken : Bool) × Takes t.past artifact.now taken × Holds S.Scheme f self.new (record t { past = recalled taken artifact.now t.past }))) }
     {
-        self.rounds.replay(artifact)?;
+        match artifact {
+            Artifact::Certification(round, is_success) => self.judge(round.view(), *is_success)?,
+            Artifact::Nullify(vote) => {
+                self.given_up.mark(vote.view())?;
+                self.rounds.replay(artifact)?;
+            }
+            _ => self.rounds.replay(artifact)?,
+        }
         Ok(())
     }
 

@@ -8,10 +8,10 @@ use Rattle.simplex_facts.proofs.looking.last_explicit.Given as goal
 
 abbrev pub invariant-views : goal.invariant-views
 invariant-views g l = record {
-  within : l.behind ≤ l.view;
+  within : l.end ≤ l.view;
   bare : (s : Setup g.row.S.Denot g.row.S-Certificate.Denot) (h : List (Point g.row.S.Denot g.row.D.Denot g.row.S-PublicKey.Denot g.row.S-Signature.Denot g.row.S-Certificate.Denot))
-      → Keeps g.S.Scheme g.L.Elector s l.views h → (u : ℕ) → l.behind ≤ u → u < l.view → 0 < u → explicit (member s) (known s h) u ≡ None;
+      → Keeps g.S.Scheme g.L.Elector s l.views h → (u : ℕ) → l.end ≤ u → u < l.view → 0 < u → explicit (member s) (known s h) u ≡ None;
 }
 
 abbrev pub decreases-views : goal.decreases-views
-decreases-views g l = l.behind
+decreases-views g l = l.end

@@ -29,7 +29,7 @@ returns-clause-keeps g c = λ f t k.
       length = k.length;
       optimistic_views = k.optimistic_views;
       rounds = c.in_ok-new.ensures.keeps f.common t.led t.past k.rounds member;
-      direct = k.direct;
+      signs = k.signs;
       noted = k.noted;
       members = learn-members _ t.led c.args.view c.in-Some-leader.leader k.members member;
     })

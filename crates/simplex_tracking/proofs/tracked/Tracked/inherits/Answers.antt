@@ -10,8 +10,8 @@ unfolding Holds
 returns-else-is_zero g c = λ f t k.
     let low : c.in-Some.floor ≡ issuance_floor f.optimistic_views c.args.view = rw (← k.optimistic_views) c.in-Some.ensures.floor in
     let start : c.term_start-start.result ≡ term_start f.length c.args.view = rw (← k.length) c.term_start-start.ensures in
-    let far = c.any_within-else-is_zero.ensures (direct t) k.direct in
-    let near = c.any_within.ensures (direct t) k.direct in
+    let far = c.any_within-else-is_zero.ensures (direct t) k.signs.direct in
+    let near = c.any_within.ensures (direct t) k.signs.direct in
     let spoken : is_spoken t (c.args.view - 1) ≡ true = rw c.in-Some-previous.ensures.before at ((c.is_spoken.ensures f t k).0 c.if-not-is_spoken.false) in (
       λ so. record {
         optimism = λ none. absurd (cc (c.in-Some.ensures.none.1 (inl (k.optimistic_views ∙ none))));

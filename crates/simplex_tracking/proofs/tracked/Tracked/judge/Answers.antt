@@ -1,10 +1,32 @@
-use Rattle.std.proofs.Common.{refl}
-use Rattle.simplex_round.specs.Past.{judged}
+use Rattle.std.proofs.Common.{◌≡◌}
+use Rattle.std.specs.Prelude.{is_some, not, ◌&&◌}
+use Rattle.simplex_round.specs.Past.{verdict}
+use Rattle.simplex_tracking.specs.declared.sign.Sign.TheVariants as sign
+use Rattle.simplex_tracking.specs.Pasts.{bears}
 use Rattle.simplex_tracking.specs.Tracked.{Holds}
-use Rattle.simplex_tracking.proofs.Growing.{plain-kept, put-plain, still-plain}
+use Rattle.simplex_tracking.proofs.Showing.{judged-shown}
+use Rattle.simplex_tracking.proofs.tracked.Tracked.judge.Goals.{then-is_first, else-is_first, then-is_first-2, else-is_first-2}
 use Rattle.simplex_tracking.proofs.tracked.Tracked.judge.Goals as goal
 
 pub returns : goal.returns
 unfolding Holds
-returns g c = λ f t k. plain-kept k (c.in_ok-judge.ensures f.common t.led t.past k.rounds)
-    (put-plain c.args.view (judged c.args.is_success) (λ l. refl) (still-plain t.past))
+returns g c = λ f t k.
+    let judged = c.is_judged-is_first.ensures f t k in
+    let certifies : c.if-is_first.mark_if ≡ (not (is_some (verdict (t.past c.args.view))) && c.args.is_success) = elim c.if-is_first.branch [
+      | then-is_first w ↦ rw (← judged, w.if-is_first.true) w.mark_if-is
+      | else-is_first w ↦ rw (← judged, w.if-is_first.false) (rw w.if-is_first.false at w.mark_if-is)
+    ] in
+    let fails : c.if-is_first-2.mark_if ≡ (not (is_some (verdict (t.past c.args.view))) && not c.args.is_success) = elim c.if-is_first-2.branch [
+      | then-is_first-2 w ↦ rw (← judged, w.if-is_first-2.true) w.mark_if-is
+      | else-is_first-2 w ↦ rw (← judged, w.if-is_first-2.false) (rw w.if-is_first-2.false at w.mark_if-is)
+    ] in
+    record {
+      length = k.length;
+      optimistic_views = k.optimistic_views;
+      rounds = c.in_ok-judge.ensures f.common t.led t.past k.rounds;
+      signs = judged-shown k.signs c.args.view c.args.is_success
+          (rw certifies at (c.in_ok-mark_if.ensures (λ u. bears sign.Certified (t.past u)) k.signs.certified))
+          (rw fails at (c.in_ok-mark_if-2.ensures (λ u. bears sign.Failed (t.past u)) k.signs.failed));
+      noted = k.noted;
+      members = k.members;
+    }

@@ -14,7 +14,7 @@ returns g c = λ f t k some member closed.
       length = k.length;
       optimistic_views = k.optimistic_views;
       rounds = c.in_ok-_new.ensures.keeps f.common t.led t.past k.rounds member;
-      direct = k.direct;
+      signs = k.signs;
       noted = k.noted;
       members = learn-members _ t.led c.args.first c.args.leader k.members member;
     })

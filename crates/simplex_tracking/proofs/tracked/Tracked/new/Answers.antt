@@ -8,7 +8,7 @@ returns g c = record {
   length = refl;
   optimistic_views = refl;
   rounds = c.new.ensures;
-  direct = c.new-2.ensures;
-  noted = c.new-3.ensures;
+  signs = record { direct = c.new-2.ensures; certified = c.new-3.ensures; failed = c.new-4.ensures; given_up = c.new-5.ensures };
+  noted = c.new-6.ensures;
   members = λ view i lt none. absurd (cc none);
 }
