@@ -10,8 +10,8 @@ ghost use Rattle.simplex_round.specs.Past.{entered, armed, notarized, nullified,
 ghost use Rattle.simplex_round.specs.Round as one;
 ghost use Rattle.simplex_tracking.specs.Pasts.{put};
 ghost use Rattle.simplex_tracking.specs.Handing.{extend};
-ghost use Rattle.simplex_tracking.specs.Rounds.{AreBelow, IsTracked, setup_of};
-ghost use Rattle.simplex_tracking.specs.Tracked.{Frame, Tables, Holds, AtEach, Inherits, IsBegun, IsClosedAt, forgotten, inherits_by, is_spoken, proposed};
+ghost use Rattle.simplex_tracking.specs.Rounds.{AreUntracked, IsFirstBelow, IsTracked, setup_of};
+ghost use Rattle.simplex_tracking.specs.Tracked.{Frame, Tables, Holds, AtEach, Inherits, IsBegun, IsClosedAt, count, forgotten, inherits_by, is_spoken, proposed};
 
 use crate::marks::Marks;
 use crate::rounds::Rounds;
@@ -20,7 +20,6 @@ use simplex_round::Round;
 use simplex_rules::Lookahead;
 use simplex_types::{Digest, Epoch, Participant, Proposal, Scheme, View, Viewable};
 use std::alloc::{AllocError, Global};
-use std::collections::BTreeMap;
 use std::rc::Rc;
 
 /// What is known of all views.
@@ -224,15 +223,24 @@ impl<S: Scheme<D> + Drop, D: Digest> Tracked<S, D> {
         Ok(first)
     }
 
-    /// Drops what is known of the views below the floor, and answers their rounds.
-    pub fn drop_below(&mut self, floor: View) -> Result<BTreeMap<View, Round<S, D>>, AllocError>
-        ensures keeps { OnOk result (AtEach S.Scheme self.old (λ f t. Holds S.Scheme f self.new (forgotten floor t))) }
-        ensures dropped { IfOk result (λ rounds. AtEach S.Scheme self.old (λ f t. AreBelow S.key_of f.common floor rounds t.led t.past)) }
+    /// Takes out the round of the first view of which something is known, where that lies below the floor, and drops what is known of
+    /// the views up to it. Where there is none, it drops what is known of the views below the floor.
+    pub fn pop_below(&mut self, floor: View) -> Option<(View, Round<S, D>)>
+        ensures fewer { IsSome result → count self.new < count self.old }
+        ensures keeps { AtEach S.Scheme self.old (λ f t. MatchOption result (Holds S.Scheme f self.new (forgotten floor t)) (λ x. Holds S.Scheme f self.new (forgotten (x.0 + 1) t))) }
+        ensures popped { AtEach S.Scheme self.old (λ f t. MatchOption result (AreUntracked t.led t.past 0 floor) (λ x. IsFirstBelow S.key_of f.common floor x.0 x.1 t.led t.past)) }
     {
-        let dropped = self.rounds.drop_below(floor)?;
-        self.direct.forget_below(floor);
-        self.noted.forget_below(floor);
-        Ok(dropped)
+        // The proof takes from the number that it has 64 bits.
+        let _number = floor.get();
+        let Some((view, round)) = self.rounds.pop_below(floor) else {
+            self.direct.forget_below(floor);
+            self.noted.forget_below(floor);
+            return None;
+        };
+        let end = view.next();
+        self.direct.forget_below(end);
+        self.noted.forget_below(end);
+        Some((view, round))
     }
 
     /// What is known of a view, where something is.
