@@ -32,6 +32,10 @@ module _ {X : Type 0} (m : BTreeMap (Reverse ℕ) X) where
   none_before_first first least view before = cases_there (stored m view ≡ None) (stored m view) (λ none. none)
       (λ there. let from : first ≤ view = not_below view first (least (as_key view) there) in absurd (omega (arith, from, before)))
 
+  -- the first view lies below a floor where one that has something does
+  pub first_is_below : (first view floor : ℕ) {x : X} → IsUpperBound latest_first m (as_key first) → stored m view ≡ Some x → view < floor → first < floor
+  first_is_below first view floor least there below = let from : first ≤ view = not_below view first (least (as_key view) (rw there refl)) in omega (arith, from, below)
+
 module _ {S D P G C : Type 0} {key_of : S → ℕ → P} {s : Common S} {m : BTreeMap (Reverse ℕ) (Round S D P G C)} {led : ℕ → Option ℕ} {past : ℕ → List (Item S D P G C)} (k : AreKept key_of s m led past) where
   -- the views before an end are dropped
   pub AreKept-from : (end : ℕ) (rest : BTreeMap (Reverse ℕ) (Round S D P G C)) → ((u : ℕ) → u < end → stored rest u ≡ None) → ((u : ℕ) → end ≤ u → stored rest u ≡ stored m u)
@@ -48,9 +52,9 @@ module _ {S D P G C : Type 0} {key_of : S → ℕ → P} {s : Common S} {m : BTr
   pub AreKept-bare : (end : ℕ) → end < 2 ^ 64 → ((u : ℕ) → u < end → stored m u ≡ None) → AreUntracked led past 0 end
   AreKept-bare end fits none view from before = bare_at key_of s view (stored m view) (led view) (past view) (k.at view (omega (arith, before, fits))) (none view before)
 
-  module _ (floor first : ℕ) (fits : floor < 2 ^ 64) (round : Round S D P G C) (below : first < floor) (there : stored m first ≡ Some round) (least : IsUpperBound latest_first m (as_key first)) where
-    pub AreKept-first : IsFirstBelow key_of s floor first round led past
-    AreKept-first =
+  module _ (first : ℕ) {round : Round S D P G C} (there : stored m first ≡ Some round) (least : IsUpperBound latest_first m (as_key first)) where
+    pub AreKept-first : (floor : ℕ) → floor < 2 ^ 64 → first < floor → IsFirstBelow key_of s floor first round led past
+    AreKept-first floor fits below =
         let small : first < 2 ^ 64 = omega (arith, below, fits) in
         record {
           below = below;

@@ -97,16 +97,6 @@ impl<S: Scheme<D> + Drop, D: Digest> Rounds<S, D> {
         if self.by_view.contains_key(&Reverse(view)) {
             return Ok(());
         }
-        self.begin(view)
-    }
-
-    /// Opens the round of a view, where none is open.
-    fn begin(&mut self, view: View) -> Result<(), AllocError>
-        ensures there { OnOk result (IsSome (stored self.new.by_view view)) }
-        ensures opens { OnOk result (stored self.old.by_view view ≡ None → AtEach S.key_of self.old (λ s led past. IsOpen S.key_of s self.new led past view)) }
-    {
-        // The proof takes from the number that it has 64 bits.
-        let _number = view.get();
         let round = Round::new(self.scheme.clone()?, Position::new(self.epoch, view));
         self.by_view.insert(Reverse(view), round)?;
         Ok(())
