@@ -1,5 +1,5 @@
 -- What is left where views are dropped.
-use Rattle.std.proofs.Common.{◌≡◌, ◌<◌, ◌≤◌, ◌+◌, ◌==◌, ◌^◌, ℕ, true, false, ⊎_elim, List, [], refl, sym, arith, if◌then◌else◌}
+use Rattle.std.proofs.Common.{◌≡◌, ◌<◌, ◌≤◌, ◌+◌, ◌==◌, ◌^◌, ℕ, true, false, ⊎_elim, List, [], ◌∷◌, refl, sym, arith, if◌then◌else◌}
 use Rattle.std.specs.Prelude.{Option, Some, None, IsSome, length, nat_lt}
 use Rattle.std.specs.Ordering.{nat_cmp, is_lt}
 use Rattle.std.specs.declared.cmp.Reverse.{Reverse}

@@ -1,7 +1,7 @@
 -- A change of one round among many.
-use Rattle.std.proofs.Common.{◌≡◌, ℕ, true, false, ◌==◌, ◌<◌, ◌^◌, ⊎_elim, inl, inr, List, [], ◌∷◌, refl, sym, ap, arith, if◌then◌else◌}
+use Rattle.std.proofs.Common.{◌≡◌, ℕ, true, false, ◌==◌, ◌<◌, ◌^◌, ⊎_elim, inl, inr, List, [], ◌∷◌, refl, sym, ap, arith, Bor, if◌then◌else◌}
 use Rattle.std.specs.Option.{option_or}
-use Rattle.std.specs.Prelude.{Option, Some, None, Bool, MatchOption, IsSome, is_some}
+use Rattle.std.specs.Prelude.{Option, Some, None, Bool, MatchOption, IsSome, is_some, option_copied, option_map}
 use Rattle.simplex_types.specs.declared.position.Round as position
 use Rattle.simplex_types.specs.declared.proposal.Proposal.{Proposal}
 use Rattle.std.specs.declared.cmp.Reverse.{Reverse}
@@ -171,6 +171,20 @@ module _ {S D P G C : Type 0} {key_of : S → ℕ → P} {s : Common S} {r : Rou
       → IsOpen key_of s r led past view → view ≡ at → b ≡ true → Stores r.by_view m' view (Some round)
       → one.Keeps key_of (setup_of s view) round (led view) (if b then x ∷ past view else past view) → IsKept key_of s (record r { by_view = m' }) led (put at x past)
   IsKept-first x b k same is up here = record { scheme = k.scheme; epoch = k.epoch; rounds = AreKept-put_at x same k.rounds up (rw is at here) }
+
+-- a leader that is known stays
+pub known-stays : (i : ℕ) (l : Option ℕ) → IsSome l → option_or l (Some i) ≡ l
+known-stays i None known = absurd (cc known)
+known-stays i (Some x) known = refl
+
+-- a leader is known where a round names one
+pub is-led : {A : Type 0} (f : A → ℕ) (o : Option (Bor A)) {l : Option ℕ} → option_map f (option_copied o) ≡ l → true ≡ is_some o → IsSome l
+is-led f None e some = absurd (cc some)
+is-led f (Some x) e some = rw (← e) refl
+
+pub is-unled : {A : Type 0} (f : A → ℕ) (o : Option (Bor A)) {l : Option ℕ} → option_map f (option_copied o) ≡ l → false ≡ is_some o → l ≡ None
+is-unled f None e none = sym e
+is-unled f (Some x) e none = absurd (cc none)
 
 -- what an option holds is one thing
 abbrev held_by : ℕ → Option ℕ → ℕ

@@ -436,7 +436,9 @@ impl<S: Scheme<D> + Drop, D: Digest> Rounds<S, D> {
     {
         // The proof takes from the number that it has 64 bits.
         let _number = floor.get();
-        let (first, _) = self.by_view.last_key_value()?;
+        let Some((first, _)) = self.by_view.last_key_value() else {
+            return None;
+        };
         if floor <= first.0 {
             return None;
         }

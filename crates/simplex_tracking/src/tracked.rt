@@ -3,11 +3,12 @@
 
 mod one_view;
 
-ghost use Rattle.std.specs.Prelude.{◌≡◌, ◌≢◌, ◌↔◌, ◌⊎◌, ◌<◌, ◌≤◌, ◌+◌, ◌-◌, ◌^◌, ◌==◌, if◌then◌else◌, ℕ, false, true, List, [], ◌∷◌, Option, Some, None, is_none, IsSome, IsTrue, IfOk, OnOk, MatchOption, option_map};
+ghost use Rattle.std.specs.Prelude.{◌≡◌, ◌≢◌, ◌↔◌, ◌⊎◌, ◌<◌, ◌≤◌, ◌+◌, ◌-◌, ◌^◌, ◌==◌, if◌then◌else◌, nat_lt, ℕ, Bool, false, true, List, [], ◌∷◌, Option, Some, None, is_none, IsSome, IsTrue, IfOk, OnOk, MatchOption, option_map};
 ghost use Rattle.std.specs.Option.{option_or};
 ghost use Rattle.simplex_round.specs.Held.{held, Agrees, Differs};
 ghost use Rattle.simplex_round.specs.Past.{entered, armed, notarized, nullified, finalized, notarization, nullification, finalization, offers, has_nullified};
 ghost use Rattle.simplex_round.specs.Round as one;
+ghost use Rattle.simplex_tracking.specs.Marks.{Shows};
 ghost use Rattle.simplex_tracking.specs.Pasts.{put};
 ghost use Rattle.simplex_tracking.specs.Handing.{extend};
 ghost use Rattle.simplex_tracking.specs.Rounds.{AreUntracked, IsFirstBelow, IsTracked, setup_of};
@@ -232,15 +233,23 @@ impl<S: Scheme<D> + Drop, D: Digest> Tracked<S, D> {
     {
         // The proof takes from the number that it has 64 bits.
         let _number = floor.get();
-        let Some((view, round)) = self.rounds.pop_below(floor) else {
-            self.direct.forget_below(floor);
-            self.noted.forget_below(floor);
+        let Some(entry) = self.rounds.pop_below(floor) else {
+            self.forget_marks(floor);
             return None;
         };
-        let end = view.next();
+        self.forget_marks(entry.0.next());
+        Some(entry)
+    }
+
+    /// Takes the marks off the views before the end.
+    fn forget_marks(&mut self, end: View)
+        ensures lookahead { self.new.lookahead ≡ self.old.lookahead }
+        ensures rounds { self.new.rounds ≡ self.old.rounds }
+        ensures direct { (marked : ℕ → Bool) → Shows self.old.direct marked → Shows self.new.direct (λ u. if nat_lt u end then false else marked u) }
+        ensures noted { (marked : ℕ → Bool) → Shows self.old.noted marked → Shows self.new.noted (λ u. if nat_lt u end then false else marked u) }
+    {
         self.direct.forget_below(end);
         self.noted.forget_below(end);
-        Some((view, round))
     }
 
     /// What is known of a view, where something is.

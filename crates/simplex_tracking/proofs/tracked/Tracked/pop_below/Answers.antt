@@ -1,4 +1,4 @@
-use Rattle.std.proofs.Common.{◌∙◌, refl}
+use Rattle.std.proofs.Common.{◌∙◌, ◌+◌, refl}
 use Rattle.simplex_tracking.specs.Marks.{Shows}
 use Rattle.simplex_tracking.specs.Tracked.{Holds, count, direct}
 use Rattle.simplex_tracking.proofs.Dropping.{forget-direct, forget-members}
@@ -7,10 +7,25 @@ use Rattle.simplex_tracking.proofs.tracked.Tracked.pop_below.Goals as goal
 pub returns-in_default-clause-keeps : goal.returns-in_default-clause-keeps
 unfolding Holds Shows
 returns-in_default-clause-keeps g c = λ f t k. record {
-  length = k.length;
-  optimistic_views = k.optimistic_views;
-  rounds = rw c.in_default.is at (c.pop_below.ensures.keeps f.common t.led t.past k.rounds);
-  direct = λ u. c.forget_below.ensures (direct t) k.direct u ∙ forget-direct c.args.floor t.past u;
-  noted = c.forget_below-2.ensures t.noted k.noted;
+  length = rw c.forget_marks.ensures.lookahead k.length;
+  optimistic_views = rw c.forget_marks.ensures.lookahead k.optimistic_views;
+  rounds = rw c.forget_marks.ensures.rounds (rw c.in_default.is at (c.pop_below.ensures.keeps f.common t.led t.past k.rounds));
+  direct = λ u. c.forget_marks.ensures.direct (direct t) k.direct u ∙ forget-direct c.args.floor t.past u;
+  noted = c.forget_marks.ensures.noted t.noted k.noted;
   members = forget-members _ c.args.floor t.led k.members;
 }
+
+pub returns-clause-keeps : goal.returns-clause-keeps
+unfolding Holds Shows
+returns-clause-keeps g c = λ f t k. record {
+  length = rw c.forget_marks-2.ensures.lookahead k.length;
+  optimistic_views = rw c.forget_marks-2.ensures.lookahead k.optimistic_views;
+  rounds = rw c.forget_marks-2.ensures.rounds (rw c.in-Some.is at (c.pop_below.ensures.keeps f.common t.led t.past k.rounds));
+  direct = λ u. (rw c.next.ensures at (c.forget_marks-2.ensures.direct (direct t) k.direct)) u ∙ forget-direct (c.in-Some.entry.0 + 1) t.past u;
+  noted = rw c.next.ensures at (c.forget_marks-2.ensures.noted t.noted k.noted);
+  members = forget-members _ (c.in-Some.entry.0 + 1) t.led k.members;
+}
+
+pub returns-clause-fewer : goal.returns-clause-fewer
+unfolding count
+returns-clause-fewer g c = λ some. rw c.forget_marks-2.ensures.rounds (c.pop_below.ensures.fewer (rw c.in-Some.is refl))

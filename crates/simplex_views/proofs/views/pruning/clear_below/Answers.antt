@@ -14,8 +14,7 @@ loop-entry-preserved-in_ok-keep_one g c = λ f t k.
     let before = c.loop-entry.invariant f t k in
     let part = before.2 in
     let is = rw c.in-Some.is at (c.pop_below.ensures.popped f (forgotten before.0 t) before.1) in
-    let from = next_from part is in
-    (
+    let from = next_from part is in (
       c.in-Some.entry.0 + 1,
       subst (λ x. Holds g.S.Scheme f c.pop_below.new.self x) (forgotten-twice before.0 (c.in-Some.entry.0 + 1) t (omega (arith, from)))
           (rw c.in-Some.is at (c.pop_below.ensures.keeps f (forgotten before.0 t) before.1)),
