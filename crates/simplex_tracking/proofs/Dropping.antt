@@ -1,17 +1,15 @@
 -- What is left where views are dropped.
-use Rattle.std.proofs.Common.{◌≡◌, ◌<◌, ◌≤◌, ◌+◌, ◌==◌, ◌^◌, ℕ, true, false, ⊎_elim, List, [], ◌∷◌, refl, sym, arith, if◌then◌else◌}
-use Rattle.std.specs.Prelude.{Option, Some, None, IsSome, length, nat_lt}
+use Rattle.std.proofs.Common.{◌≡◌, ◌<◌, ◌≤◌, ◌+◌, ◌^◌, ℕ, true, false, ⊎_elim, List, [], ◌∷◌, refl, sym, arith, if◌then◌else◌}
+use Rattle.std.specs.Prelude.{Option, Some, None, length, nat_lt}
 use Rattle.std.specs.Ordering.{nat_cmp, is_lt}
 use Rattle.std.specs.declared.cmp.Reverse.{Reverse}
 use Rattle.std.specs.BTreeMap.{BTreeMap, IsUpperBound, btree_map_len}
-use Rattle.std.proofs.lemmas.Grind.{common_steps}
 use Rattle.std.proofs.lemmas.Bool.{cases_Bool, cases_eq, cases_lt}
 use Rattle.std.proofs.lemmas.Bool.Decides.{nat_tests}
 use Rattle.simplex_round.specs.declared.round.Round.{Round}
 use Rattle.simplex_round.specs.Past.{Item}
-use Rattle.simplex_round.specs.Round as one
 use Rattle.simplex_tracking.specs.Pasts.{forget, is_direct}
-use Rattle.simplex_tracking.specs.Rounds.{Common, AreKept, AreUntracked, IsFirstBelow, IsRight, Stores, as_key, latest_first, setup_of, stored, unled}
+use Rattle.simplex_tracking.specs.Rounds.{Common, AreKept, AreUntracked, IsFirstBelow, Stores, as_key, latest_first, stored, unled}
 use Rattle.simplex_tracking.specs.Tracked.{AreMembers}
 use Rattle.simplex_tracking.proofs.Finding.{bare_at, cases_there}
 use Rattle.simplex_tracking.proofs.Tables.{AreKept-at, AreKept-tracked}

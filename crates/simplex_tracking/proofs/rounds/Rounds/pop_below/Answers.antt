@@ -1,4 +1,4 @@
-use Rattle.std.proofs.Common.{arith, refl, ◌<◌, ◌≤◌}
+use Rattle.std.proofs.Common.{arith, refl, ◌≤◌}
 use Rattle.std.proofs.lemmas.Bool.Decides.{nat_tests}
 use Rattle.simplex_tracking.specs.Rounds.{Keep}
 use Rattle.simplex_tracking.proofs.Dropping.{AreKept-bare, AreKept-first, AreKept-from, AreKept-popped, first_is_below, none_before_first, none_in_empty}
