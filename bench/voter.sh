@@ -5,8 +5,8 @@
 
 rustc -O --edition 2021 -o "$folder/baseline" "$here/baseline/voter.rs"
 if [ -z "${VOTER:-}" ]; then
-    lay_out voter simplex_voter simplex_facts simplex_due simplex_views simplex_tracking simplex_resolver simplex_record simplex_round \
-        simplex_messages simplex_rules simplex_types
+    lay_out voter simplex_voter simplex_requests simplex_facts simplex_due simplex_views simplex_tracking simplex_resolver simplex_record \
+        simplex_round simplex_messages simplex_rules simplex_types
     build finalized 4 1 1
 fi
 python3 -B "$here/measure_voter.py" --baseline "$folder/baseline" \

@@ -1,6 +1,6 @@
 -- What the marks on views show behind what changes them: a certificate, a verdict or an own nullify.
 use Rattle.std.proofs.Common.{◌≡◌, ◌∙◌, ℕ, true, false, ◌==◌, ⊎_elim, List, ◌∷◌, refl, sym, subst, arith, if◌then◌else◌}
-use Rattle.std.specs.Prelude.{Bool, Option, Some, None, is_some, not, ◌&&◌, ◌||◌}
+use Rattle.std.specs.Prelude.{Bool, Option, Some, None, is_some, nat_lt, not, ◌&&◌, ◌||◌}
 use Rattle.std.specs.Option.{option_or}
 use Rattle.std.proofs.lemmas.Grind.{common_steps}
 use Rattle.std.proofs.lemmas.Bool.{cases_eq, or_right}
@@ -11,8 +11,9 @@ use Rattle.simplex_tracking.specs.declared.marks.Marks.{Marks}
 use Rattle.simplex_tracking.specs.declared.sign.Sign.TheVariants as sign
 use Rattle.simplex_tracking.specs.Laws.{put-fact}
 use Rattle.simplex_tracking.specs.Marks.{Shows}
-use Rattle.simplex_tracking.specs.Pasts.{bears, put}
+use Rattle.simplex_tracking.specs.Pasts.{bears, forget, put}
 use Rattle.simplex_tracking.specs.Tracked.{AreShown}
+use Rattle.simplex_tracking.proofs.Dropping.{forget-fact}
 
 or-some : {A : Type 0} (o : Option A) (x : A) → is_some (option_or o (Some x)) ≡ true
 or-some None x = refl
@@ -40,6 +41,10 @@ marked false was now is = sym is
 unmarked : (is_so was : Bool) → ((is_so && false) || was) ≡ was
 unmarked true was = refl
 unmarked false was = refl
+
+-- marks were taken off the views before an end
+abbrev IsCut : ℕ → Marks → Marks → Type 0
+IsCut end old new = (marked : ℕ → Bool) → Shows old marked → Shows new (λ u. if nat_lt u end then false else marked u)
 
 module _ {S D P G C : Type 0} where
   -- the views that a fact holds of behind an item are those of before, and its view where this is so
@@ -103,3 +108,14 @@ module _ {S D P G C : Type 0} where
           given_up = λ u. said u ∙ put-marked (bears sign.GivenUp) x view t true refl u;
         }
     nullified-shown false said = record { direct = shown.direct; certified = shown.certified; failed = shown.failed; given_up = said }
+
+  -- where marks are taken off the views before an end, they show what is known of the views from it on
+  pub forgotten-shown : {d c f g d' c' f' g' : Marks} {t : ℕ → List (Item S D P G C)} (end : ℕ) → IsCut end d d' → IsCut end c c' → IsCut end f f' → IsCut end g g'
+      → AreShown d c f g t → AreShown d' c' f' g' (forget end t)
+  unfolding Shows
+  forgotten-shown {t = t} end on_direct on_certified on_failed on_given_up shown = record {
+    direct = λ u. on_direct _ shown.direct u ∙ forget-fact (bears sign.Direct) refl end t u;
+    certified = λ u. on_certified _ shown.certified u ∙ forget-fact (bears sign.Certified) refl end t u;
+    failed = λ u. on_failed _ shown.failed u ∙ forget-fact (bears sign.Failed) refl end t u;
+    given_up = λ u. on_given_up _ shown.given_up u ∙ forget-fact (bears sign.GivenUp) refl end t u;
+  }

@@ -1,5 +1,5 @@
 -- How leaders are handed on from view to view.
-use Rattle.std.specs.Prelude.{◌+◌, ◌||◌, ℕ, zero, suc, Bool, false, Option, Some, None, if◌then◌else◌}
+use Rattle.std.specs.Prelude.{◌+◌, ◌||◌, ℕ, zero, suc, Bool, false, Option, None, if◌then◌else◌}
 use Rattle.std.specs.Option.{option_or}
 
 -- one of so many numbers from this one on passes

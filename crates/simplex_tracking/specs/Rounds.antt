@@ -1,8 +1,10 @@
 -- What the rounds of all views keep.
-use Rattle.std.specs.Prelude.{◌≡◌, ◌≢◌, ◌⊎◌, ◌↔◌, ◌<◌, ◌≤◌, ◌^◌, ◌==◌, ℕ, Bool, false, List, [], Option, Some, None, IsSome, IsTrue, MatchOption, if◌then◌else◌, ⊤}
+use Rattle.std.specs.Prelude.{◌≡◌, ◌≢◌, ◌⊎◌, ◌↔◌, ◌<◌, ◌≤◌, ◌+◌, ◌^◌, ◌==◌, ℕ, Bool, false, List, [], Option, Some, None, IsSome, IsTrue, MatchOption, nat_lt, if◌then◌else◌, ⊤}
 use Rattle.std.specs.Option.{option_or}
 use Rattle.std.specs.Ordering.{nat_cmp}
-use Rattle.std.specs.BTreeMap.{BTreeMap, get}
+use Rattle.std.specs.declared.cmp.Ordering.{Ordering}
+use Rattle.std.specs.declared.cmp.Reverse.{Reverse}
+use Rattle.std.specs.BTreeMap.{BTreeMap, UpdatesBy, get}
 use Rattle.simplex_messages.specs.declared.artifact.Artifact.{Artifact}
 use Rattle.simplex_messages.specs.declared.artifact.Artifact.TheVariants as artifact
 use Rattle.simplex_round.specs.declared.round.Round.{Round}
@@ -29,6 +31,26 @@ setup_of s view = record { scheme = s.scheme; round = record { epoch = s.epoch; 
 abbrev pub learn : ℕ → ℕ → (ℕ → Option ℕ) → ℕ → Option ℕ
 learn at i t view = if at == view then option_or (t at) (Some i) else t view
 
+-- a view as a key, in the order in which the latest stands first
+abbrev pub as_key : ℕ → Reverse ℕ
+as_key view = record { 0 = view }
+
+abbrev pub latest_first : Reverse ℕ → Reverse ℕ → Ordering
+latest_first x y = nat_cmp y.0 x.0
+
+module _ {X : Type 0} where
+  -- what stands at a view
+  abbrev pub stored : BTreeMap (Reverse ℕ) X → ℕ → Option X
+  stored m view = get latest_first m (as_key view)
+
+  -- a view got this, or lost what it had, and all else stands as it did
+  abbrev pub Stores : BTreeMap (Reverse ℕ) X → BTreeMap (Reverse ℕ) X → ℕ → Option X → Type 0
+  Stores m m' view x = UpdatesBy latest_first (latest_first (as_key view)) m m' x
+
+-- of the views below the floor no leader is known any more
+abbrev pub unled : ℕ → (ℕ → Option ℕ) → ℕ → Option ℕ
+unled floor led view = if nat_lt view floor then None else led view
+
 module _ {S D P G C : Type 0} where
   -- something is known of a view: something happened to it, or its leader is known
   abbrev pub IsTracked : List (Item S D P G C) → Option ℕ → Type 0
@@ -49,18 +71,19 @@ module _ {S D P G C : Type 0} where
   IsRight key_of s view found led past = MatchOption found ((past ≡ []) × (led ≡ None)) (λ r. IsTracked past led × one.Keeps key_of (setup_of s view) r led past)
 
   -- so does that of each view with a number of 64 bits
-  pub record AreKept (key_of : S → ℕ → P) (s : Common S) (m : BTreeMap ℕ (Round S D P G C)) (led : ℕ → Option ℕ) (past : ℕ → List (Item S D P G C)) : Type 0 where
-    pub at : (view : ℕ) → view < 2 ^ 64 → IsRight key_of s view (get nat_cmp m view) (led view) (past view)
+  pub record AreKept (key_of : S → ℕ → P) (s : Common S) (m : BTreeMap (Reverse ℕ) (Round S D P G C)) (led : ℕ → Option ℕ) (past : ℕ → List (Item S D P G C)) : Type 0 where
+    pub at : (view : ℕ) → view < 2 ^ 64 → IsRight key_of s view (stored m view) (led view) (past view)
 
   -- the same, but one view has a round even where nothing is known of it
-  pub record AreOpen (key_of : S → ℕ → P) (s : Common S) (m : BTreeMap ℕ (Round S D P G C)) (led : ℕ → Option ℕ) (past : ℕ → List (Item S D P G C)) (view : ℕ) : Type 0 where
-    pub here : MatchOption (get nat_cmp m view) ⊥ (λ r. one.Keeps key_of (setup_of s view) r (led view) (past view))
-    pub others : (u : ℕ) → u < 2 ^ 64 → (view == u) ≡ false → IsRight key_of s u (get nat_cmp m u) (led u) (past u)
+  pub record AreOpen (key_of : S → ℕ → P) (s : Common S) (m : BTreeMap (Reverse ℕ) (Round S D P G C)) (led : ℕ → Option ℕ) (past : ℕ → List (Item S D P G C)) (view : ℕ) : Type 0 where
+    pub here : MatchOption (stored m view) ⊥ (λ r. one.Keeps key_of (setup_of s view) r (led view) (past view))
+    pub others : (u : ℕ) → u < 2 ^ 64 → (view == u) ≡ false → IsRight key_of s u (stored m u) (led u) (past u)
 
-  -- these are the rounds of the views below the floor, and no others
-  pub record AreBelow (key_of : S → ℕ → P) (s : Common S) (floor : ℕ) (m : BTreeMap ℕ (Round S D P G C)) (led : ℕ → Option ℕ) (past : ℕ → List (Item S D P G C)) : Type 0 where
-    pub below : (view : ℕ) → view < floor → IsRight key_of s view (get nat_cmp m view) (led view) (past view)
-    pub above : (view : ℕ) → floor ≤ view → get nat_cmp m view ≡ None
+  -- this is the first view of which something is known, it lies below the floor, and this is its round
+  pub record IsFirstBelow (key_of : S → ℕ → P) (s : Common S) (floor view : ℕ) (r : Round S D P G C) (led : ℕ → Option ℕ) (past : ℕ → List (Item S D P G C)) : Type 0 where
+    pub below : view < floor
+    pub first : IsFirstTracked led past 0 view
+    pub stands : one.Keeps key_of (setup_of s view) r (led view) (past view)
 
   -- of an own notarize in a record, its view takes its proposal exactly where it holds none or the same
   abbrev pub Takes : (ℕ → List (Item S D P G C)) → Artifact S D P G C → Bool → Type 0

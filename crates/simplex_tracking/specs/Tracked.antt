@@ -1,6 +1,7 @@
 -- What is kept of all views together: their rounds, who leads them, and what that rests on.
 use Rattle.std.specs.Prelude.{◌≡◌, ◌≢◌, ◌⊎◌, ◌<◌, ◌≤◌, ◌+◌, ◌-◌, ◌^◌, ◌==◌, ◌&&◌, ◌||◌, not, nat_lt, nat_le, ℕ, suc, Bool, true, false, List, Option, Some, None, if◌then◌else◌}
 use Rattle.std.specs.Option.{option_or}
+use Rattle.std.specs.BTreeMap.{btree_map_len}
 use Rattle.simplex_types.specs.Positions.{term_start}
 use Rattle.simplex_types.specs.declared.proposal.Proposal.{Proposal}
 use Rattle.simplex_types.specs.declared.scheme.Scheme.{Ghosts}
@@ -14,7 +15,7 @@ use Rattle.simplex_tracking.specs.declared.tracked.Tracked.{Tracked}
 use Rattle.simplex_tracking.specs.Pasts.{bears, forget, is_direct, put}
 use Rattle.simplex_tracking.specs.Handing.{any_from, extend}
 use Rattle.simplex_tracking.specs.Marks.{Shows, IsMarkedWithin}
-use Rattle.simplex_tracking.specs.Rounds.{Common, Keep}
+use Rattle.simplex_tracking.specs.Rounds.{Common, Keep, unled}
 
 -- what stays the same of all views
 pub record Frame (S : Type 0) : Type 0 where
@@ -71,7 +72,7 @@ module _ {S D P G C : Type 0} where
   -- where of the views below the floor nothing is known any more
   abbrev pub forgotten : ℕ → Tables S D P G C → Tables S D P G C
   forgotten floor t = record {
-    led = λ view. if nat_lt view floor then None else t.led view;
+    led = unled floor t.led;
     past = forget floor t.past;
     noted = λ view. if nat_lt view floor then false else t.noted view;
   }
@@ -108,7 +109,11 @@ module _ {S D P G C : Type 0} where
     pub noted : Shows x.noted t.noted
     pub members : AreMembers (g.size f.common.scheme) t.led
 
-  -- the same, closed for those who stand above
+  -- how many views are tracked
+  unfoldable pub count : Tracked S D P G C → ℕ
+  count x = btree_map_len x.rounds.by_view
+
+  -- what is kept, closed for those who stand above
   unfoldable pub Holds : Ghosts S D P G C → Frame S → Tracked S D P G C → Tables S D P G C → Type 0
   Holds g f x t = IsKept g f x t
 

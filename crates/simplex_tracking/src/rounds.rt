@@ -2,13 +2,12 @@
 #![tactic(auto, unfolding(crate::specs::Rounds::Keep))]
 
 ghost use Rattle.std.specs.Prelude.{◌≡◌, ◌↔◌, ◌<◌, ◌≤◌, ◌+◌, ◌^◌, ◌==◌, if◌then◌else◌, nat_lt, ℕ, Bool, false, true, List, [], ◌∷◌, Option, Some, None, is_none, is_some, IsSome, IsTrue, IfSome, IfOk, OnOk, MatchOption, option_map};
-ghost use Rattle.std.specs.Ordering.{nat_cmp};
-ghost use Rattle.std.specs.BTreeMap.{get};
+ghost use Rattle.std.specs.BTreeMap.{btree_map_len};
 ghost use Rattle.simplex_round.specs.Held.{held, building, forwarded, confirmed, verifying, Agrees, Differs, IsUnverified};
 ghost use Rattle.simplex_round.specs.Past.{offered, sent_notarization, sent_nullification, sent_finalization, has_sent_notarization, has_sent_nullification, has_sent_finalization, entered, armed, notarized, nullified, finalized, judged, bound, built, polled, voted_finalize, voted_notarize, voted_nullify, notarization, nullification, finalization, offers, has_finalized, has_nullified, next_timeout, MayFinalize, MayNotarize, MayPropose, MayVerify};
 ghost use Rattle.simplex_round.specs.Round as one;
 ghost use Rattle.simplex_tracking.specs.Pasts.{bind, forget, put};
-ghost use Rattle.simplex_tracking.specs.Rounds.{Common, Keep, AreBelow, AreUntracked, AtEach, IsFirstTracked, IsOpen, IsTracked, Takes, learn, recalled, setup_of, told};
+ghost use Rattle.simplex_tracking.specs.Rounds.{Common, Keep, AreUntracked, AtEach, IsFirstBelow, IsFirstTracked, IsOpen, IsTracked, Takes, learn, recalled, setup_of, stored, told, unled};
 
 use crate::notice::Notice;
 use simplex_messages::{Artifact, Finalization, Notarization, Nullification};
@@ -17,8 +16,8 @@ use simplex_types::{
     Digest, Epoch, Participant, Proposal, Round as Position, Scheme, View, Viewable,
 };
 use std::alloc::{AllocError, Global};
+use std::cmp::Reverse;
 use std::collections::BTreeMap;
-use std::mem;
 use std::ops::Bound;
 use std::rc::Rc;
 
@@ -27,7 +26,8 @@ use std::rc::Rc;
 pub(crate) struct Rounds<S: Scheme<D>, D: Digest> {
     scheme: Rc<S>,
     epoch: Epoch,
-    by_view: BTreeMap<View, Round<S, D>>,
+    /// The latest stands first: a search finds it at once, and it is asked for most.
+    by_view: BTreeMap<Reverse<View>, Round<S, D>>,
 }
 
 impl<S: Scheme<D> + Drop, D: Digest> Rounds<S, D> {
@@ -48,7 +48,7 @@ impl<S: Scheme<D> + Drop, D: Digest> Rounds<S, D> {
     {
         // The proof takes from the number that it has 64 bits.
         let _number = view.get();
-        self.by_view.get(&view)
+        self.by_view.get(&Reverse(view))
     }
 
     /// The first view from this one on of which something is known.
@@ -58,13 +58,13 @@ impl<S: Scheme<D> + Drop, D: Digest> Rounds<S, D> {
     {
         match self
             .by_view
-            .range((Bound::Included(from), Bound::Unbounded))
-            .next()
+            .range((Bound::Unbounded, Bound::Included(Reverse(from))))
+            .next_back()
         {
-            Some((&first, _)) => {
+            Some((first, _)) => {
                 // The proof takes from the number that it has 64 bits.
-                let _number = first.get();
-                Some(first)
+                let _number = first.0.get();
+                Some(first.0)
             }
             None => None,
         }
@@ -72,16 +72,16 @@ impl<S: Scheme<D> + Drop, D: Digest> Rounds<S, D> {
 
     /// Opens the round of a view, where it is not open. Nothing has happened by that.
     fn open(&mut self, view: View) -> Result<(), AllocError>
-        ensures there { OnOk result (IsSome (get nat_cmp self.new.by_view view)) }
+        ensures there { OnOk result (IsSome (stored self.new.by_view view)) }
         ensures opens { OnOk result (AtEach S.key_of self.old (λ s led past. IsOpen S.key_of s self.new led past view)) }
     {
         // The proof takes from the number that it has 64 bits.
         let _number = view.get();
-        if self.by_view.contains_key(&view) {
+        if self.by_view.contains_key(&Reverse(view)) {
             return Ok(());
         }
         let round = Round::new(self.scheme.clone()?, Position::new(self.epoch, view));
-        self.by_view.insert(view, round)?;
+        self.by_view.insert(Reverse(view), round)?;
         Ok(())
     }
 
@@ -97,7 +97,7 @@ impl<S: Scheme<D> + Drop, D: Digest> Rounds<S, D> {
         ensures { OnOk result (AtEach S.key_of self.old (λ s led past. Keep S.key_of s self.new led (put view (armed leader certification stall) (put view (entered now) past)))) }
     {
         self.open(view)?;
-        if let Some(round) = self.by_view.get_mut(&view) {
+        if let Some(round) = self.by_view.get_mut(&Reverse(view)) {
             round.mark_entered(now);
             round.set_deadlines(leader, certification, stall);
         }
@@ -110,7 +110,7 @@ impl<S: Scheme<D> + Drop, D: Digest> Rounds<S, D> {
         ensures answer { IfOk result (λ new. AtEach S.key_of self.old (λ s led past. new ≡ is_none (led view))) }
     {
         self.open(view)?;
-        match self.by_view.get_mut(&view) {
+        match self.by_view.get_mut(&Reverse(view)) {
             Some(round) => {
                 if round.leader().is_some() {
                     return Ok(false);
@@ -133,7 +133,7 @@ impl<S: Scheme<D> + Drop, D: Digest> Rounds<S, D> {
     {
         let view = certificate.view();
         self.open(view)?;
-        match self.by_view.get_mut(&view) {
+        match self.by_view.get_mut(&Reverse(view)) {
             Some(round) => {
                 let (_first, key) = round.add_notarization(certificate);
                 Ok(key)
@@ -151,7 +151,7 @@ impl<S: Scheme<D> + Drop, D: Digest> Rounds<S, D> {
     {
         let view = certificate.view();
         self.open(view)?;
-        if let Some(round) = self.by_view.get_mut(&view) {
+        if let Some(round) = self.by_view.get_mut(&Reverse(view)) {
             let _first = round.add_nullification(certificate);
         }
         Ok(())
@@ -168,7 +168,7 @@ impl<S: Scheme<D> + Drop, D: Digest> Rounds<S, D> {
     {
         let view = certificate.view();
         self.open(view)?;
-        match self.by_view.get_mut(&view) {
+        match self.by_view.get_mut(&Reverse(view)) {
             Some(round) => {
                 let (_first, key) = round.add_finalization(certificate);
                 Ok(key)
@@ -182,7 +182,7 @@ impl<S: Scheme<D> + Drop, D: Digest> Rounds<S, D> {
         ensures { OnOk result (AtEach S.key_of self.old (λ s led past. Keep S.key_of s self.new led (put view (judged is_success) past))) }
     {
         self.open(view)?;
-        if let Some(round) = self.by_view.get_mut(&view) {
+        if let Some(round) = self.by_view.get_mut(&Reverse(view)) {
             round.certified(is_success);
         }
         Ok(())
@@ -193,7 +193,7 @@ impl<S: Scheme<D> + Drop, D: Digest> Rounds<S, D> {
         ensures { OnOk result (AtEach S.key_of self.old (λ s led past. Keep S.key_of s self.new led (put view (told notice) past))) }
     {
         self.open(view)?;
-        if let Some(round) = self.by_view.get_mut(&view) {
+        if let Some(round) = self.by_view.get_mut(&Reverse(view)) {
             tell(round, notice);
         }
         Ok(())
@@ -205,7 +205,7 @@ impl<S: Scheme<D> + Drop, D: Digest> Rounds<S, D> {
         ensures answer { IfOk result (λ became. AtEach S.key_of self.old (λ s led past. IsTrue became ↔ ((has_nullified (past view) ≡ false) × IsUnverified (offers (past view))))) }
     {
         self.open(view)?;
-        match self.by_view.get_mut(&view) {
+        match self.by_view.get_mut(&Reverse(view)) {
             Some(round) => Ok(round.verified()),
             None => Ok(false),
         }
@@ -223,7 +223,7 @@ impl<S: Scheme<D> + Drop, D: Digest> Rounds<S, D> {
     {
         let view = proposal.view();
         self.open(view)?;
-        match self.by_view.get_mut(&view) {
+        match self.by_view.get_mut(&Reverse(view)) {
             Some(round) => Ok(record_build(round, now, proposal, payload)),
             None => Ok(false),
         }
@@ -236,7 +236,7 @@ impl<S: Scheme<D> + Drop, D: Digest> Rounds<S, D> {
     {
         // The proof takes from the number that it has 64 bits.
         let _number = view.get();
-        match self.by_view.get_mut(&view) {
+        match self.by_view.get_mut(&Reverse(view)) {
             Some(round) => round.construct_notarize(),
             None => None,
         }
@@ -249,7 +249,7 @@ impl<S: Scheme<D> + Drop, D: Digest> Rounds<S, D> {
     {
         // The proof takes from the number that it has 64 bits.
         let _number = view.get();
-        match self.by_view.get_mut(&view) {
+        match self.by_view.get_mut(&Reverse(view)) {
             Some(round) => round.construct_finalize(),
             None => None,
         }
@@ -261,7 +261,7 @@ impl<S: Scheme<D> + Drop, D: Digest> Rounds<S, D> {
         ensures answer { IfOk result (λ voted. AtEach S.key_of self.old (λ s led past. voted ≡ (if has_finalized (past view) then None else Some (has_nullified (past view))))) }
     {
         self.open(view)?;
-        match self.by_view.get_mut(&view) {
+        match self.by_view.get_mut(&Reverse(view)) {
             Some(round) => Ok(round.construct_nullify()),
             None => Ok(None),
         }
@@ -280,7 +280,7 @@ impl<S: Scheme<D> + Drop, D: Digest> Rounds<S, D> {
         ensures answer { IfOk result (λ timeout. AtEach S.key_of self.old (λ s led past. timeout ≡ next_timeout (polled (now + retry_interval) ∷ past view) allow_latched_timeout)) }
     {
         self.open(view)?;
-        match self.by_view.get_mut(&view) {
+        match self.by_view.get_mut(&Reverse(view)) {
             Some(round) => Ok(round.next_timeout(now, retry_interval, allow_latched_timeout)),
             None => Ok(None),
         }
@@ -292,7 +292,7 @@ impl<S: Scheme<D> + Drop, D: Digest> Rounds<S, D> {
         ensures answer { IfOk result (λ first. AtEach S.key_of self.old (λ s led past. IsTrue first ↔ ((has_nullified (past view) ≡ false) × (held (offers (past view)) ≡ None)))) }
     {
         self.open(view)?;
-        match self.by_view.get_mut(&view) {
+        match self.by_view.get_mut(&Reverse(view)) {
             Some(round) => {
                 let first = round.set_proposal(proposal);
                 Ok(first)
@@ -308,7 +308,7 @@ impl<S: Scheme<D> + Drop, D: Digest> Rounds<S, D> {
     {
         // The proof takes from the number that it has 64 bits.
         let _number = view.get();
-        match self.by_view.get_mut(&view) {
+        match self.by_view.get_mut(&Reverse(view)) {
             Some(round) => round.try_propose(),
             None => None,
         }
@@ -322,7 +322,7 @@ impl<S: Scheme<D> + Drop, D: Digest> Rounds<S, D> {
     {
         // The proof takes from the number that it has 64 bits.
         let _number = view.get();
-        match self.by_view.get_mut(&view) {
+        match self.by_view.get_mut(&Reverse(view)) {
             Some(round) => request_verify(round, proposal, payload),
             None => false,
         }
@@ -339,7 +339,7 @@ impl<S: Scheme<D> + Drop, D: Digest> Rounds<S, D> {
     {
         // The proof takes from the number that it has 64 bits.
         let _number = view.get();
-        match self.by_view.get_mut(&view) {
+        match self.by_view.get_mut(&Reverse(view)) {
             Some(round) => Ok(round.broadcast_notarization(alloc)?),
             None => Ok(None),
         }
@@ -356,7 +356,7 @@ impl<S: Scheme<D> + Drop, D: Digest> Rounds<S, D> {
     {
         // The proof takes from the number that it has 64 bits.
         let _number = view.get();
-        match self.by_view.get_mut(&view) {
+        match self.by_view.get_mut(&Reverse(view)) {
             Some(round) => Ok(round.broadcast_nullification(alloc)?),
             None => Ok(None),
         }
@@ -373,7 +373,7 @@ impl<S: Scheme<D> + Drop, D: Digest> Rounds<S, D> {
     {
         // The proof takes from the number that it has 64 bits.
         let _number = view.get();
-        match self.by_view.get_mut(&view) {
+        match self.by_view.get_mut(&Reverse(view)) {
             Some(round) => Ok(round.broadcast_finalization(alloc)?),
             None => Ok(None),
         }
@@ -385,7 +385,7 @@ impl<S: Scheme<D> + Drop, D: Digest> Rounds<S, D> {
     {
         let view = artifact.view();
         self.open(view)?;
-        if let Some(round) = self.by_view.get_mut(&view) {
+        if let Some(round) = self.by_view.get_mut(&Reverse(view)) {
             round.replay(artifact);
         }
         Ok(())
@@ -404,24 +404,29 @@ impl<S: Scheme<D> + Drop, D: Digest> Rounds<S, D> {
         };
         let view = proposal.view();
         self.open(view)?;
-        if let Some(round) = self.by_view.get_mut(&view) {
+        if let Some(round) = self.by_view.get_mut(&Reverse(view)) {
             round.set_verifying(proposal, payload);
         }
         Ok(())
     }
 
-    /// Takes out the rounds of the views below the floor.
-    pub(crate) fn drop_below(
-        &mut self,
-        floor: View,
-    ) -> Result<BTreeMap<View, Round<S, D>>, AllocError>
-        ensures keeps { OnOk result (AtEach S.key_of self.old (λ s led past. Keep S.key_of s self.new (λ view. if nat_lt view floor then None else led view) (forget floor past))) }
-        ensures dropped { IfOk result (λ rounds. AtEach S.key_of self.old (λ s led past. AreBelow S.key_of s floor rounds led past)) }
+    /// Takes out the round of the first view of which something is known, where that lies below the floor.
+    pub(crate) fn pop_below(&mut self, floor: View) -> Option<(View, Round<S, D>)>
+        ensures below { IfSome result (λ x. x.0 < floor) }
+        ensures fewer { IsSome result → btree_map_len self.new.by_view < btree_map_len self.old.by_view }
+        ensures keeps { AtEach S.key_of self.old (λ s led past. MatchOption result (Keep S.key_of s self.new (unled floor led) (forget floor past)) (λ x. Keep S.key_of s self.new (unled (x.0 + 1) led) (forget (x.0 + 1) past))) }
+        ensures popped { AtEach S.key_of self.old (λ s led past. MatchOption result (AreUntracked led past 0 floor) (λ x. IsFirstBelow S.key_of s floor x.0 x.1 led past)) }
     {
         // The proof takes from the number that it has 64 bits.
         let _number = floor.get();
-        let kept = self.by_view.split_off(&floor)?;
-        Ok(mem::replace(&mut self.by_view, kept))
+        let Some((first, _)) = self.by_view.last_key_value() else {
+            return None;
+        };
+        if floor <= first.0 {
+            return None;
+        }
+        let (view, round) = self.by_view.pop_last()?;
+        Some((view.0, round))
     }
 }
 

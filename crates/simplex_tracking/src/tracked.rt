@@ -3,7 +3,7 @@
 
 mod one_view;
 
-ghost use Rattle.std.specs.Prelude.{◌≡◌, ◌≢◌, ◌↔◌, ◌⊎◌, ◌<◌, ◌≤◌, ◌+◌, ◌-◌, ◌^◌, ◌==◌, if◌then◌else◌, ℕ, false, true, List, [], ◌∷◌, Option, Some, None, is_none, IsSome, IsTrue, IfOk, OnOk, MatchOption, option_map};
+ghost use Rattle.std.specs.Prelude.{◌≡◌, ◌≢◌, ◌↔◌, ◌⊎◌, ◌<◌, ◌≤◌, ◌+◌, ◌-◌, ◌^◌, ◌==◌, if◌then◌else◌, nat_lt, ℕ, Bool, false, true, List, [], ◌∷◌, Option, Some, None, is_none, IsSome, IsTrue, IfOk, OnOk, MatchOption, option_map};
 ghost use Rattle.std.specs.Option.{option_or};
 ghost use Rattle.simplex_round.specs.Held.{held, Agrees, Differs};
 ghost use Rattle.simplex_round.specs.Past.{entered, armed, notarized, nullified, finalized, notarization, nullification, finalization, offers, has_nullified};
@@ -11,8 +11,8 @@ ghost use Rattle.simplex_round.specs.Round as one;
 ghost use Rattle.simplex_tracking.specs.Marks.{Shows};
 ghost use Rattle.simplex_tracking.specs.Pasts.{bears, put};
 ghost use Rattle.simplex_tracking.specs.Handing.{extend};
-ghost use Rattle.simplex_tracking.specs.Rounds.{AreBelow, IsTracked, setup_of};
-ghost use Rattle.simplex_tracking.specs.Tracked.{Frame, Tables, Holds, AtEach, Inherits, IsBegun, IsClosedAt, forgotten, inherits_by, is_spoken, proposed};
+ghost use Rattle.simplex_tracking.specs.Rounds.{AreUntracked, IsFirstBelow, IsTracked, setup_of};
+ghost use Rattle.simplex_tracking.specs.Tracked.{Frame, Tables, Holds, AtEach, Inherits, IsBegun, IsClosedAt, count, forgotten, inherits_by, is_spoken, proposed};
 
 use crate::marks::Marks;
 use crate::rounds::Rounds;
@@ -22,7 +22,6 @@ use simplex_round::Round;
 use simplex_rules::Lookahead;
 use simplex_types::{Digest, Epoch, Participant, Proposal, Scheme, View, Viewable};
 use std::alloc::{AllocError, Global};
-use std::collections::BTreeMap;
 use std::rc::Rc;
 
 /// What is known of all views.
@@ -236,18 +235,38 @@ impl<S: Scheme<D> + Drop, D: Digest> Tracked<S, D> {
         Ok(first)
     }
 
-    /// Drops what is known of the views below the floor, and answers their rounds.
-    pub fn drop_below(&mut self, floor: View) -> Result<BTreeMap<View, Round<S, D>>, AllocError>
-        ensures keeps { OnOk result (AtEach S.Scheme self.old (λ f t. Holds S.Scheme f self.new (forgotten floor t))) }
-        ensures dropped { IfOk result (λ rounds. AtEach S.Scheme self.old (λ f t. AreBelow S.key_of f.common floor rounds t.led t.past)) }
+    /// Takes out the round of the first view of which something is known, where that lies below the floor, and drops what is known of
+    /// the views up to it. Where there is none, it drops what is known of the views below the floor.
+    pub fn pop_below(&mut self, floor: View) -> Option<(View, Round<S, D>)>
+        ensures fewer { IsSome result → count self.new < count self.old }
+        ensures keeps { AtEach S.Scheme self.old (λ f t. MatchOption result (Holds S.Scheme f self.new (forgotten floor t)) (λ x. Holds S.Scheme f self.new (forgotten (x.0 + 1) t))) }
+        ensures popped { AtEach S.Scheme self.old (λ f t. MatchOption result (AreUntracked t.led t.past 0 floor) (λ x. IsFirstBelow S.key_of f.common floor x.0 x.1 t.led t.past)) }
     {
-        let dropped = self.rounds.drop_below(floor)?;
-        self.direct.forget_below(floor);
-        self.certified.forget_below(floor);
-        self.failed.forget_below(floor);
-        self.given_up.forget_below(floor);
-        self.noted.forget_below(floor);
-        Ok(dropped)
+        // The proof takes from the number that it has 64 bits.
+        let _number = floor.get();
+        let Some(entry) = self.rounds.pop_below(floor) else {
+            self.forget_marks(floor);
+            return None;
+        };
+        self.forget_marks(entry.0.next());
+        Some(entry)
+    }
+
+    /// Takes the marks off the views before the end.
+    fn forget_marks(&mut self, end: View)
+        ensures lookahead { self.new.lookahead ≡ self.old.lookahead }
+        ensures rounds { self.new.rounds ≡ self.old.rounds }
+        ensures direct { (marked : ℕ → Bool) → Shows self.old.direct marked → Shows self.new.direct (λ u. if nat_lt u end then false else marked u) }
+        ensures certified { (marked : ℕ → Bool) → Shows self.old.certified marked → Shows self.new.certified (λ u. if nat_lt u end then false else marked u) }
+        ensures failed { (marked : ℕ → Bool) → Shows self.old.failed marked → Shows self.new.failed (λ u. if nat_lt u end then false else marked u) }
+        ensures given_up { (marked : ℕ → Bool) → Shows self.old.given_up marked → Shows self.new.given_up (λ u. if nat_lt u end then false else marked u) }
+        ensures noted { (marked : ℕ → Bool) → Shows self.old.noted marked → Shows self.new.noted (λ u. if nat_lt u end then false else marked u) }
+    {
+        self.direct.forget_below(end);
+        self.certified.forget_below(end);
+        self.failed.forget_below(end);
+        self.given_up.forget_below(end);
+        self.noted.forget_below(end);
     }
 
     /// The views that bear a sign.

@@ -1,26 +1,25 @@
 -- What is kept of what is dropped.
-use Rattle.std.proofs.Common.{◌≡◌, ◌↔◌, ◌<◌, ◌≤◌, ◌==◌, ℕ, true, false, ⊎_elim, List, [], ◌∷◌, refl, sym, ap, subst, ◌∙◌, arith, if◌then◌else◌}
-use Rattle.std.specs.Prelude.{Option, Some, None, Bool, AllPairs, Contains, IsSome, MatchOption, is_some, length, nat_le, nat_lt, ◌&&◌, ⊤}
+use Rattle.std.proofs.Common.{◌≡◌, ◌↔◌, ◌<◌, ◌≤◌, ◌+◌, ◌++◌, ◌==◌, ℕ, true, false, ⊎_elim, List, [], ◌∷◌, refl, sym, ap, subst, ◌∙◌, arith, if◌then◌else◌}
+use Rattle.std.specs.Prelude.{Option, Some, None, Bool, AllPairs, Contains, IsSome, is_some, nat_le, nat_lt, slice_index_or, ◌&&◌}
 use Rattle.std.specs.Option.{option_or}
 use Rattle.std.specs.Ordering.{nat_cmp, is_eq}
 use Rattle.std.specs.declared.cmp.Ordering.TheVariants.{Less}
 use Rattle.std.specs.Cmp.{nat_cmp_is}
-use Rattle.std.specs.BTreeMap.{BTreeMap, IsOrdered, Updates, get, keys}
+use Rattle.std.specs.BTreeMap.{BTreeMap, get}
 use Rattle.std.proofs.lemmas.Grind.{common_steps}
 use Rattle.std.proofs.lemmas.Bool.{cases_eq, cases_lt}
 use Rattle.std.proofs.lemmas.Bool.Decides.{nat_tests}
-use Rattle.std.proofs.lemmas.Cmp.{nat_cmp_total}
-use Rattle.std.proofs.lemmas.List.Kept.{AllPairs-from_increasing}
-use Rattle.std.proofs.lemmas.Map.Keys.{IsStrictlyIncreasing-from_sorted}
-use Rattle.std.proofs.lemmas.Map.Lookups.{exact_unsigned}
-use Rattle.std.proofs.lemmas.Map.Views.{btree_map_contains_key_iff}
+use Rattle.std.proofs.lemmas.List.Elements.{Contains-append_left, Contains-get_or, Contains-push, Contains-push_cases}
+use Rattle.std.proofs.lemmas.List.Quantifiers.{all_pairs_push}
+use Rattle.simplex_types.specs.Counting.{Contains-nil}
 use Rattle.simplex_types.specs.Positions.{term_end}
 use Rattle.simplex_messages.specs.declared.nullification.Nullification.{Nullification}
 use Rattle.simplex_round.specs.declared.round.Round.{Round}
 use Rattle.simplex_round.specs.Past as past
 use Rattle.simplex_round.specs.Past.{Item}
 use Rattle.simplex_round.specs.Round as one
-use Rattle.simplex_tracking.specs.Rounds.{AreBelow, Common, IsRight, IsTracked, setup_of}
+use Rattle.simplex_tracking.specs.Rounds.{AreUntracked, Common, IsFirstBelow, IsTracked, setup_of}
+use Rattle.simplex_tracking.specs.Tracked.{Tables, forgotten}
 use Rattle.simplex_views.specs.Views.{kept_from}
 use Rattle.simplex_tracking.specs.Laws.{or_none}
 
@@ -35,100 +34,145 @@ module _ {S D P G C : Type 0} where
   abbrev pub from_first : ℕ → List (Item S D P G C) → ℕ → Option (Nullification S D P G C)
   from_first first x view = if nat_lt view first then None else past.nullification x
 
-  -- behind some of the dropped rounds, while the rest is still to be looked at: those of the rest stand, and once their
-  -- nullifications are kept too, those of all are
-  pub record IsPartOf (key_of : S → ℕ → P) (s : Common S) (first : ℕ) (led : ℕ → Option ℕ) (t : ℕ → List (Item S D P G C)) (old now : BTreeMap ℕ (Nullification S D P G C)) (all rest : BTreeMap ℕ (Round S D P G C)) : Type 0 where
-    pub stands : (u : ℕ) → MatchOption (get nat_cmp rest u) ⊤ (λ r. one.Keeps key_of (setup_of s u) r (led u) (t u))
-    pub kept : (u : ℕ) → (if is_some (get nat_cmp rest u) then option_or (get nat_cmp now u) (from_first first (t u) u) else get nat_cmp now u)
-        ≡ (if is_some (get nat_cmp all u) then option_or (get nat_cmp old u) (from_first first (t u) u) else get nat_cmp old u)
+  -- the views before an end were dropped, and their nullifications from the first on are kept
+  pub record IsPart (t : Tables S D P G C) (first floor : ℕ) (old now : BTreeMap ℕ (Nullification S D P G C)) (views : List ℕ) (end : ℕ) : Type 0 where
+    pub up : end ≤ floor
+    pub exact : (view : ℕ) → Contains views view ↔ ((view < end) × IsTracked (t.past view) (t.led view))
+    pub ascend : AllPairs (λ (u w : ℕ). u < w) views
+    pub kept : (u : ℕ) → get nat_cmp now u ≡ kept_from first end (get nat_cmp old u) (t.past u) u
 
 module _ {S D P G C : Type 0} where
   nothing : (b : Bool) (x : List (Item S D P G C)) → x ≡ [] → (if b then None else past.nullification x) ≡ None
   nothing true x e = refl
   nothing false x e = rw e refl
 
-module _ {S D P G C : Type 0} (key_of : S → ℕ → P) (s : Common S) (led : ℕ → Option ℕ) (t : ℕ → List (Item S D P G C)) where
-  stands_of : (view : ℕ) (o : Option (Round S D P G C)) → IsRight key_of s view o (led view) (t view) → MatchOption o ⊤ (λ r. one.Keeps key_of (setup_of s view) r (led view) (t view))
-  stands_of view None right = tt
-  stands_of view (Some r) right = right.1
+  -- what is dropped up to one end and then up to a later one is dropped up to that
+  dropped_twice : {X : Type 0} (one end u : ℕ) (none x : X) → one ≤ end → (if nat_lt u end then none else (if nat_lt u one then none else x)) ≡ (if nat_lt u end then none else x)
+  dropped_twice one end u none x up = ⊎_elim
+      (λ lt. let below : nat_lt u end ≡ true = grind (arith, nat_tests, lt) in rw below refl)
+      (λ ge. let above : nat_lt u one ≡ false = grind (arith, nat_tests, ge, up) in rw above refl)
+      (cases_lt u end)
 
-  stands_gone : (view : ℕ) (o : Option (Round S D P G C)) → o ≡ None → MatchOption o ⊤ (λ r. one.Keeps key_of (setup_of s view) r (led view) (t view))
-  stands_gone view o gone = rw gone tt
+  pub forgotten-twice : (one end : ℕ) (t : Tables S D P G C) → one ≤ end → forgotten end (forgotten one t) ≡ forgotten end t
+  forgotten-twice one end t up = λ i. record {
+    led = λ u. dropped_twice one end u None (t.led u) up i;
+    past = λ u. dropped_twice one end u [] (t.past u) up i;
+    noted = λ u. dropped_twice one end u false (t.noted u) up i;
+  }
 
-  kept_of : (first view : ℕ) (old : Option (Nullification S D P G C)) (o : Option (Round S D P G C)) → IsRight key_of s view o (led view) (t view)
-      → (if is_some o then option_or old (from_first first (t view) view) else old) ≡ option_or old (from_first first (t view) view)
-  kept_of first view old None right = sym (ap (option_or old) (nothing (nat_lt view first) (t view) right.0) ∙ or_none old)
-  kept_of first view old (Some r) right = refl
+  pub forgotten-none : (t : Tables S D P G C) → forgotten 0 t ≡ t
+  forgotten-none t = refl
 
-  there-tracked : (view : ℕ) (o : Option (Round S D P G C)) → IsRight key_of s view o (led view) (t view) → IsSome o ↔ IsTracked (t view) (led view)
-  there-tracked view None right = (λ some. absurd (cc some), λ tracked. absurd (⊎_elim (λ seen. seen right.0) (λ known. cc (rw right.1 at known)) tracked))
-  there-tracked view (Some r) right = (λ some. right.0, λ tracked. refl)
+  untracked : (past : List (Item S D P G C)) (led : Option ℕ) → past ≡ [] → led ≡ None → IsTracked past led → ⊥
+  untracked past led none nobody tracked = ⊎_elim (λ seen. seen none) (λ known. cc (rw nobody at known)) tracked
 
-  pub stands-at : (view : ℕ) {round : Round S D P G C} (o : Option (Round S D P G C)) → o ≡ Some round → MatchOption o ⊤ (λ r. one.Keeps key_of (setup_of s view) r (led view) (t view)) → one.Keeps key_of (setup_of s view) round (led view) (t view)
-  stands-at view o there stands = rw there at stands
+  -- what is kept of a view is the same whether more of which nothing is known is dropped
+  kept_on : (first end last view : ℕ) (kept : Option (Nullification S D P G C)) (x : List (Item S D P G C)) → end ≤ last → (end ≤ view → view < last → x ≡ [])
+      → kept_from first end kept x view ≡ kept_from first last kept x view
+  kept_on first end last view kept x up bare = ⊎_elim
+      (λ lt.
+      let one : nat_lt view end ≡ true = grind (arith, nat_tests, lt) in
+      let two : nat_lt view last ≡ true = grind (arith, nat_tests, lt, up) in
+      rw (one, two) refl)
+      (λ from.
+      let one : nat_lt view end ≡ false = grind (arith, nat_tests, from) in
+      ⊎_elim
+      (λ lt. let two : nat_lt view last ≡ true = grind (arith, nat_tests, lt) in rw (one, two) (sym (ap (option_or kept) (nothing (nat_lt view first) x (bare from lt)) ∙ or_none kept)))
+      (λ ge. let two : nat_lt view last ≡ false = grind (arith, nat_tests, ge) in rw (one, two) refl)
+      (cases_lt view last))
+      (cases_lt view end)
 
-module _ {S D P G C : Type 0} {key_of : S → ℕ → P} {s : Common S} {led : ℕ → Option ℕ} {t : ℕ → List (Item S D P G C)} where
-  -- at first all is the rest
-  pub IsPartOf-begun : (first floor : ℕ) (old : BTreeMap ℕ (Nullification S D P G C)) (all : BTreeMap ℕ (Round S D P G C)) → AreBelow key_of s floor all led t → IsPartOf key_of s first led t old old all all
-  IsPartOf-begun first floor old all b = record {
-    stands = λ u. ⊎_elim (λ lt. stands_of key_of s led t u (get nat_cmp all u) (b.below u lt)) (λ ge. stands_gone key_of s led t u (get nat_cmp all u) (b.above u ge)) (cases_lt u floor);
+module _ {S D P G C : Type 0} {key_of : S → ℕ → P} {s : Common S} {t : Tables S D P G C} {first floor : ℕ} {old now : BTreeMap ℕ (Nullification S D P G C)} {views : List ℕ} where
+  -- at first nothing was dropped
+  pub IsPart-begun : IsPart t first floor old old [] 0
+  IsPart-begun = record {
+    up = omega arith;
+    exact = λ view. (λ there. absurd (Contains-nil view there), λ both. let never = both.0 in absurd (omega (arith, never)));
+    ascend = λ i j d before inside. absurd (omega (arith, inside));
     kept = λ u. refl;
   }
 
-  -- one more round was looked at
-  pub IsPartOf-next : (first : ℕ) (old now next : BTreeMap ℕ (Nullification S D P G C)) (all rest less : BTreeMap ℕ (Round S D P G C)) (view : ℕ) (round : Round S D P G C)
-      → get nat_cmp rest view ≡ Some round → Updates nat_cmp rest less view None
-      → ((u : ℕ) → get nat_cmp next u ≡ (if view == u then option_or (get nat_cmp now u) (from_first first (t view) u) else get nat_cmp now u))
-      → IsPartOf key_of s first led t old now all rest → IsPartOf key_of s first led t old next all less
-  IsPartOf-next first old now next all rest less view round there up keeps part = record {
-    stands = λ u. ⊎_elim
-        (λ same. stands_gone key_of s led t u (get nat_cmp less u) (subst (λ n. get nat_cmp less n ≡ None) same up.1))
-        (λ other.
-        let apart : (view == u) ≡ false = grind (arith, common_steps) in
-        let still : get nat_cmp less u ≡ get nat_cmp rest u = up.2 u (grind (arith, common_steps)) in
-        rw still (part.stands u))
-        (cases_eq view u);
-    kept = λ u. ⊎_elim
-        (λ same.
-        let here : (view == u) ≡ true = grind (arith, common_steps) in
-        let gone : get nat_cmp less u ≡ None = subst (λ n. get nat_cmp less n ≡ None) same up.1 in
-        let found : get nat_cmp rest u ≡ Some round = subst (λ n. get nat_cmp rest n ≡ Some round) same there in
-        let new : get nat_cmp next u ≡ option_or (get nat_cmp now u) (from_first first (t u) u) = subst (λ n. get nat_cmp next u ≡ option_or (get nat_cmp now u) (from_first first (t n) u)) same (rw here at (keeps u)) in
-        let before = rw found at (part.kept u) in
-        rw gone (new ∙ before))
-        (λ other.
-        let apart : (view == u) ≡ false = grind (arith, common_steps) in
-        let new : get nat_cmp next u ≡ get nat_cmp now u = rw apart at (keeps u) in
-        let still : get nat_cmp less u ≡ get nat_cmp rest u = up.2 u (grind (arith, common_steps)) in
-        rw (still, new) (part.kept u))
-        (cases_eq view u);
-  }
+  module _ {end : ℕ} (part : IsPart t first floor old now views end) where
+    -- what is known of a view that was not dropped yet
+    still : (view : ℕ) → end ≤ view → nat_lt view end ≡ false
+    still view from = grind (arith, nat_tests, from)
 
-  -- at last nothing is
-  pub IsPartOf-ended : (first floor : ℕ) (old now : BTreeMap ℕ (Nullification S D P G C)) (all rest : BTreeMap ℕ (Round S D P G C)) → AreBelow key_of s floor all led t → ((u : ℕ) → get nat_cmp rest u ≡ None)
-      → IsPartOf key_of s first led t old now all rest → (u : ℕ) → get nat_cmp now u ≡ kept_from first floor (get nat_cmp old u) (t u) u
-  IsPartOf-ended first floor old now all rest b none part u =
-      let kept = rw (none u) at (part.kept u) in
-      ⊎_elim
-      (λ lt. let below : nat_lt u floor ≡ true = grind (arith, nat_tests, lt) in rw below (kept ∙ kept_of key_of s led t first u (get nat_cmp old u) (get nat_cmp all u) (b.below u lt)))
-      (λ ge. let above : nat_lt u floor ≡ false = grind (arith, nat_tests, ge) in rw above (rw (b.above u ge) at kept))
-      (cases_lt u floor)
+    not_dropped : (view : ℕ) → IsTracked ((forgotten end t).past view) ((forgotten end t).led view) → end ≤ view
+    not_dropped view tracked = ⊎_elim
+        (λ lt. let gone : nat_lt view end ≡ true = grind (arith, nat_tests, lt) in absurd (untracked [] None refl refl (rw gone at tracked)))
+        (λ ge. ge)
+        (cases_lt view end)
 
-  -- the dropped rounds are those of the views below the floor of which something was known
-  pub dropped-exact : (floor : ℕ) (all : BTreeMap ℕ (Round S D P G C)) → AreBelow key_of s floor all led t → (view : ℕ) → Contains (keys all) view ↔ ((view < floor) × IsTracked (t view) (led view))
-  dropped-exact floor all b view =
-      let listed = btree_map_contains_key_iff nat_cmp_total exact_unsigned all view in (
-        λ there.
-            let some = listed.1 there in
-            ⊎_elim
-            (λ lt. (lt, (there-tracked key_of s led t view (get nat_cmp all view) (b.below view lt)).0 some))
-            (λ ge. absurd (let gone = b.above view ge in cc (some, gone)))
-            (cases_lt view floor),
-        λ both. listed.0 ((there-tracked key_of s led t view (get nat_cmp all view) (b.below view both.0)).1 both.1),
-      )
+    bare_from : {last : ℕ} → AreUntracked (forgotten end t).led (forgotten end t).past 0 last → (view : ℕ) → end ≤ view → view < last → (t.past view ≡ []) × (t.led view ≡ None)
+    bare_from bare view from below = rw (still view from) at (bare view (omega arith) below)
 
-pub keys-ascend : {X : Type 0} (m : BTreeMap ℕ X) → IsOrdered nat_cmp m → AllPairs (λ (u w : ℕ). u < w) (keys m)
-keys-ascend m ordered = AllPairs-from_increasing (keys m) (IsStrictlyIncreasing-from_sorted (keys m) ordered)
+    -- the views up to a later end are those up to this one, where those between are untracked
+    exact_on : {last : ℕ} → AreUntracked (forgotten end t).led (forgotten end t).past 0 last → (view : ℕ) → view < last → IsTracked (t.past view) (t.led view) → view < end
+    exact_on bare view below tracked = ⊎_elim
+        (λ lt. lt)
+        (λ from. let none = bare_from bare view from below in absurd (untracked (t.past view) (t.led view) none.0 none.1 tracked))
+        (cases_lt view end)
+
+    -- at last what is left is not tracked
+    pub IsPart-ended : AreUntracked (forgotten end t).led (forgotten end t).past 0 floor → IsPart t first floor old now views floor
+    IsPart-ended bare = record {
+      up = omega arith;
+      exact = λ view. (
+        λ there. let both = (part.exact view).0 there in (let lt = both.0 in let up = part.up in omega (arith, lt, up), both.1),
+        λ both. (part.exact view).1 (exact_on bare view both.0 both.1, both.1),
+      );
+      ascend = part.ascend;
+      kept = λ u. part.kept u ∙ kept_on first end floor u (get nat_cmp old u) (t.past u) part.up (λ from lt. (bare_from bare u from lt).0);
+    }
+
+    module _ {view : ℕ} {round : Round S D P G C} (is : IsFirstBelow key_of s floor view round (forgotten end t).led (forgotten end t).past) where
+      pub next_from : end ≤ view
+      next_from = not_dropped view is.first.tracked
+
+      next_tracked : IsTracked (t.past view) (t.led view)
+      next_tracked = rw (still view next_from) at is.first.tracked
+
+      -- its round stands where it did at first
+      pub IsPart-stands : one.Keeps key_of (setup_of s view) round (t.led view) (t.past view)
+      IsPart-stands = rw (still view next_from) at is.stands
+
+      -- the next view is dropped
+      pub IsPart-next : {next : BTreeMap ℕ (Nullification S D P G C)}
+          → ((u : ℕ) → get nat_cmp next u ≡ (if view == u then option_or (get nat_cmp now u) (if nat_lt u first then None else past.nullification (t.past view)) else get nat_cmp now u))
+          → IsPart t first floor old next (views ++ view ∷ []) (view + 1)
+      IsPart-next {next} keeps =
+          let from = next_from in
+          let below = is.below in
+          record {
+            up = omega (arith, below);
+            exact = λ u. (
+              λ there. ⊎_elim
+                  (λ among. let both = (part.exact u).0 among in (let lt = both.0 in omega (arith, lt, from), both.1))
+                  (λ same. (omega (arith, same), subst (λ w. IsTracked (t.past w) (t.led w)) same next_tracked))
+                  (Contains-push_cases views view u there),
+              λ both. ⊎_elim
+                  (λ same. subst (λ w. Contains (views ++ view ∷ []) w) same (Contains-push views view))
+                  (λ other.
+                  let lt = both.0 in
+                  let before : u < view = omega (arith, lt, other) in
+                  Contains-append_left views (view ∷ []) u ((part.exact u).1 (exact_on is.first.bare u before both.1, both.1)))
+                  (cases_eq view u),
+            );
+            ascend = all_pairs_push (λ (u w : ℕ). u < w) views view part.ascend (λ k d inside. let lt = ((part.exact (slice_index_or views k d)).0 (Contains-get_or views k d inside)).0 in omega (arith, lt, from));
+            kept = λ u. ⊎_elim
+                (λ same.
+                let here : (view == u) ≡ true = grind (arith, common_steps) in
+                let old_still : nat_lt u end ≡ false = grind (arith, nat_tests, from, same) in
+                let new_below : nat_lt u (view + 1) ≡ true = grind (arith, nat_tests, same) in
+                let now_is : get nat_cmp now u ≡ get nat_cmp old u = rw old_still at (part.kept u) in
+                let new : get nat_cmp next u ≡ option_or (get nat_cmp now u) (from_first first (t.past u) u) = subst (λ n. get nat_cmp next u ≡ option_or (get nat_cmp now u) (from_first first (t.past n) u)) same (rw here at (keeps u)) in
+                rw new_below (new ∙ ap (λ k. option_or k (from_first first (t.past u) u)) now_is))
+                (λ other.
+                let apart : (view == u) ≡ false = grind (arith, common_steps) in
+                let new : get nat_cmp next u ≡ get nat_cmp now u = rw apart at (keeps u) in
+                new ∙ part.kept u ∙ kept_on first end (view + 1) u (get nat_cmp old u) (t.past u) (omega (arith, from)) (λ behind lt. (bare_from is.first.bare u behind (omega (arith, lt, other))).0))
+                (cases_eq view u);
+          }
 
 module _ {S D P G C : Type 0} where
   -- the nullification of each view behind a prune
@@ -181,8 +225,3 @@ pruned-is_some views last floor first view was up reaches = ⊎_elim
     (λ ge. let above : nat_lt view floor ≡ false = grind (arith, nat_tests, ge) in rw (above, from) refl)
     (cases_lt view floor))
     (cases_lt view first)
-
--- nothing is left of what has no length
-pub none-left : {A : Type 0} (xs : List A) → ¬ (0 < length xs) → xs ≡ []
-none-left [] never = refl
-none-left (x ∷ xs) never = absurd (never (omega arith))

@@ -23,7 +23,9 @@ use Rattle.simplex_views.specs.Known.{backs, waits}
 use Rattle.simplex_views.specs.Leaders.{leader}
 use Rattle.simplex_tracking.specs.Marks.{Shows}
 use Rattle.simplex_views.specs.Progress.{IsAt, frame_of, tables}
+use Rattle.simplex_tracking.specs.Rounds as tracking
 use Rattle.simplex_tracking.specs.Rounds.{setup_of}
+use Rattle.simplex_tracking.specs.Tracked.{Tables}
 
 -- what stays the same of a view's round
 abbrev pub round_of : {S C : Type 0} → Setup S C → ℕ → one.Setup S
@@ -59,6 +61,11 @@ module _ {S D P G C : Type 0} where
   -- the views that are dropped by a prune: those that are tracked and need not be kept
   pub record AreDropped (s : Setup S C) (h : List (Point S D P G C)) (views : List ℕ) : Type 0 where
     pub exact : (view : ℕ) → Contains views view ↔ ((view < min_active s h) × IsTracked s h view)
+    pub ascend : AllPairs (λ (u w : ℕ). u < w) views
+
+  -- these are the views below the floor that are tracked
+  pub record AreTrackedBelow (t : Tables S D P G C) (floor : ℕ) (views : List ℕ) : Type 0 where
+    pub exact : (view : ℕ) → Contains views view ↔ ((view < floor) × tracking.IsTracked (t.past view) (t.led view))
     pub ascend : AllPairs (λ (u w : ℕ). u < w) views
 
   -- the point that an artifact of the member's record is; of a notarize, with whether its proposal is taken

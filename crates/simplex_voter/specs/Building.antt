@@ -1,11 +1,9 @@
 -- What an application builds.
-use Rattle.std.specs.Prelude.{◌≡◌, ℕ, Some, ⊤}
+use Rattle.std.specs.Prelude.{◌≡◌, ℕ, Some}
 use Rattle.simplex_types.specs.declared.context.Context.{Context}
 use Rattle.simplex_types.specs.declared.proposal.Proposal.{Proposal}
 use Rattle.simplex_types.specs.declared.scheme.Scheme.{Ghosts}
 use Rattle.simplex_views.specs.History.{Setup}
-use Rattle.simplex_voter.specs.declared.proposal_request.ProposalRequest.{ProposalRequest}
-use Rattle.simplex_voter.specs.declared.proposal_request.ProposalRequest.TheVariants as request
 
 -- the proposal of this payload in a context
 abbrev pub proposal_on : {D P : Type 0} → Context D P → D → Proposal D
@@ -17,13 +15,3 @@ pub record IsContextOf {S D P G C : Type 0} (g : Ghosts S D P G C) (s : Setup S 
   pub index : ℕ
   pub me : s.me ≡ Some index
   pub key : context.leader ≡ g.key_of s.scheme index
-
--- what a request asks to build on
-abbrev pub context_of : {D P : Type 0} → ProposalRequest D P → Context D P
-context_of (request.Prepare context) = context
-context_of (request.Propose context) = context
-
--- a request is one for a handoff
-abbrev pub IsPrepared : {D P : Type 0} → ProposalRequest D P → Type 0
-IsPrepared (request.Prepare context) = ⊤
-IsPrepared (request.Propose context) = ⊥

@@ -7,17 +7,12 @@ use Rattle.simplex_rules.specs.declared.kind.Kind.TheVariants as kind
 use Rattle.simplex_messages.specs.ProposalCertificate.{Finalization}
 use Rattle.simplex_round.specs.Past as past
 use Rattle.simplex_views.specs.History.{Setup, Point, finalized, seen, sent, started}
-use Rattle.simplex_voter.specs.declared.floor.Floor.{Floor}
-use Rattle.simplex_voter.specs.declared.floor.Floor.TheVariants as floor
+use Rattle.simplex_requests.specs.declared.floor.Floor.{Floor}
+use Rattle.simplex_requests.specs.declared.floor.Floor.TheVariants as floor
 use Rattle.simplex_voter.specs.declared.state.State.{State}
 use Rattle.simplex_voter.specs.State.{Keeps}
 
 module _ {S D P G C : Type 0} where
-  -- the view that a member starts from: 0, or the one that is finalized
-  abbrev pub floor_view : Floor S D P G C → ℕ
-  floor_view (floor.Genesis payload) = 0
-  floor_view (floor.Finalized c) = c.proposal.round.view
-
   -- a finalization is taken: it has room, and is the first of its view
   abbrev pub IsTaken : Setup S C → List (Point S D P G C) → Finalization S D P G C → Type 0
   IsTaken s h c = HasRoom s.length c.proposal.round.view × (past.finalization (seen s h c.proposal.round.view) ≡ None)

@@ -1,22 +1,22 @@
 //! What a voter drops.
 
-ghost use Rattle.std.specs.Prelude.{◌≡◌, ◌↔◌, ◌<◌, ◌≤◌, ◌==◌, if◌then◌else◌, nat_lt, ℕ, ◌∷◌, ◌++◌, [], List, None, Option, IfOk, OnOk};
+ghost use Rattle.std.specs.Prelude.{◌≡◌, ◌↔◌, ◌<◌, ◌≤◌, ◌==◌, if◌then◌else◌, nat_lt, ℕ, ◌∷◌, None, IfOk, OnOk};
 ghost use Rattle.std.specs.Option.{option_or};
 ghost use Rattle.std.specs.Ordering.{nat_cmp};
-ghost use Rattle.std.specs.BTreeMap.{get, keys, IsOrdered};
+ghost use Rattle.std.specs.BTreeMap.{get};
 ghost use Rattle.simplex_round.specs.Past as past;
-ghost use Rattle.simplex_round.specs.Past.{Item};
 ghost use Rattle.simplex_round.specs.Round as one;
 ghost use Rattle.simplex_types.specs.Positions.{term_end};
 ghost use Rattle.simplex_views.specs.History.{last_finalized, pruned};
-ghost use Rattle.simplex_tracking.specs.Rounds.{AreBelow, Common};
-ghost use Rattle.simplex_views.specs.Views.{kept_from};
-ghost use Rattle.simplex_views.specs.Views.{Keeps, AreDropped, AtEach};
+ghost use Rattle.simplex_tracking.specs.Tracked as many;
+ghost use Rattle.simplex_tracking.specs.Tracked.{Holds, forgotten};
+ghost use Rattle.simplex_views.specs.Views.{Keeps, AreDropped, AreTrackedBelow, AtEach, kept_from};
 
 use crate::views::Views;
 use simplex_messages::Nullification;
 use simplex_round::Round;
 use simplex_rules::Elector;
+use simplex_tracking::Tracked;
 use simplex_types::{Digest, Duplicate, Scheme, View};
 use std::alloc::{AllocError, Global};
 use std::collections::BTreeMap;
@@ -36,12 +36,17 @@ impl<S: Scheme<D> + Drop, L: Elector<S, D>, D: Digest> Views<S, L, D> {
     {
         let floor = self.min_active();
         let first = self.first_reaching(floor);
-        let rounds = self.progress.tracked.drop_below(floor)?;
         self.backed.forget_below(floor);
         self.waiting.forget_below(floor);
         self.nullified.forget_below(first);
         drop_before(&mut self.reaching, first);
-        let views = keep_from(&mut self.reaching, alloc, rounds, first)?;
+        let views = clear_below(
+            &mut self.progress.tracked,
+            &mut self.reaching,
+            alloc,
+            floor,
+            first,
+        )?;
         Ok(views)
     }
 
@@ -73,20 +78,21 @@ fn drop_before<S: Scheme<D>, D: Digest>(
     }
 }
 
-/// Keeps of dropped rounds the nullifications of the views from the first on, and answers the views of these rounds, ascending.
-fn keep_from<S: Scheme<D> + Drop, D: Digest>(
+/// Drops what is known of the views below the floor, keeps the nullifications of those from the first on, and answers the views of which
+/// something was known, ascending.
+fn clear_below<S: Scheme<D> + Drop, D: Digest>(
+    tracked: &mut Tracked<S, D>,
     reaching: &mut BTreeMap<View, Nullification<S, D>>,
     alloc: Global,
-    rounds: BTreeMap<View, Round<S, D>>,
+    floor: View,
     first: View,
 ) -> Result<Vec<View>, AllocError>
-    ensures views { IfOk result (λ views. views.items ≡ keys rounds) }
-    ensures ordered { IsOrdered nat_cmp rounds }
-    ensures keeps { OnOk result ((s : Common S) (floor : ℕ) (led : ℕ → Option ℕ) (t : ℕ → List (Item S D S.PublicKey S.Signature S.Certificate)) → AreBelow S.key_of s floor rounds led t → (u : ℕ) → get nat_cmp reaching.new u ≡ kept_from first floor (get nat_cmp reaching.old u) (t u) u) }
+    ensures forgets { OnOk result (many.AtEach S.Scheme tracked.old (λ f t. Holds S.Scheme f tracked.new (forgotten floor t))) }
+    ensures dropped { IfOk result (λ views. many.AtEach S.Scheme tracked.old (λ f t. AreTrackedBelow t floor views.items)) }
+    ensures keeps { OnOk result (many.AtEach S.Scheme tracked.old (λ f t. (u : ℕ) → get nat_cmp reaching.new u ≡ kept_from first floor (get nat_cmp reaching.old u) (t.past u) u)) }
 {
-    let mut views = Vec::with_capacity(alloc, rounds.len())?;
-    let mut rest = rounds;
-    while let Some(entry) = rest.pop_first() {
+    let mut views = Vec::new(alloc);
+    while let Some(entry) = tracked.pop_below(floor) {
         views.push(entry.0)?;
         keep_one(reaching, alloc, &entry, first)?;
     }

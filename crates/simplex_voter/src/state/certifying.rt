@@ -13,10 +13,10 @@ ghost use Rattle.simplex_due.specs.declared.requests.CertifyRequest.TheVariants 
 ghost use Rattle.simplex_voter.specs.Candidates.{Adds, AreAll, AreAmong, AreWanted, IsWoken, put_off};
 ghost use Rattle.simplex_voter.specs.State.{AtEach, Keeps};
 
-use crate::certificate_fetch::CertificateFetch;
 use crate::state::State;
 use simplex_due::requests::{CertifyRequest, verdict_for};
 use simplex_facts::Facts;
+use simplex_requests::CertificateFetch;
 use simplex_rules::Elector;
 use simplex_types::{Digest, Proposal, Scheme, View, Viewable};
 use simplex_views::Views;

@@ -5,9 +5,9 @@ ghost use Rattle.simplex_views.specs.Progress.{InTime};
 ghost use Rattle.simplex_voter.specs.Floor.{StandsOn, StartsOn};
 ghost use Rattle.simplex_voter.specs.State.{AtEach};
 
-use crate::floor::Floor;
 use crate::state::State;
 use simplex_messages::Finalization;
+use simplex_requests::Floor;
 use simplex_rules::Elector;
 use simplex_types::{Digest, Scheme, Viewable};
 use std::alloc::{AllocError, Global};

@@ -9,7 +9,7 @@ use Rattle.simplex_views.specs.Leaders.{leader}
 use Rattle.simplex_views.specs.Progress.{frame_of, tables}
 use Rattle.simplex_views.specs.Views.{Keeps}
 use Rattle.simplex_tracking.specs.Laws.{Shows-same}
-use Rattle.simplex_views.proofs.Pruning.{dropped-exact, keys-ascend, pruned-is_some, pruned-nullification}
+use Rattle.simplex_views.proofs.Pruning.{pruned-is_some, pruned-nullification}
 use Rattle.simplex_views.proofs.Advancing.{IsAt-tracked}
 use Rattle.simplex_views.proofs.views.Views.prune.Goals as goal
 
@@ -18,9 +18,8 @@ unfolding Keeps
 returns-clause-keeps g c = λ s h k.
     let floor : c.min_active-floor.result ≡ min_active s h = c.min_active-floor.ensures s h k in
     let first = c.first_reaching-first.result in
-    let dropped = c.in_ok-rounds.ensures.keeps (frame_of s) (tables s h) k.progress.tracked in
-    let below = c.in_ok-rounds.ensures.dropped (frame_of s) (tables s h) k.progress.tracked in
-    let kept = c.in_ok-views.ensures.keeps (frame_of s).common c.min_active-floor.result (leader s h) (seen s h) below in
+    let dropped = c.in_ok-views.ensures.forgets (frame_of s) (tables s h) k.progress.tracked in
+    let kept = c.in_ok-views.ensures.keeps (frame_of s) (tables s h) k.progress.tracked in
     record {
       scheme = k.scheme;
       me = k.me;
@@ -48,8 +47,5 @@ pub returns-clause-dropped : goal.returns-clause-dropped
 unfolding Keeps
 returns-clause-dropped g c = λ s h k.
     let floor : c.min_active-floor.result ≡ min_active s h = c.min_active-floor.ensures s h k in
-    let below = c.in_ok-rounds.ensures.dropped (frame_of s) (tables s h) k.progress.tracked in
-    rw c.in_ok-views.ensures.views (record {
-      exact = rw floor at (dropped-exact c.min_active-floor.result c.in_ok-rounds.rounds below);
-      ascend = keys-ascend c.in_ok-rounds.rounds c.in_ok-views.ensures.ordered;
-    })
+    let dropped = c.in_ok-views.ensures.dropped (frame_of s) (tables s h) k.progress.tracked in
+    record { exact = rw floor at dropped.exact; ascend = dropped.ascend }

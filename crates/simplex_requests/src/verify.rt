@@ -22,12 +22,3 @@ pub enum Verify<D: Digest, P: PublicKey> {
     /// Nothing is to be asked for.
     Wait,
 }
-
-/// What is to be asked for a view's proposal.
-#[derive(Clone, Copy)]
-pub(crate) enum Wanted<D: Digest> {
-    /// The verification of this proposal over this payload of its parent.
-    Verification(Proposal<D>, D),
-    /// The certificate of this kind and view.
-    Certificate(Kind, View),
-}

@@ -1,7 +1,7 @@
 //! What a voter asks its application to build.
 
 ghost use Rattle.std.specs.Prelude.{◌≡◌, ◌↔◌, IsTrue};
-ghost use Rattle.simplex_voter.specs.Building.{IsPrepared, context_of};
+ghost use Rattle.simplex_requests.specs.Building.{IsPrepared, context_of};
 
 use simplex_types::{Context, Digest, PublicKey, View, Viewable};
 
@@ -15,8 +15,8 @@ pub enum ProposalRequest<D: Digest, P: PublicKey> {
 }
 
 impl<D: Digest, P: PublicKey> ProposalRequest<D, P> {
-    /// The request for a build in this context.
-    pub(crate) fn new(is_handoff: bool, context: Context<D, P>) -> Self
+    /// The request for a build in this context, for a handoff or not.
+    pub fn new(is_handoff: bool, context: Context<D, P>) -> Self
         ensures context { context_of result ≡ context }
         ensures handoff { IsPrepared result ↔ IsTrue is_handoff }
     {
