@@ -13,13 +13,15 @@ use Rattle.std.proofs.lemmas.List.Elements.{Contains-append_left, Contains-get_o
 use Rattle.std.proofs.lemmas.List.Quantifiers.{all_pairs_push}
 use Rattle.simplex_types.specs.Counting.{Contains-nil}
 use Rattle.simplex_types.specs.Positions.{term_end}
+use Rattle.simplex_types.specs.declared.scheme.Scheme.{Ghosts}
 use Rattle.simplex_messages.specs.declared.nullification.Nullification.{Nullification}
 use Rattle.simplex_round.specs.declared.round.Round.{Round}
 use Rattle.simplex_round.specs.Past as past
 use Rattle.simplex_round.specs.Past.{Item}
 use Rattle.simplex_round.specs.Round as one
 use Rattle.simplex_tracking.specs.Rounds.{AreUntracked, Common, IsFirstBelow, IsTracked, setup_of}
-use Rattle.simplex_tracking.specs.Tracked.{Tables, forgotten}
+use Rattle.simplex_tracking.specs.declared.tracked.Tracked.{Tracked}
+use Rattle.simplex_tracking.specs.Tracked.{Frame, Holds, Tables, forgotten}
 use Rattle.simplex_views.specs.Views.{kept_from}
 use Rattle.simplex_tracking.specs.Laws.{or_none}
 
@@ -28,6 +30,15 @@ apart_from_lt a b lt = grind (arith, nat_tests)
 
 pub less_from_lt : (a b : ℕ) → a < b → nat_cmp a b ≡ Less
 less_from_lt a b lt = sym (nat_cmp_is a b Less lt)
+
+none_below : {X : Type 0} (u : ℕ) (none x : X) → x ≡ (if nat_lt u 0 then none else x)
+none_below u none x = let from : nat_lt u 0 ≡ false = grind (arith, nat_tests) in rw from refl
+
+dropped_twice : {X : Type 0} (one end u : ℕ) (none x : X) → one ≤ end → (if nat_lt u end then none else (if nat_lt u one then none else x)) ≡ (if nat_lt u end then none else x)
+dropped_twice one end u none x up = ⊎_elim
+    (λ lt. let below : nat_lt u end ≡ true = grind (arith, nat_tests, lt) in rw below refl)
+    (λ ge. let above : nat_lt u one ≡ false = grind (arith, nat_tests, ge, up) in rw above refl)
+    (cases_lt u end)
 
 module _ {S D P G C : Type 0} where
   -- the nullification of a view from the first on
@@ -47,12 +58,6 @@ module _ {S D P G C : Type 0} where
   nothing false x e = rw e refl
 
   -- what is dropped up to one end and then up to a later one is dropped up to that
-  dropped_twice : {X : Type 0} (one end u : ℕ) (none x : X) → one ≤ end → (if nat_lt u end then none else (if nat_lt u one then none else x)) ≡ (if nat_lt u end then none else x)
-  dropped_twice one end u none x up = ⊎_elim
-      (λ lt. let below : nat_lt u end ≡ true = grind (arith, nat_tests, lt) in rw below refl)
-      (λ ge. let above : nat_lt u one ≡ false = grind (arith, nat_tests, ge, up) in rw above refl)
-      (cases_lt u end)
-
   pub forgotten-twice : (one end : ℕ) (t : Tables S D P G C) → one ≤ end → forgotten end (forgotten one t) ≡ forgotten end t
   forgotten-twice one end t up = λ i. record {
     led = λ u. dropped_twice one end u None (t.led u) up i;
@@ -60,8 +65,9 @@ module _ {S D P G C : Type 0} where
     noted = λ u. dropped_twice one end u false (t.noted u) up i;
   }
 
-  pub forgotten-none : (t : Tables S D P G C) → forgotten 0 t ≡ t
-  forgotten-none t = refl
+  -- nothing lies below the start
+  pub forgotten-none : (t : Tables S D P G C) → t ≡ forgotten 0 t
+  forgotten-none t = λ i. record { led = λ u. none_below u None (t.led u) i; past = λ u. none_below u [] (t.past u) i; noted = λ u. none_below u false (t.noted u) i }
 
   untracked : (past : List (Item S D P G C)) (led : Option ℕ) → past ≡ [] → led ≡ None → IsTracked past led → ⊥
   untracked past led none nobody tracked = ⊎_elim (λ seen. seen none) (λ known. cc (rw nobody at known)) tracked
@@ -82,16 +88,17 @@ module _ {S D P G C : Type 0} where
       (cases_lt view last))
       (cases_lt view end)
 
-module _ {S D P G C : Type 0} {key_of : S → ℕ → P} {s : Common S} {t : Tables S D P G C} {first floor : ℕ} {old now : BTreeMap ℕ (Nullification S D P G C)} {views : List ℕ} where
+module _ {S D P G C : Type 0} {t : Tables S D P G C} {first floor : ℕ} {old : BTreeMap ℕ (Nullification S D P G C)} where
   -- at first nothing was dropped
   pub IsPart-begun : IsPart t first floor old old [] 0
   IsPart-begun = record {
     up = omega arith;
     exact = λ view. (λ there. absurd (Contains-nil view there), λ both. let never = both.0 in absurd (omega (arith, never)));
     ascend = λ i j d before inside. absurd (omega (arith, inside));
-    kept = λ u. refl;
+    kept = λ u. none_below u (option_or (get nat_cmp old u) (from_first first (t.past u) u)) (get nat_cmp old u);
   }
 
+module _ {S D P G C : Type 0} {t : Tables S D P G C} {first floor : ℕ} {old now : BTreeMap ℕ (Nullification S D P G C)} {views : List ℕ} where
   module _ {end : ℕ} (part : IsPart t first floor old now views end) where
     -- what is known of a view that was not dropped yet
     still : (view : ℕ) → end ≤ view → nat_lt view end ≡ false
@@ -125,7 +132,7 @@ module _ {S D P G C : Type 0} {key_of : S → ℕ → P} {s : Common S} {t : Tab
       kept = λ u. part.kept u ∙ kept_on first end floor u (get nat_cmp old u) (t.past u) part.up (λ from lt. (bare_from bare u from lt).0);
     }
 
-    module _ {view : ℕ} {round : Round S D P G C} (is : IsFirstBelow key_of s floor view round (forgotten end t).led (forgotten end t).past) where
+    module _ {key_of : S → ℕ → P} {s : Common S} {view : ℕ} {round : Round S D P G C} (is : IsFirstBelow key_of s floor view round (forgotten end t).led (forgotten end t).past) where
       pub next_from : end ≤ view
       next_from = not_dropped view is.first.tracked
 
@@ -173,6 +180,14 @@ module _ {S D P G C : Type 0} {key_of : S → ℕ → P} {s : Common S} {t : Tab
                 new ∙ part.kept u ∙ kept_on first end (view + 1) u (get nat_cmp old u) (t.past u) (omega (arith, from)) (λ behind lt. (bare_from is.first.bare u behind (omega (arith, lt, other))).0))
                 (cases_eq view u);
           }
+
+module _ {S D P G C : Type 0} (g : Ghosts S D P G C) (f : Frame S) (x : Tracked S D P G C) {t : Tables S D P G C} {first floor : ℕ} {old now : BTreeMap ℕ (Nullification S D P G C)} {views : List ℕ} where
+  -- with what is known of all views behind that
+  pub IsPart-step : {end view : ℕ} {round : Round S D P G C} {next : BTreeMap ℕ (Nullification S D P G C)} (part : IsPart t first floor old now views end)
+      → (is : IsFirstBelow g.key_of f.common floor view round (forgotten end t).led (forgotten end t).past) → Holds g f x (forgotten (view + 1) (forgotten end t))
+      → ((u : ℕ) → get nat_cmp next u ≡ (if view == u then option_or (get nat_cmp now u) (if nat_lt u first then None else past.nullification (t.past view)) else get nat_cmp now u))
+      → (last : ℕ) × Holds g f x (forgotten last t) × IsPart t first floor old next (views ++ view ∷ []) last
+  IsPart-step {end} {view} part is holds keeps = let from = next_from part is in (view + 1, subst (λ y. Holds g f x y) (forgotten-twice end (view + 1) t (omega (arith, from))) holds, IsPart-next part is keeps)
 
 module _ {S D P G C : Type 0} where
   -- the nullification of each view behind a prune

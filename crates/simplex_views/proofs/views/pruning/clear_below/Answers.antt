@@ -1,10 +1,10 @@
-use Rattle.std.proofs.Common.{◌≡◌, ◌≤◌, ◌+◌, refl, subst, arith}
+use Rattle.std.proofs.Common.{refl, subst}
 use Rattle.simplex_tracking.specs.Tracked.{Holds, forgotten}
-use Rattle.simplex_views.proofs.Pruning.{IsPart-begun, IsPart-ended, IsPart-next, IsPart-stands, forgotten-twice, next_from}
+use Rattle.simplex_views.proofs.Pruning.{IsPart-begun, IsPart-ended, IsPart-stands, IsPart-step, forgotten-none, forgotten-twice}
 use Rattle.simplex_views.proofs.views.pruning.clear_below.Goals as goal
 
 pub loop-entry-init : goal.loop-entry-init
-loop-entry-init g c = λ f t k. (0, k, rw c.new-views.ensures.items IsPart-begun)
+loop-entry-init g c = λ f t k. (0, subst (λ x. Holds g.S.Scheme f c.args.tracked.now x) (forgotten-none t) k, rw c.new-views.ensures.items IsPart-begun)
 
 pub loop-entry-smaller-in_ok-keep_one : goal.loop-entry-smaller-in_ok-keep_one
 loop-entry-smaller-in_ok-keep_one g c = c.pop_below.ensures.fewer (rw c.in-Some.is refl)
@@ -12,14 +12,14 @@ loop-entry-smaller-in_ok-keep_one g c = c.pop_below.ensures.fewer (rw c.in-Some.
 pub loop-entry-preserved-in_ok-keep_one : goal.loop-entry-preserved-in_ok-keep_one
 loop-entry-preserved-in_ok-keep_one g c = λ f t k.
     let before = c.loop-entry.invariant f t k in
-    let part = before.2 in
     let is = rw c.in-Some.is at (c.pop_below.ensures.popped f (forgotten before.0 t) before.1) in
-    let from = next_from part is in (
-      c.in-Some.entry.0 + 1,
-      subst (λ x. Holds g.S.Scheme f c.pop_below.new.self x) (forgotten-twice before.0 (c.in-Some.entry.0 + 1) t (omega (arith, from)))
-          (rw c.in-Some.is at (c.pop_below.ensures.keeps f (forgotten before.0 t) before.1)),
-      rw c.in_ok-push.ensures.items (IsPart-next part is (c.in_ok-keep_one.ensures _ _ _ (IsPart-stands part is))),
-    )
+    rw c.in_ok-push.ensures.items (IsPart-step g.S.Scheme f c.pop_below.new.self before.2 is (rw c.in-Some.is at (c.pop_below.ensures.keeps f (forgotten before.0 t) before.1)) (c.in_ok-keep_one.ensures _ _ _ (IsPart-stands before.2 is)))
+
+pub loop-entry-preserved : goal.loop-entry-preserved
+loop-entry-preserved g c = λ f t k.
+    let before = c.loop-entry.invariant f t k in
+    let is = rw c.in-Some.is at (c.pop_below.ensures.popped f (forgotten before.0 t) before.1) in
+    rw c.in_ok-push.ensures.items (IsPart-step g.S.Scheme f c.pop_below.new.self before.2 is (rw c.in-Some.is at (c.pop_below.ensures.keeps f (forgotten before.0 t) before.1)) (c.in_ok-keep_one.ensures _ _ _ (IsPart-stands before.2 is)))
 
 pub returns-clause-forgets : goal.returns-clause-forgets
 returns-clause-forgets g c = λ f t k.
