@@ -1,6 +1,6 @@
 -- What a view's round answers, as what is known of the view.
 use Rattle.std.proofs.Common.{◌≡◌, ◌∙◌, ℕ, Bool, true, false, refl, sym, ap, subst}
-use Rattle.std.specs.Prelude.{◌↔◌, ◌&&◌, ◌||◌, not, List, Option, Some, None, IsTrue, IsSome, MatchOption, is_some, option_map, if◌then◌else◌}
+use Rattle.std.specs.Prelude.{◌↔◌, ◌&&◌, not, List, Option, Some, None, IsTrue, IsSome, MatchOption, is_some, option_map, if◌then◌else◌}
 use Rattle.std.specs.Option.{option_or}
 use Rattle.std.proofs.lemmas.Bool.{and_from}
 use Rattle.simplex_types.specs.declared.proposal.Proposal.{Proposal}
@@ -73,7 +73,7 @@ module _ {S D P G C : Type 0} (s : Setup S C) (h : List (Point S D P G C)) (firs
   pub certificate_within : IsTrue b ↔ IsMarkedWithin (λ u. bears sign.Direct (seen s h u)) first end → IsTrue b ↔ HasCertificateWithin (member s) (known s h) first end
   certificate_within some =
       let same : (u : ℕ) → has_certificate (member s) (known s h) u ≡ bears sign.Direct (seen s h u) =
-          λ u. rw (there_map (λ (c : Notarization S D P G C). c.proposal) (past.notarization (seen s h u)), there_map (λ (c : Finalization S D P G C). c.proposal) (past.finalization (seen s h u))) refl in (
+      λ u. rw (there_map (λ (c : Notarization S D P G C). c.proposal) (past.notarization (seen s h u)), there_map (λ (c : Finalization S D P G C). c.proposal) (past.finalization (seen s h u))) refl in (
         λ yes. let there = some.0 yes in (there.0, there.1, there.2, same there.0 ∙ there.3),
         λ there. some.1 (there.0, there.1, there.2, sym (same there.0) ∙ there.3),
       )

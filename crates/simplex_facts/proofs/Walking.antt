@@ -14,9 +14,10 @@ use Rattle.simplex_views.specs.Known.{known}
 use Rattle.simplex_due.specs.Ancestry.{explicit, member}
 
 -- the last marked view up to the one below an end lies before it
-pub last_before : (A : Type 0) (f : ℕ → Bool) (first below end : ℕ) (o : Option ℕ) → below < end → MatchOption o A (λ last. IsLastMarked f first below last) → IfSome o (λ last. last < end)
-last_before A f first below end None lt none = tt
-last_before A f first below end (Some last) lt found = let up_to = found.up_to in omega (arith, lt, up_to)
+pub last_before : (f : ℕ → Bool) (first below end : ℕ) (o : Option ℕ) → below < end
+    → MatchOption o ((u : ℕ) → first ≤ u → u ≤ below → f u ≡ false) (λ last. IsLastMarked f first below last) → IfSome o (λ last. last < end)
+last_before f first below end None lt none = tt
+last_before f first below end (Some last) lt found = let up_to = found.up_to in omega (arith, lt, up_to)
 
 -- it is the last of those behind the start
 pub behind_start : (f : ℕ → Bool) (first below end : ℕ) (o : Option ℕ) → first ≡ 1 → below ≡ end - 1

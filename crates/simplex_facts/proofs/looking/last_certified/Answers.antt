@@ -1,4 +1,5 @@
-use Rattle.std.proofs.Common.{arith}
+use Rattle.std.proofs.Common.{◌<◌, ⊎_elim, arith}
+use Rattle.std.proofs.lemmas.Bool.{cases_lt}
 use Rattle.simplex_tracking.specs.Laws.{Shows-some}
 use Rattle.simplex_tracking.specs.Pasts.{is_certified}
 use Rattle.simplex_views.specs.History.{seen}
@@ -7,8 +8,10 @@ use Rattle.simplex_facts.proofs.looking.last_certified.Goals as goal
 
 pub returns-clause-before : goal.returns-clause-before
 returns-clause-before g c =
-    let some = Shows-some c.bearing.result.now in
-    last_before _ some.0 _ _ c.args.end c.last_within.result (let before = c.in-Some.ensures.before in let none = c.in-Some.ensures.none in ?) (c.last_within.ensures some.0 some.1)
+    let some : 0 < c.args.end = ⊎_elim (λ lt. lt) (λ le. absurd (cc (c.in-Some.ensures.none.1 (omega (arith, le))))) (cases_lt 0 c.args.end) in
+    let before : c.in-Some.below < c.args.end = omega (arith, c.in-Some.ensures.before, some) in
+    let marked = Shows-some c.bearing.result.now in
+    last_before marked.0 c.new.result c.in-Some.below c.args.end c.last_within.result before (c.last_within.ensures marked.0 marked.1)
 
 pub returns-clause-certified : goal.returns-clause-certified
 returns-clause-certified g c = λ s h kept.
