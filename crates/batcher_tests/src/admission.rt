@@ -2,12 +2,11 @@
 
 use crate::calls::{
     A, Answer, B, Ballot, Call, Mark, Report, certificate_by, comes, finalize, marked, notarize,
-    nullify,
+    nullify, own,
 };
-use crate::members::plain_plays;
+use crate::concrete::plain_plays;
 use crate::table::Opening;
 use simplex_batcher::Kind;
-use std::test::Fail;
 
 /// A member's own vote, that is not accepted and blocks nobody.
 fn repeats(ballot: Ballot) -> (Call, Answer) {
@@ -33,7 +32,7 @@ fn certified(kind: Kind, payload: u8, selects: bool) -> (Call, Answer) {
 
 // A member whose name another used can still vote.
 #[test]
-fn a_vote_counts_for_the_member_who_hands_it_in(rt: HostRuntime) -> Result<(), Fail> {
+fn a_vote_counts_for_the_member_who_hands_it_in(rt: HostRuntime) {
     let in_anothers_name = Answer::Admitted(false, true, Report::Nothing);
     let rows = [
         (Call::Network(0, notarize(1, A)), in_anothers_name),
@@ -44,11 +43,11 @@ fn a_vote_counts_for_the_member_who_hands_it_in(rt: HostRuntime) -> Result<(), F
         repeats(notarize(4, A)),
         repeats(nullify(4)),
     ];
-    plain_plays(&rt, rt.alloc(), 4, Opening::Kept, &rows)
+    plain_plays(&rt, rt.alloc(), 4, Opening::Kept, &rows);
 }
 
 #[test]
-fn two_votes_of_a_kind_are_evidence_where_they_contradict(rt: HostRuntime) -> Result<(), Fail> {
+fn two_votes_of_a_kind_are_evidence_where_they_contradict(rt: HostRuntime) {
     let (for_a, for_b) = (notarize(1, A), notarize(1, B));
     let (final_a, final_b) = (finalize(2, B), finalize(2, A));
     let rows = [
@@ -65,11 +64,11 @@ fn two_votes_of_a_kind_are_evidence_where_they_contradict(rt: HostRuntime) -> Re
         repeats(nullify(3)),
         offends(marked(Mark::Broken, nullify(3)), Report::Nothing),
     ];
-    plain_plays(&rt, rt.alloc(), 4, Opening::Kept, &rows)
+    plain_plays(&rt, rt.alloc(), 4, Opening::Kept, &rows);
 }
 
 #[test]
-fn a_nullify_beside_a_finalize_is_evidence(rt: HostRuntime) -> Result<(), Fail> {
+fn a_nullify_beside_a_finalize_is_evidence(rt: HostRuntime) {
     let rows = [
         comes(nullify(1)),
         comes(notarize(1, A)),
@@ -78,13 +77,13 @@ fn a_nullify_beside_a_finalize_is_evidence(rt: HostRuntime) -> Result<(), Fail> 
         offends(nullify(2), Report::Evidence(nullify(2), finalize(2, B))),
         comes(notarize(2, A)),
     ];
-    plain_plays(&rt, rt.alloc(), 4, Opening::Kept, &rows)
+    plain_plays(&rt, rt.alloc(), 4, Opening::Kept, &rows);
 }
 
 // Behind its kind's certificate only two proposals tell: not another signature, and not the other of nullify and
 // finalize. New votes are still accepted.
 #[test]
-fn a_certified_kind_is_released(rt: HostRuntime) -> Result<(), Fail> {
+fn a_certified_kind_is_released(rt: HostRuntime) {
     let rows = [
         comes(notarize(1, A)),
         comes(nullify(1)),
@@ -108,11 +107,11 @@ fn a_certified_kind_is_released(rt: HostRuntime) -> Result<(), Fail> {
         comes(nullify(3)),
         repeats(finalize(3, A)),
     ];
-    plain_plays(&rt, rt.alloc(), 4, Opening::Kept, &rows)
+    plain_plays(&rt, rt.alloc(), 4, Opening::Kept, &rows);
 }
 
 #[test]
-fn tracked_votes_are_kept_in_full_for_good(rt: HostRuntime) -> Result<(), Fail> {
+fn tracked_votes_are_kept_in_full_for_good(rt: HostRuntime) {
     let rows = [
         comes(notarize(1, A)),
         comes(nullify(1)),
@@ -128,11 +127,11 @@ fn tracked_votes_are_kept_in_full_for_good(rt: HostRuntime) -> Result<(), Fail> 
         offends(marked(Mark::Broken, nullify(1)), Report::Nothing),
         repeats(nullify(1)),
     ];
-    plain_plays(&rt, rt.alloc(), 4, Opening::Tracked, &rows)
+    plain_plays(&rt, rt.alloc(), 4, Opening::Tracked, &rows);
 }
 
 #[test]
-fn a_skipped_round_keeps_no_vote_in_full(rt: HostRuntime) -> Result<(), Fail> {
+fn a_skipped_round_keeps_no_vote_in_full(rt: HostRuntime) {
     let rows = [
         comes(notarize(1, A)),
         comes(nullify(1)),
@@ -148,17 +147,14 @@ fn a_skipped_round_keeps_no_vote_in_full(rt: HostRuntime) -> Result<(), Fail> {
             Answer::Admitted(false, true, Report::Nothing),
         ),
     ];
-    plain_plays(&rt, rt.alloc(), 4, Opening::Skipped, &rows)
+    plain_plays(&rt, rt.alloc(), 4, Opening::Skipped, &rows);
 }
 
 // An own vote counts as accepted: a vote from the network is held against it.
 #[test]
-fn own_votes_are_recorded_as_those_of_others(rt: HostRuntime) -> Result<(), Fail> {
+fn own_votes_are_recorded_as_those_of_others(rt: HostRuntime) {
     let rows = [
-        (
-            Call::Own(notarize(0, A)),
-            Answer::Taken(Report::Vote(notarize(0, A))),
-        ),
+        own(notarize(0, A)),
         (Call::Own(notarize(0, A)), Answer::Taken(Report::Nothing)),
         repeats(notarize(0, A)),
         offends(
@@ -168,5 +164,5 @@ fn own_votes_are_recorded_as_those_of_others(rt: HostRuntime) -> Result<(), Fail
         comes(finalize(1, A)),
         (Call::Own(finalize(1, A)), Answer::Taken(Report::Nothing)),
     ];
-    plain_plays(&rt, rt.alloc(), 4, Opening::Kept, &rows)
+    plain_plays(&rt, rt.alloc(), 4, Opening::Kept, &rows);
 }

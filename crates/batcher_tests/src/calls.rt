@@ -145,14 +145,6 @@ pub enum Question {
     BelongsCertificate(Sealed),
 }
 
-/// Whether a kind is certified.
-pub fn has(kind: Kind, is_so: bool) -> (Call, Answer) {
-    (
-        Call::Ask(Question::HasCertificate(kind)),
-        Answer::Truth(is_so),
-    )
-}
-
 /// What is reported.
 #[derive(Clone, Copy, PartialEq, Eq)]
 pub enum Report {
@@ -204,12 +196,41 @@ pub enum Answer {
     Strange,
 }
 
-/// A vote is accepted, and reported.
-fn accepted(ballot: Ballot) -> Answer {
-    Answer::Admitted(true, false, Report::Vote(ballot))
+/// A member's vote that comes from the network, and is accepted and reported.
+pub fn comes(ballot: Ballot) -> (Call, Answer) {
+    (
+        Call::Network(ballot.signer, ballot),
+        Answer::Admitted(true, false, Report::Vote(ballot)),
+    )
 }
 
-/// A member's own vote that comes in, and is accepted.
-pub fn comes(ballot: Ballot) -> (Call, Answer) {
-    (Call::Network(ballot.signer, ballot), accepted(ballot))
+/// An own vote, that is accepted and reported.
+pub fn own(ballot: Ballot) -> (Call, Answer) {
+    (Call::Own(ballot), Answer::Taken(Report::Vote(ballot)))
+}
+
+/// Whether it is so.
+pub fn is(question: Question, is_so: bool) -> (Call, Answer) {
+    (Call::Ask(question), Answer::Truth(is_so))
+}
+
+/// Member 0 is named as leader.
+pub const LED: (Call, Answer) = (Call::Lead(0), Answer::Done);
+
+/// A construction of which nothing comes.
+pub const NOT_DUE: (Call, Answer) = (Call::Construct, Answer::Nothing);
+
+/// A certificate of this kind by these members, for which so many votes were judged, that all attest.
+pub fn certified_by(kind: Kind, payload: u8, signers: &[u32], processed: usize) -> Made {
+    Made {
+        certificate: Some(certificate_by(kind, payload, signers)),
+        invalid: 0,
+        processed,
+        fallback: false,
+    }
+}
+
+/// A construction of which this comes.
+pub fn constructs(made: Made) -> (Call, Answer) {
+    (Call::Construct, Answer::Constructed(made))
 }

@@ -1,15 +1,17 @@
 //! A committee whose members sign what a test names, and who names what comes of it.
 
+ghost use Rattle.std.specs.Prelude.{◌<◌};
+
 use crate::calls::{Answer, Ballot, Made, Mark, Report, Sealed, one};
-use crate::naming::{ascending, attested, certificate_with, named_certificate, vote_with};
+use crate::members::{Committee, members, shared};
+use crate::naming::{
+    ascending, attested, certificate_with, named_certificate, proposal, proposal_of, vote_with,
+};
 use simplex_batcher::{Batch, Kind};
 use simplex_messages::{Activity, Certificate, Finalize, Notarize, Nullify, Vote};
-use simplex_types::{
-    AssemblyError, Attestation, Duplicate, Listing, Scheme, Sha256Digest, are_of_distinct_members,
-};
+use simplex_types::{Attestation, Proposal, Scheme, Sha256Digest, are_of_distinct_members};
 use std::alloc::{AllocError, Global};
 use std::rc::Rc;
-use std::test::Fail;
 
 /// A report of one vote.
 fn voted(vote: Option<Ballot>) -> Report {
@@ -27,35 +29,35 @@ fn evidence(first: Option<Ballot>, second: Option<Ballot>) -> Report {
     }
 }
 
-/// A vote that was signed, and its name.
-#[derive(Drop)]
-struct Signed<S: Scheme<Sha256Digest>> {
-    ballot: Ballot,
-    vote: Vote<S, Sha256Digest>,
+/// The name of a vote that was signed, and its attestation.
+#[derive(Clone, Copy)]
+pub struct Signed<G> {
+    pub ballot: Ballot,
+    pub attestation: Attestation<G>,
 }
 
-/// How many votes a clerk can keep by name, without asking for memory.
-const NAMES: usize = 256;
-
-/// A committee, all of whose members sign.
+/// A committee, all of whose members sign. One signs beside them who is none of them.
 #[derive(Drop)]
 pub struct Clerk<S: Scheme<Sha256Digest>> {
     alloc: Global,
     scheme: Rc<S>,
     members: Vec<S>,
-    signed: Vec<Signed<S>>,
+    pub signed: Vec<Signed<S::Signature>>,
 }
 
-impl<S: Listing<Sha256Digest> + Drop> Clerk<S> {
-    /// The clerk of a committee that is seen by `scheme`, for which these sign.
-    pub fn new(alloc: Global, scheme: S, members: Vec<S>) -> Result<Self, AllocError> {
-        let scheme = Rc::new(alloc, scheme)?;
-        let signed = Vec::with_capacity(alloc, NAMES)?;
+impl<S: Committee> Clerk<S> {
+    /// The clerk of a committee of so many.
+    pub fn new(alloc: Global, count: u32) -> Result<Self, AllocError>
+        requires some { 0 < count }
+        requires at_most { count < 65535 }
+    {
+        let scheme = shared(alloc, count)?;
+        let members = members(alloc, count + 1)?;
         Ok(Clerk {
             alloc,
             scheme,
             members,
-            signed,
+            signed: Vec::new(alloc),
         })
     }
 
@@ -64,83 +66,79 @@ impl<S: Listing<Sha256Digest> + Drop> Clerk<S> {
         self.scheme.clone()
     }
 
-    /// A vote that its member signs, where there is such a member.
-    fn sign(&self, ballot: Ballot) -> Option<Vote<S, Sha256Digest>> {
+    /// What the vote's signer attests, where there is such a member.
+    fn sign(&self, ballot: Ballot) -> Option<Attestation<S::Signature>> {
         let member = self.members.get(ballot.signer as usize)?;
-        let attestation = match ballot.mark {
-            Mark::Broken => attested(member, Kind::Nullification, 99, 0)?,
-            _ => attested(member, ballot.kind, ballot.view, ballot.payload)?,
+        match ballot.mark {
+            Mark::Broken => attested(member, Kind::Nullification, 99, 0),
+            _ => attested(member, ballot.kind, ballot.view, ballot.payload),
+        }
+    }
+
+    /// Signs the vote of this name.
+    pub fn learn(&mut self, ballot: Ballot) -> Option<Attestation<S::Signature>> {
+        let attestation = self.sign(ballot)?;
+        match self.signed.push(Signed {
+            ballot,
+            attestation,
+        }) {
+            Ok(()) => Some(attestation),
+            Err(_) => None,
+        }
+    }
+
+    /// What the vote of this name was signed by, where it was asked for before.
+    fn known(&self, ballot: Ballot) -> Option<Attestation<S::Signature>> {
+        for signed in &self.signed {
+            if signed.ballot == ballot {
+                return Some(signed.attestation);
+            }
+        }
+        None
+    }
+
+    /// The vote of this name, signed when it is asked for first.
+    pub fn vote(&mut self, ballot: Ballot) -> Option<Vote<S, Sha256Digest>> {
+        let attestation = match self.known(ballot) {
+            Some(attestation) => attestation,
+            None => self.learn(ballot)?,
         };
         Some(vote_with(ballot, attestation))
     }
 
-    /// Signs the vote of this name, where it was not asked for before.
-    fn learn(&mut self, ballot: Ballot) -> Result<(), AllocError> {
-        if self.signed.iter().any(|signed| signed.ballot == ballot) {
-            return Ok(());
-        }
-        if let Some(vote) = self.sign(ballot) {
-            self.signed.push(Signed { ballot, vote })?;
-        }
-        Ok(())
-    }
-
-    /// The vote of this name, signed when it is asked for first.
-    pub fn vote(&mut self, ballot: Ballot) -> Result<Vote<S, Sha256Digest>, Fail> {
-        self.learn(ballot)?;
+    /// The name of the vote of this kind on this proposal, by its attestation.
+    fn name(
+        &self,
+        kind: Kind,
+        voted: &Proposal<Sha256Digest>,
+        attestation: &Attestation<S::Signature>,
+    ) -> Option<Ballot> {
         for signed in &self.signed {
-            if signed.ballot == ballot {
-                return Ok(signed.vote.duplicate(self.alloc)?);
+            let ballot = signed.ballot;
+            if ballot.kind == kind
+                && proposal(ballot.view, ballot.payload) == *voted
+                && signed.attestation == *attestation
+            {
+                return Some(ballot);
             }
         }
-        Err("a member".into())
-    }
-
-    /// Each of these votes, signed and not kept by name.
-    pub fn votes(&self, ballots: &[Ballot]) -> Result<Vec<Vote<S, Sha256Digest>>, AllocError> {
-        let mut votes = Vec::with_capacity(self.alloc, ballots.len())?;
-        for ballot in ballots {
-            if let Some(vote) = self.sign(*ballot) {
-                votes.push(vote)?;
-            }
-        }
-        Ok(votes)
+        None
     }
 
     /// The name of a notarize.
     fn notarize(&self, vote: &Notarize<S, Sha256Digest>) -> Option<Ballot> {
-        for signed in &self.signed {
-            if let Vote::Notarize(own) = &signed.vote
-                && *own == *vote
-            {
-                return Some(signed.ballot);
-            }
-        }
-        None
+        self.name(Kind::Notarization, &vote.proposal, &vote.attestation)
     }
 
     /// The name of a nullify.
     fn nullify(&self, vote: &Nullify<S, Sha256Digest>) -> Option<Ballot> {
-        for signed in &self.signed {
-            if let Vote::Nullify(own) = &signed.vote
-                && *own == *vote
-            {
-                return Some(signed.ballot);
-            }
-        }
-        None
+        let voted = proposal_of(vote.round, 0);
+        self.name(Kind::Nullification, &voted, &vote.attestation)
     }
 
     /// The name of a finalize.
     fn finalize(&self, vote: &Finalize<S, Sha256Digest>) -> Option<Ballot> {
-        for signed in &self.signed {
-            if let Vote::Finalize(own) = &signed.vote
-                && *own == *vote
-            {
-                return Some(signed.ballot);
-            }
-        }
-        None
+        self.name(Kind::Finalization, &vote.proposal, &vote.attestation)
     }
 
     /// The name of a report.
@@ -165,67 +163,65 @@ impl<S: Listing<Sha256Digest> + Drop> Clerk<S> {
         }
     }
 
-    /// The name of what was constructed.
+    /// The name of what was constructed: strange where a certificate does not certify, or members do not ascend.
     pub fn made(&self, batch: &Batch<Certificate<S, Sha256Digest>>) -> Answer {
-        let Some(invalid) = ascending(&batch.invalid) else {
-            return Answer::Strange;
-        };
-        let certificate = match &batch.certificate {
-            Some(certificate) => {
-                if !certificate.verify(&self.scheme) {
-                    return Answer::Strange;
-                }
-                Some(named_certificate(certificate))
-            }
-            None => None,
-        };
-        Answer::Constructed(Made {
-            certificate,
-            invalid,
-            processed: batch.processed,
-            fallback: batch.fallback,
+        match ascending(&batch.invalid) {
+            Some(invalid) if self.certifies(&batch.certificate) => Answer::Constructed(Made {
+                certificate: named_certificate(&batch.certificate),
+                invalid,
+                processed: batch.processed,
+                fallback: batch.fallback,
+            }),
+            _ => Answer::Strange,
+        }
+    }
+
+    /// Whether the certificate certifies, if there is one.
+    fn certifies(&self, certificate: &Option<Certificate<S, Sha256Digest>>) -> bool {
+        match certificate {
+            Some(certificate) => certificate.verify(&self.scheme),
+            None => true,
+        }
+    }
+
+    /// What the certificate of this name lists of this member, if it does.
+    fn listed_of(&self, sealed: Sealed, signer: u32) -> Option<Attestation<S::Signature>> {
+        if sealed.signers & one(signer) == 0 {
+            return None;
+        }
+        self.sign(Ballot {
+            kind: sealed.kind,
+            view: sealed.view,
+            payload: sealed.payload,
+            signer,
+            mark: Mark::Good,
         })
     }
 
     /// The attestations of a certificate.
     fn attestations(&self, sealed: Sealed) -> Result<Vec<Attestation<S::Signature>>, AllocError> {
         let mut attestations = Vec::new(self.alloc);
-        for member in &self.members {
-            if let Some(me) = member.me()
-                && sealed.signers & one(me.get()) != 0
-                && let Some(attestation) = attested(
-                    member,
-                    sealed.kind,
-                    sealed.view,
-                    sealed.payload,
-                )
-            {
+        for signer in 0..self.scheme.participants() {
+            if let Some(attestation) = self.listed_of(sealed, signer) {
                 attestations.push(attestation)?;
             }
         }
         Ok(attestations)
     }
 
-    /// The certificate of this name, where its signers are of the committee.
-    fn assembled(
-        &self,
-        sealed: Sealed,
-    ) -> Result<Option<Certificate<S, Sha256Digest>>, AssemblyError> {
-        let attestations = self.attestations(sealed)?;
+    /// What these make together, where they are a quorum of the committee.
+    fn assembled(&self, attestations: &[Attestation<S::Signature>]) -> Option<S::Certificate> {
         let participants = self.scheme.participants();
-        if !are_of_distinct_members(self.alloc, participants, &attestations)? {
-            return Ok(None);
+        match are_of_distinct_members(self.alloc, participants, attestations) {
+            Ok(true) => self.scheme.assemble(self.alloc, attestations).ok(),
+            _ => None,
         }
-        let certificate = self.scheme.assemble(self.alloc, &attestations)?;
-        Ok(Some(certificate_with(sealed, certificate)))
     }
 
-    /// The certificate of this name: where its memory is refused, it is made again.
-    pub fn certificate(&self, sealed: Sealed) -> Result<Certificate<S, Sha256Digest>, Fail> {
-        let made = match self.assembled(sealed) {
-            Err(AssemblyError::Memory) => self.assembled(sealed)?,
-            made => made?,
-        };
-        Ok(made.ok_or("signers of the committee")?)
+    /// The certificate of this name, where its signers are a quorum of the committee, and memory is not refused.
+    pub fn certificate(&self, sealed: Sealed) -> Option<Certificate<S, Sha256Digest>> {
+        let attestations = self.attestations(sealed).ok()?;
+        let certificate = self.assembled(&attestations)?;
+        Some(certificate_with(sealed, certificate))
     }
 }

@@ -1,13 +1,12 @@
 //! A flood of votes at a thousand members, of whom 667 are a quorum.
 
 use crate::calls::{A, Answer, B, Ballot, Call, Made, finalize, notarize, nullify};
-use crate::members::plain_table;
+use crate::clerk::Clerk;
+use crate::members::Committee;
 use crate::table::{Counts, Opening, Table};
-use simplex_batcher::{BatcherFault, Kind};
-use simplex_messages::Vote;
-use simplex_types::{Listing, Sha256Digest};
+use simplex_batcher::Kind;
+use simplex_types::PlainScheme;
 use std::alloc::{AllocError, Global};
-use std::test::Fail;
 
 /// How many members there are.
 const MEMBERS: u32 = 1000;
@@ -15,33 +14,62 @@ const MEMBERS: u32 = 1000;
 /// How often each member sends each of its five votes, before the certificates and again after them.
 const TIMES: u32 = 10;
 
-/// Five votes of each member: two that go together, and three against these.
-fn five_of_each(alloc: Global) -> Result<Vec<Ballot>, AllocError> {
-    let mut ballots = Vec::new(alloc);
-    for signer in 0..MEMBERS {
-        ballots.push(notarize(signer, A))?;
-        ballots.push(notarize(signer, B))?;
-        ballots.push(nullify(signer))?;
-        ballots.push(finalize(signer, A))?;
-        ballots.push(finalize(signer, B))?;
-    }
-    Ok(ballots)
+/// What came of the flood before the certificates: of each member two votes are accepted, which go together, and three are
+/// against these.
+const BEFORE: Counts = Counts {
+    accepted: 2000,
+    blocked: 30000,
+    reported: 32000,
+};
+
+/// What came of it behind them, where the votes are released: of all that is sent again only the notarize for another
+/// proposal offends, and there is no evidence of it.
+const BEHIND: Counts = Counts {
+    accepted: 0,
+    blocked: 10000,
+    reported: 0,
+};
+
+/// Five votes of a member: two that go together, and three against these.
+fn five_of(signer: u32) -> [Ballot; 5] {
+    [
+        notarize(signer, A),
+        notarize(signer, B),
+        nullify(signer),
+        finalize(signer, A),
+        finalize(signer, B),
+    ]
 }
 
-/// The votes are handed in again and again.
-fn flood<S: Listing<Sha256Digest> + Drop>(
-    table: &mut Table<S>,
-    votes: &[Vote<S, Sha256Digest>],
-) -> Result<Counts, BatcherFault> {
-    let mut counts = Counts::default();
-    for _ in 0..TIMES {
-        table.pour(votes, &mut counts)?;
+/// Signs five votes of each member: whether there was memory for all.
+fn signs_five_of_each<S: Committee>(clerk: &mut Clerk<S>) -> bool {
+    for signer in 0..MEMBERS {
+        for ballot in five_of(signer) {
+            if clerk.learn(ballot).is_none() {
+                return false;
+            }
+        }
     }
-    Ok(counts)
+    true
+}
+
+/// The votes are handed in again and again, and none is refused.
+fn flood<S: Committee>(table: &mut Table<S>) -> Option<Counts> {
+    let mut counts = Counts {
+        accepted: 0,
+        blocked: 0,
+        reported: 0,
+    };
+    for _ in 0..TIMES {
+        if !table.pour(&mut counts) {
+            return None;
+        }
+    }
+    Some(counts)
 }
 
 /// All votes of this kind come into its certificate.
-fn certifies_all(answer: &Answer, kind: Kind) -> bool {
+fn certifies_all(answer: Answer, kind: Kind) -> bool {
     match answer {
         Answer::Constructed(
             Made {
@@ -55,52 +83,32 @@ fn certifies_all(answer: &Answer, kind: Kind) -> bool {
     }
 }
 
-/// The notarizes and the nullifies are certified, and nothing else is.
-fn are_certified(answers: &[Answer]) -> bool {
-    match answers {
-        [led, first, second, third] => {
-            *led == Answer::Done
-                && certifies_all(first, Kind::Notarization)
-                && certifies_all(second, Kind::Nullification)
-                && *third == Answer::Nothing
-        }
-        _ => false,
+/// The leader is named, and three times it is constructed: the notarizes and the nullifies are certified, and nothing else
+/// is.
+fn certifies<S: Committee>(table: &mut Table<S>) -> bool {
+    table.answer(Call::Lead(0)) == Answer::Done
+        && certifies_all(table.answer(Call::Construct), Kind::Notarization)
+        && certifies_all(table.answer(Call::Construct), Kind::Nullification)
+        && table.answer(Call::Construct) == Answer::Nothing
+}
+
+/// The flood comes, then certificates, then the flood again.
+fn withstands<S: Committee>(table: &mut Table<S>) -> bool {
+    signs_five_of_each(&mut table.clerk)
+        && flood(table) == Some(BEFORE)
+        && certifies(table)
+        && flood(table) == Some(BEHIND)
+}
+
+/// So it does on a round of the thousand.
+fn round_withstands<S: Committee>(alloc: Global) -> bool {
+    match Table::<S>::new(alloc, MEMBERS, Opening::Kept) {
+        Ok(mut table) => withstands(&mut table),
+        Err(AllocError) => false,
     }
 }
 
-/// The leader is named, and three times it is constructed: the notarizes and the nullifies are certified.
-fn certifies<S: Listing<Sha256Digest> + Drop>(table: &mut Table<S>) -> Result<bool, Fail> {
-    let construct = [
-        Call::Lead(0),
-        Call::Construct,
-        Call::Construct,
-        Call::Construct,
-    ];
-    Ok(are_certified(&table.run(&construct)?))
-}
-
-/// The flood comes, then certificates, then the flood again. Behind the certificates the votes are released: of all that
-/// is sent again only the notarize for another proposal offends, and there is no evidence of it.
-fn withstands<S: Listing<Sha256Digest> + Drop>(
-    table: &mut Table<S>,
-    votes: &[Vote<S, Sha256Digest>],
-) -> Result<bool, Fail> {
-    let before = Counts {
-        accepted: 2000,
-        blocked: 30000,
-        reported: 32000,
-    };
-    let behind = Counts {
-        blocked: 10000,
-        ..Counts::default()
-    };
-    Ok(flood(table, votes)? == before && certifies(table)? && flood(table, votes)? == behind)
-}
-
 #[test]
-fn a_hundred_thousand_votes_of_a_thousand_members(rt: HostRuntime) -> Result<(), Fail> {
-    let mut table = plain_table(rt.alloc(), MEMBERS, Opening::Kept)?;
-    let votes = table.clerk.votes(&five_of_each(rt.alloc())?)?;
-    assert!(rt; withstands(&mut table, &votes)?);
-    Ok(())
+fn a_hundred_thousand_votes_of_a_thousand_members(rt: HostRuntime) {
+    assert!(rt; round_withstands::<PlainScheme>(rt.alloc()));
 }

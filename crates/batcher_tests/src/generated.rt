@@ -1,17 +1,18 @@
 //! Calls as if by chance, beside the plain program.
 
+ghost use Rattle.std.specs.Prelude.{◌<◌};
+
 use crate::calls::{
     A, Answer, B, Ballot, Call, Mark, OTHER_VIEW, Question, Sealed, VIEW, nullify, vote_on,
 };
-use crate::members::{plain_table, salted_table, slow_table};
+use crate::members::Committee;
 use crate::model::{KINDS, Model};
 use crate::table::{Opening, Table};
-use simplex_batcher::Kind;
-use simplex_fakes::Chance;
-use simplex_types::{Listing, Sha256Digest};
+use simplex_batcher::{Answer as Told, Kind};
+use simplex_fakes::{Chance, OneByOne};
+use simplex_rules::SaltedScheme;
+use simplex_types::{PlainScheme, Sha256Digest};
 use std::alloc::{AllocError, Global};
-use std::process::Abort;
-use std::test::Fail;
 
 /// How many calls are made on each round.
 const CALLS: u64 = 40;
@@ -172,33 +173,53 @@ struct Play {
 /// The calls on one round. At last it is asked for four constructions.
 fn any_calls(alloc: Global, chance: &mut Chance, play: Play) -> Result<Vec<Call>, AllocError> {
     let mut calls = Vec::with_capacity(alloc, CALLS as usize)?;
-    for _ in 4..CALLS {
-        calls.push(any_call(chance, play.marks, play.members))?;
-    }
-    for _ in 0..4 {
-        calls.push(Call::Construct)?;
+    for place in 0..CALLS {
+        calls.push(if place < CALLS - 4 {
+            any_call(chance, play.marks, play.members)
+        } else {
+            Call::Construct
+        })?;
     }
     Ok(calls)
 }
 
-/// The plain program answers the calls so.
-fn answers_by_the_rules(
-    alloc: Global,
+/// What the last of the calls was answered, where the plain program answers all of them so.
+fn last_alike<S: Committee>(
+    table: &Table<S>,
     model: &mut Model,
     calls: &[Call],
-    answers: &[Answer],
-) -> Result<bool, AllocError> {
-    let mut are_so = calls.len() == answers.len();
-    for (call, answer) in calls.iter().zip(answers) {
-        are_so = are_so && model.answer(alloc, *call)? == *answer;
+    told: &[Told<S, Sha256Digest>],
+) -> Option<Answer> {
+    let mut last = None;
+    for (call, told) in calls.iter().zip(told) {
+        let answer = table.named(told);
+        if model.answer(*call) != answer {
+            return None;
+        }
+        last = Some(answer);
     }
-    Ok(are_so)
+    if told.len() == calls.len() {
+        last
+    } else {
+        None
+    }
 }
 
-/// Behind three constructions nothing is due, and each valid quorum has its certificate, of notarizes and finalizes where
-/// the selected proposal replaced no other.
-fn loses_no_quorum(model: &Model, answers: &[Answer]) -> bool {
-    let mut is_none_lost = answers.last() == Some(&Answer::Nothing);
+/// What the last of the calls answers, where the plain program answers all as the round does.
+fn last_answer<S: Committee>(
+    table: &mut Table<S>,
+    model: &mut Model,
+    calls: &[Call],
+) -> Option<Answer> {
+    match table.run(calls) {
+        Some(told) => last_alike(table, model, calls, &told),
+        None => None,
+    }
+}
+
+/// Each valid quorum has its certificate, of notarizes and finalizes where the selected proposal replaced no other.
+fn loses_no_quorum(model: &Model) -> bool {
+    let mut is_none_lost = true;
     for kind in KINDS {
         let may_be_lost = kind != Kind::Nullification && model.has_replaced();
         let is_kept = model.is_complete(kind) || !model.has_quorum(kind);
@@ -207,80 +228,96 @@ fn loses_no_quorum(model: &Model, answers: &[Answer]) -> bool {
     is_none_lost
 }
 
-/// One round answers as the plain program does, and loses no quorum.
-fn round_answers_by_the_rules<S: Listing<Sha256Digest> + Drop>(
+/// One round answers as the plain program does. Behind three constructions nothing is due, and it lost no quorum.
+fn round_answers_by_the_rules<S: Committee>(
+    table: &mut Table<S>,
+    model: &mut Model,
+    calls: &[Call],
+) -> bool {
+    let last = last_answer(table, model, calls);
+    last == Some(Answer::Nothing) && (model.is_skipped() || loses_no_quorum(model))
+}
+
+/// Another round answers as the plain program does.
+fn next_answers_by_the_rules<S: Committee>(
     alloc: Global,
     chance: &mut Chance,
     table: &mut Table<S>,
     play: Play,
-) -> Result<bool, Fail> {
+) -> Result<bool, AllocError> {
     let opening = any_opening(chance);
     table.reopen(opening)?;
     let calls = any_calls(alloc, chance, play)?;
-    let answers = table.run(&calls)?;
     let mut model = Model::new(alloc, play.members, play.batchable, opening);
-    let are_so = answers_by_the_rules(alloc, &mut model, &calls, &answers)?;
-    Ok(are_so && (opening == Opening::Skipped || loses_no_quorum(&model, &answers)))
+    Ok(round_answers_by_the_rules(table, &mut model, &calls))
 }
 
 /// Rounds answer as the plain program does, and lose no quorum.
-fn answer_by_the_rules<S: Listing<Sha256Digest> + Drop>(
-    rt: &impl Abort,
+fn rounds_answer_by_the_rules<S: Committee>(
     alloc: Global,
     table: &mut Table<S>,
     play: Play,
-) -> Result<(), Fail> {
+) -> Result<bool, AllocError> {
     let mut chance = Chance::seeded(u64::from(play.members));
     for _ in 0..play.rounds {
-        assert!(rt; round_answers_by_the_rules(alloc, &mut chance, table, play)?);
+        if !next_answers_by_the_rules(alloc, &mut chance, table, play)? {
+            return Ok(false);
+        }
     }
-    Ok(())
+    Ok(true)
+}
+
+/// So do those of a committee of this scheme.
+fn answer_by_the_rules<S: Committee>(alloc: Global, play: Play) -> Result<bool, AllocError>
+    requires some { 0 < play.members }
+    requires at_most { play.members < 65535 }
+{
+    match Table::<S>::new(alloc, play.members, Opening::Kept) {
+        Ok(mut table) => rounds_answer_by_the_rules(alloc, &mut table, play),
+        Err(AllocError) => Err(AllocError),
+    }
 }
 
 #[test]
-fn ten_thousand_calls_are_answered_by_the_rules(rt: HostRuntime) -> Result<(), Fail> {
-    let mut table = plain_table(rt.alloc(), 4, Opening::Kept)?;
+fn ten_thousand_calls_are_answered_by_the_rules(rt: HostRuntime) {
     let play = Play {
         rounds: 250,
         members: 4,
         batchable: true,
         marks: FIRST,
     };
-    answer_by_the_rules(&rt, rt.alloc(), &mut table, play)
+    assert!(rt; answer_by_the_rules::<PlainScheme>(rt.alloc(), play) == Ok(true));
 }
 
 #[test]
-fn seven_members_are_answered_by_the_rules(rt: HostRuntime) -> Result<(), Fail> {
-    let mut table = plain_table(rt.alloc(), 7, Opening::Kept)?;
+fn seven_members_are_answered_by_the_rules(rt: HostRuntime) {
     let play = Play {
         rounds: 100,
         members: 7,
         batchable: true,
         marks: FIRST,
     };
-    answer_by_the_rules(&rt, rt.alloc(), &mut table, play)
+    assert!(rt; answer_by_the_rules::<PlainScheme>(rt.alloc(), play) == Ok(true));
 }
 
 #[test]
-fn votes_signed_each_time_anew_are_answered_by_the_rules(rt: HostRuntime) -> Result<(), Fail> {
-    let mut table = salted_table(rt.alloc(), Opening::Kept)?;
+fn votes_signed_each_time_anew_are_answered_by_the_rules(rt: HostRuntime) {
     let play = Play {
         rounds: 100,
         members: 4,
         batchable: true,
         marks: SECOND,
     };
-    answer_by_the_rules(&rt, rt.alloc(), &mut table, play)
+    assert!(rt; answer_by_the_rules::<SaltedScheme>(rt.alloc(), play) == Ok(true));
 }
 
 #[test]
-fn votes_judged_one_by_one_are_answered_by_the_rules(rt: HostRuntime) -> Result<(), Fail> {
-    let mut table = slow_table(rt.alloc(), Opening::Kept)?;
+fn votes_judged_one_by_one_are_answered_by_the_rules(rt: HostRuntime) {
     let play = Play {
         rounds: 100,
         members: 4,
         batchable: false,
         marks: FIRST,
     };
-    answer_by_the_rules(&rt, rt.alloc(), &mut table, play)
+    assert!(rt; answer_by_the_rules::<OneByOne>(rt.alloc(), play) == Ok(true));
 }

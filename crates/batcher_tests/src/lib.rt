@@ -9,6 +9,8 @@ mod calls;
 #[cfg(test)]
 mod clerk;
 #[cfg(test)]
+mod concrete;
+#[cfg(test)]
 mod flood;
 #[cfg(test)]
 mod generated;

@@ -4,7 +4,7 @@
 use crate::calls::{Answer, Ballot, Call, Made, Mark, Question, Report, Sealed, VIEW, one};
 use crate::table::Opening;
 use simplex_batcher::{BatcherFault, Kind};
-use std::alloc::{AllocError, Global};
+use std::alloc::Global;
 
 /// The three kinds, in the order of their constructions.
 pub const KINDS: [Kind; 3] = [Kind::Notarization, Kind::Nullification, Kind::Finalization];
@@ -56,17 +56,46 @@ fn evidence(recorded: Ballot, ballot: Ballot) -> Report {
     }
 }
 
-/// Whether all these votes are for one payload.
-fn are_for_one(ballots: &[Ballot]) -> bool {
-    let Some(first) = ballots.first() else {
-        return true;
+/// What is told of some votes of one kind.
+#[derive(Clone, Copy)]
+struct Counted {
+    /// How many they are.
+    votes: usize,
+    /// How many of them attest.
+    attesting: usize,
+    /// Who attests.
+    signers: u64,
+    /// Whose vote does not.
+    invalid: u64,
+    /// What was attested last.
+    payload: u8,
+    /// Whether votes for two payloads attest.
+    differ: bool,
+}
+
+impl Counted {
+    /// No votes.
+    const NONE: Counted = Counted {
+        votes: 0,
+        attesting: 0,
+        signers: 0,
+        invalid: 0,
+        payload: 0,
+        differ: false,
     };
-    for ballot in ballots {
-        if ballot.payload != first.payload {
-            return false;
+
+    /// Counts a vote.
+    fn add(&mut self, ballot: Ballot) {
+        self.votes = self.votes.saturating_add(1);
+        if ballot.mark == Mark::Broken {
+            self.invalid |= one(ballot.signer);
+            return;
         }
+        self.differ = self.differ || self.attesting != 0 && self.payload != ballot.payload;
+        self.attesting = self.attesting.saturating_add(1);
+        self.signers |= one(ballot.signer);
+        self.payload = ballot.payload;
     }
-    true
 }
 
 /// The payload that an event fixes: that of a notarization or finalization, or of an own finalize.
@@ -89,6 +118,11 @@ impl Model {
         }
     }
 
+    /// Whether the round is passed over.
+    pub fn is_skipped(&self) -> bool {
+        matches!(self.opening, Opening::Skipped)
+    }
+
     /// How many members a certificate needs.
     fn quorum(&self) -> usize {
         let faults = self.members.saturating_sub(1) / 3;
@@ -109,7 +143,14 @@ impl Model {
 
     /// Whether a kind is certified.
     pub fn is_complete(&self, kind: Kind) -> bool {
-        self.happened.iter().any(|event| matches!(event, Event::Certified(of, _) if *of == kind))
+        for event in &self.happened {
+            if let Event::Certified(of, _) = event
+                && *of == kind
+            {
+                return true;
+            }
+        }
+        false
     }
 
     /// Whether votes of this kind are kept in full.
@@ -170,27 +211,29 @@ impl Model {
 
     /// Whether votes of this kind were judged behind this place.
     fn is_judged(&self, place: usize, kind: Kind) -> bool {
-        self.happened
-            .iter()
-            .skip(place)
-            .any(|event| matches!(event, Event::Judged(of) if *of == kind))
+        for event in self.happened.iter().skip(place) {
+            if let Event::Judged(of) = event
+                && *of == kind
+            {
+                return true;
+            }
+        }
+        false
     }
 
     /// The votes of a kind that count for its certificate: those that wait, or those that are known to attest.
-    fn counted(&self, alloc: Global, kind: Kind, waiting: bool) -> Result<Vec<Ballot>, AllocError> {
-        let mut counted = Vec::new(alloc);
+    fn counted(&self, kind: Kind, waiting: bool) -> Counted {
+        let mut counted = Counted::NONE;
         for (place, event) in self.happened.iter().enumerate() {
             if let Event::Accepted(ballot, own) = event
                 && ballot.kind == kind
                 && !self.is_dropped(place, *ballot)
+                && (!*own && !self.is_judged(place, kind)) == waiting
             {
-                let waits = !*own && !self.is_judged(place, kind);
-                if waits == waiting && (waits || ballot.mark != Mark::Broken) {
-                    counted.push(*ballot)?;
-                }
+                counted.add(*ballot);
             }
         }
-        Ok(counted)
+        counted
     }
 
     /// Whether at some point another proposal was selected than at last.
@@ -227,199 +270,186 @@ impl Model {
         backers >= self.quorum()
     }
 
+    /// Notes what happened. What finds no memory is missing from then on, and answers will differ.
+    fn happen(&mut self, event: Event) {
+        let _ = self.happened.push(event);
+    }
+
     /// What is answered to a vote from the network.
-    fn network(&mut self, sender: u32, ballot: Ballot) -> Result<Answer, AllocError> {
+    fn network(&mut self, sender: u32, ballot: Ballot) -> Answer {
         if ballot.view != VIEW {
-            return Ok(Answer::Refused(BatcherFault::WrongRound));
+            return Answer::Refused(BatcherFault::WrongRound);
         }
         if sender != ballot.signer {
-            return Ok(Answer::Admitted(false, true, Report::Nothing));
+            return Answer::Admitted(false, true, Report::Nothing);
         }
         if sender >= self.members {
-            return Ok(Answer::Admitted(false, false, Report::Nothing));
+            return Answer::Admitted(false, false, Report::Nothing);
         }
-        let Some(recorded) = self.recorded(ballot) else {
-            self.happened.push(Event::Accepted(ballot, false))?;
-            return Ok(Answer::Admitted(true, false, Report::Vote(ballot)));
-        };
+        match self.recorded(ballot) {
+            Some(recorded) => self.refused(recorded, ballot),
+            None => {
+                self.happen(Event::Accepted(ballot, false));
+                Answer::Admitted(true, false, Report::Vote(ballot))
+            }
+        }
+    }
+
+    /// What is answered to a vote from the network that a recorded one stands in the way of.
+    fn refused(&self, recorded: Ballot, ballot: Ballot) -> Answer {
         if self.is_kept_in_full(recorded.kind) {
             let report = evidence(recorded, ballot);
-            return Ok(Answer::Admitted(false, recorded != ballot, report));
+            return Answer::Admitted(false, recorded != ballot, report);
         }
         let block = recorded.kind == ballot.kind && recorded.payload != ballot.payload;
-        Ok(Answer::Admitted(false, block, Report::Nothing))
+        Answer::Admitted(false, block, Report::Nothing)
     }
 
     /// What is answered to an own vote.
-    fn own(&mut self, ballot: Ballot) -> Result<Answer, AllocError> {
+    fn own(&mut self, ballot: Ballot) -> Answer {
         if ballot.view != VIEW {
-            return Ok(Answer::Refused(BatcherFault::WrongRound));
+            return Answer::Refused(BatcherFault::WrongRound);
         }
         match self.recorded(ballot) {
-            Some(recorded) => {
-                if contradicts(recorded, ballot) {
-                    return Ok(Answer::Refused(BatcherFault::Contradicts));
-                }
-                Ok(Answer::Taken(Report::Nothing))
+            Some(recorded) if contradicts(recorded, ballot) => {
+                Answer::Refused(BatcherFault::Contradicts)
             }
+            Some(_) => Answer::Taken(Report::Nothing),
             None => {
-                self.happened.push(Event::Accepted(ballot, true))?;
-                Ok(Answer::Taken(Report::Vote(ballot)))
+                self.happen(Event::Accepted(ballot, true));
+                Answer::Taken(Report::Vote(ballot))
             }
         }
     }
 
     /// What is answered to a certificate.
-    fn record(&mut self, sealed: Sealed) -> Result<Answer, AllocError> {
+    fn record(&mut self, sealed: Sealed) -> Answer {
         if sealed.view != VIEW {
-            return Ok(Answer::Refused(BatcherFault::WrongRound));
+            return Answer::Refused(BatcherFault::WrongRound);
         }
         let before = self.selected(&self.happened);
-        self.happened
-            .push(Event::Certified(sealed.kind, sealed.payload))?;
+        self.happen(Event::Certified(sealed.kind, sealed.payload));
         let after = self.selected(&self.happened);
-        Ok(Answer::Truth(sealed.kind == Kind::Notarization && before != after))
+        Answer::Truth(sealed.kind == Kind::Notarization && before != after)
     }
 
     /// What is answered to a leader's name.
-    fn lead(&mut self, leader: u32) -> Result<Answer, AllocError> {
+    fn lead(&mut self, leader: u32) -> Answer {
         match self.leader(&self.happened) {
-            Some(known) if known == leader => Ok(Answer::Done),
-            Some(_) => Ok(Answer::Refused(BatcherFault::OtherLeader)),
+            Some(known) if known == leader => Answer::Done,
+            Some(_) => Answer::Refused(BatcherFault::OtherLeader),
             None => {
-                self.happened.push(Event::Led(leader))?;
-                Ok(Answer::Done)
+                self.happen(Event::Led(leader));
+                Answer::Done
             }
         }
     }
 
+    /// Whether the selected proposal was forwarded.
+    fn has_forwarded(&self) -> bool {
+        for event in &self.happened {
+            if let Event::Forwarded = event {
+                return true;
+            }
+        }
+        false
+    }
+
     /// What is forwarded where this member asks.
-    fn forward(&mut self, me: u32) -> Result<Answer, AllocError> {
-        let forwarded = self
-            .happened
-            .iter()
-            .any(|event| matches!(event, Event::Forwarded));
+    fn forward(&mut self, me: u32) -> Answer {
         let Some(leader) = self.leader(&self.happened) else {
-            return Ok(Answer::Nothing);
+            return Answer::Nothing;
         };
         match self.selected(&self.happened) {
-            Some(payload) if !forwarded && leader != me => {
-                self.happened.push(Event::Forwarded)?;
-                Ok(Answer::Forward(payload))
+            Some(payload) if leader != me && !self.has_forwarded() => {
+                self.happen(Event::Forwarded);
+                Answer::Forward(payload)
             }
-            _ => Ok(Answer::Nothing),
+            _ => Answer::Nothing,
         }
     }
 
     /// What comes of a construction of this kind.
-    fn construct_kind(&mut self, alloc: Global, kind: Kind) -> Result<Option<Made>, AllocError> {
-        if self.is_complete(kind) || self.opening == Opening::Skipped {
-            return Ok(None);
+    fn construct_kind(&mut self, kind: Kind) -> Option<Made> {
+        if self.is_complete(kind) || self.is_skipped() {
+            return None;
         }
-        let verified = self.counted(alloc, kind, false)?;
-        let waiting = self.counted(alloc, kind, true)?;
+        let verified = self.counted(kind, false);
+        let waiting = self.counted(kind, true);
         let is_known = kind == Kind::Nullification || self.selected(&self.happened).is_some();
-        let are_one = are_for_one(&verified);
-        if verified.len() >= self.quorum() && (is_known || are_one) {
-            let certificate = self.certify(kind, &verified, &[])?;
-            return Ok(Some(Made {
-                certificate,
-                invalid: 0,
-                processed: 0,
-                fallback: false,
-            }));
+        if verified.attesting >= self.quorum() && (is_known || !verified.differ) {
+            return Some(self.judge(kind, verified, Counted::NONE));
         }
-        let enough = !self.batchable
-            || verified.len().saturating_add(waiting.len()) >= self.quorum();
-        if !is_known || waiting.is_empty() || !enough {
-            return Ok(None);
+        let enough = verified.attesting.saturating_add(waiting.votes) >= self.quorum();
+        if is_known && waiting.votes != 0 && (enough || !self.batchable) {
+            return Some(self.judge(kind, verified, waiting));
         }
-        Ok(Some(self.judge(kind, &verified, &waiting)?))
+        None
     }
 
-    /// What comes of votes that wait, beside those that are known to attest.
-    fn judge(
-        &mut self,
-        kind: Kind,
-        verified: &[Ballot],
-        waiting: &[Ballot],
-    ) -> Result<Made, AllocError> {
-        let mut invalid = 0;
-        let mut good = verified.len();
-        for ballot in waiting {
-            if ballot.mark == Mark::Broken {
-                invalid |= one(ballot.signer);
-            } else {
-                good = good.saturating_add(1);
-            }
-        }
-        let certificate = if good >= self.quorum() {
-            self.certify(kind, verified, waiting)?
-        } else {
-            self.happened.push(Event::Judged(kind))?;
-            None
-        };
-        Ok(Made {
-            certificate,
-            invalid,
-            processed: waiting.len(),
-            fallback: self.batchable && invalid != 0,
-        })
-    }
-
-    /// The certificate of those votes that attest.
-    fn certify(
-        &mut self,
-        kind: Kind,
-        verified: &[Ballot],
-        waiting: &[Ballot],
-    ) -> Result<Option<Sealed>, AllocError> {
-        let mut signers = 0;
-        let mut payload = 0;
-        let mut listed: usize = 0;
-        for ballot in verified.iter().chain(waiting) {
-            if ballot.mark != Mark::Broken {
-                signers |= one(ballot.signer);
-                payload = ballot.payload;
-                listed = listed.saturating_add(1);
-            }
-        }
-        self.happened.push(Event::Certified(kind, payload))?;
-        Ok(Some(Sealed {
+    /// What comes of votes that wait, beside those that are known to attest: a certificate, where these and those of them
+    /// that attest are a quorum.
+    fn judge(&mut self, kind: Kind, verified: Counted, waiting: Counted) -> Made {
+        let sealed = Sealed {
             kind,
             view: VIEW,
-            payload,
-            signers,
-            listed,
-        }))
+            payload: if waiting.attesting == 0 {
+                verified.payload
+            } else {
+                waiting.payload
+            },
+            signers: verified.signers | waiting.signers,
+            listed: verified.attesting.saturating_add(waiting.attesting),
+        };
+        let is_quorum = sealed.listed >= self.quorum();
+        self.happen(if is_quorum {
+            Event::Certified(kind, sealed.payload)
+        } else {
+            Event::Judged(kind)
+        });
+        Made {
+            certificate: if is_quorum { Some(sealed) } else { None },
+            invalid: waiting.invalid,
+            processed: waiting.votes,
+            fallback: self.batchable && waiting.invalid != 0,
+        }
     }
 
     /// What comes of a construction: of the first kind of which something comes.
-    fn construct(&mut self, alloc: Global) -> Result<Answer, AllocError> {
+    fn construct(&mut self) -> Answer {
         for kind in KINDS {
-            if let Some(made) = self.construct_kind(alloc, kind)? {
-                return Ok(Answer::Constructed(made));
+            if let Some(made) = self.construct_kind(kind) {
+                return Answer::Constructed(made);
             }
         }
-        Ok(Answer::Nothing)
+        Answer::Nothing
     }
 
     /// Whether no vote for this payload was accepted of this member.
     fn is_missing(&self, payload: u8, signer: u32) -> bool {
-        !self.happened.iter().any(|event| {
-            matches!(event, Event::Accepted(ballot, _)
-                if ballot.signer == signer
-                    && ballot.payload == payload
-                    && ballot.kind != Kind::Nullification)
-        })
+        for event in &self.happened {
+            if let Event::Accepted(ballot, _) = event
+                && ballot.signer == signer
+                && ballot.payload == payload
+                && ballot.kind != Kind::Nullification
+            {
+                return false;
+            }
+        }
+        true
     }
 
     /// Whether this member's nullify was accepted.
     fn has_nullify(&self, signer: u32) -> bool {
-        self.happened.iter().any(|event| {
-            matches!(event, Event::Accepted(ballot, _)
-                if ballot.signer == signer && ballot.kind == Kind::Nullification)
-        })
+        for event in &self.happened {
+            if let Event::Accepted(ballot, _) = event
+                && ballot.signer == signer
+                && ballot.kind == Kind::Nullification
+            {
+                return true;
+            }
+        }
+        false
     }
 
     /// What the question is answered.
@@ -445,15 +475,15 @@ impl Model {
     }
 
     /// What the call answers.
-    pub fn answer(&mut self, alloc: Global, call: Call) -> Result<Answer, AllocError> {
+    pub fn answer(&mut self, call: Call) -> Answer {
         match call {
             Call::Network(sender, ballot) => self.network(sender, ballot),
             Call::Own(ballot) => self.own(ballot),
             Call::Record(sealed) => self.record(sealed),
             Call::Lead(leader) => self.lead(leader),
-            Call::Construct => self.construct(alloc),
+            Call::Construct => self.construct(),
             Call::Forward(me) => self.forward(me),
-            Call::Ask(question) => Ok(self.ask(question)),
+            Call::Ask(question) => self.ask(question),
         }
     }
 }

@@ -14,9 +14,14 @@ pub fn round(view: u64) -> Round {
     Round::new(Epoch::new(0), View::new(view))
 }
 
-/// The payload of 32 such bytes for a view, on view 1.
+/// The payload of 32 such bytes for a round, on view 1.
+pub fn proposal_of(round: Round, payload: u8) -> Proposal<Sha256Digest> {
+    Proposal::new(round, View::new(1), Sha256Digest::new([payload; 32]))
+}
+
+/// The same for a view of epoch 0.
 pub fn proposal(view: u64, payload: u8) -> Proposal<Sha256Digest> {
-    Proposal::new(round(view), View::new(1), Sha256Digest::new([payload; 32]))
+    proposal_of(round(view), payload)
 }
 
 /// The byte that the proposal's payload is made of.
@@ -77,33 +82,44 @@ pub fn certificate_with<S: Scheme<Sha256Digest>>(
     }
 }
 
-/// The name of a certificate by these members.
-pub fn named_certificate<S: Listing<Sha256Digest>>(
-    certificate: &Certificate<S, Sha256Digest>,
-) -> Sealed {
-    match certificate {
-        Certificate::Notarization(it) => Sealed {
-            kind: Kind::Notarization,
-            view: it.proposal.round.view.get(),
-            payload: payload_of(&it.proposal),
-            signers: listed(S::attestations(&it.certificate)),
-            listed: S::attestations(&it.certificate).len(),
-        },
-        Certificate::Nullification(it) => Sealed {
-            kind: Kind::Nullification,
-            view: it.round.view.get(),
-            payload: 0,
-            signers: listed(S::attestations(&it.certificate)),
-            listed: S::attestations(&it.certificate).len(),
-        },
-        Certificate::Finalization(it) => Sealed {
-            kind: Kind::Finalization,
-            view: it.proposal.round.view.get(),
-            payload: payload_of(&it.proposal),
-            signers: listed(S::attestations(&it.certificate)),
-            listed: S::attestations(&it.certificate).len(),
-        },
+/// The name of a certificate of this kind, by these attestations.
+fn sealed<G>(kind: Kind, view: View, payload: u8, attestations: &[Attestation<G>]) -> Sealed {
+    Sealed {
+        kind,
+        view: view.get(),
+        payload,
+        signers: listed(attestations),
+        listed: attestations.len(),
     }
+}
+
+/// The name of a certificate, if there is one.
+pub fn named_certificate<S: Listing<Sha256Digest>>(
+    certificate: &Option<Certificate<S, Sha256Digest>>,
+) -> Option<Sealed> {
+    let Some(certificate) = certificate else {
+        return None;
+    };
+    Some(match certificate {
+        Certificate::Notarization(it) => sealed(
+            Kind::Notarization,
+            it.proposal.round.view,
+            payload_of(&it.proposal),
+            S::attestations(&it.certificate),
+        ),
+        Certificate::Nullification(it) => sealed(
+            Kind::Nullification,
+            it.round.view,
+            0,
+            S::attestations(&it.certificate),
+        ),
+        Certificate::Finalization(it) => sealed(
+            Kind::Finalization,
+            it.proposal.round.view,
+            payload_of(&it.proposal),
+            S::attestations(&it.certificate),
+        ),
+    })
 }
 
 /// The set of those who signed.

@@ -2,12 +2,11 @@
 //! are a quorum, and member 0 leads.
 
 use crate::calls::{
-    A, Answer, B, Call, Made, Mark, Report, certificate_by, comes, marked, notarize, one,
+    A, Answer, B, Call, LED, Made, Mark, NOT_DUE, Report, certificate_by, comes, constructs,
+    marked, notarize, one,
 };
-use crate::members::{salted_table, slow_table};
-use crate::table::{Opening, plays};
+use crate::concrete::{salted_plays, slow_plays};
 use simplex_batcher::Kind;
-use std::test::Fail;
 
 /// Notarizes were judged, and no certificate came of it.
 fn judged(processed: usize, invalid: u64) -> (Call, Answer) {
@@ -17,7 +16,7 @@ fn judged(processed: usize, invalid: u64) -> (Call, Answer) {
         processed,
         fallback: false,
     };
-    (Call::Construct, Answer::Constructed(made))
+    constructs(made)
 }
 
 /// A notarization by these members.
@@ -28,16 +27,16 @@ fn made(signers: &[u32], processed: usize, invalid: u64, fallback: bool) -> (Cal
         processed,
         fallback,
     };
-    (Call::Construct, Answer::Constructed(made))
+    constructs(made)
 }
 
 // Two signatures of one vote are unequal, and no evidence.
 #[test]
-fn votes_that_are_signed_twice_are_unequal(rt: HostRuntime) -> Result<(), Fail> {
+fn votes_that_are_signed_twice_are_unequal(rt: HostRuntime) {
     let vote = notarize(1, A);
     let again = marked(Mark::Again, vote);
     let rows = [
-        (Call::Lead(0), Answer::Done),
+        LED,
         comes(vote),
         (
             Call::Network(1, again),
@@ -52,32 +51,30 @@ fn votes_that_are_signed_twice_are_unequal(rt: HostRuntime) -> Result<(), Fail> 
         comes(marked(Mark::Broken, notarize(2, A))),
         comes(marked(Mark::Again, notarize(3, A))),
         made(&[0, 1, 3], 4, one(2), true),
-        (Call::Construct, Answer::Nothing),
+        NOT_DUE,
         (
             Call::Network(1, again),
             Answer::Admitted(false, false, Report::Nothing),
         ),
     ];
-    let mut table = salted_table(rt.alloc(), Opening::Kept)?;
-    plays(&rt, &mut table, &rows)
+    salted_plays(&rt, rt.alloc(), &rows);
 }
 
 // Such a scheme is asked as soon as a vote waits, never for all at once, and so falls back on nothing.
 #[test]
-fn a_scheme_that_is_not_batchable_judges_each_vote_that_waits(rt: HostRuntime) -> Result<(), Fail> {
+fn a_scheme_that_is_not_batchable_judges_each_vote_that_waits(rt: HostRuntime) {
     let rows = [
         comes(notarize(0, A)),
-        (Call::Construct, Answer::Nothing),
-        (Call::Lead(0), Answer::Done),
+        NOT_DUE,
+        LED,
         judged(1, 0),
-        (Call::Construct, Answer::Nothing),
+        NOT_DUE,
         comes(marked(Mark::Broken, notarize(1, A))),
         judged(1, one(1)),
         comes(notarize(2, A)),
         comes(notarize(3, A)),
         made(&[0, 2, 3], 2, 0, false),
-        (Call::Construct, Answer::Nothing),
+        NOT_DUE,
     ];
-    let mut table = slow_table(rt.alloc(), Opening::Kept)?;
-    plays(&rt, &mut table, &rows)
+    slow_plays(&rt, rt.alloc(), &rows);
 }

@@ -2,15 +2,12 @@
 //! leads.
 
 use crate::calls::{
-    A, Answer, B, Ballot, Call, Made, Report, certificate_by, comes, finalize, has, notarize,
-    nullify,
+    A, Answer, B, Ballot, Call, LED, NOT_DUE, Question, Report, certificate_by, certified_by,
+    comes, constructs, finalize, is, notarize, nullify, own,
 };
-use crate::members::plain_plays;
+use crate::concrete::plain_plays;
 use crate::table::Opening;
 use simplex_batcher::{BatcherFault, Kind};
-use std::test::Fail;
-
-const LED: (Call, Answer) = (Call::Lead(0), Answer::Done);
 
 /// Nothing is to be forwarded by this member.
 fn keeps(me: u32) -> (Call, Answer) {
@@ -37,9 +34,7 @@ fn contradicts(ballot: Ballot) -> (Call, Answer) {
 }
 
 #[test]
-fn the_leaders_proposal_is_forwarded_once_and_not_by_the_leader(
-    rt: HostRuntime,
-) -> Result<(), Fail> {
+fn the_leaders_proposal_is_forwarded_once_and_not_by_the_leader(rt: HostRuntime) {
     let rows = [
         comes(notarize(1, B)),
         keeps(1),
@@ -53,37 +48,37 @@ fn the_leaders_proposal_is_forwarded_once_and_not_by_the_leader(
         certified(Kind::Notarization, B, true),
         keeps(1),
     ];
-    plain_plays(&rt, rt.alloc(), 4, Opening::Kept, &rows)
+    plain_plays(&rt, rt.alloc(), 4, Opening::Kept, &rows);
 }
 
 #[test]
-fn a_notarize_that_came_before_its_leader_was_named_selects(rt: HostRuntime) -> Result<(), Fail> {
+fn a_notarize_that_came_before_its_leader_was_named_selects(rt: HostRuntime) {
     let rows = [comes(notarize(0, A)), keeps(2), LED, forwards(2, A)];
-    plain_plays(&rt, rt.alloc(), 4, Opening::Kept, &rows)
+    plain_plays(&rt, rt.alloc(), 4, Opening::Kept, &rows);
 }
 
 #[test]
-fn a_skipped_round_forwards_and_makes_no_certificate(rt: HostRuntime) -> Result<(), Fail> {
+fn a_skipped_round_forwards_and_makes_no_certificate(rt: HostRuntime) {
     let rows = [
         LED,
         comes(notarize(0, A)),
         comes(notarize(1, A)),
         comes(notarize(2, A)),
         comes(notarize(3, A)),
-        (Call::Construct, Answer::Nothing),
-        has(Kind::Notarization, false),
+        NOT_DUE,
+        is(Question::HasCertificate(Kind::Notarization), false),
         forwards(2, A),
         keeps(2),
         certified(Kind::Notarization, A, false),
-        has(Kind::Notarization, true),
+        is(Question::HasCertificate(Kind::Notarization), true),
     ];
-    plain_plays(&rt, rt.alloc(), 4, Opening::Skipped, &rows)
+    plain_plays(&rt, rt.alloc(), 4, Opening::Skipped, &rows);
 }
 
 // The leader's proposal gives way to that of a certificate, which gives way to nothing. What was equal before is
 // reported as no change.
 #[test]
-fn a_certificates_proposal_is_fixed(rt: HostRuntime) -> Result<(), Fail> {
+fn a_certificates_proposal_is_fixed(rt: HostRuntime) {
     let rows = [
         LED,
         comes(notarize(0, A)),
@@ -93,7 +88,7 @@ fn a_certificates_proposal_is_fixed(rt: HostRuntime) -> Result<(), Fail> {
         certified(Kind::Finalization, B, false),
         forwards(1, A),
     ];
-    plain_plays(&rt, rt.alloc(), 4, Opening::Kept, &rows)?;
+    plain_plays(&rt, rt.alloc(), 4, Opening::Kept, &rows);
     let replaced = [
         LED,
         comes(notarize(0, A)),
@@ -101,39 +96,30 @@ fn a_certificates_proposal_is_fixed(rt: HostRuntime) -> Result<(), Fail> {
         certified(Kind::Notarization, A, false),
         forwards(1, B),
     ];
-    plain_plays(&rt, rt.alloc(), 4, Opening::Kept, &replaced)
+    plain_plays(&rt, rt.alloc(), 4, Opening::Kept, &replaced);
 }
 
 #[test]
-fn an_own_finalize_fixes_the_proposal(rt: HostRuntime) -> Result<(), Fail> {
+fn an_own_finalize_fixes_the_proposal(rt: HostRuntime) {
     let rows = [
         LED,
         comes(finalize(2, A)),
         keeps(1),
-        (
-            Call::Own(finalize(1, B)),
-            Answer::Taken(Report::Vote(finalize(1, B))),
-        ),
+        own(finalize(1, B)),
         comes(notarize(0, A)),
         certified(Kind::Notarization, A, false),
         forwards(1, B),
     ];
-    plain_plays(&rt, rt.alloc(), 4, Opening::Kept, &rows)
+    plain_plays(&rt, rt.alloc(), 4, Opening::Kept, &rows);
 }
 
 // Also in a released phase, and where a vote from the network in the own name came first.
 #[test]
-fn an_own_vote_contradicts_what_is_recorded(rt: HostRuntime) -> Result<(), Fail> {
+fn an_own_vote_contradicts_what_is_recorded(rt: HostRuntime) {
     let rows = [
-        (
-            Call::Own(notarize(1, A)),
-            Answer::Taken(Report::Vote(notarize(1, A))),
-        ),
+        own(notarize(1, A)),
         contradicts(notarize(1, B)),
-        (
-            Call::Own(nullify(1)),
-            Answer::Taken(Report::Vote(nullify(1))),
-        ),
+        own(nullify(1)),
         contradicts(finalize(1, A)),
         certified(Kind::Notarization, A, true),
         certified(Kind::Nullification, 0, false),
@@ -145,24 +131,13 @@ fn an_own_vote_contradicts_what_is_recorded(rt: HostRuntime) -> Result<(), Fail>
         contradicts(finalize(2, B)),
         (Call::Own(finalize(2, A)), Answer::Taken(Report::Nothing)),
     ];
-    plain_plays(&rt, rt.alloc(), 4, Opening::Kept, &rows)?;
-    plain_plays(&rt, rt.alloc(), 4, Opening::Skipped, &rows)
-}
-
-/// A certificate of all that came, by these members.
-fn made(kind: Kind, payload: u8, signers: &[u32], processed: usize) -> (Call, Answer) {
-    let made = Made {
-        certificate: Some(certificate_by(kind, payload, signers)),
-        invalid: 0,
-        processed,
-        fallback: false,
-    };
-    (Call::Construct, Answer::Constructed(made))
+    plain_plays(&rt, rt.alloc(), 4, Opening::Kept, &rows);
+    plain_plays(&rt, rt.alloc(), 4, Opening::Skipped, &rows);
 }
 
 // Own votes count and are not judged. A nullification needs no leader.
 #[test]
-fn three_kinds_are_certified_in_turn(rt: HostRuntime) -> Result<(), Fail> {
+fn three_kinds_are_certified_in_turn(rt: HostRuntime) {
     let rows = [
         comes(nullify(0)),
         comes(nullify(1)),
@@ -171,46 +146,37 @@ fn three_kinds_are_certified_in_turn(rt: HostRuntime) -> Result<(), Fail> {
         comes(notarize(0, A)),
         comes(notarize(1, A)),
         comes(notarize(3, B)),
-        (
-            Call::Own(notarize(2, A)),
-            Answer::Taken(Report::Vote(notarize(2, A))),
-        ),
+        own(notarize(2, A)),
         LED,
-        made(Kind::Notarization, A, &[0, 1, 2], 2),
-        made(Kind::Nullification, 0, &[0, 1, 2], 3),
-        (Call::Construct, Answer::Nothing),
-        has(Kind::Notarization, true),
-        has(Kind::Nullification, true),
-        has(Kind::Finalization, false),
+        constructs(certified_by(Kind::Notarization, A, &[0, 1, 2], 2)),
+        constructs(certified_by(Kind::Nullification, 0, &[0, 1, 2], 3)),
+        NOT_DUE,
+        is(Question::HasCertificate(Kind::Notarization), true),
+        is(Question::HasCertificate(Kind::Nullification), true),
+        is(Question::HasCertificate(Kind::Finalization), false),
     ];
-    plain_plays(&rt, rt.alloc(), 4, Opening::Kept, &rows)
+    plain_plays(&rt, rt.alloc(), 4, Opening::Kept, &rows);
 }
 
 // Verified votes that reach the quorum certify before anything is selected, and nothing is judged.
 #[test]
-fn own_votes_alone_are_certified_unjudged(rt: HostRuntime) -> Result<(), Fail> {
-    let own = |signer| {
-        (
-            Call::Own(notarize(signer, A)),
-            Answer::Taken(Report::Vote(notarize(signer, A))),
-        )
-    };
+fn own_votes_alone_are_certified_unjudged(rt: HostRuntime) {
     let rows = [
-        own(1),
-        own(2),
-        (Call::Construct, Answer::Nothing),
-        own(3),
-        made(Kind::Notarization, A, &[1, 2, 3], 0),
-        (Call::Construct, Answer::Nothing),
+        own(notarize(1, A)),
+        own(notarize(2, A)),
+        NOT_DUE,
+        own(notarize(3, A)),
+        constructs(certified_by(Kind::Notarization, A, &[1, 2, 3], 0)),
+        NOT_DUE,
         LED,
         forwards(1, A),
     ];
-    plain_plays(&rt, rt.alloc(), 4, Opening::Kept, &rows)
+    plain_plays(&rt, rt.alloc(), 4, Opening::Kept, &rows);
 }
 
 // Votes that were dropped when another proposal was selected do not come back.
 #[test]
-fn votes_for_another_proposal_are_dropped(rt: HostRuntime) -> Result<(), Fail> {
+fn votes_for_another_proposal_are_dropped(rt: HostRuntime) {
     let rows = [
         comes(finalize(1, B)),
         comes(finalize(2, B)),
@@ -218,9 +184,9 @@ fn votes_for_another_proposal_are_dropped(rt: HostRuntime) -> Result<(), Fail> {
         LED,
         certified(Kind::Notarization, B, true),
         comes(finalize(3, B)),
-        (Call::Construct, Answer::Nothing),
+        NOT_DUE,
         comes(finalize(0, B)),
-        (Call::Construct, Answer::Nothing),
+        NOT_DUE,
     ];
-    plain_plays(&rt, rt.alloc(), 4, Opening::Kept, &rows)
+    plain_plays(&rt, rt.alloc(), 4, Opening::Kept, &rows);
 }

@@ -1,20 +1,22 @@
 //! A round and its committee: calls that a table names are made on it, and its answers named again.
 
+ghost use Rattle.std.specs.Prelude.{◌<◌};
+
 use crate::calls::{Answer, Call, Question, VIEW};
-use crate::clerk::Clerk;
-use crate::naming::{ascending, payload_of, proposal, round};
+use crate::clerk::{Clerk, Signed};
+use crate::members::Committee;
+use crate::naming::{ascending, payload_of, proposal, round, vote_with};
 use simplex_batcher::{
-    Admission, Answer as Told, BatcherFault, Call as Asked, Question as Query, Round as Votes, run,
+    Answer as Told, Batch, BatcherFault, Call as Asked, Question as Query, Round as Votes, run,
 };
-use simplex_messages::Vote;
-use simplex_types::{Attributable, Duplicate, Listing, Participant, Scheme, Sha256Digest};
+use simplex_messages::Certificate;
+use simplex_types::{Participant, Proposal, Scheme, Sha256Digest};
 use std::alloc::{AllocError, Global};
 use std::process::Abort;
 use std::rc::Rc;
-use std::test::Fail;
 
 /// How a round is opened.
-#[derive(Clone, Copy, PartialEq, Eq)]
+#[derive(Clone, Copy)]
 pub enum Opening {
     /// Votes are kept in full until their kind is certified.
     Kept,
@@ -25,7 +27,7 @@ pub enum Opening {
 }
 
 /// How many votes were accepted, how many blocked their member, and of how many there was a report.
-#[derive(Clone, Copy, Default, PartialEq, Eq)]
+#[derive(Clone, Copy, PartialEq, Eq)]
 pub struct Counts {
     pub accepted: usize,
     pub blocked: usize,
@@ -63,9 +65,45 @@ fn opened<S: Scheme<Sha256Digest>>(
     }
 }
 
-impl<S: Listing<Sha256Digest> + Drop> Table<S> {
-    /// A round of the clerk's committee.
-    pub fn new(alloc: Global, clerk: Clerk<S>, opening: Opening) -> Result<Self, AllocError> {
+/// A vote is handed in by its member, and what is told of it is counted: whether it is not refused.
+fn hand_in<S: Scheme<Sha256Digest>>(
+    votes: &mut Votes<S, Sha256Digest>,
+    signed: &Signed<S::Signature>,
+    counts: &mut Counts,
+) -> bool {
+    let sender = Participant::new(signed.ballot.signer);
+    match votes.add_network(sender, vote_with(signed.ballot, signed.attestation)) {
+        Ok(admission) => {
+            counts.add(admission.added, admission.block, admission.report.is_some());
+            true
+        }
+        Err(_) => false,
+    }
+}
+
+/// The name of the proposal to forward.
+fn forwarded(proposal: &Option<Proposal<Sha256Digest>>) -> Answer {
+    match proposal {
+        Some(proposal) => Answer::Forward(payload_of(proposal)),
+        None => Answer::Nothing,
+    }
+}
+
+/// The name of these members, where they ascend.
+fn listed(members: &[Participant]) -> Answer {
+    match ascending(members) {
+        Some(set) => Answer::Members(set),
+        None => Answer::Strange,
+    }
+}
+
+impl<S: Committee> Table<S> {
+    /// A round of a committee of so many.
+    pub fn new(alloc: Global, count: u32, opening: Opening) -> Result<Self, AllocError>
+        requires some { 0 < count }
+        requires at_most { count < 65535 }
+    {
+        let clerk = Clerk::new(alloc, count)?;
         let votes = opened(alloc, clerk.scheme()?, opening);
         Ok(Table {
             alloc,
@@ -80,31 +118,20 @@ impl<S: Listing<Sha256Digest> + Drop> Table<S> {
         Ok(())
     }
 
-    /// A vote is handed in by its member.
-    fn hand_in(
-        &mut self,
-        vote: &Vote<S, Sha256Digest>,
-    ) -> Result<Admission<S, Sha256Digest>, BatcherFault> {
-        let copy = vote.duplicate(self.alloc)?;
-        self.votes.add_network(vote.signer(), copy)
-    }
-
-    /// Each of these votes is handed in by its member, and what is told of it is counted.
-    pub fn pour(
-        &mut self,
-        votes: &[Vote<S, Sha256Digest>],
-        counts: &mut Counts,
-    ) -> Result<(), BatcherFault> {
-        for vote in votes {
-            let admission = self.hand_in(vote)?;
-            counts.add(admission.added, admission.block, admission.report.is_some());
+    /// Each vote that the clerk knows is handed in by its member, and what is told of it is counted: whether none is
+    /// refused.
+    pub fn pour(&mut self, counts: &mut Counts) -> bool {
+        for signed in &self.clerk.signed {
+            if !hand_in(&mut self.votes, signed, counts) {
+                return false;
+            }
         }
-        Ok(())
+        true
     }
 
     /// The question of this name.
-    fn query(&mut self, question: Question) -> Result<Query<S, Sha256Digest>, Fail> {
-        Ok(match question {
+    fn query(&mut self, question: Question) -> Option<Query<S, Sha256Digest>> {
+        Some(match question {
             Question::HasCertificate(kind) => Query::HasCertificate(kind),
             Question::HasNullify(signer) => Query::HasNullify(Participant::new(signer)),
             Question::IsMissingVoter(payload, signer) => {
@@ -119,8 +146,8 @@ impl<S: Listing<Sha256Digest> + Drop> Table<S> {
     }
 
     /// The call of this name.
-    fn spelled(&mut self, call: Call) -> Result<Asked<S, Sha256Digest>, Fail> {
-        Ok(match call {
+    fn spelled(&mut self, call: Call) -> Option<Asked<S, Sha256Digest>> {
+        Some(match call {
             Call::Network(sender, ballot) => {
                 Asked::AddNetwork(Participant::new(sender), self.clerk.vote(ballot)?)
             }
@@ -133,8 +160,16 @@ impl<S: Listing<Sha256Digest> + Drop> Table<S> {
         })
     }
 
+    /// The name of what was constructed.
+    fn made(&self, made: &Option<Batch<Certificate<S, Sha256Digest>>>) -> Answer {
+        match made {
+            Some(batch) => self.clerk.made(batch),
+            None => Answer::Nothing,
+        }
+    }
+
     /// The name of an answer.
-    fn named(&self, told: &Told<S, Sha256Digest>) -> Answer {
+    pub fn named(&self, told: &Told<S, Sha256Digest>) -> Answer {
         match told {
             Told::Admitted(admission) => {
                 let report = self.clerk.report(&admission.report);
@@ -143,78 +178,104 @@ impl<S: Listing<Sha256Digest> + Drop> Table<S> {
             Told::Cast(report) => Answer::Taken(self.clerk.report(report)),
             Told::Recorded(selects) => Answer::Truth(*selects),
             Told::Led => Answer::Done,
-            Told::Constructed(Some(batch)) => self.clerk.made(batch),
-            Told::Constructed(None) => Answer::Nothing,
-            Told::Forward(Some(proposal)) => Answer::Forward(payload_of(proposal)),
-            Told::Forward(None) => Answer::Nothing,
+            Told::Constructed(made) => self.made(made),
+            Told::Forward(proposal) => forwarded(proposal),
             Told::Is(is_so) => Answer::Truth(*is_so),
-            Told::Members(members) => match ascending(members) {
-                Some(set) => Answer::Members(set),
-                None => Answer::Strange,
-            },
+            Told::Members(members) => listed(members),
             Told::Refused(fault) => Answer::Refused(*fault),
         }
     }
 
-    /// These calls. Where the memory for the list is refused, it is asked for again.
-    fn list(&mut self, calls: &[Call]) -> Result<Vec<Asked<S, Sha256Digest>>, Fail> {
-        let mut list = match Vec::with_capacity(self.alloc, calls.len()) {
-            Ok(list) => list,
-            Err(AllocError) => Vec::with_capacity(self.alloc, calls.len())?,
-        };
+    /// These calls, where each can be named and no memory is refused.
+    fn list(&mut self, calls: &[Call]) -> Option<Vec<Asked<S, Sha256Digest>>> {
+        let mut list = Vec::new(self.alloc);
         for call in calls {
-            list.push(self.spelled(*call)?)?;
+            self.append(*call, &mut list)?;
         }
-        Ok(list)
+        Some(list)
     }
 
-    /// The names of these answers.
-    fn names(&self, told: &[Told<S, Sha256Digest>]) -> Result<Vec<Answer>, AllocError> {
-        let mut names = Vec::with_capacity(self.alloc, told.len())?;
-        for told in told {
-            names.push(self.named(told))?;
-        }
-        Ok(names)
+    /// Puts the call behind these, where it can be named and no memory is refused.
+    fn append(&mut self, call: Call, list: &mut Vec<Asked<S, Sha256Digest>>) -> Option<()> {
+        let asked = self.spelled(call)?;
+        list.push(asked).ok()
     }
 
-    /// What the calls answer, made in a row.
-    pub fn run(&mut self, calls: &[Call]) -> Result<Vec<Answer>, Fail> {
+    /// What the calls are answered, made in a row. Where memory is refused to all of them, or one cannot be named, there
+    /// is nothing, and none was made.
+    pub fn run(&mut self, calls: &[Call]) -> Option<Vec<Told<S, Sha256Digest>>> {
         let list = self.list(calls)?;
-        let told = run(self.alloc, &mut self.votes, list)?;
-        Ok(self.names(&told)?)
-    }
-
-    /// What the call answers: where its memory is refused, what the same call answers then.
-    fn answer(&mut self, call: Call) -> Result<Answer, Fail> {
-        let answer = self.once(call)?;
-        if answer != Answer::Refused(BatcherFault::Memory) {
-            return Ok(answer);
-        }
-        self.once(call)
+        run(self.alloc, &mut self.votes, list).ok()
     }
 
     /// What the call answers, made once.
-    fn once(&mut self, call: Call) -> Result<Answer, Fail> {
-        let list = self.list(&[call])?;
-        match run(self.alloc, &mut self.votes, list) {
-            Ok(told) => match told.first() {
-                Some(told) => Ok(self.named(told)),
-                None => Ok(Answer::Strange),
-            },
-            Err(AllocError) => Ok(Answer::Refused(BatcherFault::Memory)),
+    fn once(&mut self, call: Call) -> Answer {
+        match self.run(&[call]) {
+            Some(told) => self.first(&told),
+            None => Answer::Refused(BatcherFault::Memory),
         }
+    }
+
+    /// The name of the first of these answers.
+    fn first(&self, told: &[Told<S, Sha256Digest>]) -> Answer {
+        match told.first() {
+            Some(told) => self.named(told),
+            None => Answer::Strange,
+        }
+    }
+
+    /// What the call answers: where its memory is refused, what the same call answers then.
+    pub fn answer(&mut self, call: Call) -> Answer {
+        let answer = self.once(call);
+        if answer == Answer::Refused(BatcherFault::Memory) {
+            return self.once(call);
+        }
+        answer
+    }
+
+    /// The place of the first call of a table that does not answer what stands beside it.
+    fn first_otherwise(&mut self, rows: &[(Call, Answer)]) -> Option<usize> {
+        for (place, (call, expected)) in rows.iter().enumerate() {
+            if self.answer(*call) != *expected {
+                return Some(place);
+            }
+        }
+        None
     }
 }
 
-/// The calls of a table, each of which answers what stands beside it.
-pub fn plays<S: Listing<Sha256Digest> + Drop>(
-    rt: &impl Abort,
-    table: &mut Table<S>,
+/// The place of the first call of a table, made on a round of a committee of so many, that does not answer what stands
+/// beside it.
+fn outcome_of<S: Committee>(
+    alloc: Global,
+    count: u32,
+    opening: Opening,
     rows: &[(Call, Answer)],
-) -> Result<(), Fail> {
-    for (place, (call, expected)) in rows.iter().enumerate() {
-        let answer = table.answer(*call)?;
-        assert!(rt; answer == *expected, "row {place}");
+) -> Result<Option<usize>, AllocError>
+    requires some { 0 < count }
+    requires at_most { count < 65535 }
+{
+    match Table::<S>::new(alloc, count, opening) {
+        Ok(mut table) => Ok(table.first_otherwise(rows)),
+        Err(AllocError) => Err(AllocError),
     }
-    Ok(())
+}
+
+/// The calls of a table on a round of a committee of so many, each of which answers what stands beside it. Where the memory
+/// for the round is refused, it is asked for again.
+pub fn plays<S: Committee>(
+    rt: &impl Abort,
+    alloc: Global,
+    count: u32,
+    opening: Opening,
+    rows: &[(Call, Answer)],
+)
+    requires some { 0 < count }
+    requires at_most { count < 65535 }
+{
+    let outcome = match outcome_of::<S>(alloc, count, opening, rows) {
+        Err(AllocError) => outcome_of::<S>(alloc, count, opening, rows),
+        outcome => outcome,
+    };
+    assert!(rt; outcome == Ok(None), "{outcome:?}");
 }

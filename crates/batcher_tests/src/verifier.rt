@@ -1,17 +1,16 @@
 //! The votes that count for certificates, by their own calls: a committee of four, of whom three are a quorum.
 
 use crate::calls::{
-    A, Answer, Ballot, Made, Mark, VIEW, certificate_by, finalize, marked, notarize, nullify, one,
+    A, Answer, Ballot, Made, Mark, VIEW, certified_by, finalize, marked, notarize, nullify, one,
 };
 use crate::clerk::Clerk;
-use crate::members::plain_clerk;
+use crate::members::Committee;
 use crate::naming::{payload_of, round};
 use simplex_batcher::{Batch, BatcherFault, Kind, Verifier};
 use simplex_messages::{Certificate, Vote};
-use simplex_types::{Listing, Participant, Scheme, Sha256Digest};
+use simplex_types::{Participant, PlainScheme, Scheme, Sha256Digest};
 use std::alloc::{AllocError, Global};
 use std::process::Abort;
-use std::test::Fail;
 
 /// A verifier, and who signs for it.
 #[derive(Drop)]
@@ -36,9 +35,10 @@ enum Step {
     Selected,
 }
 
-impl<S: Listing<Sha256Digest> + Drop> Desk<S> {
-    /// A verifier that makes certificates of so many votes.
-    fn new(alloc: Global, clerk: Clerk<S>, needed: u32) -> Result<Self, AllocError> {
+impl<S: Committee> Desk<S> {
+    /// A verifier of four members that makes certificates of so many votes.
+    fn new(alloc: Global, needed: u32) -> Result<Self, AllocError> {
+        let clerk = Clerk::new(alloc, 4)?;
         let verifier = Verifier::new(alloc, round(VIEW), clerk.scheme()?, needed);
         Ok(Desk {
             alloc,
@@ -48,10 +48,14 @@ impl<S: Listing<Sha256Digest> + Drop> Desk<S> {
     }
 
     /// Adds a vote.
-    fn add(&mut self, ballot: Ballot, verified: bool) -> Result<Answer, Fail> {
-        let vote = self.clerk.vote(ballot)?;
-        self.verifier.add(vote, verified)?;
-        Ok(Answer::Done)
+    fn add(&mut self, ballot: Ballot, verified: bool) -> Answer {
+        let Some(vote) = self.clerk.vote(ballot) else {
+            return Answer::Strange;
+        };
+        match self.verifier.add(vote, verified) {
+            Ok(()) => Answer::Done,
+            Err(AllocError) => Answer::Refused(BatcherFault::Memory),
+        }
     }
 
     /// What comes of a construction of this kind.
@@ -67,62 +71,90 @@ impl<S: Listing<Sha256Digest> + Drop> Desk<S> {
     }
 
     /// Constructs a certificate of this kind.
-    fn construct(&mut self, kind: Kind) -> Result<Answer, AllocError> {
-        match &self.made(kind)? {
-            Some(batch) => Ok(self.clerk.made(batch)),
-            None => Ok(Answer::Nothing),
+    fn construct(&mut self, kind: Kind) -> Answer {
+        match &self.made(kind) {
+            Ok(Some(batch)) => self.clerk.made(batch),
+            Ok(None) => Answer::Nothing,
+            Err(AllocError) => Answer::Refused(BatcherFault::Memory),
         }
     }
 
-    /// Names the leader, with this notarize of it.
-    fn lead(&mut self, leader: u32, notarize: Ballot) -> Result<Answer, Fail> {
-        let vote = self.clerk.vote(notarize)?;
-        let led = match &vote {
-            Vote::Notarize(vote) => Some(vote),
+    /// Names the leader, with this vote where it is a notarize.
+    fn set_leader(
+        &mut self,
+        leader: u32,
+        vote: &Vote<S, Sha256Digest>,
+    ) -> Result<(), BatcherFault> {
+        let notarize = match vote {
+            Vote::Notarize(notarize) => Some(notarize),
             _ => None,
         };
-        match self.verifier.set_leader(Participant::new(leader), led) {
-            Ok(()) => Ok(Answer::Done),
-            Err(fault) => Ok(Answer::Refused(fault)),
+        self.verifier.set_leader(Participant::new(leader), notarize)
+    }
+
+    /// Names the leader, with this notarize of it.
+    fn lead(&mut self, leader: u32, notarize: Ballot) -> Answer {
+        let Some(vote) = self.clerk.vote(notarize) else {
+            return Answer::Strange;
+        };
+        match self.set_leader(leader, &vote) {
+            Ok(()) => Answer::Done,
+            Err(fault) => Answer::Refused(fault),
+        }
+    }
+
+    /// Who leads.
+    fn leader(&self) -> Answer {
+        match self.verifier.leader() {
+            Some(leader) => Answer::Members(one(leader.get())),
+            None => Answer::Nothing,
+        }
+    }
+
+    /// Which payload is selected.
+    fn selected(&self) -> Answer {
+        match self.verifier.proposal() {
+            Some(proposal) => Answer::Forward(payload_of(proposal)),
+            None => Answer::Nothing,
         }
     }
 
     /// What a call answers.
-    fn answer(&mut self, step: Step) -> Result<Answer, Fail> {
+    fn answer(&mut self, step: Step) -> Answer {
         match step {
             Step::Add(ballot, verified) => self.add(ballot, verified),
             Step::Lead(leader, notarize) => self.lead(leader, notarize),
-            Step::Construct(kind) => Ok(self.construct(kind)?),
-            Step::Leader => match self.verifier.leader() {
-                Some(leader) => Ok(Answer::Members(one(leader.get()))),
-                None => Ok(Answer::Nothing),
-            },
-            Step::Selected => match self.verifier.proposal() {
-                Some(proposal) => Ok(Answer::Forward(payload_of(proposal))),
-                None => Ok(Answer::Nothing),
-            },
+            Step::Construct(kind) => self.construct(kind),
+            Step::Leader => self.leader(),
+            Step::Selected => self.selected(),
         }
     }
 
-    /// The calls of a table, each of which answers what stands beside it.
-    fn plays(&mut self, rt: &impl Abort, rows: &[(Step, Answer)]) -> Result<(), Fail> {
+    /// The place of the first call of a table that does not answer what stands beside it.
+    fn first_otherwise(&mut self, rows: &[(Step, Answer)]) -> Option<usize> {
         for (place, (step, expected)) in rows.iter().enumerate() {
-            let answer = self.answer(*step)?;
-            assert!(rt; answer == *expected, "row {place}");
+            if self.answer(*step) != *expected {
+                return Some(place);
+            }
         }
-        Ok(())
+        None
     }
 }
 
 /// The calls of a table, on a verifier of four members that makes certificates of so many votes.
-fn four_play(
-    rt: &impl Abort,
+fn outcome_of<S: Committee>(
     alloc: Global,
     needed: u32,
     rows: &[(Step, Answer)],
-) -> Result<(), Fail> {
-    let mut desk = Desk::new(alloc, plain_clerk(alloc, 4)?, needed)?;
-    desk.plays(rt, rows)
+) -> Result<Option<usize>, AllocError> {
+    let mut desk = Desk::<S>::new(alloc, needed)?;
+    Ok(desk.first_otherwise(rows))
+}
+
+/// The calls of a table, each of which answers what stands beside it, under the plain scheme.
+fn four_play(rt: &impl Abort, alloc: Global, needed: u32, rows: &[(Step, Answer)]) {
+    let outcome = outcome_of::<PlainScheme>(alloc, needed, rows);
+    assert!(rt; outcome == Ok(None), "{outcome:?}");
 }
 
 /// A vote comes that is known to attest.
@@ -135,20 +167,15 @@ fn waits(ballot: Ballot) -> (Step, Answer) {
     (Step::Add(ballot, false), Answer::Done)
 }
 
-/// A certificate by these members, of whose votes so many were judged.
+/// A certificate by these members, for which so many votes were judged.
 fn made(kind: Kind, payload: u8, signers: &[u32], processed: usize) -> (Step, Answer) {
-    let made = Made {
-        certificate: Some(certificate_by(kind, payload, signers)),
-        invalid: 0,
-        processed,
-        fallback: false,
-    };
+    let made = certified_by(kind, payload, signers, processed);
     (Step::Construct(kind), Answer::Constructed(made))
 }
 
 // A number below the committee's quorum counts as the quorum, and one above it as it is.
 #[test]
-fn fewer_votes_than_a_quorum_never_certify(rt: HostRuntime) -> Result<(), Fail> {
+fn fewer_votes_than_a_quorum_never_certify(rt: HostRuntime) {
     let rows = [
         verified(nullify(1)),
         verified(nullify(3)),
@@ -157,11 +184,11 @@ fn fewer_votes_than_a_quorum_never_certify(rt: HostRuntime) -> Result<(), Fail> 
         made(Kind::Nullification, 0, &[1, 2, 3], 0),
         (Step::Construct(Kind::Nullification), Answer::Nothing),
     ];
-    four_play(&rt, rt.alloc(), 1, &rows)
+    four_play(&rt, rt.alloc(), 1, &rows);
 }
 
 #[test]
-fn more_votes_than_a_quorum_can_be_asked_for(rt: HostRuntime) -> Result<(), Fail> {
+fn more_votes_than_a_quorum_can_be_asked_for(rt: HostRuntime) {
     let rows = [
         verified(finalize(0, A)),
         verified(finalize(1, A)),
@@ -170,11 +197,11 @@ fn more_votes_than_a_quorum_can_be_asked_for(rt: HostRuntime) -> Result<(), Fail
         verified(finalize(3, A)),
         made(Kind::Finalization, A, &[0, 1, 2, 3], 0),
     ];
-    four_play(&rt, rt.alloc(), 4, &rows)
+    four_play(&rt, rt.alloc(), 4, &rows);
 }
 
 #[test]
-fn a_leader_is_named_with_its_notarize(rt: HostRuntime) -> Result<(), Fail> {
+fn a_leader_is_named_with_its_notarize(rt: HostRuntime) {
     let rows = [
         waits(notarize(1, A)),
         waits(notarize(0, A)),
@@ -190,11 +217,11 @@ fn a_leader_is_named_with_its_notarize(rt: HostRuntime) -> Result<(), Fail> {
         ),
         (Step::Leader, Answer::Members(one(0))),
     ];
-    four_play(&rt, rt.alloc(), 3, &rows)
+    four_play(&rt, rt.alloc(), 3, &rows);
 }
 
 #[test]
-fn votes_that_wait_are_judged_beside_verified_ones(rt: HostRuntime) -> Result<(), Fail> {
+fn votes_that_wait_are_judged_beside_verified_ones(rt: HostRuntime) {
     let judged = Made {
         certificate: None,
         invalid: one(1),
@@ -213,5 +240,5 @@ fn votes_that_wait_are_judged_beside_verified_ones(rt: HostRuntime) -> Result<()
         waits(notarize(3, A)),
         made(Kind::Notarization, A, &[0, 2, 3], 1),
     ];
-    four_play(&rt, rt.alloc(), 3, &rows)
+    four_play(&rt, rt.alloc(), 3, &rows);
 }

@@ -1,36 +1,30 @@
 //! Worked cases of a round: a committee of five, of whom four are a quorum, and member 0 leads.
 
 use crate::calls::{
-    A, Answer, B, Ballot, Call, Made, Mark, OTHER_VIEW, Question, Report, certificate_by, comes,
-    finalize, marked, notarize, nullify,
+    A, Answer, B, Ballot, Call, LED, Made, Mark, NOT_DUE, OTHER_VIEW, Question, Report,
+    certificate_by, certified_by, comes, constructs, finalize, is, marked, notarize, nullify, own,
 };
-use crate::members::plain_plays;
+use crate::concrete::plain_plays;
 use crate::table::Opening;
 use simplex_batcher::{BatcherFault, Kind};
-use std::test::Fail;
 
 #[test]
-fn a_quorum_is_certified_at_once(rt: HostRuntime) -> Result<(), Fail> {
-    let made = Made {
-        certificate: Some(certificate_by(Kind::Notarization, A, &[0, 1, 2, 3])),
-        invalid: 0,
-        processed: 4,
-        fallback: false,
-    };
+fn a_quorum_is_certified_at_once(rt: HostRuntime) {
+    let made = certified_by(Kind::Notarization, A, &[0, 1, 2, 3], 4);
     let rows = [
-        (Call::Lead(0), Answer::Done),
+        LED,
         comes(notarize(0, A)),
         comes(notarize(1, A)),
         comes(notarize(2, A)),
         comes(notarize(3, A)),
-        (Call::Construct, Answer::Constructed(made)),
-        (Call::Construct, Answer::Nothing),
+        constructs(made),
+        NOT_DUE,
     ];
-    plain_plays(&rt, rt.alloc(), 5, Opening::Kept, &rows)
+    plain_plays(&rt, rt.alloc(), 5, Opening::Kept, &rows);
 }
 
 #[test]
-fn a_broken_vote_is_named_and_the_others_are_certified(rt: HostRuntime) -> Result<(), Fail> {
+fn a_broken_vote_is_named_and_the_others_are_certified(rt: HostRuntime) {
     let made = Made {
         certificate: Some(certificate_by(Kind::Notarization, A, &[0, 1, 3, 4])),
         invalid: 0b100,
@@ -38,51 +32,46 @@ fn a_broken_vote_is_named_and_the_others_are_certified(rt: HostRuntime) -> Resul
         fallback: true,
     };
     let rows = [
-        (Call::Lead(0), Answer::Done),
+        LED,
         comes(notarize(0, A)),
         comes(notarize(1, A)),
         comes(marked(Mark::Broken, notarize(2, A))),
         comes(notarize(3, A)),
         comes(notarize(4, A)),
-        (Call::Construct, Answer::Constructed(made)),
-        (Call::Construct, Answer::Nothing),
+        constructs(made),
+        NOT_DUE,
     ];
-    plain_plays(&rt, rt.alloc(), 5, Opening::Kept, &rows)
+    plain_plays(&rt, rt.alloc(), 5, Opening::Kept, &rows);
 }
 
 #[test]
-fn what_was_verified_waits_for_one_vote_more(rt: HostRuntime) -> Result<(), Fail> {
+fn what_was_verified_waits_for_one_vote_more(rt: HostRuntime) {
     let judged = Made {
         certificate: None,
         invalid: 0b100,
         processed: 4,
         fallback: true,
     };
-    let made = Made {
-        certificate: Some(certificate_by(Kind::Notarization, A, &[0, 1, 3, 4])),
-        invalid: 0,
-        processed: 1,
-        fallback: false,
-    };
+    let made = certified_by(Kind::Notarization, A, &[0, 1, 3, 4], 1);
     let rows = [
-        (Call::Lead(0), Answer::Done),
+        LED,
         comes(notarize(0, A)),
         comes(notarize(1, A)),
         comes(marked(Mark::Broken, notarize(2, A))),
         comes(notarize(3, A)),
-        (Call::Construct, Answer::Constructed(judged)),
-        (Call::Construct, Answer::Nothing),
+        constructs(judged),
+        NOT_DUE,
         comes(notarize(4, A)),
-        (Call::Construct, Answer::Constructed(made)),
-        (Call::Construct, Answer::Nothing),
+        constructs(made),
+        NOT_DUE,
     ];
-    plain_plays(&rt, rt.alloc(), 5, Opening::Kept, &rows)
+    plain_plays(&rt, rt.alloc(), 5, Opening::Kept, &rows);
 }
 
 // Behind each refusal the first call answers as it did before: the same vote is still accepted, the same leader is
 // still named, and the own nullify still stands.
 #[test]
-fn what_is_refused_changes_nothing(rt: HostRuntime) -> Result<(), Fail> {
+fn what_is_refused_changes_nothing(rt: HostRuntime) {
     let foreign = Ballot {
         view: OTHER_VIEW,
         ..notarize(1, A)
@@ -97,14 +86,11 @@ fn what_is_refused_changes_nothing(rt: HostRuntime) -> Result<(), Fail> {
             Answer::Refused(BatcherFault::WrongRound),
         ),
         comes(notarize(1, A)),
-        (Call::Lead(0), Answer::Done),
+        LED,
         (Call::Lead(1), Answer::Refused(BatcherFault::OtherLeader)),
-        (Call::Lead(0), Answer::Done),
+        LED,
         (Call::Forward(2), Answer::Nothing),
-        (
-            Call::Own(nullify(2)),
-            Answer::Taken(Report::Vote(nullify(2))),
-        ),
+        own(nullify(2)),
         (
             Call::Own(finalize(2, A)),
             Answer::Refused(BatcherFault::Contradicts),
@@ -112,50 +98,37 @@ fn what_is_refused_changes_nothing(rt: HostRuntime) -> Result<(), Fail> {
         (Call::Own(nullify(2)), Answer::Taken(Report::Nothing)),
         (Call::Forward(2), Answer::Nothing),
     ];
-    plain_plays(&rt, rt.alloc(), 5, Opening::Kept, &rows)
+    plain_plays(&rt, rt.alloc(), 5, Opening::Kept, &rows);
 }
 
 // Where one of the requests for memory is refused, as by `rt try --test --fail-alloc N`, whatever N, what asked is made
 // again, and all answers are those of a round that never met it.
 #[test]
-fn a_call_whose_memory_is_refused_counts_as_not_made(rt: HostRuntime) -> Result<(), Fail> {
+fn a_call_whose_memory_is_refused_counts_as_not_made(rt: HostRuntime) {
     let judged = Made {
         certificate: None,
         invalid: 0b100,
         processed: 4,
         fallback: true,
     };
-    let made = Made {
-        certificate: Some(certificate_by(Kind::Notarization, A, &[0, 1, 3, 4])),
-        invalid: 0,
-        processed: 1,
-        fallback: false,
-    };
-    let nullified = Made {
-        certificate: Some(certificate_by(Kind::Nullification, 0, &[0, 1, 2, 3])),
-        invalid: 0,
-        processed: 3,
-        fallback: false,
-    };
+    let made = certified_by(Kind::Notarization, A, &[0, 1, 3, 4], 1);
+    let nullified = certified_by(Kind::Nullification, 0, &[0, 1, 2, 3], 3);
     let rows = [
         comes(notarize(0, A)),
         comes(notarize(1, A)),
         comes(marked(Mark::Broken, notarize(2, A))),
         comes(notarize(3, A)),
-        (Call::Lead(0), Answer::Done),
-        (Call::Construct, Answer::Constructed(judged)),
+        LED,
+        constructs(judged),
         comes(nullify(0)),
         comes(nullify(1)),
-        (
-            Call::Own(nullify(2)),
-            Answer::Taken(Report::Vote(nullify(2))),
-        ),
-        (Call::Construct, Answer::Nothing),
+        own(nullify(2)),
+        NOT_DUE,
         comes(notarize(4, A)),
         comes(nullify(3)),
-        (Call::Construct, Answer::Constructed(made)),
-        (Call::Construct, Answer::Constructed(nullified)),
-        (Call::Construct, Answer::Nothing),
+        constructs(made),
+        constructs(nullified),
+        NOT_DUE,
         (Call::Ask(Question::MissingVoters(A)), Answer::Members(0)),
         comes(finalize(4, B)),
         (
@@ -164,22 +137,18 @@ fn a_call_whose_memory_is_refused_counts_as_not_made(rt: HostRuntime) -> Result<
         ),
         (Call::Forward(1), Answer::Forward(A)),
     ];
-    plain_plays(&rt, rt.alloc(), 5, Opening::Kept, &rows)
+    plain_plays(&rt, rt.alloc(), 5, Opening::Kept, &rows);
 }
 
 #[test]
-fn what_was_accepted_is_told(rt: HostRuntime) -> Result<(), Fail> {
-    let is = |question, is_so| (Call::Ask(question), Answer::Truth(is_so));
+fn what_was_accepted_is_told(rt: HostRuntime) {
     let foreign = Ballot {
         view: OTHER_VIEW,
         ..notarize(1, A)
     };
     let rows = [
         comes(marked(Mark::Broken, nullify(1))),
-        (
-            Call::Own(nullify(2)),
-            Answer::Taken(Report::Vote(nullify(2))),
-        ),
+        own(nullify(2)),
         comes(notarize(0, A)),
         comes(finalize(3, A)),
         comes(notarize(4, B)),
@@ -199,5 +168,5 @@ fn what_was_accepted_is_told(rt: HostRuntime) -> Result<(), Fail> {
         is(Question::Belongs(notarize(1, A)), true),
         is(Question::Belongs(foreign), false),
     ];
-    plain_plays(&rt, rt.alloc(), 5, Opening::Kept, &rows)
+    plain_plays(&rt, rt.alloc(), 5, Opening::Kept, &rows);
 }
