@@ -2,9 +2,9 @@
 //! honest votes cost no hash.
 //!
 //! It reads the reports twice, as `simplex` does. The first time it keeps of each round what its first vote is
-//! for, and of the other votes only whose they are: the contested. The second time it weighs the votes of
-//! the contested alone. Of those the first vote of a round is a claim that nobody verified, and a vote is verified
-//! only where it can change what is kept.
+//! for, looking at the last round first, and of the other votes only whose they are: the contested. The second time it
+//! weighs the votes of the contested alone, and where nobody is contested there is no second time. Of those the first
+//! vote of a round is a claim that nobody verified, and a vote is verified only where it can change what is kept.
 
 use std::collections::{BTreeMap, BTreeSet, btree_map::Entry};
 use std::process::ExitCode;
@@ -26,10 +26,13 @@ fn main() -> ExitCode {
 /// Surveys the votes up to the first place without a whole message, then gathers those of the contested.
 fn audit(input: &[u8], count: u64) -> Verdict<'_> {
     let mut survey = Survey::default();
-    read(input, count, |subject, attestations| survey.note(subject, attestations));
+    let fault = read(input, count, |subject, attestations| survey.note(subject, attestations));
     let contested = survey.contested();
+    if contested.is_empty() {
+        return (Vec::new(), fault);
+    }
     let mut ledger = Ledger { count, contested, ..Ledger::default() };
-    let fault = read(input, count, |subject, attestations| ledger.record(subject, attestations));
+    read(input, count, |subject, attestations| ledger.record(subject, attestations));
     (ledger.lines(), fault)
 }
 
@@ -65,8 +68,16 @@ struct Proposed<'a> {
 }
 
 impl<'a> Proposed<'a> {
+    /// What the round's first vote is for: this, where it has none.
+    fn choose(&mut self, round: Round, choice: Choice<'a>) -> Choice<'a> {
+        match self.chosen.last_key_value() {
+            Some((last, first)) if *last == round => *first,
+            _ => *self.chosen.entry(round).or_insert(choice),
+        }
+    }
+
     fn note(&mut self, round: Round, choice: Choice<'a>, attestations: &[Attestation]) {
-        if *self.chosen.entry(round).or_insert(choice) != choice {
+        if self.choose(round, choice) != choice {
             self.contested.extend(attestations.iter().map(|attestation| (round, attestation.signer)));
         }
     }

@@ -17,17 +17,16 @@ pub(crate) fn text_of(
 {
     let mut text = String::new(alloc);
     for evidence in &audit.evidence {
-        push_evidence(alloc, &mut text, evidence)?;
+        push_evidence(&mut text, evidence)?;
     }
     if let Some(place) = audit.fault {
-        push_fault(alloc, &mut text, place)?;
+        push_fault(&mut text, place)?;
     }
     Ok(text)
 }
 
 /// Ends the text with the line for a piece of evidence.
 fn push_evidence(
-    alloc: Global,
     text: &mut String,
     evidence: &Activity<PlainScheme, Sha256Digest>,
 ) -> Result<(), AllocError>
@@ -36,15 +35,13 @@ fn push_evidence(
     match evidence {
         Activity::ConflictingNotarize(votes) => {
             let (first, second) = (votes.first(), votes.second());
-            push_conflicting(alloc, text, "conflicting-notarize", first, second)
+            push_conflicting(text, "conflicting-notarize", first, second)
         }
         Activity::ConflictingFinalize(votes) => {
             let (first, second) = (votes.first(), votes.second());
-            push_conflicting(alloc, text, "conflicting-finalize", first, second)
+            push_conflicting(text, "conflicting-finalize", first, second)
         }
-        Activity::NullifyFinalize(votes) => {
-            push_beside(alloc, text, votes.nullify(), votes.finalize())
-        }
+        Activity::NullifyFinalize(votes) => push_beside(text, votes.nullify(), votes.finalize()),
         _ => Ok(()),
     }
 }
@@ -52,7 +49,6 @@ fn push_evidence(
 /// Ends the text with the line for two votes of one signer for different proposals.
 #[tactic(auto, unfolding(crate::specs::Lines::conflicting_line))]
 fn push_conflicting<K: ProposalKind<Sha256Digest>>(
-    alloc: Global,
     text: &mut String,
     word: &str,
     first: &ProposalVote<K, PlainScheme, Sha256Digest>,
@@ -60,63 +56,63 @@ fn push_conflicting<K: ProposalKind<Sha256Digest>>(
 ) -> Result<(), AllocError>
     ensures { OnOk result (string_bytes text.new ≡ string_bytes text.old ++ conflicting_line word.now first.now second.now) }
 {
-    let accused = accused_text(alloc, word, first.round(), first.attestation.signer)?;
-    let lesser = proposal_text(alloc, &first.proposal)?;
-    let greater = proposal_text(alloc, &second.proposal)?;
-    let added = format!(in alloc; "{accused}{lesser}{greater}\n")?;
-    text.push_str(&added)
+    push_accused(text, word, first.round(), first.attestation.signer)?;
+    push_proposal(text, &first.proposal)?;
+    push_proposal(text, &second.proposal)?;
+    text.push_str("\n")
 }
 
 /// Ends the text with the line for a nullify of one signer and its finalize for a proposal of the
 /// round.
 #[tactic(auto, unfolding(crate::specs::Lines::beside_line))]
 fn push_beside(
-    alloc: Global,
     text: &mut String,
     given_up: &Nullify<PlainScheme, Sha256Digest>,
     finalized: &Finalize<PlainScheme, Sha256Digest>,
 ) -> Result<(), AllocError>
     ensures { OnOk result (string_bytes text.new ≡ string_bytes text.old ++ beside_line given_up.now finalized.now) }
 {
-    let signer = given_up.attestation.signer;
-    let accused = accused_text(alloc, "nullify-finalize", given_up.round, signer)?;
-    let proposal = proposal_text(alloc, &finalized.proposal)?;
-    let added = format!(in alloc; "{accused}{proposal}\n")?;
-    text.push_str(&added)
+    push_accused(
+        text,
+        "nullify-finalize",
+        given_up.round,
+        given_up.attestation.signer,
+    )?;
+    push_proposal(text, &finalized.proposal)?;
+    text.push_str("\n")
 }
 
-/// What a line begins with: its word, then the round and the signer that the evidence is against.
+/// Ends the text with what a line begins with: its word, then the round and the signer that the evidence is against.
 #[tactic(auto, unfolding(crate::specs::Lines::accused_words))]
-fn accused_text(
-    alloc: Global,
+fn push_accused(
+    text: &mut String,
     word: &str,
     round: Round,
     signer: Participant,
-) -> Result<String, AllocError>
-    ensures { IfOk result (λ text. string_bytes text ≡ accused_words word.now round signer) }
+) -> Result<(), AllocError>
+    ensures { OnOk result (string_bytes text.new ≡ string_bytes text.old ++ accused_words word.now round signer) }
 {
     let epoch = round.epoch.get();
     let view = round.view.get();
     let signer = signer.get();
-    format!(in alloc; "{word} epoch {epoch} view {view} signer {signer}")
+    write!(text, "{word} epoch {epoch} view {view} signer {signer}")
 }
 
-/// The words for a proposal, with the space in front of them.
+/// Ends the text with the words for a proposal, with the space in front of them.
 #[tactic(auto, unfolding(crate::specs::Lines::proposal_words))]
-fn proposal_text(alloc: Global, proposal: &Proposal<Sha256Digest>) -> Result<String, AllocError>
-    ensures { IfOk result (λ text. string_bytes text ≡ proposal_words proposal.now) }
+fn push_proposal(text: &mut String, proposal: &Proposal<Sha256Digest>) -> Result<(), AllocError>
+    ensures { OnOk result (string_bytes text.new ≡ string_bytes text.old ++ proposal_words proposal.now) }
 {
     let parent = proposal.parent.get();
     let payload = proposal.payload;
-    format!(in alloc; " parent {parent} payload {payload}")
+    write!(text, " parent {parent} payload {payload}")
 }
 
 /// Ends the text with the line that says at which byte, counted from 0, the input stops being
 /// messages.
 #[tactic(auto, unfolding(crate::specs::Lines::fault_line))]
-fn push_fault(alloc: Global, text: &mut String, place: usize) -> Result<(), AllocError>
+fn push_fault(text: &mut String, place: usize) -> Result<(), AllocError>
     ensures { OnOk result (string_bytes text.new ≡ string_bytes text.old ++ fault_line place) }
 {
-    let added = format!(in alloc; "fault at byte {place}\n")?;
-    text.push_str(&added)
+    writeln!(text, "fault at byte {place}")
 }

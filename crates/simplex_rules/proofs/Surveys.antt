@@ -1,13 +1,16 @@
 -- What is noted of the votes tells who may be guilty.
 use Rattle.std.proofs.Common.{◌≡◌, ◌⊎◌, ℕ, List, [], ◌∷◌, ◌++◌, Some, None, refl, sym, ap, ◌∙◌, subst, inl, inr}
 use Rattle.std.specs.Prelude.{Contains, IsSome, IsTrue, OnOk, Result, Ok, Err}
+use Rattle.std.specs.declared.cmp.Ordering.{Ordering}
 use Rattle.std.specs.List.{flat_map}
 use Rattle.std.specs.BTreeMap.{BTreeMap, Updates, get}
 use Rattle.std.specs.Cmp.{Equal-is}
 use Rattle.std.specs.Ordering.{is_eq}
 use Rattle.std.proofs.lemmas.Bool.{cases_Bool}
-use Rattle.simplex_rules.proofs.Suspects.{rounds_exact}
-use Rattle.std.specs.BTreeSet.{BTreeSet, IsSubset, contains}
+use Rattle.simplex_rules.proofs.Suspects.{rounds_exact, suspects_exact, suspects_total}
+use Rattle.std.specs.BTreeSet.{BTreeSet, IsSubset, btree_set_len, contains}
+use Rattle.std.proofs.lemmas.List.{nil_from_length}
+use Rattle.std.proofs.lemmas.Map.Views.{btree_set_contains_iff}
 use Rattle.std.proofs.lemmas.List.Elements.{Contains-append_cases}
 use Rattle.simplex_types.specs.declared.attestation.Attestation.{Attestation}
 use Rattle.simplex_types.specs.declared.position.Round.{Round}
@@ -25,10 +28,11 @@ use Rattle.simplex_messages.specs.Guilt.{votes_listed, nullifies_listed, notariz
 use Rattle.simplex_rules.specs.declared.cast.Choice.{Choice}
 use Rattle.simplex_rules.specs.declared.cast.Suspect.{Suspect}
 use Rattle.simplex_rules.specs.declared.survey.Survey.{Survey}
+use Rattle.simplex_rules.specs.Audit.{AreInOrder, IsVerdict, accused}
 use Rattle.simplex_rules.specs.Kept.{suspect_cmp}
 use Rattle.simplex_rules.specs.Survey.{round_cmp, Extends, IsNoted, AreNoted, Notes, AreGivenUp, AreSurveyed, SurveysOne, HasGuilty}
 use Rattle.simplex_rules.specs.Tally.{suspect_of, cast_of, nullify_suspect}
-use Rattle.simplex_rules.proofs.Lists.{Contains-map, Contains-flat_map, in-flat_map, only_element}
+use Rattle.simplex_rules.proofs.Lists.{AllPairs-nil, Contains-map, Contains-flat_map, in-flat_map, only_element}
 use Rattle.simplex_rules.proofs.Places.{choice_of, proposal_of}
 use Rattle.simplex_rules.proofs.Judging.{suspect_from, suspect_is}
 use Rattle.simplex_rules.proofs.Besides.{first_is, second_is}
@@ -187,3 +191,15 @@ module _ {S D P G C : Type 0} (lists : C → List (Attestation G)) where
           | inr chosen ↦ added q gave_up (subst (λ (r : Round). IsSome (get round_cmp old.finalized r)) (ap (λ (x : Suspect). x.round) finalized_is) (rw chosen refl))
         ];
   }
+
+  -- where nobody is contested, there is nothing to accuse anybody of
+  pub nobody-verdict : (attests : ℕ → Statement D → G → Type 0) (cmp : D → D → Ordering) (reports : List (Activity S D P G C)) (contested : BTreeSet Suspect) → HasGuilty lists attests reports contested → btree_set_len contested ≡ 0 → IsVerdict lists attests cmp reports []
+  nobody-verdict attests cmp reports contested guilty none = record {
+    sound = λ a there. absurd (Contains-nil a there);
+    two_notarizes = λ round signer g. absurd (nobody (suspect_from round signer) (guilty.two_notarizes round signer g));
+    two_finalizes = λ round signer g. absurd (nobody (suspect_from round signer) (guilty.two_finalizes round signer g));
+    nullify_beside = λ round signer g. absurd (nobody (suspect_from round signer) (guilty.nullify_beside round signer g));
+    sorted = AllPairs-nil (λ a b. AreInOrder (accused a) (accused b));
+  } where
+    nobody : (q : Suspect) → IsTrue (contains suspect_cmp contested q) → ⊥
+    nobody q there = Contains-nil q (subst (λ (qs : List Suspect). Contains qs q) (nil_from_length contested.keys none) ((btree_set_contains_iff suspects_total suspects_exact contested q).0 there))

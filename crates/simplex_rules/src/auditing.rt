@@ -40,28 +40,46 @@ pub fn audit<S: Listing<D>, D: Digest>(
     ensures accountable { IfOk result (λ a. (reports : List (Activity S D S.PublicKey S.Signature S.Certificate)) → IsVerdict S.lists (S.attests scheme.now) D.cmp reports a.evidence.items → (round : Round) → IsContradicted (S.certifies scheme.now) reports round → NamesAtLeast (faults (S.size scheme.now) + 1) (S.size scheme.now) a.evidence.items round) }
 {
     let participants = scheme.participants();
-    let contested = contested(alloc, scheme, participants, bytes)?;
-    let mut tally = Tally::new(alloc);
-    let fault = count_reports(alloc, scheme, participants, &contested, bytes, &mut tally)?;
-    let evidence = tally.evidence(alloc, scheme, &contested)?;
+    let (contested, fault) = contested(alloc, scheme, participants, bytes)?;
+    let evidence = evidence_among(alloc, scheme, participants, &contested, bytes)?;
     Ok(Audit { evidence, fault })
 }
 
-/// Whose votes among the reports may contradict each other. An honest signer's don't, so few votes are left to
-/// be weighed, and the reports are read twice in place of being kept.
+/// Whose votes among the reports may contradict each other, and the place of the first byte at which no report
+/// stands. An honest signer's don't, so few votes are left to be weighed, and the reports are read again in place
+/// of being kept.
 fn contested<S: Listing<D>, D: Digest>(
     alloc: Global,
     scheme: &S,
     participants: u32,
     bytes: &[u8],
-) -> Result<BTreeSet<Suspect>, AllocError>
+) -> Result<(BTreeSet<Suspect>, Option<usize>), AllocError>
     requires bound { participants ≡ S.size scheme.now }
-    ensures { IfOk result (λ contested. (reports : List (Activity S D S.PublicKey S.Signature S.Certificate)) (fault : Option ℕ) → IsRead (Readable ⟦<Activity<S, D> as Write>⟧.fits (⟦<Activity<S, D> as Read>⟧.within (S.size scheme.now))) ⟦<Activity<S, D> as Write>⟧.spelling (⟦<Activity<S, D> as Read>⟧.reading (S.size scheme.now)) bytes.now reports fault → HasGuilty S.lists (S.attests scheme.now) reports contested) }
+    ensures { IfOk result (λ found. Counts (HasGuilty S.lists (S.attests scheme.now)) (Readable ⟦<Activity<S, D> as Write>⟧.fits (⟦<Activity<S, D> as Read>⟧.within (S.size scheme.now))) ⟦<Activity<S, D> as Write>⟧.spelling (⟦<Activity<S, D> as Read>⟧.reading (S.size scheme.now)) bytes.now found.1 found.0) }
 {
     let mut survey: Survey<D> = Survey::new::<S>(alloc);
-    let _fault = survey_reports(alloc, scheme, participants, bytes, &mut survey)?;
+    let fault = survey_reports(alloc, scheme, participants, bytes, &mut survey)?;
     survey.contest_beside()?;
-    Ok(survey.contested)
+    Ok((survey.contested, fault))
+}
+
+/// The evidence against the guilty, who are among the contested. Where nobody is, the reports aren't read again.
+fn evidence_among<S: Listing<D>, D: Digest>(
+    alloc: Global,
+    scheme: &S,
+    participants: u32,
+    contested: &BTreeSet<Suspect>,
+    bytes: &[u8],
+) -> Result<Vec<Activity<S, D>>, AllocError>
+    requires bound { participants ≡ S.size scheme.now }
+    ensures { IfOk result (λ evidence. (reports : List (Activity S D S.PublicKey S.Signature S.Certificate)) (fault : Option ℕ) → IsRead (Readable ⟦<Activity<S, D> as Write>⟧.fits (⟦<Activity<S, D> as Read>⟧.within (S.size scheme.now))) ⟦<Activity<S, D> as Write>⟧.spelling (⟦<Activity<S, D> as Read>⟧.reading (S.size scheme.now)) bytes.now reports fault → HasGuilty S.lists (S.attests scheme.now) reports contested.now → IsVerdict S.lists (S.attests scheme.now) D.cmp reports evidence.items) }
+{
+    if contested.is_empty() {
+        return Ok(Vec::new(alloc));
+    }
+    let mut tally = Tally::new(alloc);
+    let _fault = count_reports(alloc, scheme, participants, contested, bytes, &mut tally)?;
+    tally.evidence(alloc, scheme, contested)
 }
 
 /// Notes the votes of the reports, and tells the place of the first byte at which none stands.

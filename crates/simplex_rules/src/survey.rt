@@ -1,6 +1,7 @@
 //! What the votes of the reports are for, round by round, and so whose votes may contradict each other.
 
 ghost use Rattle.std.specs.Prelude.{◌≡◌, ◌∷◌, ◌⊎◌, ⊤, [], List, OnOk, IfOk, IsTrue, IsSome, Some, Contains};
+ghost use Rattle.std.specs.Option.{option_copied};
 ghost use Rattle.std.specs.BTreeMap.{get};
 ghost use Rattle.std.specs.BTreeSet.{IsSubset, contains};
 ghost use Rattle.simplex_types.specs.declared.attestation.Attestation.{Attestation};
@@ -15,6 +16,7 @@ use simplex_messages::{
 };
 use simplex_types::{Attestation, Digest, Listing, Proposal, Round, Scheme};
 use std::alloc::{AllocError, Global};
+use std::cmp::Ordering;
 use std::collections::{BTreeMap, BTreeSet};
 
 /// What the votes of each round are for. Honest votes of a round are for one proposal, so it keeps one for all
@@ -110,6 +112,21 @@ fn contest<D: Digest>(
     Ok(())
 }
 
+/// The round's choice, if it has one. The last round is looked at first, since reports come round by round.
+fn look_up<'a, D: Digest>(
+    chosen: &'a BTreeMap<Round, Choice<D>>,
+    round: &Round,
+) -> Option<&'a Choice<D>>
+    ensures { option_copied result ≡ get round_cmp chosen.now round.now }
+{
+    let (last, choice) = chosen.last_key_value()?;
+    match last.cmp(round) {
+        Ordering::Less => None,
+        Ordering::Equal => Some(choice),
+        Ordering::Greater => chosen.get(round),
+    }
+}
+
 /// Makes this the round's choice where it has none. Whether it is the round's choice then.
 fn choose<D: Digest>(
     chosen: &mut BTreeMap<Round, Choice<D>>,
@@ -122,7 +139,7 @@ fn choose<D: Digest>(
         parent: proposal.parent,
         payload: proposal.payload,
     };
-    if let Some(first) = chosen.get(&proposal.round) {
+    if let Some(first) = look_up(chosen, &proposal.round) {
         return Ok(*first == choice);
     }
     chosen.insert(proposal.round, choice)?;

@@ -9,4 +9,4 @@ none_found None found is none = sym is
 none_found (Some x) found is none = absurd (none x refl)
 
 pub returns-clause-extends : goal.returns-clause-extends
-returns-clause-extends g c = Extends-inserted c.args.chosen.now c.insert.new.self c.args.proposal.now.round _ (none_found c.get.result _ c.get.ensures.value c.in_default.not-Some) c.in_ok-insert.ensures.updates
+returns-clause-extends g c = Extends-inserted c.args.chosen.now c.insert.new.self c.args.proposal.now.round _ (none_found c.look_up.result _ c.look_up.ensures c.in_default.not-Some) c.in_ok-insert.ensures.updates
