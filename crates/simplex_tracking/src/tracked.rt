@@ -3,7 +3,7 @@
 
 mod one_view;
 
-ghost use Rattle.std.specs.Prelude.{◌≡◌, ◌≢◌, ◌↔◌, ◌⊎◌, ◌<◌, ◌≤◌, ◌+◌, ◌-◌, ◌^◌, ◌==◌, if◌then◌else◌, nat_lt, ℕ, Bool, false, true, List, [], ◌∷◌, Option, Some, None, is_none, IsSome, IsTrue, IfOk, OnOk, MatchOption, option_map};
+ghost use Rattle.std.specs.Prelude.{◌≡◌, ◌≢◌, ◌↔◌, ◌⊎◌, ◌<◌, ◌≤◌, ◌+◌, ◌-◌, ◌^◌, ◌==◌, if◌then◌else◌, nat_lt, min, ℕ, Bool, false, true, List, [], ◌∷◌, Option, Some, None, is_none, IsSome, IsTrue, IfOk, OnOk, MatchOption, option_map};
 ghost use Rattle.std.specs.Option.{option_or};
 ghost use Rattle.simplex_round.specs.Held.{held, Agrees, Differs};
 ghost use Rattle.simplex_round.specs.Past.{entered, armed, notarized, nullified, finalized, notarization, nullification, finalization, offers, has_nullified};
@@ -204,9 +204,10 @@ impl<S: Scheme<D> + Drop, D: Digest> Tracked<S, D> {
         Ok(key)
     }
 
-    /// The last view whose window reaches back to this one, or the last view that there is.
+    /// The first view whose window doesn't reach back to this one, or the last view that there is.
     pub fn last_reached(&self, view: View) -> View
-        ensures { AtEach S.Scheme self.now (λ f t. (u : ℕ) → result ≤ u → u + 1 < 2 ^ 64 → view + f.optimistic_views < u) }
+        ensures exact { AtEach S.Scheme self.now (λ f t. result ≡ min (view + f.optimistic_views + 1) (2 ^ 64 - 1)) }
+        ensures behind { AtEach S.Scheme self.now (λ f t. (u : ℕ) → result ≤ u → u + 1 < 2 ^ 64 → view + f.optimistic_views < u) }
     {
         let optimistic = self.lookahead.optimistic_views.get();
         View::new(view.get().saturating_add(optimistic).saturating_add(1))

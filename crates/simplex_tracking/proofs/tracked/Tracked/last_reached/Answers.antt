@@ -2,6 +2,10 @@ use Rattle.std.proofs.Common.{arith}
 use Rattle.simplex_tracking.specs.Tracked.{Holds}
 use Rattle.simplex_tracking.proofs.tracked.Tracked.last_reached.Goals as goal
 
-pub returns : goal.returns
+pub returns-clause-exact : goal.returns-clause-exact
 unfolding Holds
-returns g c = λ f t k u le fits. let views = k.optimistic_views in omega (arith, views)
+returns-clause-exact g c = λ f t k. let views = k.optimistic_views in omega (arith, views)
+
+pub returns-clause-behind : goal.returns-clause-behind
+unfolding Holds
+returns-clause-behind g c = λ f t k u le fits. let views = k.optimistic_views in omega (arith, views)
