@@ -21,12 +21,12 @@ pub enum Answer {
 }
 
 /// Yes, or no.
-fn yes_or_no(is_so: bool) -> Answer {
+pub fn yes_or_no(is_so: bool) -> Answer {
     if is_so { Answer::Yes } else { Answer::No }
 }
 
 /// What there is to tell about a proposal.
-fn about(proposal: Option<Proposal>) -> Answer {
+pub fn about(proposal: Option<Proposal>) -> Answer {
     match proposal {
         Some(proposal) => Answer::Proposal(proposal),
         None => Answer::No,

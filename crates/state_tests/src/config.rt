@@ -4,15 +4,19 @@ use simplex_messages::Finalization;
 use simplex_state::config::{
     Config, ConfigFault, Floor, ForwardPolicy, SkipBudget, SkipPolicy, check_config,
 };
-use simplex_types::{Duplicate, Epoch, PlainScheme, Read, Sha256Digest, View, ViewDelta};
+use simplex_types::{
+    Digest, Duplicate, Epoch, PlainScheme, Read, Scheme, Sha256Digest, View, ViewDelta,
+};
 use std::alloc::{AllocError, Global};
 use std::process::Abort;
 use std::test::Fail;
 
-type Settings = Config<Sha256Digest>;
+/// The payload of 32 such bytes.
+fn payload(byte: u8) -> Sha256Digest {
+    Sha256Digest::new([byte; 32])
+}
 
-type Start = Floor<PlainScheme, Sha256Digest>;
-
+/// Asserts what a test says.
 fn holds(rt: &impl Abort, is_so: bool) {
     assert!(rt; is_so);
 }
@@ -36,97 +40,92 @@ const GOOD: Times = Times {
     skip: Some(8_000),
 };
 
-fn settings(times: Times) -> Settings {
-    let skip = match times.skip {
+/// The policy that skips behind this timeout, where there is one.
+fn skips(timeout: Option<u64>) -> SkipPolicy {
+    match timeout {
         None => SkipPolicy::Disabled,
         Some(timeout) => SkipPolicy::Enabled {
             timeout,
             budget: SkipBudget::default(),
         },
-    };
+    }
+}
+
+/// The setup of these times.
+fn settings<D: Digest>(times: Times, genesis: D) -> Config<D> {
     Config {
         epoch: Epoch::new(0),
-        genesis: Sha256Digest::new([0; 32]),
+        genesis,
         leader_timeout: times.leader,
         certification_timeout: times.certification,
         timeout_retry: times.retry,
         view_retention: ViewDelta::new(times.retention),
-        skip,
+        skip: skips(times.skip),
         forward: ForwardPolicy::Disabled,
         track_historical_votes: true,
     }
 }
 
+/// What the setup of these times is told in a committee of so many.
+fn checked(times: Times, participants: u32) -> Result<(), ConfigFault> {
+    check_config(&settings(times, payload(0)), participants)
+}
+
 /// The number of the fault that is told, and 0 where none is.
 fn told(times: Times, participants: u32) -> u8 {
-    match check_config(&settings(times), participants) {
+    match checked(times, participants) {
         Ok(()) => 0,
         Err(fault) => fault.number(),
     }
 }
 
+/// In committees of so many these setups are told faults of these numbers, or none where it is 0.
+fn are_told(rt: &impl Abort, rows: &[(Times, u32, u8)]) {
+    for (times, participants, fault) in rows {
+        holds(rt, told(*times, *participants) == *fault);
+    }
+}
+
 #[test]
 fn a_good_setup_changed_in_one_place(rt: HostRuntime) {
-    holds(&rt, told(GOOD, 4) == 0);
     let no_time = Times {
         leader: 0,
         certification: 0,
         ..GOOD
     };
-    holds(&rt, told(no_time, 4) == 2);
-    holds(&rt, told(no_time, 0) == 1);
-    holds(
-        &rt,
-        told(
-            Times {
-                certification: 1_000,
-                ..GOOD
-            },
-            4,
-        ) == 3,
-    );
-    holds(
-        &rt,
-        told(
-            Times {
-                skip: Some(2_000),
-                ..GOOD
-            },
-            4,
-        ) == 4,
-    );
-    holds(
-        &rt,
-        told(
-            Times {
-                skip: Some(5_000),
-                ..GOOD
-            },
-            4,
-        ) == 5,
-    );
-    holds(
-        &rt,
-        told(
-            Times {
-                skip: None,
-                retry: 0,
-                ..GOOD
-            },
-            4,
-        ) == 6,
-    );
-    holds(
-        &rt,
-        told(
-            Times {
-                retention: 0,
-                ..GOOD
-            },
-            4,
-        ) == 7,
-    );
-    holds(&rt, told(GOOD, 65_536) == 8);
+    let no_longer = Times {
+        certification: 1_000,
+        ..GOOD
+    };
+    let early = Times {
+        skip: Some(2_000),
+        ..GOOD
+    };
+    let as_retried = Times {
+        skip: Some(5_000),
+        ..GOOD
+    };
+    let at_once = Times {
+        skip: None,
+        retry: 0,
+        ..GOOD
+    };
+    let forgetful = Times {
+        retention: 0,
+        ..GOOD
+    };
+    let rows = [
+        (GOOD, 4, 0),
+        (no_time, 4, 2),
+        (no_time, 0, 1),
+        (no_longer, 4, 3),
+        (early, 4, 4),
+        (as_retried, 4, 5),
+        (at_once, 4, 6),
+        (forgetful, 4, 7),
+        (GOOD, 65_536, 8),
+    ];
+    are_told(&rt, &rows);
 }
 
 #[test]
@@ -138,42 +137,40 @@ fn of_several_faults_the_one_with_the_least_number_is_told(rt: HostRuntime) {
         retention: 0,
         skip: Some(0),
     };
-    holds(&rt, told(all, 0) == 1);
-    holds(&rt, told(all, 65_536) == 2);
     let led = Times {
         leader: 1,
         certification: 1,
         ..all
     };
-    holds(&rt, told(led, 65_536) == 3);
     let judged = Times {
         certification: 2,
         ..led
     };
-    holds(&rt, told(judged, 65_536) == 4);
     let skipped = Times {
         skip: Some(3),
         retry: 3,
         ..judged
     };
-    holds(&rt, told(skipped, 65_536) == 5);
     let late = Times {
         retry: 0,
         ..skipped
     };
-    holds(&rt, told(late, 65_536) == 6);
     let retried = Times { retry: 1, ..late };
-    holds(&rt, told(retried, 65_536) == 7);
-    holds(
-        &rt,
-        told(
-            Times {
-                retention: 1,
-                ..retried
-            },
-            65_536,
-        ) == 8,
-    );
+    let kept = Times {
+        retention: 1,
+        ..retried
+    };
+    let rows = [
+        (all, 0, 1),
+        (all, 65_536, 2),
+        (led, 65_536, 3),
+        (judged, 65_536, 4),
+        (skipped, 65_536, 5),
+        (late, 65_536, 6),
+        (retried, 65_536, 7),
+        (kept, 65_536, 8),
+    ];
+    are_told(&rt, &rows);
 }
 
 #[test]
@@ -185,44 +182,42 @@ fn what_just_passes_and_what_just_does_not(rt: HostRuntime) {
         retention: 1,
         skip: Some(3),
     };
-    holds(&rt, told(least, 1) == 0);
-    holds(&rt, told(least, 65_535) == 0);
-    holds(
-        &rt,
-        told(
-            Times {
-                certification: 3,
-                ..least
-            },
-            1,
-        ) == 4,
-    );
-    holds(&rt, told(Times { retry: 3, ..least }, 1) == 5);
     let without_skips = Times {
         certification: 3,
         retry: 3,
         skip: None,
         ..least
     };
-    holds(&rt, told(without_skips, 1) == 0);
+    let slow = Times {
+        certification: 3,
+        ..least
+    };
     let end = Times {
         leader: u64::MAX,
         certification: u64::MAX,
         ..least
     };
-    holds(&rt, told(end, 1) == 3);
+    let rows = [
+        (least, 1, 0),
+        (least, 65_535, 0),
+        (slow, 1, 4),
+        (Times { retry: 3, ..least }, 1, 5),
+        (without_skips, 1, 0),
+        (end, 1, 3),
+    ];
+    are_told(&rt, &rows);
 }
 
 #[test]
 fn a_fault_is_named(rt: HostRuntime) {
-    let fault = check_config(
-        &settings(Times {
-            retention: 0,
-            ..GOOD
-        }),
-        4,
+    let forgetful = Times {
+        retention: 0,
+        ..GOOD
+    };
+    holds(
+        &rt,
+        checked(forgetful, 4) == Err(ConfigFault::RetentionZero),
     );
-    holds(&rt, fault == Err(ConfigFault::RetentionZero));
 }
 
 #[test]
@@ -240,45 +235,74 @@ fn policies_say_how_much_they_allow(rt: HostRuntime) {
     holds(&rt, ForwardPolicy::SilentLeader.is_enabled());
 }
 
-/// The finalization of view 5 by three of four members. What stands for their signatures attests nothing.
-fn finalization(alloc: Global) -> Result<Finalization<PlainScheme, Sha256Digest>, Fail> {
+/// What spells the finalization of view 5 by three of four members. What stands for their signatures attests nothing.
+fn spelled(alloc: Global) -> Result<Vec<u8>, AllocError> {
     let mut bytes = Vec::from_slice(alloc, &[0, 5, 4])?;
     bytes.extend_from_slice(&[0xaa; 32])?;
     bytes.push(3)?;
     for signer in [0, 2, 3].iter() {
         bytes.extend_from_slice(&[*signer; 33])?;
     }
-    let mut rest: &[u8] = &bytes;
-    Ok(Finalization::read_cfg(alloc, &mut rest, 4)?)
+    Ok(bytes)
 }
 
-fn copied(alloc: Global, floor: &Start) -> Result<Start, AllocError> {
-    floor.duplicate(alloc)
+/// The floor that is what these bytes spell, at any scheme.
+fn finalized<S: Scheme<Sha256Digest>>(
+    alloc: Global,
+    bytes: &[u8],
+) -> Result<Floor<S, Sha256Digest>, Fail> {
+    let mut rest = bytes;
+    Ok(Floor::Finalized(Finalization::read_cfg(alloc, &mut rest, 4)?))
+}
+
+/// Whether both floors are the same.
+fn are_same<S: Scheme<Sha256Digest>>(
+    floor: &Floor<S, Sha256Digest>,
+    other: &Floor<S, Sha256Digest>,
+) -> bool {
+    match (floor, other) {
+        (Floor::Genesis(payload), Floor::Genesis(other)) => payload == other,
+        (Floor::Finalized(kept), Floor::Finalized(other)) => kept == other,
+        _ => false,
+    }
+}
+
+/// The floor is of this view, and its copy the same as the other one.
+fn is_copied<S: Scheme<Sha256Digest>>(
+    rt: &impl Abort,
+    alloc: Global,
+    floor: &Floor<S, Sha256Digest>,
+    other: &Floor<S, Sha256Digest>,
+    view: u64,
+) -> Result<(), AllocError> {
+    holds(rt, floor.view() == View::new(view));
+    let copy = floor.duplicate(alloc)?;
+    holds(rt, are_same(&copy, other));
+    Ok(())
+}
+
+/// A start on what the bytes spell is copied whole.
+fn is_copied_whole<S: Scheme<Sha256Digest>>(
+    rt: &impl Abort,
+    alloc: Global,
+    bytes: &[u8],
+) -> Result<(), Fail> {
+    let floor = finalized::<S>(alloc, bytes)?;
+    let other = finalized::<S>(alloc, bytes)?;
+    is_copied(rt, alloc, &floor, &other, 5)?;
+    Ok(())
 }
 
 #[test]
 fn a_floor_is_view_0_or_what_is_finalized(rt: HostRuntime) -> Result<(), Fail> {
-    let alloc = rt.alloc();
-    let genesis: Start = Floor::Genesis(Sha256Digest::new([7; 32]));
-    holds(&rt, genesis.view() == View::new(0));
-    let same = match copied(alloc, &genesis)? {
-        Floor::Genesis(payload) => payload == Sha256Digest::new([7; 32]),
-        Floor::Finalized(_) => false,
-    };
-    holds(&rt, same);
+    let genesis: Floor<PlainScheme, Sha256Digest> = Floor::Genesis(payload(7));
+    let other = Floor::Genesis(payload(7));
+    is_copied(&rt, rt.alloc(), &genesis, &other, 0)?;
     Ok(())
 }
 
 #[test]
 fn a_finalized_floor_is_copied_whole(rt: HostRuntime) -> Result<(), Fail> {
-    let alloc = rt.alloc();
-    let floor: Start = Floor::Finalized(finalization(alloc)?);
-    holds(&rt, floor.view() == View::new(5));
-    let copy = copied(alloc, &floor)?;
-    let same = match &copy {
-        Floor::Genesis(_) => false,
-        Floor::Finalized(kept) => *kept == finalization(alloc)?,
-    };
-    holds(&rt, same);
-    Ok(())
+    let bytes = spelled(rt.alloc())?;
+    is_copied_whole::<PlainScheme>(&rt, rt.alloc(), &bytes)
 }

@@ -1,32 +1,39 @@
 //! A voter beside the plain program: both are told the same, and have to answer the same.
 
-use crate::holding::holds;
-use crate::rounds::{self, told};
-use crate::voter::Voter;
+use crate::holding::{all_hold, holds};
+use crate::rounds;
+use crate::voter::{Voter, told};
 use due_plain::Plain;
 use due_plain::answers::Answer;
+use simplex_messages::{ProposalCertificate, ProposalKind};
 use simplex_round::TimeoutReason;
-use simplex_types::{Participant, View};
+use simplex_rules::Elector;
+use simplex_types::{Participant, Scheme, Sha256Digest, View};
+use simplex_views::Views;
 use std::alloc::Global;
 use std::process::Abort;
-use voter_fakes::samples::{RETRY, byte_of};
+use voter_fakes::Numbering;
+use voter_fakes::samples::{RETRY, byte_of, named};
 use voter_plain::world::World;
 use voter_plain::{History, Point, Proposal, Setup, VIEWS};
 
 /// A voter, and what happened to it.
 #[derive(Drop)]
-pub struct Beside {
-    pub voter: Voter,
+pub struct Beside<S: Numbering, L: Elector<S, Sha256Digest>> {
+    pub voter: Voter<S, L>,
     world: World,
 }
 
-impl Beside {
-    /// Nothing has happened.
-    pub fn new(alloc: Global, setup: &Setup) -> Option<Self> {
-        Some(Beside {
-            voter: Voter::new(alloc, setup)?,
+impl<S: Numbering, L: Elector<S, Sha256Digest>> Beside<S, L> {
+    /// The voter of this setup with these views, to which nothing has happened.
+    pub fn new(alloc: Global, views: Views<S, L, Sha256Digest>, setup: &Setup) -> Self {
+        Beside {
+            voter: Voter {
+                views,
+                epoch: setup.epoch,
+            },
             world: World::new(alloc, *setup),
-        })
+        }
     }
 
     /// What happened.
@@ -34,16 +41,30 @@ impl Beside {
         self.world.history()
     }
 
-    /// Makes the call that would add the point, and takes the point down where it stands: the answer, which is the plain
-    /// program's. None where memory is refused.
-    fn call(&mut self, rt: &impl Abort, alloc: Global, point: Point) -> Option<Answer> {
-        let expected = Plain::behind(self.history()).answer_to(point);
-        let answer = self.voter.hand(alloc, point)?;
-        holds(rt, answer == expected);
+    /// What the plain program answers to the call that would add the point.
+    fn expected(&self, point: Point) -> Answer {
+        Plain::behind(self.history()).answer_to(point)
+    }
+
+    /// Takes the point down, where it stands behind this answer. None where memory is refused.
+    fn take_down(&mut self, point: Point, answer: Answer) -> Option<Answer> {
         if Plain::stands(point, answer) {
             self.world.push(point).ok()?;
         }
         Some(answer)
+    }
+
+    /// Makes the call that would add the point: the answer, which is the plain program's. None where memory is refused.
+    fn call(&mut self, rt: &impl Abort, alloc: Global, point: Point) -> Option<Answer> {
+        let expected = self.expected(point);
+        let answer = self.voter.hand(alloc, point)?;
+        holds(rt, answer == expected);
+        self.take_down(point, answer)
+    }
+
+    /// When and why the plain program gives the current view up next.
+    fn own_timeout(&self, counts: bool) -> Option<(u64, TimeoutReason)> {
+        Plain::behind(self.history()).own_timeout(counts)
     }
 
     /// Looks at the next timeout, where the latched reason counts while budget remains: what comes next.
@@ -51,11 +72,8 @@ impl Beside {
         let counts = self.history().has_budget();
         let now = u64::from(now);
         let next = self.voter.poll(now, RETRY, counts)?;
-        self.world.push(Point::Polled { now }).ok()?;
-        holds(
-            rt,
-            next == Plain::behind(self.history()).own_timeout(counts),
-        );
+        self.take_down(Point::Polled { now }, Answer::Yes)?;
+        holds(rt, next == self.own_timeout(counts));
         Some(next)
     }
 
@@ -70,14 +88,8 @@ impl Beside {
     /// Makes the call that would add the point. None where memory is refused.
     pub fn hand(&mut self, rt: &impl Abort, alloc: Global, point: Point) -> Option<Answer> {
         match point {
-            Point::Polled { now } => {
-                self.poll(rt, (now & 0xffff_ffff) as u32)?;
-                Some(Answer::Yes)
-            }
-            Point::Pruned => {
-                self.prune(rt, alloc)?;
-                Some(Answer::Yes)
-            }
+            Point::Polled { now } => done(self.poll(rt, (now & 0xffff_ffff) as u32).is_some()),
+            Point::Pruned => done(self.prune(rt, alloc).is_some()),
             _ => self.call(rt, alloc, point),
         }
     }
@@ -100,23 +112,38 @@ impl Beside {
         }
     }
 
+    /// Whether the view's nullification is kept.
+    pub fn keeps_nullification(&self, view: u64) -> bool {
+        self.voter.views.nullification(View::new(view)).is_some()
+    }
+
+    /// Which proposal of the view may be forwarded.
+    pub fn forwardable(&self, view: u64) -> Option<Proposal> {
+        told(self.voter.views.forwardable_proposal(View::new(view)))
+    }
+
+    /// The first view between these that isn't covered.
+    pub fn first_uncovered(&self, after: u64, before: u64) -> Option<u64> {
+        let views = &self.voter.views;
+        let uncovered = views.first_uncovered(View::new(after), View::new(before))?;
+        Some(uncovered.get())
+    }
+
     /// Of all views together the voter tells what the plain program tells.
     pub fn agrees(&self, rt: &impl Abort) {
         let (views, plain) = (&self.voter.views, self.history());
-        holds(rt, views.current_view().get() == plain.current());
-        holds(rt, views.last_finalized().get() == plain.last_finalized());
-        holds(rt, views.min_active().get() == plain.min_active());
-        holds(rt, views.epoch().get() == plain.setup.epoch);
-        let genesis = match views.genesis() {
-            Some(payload) => Some(byte_of(payload)),
-            None => None,
-        };
-        holds(rt, genesis == plain.genesis());
         let ahead = views.lookahead();
-        holds(rt, u64::from(ahead.length.get()) == plain.setup.length);
-        holds(
+        all_hold(
             rt,
-            ahead.optimistic_views.get() == plain.setup.optimistic_views,
+            &[
+                views.current_view().get() == plain.current(),
+                views.last_finalized().get() == plain.last_finalized(),
+                views.min_active().get() == plain.min_active(),
+                views.epoch().get() == plain.setup.epoch,
+                byte(views.genesis()) == plain.genesis(),
+                u64::from(ahead.length.get()) == plain.setup.length,
+                ahead.optimistic_views.get() == plain.setup.optimistic_views,
+            ],
         );
     }
 
@@ -124,45 +151,44 @@ impl Beside {
     fn agrees_on_leaders(&self, rt: &impl Abort, view: u64) {
         let (at, plain) = (View::new(view), self.history());
         let views = &self.voter.views;
-        holds(rt, self.leader(view) == plain.leader(view));
-        let scheduled = if plain.setup.is_scheduled {
-            Some(plain.setup.elect(view, 0))
-        } else {
-            None
-        };
-        holds(rt, index(views.scheduled_leader(at)) == scheduled);
-        holds(rt, views.admits_vote(at) == plain.admits_vote(view));
-        let is_taken = plain.admits_certificate(view);
-        holds(rt, views.admits_certificate(at) == is_taken);
+        all_hold(
+            rt,
+            &[
+                self.leader(view) == plain.leader(view),
+                index(views.scheduled_leader(at)) == scheduled(&plain.setup, view),
+                views.admits_vote(at) == plain.admits_vote(view),
+                views.admits_certificate(at) == plain.admits_certificate(view),
+            ],
+        );
     }
 
     /// So it is of the view's certificates.
     fn agrees_on_certificates(&self, rt: &impl Abort, view: u64) {
         let (at, plain) = (View::new(view), self.history());
         let views = &self.voter.views;
-        let notarized = match views.notarization(at) {
-            Some(certificate) => Some(certificate.proposal),
-            None => None,
-        };
-        holds(rt, told(notarized) == plain.notarized(view));
-        let finalized = match views.finalization(at) {
-            Some(certificate) => Some(certificate.proposal),
-            None => None,
-        };
-        holds(rt, told(finalized) == plain.finalized(view));
-        let is_kept = plain.keeps_nullification(view);
-        holds(rt, views.nullification(at).is_some() == is_kept);
-        let forwardable = views.forwardable_proposal(at);
-        holds(rt, told(forwardable) == plain.forwardable(view));
+        all_hold(
+            rt,
+            &[
+                certified(views.notarization(at)) == plain.notarized(view),
+                certified(views.finalization(at)) == plain.finalized(view),
+                self.keeps_nullification(view) == plain.keeps_nullification(view),
+                self.forwardable(view) == plain.forwardable(view),
+            ],
+        );
     }
 
     /// So it is of the rest of what is known of the view.
     fn agrees_on_rounds(&self, rt: &impl Abort, view: u64) {
         let (at, plain) = (View::new(view), self.history());
         let views = &self.voter.views;
-        holds(rt, views.is_tracked(at) == plain.is_tracked(view));
-        holds(rt, views.is_waiting(at) == plain.is_waiting(view));
-        holds(rt, views.is_backed(at) == plain.is_backed(view));
+        all_hold(
+            rt,
+            &[
+                views.is_tracked(at) == plain.is_tracked(view),
+                views.is_waiting(at) == plain.is_waiting(view),
+                views.is_backed(at) == plain.is_backed(view),
+            ],
+        );
         match views.round(at) {
             Some(round) => rounds::agrees(rt, round, plain, view),
             None => holds(rt, !plain.is_tracked(view)),
@@ -178,15 +204,8 @@ impl Beside {
 
     /// So it is of what covers the views between these two.
     pub fn agrees_between(&self, rt: &impl Abort, parent: u64, view: u64) {
-        let (after, before) = (View::new(parent), View::new(view));
-        let first = match self.voter.views.first_uncovered(after, before) {
-            Some(uncovered) => Some(uncovered.get()),
-            None => None,
-        };
-        holds(
-            rt,
-            first == Plain::behind(self.history()).first_uncovered(parent, view),
-        );
+        let first = Plain::behind(self.history()).first_uncovered(parent, view);
+        holds(rt, self.first_uncovered(parent, view) == first);
     }
 
     /// This member is told from the others.
@@ -207,6 +226,32 @@ impl Beside {
     }
 }
 
+/// Yes, where it was done.
+fn done(is_done: bool) -> Option<Answer> {
+    if is_done { Some(Answer::Yes) } else { None }
+}
+
+/// The byte that a payload that is there begins with.
+fn byte(payload: Option<Sha256Digest>) -> Option<u8> {
+    Some(byte_of(payload?))
+}
+
+/// Whom a schedule names for the view.
+fn scheduled(setup: &Setup, view: u64) -> Option<u32> {
+    if setup.is_scheduled {
+        Some(setup.elect(view, 0))
+    } else {
+        None
+    }
+}
+
+/// The plain program's name for the proposal of a certificate that is there.
+fn certified<K: ProposalKind<Sha256Digest>, S: Scheme<Sha256Digest>>(
+    certificate: Option<&ProposalCertificate<K, S, Sha256Digest>>,
+) -> Option<Proposal> {
+    Some(named(certificate?.proposal))
+}
+
 /// The number of a member that is there.
 fn index(member: Option<Participant>) -> Option<u32> {
     Some(member?.get())
@@ -222,24 +267,4 @@ fn drops(rt: &impl Abort, plain: History<'_>, dropped: &[View]) {
         }
     }
     holds(rt, place == dropped.len());
-}
-
-/// What is handed in one after the other, with what is answered.
-pub type Step = (Point, Answer);
-
-/// Hands these in: what is answered is as told here, and by the plain program. None where memory is refused, behind which a voter
-/// may be used no more.
-pub fn walk(rt: &impl Abort, alloc: Global, setup: &Setup, steps: &[Step]) -> Option<Beside> {
-    let mut beside = Beside::new(alloc, setup)?;
-    for (point, expected) in steps.iter() {
-        let answer = beside.hand(rt, alloc, *point)?;
-        holds(rt, answer == *expected);
-    }
-    beside.agrees_everywhere(rt);
-    Some(beside)
-}
-
-/// The same, where no memory is refused.
-pub fn walked(rt: &impl Abort, alloc: Global, setup: &Setup, steps: &[Step]) -> Beside {
-    walk(rt, alloc, setup, steps).expect(rt, "there is memory")
 }

@@ -1,7 +1,7 @@
 //! The view that a voter stands at, by each kind of certificate.
 
-use crate::beside::{Beside, Step, walked};
-use crate::holding::holds;
+use crate::facts::{Fact, Step};
+use crate::plain_scheme::walks;
 use due_plain::answers::Answer;
 use simplex_round::TimeoutReason;
 use std::alloc::Global;
@@ -13,12 +13,13 @@ use voter_plain::Point;
 
 /// In terms of five views, these lead to this view, and the voter has entered it, and neither the one before nor the one behind it.
 fn enters(rt: &impl Abort, alloc: Global, steps: &[Step], current: u64) {
-    let beside = walked(rt, alloc, &member(5, 0), steps);
-    let views = &beside.voter.views;
-    holds(rt, views.current_view().get() == current);
-    holds(rt, beside.is_entered(current) == (0 < current));
-    holds(rt, !beside.is_entered(current.wrapping_sub(1)));
-    holds(rt, !beside.is_entered(current.wrapping_add(1)));
+    let facts = [
+        Fact::Current(current),
+        Fact::Entered(current, 0 < current),
+        Fact::Entered(current.wrapping_sub(1), false),
+        Fact::Entered(current.wrapping_add(1), false),
+    ];
+    walks(rt, alloc, &member(5, 0), steps, &facts);
 }
 
 #[test]
@@ -63,39 +64,38 @@ fn the_current_view_only_rises(rt: HostRuntime) {
         (judged(50, 3, true), Answer::Proposal(plain(3, 2, A))),
         (judged(60, 9, true), Answer::No),
     ];
-    let beside = walked(&rt, rt.alloc(), &member(5, 0), &steps);
-    holds(&rt, beside.voter.views.current_view().get() == 11);
-    holds(&rt, beside.voter.views.last_finalized().get() == 4);
-    holds(&rt, !beside.is_entered(4) && !beside.is_entered(5));
-}
-
-/// A look at the timeout at this moment tells this.
-fn times_out(rt: &impl Abort, beside: &mut Beside, now: u32, next: Option<(u64, TimeoutReason)>) {
-    let told = beside.poll(rt, now).expect(rt, "there is memory");
-    holds(rt, told == next);
+    let facts = [
+        Fact::Current(11),
+        Fact::LastFinalized(4),
+        Fact::Entered(4, false),
+        Fact::Entered(5, false),
+    ];
+    walks(&rt, rt.alloc(), &member(5, 0), &steps, &facts);
 }
 
 #[test]
 fn deadlines_run_from_the_entry_on(rt: HostRuntime) {
-    let steps = [
+    let first = [
         (nullified(300, 5), Answer::Yes),
         (nullified(400, 6), Answer::Yes),
     ];
-    let mut beside = walked(&rt, rt.alloc(), &member(5, 0), &steps);
     // Nothing is held: the leader's deadline. Something is: the verdict's.
-    let silent = Some((1_400, TimeoutReason::LeaderTimeout));
-    times_out(&rt, &mut beside, 500, silent);
-    beside
-        .hand(&rt, rt.alloc(), forwarded(11, 10, A))
-        .expect(&rt, "there is memory");
-    let unjudged = Some((2_400, TimeoutReason::CertificationTimeout));
-    times_out(&rt, &mut beside, 600, unjudged);
+    let silent = Fact::TimesOut(500, Some((1_400, TimeoutReason::LeaderTimeout)));
+    walks(&rt, rt.alloc(), &member(5, 0), &first, &[silent]);
+    let steps = [
+        (nullified(300, 5), Answer::Yes),
+        (nullified(400, 6), Answer::Yes),
+        (Point::Polled { now: 500 }, Answer::Yes),
+        (forwarded(11, 10, A), Answer::Yes),
+    ];
+    let unjudged = Fact::TimesOut(600, Some((2_400, TimeoutReason::CertificationTimeout)));
+    walks(&rt, rt.alloc(), &member(5, 0), &steps, &[unjudged]);
 }
 
 #[test]
 fn nothing_times_out_before_the_start(rt: HostRuntime) {
-    let mut beside = walked(&rt, rt.alloc(), &member(1, 0), &[]);
-    times_out(&rt, &mut beside, 500, None);
+    let facts = [Fact::TimesOut(500, None)];
+    walks(&rt, rt.alloc(), &member(1, 0), &[], &facts);
 }
 
 #[test]
@@ -105,7 +105,7 @@ fn a_false_verdict_counts_where_its_view_is_not_behind(rt: HostRuntime) {
         (notarized(1, 0, A), Answer::Yes),
         (judged(700, 1, false), Answer::Proposal(plain(1, 0, A))),
     ];
-    let mut beside = walked(&rt, rt.alloc(), &member(5, 0), &steps);
     let failed = Some((700, TimeoutReason::FailedCertification));
-    times_out(&rt, &mut beside, 800, failed);
+    let facts = [Fact::TimesOut(800, failed)];
+    walks(&rt, rt.alloc(), &member(5, 0), &steps, &facts);
 }

@@ -2,12 +2,16 @@
 
 use crate::beside::Beside;
 use crate::holding::holds;
+use crate::plain_scheme::history;
 use due_plain::Plain;
 use simplex_fakes::Chance;
 use simplex_round::TimeoutReason;
+use simplex_rules::Elector;
+use simplex_types::Sha256Digest;
 use std::alloc::Global;
 use std::ops::Range;
 use std::process::Abort;
+use voter_fakes::Numbering;
 use voter_fakes::samples::{A, B, GENESIS, RETRY};
 use voter_plain::getters::Entry;
 use voter_plain::{History, Point, Proposal, Setup};
@@ -219,32 +223,49 @@ fn next(chance: &mut Chance, plain: History<'_>, now: u64) -> Point {
     }
 }
 
-/// One history, with a prune for its end: how many of its calls were none in vain. Behind each call the voter tells of all views
-/// together, and of the one that was current, what the plain program tells, and at the end of each view.
-fn history(rt: &impl Abort, alloc: Global, seed: u64) -> usize {
-    let mut chance = Chance::seeded(seed);
-    let mut beside = Beside::new(alloc, &setup(&mut chance)).expect(rt, "there is memory");
+/// What comes next, and behind it the voter tells of all views together, and of the one that was current, what the plain program
+/// tells. None where memory is refused.
+fn go_on<S: Numbering, L: Elector<S, Sha256Digest>>(
+    rt: &impl Abort,
+    alloc: Global,
+    chance: &mut Chance,
+    beside: &mut Beside<S, L>,
+    now: u64,
+) -> Option<()> {
+    let current = beside.history().current();
+    let point = next(chance, beside.history(), now);
+    beside.hand(rt, alloc, point)?;
+    beside.agrees(rt);
+    beside.agrees_at(rt, current);
+    beside.agrees_between(rt, chance.below(12), current);
+    Some(())
+}
+
+/// One history, with a prune for its end, behind which the voter tells of each view what the plain program tells: how many of its
+/// calls were none in vain. None where memory is refused.
+pub fn live<S: Numbering, L: Elector<S, Sha256Digest>>(
+    rt: &impl Abort,
+    alloc: Global,
+    chance: &mut Chance,
+    beside: &mut Beside<S, L>,
+) -> Option<usize> {
     for moment in 0..11 {
-        let current = beside.history().current();
-        let point = next(&mut chance, beside.history(), moment * 75);
-        beside.hand(rt, alloc, point).expect(rt, "there is memory");
-        beside.agrees(rt);
-        beside.agrees_at(rt, current);
-        beside.agrees_between(rt, chance.below(12), current);
+        go_on(rt, alloc, chance, beside, moment * 75)?;
     }
-    beside
-        .hand(rt, alloc, Point::Pruned)
-        .expect(rt, "there is memory");
+    beside.hand(rt, alloc, Point::Pruned)?;
     beside.agrees_everywhere(rt);
     beside.knows_itself(rt);
-    beside.history().points.len()
+    Some(beside.history().points.len())
 }
 
 /// The histories of these seeds.
 fn histories(rt: &impl Abort, alloc: Global, seeds: Range<u64>) {
     let mut count = 0usize;
     for seed in seeds {
-        count = count.saturating_add(history(rt, alloc, seed));
+        let mut chance = Chance::seeded(seed);
+        let setup = setup(&mut chance);
+        let length = history(rt, alloc, &mut chance, &setup).expect(rt, "there is memory");
+        count = count.saturating_add(length);
     }
     // Where nothing stood there was nothing to agree on.
     holds(rt, 15_000 < count);

@@ -6,6 +6,8 @@ mod beside;
 #[cfg(test)]
 mod entering;
 #[cfg(test)]
+mod facts;
+#[cfg(test)]
 mod histories;
 #[cfg(test)]
 mod holding;
@@ -13,6 +15,8 @@ mod holding;
 mod leaders;
 #[cfg(test)]
 mod memory;
+#[cfg(test)]
+mod plain_scheme;
 #[cfg(test)]
 mod pruning;
 #[cfg(test)]

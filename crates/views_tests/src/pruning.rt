@@ -1,10 +1,8 @@
 //! What is dropped, and what outlives it.
 
-use crate::beside::walked;
-use crate::holding::holds;
+use crate::facts::Fact;
+use crate::plain_scheme::walks;
 use due_plain::answers::Answer;
-use simplex_types::View;
-use std::process::Abort;
 use voter_fakes::samples::{A, finalized, forwarded, member, notarized, nullified, started};
 use voter_plain::{Point, Setup};
 
@@ -16,14 +14,6 @@ fn keeping(length: u64, retention: u64) -> Setup {
     }
 }
 
-/// A prune drops these views.
-fn drops(rt: &impl Abort, dropped: &[View], views: &[u64]) {
-    holds(rt, dropped.len() == views.len());
-    for (dropped, view) in dropped.iter().zip(views.iter()) {
-        holds(rt, dropped.get() == *view);
-    }
-}
-
 #[test]
 fn what_covers_outlives_its_view(rt: HostRuntime) {
     let steps = [
@@ -31,18 +21,14 @@ fn what_covers_outlives_its_view(rt: HostRuntime) {
         (nullified(0, 7), Answer::Yes),
         (finalized(0, 8, 6, A), Answer::Yes),
     ];
-    let mut beside = walked(&rt, rt.alloc(), &keeping(5, 0), &steps);
-    let dropped = beside.prune(&rt, rt.alloc()).expect(&rt, "there is memory");
-    drops(&rt, &dropped, &[1, 7]);
-    let seven = View::new(7);
-    let views = &beside.voter.views;
-    holds(
-        &rt,
-        !views.is_tracked(seven) && views.round(seven).is_none(),
-    );
-    // Its term ends with view 10, above view 8.
-    holds(&rt, views.nullification(seven).is_some());
-    beside.agrees_between(&rt, 8, 12);
+    // The term of view 7 ends with view 10, above view 8.
+    let facts = [
+        Fact::Drops(&[1, 7]),
+        Fact::Tracked(7, false),
+        Fact::Nullified(7, true),
+        Fact::Uncovered(8, 12, Some(11)),
+    ];
+    walks(&rt, rt.alloc(), &keeping(5, 0), &steps, &facts);
 }
 
 #[test]
@@ -56,13 +42,13 @@ fn a_nullification_goes_once_its_term_is_behind(rt: HostRuntime) {
         (finalized(0, 12, 8, A), Answer::Yes),
         (Point::Pruned, Answer::Yes),
     ];
-    let beside = walked(&rt, rt.alloc(), &keeping(5, 0), &steps);
-    let views = &beside.voter.views;
-    holds(&rt, views.nullification(View::new(7)).is_none());
-    holds(&rt, views.nullification(View::new(13)).is_some());
     // What covered views 7 to 10 still does: the first bare view behind view 6 is view 11.
-    let bare = views.first_uncovered(View::new(6), View::new(13));
-    holds(&rt, bare == Some(View::new(11)));
+    let facts = [
+        Fact::Nullified(7, false),
+        Fact::Nullified(13, true),
+        Fact::Uncovered(6, 13, Some(11)),
+    ];
+    walks(&rt, rt.alloc(), &keeping(5, 0), &steps, &facts);
 }
 
 #[test]
@@ -76,13 +62,12 @@ fn views_are_kept_behind_the_last_finalized_one(rt: HostRuntime) {
         (Point::CertifyWaited { view: 2 }, Answer::Yes),
         (Point::CertifyWaited { view: 3 }, Answer::Yes),
     ];
-    let mut beside = walked(&rt, rt.alloc(), &keeping(1, 3), &steps);
-    holds(&rt, beside.voter.views.min_active() == View::new(3));
-    let dropped = beside.prune(&rt, rt.alloc()).expect(&rt, "there is memory");
-    drops(&rt, &dropped, &[1, 2]);
-    let views = &beside.voter.views;
-    holds(&rt, !views.is_waiting(View::new(2)));
-    holds(&rt, views.is_waiting(View::new(3)));
-    holds(&rt, views.leader_index(View::new(1)).is_none());
-    beside.agrees_everywhere(&rt);
+    let facts = [
+        Fact::MinActive(3),
+        Fact::Drops(&[1, 2]),
+        Fact::Waiting(2, false),
+        Fact::Waiting(3, true),
+        Fact::Led(1, None),
+    ];
+    walks(&rt, rt.alloc(), &keeping(1, 3), &steps, &facts);
 }

@@ -1,9 +1,8 @@
 //! What a voter takes in from its member's record, in the order of the record.
 
-use crate::beside::walked;
-use crate::holding::holds;
+use crate::facts::Fact;
+use crate::plain_scheme::walks;
 use due_plain::answers::Answer;
-use simplex_types::View;
 use voter_fakes::samples::{
     A, B, finalized, forwarded, judged, member, notarized, nullified, plain, started,
 };
@@ -36,8 +35,8 @@ fn a_record_is_taken_in_in_its_order(rt: HostRuntime) {
         (Point::VotedFinalize { view: 1 }, Answer::No),
         (Point::VotedNullify { view: 2 }, Answer::Again),
     ];
-    let beside = walked(&rt, rt.alloc(), &member(1, 0), &steps);
-    holds(&rt, beside.voter.views.current_view() == View::new(3));
+    let facts = [Fact::Current(3)];
+    walks(&rt, rt.alloc(), &member(1, 0), &steps, &facts);
 }
 
 #[test]
@@ -50,11 +49,12 @@ fn a_recorded_notarize_is_bound_to_what_its_parent_holds(rt: HostRuntime) {
         (recalled(plain(2, 1, B)), Answer::Yes),
         (recalled(plain(3, 2, A)), Answer::Yes),
     ];
-    let beside = walked(&rt, rt.alloc(), &member(5, 2), &steps);
     // Genesis is no proposal. Where another proposal is held, the vote counts and its proposal is not taken.
-    holds(&rt, beside.binding(1).is_none());
-    holds(&rt, beside.binding(2) == Some((plain(2, 1, B), A)));
-    let views = &beside.voter.views;
-    holds(&rt, views.is_backed(View::new(2)));
-    holds(&rt, !views.is_backed(View::new(3)));
+    let facts = [
+        Fact::Bound(1, None),
+        Fact::Bound(2, Some((plain(2, 1, B), A))),
+        Fact::Backed(2, true),
+        Fact::Backed(3, false),
+    ];
+    walks(&rt, rt.alloc(), &member(5, 2), &steps, &facts);
 }

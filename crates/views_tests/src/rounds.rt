@@ -1,71 +1,100 @@
 //! What the round of a view tells, beside the plain program.
 
-use crate::holding::holds;
-use crate::voter::Seen;
+use crate::holding::{all_hold, holds};
+use crate::voter::told;
 use due_plain::Plain;
-use simplex_types::{Proposal, Sha256Digest, View};
+use simplex_round::Round;
+use simplex_types::{Scheme, Sha256Digest, View};
 use std::process::Abort;
 use voter_fakes::samples::{byte_of, named};
 use voter_plain as plain;
 use voter_plain::History;
 use voter_plain::views::Mark;
 
-/// The plain program's name for a proposal that is there.
-pub fn told(proposal: Option<Proposal<Sha256Digest>>) -> Option<plain::Proposal> {
-    Some(named(proposal?))
-}
-
 /// The proposal that is bound, and its parent's payload.
-pub fn binding(round: &Seen) -> Option<(plain::Proposal, u8)> {
+pub fn binding<S: Scheme<Sha256Digest>>(
+    round: &Round<S, Sha256Digest>,
+) -> Option<(plain::Proposal, u8)> {
     let (proposal, payload) = round.verifying()?;
     Some((named(proposal), byte_of(payload)))
 }
 
 /// The proposal that a view holds.
-fn holds_it(rt: &impl Abort, round: &Seen, plain: History<'_>, view: u64) {
-    holds(rt, told(round.proposal()) == plain.held(view));
-    let is_unequivocated = plain.is_unequivocated(view);
-    holds(rt, round.has_unequivocated_proposal() == is_unequivocated);
-    holds(rt, round.is_verified() == plain.is_verified(view));
-    holds(
+fn holds_it<S: Scheme<Sha256Digest>>(
+    rt: &impl Abort,
+    round: &Round<S, Sha256Digest>,
+    plain: History<'_>,
+    view: u64,
+) {
+    let due = Plain::behind(plain);
+    all_hold(
         rt,
-        round.should_propose() == Plain::behind(plain).may_propose(view),
+        &[
+            told(round.proposal()) == plain.held(view),
+            round.has_unequivocated_proposal() == plain.is_unequivocated(view),
+            round.is_verified() == plain.is_verified(view),
+            round.should_propose() == due.may_propose(view),
+            binding(round) == plain.binding(view),
+        ],
     );
-    holds(rt, binding(round) == plain.binding(view));
+}
+
+/// The proposal on which a verdict may be asked for: the notarized one, where none was.
+fn pending(plain: History<'_>, view: u64) -> Option<plain::Proposal> {
+    if plain.verdict(view).is_some() || plain.has(Mark::CertifyAsked, view) {
+        return None;
+    }
+    plain.notarized(view)
 }
 
 /// Its certificates and verdict.
-fn is_certified(rt: &impl Abort, round: &Seen, plain: History<'_>, view: u64) {
-    let (verdict, is_direct) = (plain.verdict(view), plain.has_certificate(view));
-    holds(rt, round.is_certified() == (verdict == Some(true)));
-    holds(rt, round.has_failed() == (verdict == Some(false)));
-    holds(rt, round.is_directly_notarized() == is_direct);
-    holds(
+fn is_certified<S: Scheme<Sha256Digest>>(
+    rt: &impl Abort,
+    round: &Round<S, Sha256Digest>,
+    plain: History<'_>,
+    view: u64,
+) {
+    let verdict = plain.verdict(view);
+    all_hold(
         rt,
-        told(round.certified_proposal()) == plain.certified(view),
+        &[
+            round.is_certified() == (verdict == Some(true)),
+            round.has_failed() == (verdict == Some(false)),
+            round.is_directly_notarized() == plain.has_certificate(view),
+            told(round.certified_proposal()) == plain.certified(view),
+            told(round.pending_certification()) == pending(plain, view),
+        ],
     );
-    let is_open = verdict.is_none() && !plain.has(Mark::CertifyAsked, view);
-    let open = if is_open { plain.notarized(view) } else { None };
-    holds(rt, told(round.pending_certification()) == open);
 }
 
 /// Own votes, and when the view was entered.
-fn is_voted(rt: &impl Abort, round: &Seen, plain: History<'_>, view: u64) {
-    let is_notarized = plain.has(Mark::Notarize, view);
-    holds(rt, round.broadcast_notarize() == is_notarized);
-    let is_nullified = plain.has(Mark::Nullify, view);
-    holds(rt, round.broadcast_nullify() == is_nullified);
-    let may_notarize = Plain::behind(plain).may_notarize(view).is_some();
-    holds(rt, round.can_construct_notarize() == may_notarize);
-    let may_finalize = Plain::behind(plain).may_finalize(view).is_some();
-    holds(rt, round.can_construct_finalize() == may_finalize);
-    let entered = plain.entered_at(view);
-    holds(rt, round.is_entered() == entered.is_some());
-    holds(rt, round.stall_deadline() == plain.stall_deadline(view));
+fn is_voted<S: Scheme<Sha256Digest>>(
+    rt: &impl Abort,
+    round: &Round<S, Sha256Digest>,
+    plain: History<'_>,
+    view: u64,
+) {
+    let due = Plain::behind(plain);
+    all_hold(
+        rt,
+        &[
+            round.broadcast_notarize() == plain.has(Mark::Notarize, view),
+            round.broadcast_nullify() == plain.has(Mark::Nullify, view),
+            round.can_construct_notarize() == due.may_notarize(view).is_some(),
+            round.can_construct_finalize() == due.may_finalize(view).is_some(),
+            round.is_entered() == plain.entered_at(view).is_some(),
+            round.stall_deadline() == plain.stall_deadline(view),
+        ],
+    );
 }
 
 /// The view that was asked for last is this one of the plain program.
-fn is_asked(rt: &impl Abort, round: &Seen, plain: History<'_>, view: u64) {
+fn is_asked<S: Scheme<Sha256Digest>>(
+    rt: &impl Abort,
+    round: &Round<S, Sha256Digest>,
+    plain: History<'_>,
+    view: u64,
+) {
     let last = plain.last_asked(view);
     let one = View::new(view.saturating_sub(1));
     holds(rt, round.is_requested(one) == (last == Some(one.get())));
@@ -75,7 +104,12 @@ fn is_asked(rt: &impl Abort, round: &Seen, plain: History<'_>, view: u64) {
 }
 
 /// All of it.
-pub fn agrees(rt: &impl Abort, round: &Seen, plain: History<'_>, view: u64) {
+pub fn agrees<S: Scheme<Sha256Digest>>(
+    rt: &impl Abort,
+    round: &Round<S, Sha256Digest>,
+    plain: History<'_>,
+    view: u64,
+) {
     holds_it(rt, round, plain, view);
     is_certified(rt, round, plain, view);
     is_voted(rt, round, plain, view);

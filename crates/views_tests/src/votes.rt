@@ -1,9 +1,8 @@
 //! What is asked for, voted and handed out.
 
-use crate::beside::{Step, walked};
-use crate::holding::holds;
+use crate::facts::Fact;
+use crate::plain_scheme::walks;
 use due_plain::answers::Answer;
-use simplex_types::View;
 use voter_fakes::samples::{
     A, B, GENESIS, finalized, forwarded, judged, member, notarized, nullified, plain, started,
 };
@@ -36,9 +35,8 @@ fn a_leader_builds_and_votes_once(rt: HostRuntime) {
         (Point::VotedFinalize { view: 1 }, Answer::No),
         (Point::VotedNullify { view: 1 }, Answer::No),
     ];
-    let beside = walked(&rt, rt.alloc(), &member(1, 0), &steps);
-    holds(&rt, beside.binding(1) == Some((own, GENESIS)));
-    holds(&rt, beside.voter.views.is_backed(View::new(1)));
+    let facts = [Fact::Bound(1, Some((own, GENESIS))), Fact::Backed(1, true)];
+    walks(&rt, rt.alloc(), &member(1, 0), &steps, &facts);
 }
 
 #[test]
@@ -68,8 +66,8 @@ fn another_members_proposal_is_verified_and_voted_for(rt: HostRuntime) {
         (Point::VotedNotarize { view: 2 }, Answer::Proposal(other)),
         (Point::Unbound { view: 2 }, Answer::Yes),
     ];
-    let beside = walked(&rt, rt.alloc(), &member(1, 0), &steps);
-    holds(&rt, beside.binding(2).is_none());
+    let facts = [Fact::Bound(2, None)];
+    walks(&rt, rt.alloc(), &member(1, 0), &steps, &facts);
 }
 
 #[test]
@@ -86,7 +84,7 @@ fn a_view_that_was_given_up_takes_no_proposal(rt: HostRuntime) {
         (Point::VotedNotarize { view: 1 }, Answer::No),
         (Point::VotedFinalize { view: 1 }, Answer::No),
     ];
-    walked(&rt, rt.alloc(), &member(1, 0), &steps);
+    walks(&rt, rt.alloc(), &member(1, 0), &steps, &[]);
 }
 
 #[test]
@@ -108,7 +106,7 @@ fn a_certificate_is_handed_out_once(rt: HostRuntime) {
         (finalization, Answer::Yes),
         (finalization, Answer::No),
     ];
-    walked(&rt, rt.alloc(), &member(1, 0), &steps);
+    walks(&rt, rt.alloc(), &member(1, 0), &steps, &[]);
 }
 
 #[test]
@@ -121,7 +119,6 @@ fn a_certificate_that_replaces_a_proposal_tells_its_leader(rt: HostRuntime) {
         (finalized(0, 1, 0, A), Answer::InPlace(1)),
         (Point::VotedNotarize { view: 1 }, Answer::No),
     ];
-    let beside = walked(&rt, rt.alloc(), &member(1, 0), &steps);
-    let forwardable = beside.voter.views.forwardable_proposal(View::new(1));
-    holds(&rt, forwardable.is_some());
+    let facts = [Fact::Forwardable(1, Some(plain(1, 0, A)))];
+    walks(&rt, rt.alloc(), &member(1, 0), &steps, &facts);
 }

@@ -4,7 +4,9 @@
 
 mod committees;
 mod elector;
+mod numbering;
 pub mod samples;
 
 pub use committees::committee;
 pub use elector::Chosen;
+pub use numbering::Numbering;

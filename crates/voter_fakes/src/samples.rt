@@ -1,7 +1,10 @@
-//! What stands for the plain program's proposals, certificates and artifacts. Epochs, views and parents lie below 128.
+//! What stands for the plain program's proposals, certificates and artifacts. Epochs, views and parents lie below 128, and
+//! certificates and signatures are spelled as the plain scheme spells them.
 
 use simplex_messages::{Artifact, Finalization, Notarization, Nullification};
-use simplex_types::{Digest, Epoch, PlainScheme, Proposal, Read, Round, Sha256Digest, View};
+use simplex_types::{
+    Digest, Epoch, PlainScheme, Proposal, Read, Round, Scheme, Sha256Digest, View,
+};
 use std::alloc::{AllocError, Global};
 use voter_plain as plain;
 use voter_plain::getters::Entry;
@@ -121,14 +124,20 @@ fn small(number: u64) -> u8 {
     (number & 0x7f) as u8
 }
 
-/// The bytes of the round.
+/// The bytes of the round, behind this tag.
 fn round_spelled(alloc: Global, tag: &[u8], epoch: u64, view: u64) -> Result<Vec<u8>, AllocError> {
     let mut bytes = Vec::from_slice(alloc, tag)?;
     bytes.extend_from_slice(&[small(epoch), small(view)])?;
     Ok(bytes)
 }
 
-/// The bytes of the proposal, behind these.
+/// Appends what stands in a proposal behind its round.
+fn propose(bytes: &mut Vec<u8>, plain: plain::Proposal) -> Result<(), AllocError> {
+    bytes.push(small(plain.parent))?;
+    bytes.extend_from_slice(&[plain.payload; 32])
+}
+
+/// The bytes of the proposal, behind this tag.
 fn spelled(
     alloc: Global,
     tag: &[u8],
@@ -136,8 +145,7 @@ fn spelled(
     plain: plain::Proposal,
 ) -> Result<Vec<u8>, AllocError> {
     let mut bytes = round_spelled(alloc, tag, epoch, plain.view)?;
-    bytes.push(small(plain.parent))?;
-    bytes.extend_from_slice(&[plain.payload; 32])?;
+    propose(&mut bytes, plain)?;
     Ok(bytes)
 }
 
@@ -153,99 +161,129 @@ fn certify(bytes: &mut Vec<u8>, mark: u64) -> Result<(), AllocError> {
     Ok(())
 }
 
+/// The bytes of a certificate of the proposal, behind this tag.
+fn certificate_spelled(
+    alloc: Global,
+    tag: &[u8],
+    epoch: u64,
+    plain: plain::Proposal,
+    mark: u64,
+) -> Result<Vec<u8>, AllocError> {
+    let mut bytes = spelled(alloc, tag, epoch, plain)?;
+    certify(&mut bytes, mark)?;
+    Ok(bytes)
+}
+
+/// The bytes of the nullification of the view, behind this tag.
+fn nullification_spelled(
+    alloc: Global,
+    tag: &[u8],
+    epoch: u64,
+    view: u64,
+    mark: u64,
+) -> Result<Vec<u8>, AllocError> {
+    let mut bytes = round_spelled(alloc, tag, epoch, view)?;
+    certify(&mut bytes, mark)?;
+    Ok(bytes)
+}
+
+/// What the bytes spell, in a committee of seven.
+fn read<T: Read>(alloc: Global, bytes: &[u8]) -> Option<T> {
+    let mut rest = bytes;
+    T::read_cfg(alloc, &mut rest, 7).ok()
+}
+
 /// The notarization of the proposal.
-pub fn notarization(
+pub fn notarization<S: Scheme<Sha256Digest>>(
     alloc: Global,
     epoch: u64,
     plain: plain::Proposal,
     mark: u64,
-) -> Option<Notarized> {
-    let mut bytes = spelled(alloc, &[], epoch, plain).ok()?;
-    certify(&mut bytes, mark).ok()?;
-    let mut rest = bytes.as_slice();
-    Notarized::read_cfg(alloc, &mut rest, 7).ok()
+) -> Option<Notarization<S, Sha256Digest>> {
+    let bytes = certificate_spelled(alloc, &[], epoch, plain, mark).ok()?;
+    read(alloc, &bytes)
 }
 
 /// The finalization of the proposal.
-pub fn finalization(
+pub fn finalization<S: Scheme<Sha256Digest>>(
     alloc: Global,
     epoch: u64,
     plain: plain::Proposal,
     mark: u64,
-) -> Option<Finalized> {
-    let mut bytes = spelled(alloc, &[], epoch, plain).ok()?;
-    certify(&mut bytes, mark).ok()?;
-    let mut rest = bytes.as_slice();
-    Finalized::read_cfg(alloc, &mut rest, 7).ok()
+) -> Option<Finalization<S, Sha256Digest>> {
+    let bytes = certificate_spelled(alloc, &[], epoch, plain, mark).ok()?;
+    read(alloc, &bytes)
 }
 
 /// The nullification of the view.
-pub fn nullification(alloc: Global, epoch: u64, view: u64, mark: u64) -> Option<Nullified> {
-    let mut bytes = round_spelled(alloc, &[], epoch, view).ok()?;
-    certify(&mut bytes, mark).ok()?;
-    let mut rest = bytes.as_slice();
-    Nullified::read_cfg(alloc, &mut rest, 7).ok()
+pub fn nullification<S: Scheme<Sha256Digest>>(
+    alloc: Global,
+    epoch: u64,
+    view: u64,
+    mark: u64,
+) -> Option<Nullification<S, Sha256Digest>> {
+    let bytes = nullification_spelled(alloc, &[], epoch, view, mark).ok()?;
+    read(alloc, &bytes)
 }
 
-/// What these bytes of a record spell.
-fn kept(alloc: Global, bytes: &[u8]) -> Option<Kept> {
-    let mut rest = bytes;
-    Kept::read_cfg(alloc, &mut rest, 7).ok()
+/// The bytes of an own vote on the proposal, behind the tag of its kind. What stands for its signature attests nothing.
+fn own_vote(
+    alloc: Global,
+    tag: u8,
+    epoch: u64,
+    plain: plain::Proposal,
+) -> Result<Vec<u8>, AllocError> {
+    let mut bytes = spelled(alloc, &[tag], epoch, plain)?;
+    bytes.extend_from_slice(&[1; 33])?;
+    Ok(bytes)
 }
 
-/// An own vote on the proposal, behind the tag of its kind. What stands for its signature attests nothing.
-fn own_vote(alloc: Global, tag: u8, epoch: u64, plain: plain::Proposal) -> Option<Kept> {
-    let mut bytes = spelled(alloc, &[tag], epoch, plain).ok()?;
-    bytes.extend_from_slice(&[1; 33]).ok()?;
-    kept(alloc, &bytes)
+/// The bytes of an own nullify of the view.
+fn own_nullify(alloc: Global, epoch: u64, view: u64) -> Result<Vec<u8>, AllocError> {
+    let mut bytes = round_spelled(alloc, &[3], epoch, view)?;
+    bytes.extend_from_slice(&[1; 33])?;
+    Ok(bytes)
 }
 
-/// An own nullify of the view.
-fn own_nullify(alloc: Global, epoch: u64, view: u64) -> Option<Kept> {
-    let mut bytes = round_spelled(alloc, &[3], epoch, view).ok()?;
-    bytes.extend_from_slice(&[1; 33]).ok()?;
-    kept(alloc, &bytes)
-}
-
-/// The verdict on the view.
-fn verdict(epoch: u64, view: u64, is_success: bool) -> Kept {
-    Artifact::Certification(Round::new(Epoch::new(epoch), View::new(view)), is_success)
+/// The bytes of the verdict on the view.
+fn verdict(alloc: Global, epoch: u64, view: u64, is_success: bool) -> Result<Vec<u8>, AllocError> {
+    let mut bytes = round_spelled(alloc, &[2], epoch, view)?;
+    bytes.push(u8::from(is_success))?;
+    Ok(bytes)
 }
 
 /// Some proposal of the view.
-fn of_view(view: u64) -> plain::Proposal {
+const fn of_view(view: u64) -> plain::Proposal {
     plain(view, 0, A)
 }
 
-/// The certificate of the view, as it stands in a record.
-fn handed_out(alloc: Global, epoch: u64, entry: Entry) -> Option<Kept> {
+/// The bytes of the certificate of the view, as it stands in a record.
+fn handed_out(alloc: Global, epoch: u64, entry: Entry) -> Result<Vec<u8>, AllocError> {
     match entry {
-        Entry::Notarization(view) => Some(Kept::Notarization(notarization(
-            alloc,
-            epoch,
-            of_view(view),
-            3,
-        )?)),
-        Entry::Nullification(view) => Some(Kept::Nullification(nullification(
-            alloc, epoch, view, 3,
-        )?)),
-        Entry::Finalization(view) => Some(Kept::Finalization(finalization(
-            alloc,
-            epoch,
-            of_view(view),
-            3,
-        )?)),
+        Entry::Notarization(view) => certificate_spelled(alloc, &[1], epoch, of_view(view), 3),
+        Entry::Nullification(view) => nullification_spelled(alloc, &[4], epoch, view, 3),
+        Entry::Finalization(view) => certificate_spelled(alloc, &[6], epoch, of_view(view), 3),
     }
 }
 
-/// The artifact of a record by which the point happens. None for another point, or where memory is refused.
-pub fn recalled(alloc: Global, epoch: u64, point: Point) -> Option<Kept> {
+/// The bytes of a record by which the point happens: none for another point.
+fn recorded(alloc: Global, epoch: u64, point: Point) -> Result<Vec<u8>, AllocError> {
     match point {
         Point::RecalledNotarize { proposal } => own_vote(alloc, 0, epoch, proposal),
         Point::RecalledNullify { view } => own_nullify(alloc, epoch, view),
         Point::RecalledFinalize { view } => own_vote(alloc, 5, epoch, of_view(view)),
-        Point::RecalledVerdict { view, ok } => Some(verdict(epoch, view, ok)),
+        Point::RecalledVerdict { view, ok } => verdict(alloc, epoch, view, ok),
         Point::RecalledSent(entry) => handed_out(alloc, epoch, entry),
-        _ => None,
+        _ => Ok(Vec::new(alloc)),
     }
+}
+
+/// The artifact of a record by which the point happens. None for another point, or where memory is refused.
+pub fn recalled<S: Scheme<Sha256Digest>>(
+    alloc: Global,
+    epoch: u64,
+    point: Point,
+) -> Option<Artifact<S, Sha256Digest>> {
+    let bytes = recorded(alloc, epoch, point).ok()?;
+    read(alloc, &bytes)
 }

@@ -1,27 +1,10 @@
 //! By which certificate others are helped into the current view: worked cases.
 
-use crate::beside::{Step, walk};
 use crate::steps::{about, rotating, stable, tell};
-use std::alloc::Global;
-use std::process::Abort;
+use crate::walking::enters;
 use voter_fakes::samples::{A, finalized, judged, notarized, nullified, plain, started};
 use voter_plain::getters::Entry;
 use voter_plain::{Point, Setup};
-
-/// Behind these calls this view is the current one, and this certificate the best to enter it by.
-fn enters(
-    rt: &impl Abort,
-    alloc: Global,
-    setup: &Setup,
-    steps: &[Step],
-    view: u64,
-    entry: Option<Entry>,
-) {
-    let beside = walk(rt, alloc, setup, steps).expect(rt, "there is memory");
-    beside
-        .stands_at(rt, alloc, view, entry)
-        .expect(rt, "there is memory");
-}
 
 #[test]
 fn no_view_is_entered_before_the_start(rt: HostRuntime) {

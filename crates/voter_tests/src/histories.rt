@@ -1,7 +1,9 @@
 //! Histories by chance, in which each answer of each call is the plain program's.
 
 use crate::beside::Beside;
+use crate::founding::voter;
 use crate::holding::holds;
+use crate::member::Member;
 use due_plain::Plain;
 use due_plain::calls::Call;
 use due_plain::requests::{Judging, Look};
@@ -14,6 +16,9 @@ use voter_fakes::samples::{A, B, GENESIS};
 use voter_plain::getters::Entry;
 use voter_plain::views::Mark;
 use voter_plain::{Point, Proposal, Setup};
+
+/// What was last asked to be built: the view, and its parent with its payload.
+type Building = (u64, (u64, u8));
 
 /// A committee of up to seven members, in terms of this length with up to two optimistic views.
 fn setup(chance: &mut Chance, length: u64) -> Setup {
@@ -147,7 +152,7 @@ fn recalled(chance: &mut Chance, plain: Plain<'_>, view: u64) -> Point {
 }
 
 /// A question, often about what was last asked to be built.
-fn asked(chance: &mut Chance, beside: &Beside, now: u64, at: u64) -> Call {
+fn asked(chance: &mut Chance, building: Building, now: u64, at: u64) -> Call {
     let (view, parent) = if chance.below(3) == 0 {
         (
             at,
@@ -157,7 +162,7 @@ fn asked(chance: &mut Chance, beside: &Beside, now: u64, at: u64) -> Call {
             ),
         )
     } else {
-        beside.building
+        building
     };
     match chance.below(10) {
         0..=1 => Call::Build,
@@ -170,8 +175,8 @@ fn asked(chance: &mut Chance, beside: &Beside, now: u64, at: u64) -> Call {
 }
 
 /// An own build, as it was asked for last: mostly with the payload that others build too.
-fn built(chance: &mut Chance, beside: &Beside, now: u64) -> Point {
-    let (view, parent) = beside.building;
+fn built(chance: &mut Chance, building: Building, now: u64) -> Point {
+    let (view, parent) = building;
     let payload = if chance.below(4) == 0 { B } else { A };
     Point::Built {
         now,
@@ -242,10 +247,9 @@ fn onward_to_finalize(chance: &mut Chance, plain: Plain<'_>, now: u64, view: u64
 }
 
 /// What comes next where all goes well, at times with the certificate first.
-fn onward(chance: &mut Chance, beside: &Beside, now: u64, view: u64) -> Call {
-    let plain = beside.plain();
+fn onward(chance: &mut Chance, plain: Plain<'_>, building: Building, now: u64, view: u64) -> Call {
     if plain.known.is_build_asked(view) && plain.known.held(view).is_none() {
-        return Call::Tell(built(chance, beside, now));
+        return Call::Tell(built(chance, building, now));
     }
     let is_judged = plain.known.notarized(view).is_some() && chance.below(4) != 0;
     if !is_judged
@@ -260,68 +264,105 @@ fn onward(chance: &mut Chance, beside: &Beside, now: u64, view: u64) -> Call {
     }
 }
 
+/// A start at this moment.
+const fn started(now: u64) -> Call {
+    Call::Tell(Point::Started {
+        now,
+        payload: GENESIS,
+    })
+}
+
 /// What comes next, at this moment.
-fn next(chance: &mut Chance, beside: &Beside, now: u64) -> Call {
-    let plain = beside.plain();
-    if plain.known.current() == 0 && chance.below(6) != 0 {
-        return Call::Tell(Point::Started {
-            now,
-            payload: GENESIS,
-        });
+fn next(chance: &mut Chance, plain: Plain<'_>, building: Building, now: u64) -> Call {
+    let current = plain.known.current();
+    if current == 0 && chance.below(6) != 0 {
+        return started(now);
     }
-    let view = view(chance, plain.known.current());
+    let view = view(chance, current);
     match chance.below(20) {
         0..=3 => Call::Tell(learnt(chance, plain, now, view)),
         4 => Call::Tell(voted(chance, plain, view)),
         5 => Call::Tell(heard(chance, now, view)),
         6 => Call::Tell(recalled(chance, plain, view)),
-        7..=8 => asked(chance, beside, now, view),
+        7..=8 => asked(chance, building, now, view),
         9 => Call::Time { now },
         10 => Call::Refuse {
             now,
             view,
             reason: reason(chance),
         },
-        _ => onward(chance, beside, now, view),
+        _ => onward(chance, plain, building, now, view),
     }
 }
 
-/// One history: how many of its calls were none in vain. Behind each call the voter tells of all views together, and of the one that was
-/// current, what the plain program tells.
-fn history(rt: &impl Abort, alloc: Global, seed: u64, length: u64) -> usize {
-    let mut chance = Chance::seeded(seed);
-    let setup = setup(&mut chance, length);
-    let mut beside = Beside::new(alloc, &setup).expect(rt, "there is memory");
-    let mut now = 0;
-    for _ in 0..14 {
-        let call = next(&mut chance, &beside, now);
-        let current = beside.plain().known.current();
-        let _reply = beside.call(rt, alloc, call).expect(rt, "there is memory");
-        beside.agrees(rt);
-        beside.agrees_at(rt, now, current);
-        now = now.saturating_add(chance.below(120));
-    }
+/// One more call: behind it the voter tells of all views together, and of the one that was current, what the plain program tells.
+fn live<M: Member>(
+    rt: &impl Abort,
+    alloc: Global,
+    chance: &mut Chance,
+    beside: &mut Beside<M>,
+    now: u64,
+) -> Option<()> {
+    let call = next(chance, beside.plain(), beside.building, now);
+    let current = beside.plain().known.current();
+    let _reply = beside.call(rt, alloc, call)?;
+    beside.agrees(rt);
+    beside.agrees_at(rt, now, current);
+    Some(())
+}
+
+/// What is asked at the end.
+fn conclude<M: Member>(
+    rt: &impl Abort,
+    alloc: Global,
+    chance: &mut Chance,
+    beside: &mut Beside<M>,
+    now: u64,
+) -> Option<()> {
     for call in [
         Call::Verify { now },
         Call::Build,
         Call::Certify,
         Call::Time { now },
     ] {
-        let _reply = beside.call(rt, alloc, call).expect(rt, "there is memory");
+        let _reply = beside.call(rt, alloc, call)?;
     }
-    beside
-        .agrees_on_entry(rt, alloc)
-        .expect(rt, "there is memory");
+    beside.agrees_on_entry(rt, alloc)?;
     beside.agrees_at(rt, now, chance.below(12));
     beside.knows_itself(rt);
-    beside.plain().known.points.len()
+    Some(())
+}
+
+/// A history: how many of its calls were none in vain. None where memory is refused.
+fn unfold<M: Member>(
+    rt: &impl Abort,
+    alloc: Global,
+    chance: &mut Chance,
+    beside: &mut Beside<M>,
+) -> Option<usize> {
+    let mut now = 0;
+    for _ in 0..14 {
+        live(rt, alloc, chance, beside, now)?;
+        now = now.saturating_add(chance.below(120));
+    }
+    conclude(rt, alloc, chance, beside, now)?;
+    Some(beside.plain().known.points.len())
+}
+
+/// The history of this seed, in terms of this length. None where memory is refused.
+fn history(rt: &impl Abort, alloc: Global, seed: u64, length: u64) -> Option<usize> {
+    let mut chance = Chance::seeded(seed);
+    let setup = setup(&mut chance, length);
+    let mut beside = Beside::new(alloc, &setup, voter(alloc, &setup)?);
+    unfold(rt, alloc, &mut chance, &mut beside)
 }
 
 /// The thousand histories from this seed on, in terms of this length.
 fn histories(rt: &impl Abort, alloc: Global, first: u64, length: u64) {
     let mut count = 0usize;
     for seed in first..first.saturating_add(1_000) {
-        count = count.saturating_add(history(rt, alloc, seed, length));
+        let points = history(rt, alloc, seed, length).expect(rt, "there is memory");
+        count = count.saturating_add(points);
     }
     // Where nothing stood there was nothing to agree on.
     holds(rt, 10_000 < count);

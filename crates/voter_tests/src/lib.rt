@@ -6,9 +6,13 @@ mod beside;
 #[cfg(test)]
 mod entering;
 #[cfg(test)]
+mod founding;
+#[cfg(test)]
 mod histories;
 #[cfg(test)]
 mod holding;
+#[cfg(test)]
+mod member;
 #[cfg(test)]
 mod memory;
 #[cfg(test)]
@@ -25,3 +29,5 @@ mod verifying;
 mod voter;
 #[cfg(test)]
 mod voting;
+#[cfg(test)]
+mod walking;

@@ -1,20 +1,20 @@
 //! What is answered where memory is refused.
 
-use crate::beside::{Beside, Step, walk};
+use crate::founding::voter;
 use crate::holding::holds;
+use crate::member::{Begun, Member};
 use crate::rows::{asks, builds, record, timeouts, verdicts, votes};
+use crate::starting::FLOOR;
 use crate::steps::{rotating, stable};
-use crate::voter::Voter;
-use simplex_voter::Floor;
+use crate::walking::{Step, walk};
 use std::alloc::Global;
 use std::process::Abort;
-use voter_fakes::samples::{A, finalization, plain};
 use voter_plain::Setup;
 
 /// Where `rt try --test --fail-alloc N` refuses a request, the call is refused and no other answer stands in its place. The voter is
 /// used no more then, and the next list begins anew.
 fn ends(rt: &impl Abort, alloc: Global, setup: &Setup, steps: &[Step]) {
-    let _refused: Option<Beside> = walk(rt, alloc, setup, steps);
+    let _refused = walk(rt, alloc, setup, steps);
 }
 
 #[test]
@@ -47,16 +47,14 @@ fn a_refused_allocation_is_answered_by_verdicts(rt: HostRuntime) {
     ends(&rt, rt.alloc(), &stable(), &verdicts());
 }
 
-/// A voter that starts on a finalization: whether it answers it. None where memory is refused.
-fn starts(alloc: Global) -> Option<bool> {
-    let mut voter = Voter::new(alloc, &rotating())?;
-    let floor = finalization(alloc, 0, plain(3, 1, A), 3)?;
-    let answer = voter.set_floor(alloc, Floor::Finalized(floor))?;
-    Some(answer.is_some())
+/// What a voter answers that starts on a finalization. None where memory is refused.
+fn starts(alloc: Global) -> Option<Begun> {
+    let mut voter = voter(alloc, &rotating())?;
+    voter.start(alloc, FLOOR)
 }
 
 #[test]
 fn a_refused_allocation_is_answered_by_a_start(rt: HostRuntime) {
     let answer = starts(rt.alloc());
-    holds(&rt, answer != Some(false));
+    holds(&rt, answer.unwrap_or(Begun::Same) == Begun::Same);
 }

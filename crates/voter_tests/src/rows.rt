@@ -1,9 +1,7 @@
 //! Worked cases, in which each call is made: what it answers is told here, and by the plain program.
 
-use crate::beside::Step;
-use crate::steps::{
-    NO, PASS, YES, about, gives_up, refuses, rotating, stable, tell, times, walked,
-};
+use crate::steps::{NO, PASS, YES, about, gives_up, refuses, rotating, stable, tell, times};
+use crate::walking::{Step, walked};
 use due_plain::answers::Answer;
 use due_plain::calls::{Call, Reply};
 use simplex_round::{HandoffAbandonedReason, TimeoutReason};

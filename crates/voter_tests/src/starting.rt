@@ -1,58 +1,75 @@
 //! What a voter starts on: worked cases.
 
+use crate::founding::{PlainVoter, voter};
 use crate::holding::holds;
+use crate::member::{Begun, Member, Start};
 use crate::steps::rotating;
-use crate::voter::Voter;
 use due_plain::answers::Answer;
-use simplex_voter::Floor;
 use std::alloc::Global;
 use std::process::Abort;
-use voter_fakes::samples::{
-    A, B, Finalized, GENESIS, finalization, finalized, payload, plain, started,
-};
-use voter_plain::Point;
+use voter_fakes::samples::{A, GENESIS, finalized};
 use voter_plain::getters::Entry;
-
-/// A voter to which nothing has happened.
-fn waiting(rt: &impl Abort, alloc: Global) -> Voter {
-    Voter::new(alloc, &rotating()).expect(rt, "there is memory")
-}
+use voter_plain::{Point, Proposal};
 
 /// The finalization of view 3 on view 1.
-fn floor(rt: &impl Abort, alloc: Global) -> Finalized {
-    finalization(alloc, 0, plain(3, 1, A), 3).expect(rt, "there is memory")
+pub const FLOOR: Start = Start::Finalized(Proposal {
+    view: 3,
+    parent: 1,
+    payload: A,
+});
+
+/// A voter to which nothing has happened.
+fn waiting(rt: &impl Abort, alloc: Global) -> PlainVoter {
+    voter(alloc, &rotating()).expect(rt, "there is memory")
 }
 
 /// The voter stands at this view, and this one is finalized.
-fn stands(rt: &impl Abort, voter: &Voter, view: u64, last_finalized: u64) {
-    holds(rt, voter.state.current_view().get() == view);
-    holds(rt, voter.state.last_finalized().get() == last_finalized);
+fn stands<M: Member>(rt: &impl Abort, member: &M, current: u64, last_finalized: u64) {
+    let standing = member.standing();
+    holds(rt, standing.current == current);
+    holds(rt, standing.last_finalized == last_finalized);
+}
+
+/// A voter that starts so answers this, and stands then at this view, with this one finalized.
+fn begins<M: Member>(
+    rt: &impl Abort,
+    alloc: Global,
+    member: &mut M,
+    start: Start,
+    begun: Begun,
+    current: u64,
+    last_finalized: u64,
+) {
+    stands(rt, member, 0, 0);
+    let answer = member.start(alloc, start);
+    holds(rt, answer == Some(begun));
+    stands(rt, member, current, last_finalized);
+}
+
+/// Behind a start on the finalization these points don't happen.
+fn refuses<M: Member>(rt: &impl Abort, alloc: Global, member: &mut M, points: &[Point]) {
+    let _answer = member.start(alloc, FLOOR);
+    for point in points {
+        holds(rt, member.tell(alloc, *point) == Some(Answer::No));
+    }
 }
 
 #[test]
 fn a_start_on_the_payload_answers_nothing(rt: HostRuntime) {
     let mut voter = waiting(&rt, rt.alloc());
-    stands(&rt, &voter, 0, 0);
-    let answer = voter.set_floor(rt.alloc(), Floor::Genesis(payload(GENESIS)));
-    holds(&rt, answer == Some(None));
-    stands(&rt, &voter, 1, 0);
+    let start = Start::Payload(GENESIS);
+    begins(&rt, rt.alloc(), &mut voter, start, Begun::Nothing, 1, 0);
 }
 
 #[test]
 fn a_start_on_a_finalization_answers_it(rt: HostRuntime) {
     let mut voter = waiting(&rt, rt.alloc());
-    let start = Floor::Finalized(floor(&rt, rt.alloc()));
-    let answer = voter.set_floor(rt.alloc(), start);
-    holds(&rt, answer == Some(Some(floor(&rt, rt.alloc()))));
-    stands(&rt, &voter, 4, 3);
+    begins(&rt, rt.alloc(), &mut voter, FLOOR, Begun::Same, 4, 3);
 }
 
 #[test]
 fn a_finalization_that_a_voter_starts_on_is_none_to_hand_out(rt: HostRuntime) {
     let mut voter = waiting(&rt, rt.alloc());
-    let start = Floor::Finalized(floor(&rt, rt.alloc()));
-    let _answer = voter.set_floor(rt.alloc(), start);
-    for point in [Point::Sent(Entry::Finalization(3)), finalized(0, 3, 1, A)] {
-        holds(&rt, voter.tell(rt.alloc(), point) == Some(Answer::No));
-    }
+    let points = [Point::Sent(Entry::Finalization(3)), finalized(0, 3, 1, A)];
+    refuses(&rt, rt.alloc(), &mut voter, &points);
 }

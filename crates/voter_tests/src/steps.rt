@@ -1,11 +1,9 @@
 //! What the worked cases are written with: calls with what they answer, and members.
 
-use crate::beside::{Beside, Step, walk};
+use crate::walking::Step;
 use due_plain::answers::Answer;
 use due_plain::calls::{Call, Reply};
 use simplex_round::TimeoutReason;
-use std::alloc::Global;
-use std::process::Abort;
 use voter_fakes::samples::member;
 use voter_plain::{Point, Proposal, Setup};
 
@@ -62,9 +60,4 @@ pub fn gives_up(view: u64, answer: Answer) -> Step {
 /// At this moment, the next timeout.
 pub fn times(now: u64, moment: u64, reason: TimeoutReason) -> Step {
     (Call::Time { now }, Reply::Time(moment, reason))
-}
-
-/// Makes these calls, where no memory is refused.
-pub fn walked(rt: &impl Abort, alloc: Global, setup: &Setup, steps: &[Step]) {
-    let _beside: Beside = walk(rt, alloc, setup, steps).expect(rt, "there is memory");
 }

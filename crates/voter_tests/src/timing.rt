@@ -1,6 +1,7 @@
 //! When the current view is given up: worked cases.
 
-use crate::steps::{NO, about, gives_up, rotating, stable, tell, times, walked};
+use crate::steps::{NO, about, gives_up, rotating, stable, tell, times};
+use crate::walking::walked;
 use due_plain::answers::Answer;
 use due_plain::calls::Call;
 use simplex_round::TimeoutReason;

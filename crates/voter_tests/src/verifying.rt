@@ -1,7 +1,7 @@
 //! What is asked for, to judge the proposals of others: worked cases.
 
-use crate::beside::Step;
-use crate::steps::{PASS, rotating, tell, times, walked};
+use crate::steps::{PASS, rotating, tell, times};
+use crate::walking::{Step, walked};
 use due_plain::calls::{Call, Reply};
 use simplex_round::TimeoutReason;
 use voter_fakes::samples::{A, GENESIS, finalized, forwarded, nullified, plain, started};

@@ -1,6 +1,7 @@
 //! Which votes are cast: worked cases.
 
-use crate::steps::{about, gives_up, refuses, rotating, stable, tell, walked};
+use crate::steps::{about, gives_up, refuses, rotating, stable, tell};
+use crate::walking::walked;
 use due_plain::answers::Answer;
 use voter_fakes::samples::{A, finalized, forwarded, judged, notarized, plain, started};
 use voter_plain::{Point, Setup};

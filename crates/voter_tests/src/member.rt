@@ -1,0 +1,114 @@
+//! A voter as the plain program speaks of it.
+
+use due_plain::answers::Answer;
+use due_plain::calls::Reply;
+use simplex_round::{HandoffAbandonedReason, TimeoutReason};
+use simplex_types::{Proposal, Sha256Digest, View};
+use simplex_voter::CertificateFetch;
+use std::alloc::Global;
+use voter_plain as plain;
+use voter_plain::Point;
+use voter_plain::getters::Entry;
+
+/// On which proposals verdicts are to be asked for, and which notarizations.
+pub type Verdicts = (Vec<Proposal<Sha256Digest>>, Vec<CertificateFetch>);
+
+/// What is told of all views together.
+#[derive(Clone, Copy, PartialEq, Eq)]
+pub struct Standing {
+    pub current: u64,
+    pub last_finalized: u64,
+    pub min_active: u64,
+    pub epoch: u64,
+}
+
+/// Who leads a view, which messages of it are taken, and how far it has come.
+#[derive(Clone, Copy, PartialEq, Eq)]
+pub struct Course {
+    pub leader: Option<u32>,
+    pub admits_vote: bool,
+    pub admits_certificate: bool,
+    pub voted_nullify: bool,
+    pub since_entry: Option<u64>,
+    pub since_start: Option<u64>,
+}
+
+/// A view's certificates, by what they are about.
+#[derive(Clone, Copy, PartialEq, Eq)]
+pub struct Certificates {
+    pub notarized: Option<plain::Proposal>,
+    pub finalized: Option<plain::Proposal>,
+    pub is_nullified: bool,
+    pub forwardable: Option<plain::Proposal>,
+}
+
+/// What a voter starts on.
+#[derive(Clone, Copy)]
+pub enum Start {
+    /// This payload.
+    Payload(u8),
+    /// The finalization of this proposal.
+    Finalized(plain::Proposal),
+}
+
+/// What a start answers.
+#[derive(Clone, Copy, PartialEq, Eq)]
+pub enum Begun {
+    /// Nothing.
+    Nothing,
+    /// The finalization that it is on.
+    Same,
+    /// Another one.
+    Other,
+}
+
+/// A voter that is told and answers in the plain program's names. Where memory is refused, nothing is answered.
+pub trait Member: Drop {
+    /// Starts, at moment 0.
+    fn start(&mut self, alloc: Global, start: Start) -> Option<Begun>;
+
+    /// Makes the call that would add the point.
+    fn tell(&mut self, alloc: Global, point: Point) -> Option<Answer>;
+
+    /// The held proposal of the view wasn't found good.
+    fn refuse(&mut self, now: u64, view: u64, reason: TimeoutReason) -> Option<bool>;
+
+    /// What is to be built.
+    fn build(&mut self) -> Reply;
+
+    /// Whether the build of the view on this parent is given back, since there is another one to build on.
+    fn supersede(&mut self, view: u64, parent: (u64, u8)) -> Option<bool>;
+
+    /// Why a handoff of the view on this parent is to stop.
+    fn abandon(&self, view: u64, parent: (u64, u8)) -> Option<HandoffAbandonedReason>;
+
+    /// What is to be asked for, to judge the proposals of others.
+    fn ask(&mut self, now: u64) -> Option<Reply>;
+
+    /// On which proposals verdicts are to be asked for.
+    fn certify(&mut self, alloc: Global) -> Option<Verdicts>;
+
+    /// When and why the current view is given up.
+    fn time(&mut self, now: u64) -> Option<Reply>;
+
+    /// Drops what need not be kept: the views of which something was known.
+    fn prune(&mut self, alloc: Global) -> Option<Vec<View>>;
+
+    /// By which certificate others are helped into the current view. The outer one is none where memory is refused.
+    fn best_certificate(&self, alloc: Global) -> Option<Option<Entry>>;
+
+    /// What is told of all views together.
+    fn standing(&self) -> Standing;
+
+    /// What is told of the view, at this moment.
+    fn course(&self, now: u64, view: u64) -> Course;
+
+    /// The view's certificates.
+    fn certificates(&self, view: u64) -> Certificates;
+
+    /// Whether the view is certified with this payload.
+    fn is_certified(&self, view: u64, payload: u8) -> bool;
+
+    /// Whether the index is this member's.
+    fn is_me(&self, index: u32) -> bool;
+}
