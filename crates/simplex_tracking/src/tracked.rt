@@ -205,7 +205,7 @@ impl<S: Scheme<D> + Drop, D: Digest> Tracked<S, D> {
     }
 
     /// The first view whose window doesn't reach back to this one, or the last view that there is.
-    pub fn last_reached(&self, view: View) -> View
+    pub fn first_unreached(&self, view: View) -> View
         ensures exact { AtEach S.Scheme self.now (λ f t. result ≡ min (view + f.optimistic_views + 1) (2 ^ 64 - 1)) }
         ensures behind { AtEach S.Scheme self.now (λ f t. (u : ℕ) → result ≤ u → u + 1 < 2 ^ 64 → view + f.optimistic_views < u) }
     {

@@ -66,8 +66,8 @@ impl<S: Scheme<D> + Drop, L: Elector<S, D>, D: Digest> Views<S, L, D> {
             Some(&certificate.certificate),
         );
         let key = self.progress.tracked.add_notarization(certificate)?;
-        let last = self.progress.tracked.last_reached(view);
-        self.progress.tracked.lead(next, leader, last)?;
+        let end = self.progress.tracked.first_unreached(view);
+        self.progress.tracked.lead(next, leader, end)?;
         Ok((true, key))
     }
 
@@ -137,8 +137,8 @@ impl<S: Scheme<D> + Drop, L: Elector<S, D>, D: Digest> Views<S, L, D> {
         );
         self.progress.enter(now, next)?;
         let key = self.progress.tracked.add_finalization(certificate)?;
-        let last = self.progress.tracked.last_reached(view);
-        self.progress.tracked.lead(next, leader, last)?;
+        let end = self.progress.tracked.first_unreached(view);
+        self.progress.tracked.lead(next, leader, end)?;
         self.last_finalized = later(self.last_finalized, view);
         Ok((true, key))
     }

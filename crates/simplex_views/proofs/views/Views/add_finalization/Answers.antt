@@ -38,7 +38,7 @@ returns-clause-keeps g c = λ s h k time.
     (λ w apart. rw apart (enter-fact is_direct (λ m l. refl) (λ a b o l. refl) s (current s h) c.args.now c.next-next.result (seen s h) w))
     (λ w. put-fact has_notarized (past.finalized c.args.certificate) (λ l. refl) at inside w ∙ enter-fact has_notarized (λ m l. refl) (λ a b o l. refl) s (current s h) c.args.now c.next-next.result (seen s h) w)
     u
-    (⊎_elim (λ lt. inl (omega (arith, lt, next))) (λ le. inr (rw (← c.view-view.ensures) (c.last_reached-last.ensures.behind (frame_of s) table added u le fits))) far)) in
+    (⊎_elim (λ lt. inl (omega (arith, lt, next))) (λ le. inr (rw (← c.view-view.ensures) (c.first_unreached-end.ensures.behind (frame_of s) table added u le fits))) far)) in
     record {
       scheme = k.scheme;
       me = k.me;

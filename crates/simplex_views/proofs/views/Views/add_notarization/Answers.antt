@@ -30,7 +30,7 @@ returns-clause-keeps g c = λ s h k.
     (λ w apart. rw apart refl)
     (λ w. put-fact has_notarized (past.notarized c.args.certificate) (λ l. refl) at (seen s h) w)
     u
-    (⊎_elim (λ lt. inl (omega (arith, lt, next))) (λ le. inr (rw (← c.view-view.ensures) (c.last_reached-last.ensures.behind (frame_of s) table added u le fits))) far)) in
+    (⊎_elim (λ lt. inl (omega (arith, lt, next))) (λ le. inr (rw (← c.view-view.ensures) (c.first_unreached-end.ensures.behind (frame_of s) table added u le fits))) far)) in
     still-kept (History.notarized c.args.certificate) _ c.args.self.now.backed c.args.self.now.waiting k
     (record { finalizes = refl; begins = refl; covers = λ u. refl; nullifies = λ u. refl; kept_nullification = put-fact past.nullification (past.notarized c.args.certificate) (λ l. refl) at (seen s h) })
     (IsAt-tracked k.progress (notarized-at g.S.Scheme _ s h c.args.certificate c.next-next.result c.elect-leader.result next led handed))

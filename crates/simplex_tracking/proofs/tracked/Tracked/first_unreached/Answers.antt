@@ -1,6 +1,6 @@
 use Rattle.std.proofs.Common.{arith}
 use Rattle.simplex_tracking.specs.Tracked.{Holds}
-use Rattle.simplex_tracking.proofs.tracked.Tracked.last_reached.Goals as goal
+use Rattle.simplex_tracking.proofs.tracked.Tracked.first_unreached.Goals as goal
 
 pub returns-clause-exact : goal.returns-clause-exact
 unfolding Holds
