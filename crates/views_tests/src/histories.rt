@@ -2,7 +2,8 @@
 
 use crate::beside::Beside;
 use crate::holding::holds;
-use crate::plain_scheme::history;
+use crate::plain_scheme::attempt;
+use crate::trials::Trial;
 use due_plain::Plain;
 use simplex_fakes::Chance;
 use simplex_round::TimeoutReason;
@@ -241,21 +242,21 @@ fn go_on<S: Numbering, L: Elector<S, Sha256Digest>>(
     Some(())
 }
 
-/// One history, with a prune for its end, behind which the voter tells of each view what the plain program tells: how many of its
-/// calls were none in vain. None where memory is refused.
+/// One history, with a prune for its end, behind which the voter tells of each view what the plain program tells. None where memory is
+/// refused.
 pub fn live<S: Numbering, L: Elector<S, Sha256Digest>>(
     rt: &impl Abort,
     alloc: Global,
     chance: &mut Chance,
     beside: &mut Beside<S, L>,
-) -> Option<usize> {
+) -> Option<()> {
     for moment in 0..11 {
         go_on(rt, alloc, chance, beside, moment * 75)?;
     }
     beside.hand(rt, alloc, Point::Pruned)?;
     beside.agrees_everywhere(rt);
     beside.knows_itself(rt);
-    Some(beside.history().points.len())
+    Some(())
 }
 
 /// The histories of these seeds.
@@ -264,8 +265,8 @@ fn histories(rt: &impl Abort, alloc: Global, seeds: Range<u64>) {
     for seed in seeds {
         let mut chance = Chance::seeded(seed);
         let setup = setup(&mut chance);
-        let length = history(rt, alloc, &mut chance, &setup).expect(rt, "there is memory");
-        count = count.saturating_add(length);
+        let points = attempt(rt, alloc, &setup, Trial::History(chance)).expect(rt, "there is memory");
+        count = count.saturating_add(points);
     }
     // Where nothing stood there was nothing to agree on.
     holds(rt, 15_000 < count);

@@ -24,6 +24,8 @@ mod recalling;
 #[cfg(test)]
 mod rounds;
 #[cfg(test)]
+mod trials;
+#[cfg(test)]
 mod voter;
 #[cfg(test)]
 mod votes;

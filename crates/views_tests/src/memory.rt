@@ -1,7 +1,8 @@
 //! What is answered where memory is refused.
 
 use crate::facts::Step;
-use crate::plain_scheme::walk;
+use crate::plain_scheme::attempt;
+use crate::trials::Trial;
 use due_plain::answers::Answer;
 use simplex_round::TimeoutReason;
 use std::alloc::Global;
@@ -15,7 +16,7 @@ use voter_plain::getters::Entry;
 /// Where `rt try --test --fail-alloc N` refuses a request, the call is refused and no other answer stands in its place. The voter is
 /// used no more then, and the next list begins anew.
 fn ends(rt: &impl Abort, alloc: Global, steps: &[Step]) {
-    let _refused: Option<()> = walk(rt, alloc, &member(5, 2), steps, &[]);
+    let _count = attempt(rt, alloc, &member(5, 2), Trial::Steps(steps, &[]));
 }
 
 #[test]

@@ -2,8 +2,8 @@
 
 use crate::beside::Beside;
 use crate::facts::{Fact, Step};
-use crate::histories;
-use simplex_fakes::Chance;
+use crate::holding::holds;
+use crate::trials::{Trial, undergo};
 use simplex_types::{Epoch, PlainScheme, Sha256Digest, ViewDelta};
 use simplex_views::Views;
 use std::alloc::Global;
@@ -34,30 +34,15 @@ fn views(alloc: Global, setup: &Setup) -> Option<PlainViews> {
     views.ok()
 }
 
-/// Hands the steps in, and asks whether the facts are so. None where memory is refused.
-pub fn walk(
-    rt: &impl Abort,
-    alloc: Global,
-    setup: &Setup,
-    steps: &[Step],
-    facts: &[Fact],
-) -> Option<()> {
-    let mut beside = Beside::new(alloc, views(alloc, setup)?, setup);
-    beside.walk(rt, alloc, steps, facts)
-}
-
-/// One history by chance: how many of its calls were none in vain. None where memory is refused.
-pub fn history(
-    rt: &impl Abort,
-    alloc: Global,
-    chance: &mut Chance,
-    setup: &Setup,
-) -> Option<usize> {
-    let mut beside = Beside::new(alloc, views(alloc, setup)?, setup);
-    histories::live(rt, alloc, chance, &mut beside)
+/// A voter of this setup undergoes the trial: how many points have happened. None where memory is refused. One place alone makes views of
+/// this scheme, since each costs the prover as much again.
+pub fn attempt(rt: &impl Abort, alloc: Global, setup: &Setup, trial: Trial<'_>) -> Option<usize> {
+    let beside = Beside::new(alloc, views(alloc, setup)?, setup);
+    undergo(rt, alloc, beside, trial)
 }
 
 /// Hands the steps in, and asks whether the facts are so, where no memory is refused.
 pub fn walks(rt: &impl Abort, alloc: Global, setup: &Setup, steps: &[Step], facts: &[Fact]) {
-    walk(rt, alloc, setup, steps, facts).expect(rt, "there is memory");
+    let count = attempt(rt, alloc, setup, Trial::Steps(steps, facts));
+    holds(rt, count.is_some());
 }
