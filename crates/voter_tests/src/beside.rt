@@ -2,6 +2,7 @@
 
 use crate::holding::holds;
 use crate::member::{Certificates, Course, Member, Standing};
+use crate::trials::End;
 use due_plain::Plain;
 use due_plain::answers::{Answer, yes_or_no};
 use due_plain::calls::{Call, Reply};
@@ -13,7 +14,6 @@ use std::alloc::Global;
 use std::process::Abort;
 use voter_fakes::samples::{A, B, GENESIS, named};
 use voter_plain as plain;
-use voter_plain::getters::Entry;
 use voter_plain::views::Mark;
 use voter_plain::world::World;
 use voter_plain::{History, Point, Setup, VIEWS};
@@ -204,9 +204,9 @@ impl<M: Member> Beside<M> {
     }
 
     /// The current view, and by which certificate others are helped into it. None where memory is refused.
-    pub fn stands_at(&self, alloc: Global) -> Option<(u64, Option<Entry>)> {
+    pub fn stands_at(&self, alloc: Global) -> Option<End> {
         let best = self.member.best_certificate(alloc)?;
-        Some((self.member.standing().current, best))
+        Some(End::At(self.member.standing().current, best))
     }
 
     /// So it is of the view's payload, where it is certified.

@@ -1,14 +1,13 @@
 //! A new voter in the plain scheme, with an elector of the tests' own.
 
+use crate::trials::{End, Trial, undergo};
 use crate::voter::Voter;
 use simplex_types::{Epoch, Participant, PlainKey, PlainScheme, Sha256Digest, ViewDelta};
 use simplex_voter::{Config, State};
 use std::alloc::Global;
+use std::process::Abort;
 use voter_fakes::{Chosen, committee};
 use voter_plain::Setup;
-
-/// The voter of the plain scheme.
-pub type PlainVoter = Voter<PlainScheme, Chosen>;
 
 /// What a voter of this setup knows to which nothing has happened.
 fn state(alloc: Global, setup: &Setup) -> Option<State<PlainScheme, Chosen, Sha256Digest>> {
@@ -32,11 +31,17 @@ fn state(alloc: Global, setup: &Setup) -> Option<State<PlainScheme, Chosen, Sha2
 }
 
 /// A voter of this setup, to which nothing has happened. A committee has one to seven members. None where memory is refused.
-pub fn voter(alloc: Global, setup: &Setup) -> Option<PlainVoter> {
+fn voter(alloc: Global, setup: &Setup) -> Option<Voter<PlainScheme, Chosen>> {
     Some(Voter {
         state: state(alloc, setup)?,
         epoch: setup.epoch,
         me: setup.me,
         key: PlainKey::new(Participant::new(setup.me.unwrap_or(0))),
     })
+}
+
+/// A new voter of this setup undergoes the trial: how it ends. None where memory is refused. One place alone makes a voter of this scheme,
+/// since each costs the prover as much again.
+pub fn attempt(rt: &impl Abort, alloc: Global, setup: &Setup, trial: Trial<'_>) -> Option<End> {
+    undergo(rt, alloc, setup, voter(alloc, setup)?, trial)
 }

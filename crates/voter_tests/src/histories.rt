@@ -1,9 +1,10 @@
 //! Histories by chance, in which each answer of each call is the plain program's.
 
 use crate::beside::Beside;
-use crate::founding::voter;
+use crate::founding::attempt;
 use crate::holding::holds;
 use crate::member::Member;
+use crate::trials::{End, Trial};
 use due_plain::Plain;
 use due_plain::calls::Call;
 use due_plain::requests::{Judging, Look};
@@ -333,36 +334,38 @@ fn conclude<M: Member>(
     Some(())
 }
 
-/// A history: how many of its calls were none in vain. None where memory is refused.
-fn unfold<M: Member>(
+/// A history by chance: the end is how many of its calls were none in vain. None where memory is refused.
+pub fn unfold<M: Member>(
     rt: &impl Abort,
     alloc: Global,
-    chance: &mut Chance,
-    beside: &mut Beside<M>,
-) -> Option<usize> {
+    mut beside: Beside<M>,
+    mut chance: Chance,
+) -> Option<End> {
     let mut now = 0;
     for _ in 0..14 {
-        live(rt, alloc, chance, beside, now)?;
+        live(rt, alloc, &mut chance, &mut beside, now)?;
         now = now.saturating_add(chance.below(120));
     }
-    conclude(rt, alloc, chance, beside, now)?;
-    Some(beside.plain().known.points.len())
+    conclude(rt, alloc, &mut chance, &mut beside, now)?;
+    Some(End::Behind(beside.plain().known.points.len()))
 }
 
-/// The history of this seed, in terms of this length. None where memory is refused.
-fn history(rt: &impl Abort, alloc: Global, seed: u64, length: u64) -> Option<usize> {
+/// The history of this seed, in terms of this length: how many points have happened.
+fn history(rt: &impl Abort, alloc: Global, seed: u64, length: u64) -> usize {
     let mut chance = Chance::seeded(seed);
     let setup = setup(&mut chance, length);
-    let mut beside = Beside::new(alloc, &setup, voter(alloc, &setup)?);
-    unfold(rt, alloc, &mut chance, &mut beside)
+    let end = attempt(rt, alloc, &setup, Trial::History(chance)).expect(rt, "there is memory");
+    match end {
+        End::Behind(points) => points,
+        _ => 0,
+    }
 }
 
 /// The thousand histories from this seed on, in terms of this length.
 fn histories(rt: &impl Abort, alloc: Global, first: u64, length: u64) {
     let mut count = 0usize;
     for seed in first..first.saturating_add(1_000) {
-        let points = history(rt, alloc, seed, length).expect(rt, "there is memory");
-        count = count.saturating_add(points);
+        count = count.saturating_add(history(rt, alloc, seed, length));
     }
     // Where nothing stood there was nothing to agree on.
     holds(rt, 10_000 < count);

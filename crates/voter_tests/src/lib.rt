@@ -24,6 +24,8 @@ mod steps;
 #[cfg(test)]
 mod timing;
 #[cfg(test)]
+mod trials;
+#[cfg(test)]
 mod verifying;
 #[cfg(test)]
 mod voter;

@@ -1,12 +1,12 @@
 //! What is answered where memory is refused.
 
-use crate::founding::voter;
+use crate::founding::attempt;
 use crate::holding::holds;
-use crate::member::{Begun, Member};
 use crate::rows::{asks, builds, record, timeouts, verdicts, votes};
-use crate::starting::FLOOR;
+use crate::starting::{FLOOR, FLOORED};
 use crate::steps::{rotating, stable};
-use crate::walking::{Step, walk};
+use crate::trials::Trial;
+use crate::walking::Step;
 use std::alloc::Global;
 use std::process::Abort;
 use voter_plain::Setup;
@@ -14,7 +14,7 @@ use voter_plain::Setup;
 /// Where `rt try --test --fail-alloc N` refuses a request, the call is refused and no other answer stands in its place. The voter is
 /// used no more then, and the next list begins anew.
 fn ends(rt: &impl Abort, alloc: Global, setup: &Setup, steps: &[Step]) {
-    let _refused = walk(rt, alloc, setup, steps);
+    let _end = attempt(rt, alloc, setup, Trial::Calls(steps));
 }
 
 #[test]
@@ -47,14 +47,9 @@ fn a_refused_allocation_is_answered_by_verdicts(rt: HostRuntime) {
     ends(&rt, rt.alloc(), &stable(), &verdicts());
 }
 
-/// What a voter answers that starts on a finalization. None where memory is refused.
-fn starts(alloc: Global) -> Option<Begun> {
-    let mut voter = voter(alloc, &rotating())?;
-    voter.start(alloc, FLOOR)
-}
-
 #[test]
 fn a_refused_allocation_is_answered_by_a_start(rt: HostRuntime) {
-    let answer = starts(rt.alloc());
-    holds(&rt, answer.unwrap_or(Begun::Same) == Begun::Same);
+    let trial = Trial::Start(FLOOR, &[]);
+    let end = attempt(&rt, rt.alloc(), &rotating(), trial);
+    holds(&rt, end.unwrap_or(FLOORED) == FLOORED);
 }

@@ -1,9 +1,10 @@
 //! What a voter starts on: worked cases.
 
-use crate::founding::{PlainVoter, voter};
+use crate::founding::attempt;
 use crate::holding::holds;
 use crate::member::{Begun, Member, Start};
 use crate::steps::rotating;
+use crate::trials::{End, Trial};
 use due_plain::answers::Answer;
 use std::alloc::Global;
 use std::process::Abort;
@@ -18,58 +19,46 @@ pub const FLOOR: Start = Start::Finalized(Proposal {
     payload: A,
 });
 
-/// A voter to which nothing has happened.
-fn waiting(rt: &impl Abort, alloc: Global) -> PlainVoter {
-    voter(alloc, &rotating()).expect(rt, "there is memory")
-}
+/// How a start on that finalization ends.
+pub const FLOORED: End = End::Begun(Begun::Same, 4, 3);
 
-/// The voter stands at this view, and this one is finalized.
-fn stands<M: Member>(rt: &impl Abort, member: &M, current: u64, last_finalized: u64) {
-    let standing = member.standing();
-    holds(rt, standing.current == current);
-    holds(rt, standing.last_finalized == last_finalized);
-}
-
-/// A voter that starts so answers this, and stands then at this view, with this one finalized.
-fn begins<M: Member>(
+/// Starts at view 0, behind which nothing of this happens. None where memory is refused.
+pub fn begin<M: Member>(
     rt: &impl Abort,
     alloc: Global,
-    member: &mut M,
+    mut member: M,
     start: Start,
-    begun: Begun,
-    current: u64,
-    last_finalized: u64,
-) {
-    stands(rt, member, 0, 0);
-    let answer = member.start(alloc, start);
-    holds(rt, answer == Some(begun));
-    stands(rt, member, current, last_finalized);
+    points: &[Point],
+) -> Option<End> {
+    let before = member.standing();
+    holds(rt, before.current == 0 && before.last_finalized == 0);
+    let begun = member.start(alloc, start)?;
+    for point in points {
+        holds(rt, member.tell(alloc, *point)? == Answer::No);
+    }
+    let standing = member.standing();
+    Some(End::Begun(begun, standing.current, standing.last_finalized))
 }
 
-/// Behind a start on the finalization these points don't happen.
-fn refuses<M: Member>(rt: &impl Abort, alloc: Global, member: &mut M, points: &[Point]) {
-    let _answer = member.start(alloc, FLOOR);
-    for point in points {
-        holds(rt, member.tell(alloc, *point) == Some(Answer::No));
-    }
+/// A new voter that starts so, behind which nothing of this happens, ends so.
+fn begins(rt: &impl Abort, alloc: Global, start: Start, points: &[Point], end: End) {
+    let trial = Trial::Start(start, points);
+    holds(rt, attempt(rt, alloc, &rotating(), trial) == Some(end));
 }
 
 #[test]
 fn a_start_on_the_payload_answers_nothing(rt: HostRuntime) {
-    let mut voter = waiting(&rt, rt.alloc());
-    let start = Start::Payload(GENESIS);
-    begins(&rt, rt.alloc(), &mut voter, start, Begun::Nothing, 1, 0);
+    let end = End::Begun(Begun::Nothing, 1, 0);
+    begins(&rt, rt.alloc(), Start::Payload(GENESIS), &[], end);
 }
 
 #[test]
 fn a_start_on_a_finalization_answers_it(rt: HostRuntime) {
-    let mut voter = waiting(&rt, rt.alloc());
-    begins(&rt, rt.alloc(), &mut voter, FLOOR, Begun::Same, 4, 3);
+    begins(&rt, rt.alloc(), FLOOR, &[], FLOORED);
 }
 
 #[test]
 fn a_finalization_that_a_voter_starts_on_is_none_to_hand_out(rt: HostRuntime) {
-    let mut voter = waiting(&rt, rt.alloc());
     let points = [Point::Sent(Entry::Finalization(3)), finalized(0, 3, 1, A)];
-    refuses(&rt, rt.alloc(), &mut voter, &points);
+    begins(&rt, rt.alloc(), FLOOR, &points, FLOORED);
 }

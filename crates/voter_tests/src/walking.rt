@@ -1,9 +1,10 @@
 //! Lists of calls, made one after the other.
 
 use crate::beside::Beside;
-use crate::founding::voter;
+use crate::founding::attempt;
 use crate::holding::holds;
 use crate::member::Member;
+use crate::trials::{End, Trial};
 use due_plain::calls::{Call, Reply};
 use std::alloc::Global;
 use std::process::Abort;
@@ -13,14 +14,14 @@ use voter_plain::{Setup, VIEWS};
 /// A call, with what it answers.
 pub type Step = (Call, Reply);
 
-/// Makes these calls: what is answered is as told here, and by the plain program. None where memory is refused, behind which a voter may
-/// be used no more.
-fn follow<M: Member>(
+/// Makes these calls: what is answered is as told here, and by the plain program. The end is the current view, with the best certificate
+/// to enter it by. None where memory is refused.
+pub fn follow<M: Member>(
     rt: &impl Abort,
     alloc: Global,
-    beside: &mut Beside<M>,
+    mut beside: Beside<M>,
     steps: &[Step],
-) -> Option<(u64, Option<Entry>)> {
+) -> Option<End> {
     for (call, expected) in steps {
         let reply = beside.call(rt, alloc, *call)?;
         holds(rt, reply == *expected);
@@ -33,20 +34,9 @@ fn follow<M: Member>(
     beside.stands_at(alloc)
 }
 
-/// The same calls of a new voter of this setup: the current view behind them, with the best certificate to enter it by.
-pub fn walk(
-    rt: &impl Abort,
-    alloc: Global,
-    setup: &Setup,
-    steps: &[Step],
-) -> Option<(u64, Option<Entry>)> {
-    let mut beside = Beside::new(alloc, setup, voter(alloc, setup)?);
-    follow(rt, alloc, &mut beside, steps)
-}
-
-/// Makes these calls, where no memory is refused.
+/// Makes these calls of a new voter of this setup, where no memory is refused.
 pub fn walked(rt: &impl Abort, alloc: Global, setup: &Setup, steps: &[Step]) {
-    holds(rt, walk(rt, alloc, setup, steps).is_some());
+    holds(rt, attempt(rt, alloc, setup, Trial::Calls(steps)).is_some());
 }
 
 /// Behind these calls this view is the current one, and this certificate the best to enter it by.
@@ -58,5 +48,6 @@ pub fn enters(
     view: u64,
     entry: Option<Entry>,
 ) {
-    holds(rt, walk(rt, alloc, setup, steps) == Some((view, entry)));
+    let end = attempt(rt, alloc, setup, Trial::Calls(steps));
+    holds(rt, end == Some(End::At(view, entry)));
 }
