@@ -147,14 +147,9 @@ pub(crate) fn take_bytes<const N: usize>(input: &mut &[u8]) -> Option<[u8; N]>
     ensures none { IfNone result ((bytes_at N input.old.now ≡ Err End) × (input.new.now ≡ input.old.now)) }
 {
     let all: &[u8] = *input;
-    if all.len() < N {
-        return None;
-    }
-    let (front, rest) = all.split_at(N);
-    let mut bytes = [0; N];
-    bytes.copy_from_slice(front);
+    let (bytes, rest) = all.split_first_chunk::<N>()?;
     *input = rest;
-    Some(bytes)
+    Some(*bytes)
 }
 
 /// Reads so many bytes as they are.
