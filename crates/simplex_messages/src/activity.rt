@@ -1,7 +1,8 @@
 //! What a member reports.
 
-ghost use Rattle.std.specs.Prelude.{◌≡◌, ◌≤◌};
+ghost use Rattle.std.specs.Prelude.{◌≡◌, ◌≤◌, IfNone, IfSome, Err};
 ghost use Rattle.simplex_types.specs.Codec.{Gives};
+ghost use Rattle.simplex_types.specs.declared.codec.CodecError.TheVariants.{End};
 ghost use Rattle.simplex_messages.specs.Activity.{activity_behind};
 
 use crate::conflicting_votes::{ConflictingFinalize, ConflictingNotarize};
@@ -243,33 +244,40 @@ impl<S: Scheme<D>, D: Digest> Read for Activity<S, D> {
     #[tactic(auto, unfolding(crate::specs::Activity::activity_at))]
     fn read_cfg(alloc: Global, input: &mut &[u8], bound: u32) -> Result<Self, CodecError> {
         let all: &[u8] = *input;
-        let [tag, rest @ ..] = all else {
-            return Err(CodecError::End);
+        let (tag, mut rest) = match all {
+            [tag, rest @ ..] => (Some(*tag), rest),
+            [] => (None, all),
         };
-        let mut rest = rest;
-        let activity = read_behind(*tag, alloc, &mut rest, bound)?;
-        *input = rest;
-        Ok(activity)
+        let read = read_behind(tag, alloc, &mut rest, bound);
+        if read.is_ok() {
+            *input = rest;
+        }
+        read
     }
 }
 
-/// Reads what stands behind the tag.
+/// Reads what stands behind the tag, where one was there. Each arm returns on its own, since where they join the widest report is laid
+/// down once more.
 #[tactic(auto, unfolding(crate::specs::Activity::activity_behind))]
 fn read_behind<S: Scheme<D>, D: Digest>(
-    tag: u8,
+    tag: Option<u8>,
     alloc: Global,
     input: &mut &[u8],
     bound: u32,
 ) -> Result<Activity<S, D>, CodecError>
-    ensures { Gives (activity_behind D.PartialEq.eq (D.reading bound) (S.Signature.reading bound) (S.Certificate.reading bound) tag) input.old.now input.new.now result }
+    ensures some { IfSome tag (λ tag. Gives (activity_behind D.PartialEq.eq (D.reading bound) (S.Signature.reading bound) (S.Certificate.reading bound) tag) input.old.now input.new.now result) }
+    ensures none { IfNone tag (result ≡ Err End) }
 {
+    let Some(tag) = tag else {
+        return Err(CodecError::End);
+    };
     match tag {
-        0 => Ok(Activity::Notarize(Notarize::read_cfg(alloc, input, bound)?)),
-        1 => Ok(Activity::Notarization(Notarization::read_cfg(alloc, input, bound)?)),
-        2 => Ok(Activity::Certification(Notarization::read_cfg(alloc, input, bound)?)),
-        3 => Ok(Activity::Nullify(Nullify::read_cfg(alloc, input, bound)?)),
-        4 => Ok(Activity::Nullification(Nullification::read_cfg(alloc, input, bound)?)),
-        _ => read_further(tag, alloc, input, bound),
+        0 => return Ok(Activity::Notarize(Notarize::read_cfg(alloc, input, bound)?)),
+        1 => return Ok(Activity::Notarization(Notarization::read_cfg(alloc, input, bound)?)),
+        2 => return Ok(Activity::Certification(Notarization::read_cfg(alloc, input, bound)?)),
+        3 => return Ok(Activity::Nullify(Nullify::read_cfg(alloc, input, bound)?)),
+        4 => return Ok(Activity::Nullification(Nullification::read_cfg(alloc, input, bound)?)),
+        _ => return read_further(tag, alloc, input, bound),
     }
 }
 
@@ -285,11 +293,17 @@ fn read_further<S: Scheme<D>, D: Digest>(
     ensures { Gives (activity_behind D.PartialEq.eq (D.reading bound) (S.Signature.reading bound) (S.Certificate.reading bound) tag) input.old.now input.new.now result }
 {
     match tag {
-        5 => Ok(Activity::Finalize(Finalize::read_cfg(alloc, input, bound)?)),
-        6 => Ok(Activity::Finalization(Finalization::read_cfg(alloc, input, bound)?)),
-        7 => Ok(Activity::ConflictingNotarize(ConflictingNotarize::read_cfg(alloc, input, bound)?)),
-        8 => Ok(Activity::ConflictingFinalize(ConflictingFinalize::read_cfg(alloc, input, bound)?)),
-        9 => Ok(Activity::NullifyFinalize(NullifyFinalize::read_cfg(alloc, input, bound)?)),
-        _ => Err(CodecError::Invalid),
+        5 => return Ok(Activity::Finalize(Finalize::read_cfg(alloc, input, bound)?)),
+        6 => return Ok(Activity::Finalization(Finalization::read_cfg(alloc, input, bound)?)),
+        7 => {
+            let both = ConflictingNotarize::read_cfg(alloc, input, bound)?;
+            return Ok(Activity::ConflictingNotarize(both));
+        }
+        8 => {
+            let both = ConflictingFinalize::read_cfg(alloc, input, bound)?;
+            return Ok(Activity::ConflictingFinalize(both));
+        }
+        9 => return Ok(Activity::NullifyFinalize(NullifyFinalize::read_cfg(alloc, input, bound)?)),
+        _ => return Err(CodecError::Invalid),
     }
 }
