@@ -1,6 +1,6 @@
 //! What the votes of the reports are for, round by round, and so whose votes may contradict each other.
 
-ghost use Rattle.std.specs.Prelude.{◌≡◌, ◌∷◌, ◌⊎◌, ⊤, [], List, OnOk, IfOk, IsTrue, IsSome, Some, Contains};
+ghost use Rattle.std.specs.Prelude.{◌≡◌, ◌∷◌, ◌⊎◌, ⊤, [], List, OnOk, IfOk, IsTrue, IsSome, None, Some, Contains};
 ghost use Rattle.std.specs.Option.{option_copied};
 ghost use Rattle.std.specs.BTreeMap.{get};
 ghost use Rattle.std.specs.BTreeSet.{IsSubset, contains};
@@ -135,15 +135,30 @@ fn choose<D: Digest>(
     ensures extends { OnOk result (Extends chosen.old chosen.new) }
     ensures own { IfOk result (λ own. IsTrue own → get round_cmp chosen.new proposal.now.round ≡ Some (record { parent = proposal.now.parent; payload = proposal.now.payload })) }
 {
+    if let Some(first) = look_up(chosen, &proposal.round) {
+        return Ok(first.parent == proposal.parent && first.payload == proposal.payload);
+    }
+    choose_first(chosen, proposal)?;
+    Ok(true)
+}
+
+/// Makes this the choice of its round, which has none. Most votes come behind the first of their round, and need none of the room that
+/// this takes on the stack.
+#[inline(never)]
+fn choose_first<D: Digest>(
+    chosen: &mut BTreeMap<Round, Choice<D>>,
+    proposal: &Proposal<D>,
+) -> Result<(), AllocError>
+    requires none { get round_cmp chosen.old proposal.now.round ≡ None }
+    ensures extends { OnOk result (Extends chosen.old chosen.new) }
+    ensures own { OnOk result (get round_cmp chosen.new proposal.now.round ≡ Some (record { parent = proposal.now.parent; payload = proposal.now.payload })) }
+{
     let choice = Choice {
         parent: proposal.parent,
         payload: proposal.payload,
     };
-    if let Some(first) = look_up(chosen, &proposal.round) {
-        return Ok(*first == choice);
-    }
     chosen.insert(proposal.round, choice)?;
-    Ok(true)
+    Ok(())
 }
 
 /// Notes what a vote is for.
@@ -154,8 +169,10 @@ fn note<K: ProposalKind<D>, S: Scheme<D>, D: Digest>(
 ) -> Result<(), AllocError>
     ensures { OnOk result (Notes chosen.old chosen.new contested.old contested.new (vote.now ∷ [])) }
 {
-    if !choose(chosen, &vote.proposal)? {
-        insert(contested, vote.proposal.round, &vote.attestation)?;
+    // A copy, since a report that is pointed into has to be laid down as a whole.
+    let proposal = vote.proposal;
+    if !choose(chosen, &proposal)? {
+        insert(contested, proposal.round, &vote.attestation)?;
     }
     Ok(())
 }
@@ -180,9 +197,10 @@ fn note_listed<K: ProposalKind<D>, S: Listing<D>, D: Digest>(
 ) -> Result<(), AllocError>
     ensures { OnOk result (Notes chosen.old chosen.new contested.old contested.new (votes_listed S.lists made.now)) }
 {
-    if !choose(chosen, &made.proposal)? {
+    let certified = made.proposal;
+    if !choose(chosen, &certified)? {
         let listed = S::attestations(&made.certificate);
-        insert_all::<S, D>(contested, &made.proposal.round, listed)?;
+        insert_all::<S, D>(contested, &certified.round, listed)?;
     }
     Ok(())
 }
