@@ -25,12 +25,17 @@ RUNS = 5
 VOTE_BYTES = 64
 GENERATE = Path(__file__).with_name("generate.py")
 GNU_TIME = "/usr/bin/time"
+# callgrind counts `rep movsb` and `rep stosb` once for each byte, so copies and fills have to go without.
+WHOLE_COPIES = ":".join(f"glibc.cpu.x86_rep_{word}_threshold=1000000000" for word in ("movsb", "stosb"))
+CALLGRIND = ["env", f"GLIBC_TUNABLES={WHOLE_COPIES}", "valgrind", "--tool=callgrind", f"--callgrind-out-file={os.devnull}"]
+COUNTED_VOTES = 2 * 10**4
 
 
 def arguments():
     parser = argparse.ArgumentParser(prog="run.sh", description="Measures simplex's audit.")
     parser.add_argument("simplex", nargs="?", default=os.environ.get("SIMPLEX"))
     parser.add_argument("--quick", action="store_true", help="leave out the greatest size")
+    parser.add_argument("--instructions", action="store_true", help="count instructions, which no load moves, in place of all else")
     parser.add_argument("--runs", type=int, default=RUNS)
     parser.add_argument("--baseline", required=True, help=argparse.SUPPRESS)
     parser.add_argument("--lazy", required=True, help=argparse.SUPPRESS)
@@ -73,6 +78,12 @@ class Program:
         self.run(members, path, [GNU_TIME, "-v", "-o", str(self.report)])
         lines = self.report.read_text().splitlines()
         return next(int(line.split()[-1]) for line in lines if "Maximum resident" in line) / 1024
+
+    def instructions(self, members, path):
+        """The answer, and how many million instructions it took."""
+        answer, _, _ = self.run(members, path, [*CALLGRIND, f"--log-file={self.report}"])
+        line = next(line for line in self.report.read_text().splitlines() if "Collected" in line)
+        return answer, int(line.split()[-1]) / 10**6
 
 
 class Disagreement(Exception):
@@ -141,9 +152,24 @@ def print_growths(costs, few, many):
         print(f"| {shape} | {baseline:.1f} | {simplex:.1f} | {simplex / baseline:.2f} |")
 
 
+def print_instructions(programs, path):
+    print("| Shape | Baseline | Lazy | `simplex` | To the baseline | To the lazy |")
+    print("|---|---:|---:|---:|---:|---:|")
+    for shape in MEASURED:
+        generate(shape, COUNTED_VOTES, path)
+        answers, counts = zip(*(program.instructions(MEMBERS[shape], path) for program in programs))
+        compare(answers)
+        baseline, lazy, simplex = counts
+        cells = " | ".join(f"{count:.1f}" for count in counts)
+        print(f"| {shape} | {cells} | {simplex / baseline:.2f} | {simplex / lazy:.2f} |")
+
+
 def main():
     given = arguments()
     programs = [Program(path, given.folder) for path in [given.baseline, given.lazy, given.simplex]]
+    if given.instructions:
+        print(f"Million instructions for {COUNTED_VOTES:,} votes:\n")
+        return print_instructions(programs, given.folder / "input")
     sizes = QUICK_SIZES if given.quick else SIZES
     path = given.folder / "input"
     costs = {}

@@ -1,5 +1,5 @@
 #!/bin/sh
-# Measures simplex's audit against both baselines: run.sh [--quick] [--runs N] [SIMPLEX]
+# Measures simplex's audit against both baselines: run.sh [--quick] [--runs N] [--instructions] [SIMPLEX]
 # The simplex program may be named in the environment variable SIMPLEX instead.
 . "$(dirname "$0")/common.sh"
 
