@@ -88,3 +88,7 @@ returns-clause-same g c = λ s h k time agrees.
     let inside = enter s (current s h) c.args.now c.next-next.result (seen s h) in
     let offered : offers (inside at) ≡ offers (seen s h at) = enter-fact offers (λ m l. refl) (λ a b o l. refl) s (current s h) c.args.now c.next-next.result (seen s h) at in
     c.in_ok-key.ensures.same (frame_of s) (record (tables s h) { past = inside }) entered.tracked (subst (λ l. Agrees (held l) c.args.certificate.proposal) (sym offered) agrees)
+
+pub returns-clause-first : goal.returns-clause-first
+unfolding Keeps
+returns-clause-first g c = λ s h k. (λ t. (rw (← c.view-view.ensures, ← k.length) (c.has_room.ensures.0 c.if-not-has_room.false), copied-none c.finalization.result (rw c.view-view.ensures at (c.finalization.ensures s h k)) c.if-is_some.ensures), λ both. refl)

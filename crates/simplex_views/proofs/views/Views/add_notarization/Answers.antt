@@ -35,3 +35,7 @@ returns-clause-keeps g c = λ s h k.
     (record { finalizes = refl; begins = refl; covers = λ u. refl; nullifies = λ u. refl; kept_nullification = put-fact past.nullification (past.notarized c.args.certificate) (λ l. refl) at (seen s h) })
     (IsAt-tracked k.progress (notarized-at g.S.Scheme _ s h c.args.certificate c.next-next.result c.elect-leader.result next led handed))
     k.backed k.waiting
+
+pub returns-clause-first : goal.returns-clause-first
+unfolding Keeps
+returns-clause-first g c = λ s h k. (λ t. (rw (← c.view-view.ensures, ← k.length) (c.has_room.ensures.0 c.if-not-has_room.false), copied-none c.notarization.result (rw c.view-view.ensures at (c.notarization.ensures s h k)) c.if-is_some.ensures), λ both. refl)

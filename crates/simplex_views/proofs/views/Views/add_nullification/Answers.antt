@@ -66,3 +66,7 @@ returns-clause-keeps g c = λ s h k time.
       nullified = Shows-same _ _ _ (c.in_ok-mark.ensures (λ u. is_some (nullification s h u)) k.nullified) (λ u. rw c.view-view.ensures (is_some-next (at == u) (nullification s h u) c.args.certificate));
       nullifications = λ w. nullification-next s (current s h) c.args.now (next_term_start s.length at) c.args.certificate at (seen s h) (nullification s h) (λ v. get nat_cmp c.args.self.now.reaching v) w (k.nullifications w);
     }
+
+pub returns-clause-answer : goal.returns-clause-answer
+unfolding Keeps
+returns-clause-answer g c = λ s h k. (λ t. (rw (← c.view-view.ensures, ← k.length) (c.has_room.ensures.0 c.if-not-has_room.false), copied-none c.nullification.result (rw c.view-view.ensures at (c.nullification.ensures s h k)) c.if-is_some.ensures), λ both. refl)

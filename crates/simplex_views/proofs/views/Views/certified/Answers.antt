@@ -1,4 +1,5 @@
-use Rattle.std.proofs.Common.{refl, ◌≡◌, true, false, subst, arith, ◌∷◌}
+use Rattle.std.proofs.Common.{refl, sym, ap, ◌∙◌, ◌≡◌, Bor, Option, Some, true, false, subst, arith, ◌∷◌}
+use Rattle.std.specs.Option.{option_copied}
 use Rattle.std.specs.Prelude.{nat_le}
 use Rattle.std.proofs.lemmas.Bool.Decides.{nat_tests}
 use Rattle.simplex_round.specs.Past as past
@@ -12,6 +13,10 @@ use Rattle.simplex_tracking.specs.Tracked.{Holds}
 use Rattle.simplex_views.specs.Views.{Keeps}
 use Rattle.simplex_views.proofs.Stepping.{quiet, quiet-progress, judged-quiet, judged-ahead, judged-behind, judged-stays, judged-true}
 use Rattle.simplex_views.proofs.views.Views.certified.Goals as goal
+
+-- the copy of what was found is what was looked for
+found_copy : {X : Type 0} (found : Option (Bor X)) (one : Bor X) (copy : X) (wanted : Option X) → found ≡ Some one → copy ≡ one.now → option_copied found ≡ wanted → Some copy ≡ wanted
+found_copy found one copy wanted is same at = ap Some same ∙ sym (ap option_copied is) ∙ at
 
 pub returns-then-is_success-clause-keeps : goal.returns-then-is_success-clause-keeps
 unfolding Keeps
@@ -50,3 +55,24 @@ returns-clause-keeps g c = λ s h k time.
     let kept : Holds g.S.Scheme (frame_of s) c.tell.new.self (grown-tables s h (seen s (History.judged c.args.now at ok ∷ h))) =
     subst (λ t. Holds g.S.Scheme (frame_of s) c.tell.new.self (grown-tables s h t)) (judged-ahead s h c.args.now at ok bad ahead) latched in
     quiet (History.judged c.args.now at ok) c.tell.new.self k (judged-quiet s h c.args.now at ok) (judged-stays s h c.args.now at ok bad) kept
+
+pub returns-then-is_success-clause-answer : goal.returns-then-is_success-clause-answer
+returns-then-is_success-clause-answer g c = λ s h k room. found_copy c.notarization.result c.in-Some.notarization c.in_ok-copy.copy _ c.in-Some.is c.in_ok-copy.ensures (c.notarization.ensures s h k)
+
+pub returns-then-is_success-clause-no_room : goal.returns-then-is_success-clause-no_room
+unfolding Keeps
+returns-then-is_success-clause-no_room g c = λ s h k none. absurd (none (rw k.length at (c.has_room.ensures.0 c.if-not-has_room.false)))
+
+pub returns-then-lt-clause-answer : goal.returns-then-lt-clause-answer
+returns-then-lt-clause-answer g c = λ s h k room. found_copy c.notarization.result c.in-Some.notarization c.in_ok-copy.copy _ c.in-Some.is c.in_ok-copy.ensures (c.notarization.ensures s h k)
+
+pub returns-then-lt-clause-no_room : goal.returns-then-lt-clause-no_room
+unfolding Keeps
+returns-then-lt-clause-no_room g c = λ s h k none. absurd (none (rw k.length at (c.has_room.ensures.0 c.if-not-has_room.false)))
+
+pub returns-clause-answer : goal.returns-clause-answer
+returns-clause-answer g c = λ s h k room. found_copy c.notarization.result c.in-Some.notarization c.in_ok-copy.copy _ c.in-Some.is c.in_ok-copy.ensures (c.notarization.ensures s h k)
+
+pub returns-clause-no_room : goal.returns-clause-no_room
+unfolding Keeps
+returns-clause-no_room g c = λ s h k none. absurd (none (rw k.length at (c.has_room.ensures.0 c.if-not-has_room.false)))
