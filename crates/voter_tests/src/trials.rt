@@ -8,8 +8,8 @@ use crate::walking::{Step, follow};
 use simplex_fakes::Chance;
 use std::alloc::Global;
 use std::process::Abort;
-use voter_plain::{Point, Setup};
 use voter_plain::getters::Entry;
+use voter_plain::{Point, Setup};
 
 /// What a new voter is put through.
 #[derive(Drop)]
