@@ -77,12 +77,18 @@ impl<S: Numbering, L: Elector<S, Sha256Digest>> Beside<S, L> {
         Some(next)
     }
 
-    /// Drops what need not be kept: the views of which something was known.
-    pub fn prune(&mut self, rt: &impl Abort, alloc: Global) -> Option<Vec<View>> {
+    /// Drops what need not be kept: the views of which something was known are those that the plain program tells. None where memory is
+    /// refused.
+    fn drop_views(&mut self, rt: &impl Abort, alloc: Global) -> Option<()> {
         let dropped = self.voter.prune(alloc)?;
         drops(rt, self.history(), &dropped);
-        self.world.push(Point::Pruned).ok()?;
-        Some(dropped)
+        Some(())
+    }
+
+    /// Drops what need not be kept, and takes that down. None where memory is refused.
+    pub fn prune(&mut self, rt: &impl Abort, alloc: Global) -> Option<()> {
+        self.drop_views(rt, alloc)?;
+        self.world.push(Point::Pruned).ok()
     }
 
     /// Makes the call that would add the point. None where memory is refused.

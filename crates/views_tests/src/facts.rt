@@ -9,7 +9,7 @@ use simplex_types::{Sha256Digest, View};
 use std::alloc::Global;
 use std::process::Abort;
 use voter_fakes::Numbering;
-use voter_plain::{Point, Proposal, Setup};
+use voter_plain::{History, Point, Proposal, Setup, VIEWS};
 
 /// What is handed in one after the other, with what is answered.
 pub type Step = (Point, Answer);
@@ -47,11 +47,10 @@ pub enum Fact<'a> {
     Drops(&'a [u64]),
 }
 
-/// The views are these.
-fn are(rt: &impl Abort, dropped: &[View], views: &[u64]) {
-    holds(rt, dropped.len() == views.len());
-    for (dropped, view) in dropped.iter().zip(views.iter()) {
-        holds(rt, dropped.get() == *view);
+/// These are the views that the plain program drops.
+fn are_dropped(rt: &impl Abort, plain: History<'_>, views: &[u64]) {
+    for view in 0..VIEWS as u64 {
+        holds(rt, plain.drops(view) == views.contains(&view));
     }
 }
 
@@ -116,9 +115,8 @@ impl<S: Numbering, L: Elector<S, Sha256Digest>> Beside<S, L> {
 
     /// A prune drops these views. None where memory is refused.
     fn drops(&mut self, rt: &impl Abort, alloc: Global, views: &[u64]) -> Option<()> {
-        let dropped = self.prune(rt, alloc)?;
-        are(rt, &dropped, views);
-        Some(())
+        are_dropped(rt, self.history(), views);
+        self.prune(rt, alloc)
     }
 
     /// Asserts that it is so. None where memory is refused.

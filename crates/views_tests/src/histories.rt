@@ -265,7 +265,8 @@ fn histories(rt: &impl Abort, alloc: Global, seeds: Range<u64>) {
     for seed in seeds {
         let mut chance = Chance::seeded(seed);
         let setup = setup(&mut chance);
-        let points = attempt(rt, alloc, &setup, Trial::History(chance)).expect(rt, "there is memory");
+        let trial = Trial::History(&mut chance);
+        let points = attempt(rt, alloc, &setup, trial).expect(rt, "there is memory");
         count = count.saturating_add(points);
     }
     // Where nothing stood there was nothing to agree on.

@@ -37,8 +37,8 @@ fn views(alloc: Global, setup: &Setup) -> Option<PlainViews> {
 /// A voter of this setup undergoes the trial: how many points have happened. None where memory is refused. One place alone makes views of
 /// this scheme, since each costs the prover as much again.
 pub fn attempt(rt: &impl Abort, alloc: Global, setup: &Setup, trial: Trial<'_>) -> Option<usize> {
-    let beside = Beside::new(alloc, views(alloc, setup)?, setup);
-    undergo(rt, alloc, beside, trial)
+    let mut beside = Beside::new(alloc, views(alloc, setup)?, setup);
+    undergo(rt, alloc, &mut beside, trial)
 }
 
 /// Hands the steps in, and asks whether the facts are so, where no memory is refused.

@@ -16,19 +16,19 @@ pub enum Trial<'a> {
     /// These steps, behind which the facts are so.
     Steps(&'a [Step], &'a [Fact<'a>]),
     /// A history by chance.
-    History(Chance),
+    History(&'a mut Chance),
 }
 
 /// The voter undergoes the trial: how many points have happened. None where memory is refused.
 pub fn undergo<S: Numbering, L: Elector<S, Sha256Digest>>(
     rt: &impl Abort,
     alloc: Global,
-    mut beside: Beside<S, L>,
+    beside: &mut Beside<S, L>,
     trial: Trial<'_>,
 ) -> Option<usize> {
     match trial {
         Trial::Steps(steps, facts) => beside.walk(rt, alloc, steps, facts)?,
-        Trial::History(mut chance) => live(rt, alloc, &mut chance, &mut beside)?,
+        Trial::History(chance) => live(rt, alloc, chance, beside)?,
     }
     Some(beside.history().points.len())
 }
