@@ -1,5 +1,5 @@
 -- The highest nullification that covers a view.
-use Rattle.std.proofs.Common.{◌≡◌, ◌≤◌, ◌<◌, ℕ, false, refl, List, Bor, sym}
+use Rattle.std.proofs.Common.{◌≡◌, ◌≤◌, ℕ, false, refl, List, Bor, sym}
 use Rattle.std.specs.Prelude.{Option, Some, None, MatchOption, is_some, option_copied}
 use Rattle.simplex_types.specs.Positions.{InCoveringRange, term_start}
 use Rattle.simplex_messages.specs.declared.nullification.Nullification.{Nullification}

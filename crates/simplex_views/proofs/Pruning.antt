@@ -1,6 +1,6 @@
 -- What is kept of what is dropped.
 use Rattle.std.proofs.Common.{◌≡◌, ◌↔◌, ◌<◌, ◌≤◌, ◌+◌, ◌++◌, ◌==◌, ℕ, true, false, ⊎_elim, List, [], ◌∷◌, refl, sym, ap, subst, ◌∙◌, arith, if◌then◌else◌}
-use Rattle.std.specs.Prelude.{Option, Some, None, Bool, AllPairs, Contains, IsSome, is_some, nat_le, nat_lt, slice_index_or, ◌&&◌}
+use Rattle.std.specs.Prelude.{Option, None, Bool, AllPairs, Contains, is_some, nat_le, nat_lt, slice_index_or, ◌&&◌}
 use Rattle.std.specs.Option.{option_or}
 use Rattle.std.specs.Ordering.{nat_cmp, is_eq}
 use Rattle.std.specs.declared.cmp.Ordering.TheVariants.{Less}

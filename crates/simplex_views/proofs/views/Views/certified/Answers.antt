@@ -1,4 +1,4 @@
-use Rattle.std.proofs.Common.{refl, sym, ap, ◌∙◌, ◌≡◌, Bor, Option, Some, true, false, subst, arith, ◌∷◌}
+use Rattle.std.proofs.Common.{sym, ap, ◌∙◌, ◌≡◌, Bor, Option, Some, true, false, subst, arith, ◌∷◌}
 use Rattle.std.specs.Option.{option_copied}
 use Rattle.std.specs.Prelude.{nat_le}
 use Rattle.std.proofs.lemmas.Bool.Decides.{nat_tests}
@@ -7,7 +7,6 @@ use Rattle.simplex_views.proofs.Advancing.{IsAt-tracked, grown-tables}
 use Rattle.simplex_views.specs.History as History
 use Rattle.simplex_tracking.specs.Pasts.{put}
 use Rattle.simplex_views.specs.History.{current, seen}
-use Rattle.simplex_views.specs.Leaders.{leader, was_forwarded}
 use Rattle.simplex_views.specs.Progress.{frame_of, tables}
 use Rattle.simplex_tracking.specs.Tracked.{Holds}
 use Rattle.simplex_views.specs.Views.{Keeps}

@@ -5,7 +5,6 @@ use Rattle.simplex_views.specs.History as History
 use Rattle.simplex_tracking.specs.Pasts.{is_direct, put}
 use Rattle.simplex_views.specs.History.{is_marked, seen}
 use Rattle.simplex_views.specs.Known.{backs}
-use Rattle.simplex_views.specs.Leaders.{leader, was_forwarded}
 use Rattle.simplex_views.specs.Progress.{frame_of, tables}
 use Rattle.simplex_tracking.specs.Tracked.{Holds}
 use Rattle.simplex_views.specs.Views.{Keeps}

@@ -1,8 +1,7 @@
-use Rattle.std.proofs.Common.{sym, ◌∙◌}
 use Rattle.std.specs.Prelude.{is_some}
 use Rattle.simplex_views.specs.History.{nullification}
 use Rattle.simplex_views.specs.Views.{Keeps}
-use Rattle.simplex_views.proofs.Covering.{highest_covering, none_covering}
+use Rattle.simplex_views.proofs.Covering.{highest_covering}
 use Rattle.simplex_views.proofs.views.Views.covering_nullification.Goals as goal
 
 pub returns : goal.returns

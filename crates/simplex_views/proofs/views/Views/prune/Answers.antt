@@ -5,7 +5,6 @@ use Rattle.std.specs.BTreeMap.{get}
 use Rattle.simplex_views.specs.History as History
 use Rattle.simplex_views.specs.History.{is_marked, min_active, nullification, seen}
 use Rattle.simplex_views.specs.Known.{backs, waits}
-use Rattle.simplex_views.specs.Leaders.{leader}
 use Rattle.simplex_views.specs.Progress.{frame_of, tables}
 use Rattle.simplex_views.specs.Views.{Keeps}
 use Rattle.simplex_tracking.specs.Laws.{Shows-same}
