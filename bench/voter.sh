@@ -5,7 +5,7 @@
 
 rustc -O --edition 2021 -o "$folder/baseline" "$here/baseline/voter.rs"
 if [ -z "${VOTER:-}" ]; then
-    lay_out voter simplex_voter simplex_requests simplex_facts simplex_due simplex_views simplex_tracking simplex_resolver simplex_record \
+    lay_out voter simplex_voter simplex_facts simplex_due simplex_views simplex_tracking simplex_resolver simplex_record \
         simplex_round simplex_messages simplex_rules simplex_types
     build finalized 4 1 1
 fi

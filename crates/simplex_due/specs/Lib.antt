@@ -1,7 +1,9 @@
 pub mod Ancestry
 pub mod Answers
 pub mod Asking
+pub mod Building
 pub mod Due
+pub mod Floor
 pub mod Knowing
 pub mod Matching
 pub mod Requests

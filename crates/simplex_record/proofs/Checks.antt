@@ -12,7 +12,7 @@ use Rattle.simplex_record.specs.Record.{Entry, entry, entries}
 use Rattle.simplex_record.specs.Rules.{MayJudge}
 use Rattle.simplex_record.specs.Lawful.{Fits, IsLawful, IsRefusedAt}
 use Rattle.simplex_record.specs.Standing.{Keeps, KeepsCertificates}
-use Rattle.simplex_record.specs.Spans.{term_end-le}
+use Rattle.simplex_rules.specs.Spans.{term_end-le}
 
 -- a view with room isn't the last
 pub room-next : (views view : ℕ) → 0 < views → HasRoom views view → view + 1 < 2 ^ 64

@@ -7,7 +7,8 @@ mod timing;
 mod verifying;
 mod voting;
 
-ghost use Rattle.std.specs.Prelude.{◌≡◌, ◌↔◌, ◌<◌, ◌≤◌, [], Some, None, IsTrue, IsSome, IfSome, MatchOption, option_map, option_copied};
+ghost use Rattle.std.specs.Prelude.{◌≡◌, ◌↔◌, ◌<◌, ◌≤◌, [], Some, None, IsTrue, IsSome, IfSome, MatchOption, is_none, option_map, option_copied};
+ghost use Rattle.std.specs.Option.{option_or};
 ghost use Rattle.simplex_round.specs.declared.leader.Leader.{Leader};
 ghost use Rattle.simplex_round.specs.Round.{Keeps, AtEach, IsLeader};
 
@@ -127,6 +128,19 @@ impl<S: Scheme<D>, D: Digest> Round<S, D> {
         if let Some(key) = self.scheme.key(leader) {
             self.leader = Some(Leader { idx: leader, key });
         }
+    }
+
+    /// Names the leader, where none is known yet: whether none was. The first stays.
+    pub fn learn_leader(&mut self, leader: Participant) -> bool
+        ensures member { AtEach S.key_of self.old (λ s l h. leader < S.size s.scheme → Keeps S.key_of s self.new (option_or l (Some leader)) h) }
+        ensures stranger { AtEach S.key_of self.old (λ s l h. S.size s.scheme ≤ leader → Keeps S.key_of s self.new l h) }
+        ensures answer { AtEach S.key_of self.old (λ s l h. result ≡ is_none l) }
+    {
+        if self.leader.is_some() {
+            return false;
+        }
+        self.set_leader(leader);
+        true
     }
 
     /// Whether this member leads the view.

@@ -4,17 +4,9 @@ use Rattle.std.proofs.Math.Nat.{div-lt_iff_lt-mul}
 use Rattle.std.proofs.lemmas.Grind.{common_steps}
 use Rattle.std.proofs.lemmas.Bool.{cases_lt}
 use Rattle.simplex_types.specs.Positions.{term_index, term_end, next_term_start}
+use Rattle.simplex_rules.specs.Spans.{term_end-above}
 use Rattle.simplex_rules.specs.Windows.{Admits, later_term_start, early_views, issuance_floor, HasExactly}
 use Rattle.simplex_rules.proofs.Exactly.{row, row_more, one_count}
-
--- no view is after the end of its term
-term_end-above : (views view : ℕ) → 0 < views → view ≤ term_end views view
-term_end-above views zero some = omega arith
-term_end-above views (suc before) some =
-    let place : term_index views (suc before) ≡ before / views + 1 = grind (arith, common_steps) in
-    let within : (before / views < term_index views (suc before)) ↔ (before < term_index views (suc before) * views) = div-lt_iff_lt-mul some in
-    let low : before / views < term_index views (suc before) = omega arith in
-    omega (arith, within.0 low)
 
 -- what lies strictly between two numbers
 pub between-count : (low high : ℕ) → HasExactly (λ v. (low < v) × (v < high)) (high - (low + 1))

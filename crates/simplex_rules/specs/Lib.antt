@@ -4,6 +4,7 @@ pub mod Rotation
 pub mod Shuffle
 pub mod Turns
 pub mod Windows
+pub mod Spans
 pub mod Salted
 pub mod Cast
 pub mod Kept

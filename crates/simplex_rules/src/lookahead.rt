@@ -1,7 +1,7 @@
 //! How far ahead of its current view a member listens and speaks.
 
 ghost use Rattle.std.specs.Prelude.{◌≡◌, ◌↔◌, ◌⊎◌, ◌<◌, ◌≤◌, ◌+◌, ◌-◌, ◌*◌, ◌^◌, ℕ, min, IsTrue, IsNone, IfSome};
-ghost use Rattle.simplex_types.specs.Positions.{term_end, IsTermStart};
+ghost use Rattle.simplex_types.specs.Positions.{next_term_start, term_end, IsTermStart};
 ghost use Rattle.simplex_rules.specs.Windows.{InAdmissionWindow, Admits, AdmitsOutbound, admission_limit, issuance_floor, early_views, HasExactly};
 
 use crate::terms::Terms;
@@ -86,6 +86,14 @@ impl Lookahead {
         }
         let before = view.get().saturating_sub(self.optimistic_views.get());
         Some(View::new(before.saturating_sub(1)))
+    }
+
+    /// The view that a nullification of this one leads to: the first of the next term. It must have a number of 64 bits.
+    pub fn after_nullification(&self, view: View) -> View
+        requires { next_term_start self.now.length view < 2 ^ 64 }
+        ensures { result ≡ next_term_start self.now.length view }
+    {
+        view.next_term_start(self.length)
     }
 
     /// The last view of the current view's term, also where it has no number of 64 bits.

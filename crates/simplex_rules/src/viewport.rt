@@ -1,6 +1,7 @@
 //! Which views a member keeps and listens to.
 
-ghost use Rattle.std.specs.Prelude.{◌≡◌, ◌↔◌, IsTrue};
+ghost use Rattle.std.specs.Prelude.{◌≡◌, ◌↔◌, ◌<◌, ◌≤◌, ◌+◌, ◌^◌, ℕ, IsTrue};
+ghost use Rattle.simplex_types.specs.Positions.{term_end};
 ghost use Rattle.simplex_rules.specs.Windows.{Admits, Retains, retention_floor};
 
 use crate::lookahead::Lookahead;
@@ -29,6 +30,20 @@ impl Viewport {
                 .get()
                 .saturating_sub(self.view_retention.get()),
         )
+    }
+
+    /// Of the views below the floor the first whose term ends above the last finalized view, so that a nullification of it still covers
+    /// what may be built on; the floor where there is none.
+    pub fn first_reaching(&self) -> View
+        ensures up_to_floor { result ≤ retention_floor self.now.finalized self.now.view_retention }
+        ensures reaches { self.now.finalized + 1 < 2 ^ 64 → (view : ℕ) → view < retention_floor self.now.finalized self.now.view_retention → (view < result) ↔ (term_end self.now.lookahead.length view ≤ self.now.finalized) }
+    {
+        // The proof takes from the number that a term has at least one view.
+        let _views = self.lookahead.length.get();
+        let floor = self.floor();
+        let next = View::new(self.finalized.get().saturating_add(1));
+        let start = next.term_start(self.lookahead.length);
+        if floor < start { floor } else { start }
     }
 
     /// Whether the view is kept: it is from 1 on, and not below the floor.

@@ -5,7 +5,7 @@ use Rattle.std.proofs.lemmas.Bool.{cases_lt}
 use Rattle.simplex_types.specs.declared.proposal.Proposal.{Proposal}
 use Rattle.simplex_types.specs.Positions.{term_end}
 use Rattle.simplex_types.specs.declared.scheme.Scheme.{Ghosts}
-use Rattle.simplex_record.specs.Spans.{term_end-above}
+use Rattle.simplex_rules.specs.Spans.{term_end-above}
 use Rattle.simplex_rules.specs.declared.elector.Elector as elector
 use Rattle.simplex_rules.specs.Windows.{AdmitsOutbound}
 use Rattle.simplex_tracking.specs.Rounds.{AreUntracked}

@@ -3,7 +3,7 @@ use Rattle.std.proofs.Common.{◌≡◌, ◌⊎◌, ◌≤◌, ◌<◌, ◌+◌,
 use Rattle.std.specs.Prelude.{List, None}
 use Rattle.std.proofs.lemmas.Bool.{cases_lt}
 use Rattle.simplex_types.specs.Positions.{term_end}
-use Rattle.simplex_record.specs.Spans.{term_end-above}
+use Rattle.simplex_rules.specs.Spans.{term_end-above}
 use Rattle.simplex_rules.specs.Windows.{AdmitsOutbound}
 use Rattle.simplex_tracking.specs.Rounds.{AreUntracked}
 use Rattle.simplex_views.specs.History.{Setup, Point, current, seen}

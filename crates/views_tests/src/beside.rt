@@ -3,8 +3,6 @@
 use crate::holding::{all_hold, holds};
 use crate::rounds;
 use crate::voter::{Voter, told};
-use due_plain::Plain;
-use due_plain::answers::Answer;
 use simplex_messages::{ProposalCertificate, ProposalKind};
 use simplex_round::TimeoutReason;
 use simplex_rules::Elector;
@@ -12,10 +10,10 @@ use simplex_types::{Participant, Scheme, Sha256Digest, View};
 use simplex_views::Views;
 use std::alloc::Global;
 use std::process::Abort;
-use voter_fakes::Numbering;
-use voter_fakes::samples::{RETRY, byte_of, named};
+use voter_plain::answers::Answer;
+use voter_plain::samples::{RETRY, byte_of, named};
 use voter_plain::world::World;
-use voter_plain::{History, Point, Proposal, Setup, VIEWS};
+use voter_plain::{History, Numbering, Plain, Point, Proposal, Setup, VIEWS};
 
 /// A voter, and what happened to it.
 #[derive(Drop)]

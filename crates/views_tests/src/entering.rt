@@ -2,14 +2,14 @@
 
 use crate::facts::{Fact, Step};
 use crate::plain_scheme::walks;
-use due_plain::answers::Answer;
 use simplex_round::TimeoutReason;
 use std::alloc::Global;
 use std::process::Abort;
-use voter_fakes::samples::{
+use voter_plain::Point;
+use voter_plain::answers::Answer;
+use voter_plain::samples::{
     A, B, finalized, forwarded, judged, member, notarized, nullified, plain, started,
 };
-use voter_plain::Point;
 
 /// In terms of five views, these lead to this view, and the voter has entered it, and neither the one before nor the one behind it.
 fn enters(rt: &impl Abort, alloc: Global, steps: &[Step], current: u64) {

@@ -2,14 +2,13 @@
 
 use crate::beside::Beside;
 use crate::holding::holds;
-use due_plain::answers::Answer;
 use simplex_round::TimeoutReason;
 use simplex_rules::Elector;
 use simplex_types::{Sha256Digest, View};
 use std::alloc::Global;
 use std::process::Abort;
-use voter_fakes::Numbering;
-use voter_plain::{History, Point, Proposal, Setup, VIEWS};
+use voter_plain::answers::Answer;
+use voter_plain::{History, Numbering, Point, Proposal, Setup, VIEWS};
 
 /// What is handed in one after the other, with what is answered.
 pub type Step = (Point, Answer);

@@ -4,7 +4,6 @@ use crate::beside::Beside;
 use crate::holding::holds;
 use crate::plain_scheme::attempt;
 use crate::trials::Trial;
-use due_plain::Plain;
 use simplex_fakes::Chance;
 use simplex_round::TimeoutReason;
 use simplex_rules::Elector;
@@ -12,10 +11,9 @@ use simplex_types::Sha256Digest;
 use std::alloc::Global;
 use std::ops::Range;
 use std::process::Abort;
-use voter_fakes::Numbering;
-use voter_fakes::samples::{A, B, GENESIS, RETRY};
 use voter_plain::getters::Entry;
-use voter_plain::{History, Point, Proposal, Setup};
+use voter_plain::samples::{A, B, GENESIS, RETRY};
+use voter_plain::{History, Numbering, Plain, Point, Proposal, Setup};
 
 /// A committee of up to seven members, in terms of 1, 2 or 5 views with up to two optimistic ones.
 fn setup(chance: &mut Chance) -> Setup {

@@ -2,8 +2,8 @@
 
 use crate::facts::Fact;
 use crate::plain_scheme::walks;
-use due_plain::answers::Answer;
-use voter_fakes::samples::{
+use voter_plain::answers::Answer;
+use voter_plain::samples::{
     A, B, finalized, forwarded, member, notarized, nullified, plain, started,
 };
 use voter_plain::{Point, Setup};

@@ -1,4 +1,5 @@
-//! What no contract of a voter's views says: worked cases, each call once, refused memory, and histories beside a plain program.
+//! What no contract of a voter's views says: worked cases, each call once, refused memory, and histories beside a plain program; and worked
+//! cases of what is due, told by that program.
 #![tactic(auto)]
 
 #[cfg(test)]
@@ -23,6 +24,8 @@ mod pruning;
 mod recalling;
 #[cfg(test)]
 mod rounds;
+#[cfg(test)]
+mod rows;
 #[cfg(test)]
 mod trials;
 #[cfg(test)]

@@ -3,15 +3,15 @@
 use crate::facts::Step;
 use crate::plain_scheme::attempt;
 use crate::trials::Trial;
-use due_plain::answers::Answer;
 use simplex_round::TimeoutReason;
 use std::alloc::Global;
 use std::process::Abort;
-use voter_fakes::samples::{
+use voter_plain::Point;
+use voter_plain::answers::Answer;
+use voter_plain::getters::Entry;
+use voter_plain::samples::{
     A, B, GENESIS, finalized, forwarded, judged, member, notarized, nullified, plain, started,
 };
-use voter_plain::Point;
-use voter_plain::getters::Entry;
 
 /// Where `rt try --test --fail-alloc N` refuses a request, the call is refused and no other answer stands in its place. The voter is
 /// used no more then, and the next list begins anew.

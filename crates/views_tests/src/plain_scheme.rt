@@ -8,8 +8,7 @@ use simplex_types::{Epoch, PlainScheme, Sha256Digest, ViewDelta};
 use simplex_views::Views;
 use std::alloc::Global;
 use std::process::Abort;
-use voter_fakes::{Chosen, committee};
-use voter_plain::Setup;
+use voter_plain::{Chosen, Setup, committee};
 
 /// A voter's views, in the plain scheme.
 type PlainViews = Views<PlainScheme, Chosen, Sha256Digest>;

@@ -2,8 +2,8 @@
 
 use crate::facts::Fact;
 use crate::plain_scheme::walks;
-use due_plain::answers::Answer;
-use voter_fakes::samples::{A, finalized, forwarded, member, notarized, nullified, started};
+use voter_plain::answers::Answer;
+use voter_plain::samples::{A, finalized, forwarded, member, notarized, nullified, started};
 use voter_plain::{Point, Setup};
 
 /// A member that keeps so many views behind the last finalized one.

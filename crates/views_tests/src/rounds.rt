@@ -2,14 +2,13 @@
 
 use crate::holding::{all_hold, holds};
 use crate::voter::told;
-use due_plain::Plain;
 use simplex_round::Round;
 use simplex_types::{Scheme, Sha256Digest, View};
 use std::process::Abort;
-use voter_fakes::samples::{byte_of, named};
-use voter_plain as plain;
-use voter_plain::History;
+use voter_plain::samples::{byte_of, named};
 use voter_plain::views::Mark;
+use voter_plain::{History, Plain};
+use voter_plain as plain;
 
 /// The proposal that is bound, and its parent's payload.
 pub fn binding<S: Scheme<Sha256Digest>>(

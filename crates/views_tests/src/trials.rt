@@ -8,7 +8,7 @@ use simplex_rules::Elector;
 use simplex_types::Sha256Digest;
 use std::alloc::Global;
 use std::process::Abort;
-use voter_fakes::Numbering;
+use voter_plain::Numbering;
 
 /// What a new voter's views are put through.
 #[derive(Drop)]

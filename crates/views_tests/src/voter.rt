@@ -3,19 +3,18 @@
 
 ghost use Rattle.std.specs.Prelude.{◌<◌, ◌^◌};
 
-use due_plain::answers::{Answer, about, yes_or_no};
 use simplex_round::{TimeoutReason, Token};
 use simplex_rules::Elector;
 use simplex_types::{Proposal, Sha256Digest, View};
 use simplex_views::Views;
 use std::alloc::{AllocError, Global};
-use voter_fakes::Numbering;
-use voter_fakes::samples::{
+use voter_plain::answers::{Answer, about, yes_or_no};
+use voter_plain::getters::Entry;
+use voter_plain::samples::{
     finalization, named, notarization, nullification, payload, proposal, recalled,
 };
+use voter_plain::{Numbering, Point};
 use voter_plain as plain;
-use voter_plain::Point;
-use voter_plain::getters::Entry;
 
 /// What one member knows of all views.
 #[derive(Drop)]

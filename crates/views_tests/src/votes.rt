@@ -2,12 +2,12 @@
 
 use crate::facts::Fact;
 use crate::plain_scheme::walks;
-use due_plain::answers::Answer;
-use voter_fakes::samples::{
+use voter_plain::Point;
+use voter_plain::answers::Answer;
+use voter_plain::getters::Entry;
+use voter_plain::samples::{
     A, B, GENESIS, finalized, forwarded, judged, member, notarized, nullified, plain, started,
 };
-use voter_plain::Point;
-use voter_plain::getters::Entry;
 
 #[test]
 fn a_leader_builds_and_votes_once(rt: HostRuntime) {

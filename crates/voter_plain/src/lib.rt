@@ -1,12 +1,28 @@
-//! What a voter knows, by a plain list of what happened to it, the oldest first. Each answer goes over the
-//! whole list, sentence by sentence, as slow as it may be. Views lie below `VIEWS`, and parents below their views.
+//! What a voter knows, what is due for it and what each of its calls answers, by a plain list of what happened to it, the oldest first. Each
+//! answer goes over the whole list, sentence by sentence, as slow as it may be. Views lie below `VIEWS`, and parents below their views.
+//!
+//! Beside it what else the tests of a voter share: a committee, an elector, and what stands for the plain program's proposals,
+//! certificates and records.
 #![tactic(auto)]
 
+pub mod ancestry;
+pub mod answers;
+pub mod calls;
+mod committees;
+pub mod due;
+mod elector;
 pub mod getters;
 pub mod leaders;
+mod numbering;
 pub mod positions;
+pub mod requests;
+pub mod samples;
 pub mod views;
 pub mod world;
+
+pub use committees::committee;
+pub use elector::Chosen;
+pub use numbering::Numbering;
 
 use getters::Entry;
 use leaders::Leaders;
@@ -252,5 +268,23 @@ impl<'a> History<'a> {
             | Point::Judged { now, .. } => Some(now),
             _ => None,
         }
+    }
+}
+
+/// The plain program behind what happened.
+#[derive(Clone, Copy)]
+pub struct Plain<'a> {
+    pub known: History<'a>,
+}
+
+impl<'a> Plain<'a> {
+    /// Behind this history.
+    pub const fn behind(known: History<'a>) -> Self {
+        Plain { known }
+    }
+
+    /// Behind the first so many points.
+    pub fn first(self, count: usize) -> Plain<'a> {
+        Plain::behind(self.known.first(count))
     }
 }

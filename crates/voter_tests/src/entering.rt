@@ -2,8 +2,8 @@
 
 use crate::steps::{about, rotating, stable, tell};
 use crate::walking::enters;
-use voter_fakes::samples::{A, finalized, judged, notarized, nullified, plain, started};
 use voter_plain::getters::Entry;
+use voter_plain::samples::{A, finalized, judged, notarized, nullified, plain, started};
 use voter_plain::{Point, Setup};
 
 #[test]

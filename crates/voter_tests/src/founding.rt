@@ -6,8 +6,7 @@ use simplex_types::{Epoch, Participant, PlainKey, PlainScheme, Sha256Digest, Vie
 use simplex_voter::{Config, State};
 use std::alloc::Global;
 use std::process::Abort;
-use voter_fakes::{Chosen, committee};
-use voter_plain::Setup;
+use voter_plain::{Chosen, Setup, committee};
 
 /// What a voter of this setup knows to which nothing has happened.
 fn state(alloc: Global, setup: &Setup) -> Option<State<PlainScheme, Chosen, Sha256Digest>> {

@@ -5,18 +5,17 @@ use crate::founding::attempt;
 use crate::holding::holds;
 use crate::member::Member;
 use crate::trials::{End, Trial};
-use due_plain::Plain;
-use due_plain::calls::Call;
-use due_plain::requests::{Judging, Look};
 use simplex_fakes::Chance;
 use simplex_round::TimeoutReason;
 use std::alloc::Global;
 use std::ops::Range;
 use std::process::Abort;
-use voter_fakes::samples::{A, B, GENESIS};
+use voter_plain::calls::Call;
 use voter_plain::getters::Entry;
+use voter_plain::requests::{Judging, Look};
+use voter_plain::samples::{A, B, GENESIS};
 use voter_plain::views::Mark;
-use voter_plain::{Point, Proposal, Setup};
+use voter_plain::{Plain, Point, Proposal, Setup};
 
 /// What was last asked to be built: the view, and its parent with its payload.
 type Building = (u64, (u64, u8));

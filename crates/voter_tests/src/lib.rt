@@ -1,8 +1,11 @@
-//! What no contract of the voter says: worked cases in which each call is made, refused memory, and histories beside a plain program.
+//! What no contract of the voter says: worked cases in which each call is made, refused memory, and histories beside a plain program; and
+//! each fault of a configuration.
 #![tactic(auto)]
 
 #[cfg(test)]
 mod beside;
+#[cfg(test)]
+mod config;
 #[cfg(test)]
 mod entering;
 #[cfg(test)]

@@ -2,14 +2,14 @@
 
 use crate::steps::{NO, PASS, YES, about, gives_up, refuses, rotating, stable, tell, times};
 use crate::walking::{Step, walked};
-use due_plain::answers::Answer;
-use due_plain::calls::{Call, Reply};
 use simplex_round::{HandoffAbandonedReason, TimeoutReason};
-use voter_fakes::samples::{
+use voter_plain::Point;
+use voter_plain::answers::Answer;
+use voter_plain::calls::{Call, Reply};
+use voter_plain::getters::Entry;
+use voter_plain::samples::{
     A, B, GENESIS, finalized, forwarded, judged, notarized, nullified, plain, started,
 };
-use voter_plain::Point;
-use voter_plain::getters::Entry;
 
 /// How many verdicts and notarizations are to be asked for.
 fn certifies(ready: usize, fetches: usize) -> Step {

@@ -5,11 +5,11 @@ use crate::holding::holds;
 use crate::member::{Begun, Member, Start};
 use crate::steps::rotating;
 use crate::trials::{End, Trial};
-use due_plain::answers::Answer;
 use std::alloc::Global;
 use std::process::Abort;
-use voter_fakes::samples::{A, GENESIS, finalized};
+use voter_plain::answers::Answer;
 use voter_plain::getters::Entry;
+use voter_plain::samples::{A, GENESIS, finalized};
 use voter_plain::{Point, Proposal};
 
 /// The finalization of view 3 on view 1.

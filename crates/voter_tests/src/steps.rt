@@ -1,10 +1,10 @@
 //! What the worked cases are written with: calls with what they answer, and members.
 
 use crate::walking::Step;
-use due_plain::answers::Answer;
-use due_plain::calls::{Call, Reply};
 use simplex_round::TimeoutReason;
-use voter_fakes::samples::member;
+use voter_plain::answers::Answer;
+use voter_plain::calls::{Call, Reply};
+use voter_plain::samples::member;
 use voter_plain::{Point, Proposal, Setup};
 
 /// It is so.

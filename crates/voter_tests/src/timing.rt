@@ -2,11 +2,11 @@
 
 use crate::steps::{NO, about, gives_up, rotating, stable, tell, times};
 use crate::walking::walked;
-use due_plain::answers::Answer;
-use due_plain::calls::Call;
 use simplex_round::TimeoutReason;
-use voter_fakes::samples::{A, finalized, forwarded, judged, notarized, nullified, plain, started};
 use voter_plain::Point;
+use voter_plain::answers::Answer;
+use voter_plain::calls::Call;
+use voter_plain::samples::{A, finalized, forwarded, judged, notarized, nullified, plain, started};
 
 #[test]
 fn a_member_alone_gives_up_once_and_again(rt: HostRuntime) {

@@ -2,9 +2,9 @@
 
 use crate::steps::{PASS, rotating, tell, times};
 use crate::walking::{Step, walked};
-use due_plain::calls::{Call, Reply};
 use simplex_round::TimeoutReason;
-use voter_fakes::samples::{A, GENESIS, finalized, forwarded, nullified, plain, started};
+use voter_plain::calls::{Call, Reply};
+use voter_plain::samples::{A, GENESIS, finalized, forwarded, nullified, plain, started};
 
 /// For the proposal of view 3, which member 3 leads, this view's nullification is asked for, or else its notarization.
 fn resolves(missing: u64, is_nullification: bool) -> Step {

@@ -2,8 +2,6 @@
 //! prover several times as much.
 
 use crate::member::{Begun, Certificates, Course, Member, Standing, Start, Verdicts};
-use due_plain::answers::{Answer, yes_or_no};
-use due_plain::calls::Reply;
 use simplex_messages::{Artifact, Certificate, Finalization, Notarization, Nullification, Nullify};
 use simplex_resolver::Kind;
 use simplex_round::{HandoffAbandonedReason, TimeoutReason, Token};
@@ -11,13 +9,14 @@ use simplex_rules::Elector;
 use simplex_types::{Context, Epoch, Participant, Proposal, Round, Sha256Digest, View};
 use simplex_voter::{Floor, State, Verify};
 use std::alloc::Global;
-use voter_fakes::Numbering;
-use voter_fakes::samples::{
+use voter_plain::answers::{Answer, yes_or_no};
+use voter_plain::calls::Reply;
+use voter_plain::getters::Entry;
+use voter_plain::samples::{
     byte_of, finalization, named, notarization, nullification, payload, proposal, recalled,
 };
+use voter_plain::{Numbering, Point};
 use voter_plain as plain;
-use voter_plain::Point;
-use voter_plain::getters::Entry;
 
 /// A voter, and what its answers are named by.
 #[derive(Drop)]

@@ -2,8 +2,8 @@
 
 use crate::steps::{about, gives_up, refuses, rotating, stable, tell};
 use crate::walking::walked;
-use due_plain::answers::Answer;
-use voter_fakes::samples::{A, finalized, forwarded, judged, notarized, plain, started};
+use voter_plain::answers::Answer;
+use voter_plain::samples::{A, finalized, forwarded, judged, notarized, plain, started};
 use voter_plain::{Point, Setup};
 
 #[test]

@@ -5,9 +5,9 @@ use crate::founding::attempt;
 use crate::holding::holds;
 use crate::member::Member;
 use crate::trials::{End, Trial};
-use due_plain::calls::{Call, Reply};
 use std::alloc::Global;
 use std::process::Abort;
+use voter_plain::calls::{Call, Reply};
 use voter_plain::getters::Entry;
 use voter_plain::{Setup, VIEWS};
 

@@ -1,6 +1,6 @@
 //! What a voter learns: the start, certificates, verdicts, and what leaders propose.
 
-ghost use Rattle.std.specs.Prelude.{◌≡◌, ◌↔◌, if◌then◌else◌, false, true, ◌∷◌, None, IsTrue, IfOk, OnOk, is_some, option_map};
+ghost use Rattle.std.specs.Prelude.{◌≡◌, ◌↔◌, ◌<◌, ◌+◌, ◌^◌, if◌then◌else◌, false, true, ◌∷◌, None, IsTrue, IfOk, OnOk, is_some, option_map};
 ghost use Rattle.simplex_types.specs.Positions.{HasRoom};
 ghost use Rattle.simplex_round.specs.Held.{held, Agrees, Differs};
 ghost use Rattle.simplex_round.specs.Past.{offers, has_nullified};
@@ -91,7 +91,7 @@ impl<S: Scheme<D> + Drop, L: Elector<S, D>, D: Digest> Views<S, L, D> {
         if !view.has_room(self.lookahead.length) || self.nullification(view).is_some() {
             return Ok(false);
         }
-        let next = view.next_term_start(self.lookahead.length);
+        let next = self.lookahead.after_nullification(view);
         let leader = self.elector.elect(
             Round::new(self.epoch, next),
             Some(&certificate.certificate),
@@ -170,17 +170,26 @@ impl<S: Scheme<D> + Drop, L: Elector<S, D>, D: Digest> Views<S, L, D> {
             return Ok(None);
         };
         let copy = notarization.duplicate(alloc)?;
+        self.take_verdict(now, view, is_success)?;
+        Ok(Some(copy))
+    }
+
+    /// Takes the verdict on a view: a true one enters the next view, a false one is a reason to give the view up, where that isn't behind.
+    fn take_verdict(&mut self, now: u64, view: View, is_success: bool) -> Result<(), AllocError>
+        requires { view + 1 < 2 ^ 64 }
+        ensures { OnOk result (AtEach S.Scheme L.Elector self.old (λ s h. InTime s now → Keeps S.Scheme L.Elector s self.new (judged now view is_success ∷ h))) }
+    {
         self.progress.tracked.judge(view, is_success)?;
         if is_success {
             self.progress.enter(now, view.next())?;
-            return Ok(Some(copy));
+            return Ok(());
         }
         if view < self.progress.view {
-            return Ok(Some(copy));
+            return Ok(());
         }
         let notice = Notice::Latched(now, TimeoutReason::FailedCertification);
         self.progress.tracked.tell(view, notice)?;
-        Ok(Some(copy))
+        Ok(())
     }
 
     /// Offers the leader's proposal of a view: whether it is the first there. Behind an own nullify it is not taken.

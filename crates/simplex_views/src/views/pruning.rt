@@ -34,8 +34,9 @@ impl<S: Scheme<D> + Drop, L: Elector<S, D>, D: Digest> Views<S, L, D> {
         ensures keeps { OnOk result (AtEach S.Scheme L.Elector self.old (λ s h. Keeps S.Scheme L.Elector s self.new (pruned ∷ h))) }
         ensures dropped { IfOk result (λ views. AtEach S.Scheme L.Elector self.old (λ s h. AreDropped s h views.items)) }
     {
-        let floor = self.min_active();
-        let first = self.first_reaching(floor);
+        let viewport = self.viewport();
+        let floor = viewport.floor();
+        let first = viewport.first_reaching();
         self.backed.forget_below(floor);
         self.waiting.forget_below(floor);
         self.nullified.forget_below(first);
@@ -48,18 +49,6 @@ impl<S: Scheme<D> + Drop, L: Elector<S, D>, D: Digest> Views<S, L, D> {
             first,
         )?;
         Ok(views)
-    }
-
-    /// Of the views below the floor the first whose term ends above the last finalized view, or the floor where there is none.
-    fn first_reaching(&self, floor: View) -> View
-        ensures up_to_floor { result ≤ floor }
-        ensures reaches { AtEach S.Scheme L.Elector self.now (λ s h. (view : ℕ) → view < floor → (view < result) ↔ (term_end s.length view ≤ last_finalized h)) }
-    {
-        // The proof takes from the number that a term has at least one view.
-        let _views = self.lookahead.length.get();
-        let next = View::new(self.last_finalized.get().saturating_add(1));
-        let start = next.term_start(self.lookahead.length);
-        if floor < start { floor } else { start }
     }
 }
 

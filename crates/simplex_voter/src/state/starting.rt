@@ -7,7 +7,7 @@ ghost use Rattle.simplex_voter.specs.State.{AtEach};
 
 use crate::state::State;
 use simplex_messages::Finalization;
-use simplex_requests::Floor;
+use simplex_due::Floor;
 use simplex_rules::Elector;
 use simplex_types::{Digest, Scheme, Viewable};
 use std::alloc::{AllocError, Global};

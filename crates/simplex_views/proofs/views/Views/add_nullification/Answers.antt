@@ -11,7 +11,7 @@ use Rattle.simplex_views.specs.Leaders.{was_forwarded}
 use Rattle.simplex_views.specs.Progress.{frame_of, tables}
 use Rattle.simplex_views.specs.Views.{Keeps}
 use Rattle.simplex_views.proofs.Choices.{copied-none, or_neither}
-use Rattle.simplex_record.specs.Spans.{term_end-above}
+use Rattle.simplex_rules.specs.Spans.{term_end-above}
 use Rattle.simplex_views.proofs.Uncovering.{covered-next}
 use Rattle.simplex_tracking.specs.Laws.{Shows-same, put-fact, inherits-same}
 use Rattle.simplex_views.proofs.Entering.{enter-fact, is_some-next, nullification-next}
@@ -25,20 +25,20 @@ pub returns-clause-keeps : goal.returns-clause-keeps
 unfolding Keeps
 returns-clause-keeps g c = λ s h k time.
     let at = c.args.certificate.round.view in
-    let next : c.next_term_start-next.result ≡ next_term_start s.length at = rw (← k.length, ← c.view-view.ensures) c.next_term_start-next.ensures in
-    let round : c.new.result ≡ record { epoch = s.epoch; view = c.next_term_start-next.result } = λ i. record { epoch = (c.new.ensures.epoch ∙ k.epoch) i; view = c.new.ensures.view i } in
-    let led : c.elect-leader.result ≡ s.elect c.next_term_start-next.result (Some c.args.certificate.certificate) = rw round at c.elect-leader.ensures ∙ k.elects c.next_term_start-next.result (Some c.args.certificate.certificate) in
+    let next : c.after_nullification-next.result ≡ next_term_start s.length at = rw (← k.length, ← c.view-view.ensures) c.after_nullification-next.ensures in
+    let round : c.new.result ≡ record { epoch = s.epoch; view = c.after_nullification-next.result } = λ i. record { epoch = (c.new.ensures.epoch ∙ k.epoch) i; view = c.new.ensures.view i } in
+    let led : c.elect-leader.result ≡ s.elect c.after_nullification-next.result (Some c.args.certificate.certificate) = rw round at c.elect-leader.ensures ∙ k.elects c.after_nullification-next.result (Some c.args.certificate.certificate) in
     let new : nullification s h at ≡ None = copied-none c.nullification.result (rw c.view-view.ensures at (c.nullification.ensures s h k)) c.if-is_some.ensures in
     let fresh : past.nullification (seen s h at) ≡ None = or_neither (get nat_cmp c.args.self.now.reaching at) (past.nullification (seen s h at)) (sym (k.nullifications at) ∙ new) in
     let entered = c.in_ok-enter.ensures s (current s h) (tables s h) k.progress time in
-    let inside = enter s (current s h) c.args.now c.next_term_start-next.result (seen s h) in
-    let unseen : past.nullification (inside at) ≡ None = enter-fact past.nullification (λ m l. refl) (λ a b o l. refl) s (current s h) c.args.now c.next_term_start-next.result (seen s h) at ∙ fresh in
+    let inside = enter s (current s h) c.args.now c.after_nullification-next.result (seen s h) in
+    let unseen : past.nullification (inside at) ≡ None = enter-fact past.nullification (λ m l. refl) (λ a b o l. refl) s (current s h) c.args.now c.after_nullification-next.result (seen s h) at ∙ fresh in
     let added = c.in_ok-add_nullification.ensures (frame_of s) (record (tables s h) { past = inside }) entered.tracked unseen in
     let then = record (tables s h) { past = put at (past.nullified c.args.certificate) inside } in
     let handed = c.in_ok-lead.ensures (frame_of s) then added (omega (arith, next)) (rw led (k.members _ _))
     (λ u _ _ so. leader-closed s h u (inherits-same (frame_of s) (tables s h) then
-    (λ w. sym (put-fact is_direct (past.nullified c.args.certificate) (λ l. refl) at inside w ∙ enter-fact is_direct (λ m l. refl) (λ a b o l. refl) s (current s h) c.args.now c.next_term_start-next.result (seen s h) w))
-    (λ w. ap (λ b. was_forwarded s h w || b) (sym (put-fact has_notarized (past.nullified c.args.certificate) (λ l. refl) at inside w ∙ enter-fact has_notarized (λ m l. refl) (λ a b o l. refl) s (current s h) c.args.now c.next_term_start-next.result (seen s h) w)))
+    (λ w. sym (put-fact is_direct (past.nullified c.args.certificate) (λ l. refl) at inside w ∙ enter-fact is_direct (λ m l. refl) (λ a b o l. refl) s (current s h) c.args.now c.after_nullification-next.result (seen s h) w))
+    (λ w. ap (λ b. was_forwarded s h w || b) (sym (put-fact has_notarized (past.nullified c.args.certificate) (λ l. refl) at inside w ∙ enter-fact has_notarized (λ m l. refl) (λ a b o l. refl) s (current s h) c.args.now c.after_nullification-next.result (seen s h) w)))
     (suc u) ∙ so)) in
     record {
       scheme = k.scheme;
@@ -55,7 +55,7 @@ returns-clause-keeps g c = λ s h k time.
         leader_timeout = entered.leader_timeout;
         certification_timeout = entered.certification_timeout;
         stall_timeout = entered.stall_timeout;
-        tracked = nullified-at g.S.Scheme _ s h c.args.now c.args.certificate c.next_term_start-next.result c.elect-leader.result next led handed;
+        tracked = nullified-at g.S.Scheme _ s h c.args.now c.args.certificate c.after_nullification-next.result c.elect-leader.result next led handed;
       };
       last_finalized = k.last_finalized;
       behind = k.behind;

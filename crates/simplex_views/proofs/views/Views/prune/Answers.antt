@@ -1,9 +1,10 @@
-use Rattle.std.proofs.Common.{◌≡◌}
+use Rattle.std.proofs.Common.{◌≡◌, ◌<◌, ◌≤◌, ◌+◌, ◌^◌, ◌↔◌, ℕ}
 use Rattle.std.specs.Prelude.{is_some}
 use Rattle.std.specs.Ordering.{nat_cmp}
 use Rattle.std.specs.BTreeMap.{get}
 use Rattle.simplex_views.specs.History as History
-use Rattle.simplex_views.specs.History.{is_marked, min_active, nullification, seen}
+use Rattle.simplex_types.specs.Positions.{term_end}
+use Rattle.simplex_views.specs.History.{is_marked, last_finalized, min_active, nullification, seen}
 use Rattle.simplex_views.specs.Known.{backs, waits}
 use Rattle.simplex_views.specs.Progress.{frame_of, tables}
 use Rattle.simplex_views.specs.Views.{Keeps}
@@ -15,8 +16,12 @@ use Rattle.simplex_views.proofs.views.Views.prune.Goals as goal
 pub returns-clause-keeps : goal.returns-clause-keeps
 unfolding Keeps
 returns-clause-keeps g c = λ s h k.
-    let floor : c.min_active-floor.result ≡ min_active s h = c.min_active-floor.ensures s h k in
+    let floor : c.floor-floor.result ≡ min_active s h = rw (k.last_finalized, k.retention) at (rw (c.viewport-viewport.ensures.finalized, c.viewport-viewport.ensures.view_retention) at c.floor-floor.ensures) in
     let first = c.first_reaching-first.result in
+    let behind : c.viewport-viewport.result.finalized + 1 < 2 ^ 64 = rw (c.viewport-viewport.ensures.finalized, k.last_finalized) k.behind in
+    let up : first ≤ c.floor-floor.result = rw c.floor-floor.ensures c.first_reaching-first.ensures.up_to_floor in
+    let reaches : (view : ℕ) → view < c.floor-floor.result → (view < first) ↔ (term_end s.length view ≤ last_finalized h) =
+        rw (c.viewport-viewport.ensures.finalized, c.viewport-viewport.ensures.lookahead, k.length, k.last_finalized) at (rw (← c.floor-floor.ensures) at (c.first_reaching-first.ensures.reaches behind)) in
     let dropped = c.in_ok-views.ensures.forgets (frame_of s) (tables s h) k.progress.tracked in
     let kept = c.in_ok-views.ensures.keeps (frame_of s) (tables s h) k.progress.tracked in
     record {
@@ -37,14 +42,14 @@ returns-clause-keeps g c = λ s h k.
       backed = rw floor at (c.forget_below.ensures (is_marked s backs h) k.backed);
       waiting = rw floor at (c.forget_below-2.ensures (is_marked s waits h) k.waiting);
       nullified = Shows-same _ _ _ (c.forget_below-3.ensures (λ u. is_some (nullification s h u)) k.nullified)
-          (λ u. rw (← floor) (pruned-is_some s.length (History.last_finalized h) c.min_active-floor.result first u (nullification s h u) c.first_reaching-first.ensures.up_to_floor (c.first_reaching-first.ensures.reaches s h k u)));
-      nullifications = λ u. rw floor at (pruned-nullification s.length (History.last_finalized h) c.min_active-floor.result first u (nullification s h u) (get nat_cmp c.args.self.now.reaching u) _ _ (seen s h u)
-          c.first_reaching-first.ensures.up_to_floor (c.first_reaching-first.ensures.reaches s h k u) (k.nullifications u) (c.drop_before.ensures u) (kept u));
+          (λ u. rw (← floor) (pruned-is_some s.length (History.last_finalized h) c.floor-floor.result first u (nullification s h u) up (reaches u)));
+      nullifications = λ u. rw floor at (pruned-nullification s.length (History.last_finalized h) c.floor-floor.result first u (nullification s h u) (get nat_cmp c.args.self.now.reaching u) _ _ (seen s h u)
+          up (reaches u) (k.nullifications u) (c.drop_before.ensures u) (kept u));
     }
 
 pub returns-clause-dropped : goal.returns-clause-dropped
 unfolding Keeps
 returns-clause-dropped g c = λ s h k.
-    let floor : c.min_active-floor.result ≡ min_active s h = c.min_active-floor.ensures s h k in
+    let floor : c.floor-floor.result ≡ min_active s h = rw (k.last_finalized, k.retention) at (rw (c.viewport-viewport.ensures.finalized, c.viewport-viewport.ensures.view_retention) at c.floor-floor.ensures) in
     let dropped = c.in_ok-views.ensures.dropped (frame_of s) (tables s h) k.progress.tracked in
     record { exact = rw floor at dropped.exact; ascend = dropped.ascend }

@@ -1,9 +1,8 @@
 //! What the call answers that would add a point.
 
-use crate::Plain;
-use voter_plain::getters::Entry;
-use voter_plain::views::Mark;
-use voter_plain::{Point, Proposal};
+use crate::getters::Entry;
+use crate::views::Mark;
+use crate::{Plain, Point, Proposal};
 
 /// What a call answers.
 #[derive(Clone, Copy, PartialEq, Eq)]

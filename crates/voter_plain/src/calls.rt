@@ -1,10 +1,9 @@
 //! What a voter's calls answer, and what has happened by them.
 
-use crate::Plain;
 use crate::answers::Answer;
 use crate::requests::{Judging, Look};
+use crate::{Plain, Point, Proposal, VIEWS};
 use simplex_round::{HandoffAbandonedReason, TimeoutReason};
-use voter_plain::{Point, Proposal, VIEWS};
 
 /// A call of a voter.
 #[derive(Clone, Copy)]

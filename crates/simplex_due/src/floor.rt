@@ -1,7 +1,7 @@
 //! What a voter starts on.
 
 ghost use Rattle.std.specs.Prelude.{◌≡◌};
-ghost use Rattle.simplex_requests.specs.Floor.{floor_view};
+ghost use Rattle.simplex_due.specs.Floor.{floor_view};
 
 use simplex_messages::Finalization;
 use simplex_types::{Digest, Duplicate, Scheme, View, Viewable};

@@ -1,8 +1,8 @@
 -- What a request asks to build on.
 use Rattle.std.specs.Prelude.{⊤}
 use Rattle.simplex_types.specs.declared.context.Context.{Context}
-use Rattle.simplex_requests.specs.declared.proposal_request.ProposalRequest.{ProposalRequest}
-use Rattle.simplex_requests.specs.declared.proposal_request.ProposalRequest.TheVariants as request
+use Rattle.simplex_due.specs.declared.proposal_request.ProposalRequest.{ProposalRequest}
+use Rattle.simplex_due.specs.declared.proposal_request.ProposalRequest.TheVariants as request
 
 -- what a request asks to build on
 abbrev pub context_of : {D P : Type 0} → ProposalRequest D P → Context D P

@@ -1,11 +1,10 @@
 //! What is to be asked for.
 
-use crate::Plain;
 use crate::ancestry::Parent;
+use crate::positions::{has_room, is_term_start};
+use crate::views::Mark;
+use crate::{Plain, Proposal};
 use simplex_round::HandoffAbandonedReason;
-use voter_plain::Proposal;
-use voter_plain::positions::{has_room, is_term_start};
-use voter_plain::views::Mark;
 
 /// What is to be done for the proposal of a view that waits to be verified.
 #[derive(Clone, Copy, PartialEq, Eq)]

@@ -1,7 +1,7 @@
 -- Which view a member starts from.
 use Rattle.std.specs.Prelude.{ℕ}
-use Rattle.simplex_requests.specs.declared.floor.Floor.{Floor}
-use Rattle.simplex_requests.specs.declared.floor.Floor.TheVariants as floor
+use Rattle.simplex_due.specs.declared.floor.Floor.{Floor}
+use Rattle.simplex_due.specs.declared.floor.Floor.TheVariants as floor
 
 module _ {S D P G C : Type 0} where
   -- the view that a member starts from: 0, or the one that is finalized

@@ -1,12 +1,11 @@
 //! The voter's worked cases, told by the plain program. Each row says behind how many points it is asked.
 
-use due_plain::Plain;
-use due_plain::ancestry::Parent;
-use due_plain::requests::{Judging, Look};
 use simplex_round::TimeoutReason;
 use std::process::Abort;
+use voter_plain::ancestry::Parent;
 use voter_plain::getters::Entry;
-use voter_plain::{History, Point, Proposal, Setup};
+use voter_plain::requests::{Judging, Look};
+use voter_plain::{History, Plain, Point, Proposal, Setup};
 
 /// The payload at the start, and two more.
 const GENESIS: u8 = 0;

@@ -1,10 +1,9 @@
 //! Which payload a proposal may stand on.
 
-use crate::Plain;
-use voter_plain::leaders::HANDS_OFF;
-use voter_plain::positions::{is_term_start, term_start};
-use voter_plain::views::Mark;
-use voter_plain::{Proposal, VIEWS};
+use crate::leaders::HANDS_OFF;
+use crate::positions::{is_term_start, term_start};
+use crate::views::Mark;
+use crate::{Plain, Proposal, VIEWS};
 
 /// Of each view the payload that it supports as a parent before it is certified.
 type Payloads = [Option<u8>; VIEWS];

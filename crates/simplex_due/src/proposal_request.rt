@@ -1,7 +1,7 @@
 //! What a voter asks its application to build.
 
 ghost use Rattle.std.specs.Prelude.{◌≡◌, ◌↔◌, IsTrue};
-ghost use Rattle.simplex_requests.specs.Building.{IsPrepared, context_of};
+ghost use Rattle.simplex_due.specs.Building.{IsPrepared, context_of};
 
 use simplex_types::{Context, Digest, PublicKey, View, Viewable};
 

@@ -1,10 +1,9 @@
 //! Which votes are due, and when a view is given up.
 
-use crate::Plain;
+use crate::positions::{admits_outbound, has_room, term_start};
+use crate::views::Mark;
+use crate::{Plain, Point};
 use simplex_round::TimeoutReason;
-use voter_plain::Point;
-use voter_plain::positions::{admits_outbound, has_room, term_start};
-use voter_plain::views::Mark;
 
 impl<'a> Plain<'a> {
     /// Whether a vote or request for the view may leave: it has room, and may be spoken of.

@@ -3,8 +3,9 @@
 ghost use Rattle.std.specs.Prelude.{◌≡◌, ◌<◌, IfSome, refl, option_copied};
 ghost use Rattle.simplex_rules.specs.Rotation.{IsOrder, view_leader};
 ghost use Rattle.simplex_rules.specs.Turns.{leader_within, IsOrder-from_IsOrderOf};
-ghost use Rattle.voter_fakes.specs.Leading.{passed, turn, turn-scheduled};
+ghost use Rattle.voter_plain.specs.Leading.{passed, turn, turn-scheduled};
 
+use crate::Setup;
 use simplex_rules::elector::{Config, Elector, Mode};
 use simplex_rules::{RoundRobin, RoundRobinElector, Terms};
 use simplex_types::{
@@ -12,7 +13,6 @@ use simplex_types::{
     TermLength, View, ViewDelta,
 };
 use std::alloc::{AllocError, Global};
-use voter_plain::Setup;
 
 /// The members lead in turn: a term each, or a view each and so many turns on as members signed the certificate that the view
 /// was entered by.
