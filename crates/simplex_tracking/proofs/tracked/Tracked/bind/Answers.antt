@@ -1,4 +1,5 @@
 use Rattle.std.proofs.Common.{refl}
+use Rattle.std.specs.Prelude.{Some}
 use Rattle.simplex_round.specs.Past.{bound}
 use Rattle.simplex_tracking.specs.Tracked.{Holds}
 use Rattle.simplex_tracking.proofs.Growing.{bound-plain, plain-kept}
@@ -12,4 +13,4 @@ returns g c = λ f t k.
     let follows = rw c.view.ensures at (c.open.follows.holds c.set_verifying.new.self (rw c.in_ok-open.was refl)) in
     rw c.in-Some.is
     (plain-kept k (lent-put f.common t.led t.past (bound c.args.proposal c.in-Some.payload) follows k.rounds (c.set_verifying.ensures _ _ _ here))
-    (bound-plain c.args.payload c.args.proposal t.past))
+    (bound-plain (Some c.in-Some.payload) c.args.proposal t.past))
