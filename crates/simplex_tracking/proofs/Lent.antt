@@ -1,5 +1,5 @@
 -- What the rounds keep once one of them that was lent is given back.
-use Rattle.std.proofs.Common.{◌≡◌, ℕ, true, false, ◌==◌, ◌<◌, ◌^◌, List, ◌∷◌, inr, refl, if◌then◌else◌}
+use Rattle.std.proofs.Common.{◌≡◌, ℕ, true, false, ◌<◌, ◌^◌, List, ◌∷◌, inr, refl, if◌then◌else◌}
 use Rattle.std.specs.Borrow.{MutBor}
 use Rattle.std.specs.Option.{option_copied_mut, option_or}
 use Rattle.std.specs.Prelude.{Option, Some, None, Bool, MatchOption, IsSome, OnSome}
@@ -9,7 +9,7 @@ use Rattle.simplex_round.specs.declared.round.Round.{Round}
 use Rattle.simplex_round.specs.Past.{Item}
 use Rattle.simplex_round.specs.Round as one
 use Rattle.simplex_tracking.specs.declared.rounds.Rounds.{Rounds}
-use Rattle.simplex_tracking.specs.Lending.{AreElsewhere, Follows}
+use Rattle.simplex_tracking.specs.Lending.{Follows}
 use Rattle.simplex_tracking.specs.Pasts.{put}
 use Rattle.simplex_tracking.specs.Rounds.{AtEach, Common, IsOpen, IsTracked, Keep, Stores, learn, setup_of, stored}
 use Rattle.simplex_tracking.proofs.Choices.{is_itself, some-is}

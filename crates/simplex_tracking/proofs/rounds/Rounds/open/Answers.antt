@@ -1,5 +1,4 @@
-use Rattle.std.proofs.Common.{refl, sym, subst}
-use Rattle.std.specs.Prelude.{None, IsSome}
+use Rattle.std.proofs.Common.{refl}
 use Rattle.simplex_tracking.proofs.Lent.{Follows-open}
 use Rattle.simplex_tracking.proofs.Tables.{AreOpen-at}
 use Rattle.simplex_tracking.proofs.rounds.Rounds.open.Goals as goal
