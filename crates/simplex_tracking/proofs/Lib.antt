@@ -4,6 +4,7 @@ pub mod Finding
 pub mod Forwarding
 pub mod Growing
 pub mod Leading
+pub mod Lent
 pub mod Marking
 pub mod Recalling
 pub mod Showing

@@ -1,5 +1,5 @@
 -- A change of one round among many.
-use Rattle.std.proofs.Common.{◌≡◌, ℕ, true, false, ◌==◌, ◌<◌, ◌^◌, ⊎_elim, inl, inr, List, [], ◌∷◌, refl, sym, ap, arith, Bor, if◌then◌else◌}
+use Rattle.std.proofs.Common.{◌≡◌, ℕ, true, false, ◌==◌, ◌<◌, ◌^◌, ⊎_elim, inl, List, [], ◌∷◌, refl, sym, ap, arith, Bor, if◌then◌else◌}
 use Rattle.std.specs.Option.{option_or}
 use Rattle.std.specs.Prelude.{Option, Some, None, Bool, MatchOption, IsSome, is_some, option_copied, option_map}
 use Rattle.simplex_types.specs.declared.position.Round as position
@@ -12,11 +12,8 @@ use Rattle.simplex_round.specs.declared.round.Round.{Round}
 use Rattle.simplex_round.specs.Round as one
 use Rattle.simplex_round.specs.Held.{held, Agrees}
 use Rattle.simplex_round.specs.Past.{Item, has_finalized, has_nullified, offers}
-use Rattle.simplex_tracking.specs.Pasts.{put}
-use Rattle.simplex_tracking.specs.declared.rounds.Rounds.{Rounds}
-use Rattle.simplex_tracking.specs.Rounds.{Common, Stores, as_key, setup_of, stored, learn, IsTracked, IsRight, AreKept, AreOpen, IsKept, IsOpen}
+use Rattle.simplex_tracking.specs.Rounds.{Common, Stores, as_key, setup_of, stored, learn, IsTracked, IsRight, AreKept, AreOpen}
 use Rattle.simplex_tracking.specs.Tracked.{AreMembers}
-use Rattle.simplex_tracking.proofs.Choices.{is_itself, some-is}
 
 -- what stays the same of a round is what its view and what all rounds share say
 pub same_setup : {S : Type 0} {s : Common S} {x : S} {r : position.Round} {view : ℕ} → x ≡ s.scheme → r.epoch ≡ s.epoch → r.view ≡ view
@@ -53,19 +50,12 @@ module _ {S D P G C : Type 0} {key_of : S → ℕ → P} {s : Common S} {m : BTr
   pub AreOpen-at : {view : ℕ} {round : Round S D P G C} → AreOpen key_of s m led past view → Some round ≡ stored m view → one.Keeps key_of (setup_of s view) round (led view) (past view)
   AreOpen-at k e = rw (sym e) at k.here
 
-  -- so does the round of a view that has one
+  -- so does the round of a view that has one, and something is known of it
   pub AreKept-at : {view : ℕ} {round : Round S D P G C} → AreKept key_of s m led past → view < 2 ^ 64 → Some round ≡ stored m view → one.Keeps key_of (setup_of s view) round (led view) (past view)
   AreKept-at {view} k fits e = (rw (sym e) at (k.at view fits)).1
 
-  -- something is known of a view that has a round, and nothing of one that has none
   pub AreKept-tracked : (view : ℕ) {round : Round S D P G C} → AreKept key_of s m led past → view < 2 ^ 64 → Some round ≡ stored m view → IsTracked (past view) (led view)
   AreKept-tracked view k fits e = (rw (sym e) at (k.at view fits)).0
-
-  pub AreKept-untracked : (view : ℕ) → AreKept key_of s m led past → view < 2 ^ 64 → None ≡ stored m view → past view ≡ []
-  AreKept-untracked view k fits e = (rw (sym e) at (k.at view fits)).0
-
-  pub AreKept-unled : (view : ℕ) → AreKept key_of s m led past → view < 2 ^ 64 → None ≡ stored m view → led view ≡ None
-  AreKept-unled view k fits e = (rw (sym e) at (k.at view fits)).1
 
   -- the round of a view that has one is open
   pub AreOpen-there : (view : ℕ) → AreKept key_of s m led past → view < 2 ^ 64 → IsSome (stored m view) → AreOpen key_of s m led past view
@@ -87,67 +77,6 @@ module _ {S D P G C : Type 0} {key_of : S → ℕ → P} {s : Common S} {m m' : 
         (cases_eq view u);
   }
 
-  -- one more thing happened to one view
-  pub AreKept-put : (view : ℕ) (x : Item S D P G C) {round : Round S D P G C}
-      → AreOpen key_of s m led past view → Stores m m' view (Some round) → one.Keeps key_of (setup_of s view) round (led view) (x ∷ past view)
-      → AreKept key_of s m' led (put view x past)
-  AreKept-put view x k up here = AreKept-step led (put view x past) view k up (rw (is_itself view) here) (rw (is_itself view) (happened x (past view) (led view))) (λ u apart. (refl, rw apart refl))
-
-  -- the same, where the view is named in two ways
-  pub AreKept-put_at : {view at : ℕ} (x : Item S D P G C) {round : Round S D P G C}
-      → view ≡ at → AreOpen key_of s m led past view → Stores m m' view (Some round) → one.Keeps key_of (setup_of s view) round (led view) (x ∷ past view)
-      → AreKept key_of s m' led (put at x past)
-  AreKept-put_at x e k up here = rw (← e) (AreKept-put _ x k up here)
-
-  -- two things happened to it
-  pub AreKept-put_two : (view : ℕ) (x y : Item S D P G C) {round : Round S D P G C}
-      → AreOpen key_of s m led past view → Stores m m' view (Some round) → one.Keeps key_of (setup_of s view) round (led view) (x ∷ y ∷ past view)
-      → AreKept key_of s m' led (put view x (put view y past))
-  AreKept-put_two view x y k up here = AreKept-step led (put view x (put view y past)) view k up (rw (is_itself view) here) (rw (is_itself view) (happened x (y ∷ past view) (led view))) (λ u apart. (refl, rw apart refl))
-
-  -- the leader of one view is known now
-  pub AreKept-learn : (view i : ℕ) {round : Round S D P G C}
-      → AreOpen key_of s m led past view → Stores m m' view (Some round) → one.Keeps key_of (setup_of s view) round (option_or (led view) (Some i)) (past view)
-      → IsSome (option_or (led view) (Some i)) → AreKept key_of s m' (learn view i led) past
-  AreKept-learn view i k up here known = AreKept-step (learn view i led) past view k up (rw (is_itself view) here) (inr (rw (is_itself view) known)) (λ u apart. (rw apart refl, refl))
-
-  -- one more thing happened to a view, or nothing did to one of which something is known
-  pub AreKept-unless : (view : ℕ) (x : Item S D P G C) (b : Bool) {round : Round S D P G C}
-      → AreOpen key_of s m led past view → Stores m m' view (Some round) → one.Keeps key_of (setup_of s view) round (led view) (if b then past view else x ∷ past view)
-      → (b ≡ true → IsTracked (past view) (led view)) → AreKept key_of s m' led (if b then past else put view x past)
-  AreKept-unless view x false k up here known = AreKept-put view x k up here
-  AreKept-unless view x true k up here known = AreKept-step led past view k up here (known refl) (λ u apart. (refl, refl))
-
-  -- one more thing happened to a view, or nothing did to one of which something is known
-  pub AreKept-when : (view : ℕ) (x : Item S D P G C) (b : Bool) {round : Round S D P G C}
-      → AreOpen key_of s m led past view → Stores m m' view (Some round) → one.Keeps key_of (setup_of s view) round (led view) (if b then x ∷ past view else past view)
-      → (b ≡ false → IsTracked (past view) (led view)) → AreKept key_of s m' led (if b then put view x past else past)
-  AreKept-when view x true k up here known = AreKept-put view x k up here
-  AreKept-when view x false k up here known = AreKept-step led past view k up here (known refl) (λ u apart. (refl, refl))
-
-  pub AreKept-when_two : (view : ℕ) (x y : Item S D P G C) (b : Bool) {round : Round S D P G C}
-      → AreOpen key_of s m led past view → Stores m m' view (Some round) → one.Keeps key_of (setup_of s view) round (led view) (if b then x ∷ y ∷ past view else past view)
-      → (b ≡ false → IsTracked (past view) (led view)) → AreKept key_of s m' led (if b then put view x (put view y past) else past)
-  AreKept-when_two view x y true k up here known = AreKept-put_two view x y k up here
-  AreKept-when_two view x y false k up here known = AreKept-step led past view k up here (known refl) (λ u apart. (refl, refl))
-
-  -- the same, where the view is named in two ways
-  pub AreKept-when_two_at : {view at : ℕ} (x y : Item S D P G C) (b : Bool) {round : Round S D P G C}
-      → view ≡ at → AreOpen key_of s m led past view → Stores m m' view (Some round) → one.Keeps key_of (setup_of s view) round (led view) (if b then x ∷ y ∷ past view else past view)
-      → (b ≡ false → IsTracked (past view) (led view)) → AreKept key_of s m' led (if b then put at x (put at y past) else past)
-  AreKept-when_two_at x y b e k up here known = rw (← e) (AreKept-when_two _ x y b k up here known)
-
-  -- one more thing happened to a view that has a round, or nothing did
-  pub AreKept-turn : (view : ℕ) (x : Item S D P G C) (b : Bool) {before round : Round S D P G C}
-      → AreKept key_of s m led past → view < 2 ^ 64 → Some before ≡ stored m view → (IsSome (stored m view) → Stores m m' view (Some round))
-      → one.Keeps key_of (setup_of s view) round (led view) (if b then x ∷ past view else past view) → AreKept key_of s m' led (if b then put view x past else past)
-  AreKept-turn view x b k fits found up here = AreKept-when view x b (AreOpen-there view k fits (some-is found)) (up (some-is found)) here (λ _. AreKept-tracked view k fits found)
-
-  pub AreKept-turn_two : (view : ℕ) (x y : Item S D P G C) (b : Bool) {before round : Round S D P G C}
-      → AreKept key_of s m led past → view < 2 ^ 64 → Some before ≡ stored m view → (IsSome (stored m view) → Stores m m' view (Some round))
-      → one.Keeps key_of (setup_of s view) round (led view) (if b then x ∷ y ∷ past view else past view) → AreKept key_of s m' led (if b then put view x (put view y past) else past)
-  AreKept-turn_two view x y b k fits found up here = AreKept-when_two view x y b (AreOpen-there view k fits (some-is found)) (up (some-is found)) here (λ _. AreKept-tracked view k fits found)
-
   -- a round was opened of which nothing is known
   pub AreOpen-new : (view : ℕ) {round : Round S D P G C}
       → AreKept key_of s m led past → view < 2 ^ 64 → stored m view ≡ None → Stores m m' view (Some round) → one.Keeps key_of (setup_of s view) round None []
@@ -158,19 +87,6 @@ module _ {S D P G C : Type 0} {key_of : S → ℕ → P} {s : Common S} {m m' : 
         here = rw (up.1, untouched.1, untouched.0) here;
         others = λ u small apart. rw (up.2 (as_key u) (grind (arith, common_steps))) (k.at u small);
       }
-
-module _ {S D P G C : Type 0} {key_of : S → ℕ → P} {s : Common S} {r : Rounds S D P G C} {m' : BTreeMap (Reverse ℕ) (Round S D P G C)} {led : ℕ → Option ℕ} {past : ℕ → List (Item S D P G C)} where
-  -- of all rounds one thing more happened to a view that has one, or nothing did
-  pub IsKept-turn : (view : ℕ) (x : Item S D P G C) (b : Bool) {before round : Round S D P G C}
-      → IsKept key_of s r led past → view < 2 ^ 64 → Some before ≡ stored r.by_view view → (IsSome (stored r.by_view view) → Stores r.by_view m' view (Some round))
-      → one.Keeps key_of (setup_of s view) round (led view) (if b then x ∷ past view else past view) → IsKept key_of s (record r { by_view = m' }) led (if b then put view x past else past)
-  IsKept-turn view x b k fits found up here = record { scheme = k.scheme; epoch = k.epoch; rounds = AreKept-turn view x b k.rounds fits found up here }
-
-  -- the first certificate of its kind came to a view that is open
-  pub IsKept-first : {view at : ℕ} (x : Item S D P G C) (b : Bool) {round : Round S D P G C}
-      → IsOpen key_of s r led past view → view ≡ at → b ≡ true → Stores r.by_view m' view (Some round)
-      → one.Keeps key_of (setup_of s view) round (led view) (if b then x ∷ past view else past view) → IsKept key_of s (record r { by_view = m' }) led (put at x past)
-  IsKept-first x b k same is up here = record { scheme = k.scheme; epoch = k.epoch; rounds = AreKept-put_at x same k.rounds up (rw is at here) }
 
 -- a leader that is known stays
 pub known-stays : (i : ℕ) (l : Option ℕ) → IsSome l → option_or l (Some i) ≡ l

@@ -1,5 +1,6 @@
 pub mod Handing
 pub mod Laws
+pub mod Lending
 pub mod Marks
 pub mod Pasts
 pub mod Rounds

@@ -1,5 +1,5 @@
 -- What the rounds of all views keep.
-use Rattle.std.specs.Prelude.{◌≡◌, ◌≢◌, ◌⊎◌, ◌↔◌, ◌<◌, ◌≤◌, ◌+◌, ◌^◌, ◌==◌, ℕ, Bool, false, List, [], Option, Some, None, IsSome, IsTrue, MatchOption, nat_lt, if◌then◌else◌, ⊤}
+use Rattle.std.specs.Prelude.{◌≡◌, ◌≢◌, ◌⊎◌, ◌↔◌, ◌<◌, ◌≤◌, ◌^◌, ◌==◌, ℕ, Bool, false, List, [], Option, Some, None, IsSome, IsTrue, MatchOption, nat_lt, if◌then◌else◌, ⊤}
 use Rattle.std.specs.Option.{option_or}
 use Rattle.std.specs.Ordering.{nat_cmp}
 use Rattle.std.specs.declared.cmp.Ordering.{Ordering}

@@ -161,7 +161,9 @@ impl<S: Scheme<D> + Drop, D: Digest> Tracked<S, D> {
     ) -> Result<(), AllocError>
         ensures { OnOk result (AtEach S.Scheme self.old (λ f t. Holds S.Scheme f self.new (record t { past = put view (armed leader certification stall) (put view (entered now) t.past) }))) }
     {
-        self.rounds.enter(view, now, leader, certification, stall)?;
+        let round = self.rounds.open(view)?;
+        round.mark_entered(now);
+        round.set_deadlines(leader, certification, stall);
         Ok(())
     }
 
@@ -169,7 +171,8 @@ impl<S: Scheme<D> + Drop, D: Digest> Tracked<S, D> {
     pub fn add_nullification(&mut self, certificate: Nullification<S, D>) -> Result<(), AllocError>
         ensures { OnOk result (AtEach S.Scheme self.old (λ f t. nullification (t.past certificate.round.view) ≡ None → Holds S.Scheme f self.new (record t { past = put certificate.round.view (nullified certificate) t.past }))) }
     {
-        self.rounds.add_nullification(certificate)?;
+        let view = certificate.view();
+        let _first = self.rounds.open(view)?.add_nullification(certificate);
         Ok(())
     }
 
@@ -184,7 +187,7 @@ impl<S: Scheme<D> + Drop, D: Digest> Tracked<S, D> {
     {
         let view = certificate.view();
         self.direct.mark(view)?;
-        let key = self.rounds.add_notarization(certificate)?;
+        let (_first, key) = self.rounds.open(view)?.add_notarization(certificate);
         Ok(key)
     }
 
@@ -200,7 +203,7 @@ impl<S: Scheme<D> + Drop, D: Digest> Tracked<S, D> {
         let view = certificate.view();
         self.direct.mark(view)?;
         self.certified.mark(view)?;
-        let key = self.rounds.add_finalization(certificate)?;
+        let (_first, key) = self.rounds.open(view)?.add_finalization(certificate);
         Ok(key)
     }
 
@@ -230,7 +233,7 @@ impl<S: Scheme<D> + Drop, D: Digest> Tracked<S, D> {
         ensures keeps { OnOk result (AtEach S.Scheme self.old (λ f t. ((u : ℕ) → IsClosedAt (inherits_by f t) t.led u) → Holds S.Scheme f self.new (proposed f t view proposal.now))) }
         ensures answer { IfOk result (λ first. AtEach S.Scheme self.old (λ f t. IsTrue first ↔ ((has_nullified (t.past view) ≡ false) × (held (offers (t.past view)) ≡ None)))) }
     {
-        let first = self.rounds.forward(view, proposal)?;
+        let first = self.rounds.open(view)?.set_proposal(proposal);
         self.noted.mark(view)?;
         self.follow(view)?;
         Ok(first)

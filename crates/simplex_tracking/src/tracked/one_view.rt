@@ -11,7 +11,7 @@ ghost use Rattle.simplex_tracking.specs.Tracked.{Tables, Holds, AtEach};
 use crate::notice::Notice;
 use crate::tracked::Tracked;
 use simplex_messages::{Artifact, Finalization, Notarization, Nullification};
-use simplex_round::{Leader, TimeoutReason};
+use simplex_round::{Leader, Round, TimeoutReason};
 use simplex_types::{Digest, Proposal, Scheme, View, Viewable};
 use std::alloc::{AllocError, Global};
 
@@ -32,7 +32,7 @@ impl<S: Scheme<D> + Drop, D: Digest> Tracked<S, D> {
         let is_first = !self.is_judged(view);
         self.certified.mark_if(view, is_first && is_success)?;
         self.failed.mark_if(view, is_first && !is_success)?;
-        self.rounds.judge(view, is_success)?;
+        self.rounds.open(view)?.certified(is_success);
         Ok(())
     }
 
@@ -50,7 +50,7 @@ impl<S: Scheme<D> + Drop, D: Digest> Tracked<S, D> {
     pub fn tell(&mut self, view: View, notice: Notice) -> Result<(), AllocError>
         ensures { OnOk result (AtEach S.Scheme self.old (λ f t. Holds S.Scheme f self.new (record t { past = put view (told notice) t.past }))) }
     {
-        self.rounds.tell(view, notice)?;
+        tell(self.rounds.open(view)?, notice);
         Ok(())
     }
 
@@ -59,8 +59,7 @@ impl<S: Scheme<D> + Drop, D: Digest> Tracked<S, D> {
         ensures keeps { OnOk result (AtEach S.Scheme self.old (λ f t. Holds S.Scheme f self.new (record t { past = if has_nullified (t.past view) then t.past else put view (offered confirmed) t.past }))) }
         ensures answer { IfOk result (λ became. AtEach S.Scheme self.old (λ f t. IsTrue became ↔ ((has_nullified (t.past view) ≡ false) × IsUnverified (offers (t.past view))))) }
     {
-        let became = self.rounds.verified(view)?;
-        Ok(became)
+        Ok(self.rounds.open(view)?.verified())
     }
 
     /// Records an own build over its parent's payload: whether it is taken. Else nothing changes.
@@ -73,8 +72,8 @@ impl<S: Scheme<D> + Drop, D: Digest> Tracked<S, D> {
         ensures keeps { IfOk result (λ taken. AtEach S.Scheme self.old (λ f t. Holds S.Scheme f self.new (record t { past = if taken then put proposal.round.view (bound proposal payload) (put proposal.round.view (built now proposal) t.past) else t.past }))) }
         ensures answer { IfOk result (λ taken. AtEach S.Scheme self.old (λ f t. IsTrue taken ↔ ((has_nullified (t.past proposal.round.view) ≡ false) × Agrees (held (offers (t.past proposal.round.view))) proposal))) }
     {
-        let taken = self.rounds.proposed(now, proposal, payload)?;
-        Ok(taken)
+        let round = self.rounds.open(proposal.view())?;
+        Ok(record_build(round, now, proposal, payload))
     }
 
     /// Votes to notarize the view, where it allows that: the held proposal.
@@ -82,7 +81,10 @@ impl<S: Scheme<D> + Drop, D: Digest> Tracked<S, D> {
         ensures keeps { AtEach S.Scheme self.old (λ f t. Holds S.Scheme f self.new (record t { past = if is_some result then put view voted_notarize t.past else t.past })) }
         ensures answer { AtEach S.Scheme self.old (λ f t. MatchOption result (¬ MayNotarize (t.past view)) (λ p. MayNotarize (t.past view) × (held (offers (t.past view)) ≡ Some p))) }
     {
-        self.rounds.construct_notarize(view)
+        match self.rounds.get_mut(view) {
+            Some(round) => round.construct_notarize(),
+            None => None,
+        }
     }
 
     /// Votes to finalize the view, where it allows that: the held proposal.
@@ -90,7 +92,10 @@ impl<S: Scheme<D> + Drop, D: Digest> Tracked<S, D> {
         ensures keeps { AtEach S.Scheme self.old (λ f t. Holds S.Scheme f self.new (record t { past = if is_some result then put view voted_finalize t.past else t.past })) }
         ensures answer { AtEach S.Scheme self.old (λ f t. MatchOption result (¬ MayFinalize (t.past view)) (λ p. MayFinalize (t.past view) × (held (offers (t.past view)) ≡ Some p))) }
     {
-        self.rounds.construct_finalize(view)
+        match self.rounds.get_mut(view) {
+            Some(round) => round.construct_finalize(),
+            None => None,
+        }
     }
 
     /// Votes to nullify the view, unless this member voted to finalize it: whether it did before.
@@ -98,7 +103,7 @@ impl<S: Scheme<D> + Drop, D: Digest> Tracked<S, D> {
         ensures keeps { IfOk result (λ voted. AtEach S.Scheme self.old (λ f t. Holds S.Scheme f self.new (record t { past = if is_some voted then put view voted_nullify t.past else t.past }))) }
         ensures answer { IfOk result (λ voted. AtEach S.Scheme self.old (λ f t. voted ≡ (if has_finalized (t.past view) then None else Some (has_nullified (t.past view))))) }
     {
-        let voted = self.rounds.construct_nullify(view)?;
+        let voted = self.rounds.open(view)?.construct_nullify();
         self.given_up.mark_if(view, voted.is_some())?;
         Ok(voted)
     }
@@ -115,10 +120,8 @@ impl<S: Scheme<D> + Drop, D: Digest> Tracked<S, D> {
         ensures keeps { OnOk result (AtEach S.Scheme self.old (λ f t. Holds S.Scheme f self.new (record t { past = put view (polled (now + retry_interval)) t.past }))) }
         ensures answer { IfOk result (λ timeout. AtEach S.Scheme self.old (λ f t. timeout ≡ next_timeout (polled (now + retry_interval) ∷ t.past view) allow_latched_timeout)) }
     {
-        let timeout = self
-            .rounds
-            .next_timeout(view, now, retry_interval, allow_latched_timeout)?;
-        Ok(timeout)
+        let round = self.rounds.open(view)?;
+        Ok(round.next_timeout(now, retry_interval, allow_latched_timeout))
     }
 
     /// Asks for a build in the view: its leader, this member, where one may be asked for. Else nothing changes.
@@ -126,7 +129,10 @@ impl<S: Scheme<D> + Drop, D: Digest> Tracked<S, D> {
         ensures keeps { AtEach S.Scheme self.old (λ f t. Holds S.Scheme f self.new (record t { past = if is_some result then put view (offered building) t.past else t.past })) }
         ensures answer { AtEach S.Scheme self.old (λ f t. MatchOption result (¬ MayPropose (S.own f.common.scheme) (t.led view) (t.past view)) (λ x. MayPropose (S.own f.common.scheme) (t.led view) (t.past view) × one.IsLeader S.key_of (setup_of f.common view) (t.led view) x)) }
     {
-        self.rounds.try_propose(view)
+        match self.rounds.get_mut(view) {
+            Some(round) => round.try_propose(),
+            None => None,
+        }
     }
 
     /// Asks for a verification of the view's proposal over its parent's payload, and binds it to that: whether one may be asked
@@ -135,7 +141,10 @@ impl<S: Scheme<D> + Drop, D: Digest> Tracked<S, D> {
         ensures keeps { AtEach S.Scheme self.old (λ f t. Holds S.Scheme f self.new (record t { past = if result then put view (bound proposal payload) (put view (offered verifying) t.past) else t.past })) }
         ensures answer { AtEach S.Scheme self.old (λ f t. IsTrue result ↔ MayVerify (S.own f.common.scheme) (t.led view) (t.past view)) }
     {
-        self.rounds.request_verify(view, proposal, payload)
+        match self.rounds.get_mut(view) {
+            Some(round) => request_verify(round, proposal, payload),
+            None => false,
+        }
     }
 
     /// A copy of the notarization of the view to hand out, once.
@@ -147,8 +156,10 @@ impl<S: Scheme<D> + Drop, D: Digest> Tracked<S, D> {
         ensures keeps { IfOk result (λ copy. AtEach S.Scheme self.old (λ f t. Holds S.Scheme f self.new (record t { past = if is_some copy then put view sent_notarization t.past else t.past }))) }
         ensures answer { IfOk result (λ copy. AtEach S.Scheme self.old (λ f t. copy ≡ (if has_sent_notarization (t.past view) then None else notarization (t.past view)))) }
     {
-        let copy = self.rounds.broadcast_notarization(alloc, view)?;
-        Ok(copy)
+        match self.rounds.get_mut(view) {
+            Some(round) => Ok(round.broadcast_notarization(alloc)?),
+            None => Ok(None),
+        }
     }
 
     /// A copy of the nullification of the view to hand out, once.
@@ -160,8 +171,10 @@ impl<S: Scheme<D> + Drop, D: Digest> Tracked<S, D> {
         ensures keeps { IfOk result (λ copy. AtEach S.Scheme self.old (λ f t. Holds S.Scheme f self.new (record t { past = if is_some copy then put view sent_nullification t.past else t.past }))) }
         ensures answer { IfOk result (λ copy. AtEach S.Scheme self.old (λ f t. copy ≡ (if has_sent_nullification (t.past view) then None else nullification (t.past view)))) }
     {
-        let copy = self.rounds.broadcast_nullification(alloc, view)?;
-        Ok(copy)
+        match self.rounds.get_mut(view) {
+            Some(round) => Ok(round.broadcast_nullification(alloc)?),
+            None => Ok(None),
+        }
     }
 
     /// A copy of the finalization of the view to hand out, once.
@@ -173,8 +186,10 @@ impl<S: Scheme<D> + Drop, D: Digest> Tracked<S, D> {
         ensures keeps { IfOk result (λ copy. AtEach S.Scheme self.old (λ f t. Holds S.Scheme f self.new (record t { past = if is_some copy then put view sent_finalization t.past else t.past }))) }
         ensures answer { IfOk result (λ copy. AtEach S.Scheme self.old (λ f t. copy ≡ (if has_sent_finalization (t.past view) then None else finalization (t.past view)))) }
     {
-        let copy = self.rounds.broadcast_finalization(alloc, view)?;
-        Ok(copy)
+        match self.rounds.get_mut(view) {
+            Some(round) => Ok(round.broadcast_finalization(alloc)?),
+            None => Ok(None),
+        }
     }
 
     /// Takes in an artifact of this member's record.
@@ -196,7 +211,60 @@ impl<S: Scheme<D> + Drop, D: Digest> Tracked<S, D> {
     pub fn bind(&mut self, proposal: Proposal<D>, payload: Option<D>) -> Result<(), AllocError>
         ensures { OnOk result (AtEach S.Scheme self.old (λ f t. Holds S.Scheme f self.new (record t { past = bind payload proposal t.past }))) }
     {
-        self.rounds.bind(proposal, payload)?;
+        let Some(payload) = payload else {
+            return Ok(());
+        };
+        self.rounds
+            .open(proposal.view())?
+            .set_verifying(proposal, payload);
         Ok(())
     }
+}
+
+/// Takes in what needs no answer.
+fn tell<S: Scheme<D>, D: Digest>(round: &mut Round<S, D>, notice: Notice)
+    ensures { one.Becomes S.key_of round.old round.new (λ h. told notice ∷ h) }
+{
+    match notice {
+        Notice::Latched(now, reason) => round.latch_timeout(now, reason),
+        Notice::Unbound => round.clear_verifying(),
+        Notice::BuildReleased => round.clear_proposal_request(),
+        Notice::AncestryAsked(missing) => {
+            let _first = round.request(missing);
+        }
+        Notice::CertifyAsked(handle) => round.set_certify_handle(handle),
+    }
+}
+
+/// Records an own build over its parent's payload: whether it is taken.
+fn record_build<S: Scheme<D>, D: Digest>(
+    round: &mut Round<S, D>,
+    now: u64,
+    proposal: Proposal<D>,
+    payload: D,
+) -> bool
+    ensures keeps { one.Becomes S.key_of round.old round.new (λ h. if result then bound proposal payload ∷ built now proposal ∷ h else h) }
+    ensures answer { one.AtEach S.key_of round.old (λ s l h. IsTrue result ↔ ((has_nullified h ≡ false) × Agrees (held (offers h)) proposal)) }
+{
+    if !round.proposed(now, proposal) {
+        return false;
+    }
+    round.set_verifying(proposal, payload);
+    true
+}
+
+/// Asks for a verification of the proposal over its parent's payload, and binds it to that: whether one may be asked for.
+fn request_verify<S: Scheme<D>, D: Digest>(
+    round: &mut Round<S, D>,
+    proposal: Proposal<D>,
+    payload: D,
+) -> bool
+    ensures keeps { one.Becomes S.key_of round.old round.new (λ h. if result then bound proposal payload ∷ offered verifying ∷ h else h) }
+    ensures answer { one.AtEach S.key_of round.old (λ s l h. IsTrue result ↔ MayVerify (S.own s.scheme) l h) }
+{
+    if !round.request_verify() {
+        return false;
+    }
+    round.set_verifying(proposal, payload);
+    true
 }

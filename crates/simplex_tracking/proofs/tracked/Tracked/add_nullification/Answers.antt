@@ -1,10 +1,17 @@
 use Rattle.std.proofs.Common.{refl}
 use Rattle.simplex_round.specs.Past.{nullified}
 use Rattle.simplex_tracking.specs.Tracked.{Holds}
+use Rattle.simplex_tracking.proofs.Choices.{none_is}
 use Rattle.simplex_tracking.proofs.Growing.{plain-kept, put-plain, still-plain}
+use Rattle.simplex_tracking.proofs.Lent.{lent-first}
 use Rattle.simplex_tracking.proofs.tracked.Tracked.add_nullification.Goals as goal
 
 pub returns : goal.returns
 unfolding Holds
-returns g c = λ f t k none. plain-kept k (c.in_ok-add_nullification.ensures f.common t.led t.past k.rounds none)
-    (put-plain c.args.certificate.round.view (nullified c.args.certificate) (λ l. refl) (still-plain t.past))
+returns g c = λ f t k none.
+    let view = c.args.certificate.round.view in
+    let here = rw c.view-view.ensures at (c.in_ok-open.ensures.stands f.common t.led t.past k.rounds) in
+    let follows = rw c.view-view.ensures at (c.open.follows.holds c.add_nullification-first.new.self (rw c.in_ok-open.was refl)) in
+    let first = none_is (c.add_nullification-first.ensures.first _ _ _ here) none in
+    plain-kept k (lent-first f.common t.led t.past (nullified c.args.certificate) _ first follows k.rounds (c.add_nullification-first.ensures.keeps _ _ _ here))
+    (put-plain view (nullified c.args.certificate) (λ l. refl) (still-plain t.past))

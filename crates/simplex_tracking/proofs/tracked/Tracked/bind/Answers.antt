@@ -1,8 +1,16 @@
+use Rattle.std.proofs.Common.{refl}
+use Rattle.std.specs.Prelude.{Some}
+use Rattle.simplex_round.specs.Past.{bound}
 use Rattle.simplex_tracking.specs.Tracked.{Holds}
 use Rattle.simplex_tracking.proofs.Growing.{bound-plain, plain-kept}
+use Rattle.simplex_tracking.proofs.Lent.{lent-put}
 use Rattle.simplex_tracking.proofs.tracked.Tracked.bind.Goals as goal
 
 pub returns : goal.returns
 unfolding Holds
-returns g c = λ f t k. plain-kept k (c.in_ok-bind.ensures f.common t.led t.past k.rounds)
-    (bound-plain c.args.payload c.args.proposal t.past)
+returns g c = λ f t k.
+    let here = rw c.view.ensures at (c.in_ok-open.ensures.stands f.common t.led t.past k.rounds) in
+    let follows = rw c.view.ensures at (c.open.follows.holds c.set_verifying.new.self (rw c.in_ok-open.was refl)) in
+    rw c.in-Some.is
+    (plain-kept k (lent-put f.common t.led t.past (bound c.args.proposal c.in-Some.payload) follows k.rounds (c.set_verifying.ensures _ _ _ here))
+    (bound-plain (Some c.in-Some.payload) c.args.proposal t.past))

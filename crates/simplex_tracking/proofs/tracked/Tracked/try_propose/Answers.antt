@@ -4,9 +4,29 @@ use Rattle.simplex_round.specs.Held.{building}
 use Rattle.simplex_round.specs.Past.{offered}
 use Rattle.simplex_tracking.specs.Tracked.{Holds}
 use Rattle.simplex_tracking.proofs.Growing.{either-plain, plain-kept, put-plain, still-plain}
+use Rattle.simplex_tracking.proofs.Lent.{lent-when}
 use Rattle.simplex_tracking.proofs.tracked.Tracked.try_propose.Goals as goal
 
-pub returns-clause-keeps : goal.returns-clause-keeps
+pub returns-in-Some-clause-keeps : goal.returns-in-Some-clause-keeps
 unfolding Holds
-returns-clause-keeps g c = λ f t k. plain-kept k (c.try_propose.ensures.keeps f.common t.led t.past k.rounds)
-    (either-plain (is_some c.try_propose.result) (put-plain c.args.view (offered building) (λ l. refl) (still-plain t.past)) (still-plain t.past))
+returns-in-Some-clause-keeps g c = λ f t k.
+    let here = c.in-Some.ensures.stands f.common t.led t.past k.rounds in
+    let follows = rw c.in-Some.is at (c.get_mut.follows.holds c.try_propose.new.self) in
+    let asked = is_some c.try_propose.result in
+    plain-kept k (lent-when f.common t.led t.past (offered building) asked follows k.rounds (c.try_propose.ensures.keeps _ _ _ here.1) (λ _. here.0))
+    (either-plain asked (put-plain c.args.view (offered building) (λ l. refl) (still-plain t.past)) (still-plain t.past))
+
+pub returns-in-Some-clause-answer : goal.returns-in-Some-clause-answer
+unfolding Holds
+returns-in-Some-clause-answer g c = λ f t k. c.try_propose.ensures.answer _ _ _ (c.in-Some.ensures.stands f.common t.led t.past k.rounds).1
+
+pub returns-in-None-clause-keeps : goal.returns-in-None-clause-keeps
+unfolding Holds
+returns-in-None-clause-keeps g c = λ f t k. plain-kept k (c.get_mut.follows.holds-at-none f.common t.led t.past k.rounds) (still-plain t.past)
+
+pub returns-in-None-clause-answer : goal.returns-in-None-clause-answer
+unfolding Holds
+returns-in-None-clause-answer g c = λ f t k may.
+    let nothing = c.in-None.ensures.stands f.common t.led t.past k.rounds in
+    let leads = may.leads.0 in
+    absurd (cc (rw nothing.1 at leads))

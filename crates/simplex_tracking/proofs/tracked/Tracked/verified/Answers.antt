@@ -3,9 +3,19 @@ use Rattle.simplex_round.specs.Held.{confirmed}
 use Rattle.simplex_round.specs.Past.{has_nullified, offered}
 use Rattle.simplex_tracking.specs.Tracked.{Holds}
 use Rattle.simplex_tracking.proofs.Growing.{either-plain, plain-kept, put-plain, still-plain}
+use Rattle.simplex_tracking.proofs.Lent.{lent-unless}
+use Rattle.simplex_tracking.proofs.Tables.{nullified_tracked}
 use Rattle.simplex_tracking.proofs.tracked.Tracked.verified.Goals as goal
 
 pub returns-clause-keeps : goal.returns-clause-keeps
 unfolding Holds
-returns-clause-keeps g c = λ f t k. plain-kept k (c.in_ok-became.ensures.keeps f.common t.led t.past k.rounds)
-    (either-plain (has_nullified (t.past c.args.view)) (still-plain t.past) (put-plain c.args.view (offered confirmed) (λ l. refl) (still-plain t.past)))
+returns-clause-keeps g c = λ f t k.
+    let view = c.args.view in
+    let here = c.in_ok-open.ensures.stands f.common t.led t.past k.rounds in
+    let follows = c.open.follows.holds c.verified.new.self (rw c.in_ok-open.was refl) in
+    plain-kept k (lent-unless f.common t.led t.past (offered confirmed) (has_nullified (t.past view)) follows k.rounds (c.verified.ensures.keeps _ _ _ here) (nullified_tracked (t.past view) (t.led view)))
+    (either-plain (has_nullified (t.past view)) (still-plain t.past) (put-plain view (offered confirmed) (λ l. refl) (still-plain t.past)))
+
+pub returns-clause-answer : goal.returns-clause-answer
+unfolding Holds
+returns-clause-answer g c = λ f t k. c.verified.ensures.answer _ _ _ (c.in_ok-open.ensures.stands f.common t.led t.past k.rounds)

@@ -1,0 +1,24 @@
+use Rattle.std.proofs.Common.{refl, ◌∙◌}
+use Rattle.simplex_tracking.specs.Rounds.{Keep}
+use Rattle.simplex_tracking.proofs.Choices.{none_from_test}
+use Rattle.simplex_tracking.proofs.Tables.{AreOpen-new, AreOpen-there, same_setup}
+use Rattle.simplex_tracking.proofs.rounds.Rounds.add.Goals as goal
+
+pub returns-then-contains_key-clause-opens : goal.returns-then-contains_key-clause-opens
+unfolding Keep
+returns-then-contains_key-clause-opens g c = λ s led past k. record {
+  scheme = k.scheme;
+  epoch = k.epoch;
+  rounds = AreOpen-there c.args.view k.rounds c.get-number.ensures.fits (rw (← c.if-contains_key.ensures) refl);
+}
+
+pub returns-clause-opens : goal.returns-clause-opens
+unfolding Keep
+returns-clause-opens g c = λ s led past k.
+    let d = c.new-round.ensures in
+    let same = same_setup (c.in_ok-clone.ensures.cases ∙ k.scheme) (c.new.ensures.epoch ∙ k.epoch) c.new.ensures.view in
+    record {
+      scheme = k.scheme;
+      epoch = k.epoch;
+      rounds = AreOpen-new c.args.view k.rounds c.get-number.ensures.fits (none_from_test c.if-contains_key.ensures) c.in_ok-insert.ensures.updates (rw same at d);
+    }

@@ -1,0 +1,12 @@
+use Rattle.std.proofs.Common.{refl}
+use Rattle.simplex_tracking.specs.Rounds.{Keep}
+use Rattle.simplex_tracking.proofs.Lent.{Follows-known, known-stands}
+use Rattle.simplex_tracking.proofs.rounds.Rounds.get_mut.Goals as goal
+
+pub returns : goal.returns
+unfolding Keep
+returns g c =
+    let fits = c.get-number.ensures.fits in (
+      (refl, λ w. Follows-known _ c.args.self.now _ c.args.view w c.get_mut.result c.get_mut.ensures.value fits (c.get_mut.follows.holds w).3, λ s led past k. rw c.get_mut.follows.holds-at-none k),
+      record { writes_back = tt; stands = λ s led past k. known-stands _ _ c.get_mut.result (rw c.get_mut.ensures.value (k.rounds.at c.args.view fits)) },
+    )
