@@ -88,19 +88,10 @@ module _ {S D P G C : Type 0} {key_of : S → ℕ → P} {s : Common S} {m m' : 
         others = λ u small apart. rw (up.2 (as_key u) (grind (arith, common_steps))) (k.at u small);
       }
 
--- a leader that is known stays
-pub known-stays : (i : ℕ) (l : Option ℕ) → IsSome l → option_or l (Some i) ≡ l
-known-stays i None known = absurd (cc known)
-known-stays i (Some x) known = refl
-
--- a leader is known where a round names one
-pub is-led : {A : Type 0} (f : A → ℕ) (o : Option (Bor A)) {l : Option ℕ} → option_map f (option_copied o) ≡ l → true ≡ is_some o → IsSome l
-is-led f None e some = absurd (cc some)
-is-led f (Some x) e some = rw (← e) refl
-
-pub is-unled : {A : Type 0} (f : A → ℕ) (o : Option (Bor A)) {l : Option ℕ} → option_map f (option_copied o) ≡ l → false ≡ is_some o → l ≡ None
-is-unled f None e none = sym e
-is-unled f (Some x) e none = absurd (cc none)
+-- a leader is known where one was named
+pub is-named : (l : Option ℕ) (i : ℕ) → IsSome (option_or l (Some i))
+is-named None i = refl
+is-named (Some x) i = refl
 
 -- what an option holds is one thing
 abbrev held_by : ℕ → Option ℕ → ℕ

@@ -109,12 +109,7 @@ impl<S: Scheme<D> + Drop, D: Digest> Rounds<S, D> {
         ensures keeps { OnOk result (AtEach S.key_of self.old (λ s led past. leader < S.size s.scheme → Keep S.key_of s self.new (learn view leader led) past)) }
         ensures answer { IfOk result (λ new. AtEach S.key_of self.old (λ s led past. new ≡ is_none (led view))) }
     {
-        let round = self.open(view)?;
-        if round.leader().is_some() {
-            return Ok(false);
-        }
-        round.set_leader(leader);
-        Ok(true)
+        Ok(self.open(view)?.learn_leader(leader))
     }
 
     /// Takes in an artifact of this member's record.
