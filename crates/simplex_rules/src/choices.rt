@@ -54,8 +54,19 @@ impl<D: Digest> Choices<D> {
         self.get(round).is_some()
     }
 
-    /// The round's choice, if it has one.
+    /// The round's choice, if it has one. The last round is looked at first, since reports come round by round.
     fn get(&self, round: &Round) -> Option<&Choice<D>>
+        ensures { option_copied result ≡ choice_in self.now round.now }
+    {
+        match self.ascending.last() {
+            Some((last, choice)) if last == round => Some(choice),
+            _ => self.search(round),
+        }
+    }
+
+    /// The round's choice, if it has one, wherever it stands. It is not inlined, since most rounds that are looked for are the last.
+    #[inline(never)]
+    fn search(&self, round: &Round) -> Option<&Choice<D>>
         ensures { option_copied result ≡ choice_in self.now round.now }
     {
         match choice_among(&self.ascending, round) {
@@ -109,7 +120,7 @@ fn is_above<D: Digest>(ascending: &[(Round, Choice<D>)], round: &Round) -> bool
     }
 }
 
-/// The round's choice, if it stands among these. The last is looked at first, since reports come round by round.
+/// The round's choice, if it stands among these. Most rounds that don't are above the last.
 fn choice_among<'a, D: Digest>(
     ascending: &'a [(Round, Choice<D>)],
     round: &Round,

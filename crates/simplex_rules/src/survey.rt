@@ -111,7 +111,8 @@ fn contest<D: Digest>(
     Ok(())
 }
 
-/// Notes what a vote is for.
+/// Notes what a vote is for. It is inlined, since a report that is lent has to be laid down as a whole.
+#[inline(always)]
 fn note<K: ProposalKind<D>, S: Scheme<D>, D: Digest>(
     chosen: &mut Choices<D>,
     contested: &mut BTreeSet<Suspect>,
@@ -119,7 +120,7 @@ fn note<K: ProposalKind<D>, S: Scheme<D>, D: Digest>(
 ) -> Result<(), AllocError>
     ensures { OnOk result (Notes chosen.old chosen.new contested.old contested.new (vote.now ∷ [])) }
 {
-    // A copy, since a report that is pointed into has to be laid down as a whole.
+    // A copy, for the same reason.
     let proposal = vote.proposal;
     if !chosen.choose(&proposal)? {
         insert(contested, proposal.round, &vote.attestation)?;
