@@ -58,26 +58,53 @@ fn read<'a>(
     None
 }
 
+/// By rounds what the first vote is for.
+#[derive(Default)]
+struct Choices<'a> {
+    /// The rounds that came in order, each above all that came before.
+    ascending: Vec<(Round, Choice<'a>)>,
+    /// The rounds that came late, when one above them had come.
+    late: BTreeMap<Round, Choice<'a>>,
+}
+
+impl<'a> Choices<'a> {
+    /// What the round's first vote is for: this, where it has none.
+    fn choose(&mut self, round: Round, choice: Choice<'a>) -> Choice<'a> {
+        match self.ascending.last() {
+            Some((last, first)) if *last == round => return *first,
+            Some((last, _)) if *last > round => {}
+            _ => {
+                self.ascending.push((round, choice));
+                return choice;
+            }
+        }
+        match self.place_of(&round) {
+            Ok(place) => self.ascending[place].1,
+            Err(_) => *self.late.entry(round).or_insert(choice),
+        }
+    }
+
+    /// Where the round stands among those that came in order, or would stand.
+    fn place_of(&self, round: &Round) -> Result<usize, usize> {
+        self.ascending.binary_search_by_key(round, |(round, _)| *round)
+    }
+
+    fn contains(&self, round: &Round) -> bool {
+        self.place_of(round).is_ok() || self.late.contains_key(round)
+    }
+}
+
 /// What the votes of one kind are for.
 #[derive(Default)]
 struct Proposed<'a> {
-    /// By rounds what the first vote is for.
-    chosen: BTreeMap<Round, Choice<'a>>,
+    chosen: Choices<'a>,
     /// Who voted for something else.
     contested: BTreeSet<Suspect>,
 }
 
 impl<'a> Proposed<'a> {
-    /// What the round's first vote is for: this, where it has none.
-    fn choose(&mut self, round: Round, choice: Choice<'a>) -> Choice<'a> {
-        match self.chosen.last_key_value() {
-            Some((last, first)) if *last == round => *first,
-            _ => *self.chosen.entry(round).or_insert(choice),
-        }
-    }
-
     fn note(&mut self, round: Round, choice: Choice<'a>, attestations: &[Attestation]) {
-        if self.choose(round, choice) != choice {
+        if self.chosen.choose(round, choice) != choice {
             self.contested.extend(attestations.iter().map(|attestation| (round, attestation.signer)));
         }
     }
@@ -108,7 +135,7 @@ impl<'a> Survey<'a> {
         let mut contested = self.notarizes.contested;
         contested.append(&mut self.finalizes.contested);
         let finalized = &self.finalizes.chosen;
-        contested.extend(self.nullifies.iter().filter(|(round, _)| finalized.contains_key(round)));
+        contested.extend(self.nullifies.iter().filter(|(round, _)| finalized.contains(round)));
         contested
     }
 }

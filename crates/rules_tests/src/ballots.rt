@@ -11,7 +11,7 @@ use std::alloc::{AllocError, Global};
 use std::process::Abort;
 use std::test::Fail;
 
-/// A member's vote in view 2, by the byte that its payload repeats, if it has one, and its signature's
+/// A member's vote in a round, by the byte that its payload repeats, if it has one, and its signature's
 /// counter. A signature with the counter 0, or one of 100 and more, is on something else.
 #[derive(Clone, Copy)]
 pub(crate) enum Vote {
@@ -20,14 +20,34 @@ pub(crate) enum Vote {
     Finalize(u8, u64),
 }
 
+/// A member in a round.
+#[derive(Clone, Copy)]
+pub(crate) struct Seat<'a> {
+    pub(crate) scheme: &'a SaltedScheme,
+    pub(crate) round: Round,
+}
+
 /// View 2.
 pub(crate) fn round() -> Round {
     Round::new(Epoch::new(0), View::new(2))
 }
 
+/// The scheme's member in view 2.
+pub(crate) fn in_view_2(scheme: &SaltedScheme) -> Seat<'_> {
+    Seat {
+        scheme,
+        round: round(),
+    }
+}
+
 /// The proposal of 32 such bytes in view 2.
 pub(crate) fn proposal(payload: u8) -> Proposal<Sha256Digest> {
-    Proposal::new(round(), View::new(1), Sha256Digest::new([payload; 32]))
+    proposal_in(round(), payload)
+}
+
+/// The proposal of 32 such bytes in the round.
+fn proposal_in(round: Round, payload: u8) -> Proposal<Sha256Digest> {
+    Proposal::new(round, View::new(1), Sha256Digest::new([payload; 32]))
 }
 
 /// The committee of four, seen by member 1.
@@ -35,76 +55,87 @@ pub(crate) fn salted(alloc: Global) -> Result<SaltedScheme, AllocError> {
     SaltedScheme::new(alloc, b"simplex", 4, Some(Participant::new(1)), 0)
 }
 
-/// The scheme's member's attestation that stands in the vote.
-fn attestation(scheme: &SaltedScheme, vote: Vote) -> Option<Attestation<SaltedSignature>> {
+/// The member's attestation that stands in the vote.
+fn attestation(seat: Seat, vote: Vote) -> Option<Attestation<SaltedSignature>> {
     let elsewhere = Subject::<Sha256Digest>::Nullify(Round::new(Epoch::new(0), View::new(9)));
     match vote {
         Vote::Notarize(_, forged) | Vote::Nullify(forged) | Vote::Finalize(_, forged)
-            if forged == 0 || forged >= 100 => { scheme.sign_with(forged, &elsewhere) }
+            if forged == 0 || forged >= 100 => { seat.scheme.sign_with(forged, &elsewhere) }
         Vote::Notarize(payload, counter) => {
-            scheme.sign_with(counter, &Subject::Notarize(&proposal(payload)))
+            let proposed = proposal_in(seat.round, payload);
+            seat.scheme
+                .sign_with(counter, &Subject::Notarize(&proposed))
         }
         Vote::Nullify(counter) => {
-            scheme.sign_with(counter, &Subject::<Sha256Digest>::Nullify(round()))
+            let given_up = Subject::<Sha256Digest>::Nullify(seat.round);
+            seat.scheme.sign_with(counter, &given_up)
         }
         Vote::Finalize(payload, counter) => {
-            scheme.sign_with(counter, &Subject::Finalize(&proposal(payload)))
+            let proposed = proposal_in(seat.round, payload);
+            seat.scheme
+                .sign_with(counter, &Subject::Finalize(&proposed))
         }
     }
 }
 
 /// Whether the vote verifies.
-pub(crate) fn verifies(scheme: &SaltedScheme, vote: Vote) -> Result<bool, Fail> {
-    let signed = attestation(scheme, vote).ok_or("no key")?;
+pub(crate) fn verifies(seat: Seat, vote: Vote) -> Result<bool, Fail> {
+    let signed = attestation(seat, vote).ok_or("no key")?;
     Ok(match vote {
         Vote::Notarize(payload, _) => {
-            scheme.verify_attestation(&Subject::Notarize(&proposal(payload)), &signed)
+            let proposed = proposal_in(seat.round, payload);
+            seat.scheme
+                .verify_attestation(&Subject::Notarize(&proposed), &signed)
         }
         Vote::Nullify(_) => {
-            scheme.verify_attestation(&Subject::<Sha256Digest>::Nullify(round()), &signed)
+            let given_up = Subject::<Sha256Digest>::Nullify(seat.round);
+            seat.scheme.verify_attestation(&given_up, &signed)
         }
         Vote::Finalize(payload, _) => {
-            scheme.verify_attestation(&Subject::Finalize(&proposal(payload)), &signed)
+            let proposed = proposal_in(seat.round, payload);
+            seat.scheme
+                .verify_attestation(&Subject::Finalize(&proposed), &signed)
         }
     })
 }
 
-/// Appends what the vote is on: epoch 0, view 2, and for a proposal its parent 1 and its payload.
-fn append_content(out: &mut Vec<u8>, vote: Vote) -> Result<(), AllocError> {
+/// Appends what the vote is on: the round, and for a proposal its parent 1 and its payload.
+fn append_content(out: &mut Vec<u8>, round: Round, vote: Vote) -> Result<(), AllocError> {
+    round.write(out)?;
     match vote {
         Vote::Notarize(payload, _) | Vote::Finalize(payload, _) => {
-            out.extend_from_slice(&[0, 2, 1])?;
+            out.push(1)?;
             out.extend_from_slice(&[payload; 32])
         }
-        Vote::Nullify(_) => out.extend_from_slice(&[0, 2]),
+        Vote::Nullify(_) => Ok(()),
     }
 }
 
 /// Appends the votes, one behind the other.
-fn append_votes(out: &mut Vec<u8>, scheme: &SaltedScheme, votes: &[Vote]) -> Result<(), Fail> {
+fn append_votes(out: &mut Vec<u8>, seat: Seat, votes: &[Vote]) -> Result<(), Fail> {
     for vote in votes {
-        append_content(out, *vote)?;
-        let signed = attestation(scheme, *vote).ok_or("no key")?;
+        append_content(out, seat.round, *vote)?;
+        let signed = attestation(seat, *vote).ok_or("no key")?;
         signed.write(out)?;
     }
     Ok(())
 }
 
-/// Reports of these tags and votes of member 1, one behind the other.
+/// Reports of these tags and votes of member 1 in view 2, one behind the other.
 pub(crate) fn stream(alloc: Global, reports: &[(u8, &[Vote])]) -> Result<Vec<u8>, Fail> {
-    stream_by(alloc, &salted(alloc)?, reports)
+    stream_by(alloc, in_view_2(&salted(alloc)?), reports)
 }
 
-/// Reports of these tags and votes of the scheme's member, one behind the other.
+/// Reports of these tags and votes of the member in the round, one behind the other.
 pub(crate) fn stream_by(
     alloc: Global,
-    scheme: &SaltedScheme,
+    seat: Seat,
     reports: &[(u8, &[Vote])],
 ) -> Result<Vec<u8>, Fail> {
     let mut out = Vec::new(alloc);
     for (tag, votes) in reports {
         out.push(*tag)?;
-        append_votes(&mut out, scheme, votes)?;
+        append_votes(&mut out, seat, votes)?;
     }
     Ok(out)
 }
@@ -120,26 +151,22 @@ pub(crate) fn tag_of(vote: Vote) -> u8
     }
 }
 
-/// Member 1's votes as loose reports, one behind the other.
+/// Member 1's votes in view 2 as loose reports, one behind the other.
 pub(crate) fn loose(alloc: Global, votes: &[Vote]) -> Result<Vec<u8>, Fail> {
     let scheme = salted(alloc)?;
     let mut out = Vec::new(alloc);
     for vote in votes {
         out.push(tag_of(*vote))?;
-        append_votes(&mut out, &scheme, &[*vote])?;
+        append_votes(&mut out, in_view_2(&scheme), &[*vote])?;
     }
     Ok(out)
 }
 
-/// Appends a certificate that lists the vote of the scheme's member alone.
-pub(crate) fn append_listed(
-    out: &mut Vec<u8>,
-    scheme: &SaltedScheme,
-    vote: Vote,
-) -> Result<(), Fail> {
-    let signed = attestation(scheme, vote).ok_or("no key")?;
+/// Appends a certificate that lists the vote of the member alone.
+pub(crate) fn append_listed(out: &mut Vec<u8>, seat: Seat, vote: Vote) -> Result<(), Fail> {
+    let signed = attestation(seat, vote).ok_or("no key")?;
     out.push(tag_of(vote) + 1)?;
-    append_content(out, vote)?;
+    append_content(out, seat.round, vote)?;
     out.push(1)?;
     signed.write(out)?;
     Ok(())

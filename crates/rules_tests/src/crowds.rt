@@ -1,20 +1,33 @@
-//! Votes of several members in one round, of which the first may be any member's, and forged.
+//! Votes of several members in a few rounds, of which the first may be any member's, and forged.
 
 use crate::ballots::Vote::Notarize;
-use crate::ballots::{Vote, append_listed, evidence, salted, stream_by, tag_of};
+use crate::ballots::{
+    Seat, Vote, append_listed, evidence, in_view_2, round, salted, stream_by, tag_of,
+};
 use crate::claims::{FORGED, drawn, verified_first, vote_of};
 use crate::holds::holds;
 use simplex_rules::SaltedScheme;
-use simplex_types::Participant;
+use simplex_types::{Epoch, Participant, Round, View};
 use std::alloc::{AllocError, Global};
 use std::test::Fail;
 
 /// A member's vote, loose or as the only one that a certificate lists.
 #[derive(Clone, Copy)]
 struct Ballot {
+    round: Round,
     member: usize,
     is_listed: bool,
     vote: Vote,
+}
+
+/// Rounds of two epochs, in their order. Ballots go through them in any order, so most streams have some that come late.
+fn rounds() -> [Round; 4] {
+    [
+        round(),
+        Round::new(Epoch::new(0), View::new(u64::MAX)),
+        Round::new(Epoch::new(1), View::new(2)),
+        Round::new(Epoch::new(1), View::new(3)),
+    ]
 }
 
 /// Three members of the committee of four.
@@ -30,11 +43,14 @@ fn members(alloc: Global) -> Result<[SaltedScheme; 3], AllocError> {
 fn reports(alloc: Global, members: &[SaltedScheme], ballots: &[Ballot]) -> Result<Vec<u8>, Fail> {
     let mut out = Vec::new(alloc);
     for ballot in ballots {
-        let scheme = members.get(ballot.member).ok_or("no member")?;
+        let seat = Seat {
+            scheme: members.get(ballot.member).ok_or("no member")?,
+            round: ballot.round,
+        };
         if ballot.is_listed {
-            append_listed(&mut out, scheme, ballot.vote)?;
+            append_listed(&mut out, seat, ballot.vote)?;
         } else {
-            let loose = stream_by(alloc, scheme, &[(tag_of(ballot.vote), &[ballot.vote])])?;
+            let loose = stream_by(alloc, seat, &[(tag_of(ballot.vote), &[ballot.vote])])?;
             out.extend_from_slice(&loose)?;
         }
     }
@@ -48,14 +64,17 @@ fn verified_each(
     ballots: &[Ballot],
 ) -> Result<Vec<u8>, Fail> {
     let mut out = Vec::new(alloc);
-    for (member, scheme) in members.iter().enumerate() {
-        let mut votes = Vec::new(alloc);
-        for ballot in ballots {
-            if ballot.member == member {
-                votes.push(ballot.vote)?;
+    for round in rounds() {
+        for (member, scheme) in members.iter().enumerate() {
+            let mut votes = Vec::new(alloc);
+            for ballot in ballots {
+                if ballot.round == round && ballot.member == member {
+                    votes.push(ballot.vote)?;
+                }
             }
+            let seat = Seat { scheme, round };
+            out.extend_from_slice(&verified_first(alloc, seat, &votes)?)?;
         }
-        out.extend_from_slice(&verified_first(alloc, scheme, &votes)?)?;
     }
     Ok(out)
 }
@@ -63,6 +82,7 @@ fn verified_each(
 /// The ballot of these bits.
 fn ballot_of(bits: u64) -> Ballot {
     Ballot {
+        round: rounds()[(bits / 216 % 4) as usize],
         member: (bits / 36 % 3) as usize,
         is_listed: bits / 108 % 2 == 0,
         vote: vote_of(bits),
@@ -78,7 +98,7 @@ fn ten_thousand_streams_of_three_members_are_judged_as_by_verifying_each_vote(
     let mut state = 1_u64;
     for _ in 0..10_000 {
         let mut ballots = Vec::new(alloc);
-        for _ in 0..12 {
+        for _ in 0..24 {
             state = drawn(state);
             ballots.push(ballot_of(state >> 33))?;
         }
@@ -101,6 +121,7 @@ fn flood(alloc: Global, falling: bool) -> Result<Vec<Ballot>, AllocError> {
                 _ => Notarize(payload, FORGED + u64::from(step)),
             };
             ballots.push(Ballot {
+                round: round(),
                 member,
                 is_listed: false,
                 vote,
@@ -115,8 +136,8 @@ fn a_flood_of_forged_proposals_of_each_member_hides_nothing(rt: HostRuntime) -> 
     let alloc = rt.alloc();
     let (scheme, members) = (salted(alloc)?, members(alloc)?);
     let two: [Vote; 2] = [Notarize(110, 2), Notarize(120, 1)];
-    let mut wanted = stream_by(alloc, &members[0], &[(7, &two)])?;
-    wanted.extend_from_slice(&stream_by(alloc, &members[2], &[(7, &two)])?)?;
+    let mut wanted = stream_by(alloc, in_view_2(&members[0]), &[(7, &two)])?;
+    wanted.extend_from_slice(&stream_by(alloc, in_view_2(&members[2]), &[(7, &two)])?)?;
     for falling in [false, true] {
         let bytes = reports(alloc, &members, &flood(alloc, falling)?)?;
         holds(&rt, evidence(&rt, alloc, &scheme, &bytes)? == wanted);

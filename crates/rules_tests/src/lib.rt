@@ -20,6 +20,8 @@ mod kind;
 #[cfg(test)]
 mod lookahead;
 #[cfg(test)]
+mod rounds;
+#[cfg(test)]
 mod salted;
 #[cfg(test)]
 mod salted_batching;

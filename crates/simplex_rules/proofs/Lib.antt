@@ -9,6 +9,7 @@ pub mod Places
 pub mod Judging
 pub mod Besides
 pub mod Pieces
+pub mod Rounds
 pub mod Surveys
 pub mod Verdicts
 pub mod Reading

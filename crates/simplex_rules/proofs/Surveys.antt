@@ -3,11 +3,7 @@ use Rattle.std.proofs.Common.{◌≡◌, ◌⊎◌, ℕ, List, [], ◌∷◌, �
 use Rattle.std.specs.Prelude.{Contains, IsSome, IsTrue, OnOk, Result, Ok, Err}
 use Rattle.std.specs.declared.cmp.Ordering.{Ordering}
 use Rattle.std.specs.List.{flat_map}
-use Rattle.std.specs.BTreeMap.{BTreeMap, Updates, get}
-use Rattle.std.specs.Cmp.{Equal-is}
-use Rattle.std.specs.Ordering.{is_eq}
-use Rattle.std.proofs.lemmas.Bool.{cases_Bool}
-use Rattle.simplex_rules.proofs.Suspects.{rounds_exact, suspects_exact, suspects_total}
+use Rattle.simplex_rules.proofs.Suspects.{suspects_exact, suspects_total}
 use Rattle.std.specs.BTreeSet.{BTreeSet, IsSubset, btree_set_len, contains}
 use Rattle.std.proofs.lemmas.List.{nil_from_length}
 use Rattle.std.proofs.lemmas.Map.Views.{btree_set_contains_iff}
@@ -29,8 +25,9 @@ use Rattle.simplex_rules.specs.declared.cast.Choice.{Choice}
 use Rattle.simplex_rules.specs.declared.cast.Suspect.{Suspect}
 use Rattle.simplex_rules.specs.declared.survey.Survey.{Survey}
 use Rattle.simplex_rules.specs.Audit.{AreInOrder, IsVerdict, accused}
+use Rattle.simplex_rules.specs.Choices.{Extends, choice_in}
 use Rattle.simplex_rules.specs.Kept.{suspect_cmp}
-use Rattle.simplex_rules.specs.Survey.{round_cmp, Extends, IsNoted, AreNoted, Notes, AreGivenUp, AreSurveyed, SurveysOne, HasGuilty}
+use Rattle.simplex_rules.specs.Survey.{IsNoted, AreNoted, Notes, AreGivenUp, AreSurveyed, SurveysOne, HasGuilty}
 use Rattle.simplex_rules.specs.Tally.{suspect_of, cast_of, nullify_suspect}
 use Rattle.simplex_rules.proofs.Lists.{AllPairs-nil, Contains-map, Contains-flat_map, in-flat_map, only_element}
 use Rattle.simplex_rules.proofs.Places.{choice_of, proposal_of}
@@ -46,26 +43,16 @@ flat_map-cases f xs x y there =
       | inr last ↦ inr (subst (λ z. Contains (f z) y) (sym (only_element x found.0 last)) found.2)
     ]
 
--- a round that had no choice gets one
-pub Extends-inserted : {D : Type 0} (m n : BTreeMap Round (Choice D)) (k : Round) (c : Choice D) → get round_cmp m k ≡ None → Updates round_cmp m n k (Some c) → Extends m n
-Extends-inserted m n k c none updates = λ r d before. elim (cases_Bool (is_eq (round_cmp k r))) [
-  | inl own ↦
-      let same : k ≡ r = rounds_exact k r ((Equal-is (round_cmp k r)).0 own) in
-      let gone : get round_cmp m r ≡ None = subst (λ (x : Round). get round_cmp m x ≡ None) same none in
-      absurd (let never : None ≡ Some d = sym gone ∙ before in cc)
-  | inr other ↦ updates.0 r ∙ rw other before
-]
-
 module _ {K S D P G C : Type 0} where
   -- what was noted stays noted
-  noted-stays : (m n : BTreeMap Round (Choice D)) (s t : BTreeSet Suspect) → Extends m n → IsSubset suspect_cmp s t → (v : ProposalVote K S D P G C) → IsNoted m s v → IsNoted n t v
+  noted-stays : (m n : List (Round × Choice D)) (s t : BTreeSet Suspect) → Extends m n → IsSubset suspect_cmp s t → (v : ProposalVote K S D P G C) → IsNoted m s v → IsNoted n t v
   noted-stays m n s t extends stay v noted = elim noted [
     | inl contested ↦ inl (stay (suspect_of v) contested)
     | inr chosen ↦ inr (extends v.proposal.round (cast_of v).choice chosen)
   ]
 
   -- one vote, and then others
-  pub Notes-two : (m n o : BTreeMap Round (Choice D)) (s t u : BTreeSet Suspect) (v w : ProposalVote K S D P G C) → Notes m n s t (v ∷ []) → Notes n o t u (w ∷ []) → Notes m o s u (v ∷ w ∷ [])
+  pub Notes-two : (m n o : List (Round × Choice D)) (s t u : BTreeSet Suspect) (v w : ProposalVote K S D P G C) → Notes m n s t (v ∷ []) → Notes n o t u (w ∷ []) → Notes m o s u (v ∷ w ∷ [])
   Notes-two m n o s t u v w first second = record {
     extends = λ r c before. second.extends r c (first.extends r c before);
     stay = λ q before. second.stay q (first.stay q before);
@@ -76,15 +63,15 @@ module _ {K S D P G C : Type 0} where
   }
 
   -- a vote for its round's choice
-  pub Notes-chosen : (m n : BTreeMap Round (Choice D)) (s : BTreeSet Suspect) (v : ProposalVote K S D P G C) → Extends m n → get round_cmp n v.proposal.round ≡ Some (choice_of v.proposal) → Notes m n s s (v ∷ [])
+  pub Notes-chosen : (m n : List (Round × Choice D)) (s : BTreeSet Suspect) (v : ProposalVote K S D P G C) → Extends m n → choice_in n v.proposal.round ≡ Some (choice_of v.proposal) → Notes m n s s (v ∷ [])
   Notes-chosen m n s v extends own = record {
     extends = extends;
     stay = λ q there. there;
-    noted = λ w there. inr (subst (λ (x : ProposalVote K S D P G C). get round_cmp n x.proposal.round ≡ Some (choice_of x.proposal)) (only_element v w there) own);
+    noted = λ w there. inr (subst (λ (x : ProposalVote K S D P G C). choice_in n x.proposal.round ≡ Some (choice_of x.proposal)) (only_element v w there) own);
   }
 
   -- a vote of a suspect that is contested
-  pub Notes-contested : (m n : BTreeMap Round (Choice D)) (s t : BTreeSet Suspect) (v : ProposalVote K S D P G C) → Extends m n → IsSubset suspect_cmp s t → IsTrue (contains suspect_cmp t (suspect_of v)) → Notes m n s t (v ∷ [])
+  pub Notes-contested : (m n : List (Round × Choice D)) (s t : BTreeSet Suspect) (v : ProposalVote K S D P G C) → Extends m n → IsSubset suspect_cmp s t → IsTrue (contains suspect_cmp t (suspect_of v)) → Notes m n s t (v ∷ [])
   Notes-contested m n s t v extends stay there = record {
     extends = extends;
     stay = stay;
@@ -93,16 +80,16 @@ module _ {K S D P G C : Type 0} where
 
   -- the votes that a certificate lists
   module _ (lists : C → List (Attestation G)) (c : ProposalCertificate K S D P G C) where
-    pub Notes-all_chosen : (m n : BTreeMap Round (Choice D)) (s : BTreeSet Suspect) → Extends m n → get round_cmp n c.proposal.round ≡ Some (choice_of c.proposal) → Notes m n s s (votes_listed lists c)
+    pub Notes-all_chosen : (m n : List (Round × Choice D)) (s : BTreeSet Suspect) → Extends m n → choice_in n c.proposal.round ≡ Some (choice_of c.proposal) → Notes m n s s (votes_listed lists c)
     Notes-all_chosen m n s extends own = record {
       extends = extends;
       stay = λ q there. there;
       noted = λ w there.
           let found = Contains-map (λ (a : Attestation G). vote_of_parts {K = K} {S = S} {P = P} {C = C} (c.proposal, a)) (lists c.certificate) w there in
-          inr (subst (λ (x : ProposalVote K S D P G C). get round_cmp n x.proposal.round ≡ Some (choice_of x.proposal)) found.2 own);
+          inr (subst (λ (x : ProposalVote K S D P G C). choice_in n x.proposal.round ≡ Some (choice_of x.proposal)) found.2 own);
     }
 
-    pub Notes-all_contested : (m n : BTreeMap Round (Choice D)) (s t : BTreeSet Suspect) → Extends m n → IsSubset suspect_cmp s t → ((a : Attestation G) → Contains (lists c.certificate) a → IsTrue (contains suspect_cmp t (suspect_from c.proposal.round a.signer))) → Notes m n s t (votes_listed lists c)
+    pub Notes-all_contested : (m n : List (Round × Choice D)) (s t : BTreeSet Suspect) → Extends m n → IsSubset suspect_cmp s t → ((a : Attestation G) → Contains (lists c.certificate) a → IsTrue (contains suspect_cmp t (suspect_from c.proposal.round a.signer))) → Notes m n s t (votes_listed lists c)
     Notes-all_contested m n s t extends stay all = record {
       extends = extends;
       stay = stay;
@@ -112,12 +99,12 @@ module _ {K S D P G C : Type 0} where
     }
 
   -- one vote, and then another, if that was noted
-  pub OnOk-two : {T E : Type 0} (r : Result T E) (m n o : BTreeMap Round (Choice D)) (s t u : BTreeSet Suspect) (v w : ProposalVote K S D P G C) → Notes m n s t (v ∷ []) → OnOk r (Notes n o t u (w ∷ [])) → OnOk r (Notes m o s u (v ∷ w ∷ []))
+  pub OnOk-two : {T E : Type 0} (r : Result T E) (m n o : List (Round × Choice D)) (s t u : BTreeSet Suspect) (v w : ProposalVote K S D P G C) → Notes m n s t (v ∷ []) → OnOk r (Notes n o t u (w ∷ [])) → OnOk r (Notes m o s u (v ∷ w ∷ []))
   OnOk-two (Ok x) m n o s t u v w first second = Notes-two m n o s t u v w first second
   OnOk-two (Err e) m n o s t u v w first second = tt
 
   -- a suspect with votes for two proposals of a round is contested
-  two-contested : (chosen : BTreeMap Round (Choice D)) (contested : BTreeSet Suspect) (votes : List (ProposalVote K S D P G C)) → AreNoted chosen contested votes
+  two-contested : (chosen : List (Round × Choice D)) (contested : BTreeSet Suspect) (votes : List (ProposalVote K S D P G C)) → AreNoted chosen contested votes
       → (states : Proposal D → Statement D) (attests : ℕ → Statement D → G → Type 0) (round : Round) (signer : ℕ) → IsGuilty states attests votes round signer → IsTrue (contains suspect_cmp contested (suspect_from round signer))
   two-contested chosen contested votes noted states attests round signer g =
       let q = suspect_from round signer in
@@ -128,7 +115,7 @@ module _ {K S D P G C : Type 0} where
         | inr first ↦ elim (noted g.second g.second_is_there) [
           | inl contests ↦ subst (λ (x : Suspect). IsTrue (contains suspect_cmp contested x)) second_is_q contests
           | inr second ↦
-              let there : get round_cmp chosen g.first.proposal.round ≡ Some (choice_of g.second.proposal) = ap (λ (r : Round). get round_cmp chosen r) g.contradict.one_round ∙ second in
+              let there : choice_in chosen g.first.proposal.round ≡ Some (choice_of g.second.proposal) = ap (λ (r : Round). choice_in chosen r) g.contradict.one_round ∙ second in
               let choices : choice_of g.first.proposal ≡ choice_of g.second.proposal = some_is _ _ (sym first ∙ there) in
               let proposals : g.first.proposal ≡ g.second.proposal = ap (λ (r : Round). proposal_of r (choice_of g.first.proposal)) g.contradict.one_round ∙ ap (λ (c : Choice D). proposal_of g.second.proposal.round c) choices in
               absurd (g.contradict.two_proposals proposals)
@@ -143,8 +130,8 @@ module _ {S D P G C : Type 0} (lists : C → List (Attestation G)) where
   pub one-nullifies : (report : Activity S D P G C) (old new : Survey D) → old.notarized ≡ new.notarized → old.finalized ≡ new.finalized → old.contested ≡ new.contested → IsSubset suspect_cmp old.nullified new.nullified
       → notarizes_in lists report ≡ [] → finalizes_in lists report ≡ [] → AreGivenUp new.nullified (nullifies_in lists report) → SurveysOne lists report old new
   one-nullifies report old new notarized finalized contested nullified no_notarizes no_finalizes given_up = record {
-    notarized = λ r c before. subst (λ (m : BTreeMap Round (Choice D)). get round_cmp m r ≡ Some c) notarized before;
-    finalized = λ r c before. subst (λ (m : BTreeMap Round (Choice D)). get round_cmp m r ≡ Some c) finalized before;
+    notarized = λ r c before. subst (λ (m : List (Round × Choice D)). choice_in m r ≡ Some c) notarized before;
+    finalized = λ r c before. subst (λ (m : List (Round × Choice D)). choice_in m r ≡ Some c) finalized before;
     nullified = nullified;
     contested = λ q before. subst (λ (s : BTreeSet Suspect). IsTrue (contains suspect_cmp s q)) contested before;
     notarizes = λ v there. absurd (Contains-nil v (subst (λ (vs : List (Notarize S D P G C)). Contains vs v) no_notarizes there));
@@ -177,7 +164,7 @@ module _ {S D P G C : Type 0} (lists : C → List (Attestation G)) where
 
   -- the contested, and those who voted to give up a round that was finalized, are all who may be guilty
   pub guilty-contested : (attests : ℕ → Statement D → G → Type 0) (reports : List (Activity S D P G C)) (old new : Survey D) → AreSurveyed lists reports old → IsSubset suspect_cmp old.contested new.contested
-      → ((q : Suspect) → IsTrue (contains suspect_cmp old.nullified q) → IsSome (get round_cmp old.finalized q.round) → IsTrue (contains suspect_cmp new.contested q))
+      → ((q : Suspect) → IsTrue (contains suspect_cmp old.nullified q) → IsSome (choice_in old.finalized q.round) → IsTrue (contains suspect_cmp new.contested q))
       → HasGuilty lists attests reports new.contested
   guilty-contested attests reports old new all stay added = record {
     two_notarizes = λ round signer g. stay (suspect_from round signer) (two-contested old.notarized old.contested (notarizes_of lists reports) all.notarizes notarize attests round signer g);
@@ -188,7 +175,7 @@ module _ {S D P G C : Type 0} (lists : C → List (Attestation G)) where
         let finalized_is = second_is attests (nullifies_of lists reports) (finalizes_of lists reports) q g in
         elim (all.finalizes g.second g.second_is_there) [
           | inl contests ↦ stay q (subst (λ (x : Suspect). IsTrue (contains suspect_cmp old.contested x)) finalized_is contests)
-          | inr chosen ↦ added q gave_up (subst (λ (r : Round). IsSome (get round_cmp old.finalized r)) (ap (λ (x : Suspect). x.round) finalized_is) (rw chosen refl))
+          | inr chosen ↦ added q gave_up (subst (λ (r : Round). IsSome (choice_in old.finalized r)) (ap (λ (x : Suspect). x.round) finalized_is) (rw chosen refl))
         ];
   }
 

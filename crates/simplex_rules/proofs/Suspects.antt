@@ -9,8 +9,8 @@ use Rattle.std.proofs.lemmas.Cmp.{nat_cmp_total, on_total, then_total}
 use Rattle.std.proofs.lemmas.Map.Lookups.{CmpEqualImpliesEq, exact_unsigned}
 use Rattle.simplex_rules.specs.declared.cast.Suspect.{Suspect}
 use Rattle.simplex_rules.specs.Audit.{Accusation, Offence, StandsBefore}
+use Rattle.simplex_rules.specs.Choices.{round_cmp}
 use Rattle.simplex_rules.specs.Kept.{suspect_cmp}
-use Rattle.simplex_rules.specs.Survey.{round_cmp}
 
 pub suspects_total : IsTotalOrder suspect_cmp
 suspects_total =

@@ -1,9 +1,6 @@
 -- Of whom an audit weighs the votes.
 use Rattle.std.specs.Prelude.{◌≡◌, ◌⊎◌, ℕ, List, Contains, IsTrue, Some}
-use Rattle.std.specs.Ordering.{ordering_then, nat_cmp}
-use Rattle.std.specs.BTreeMap.{BTreeMap, get}
 use Rattle.std.specs.BTreeSet.{BTreeSet, IsSubset, contains}
-use Rattle.std.specs.declared.cmp.Ordering.{Ordering}
 use Rattle.simplex_types.specs.declared.attestation.Attestation.{Attestation}
 use Rattle.simplex_types.specs.declared.position.Round.{Round}
 use Rattle.simplex_types.specs.Subject.{Statement, notarize, finalize}
@@ -14,28 +11,21 @@ use Rattle.simplex_messages.specs.Guilt.{notarizes_in, nullifies_in, finalizes_i
 use Rattle.simplex_rules.specs.declared.cast.Choice.{Choice}
 use Rattle.simplex_rules.specs.declared.cast.Suspect.{Suspect}
 use Rattle.simplex_rules.specs.declared.survey.Survey.{Survey}
+use Rattle.simplex_rules.specs.Choices.{Extends, choice_in}
 use Rattle.simplex_rules.specs.Kept.{suspect_cmp}
 use Rattle.simplex_rules.specs.Tally.{cast_of, suspect_of, nullify_suspect}
 
--- rounds by epoch, then view
-abbrev pub round_cmp : Round → Round → Ordering
-round_cmp x y = ordering_then (nat_cmp x.epoch y.epoch) (nat_cmp x.view y.view)
-
--- what a round's choice is stays so
-abbrev pub Extends : {D : Type 0} → BTreeMap Round (Choice D) → BTreeMap Round (Choice D) → Type 0
-Extends {D} old new = (r : Round) (c : Choice D) → get round_cmp old r ≡ Some c → get round_cmp new r ≡ Some c
-
 module _ {K S D P G C : Type 0} where
   -- the vote is for its round's choice, or else its suspect is contested
-  abbrev pub IsNoted : BTreeMap Round (Choice D) → BTreeSet Suspect → ProposalVote K S D P G C → Type 0
-  IsNoted chosen contested v = IsTrue (contains suspect_cmp contested (suspect_of v)) ⊎ (get round_cmp chosen v.proposal.round ≡ Some (cast_of v).choice)
+  abbrev pub IsNoted : List (Round × Choice D) → BTreeSet Suspect → ProposalVote K S D P G C → Type 0
+  IsNoted chosen contested v = IsTrue (contains suspect_cmp contested (suspect_of v)) ⊎ (choice_in chosen v.proposal.round ≡ Some (cast_of v).choice)
 
   -- each of these votes is for its round's choice, or else its suspect is contested
-  abbrev pub AreNoted : BTreeMap Round (Choice D) → BTreeSet Suspect → List (ProposalVote K S D P G C) → Type 0
+  abbrev pub AreNoted : List (Round × Choice D) → BTreeSet Suspect → List (ProposalVote K S D P G C) → Type 0
   AreNoted chosen contested votes = (v : ProposalVote K S D P G C) → Contains votes v → IsNoted chosen contested v
 
   -- these votes were noted, and what was noted before stays so
-  pub record Notes (m n : BTreeMap Round (Choice D)) (s t : BTreeSet Suspect) (votes : List (ProposalVote K S D P G C)) : Type 0 where
+  pub record Notes (m n : List (Round × Choice D)) (s t : BTreeSet Suspect) (votes : List (ProposalVote K S D P G C)) : Type 0 where
     pub extends : Extends m n
     pub stay : IsSubset suspect_cmp s t
     pub noted : AreNoted n t votes

@@ -200,7 +200,9 @@ fn count_read<S: Listing<D>, D: Digest>(
     }
 }
 
-/// Reads one message, and tells that it can be read again and that what was read is its spelling.
+/// Reads one message, and tells that it can be read again and that what was read is its spelling. It is inlined, since a report that is
+/// handed back is laid down once more.
+#[inline(always)]
 fn next_message<M: Read>(alloc: Global, input: &mut &[u8], bound: u32) -> Result<M, CodecError>
     ensures exact { Gives (M.reading bound) input.old.now input.new.now result }
     ensures fitting { IfOk result (Readable M.fits (M.within bound)) }

@@ -4,6 +4,7 @@
 mod auditing;
 mod ballots;
 mod cast;
+mod choices;
 pub mod elector;
 mod kind;
 mod laws;

@@ -1,32 +1,31 @@
 //! What the votes of the reports are for, round by round, and so whose votes may contradict each other.
 
-ghost use Rattle.std.specs.Prelude.{◌≡◌, ◌∷◌, ◌⊎◌, ⊤, [], List, OnOk, IfOk, IsTrue, IsSome, None, Some, Contains};
-ghost use Rattle.std.specs.Option.{option_copied};
-ghost use Rattle.std.specs.BTreeMap.{get};
+ghost use Rattle.std.specs.Prelude.{◌≡◌, ◌∷◌, ◌⊎◌, ⊤, [], List, OnOk, IsTrue, IsSome, Contains};
 ghost use Rattle.std.specs.BTreeSet.{IsSubset, contains};
 ghost use Rattle.simplex_types.specs.declared.attestation.Attestation.{Attestation};
 ghost use Rattle.simplex_messages.specs.Guilt.{votes_listed};
 ghost use Rattle.simplex_rules.specs.declared.cast.Suspect.{Suspect};
+ghost use Rattle.simplex_rules.specs.Choices.{choice_in};
 ghost use Rattle.simplex_rules.specs.Kept.{suspect_cmp};
-ghost use Rattle.simplex_rules.specs.Survey.{AreSurveyed, Extends, Notes, SurveysOne, round_cmp};
+ghost use Rattle.simplex_rules.specs.Survey.{AreSurveyed, Notes, SurveysOne};
 
-use crate::cast::{Choice, Suspect};
+use crate::cast::Suspect;
+use crate::choices::Choices;
 use simplex_messages::{
     Activity, ConflictingVotes, NullifyFinalize, ProposalCertificate, ProposalKind, ProposalVote,
 };
-use simplex_types::{Attestation, Digest, Listing, Proposal, Round, Scheme};
+use simplex_types::{Attestation, Digest, Listing, Round, Scheme};
 use std::alloc::{AllocError, Global};
-use std::cmp::Ordering;
-use std::collections::{BTreeMap, BTreeSet};
+use std::collections::BTreeSet;
 
 /// What the votes of each round are for. Honest votes of a round are for one proposal, so it keeps one for all
 /// of them, and of the others only whose they are.
 #[derive(Drop)]
 pub(crate) struct Survey<D: Digest> {
     /// The choice of each round's first notarize.
-    notarized: BTreeMap<Round, Choice<D>>,
+    notarized: Choices<D>,
     /// The choice of each round's first finalize.
-    finalized: BTreeMap<Round, Choice<D>>,
+    finalized: Choices<D>,
     /// Who voted to give which round up.
     nullified: BTreeSet<Suspect>,
     /// Whose votes may contradict each other.
@@ -39,8 +38,8 @@ impl<D: Digest> Survey<D> {
         ensures { AreSurveyed {S = S} {P = S.PublicKey} S.lists [] result }
     {
         Survey {
-            notarized: BTreeMap::new(alloc),
-            finalized: BTreeMap::new(alloc),
+            notarized: Choices::new(alloc),
+            finalized: Choices::new(alloc),
             nullified: BTreeSet::new(alloc),
             contested: BTreeSet::new(alloc),
         }
@@ -89,7 +88,7 @@ impl<D: Digest> Survey<D> {
     pub(crate) fn contest_beside(&mut self) -> Result<(), AllocError>
         ensures same { OnOk result ((self.new.finalized ≡ self.old.finalized) × (self.new.notarized ≡ self.old.notarized) × (self.new.nullified ≡ self.old.nullified)) }
         ensures stay { OnOk result (IsSubset suspect_cmp self.old.contested self.new.contested) }
-        ensures added { OnOk result ((q : Suspect) → IsTrue (contains suspect_cmp self.old.nullified q) → IsSome (get round_cmp self.old.finalized q.round) → IsTrue (contains suspect_cmp self.new.contested q)) }
+        ensures added { OnOk result ((q : Suspect) → IsTrue (contains suspect_cmp self.old.nullified q) → IsSome (choice_in self.old.finalized q.round) → IsTrue (contains suspect_cmp self.new.contested q)) }
     {
         contest(&self.nullified, &self.finalized, &mut self.contested)
     }
@@ -98,80 +97,32 @@ impl<D: Digest> Survey<D> {
 /// Adds those who voted to give up a round that was finalized.
 fn contest<D: Digest>(
     nullified: &BTreeSet<Suspect>,
-    finalized: &BTreeMap<Round, Choice<D>>,
+    finalized: &Choices<D>,
     contested: &mut BTreeSet<Suspect>,
 ) -> Result<(), AllocError>
     ensures stay { OnOk result (IsSubset suspect_cmp contested.old contested.new) }
-    ensures added { OnOk result ((q : Suspect) → IsTrue (contains suspect_cmp nullified.now q) → IsSome (get round_cmp finalized.now q.round) → IsTrue (contains suspect_cmp contested.new q)) }
+    ensures added { OnOk result ((q : Suspect) → IsTrue (contains suspect_cmp nullified.now q) → IsSome (choice_in finalized.now q.round) → IsTrue (contains suspect_cmp contested.new q)) }
 {
     for suspect in nullified {
-        if finalized.contains_key(&suspect.round) {
+        if finalized.contains(&suspect.round) {
             contested.insert(*suspect)?;
         }
     }
     Ok(())
 }
 
-/// The round's choice, if it has one. The last round is looked at first, since reports come round by round.
-fn look_up<'a, D: Digest>(
-    chosen: &'a BTreeMap<Round, Choice<D>>,
-    round: &Round,
-) -> Option<&'a Choice<D>>
-    ensures { option_copied result ≡ get round_cmp chosen.now round.now }
-{
-    let (last, choice) = chosen.last_key_value()?;
-    match last.cmp(round) {
-        Ordering::Less => None,
-        Ordering::Equal => Some(choice),
-        Ordering::Greater => chosen.get(round),
-    }
-}
-
-/// Makes this the round's choice where it has none. Whether it is the round's choice then.
-fn choose<D: Digest>(
-    chosen: &mut BTreeMap<Round, Choice<D>>,
-    proposal: &Proposal<D>,
-) -> Result<bool, AllocError>
-    ensures extends { OnOk result (Extends chosen.old chosen.new) }
-    ensures own { IfOk result (λ own. IsTrue own → get round_cmp chosen.new proposal.now.round ≡ Some (record { parent = proposal.now.parent; payload = proposal.now.payload })) }
-{
-    if let Some(first) = look_up(chosen, &proposal.round) {
-        return Ok(first.parent == proposal.parent && first.payload == proposal.payload);
-    }
-    choose_first(chosen, proposal)?;
-    Ok(true)
-}
-
-/// Makes this the choice of its round, which has none. Most votes come behind the first of their round, and need none of the room that
-/// this takes on the stack.
-#[inline(never)]
-fn choose_first<D: Digest>(
-    chosen: &mut BTreeMap<Round, Choice<D>>,
-    proposal: &Proposal<D>,
-) -> Result<(), AllocError>
-    requires none { get round_cmp chosen.old proposal.now.round ≡ None }
-    ensures extends { OnOk result (Extends chosen.old chosen.new) }
-    ensures own { OnOk result (get round_cmp chosen.new proposal.now.round ≡ Some (record { parent = proposal.now.parent; payload = proposal.now.payload })) }
-{
-    let choice = Choice {
-        parent: proposal.parent,
-        payload: proposal.payload,
-    };
-    chosen.insert(proposal.round, choice)?;
-    Ok(())
-}
-
-/// Notes what a vote is for.
+/// Notes what a vote is for. It is inlined, since a report that is lent has to be laid down as a whole.
+#[inline(always)]
 fn note<K: ProposalKind<D>, S: Scheme<D>, D: Digest>(
-    chosen: &mut BTreeMap<Round, Choice<D>>,
+    chosen: &mut Choices<D>,
     contested: &mut BTreeSet<Suspect>,
     vote: &ProposalVote<K, S, D>,
 ) -> Result<(), AllocError>
     ensures { OnOk result (Notes chosen.old chosen.new contested.old contested.new (vote.now ∷ [])) }
 {
-    // A copy, since a report that is pointed into has to be laid down as a whole.
+    // A copy, for the same reason.
     let proposal = vote.proposal;
-    if !choose(chosen, &proposal)? {
+    if !chosen.choose(&proposal)? {
         insert(contested, proposal.round, &vote.attestation)?;
     }
     Ok(())
@@ -179,7 +130,7 @@ fn note<K: ProposalKind<D>, S: Scheme<D>, D: Digest>(
 
 /// Notes what both votes of evidence are for.
 fn note_both<K: ProposalKind<D>, S: Scheme<D>, D: Digest>(
-    chosen: &mut BTreeMap<Round, Choice<D>>,
+    chosen: &mut Choices<D>,
     contested: &mut BTreeSet<Suspect>,
     both: &ConflictingVotes<K, S, D>,
 ) -> Result<(), AllocError>
@@ -191,14 +142,14 @@ fn note_both<K: ProposalKind<D>, S: Scheme<D>, D: Digest>(
 
 /// Notes what the votes are for that a certificate lists.
 fn note_listed<K: ProposalKind<D>, S: Listing<D>, D: Digest>(
-    chosen: &mut BTreeMap<Round, Choice<D>>,
+    chosen: &mut Choices<D>,
     contested: &mut BTreeSet<Suspect>,
     made: &ProposalCertificate<K, S, D>,
 ) -> Result<(), AllocError>
     ensures { OnOk result (Notes chosen.old chosen.new contested.old contested.new (votes_listed S.lists made.now)) }
 {
     let certified = made.proposal;
-    if !choose(chosen, &certified)? {
+    if !chosen.choose(&certified)? {
         let listed = S::attestations(&made.certificate);
         insert_all::<S, D>(contested, &certified.round, listed)?;
     }

@@ -1,10 +1,9 @@
 use Rattle.std.specs.Prelude.{Contains, IsSome}
-use Rattle.std.specs.BTreeMap.{get}
 use Rattle.std.specs.Map.Iter.{deref}
 use Rattle.std.proofs.Common.{◌≡◌, true, false, sym, ◌∙◌}
 use Rattle.std.proofs.lemmas.Map.Iter.{iter_end}
 use Rattle.std.proofs.lemmas.Map.Views.{btree_set_contains_iff}
-use Rattle.simplex_rules.specs.Survey.{round_cmp}
+use Rattle.simplex_rules.specs.Choices.{choice_in}
 use Rattle.simplex_rules.proofs.Suspects.{suspects_exact, suspects_total}
 use Rattle.simplex_rules.proofs.Gathering.{Gathers-turn, inserted_stay, inserted_there}
 use Rattle.simplex_rules.proofs.survey.contest.Goals as goal
@@ -15,14 +14,14 @@ loop-suspect-preserved-in_ok-insert g c =
     let there = inserted_there c.loop-suspect.contested c.insert.new.self c.in-Some.suspect.now c.in_ok-insert.ensures.updates in
     record {
       stay = λ q before. stay q (c.loop-suspect.invariant.stay q before);
-      added = Gathers-turn deref (λ q. q) (λ q. IsSome (get round_cmp c.args.finalized.now q.round)) c.loop-suspect.yielded c.in-Some.suspect c.loop-suspect.contested c.insert.new.self c.loop-suspect.invariant.added stay (λ _. there);
+      added = Gathers-turn deref (λ q. q) (λ q. IsSome (choice_in c.args.finalized.now q.round)) c.loop-suspect.yielded c.in-Some.suspect c.loop-suspect.contested c.insert.new.self c.loop-suspect.invariant.added stay (λ _. there);
     }
 
 pub loop-suspect-preserved : goal.loop-suspect-preserved
 loop-suspect-preserved g c = record {
   stay = c.loop-suspect.invariant.stay;
-  added = Gathers-turn deref (λ q. q) (λ q. IsSome (get round_cmp c.args.finalized.now q.round)) c.loop-suspect.yielded c.in-Some.suspect c.loop-suspect.contested c.loop-suspect.contested c.loop-suspect.invariant.added (λ q there. there)
-      (λ some. absurd (let never : false ≡ true = sym c.if-contains_key.false ∙ c.contains_key.ensures ∙ some in cc));
+  added = Gathers-turn deref (λ q. q) (λ q. IsSome (choice_in c.args.finalized.now q.round)) c.loop-suspect.yielded c.in-Some.suspect c.loop-suspect.contested c.loop-suspect.contested c.loop-suspect.invariant.added (λ q there. there)
+      (λ some. absurd (let never : false ≡ true = sym c.if-contains.false ∙ c.contains.ensures ∙ some in cc));
 }
 
 pub returns-clause-added : goal.returns-clause-added

@@ -1,10 +1,9 @@
 use Rattle.std.proofs.Common.{map}
 use Rattle.std.specs.Prelude.{IsSome}
-use Rattle.std.specs.BTreeMap.{get}
 use Rattle.std.specs.BTreeSet.{IsSubset}
 use Rattle.std.specs.Map.Iter.{deref}
+use Rattle.simplex_rules.specs.Choices.{choice_in}
 use Rattle.simplex_rules.specs.Kept.{suspect_cmp}
-use Rattle.simplex_rules.specs.Survey.{round_cmp}
 use Rattle.simplex_rules.proofs.Gathering.{Gathers}
 use Rattle.simplex_rules.proofs.survey.contest.Given as goal
 
@@ -12,5 +11,5 @@ use Rattle.simplex_rules.proofs.survey.contest.Given as goal
 abbrev pub invariant-loop-suspect : goal.invariant-loop-suspect
 invariant-loop-suspect g l = record {
   stay : IsSubset suspect_cmp l.initial.contested l.contested;
-  added : Gathers (λ q. q) (λ q. IsSome (get round_cmp l.finalized q.round)) (map deref l.yielded) l.contested;
+  added : Gathers (λ q. q) (λ q. IsSome (choice_in l.finalized q.round)) (map deref l.yielded) l.contested;
 }
