@@ -14,8 +14,8 @@ module _ {S D P G C : Type 0} where
   pub record AreElsewhere (view : ℕ) (led led' : ℕ → Option ℕ) (past past' : ℕ → List (Item S D P G C)) : Type 0 where
     pub at : (u : ℕ) → (view == u) ≡ false → (led' u ≡ led u) × (past' u ≡ past u)
 
-  -- whatever the rounds kept before, once the view's round is given back they keep what is the same elsewhere, and says of this view
-  -- something, and where its round was left
+  -- whatever the rounds kept before, once the round of this view is given back they keep what says the same elsewhere, and of this view
+  -- something, which leads to where its round was left
   pub record Follows (key_of : S → ℕ → P) (before : Rounds S D P G C) (view : ℕ) (after : Rounds S D P G C) (left : Round S D P G C) : Type 0 where
     pub keeps : (s : Common S) (led led' : ℕ → Option ℕ) (past past' : ℕ → List (Item S D P G C)) → Keep key_of s before led past
         → AreElsewhere view led led' past past' → one.Keeps key_of (setup_of s view) left (led' view) (past' view) → IsTracked (past' view) (led' view) → Keep key_of s after led' past'
