@@ -19,7 +19,7 @@ returns-then-is_success g c = λ s h k time.
     let ok = c.args.is_success in
     let grown = put at (past.judged ok) (seen s h) in
     let judged = c.in_ok-judge.ensures (frame_of s) (tables s h) k.progress.tracked in
-    let entered = c.in_ok-enter.ensures s (current s h) (grown-tables s h grown) (IsAt-tracked k.progress judged) time in
+    let entered = c.in_ok-enter.ensures s (current s h) (grown-tables s h grown) (IsAt-tracked {t' = grown-tables s h grown} k.progress judged) time in
     quiet-progress (History.judged c.args.now at ok) _ k (judged-quiet s h c.args.now at ok) (judged-true s h c.args.now at _ ok _ c.next.ensures c.if-is_success.true entered)
 
 pub returns-then-lt : goal.returns-then-lt
