@@ -20,24 +20,9 @@ pub(crate) enum Vote {
     Finalize(u8, u64),
 }
 
-/// A member in a round.
-#[derive(Clone, Copy)]
-pub(crate) struct Seat<'a> {
-    pub(crate) scheme: &'a SaltedScheme,
-    pub(crate) round: Round,
-}
-
 /// View 2.
 pub(crate) fn round() -> Round {
     Round::new(Epoch::new(0), View::new(2))
-}
-
-/// The scheme's member in view 2.
-pub(crate) fn in_view_2(scheme: &SaltedScheme) -> Seat<'_> {
-    Seat {
-        scheme,
-        round: round(),
-    }
 }
 
 /// The proposal of 32 such bytes in view 2.
@@ -56,51 +41,51 @@ pub(crate) fn salted(alloc: Global) -> Result<SaltedScheme, AllocError> {
 }
 
 /// The member's attestation that stands in the vote.
-fn attestation(seat: Seat, vote: Vote) -> Option<Attestation<SaltedSignature>> {
+fn attestation(
+    scheme: &SaltedScheme,
+    round: &Round,
+    vote: Vote,
+) -> Option<Attestation<SaltedSignature>> {
     let elsewhere = Subject::<Sha256Digest>::Nullify(Round::new(Epoch::new(0), View::new(9)));
     match vote {
         Vote::Notarize(_, forged) | Vote::Nullify(forged) | Vote::Finalize(_, forged)
-            if forged == 0 || forged >= 100 => { seat.scheme.sign_with(forged, &elsewhere) }
+            if forged == 0 || forged >= 100 => { scheme.sign_with(forged, &elsewhere) }
         Vote::Notarize(payload, counter) => {
-            let proposed = proposal_in(seat.round, payload);
-            seat.scheme
-                .sign_with(counter, &Subject::Notarize(&proposed))
+            let proposed = proposal_in(*round, payload);
+            scheme.sign_with(counter, &Subject::Notarize(&proposed))
         }
         Vote::Nullify(counter) => {
-            let given_up = Subject::<Sha256Digest>::Nullify(seat.round);
-            seat.scheme.sign_with(counter, &given_up)
+            let given_up = Subject::<Sha256Digest>::Nullify(*round);
+            scheme.sign_with(counter, &given_up)
         }
         Vote::Finalize(payload, counter) => {
-            let proposed = proposal_in(seat.round, payload);
-            seat.scheme
-                .sign_with(counter, &Subject::Finalize(&proposed))
+            let proposed = proposal_in(*round, payload);
+            scheme.sign_with(counter, &Subject::Finalize(&proposed))
         }
     }
 }
 
 /// Whether the vote verifies.
-pub(crate) fn verifies(seat: Seat, vote: Vote) -> Result<bool, Fail> {
-    let signed = attestation(seat, vote).ok_or("no key")?;
+pub(crate) fn verifies(scheme: &SaltedScheme, round: &Round, vote: Vote) -> Result<bool, Fail> {
+    let signed = attestation(scheme, round, vote).ok_or("no key")?;
     Ok(match vote {
         Vote::Notarize(payload, _) => {
-            let proposed = proposal_in(seat.round, payload);
-            seat.scheme
-                .verify_attestation(&Subject::Notarize(&proposed), &signed)
+            let proposed = proposal_in(*round, payload);
+            scheme.verify_attestation(&Subject::Notarize(&proposed), &signed)
         }
         Vote::Nullify(_) => {
-            let given_up = Subject::<Sha256Digest>::Nullify(seat.round);
-            seat.scheme.verify_attestation(&given_up, &signed)
+            let given_up = Subject::<Sha256Digest>::Nullify(*round);
+            scheme.verify_attestation(&given_up, &signed)
         }
         Vote::Finalize(payload, _) => {
-            let proposed = proposal_in(seat.round, payload);
-            seat.scheme
-                .verify_attestation(&Subject::Finalize(&proposed), &signed)
+            let proposed = proposal_in(*round, payload);
+            scheme.verify_attestation(&Subject::Finalize(&proposed), &signed)
         }
     })
 }
 
 /// Appends what the vote is on: the round, and for a proposal its parent 1 and its payload.
-fn append_content(out: &mut Vec<u8>, round: Round, vote: Vote) -> Result<(), AllocError> {
+fn append_content(out: &mut Vec<u8>, round: &Round, vote: Vote) -> Result<(), AllocError> {
     round.write(out)?;
     match vote {
         Vote::Notarize(payload, _) | Vote::Finalize(payload, _) => {
@@ -112,10 +97,15 @@ fn append_content(out: &mut Vec<u8>, round: Round, vote: Vote) -> Result<(), All
 }
 
 /// Appends the votes, one behind the other.
-fn append_votes(out: &mut Vec<u8>, seat: Seat, votes: &[Vote]) -> Result<(), Fail> {
+fn append_votes(
+    out: &mut Vec<u8>,
+    scheme: &SaltedScheme,
+    round: &Round,
+    votes: &[Vote],
+) -> Result<(), Fail> {
     for vote in votes {
-        append_content(out, seat.round, *vote)?;
-        let signed = attestation(seat, *vote).ok_or("no key")?;
+        append_content(out, round, *vote)?;
+        let signed = attestation(scheme, round, *vote).ok_or("no key")?;
         signed.write(out)?;
     }
     Ok(())
@@ -123,19 +113,20 @@ fn append_votes(out: &mut Vec<u8>, seat: Seat, votes: &[Vote]) -> Result<(), Fai
 
 /// Reports of these tags and votes of member 1 in view 2, one behind the other.
 pub(crate) fn stream(alloc: Global, reports: &[(u8, &[Vote])]) -> Result<Vec<u8>, Fail> {
-    stream_by(alloc, in_view_2(&salted(alloc)?), reports)
+    stream_by(alloc, &salted(alloc)?, &round(), reports)
 }
 
 /// Reports of these tags and votes of the member in the round, one behind the other.
 pub(crate) fn stream_by(
     alloc: Global,
-    seat: Seat,
+    scheme: &SaltedScheme,
+    round: &Round,
     reports: &[(u8, &[Vote])],
 ) -> Result<Vec<u8>, Fail> {
     let mut out = Vec::new(alloc);
     for (tag, votes) in reports {
         out.push(*tag)?;
-        append_votes(&mut out, seat, votes)?;
+        append_votes(&mut out, scheme, round, votes)?;
     }
     Ok(out)
 }
@@ -157,16 +148,21 @@ pub(crate) fn loose(alloc: Global, votes: &[Vote]) -> Result<Vec<u8>, Fail> {
     let mut out = Vec::new(alloc);
     for vote in votes {
         out.push(tag_of(*vote))?;
-        append_votes(&mut out, in_view_2(&scheme), &[*vote])?;
+        append_votes(&mut out, &scheme, &round(), &[*vote])?;
     }
     Ok(out)
 }
 
 /// Appends a certificate that lists the vote of the member alone.
-pub(crate) fn append_listed(out: &mut Vec<u8>, seat: Seat, vote: Vote) -> Result<(), Fail> {
-    let signed = attestation(seat, vote).ok_or("no key")?;
+pub(crate) fn append_listed(
+    out: &mut Vec<u8>,
+    scheme: &SaltedScheme,
+    round: &Round,
+    vote: Vote,
+) -> Result<(), Fail> {
+    let signed = attestation(scheme, round, vote).ok_or("no key")?;
     out.push(tag_of(vote) + 1)?;
-    append_content(out, seat.round, vote)?;
+    append_content(out, round, vote)?;
     out.push(1)?;
     signed.write(out)?;
     Ok(())

@@ -1,10 +1,10 @@
 //! Votes that no audit needs to verify, and forged ones that stand before, between and behind true ones.
 
 use crate::ballots::Vote::{Finalize, Notarize, Nullify};
-use crate::ballots::{
-    Seat, Vote, evidence, in_view_2, loose, salted, stream, stream_by, tag_of, verifies,
-};
+use crate::ballots::{Vote, evidence, loose, round, salted, stream, stream_by, tag_of, verifies};
 use crate::holds::holds;
+use simplex_rules::SaltedScheme;
+use simplex_types::Round;
 use std::alloc::Global;
 use std::process::Abort;
 use std::test::Fail;
@@ -101,13 +101,19 @@ fn payload_of(vote: Vote) -> u8 {
 }
 
 /// Of the votes of a kind that verify the first for each of the payloads 10, 11 and 12.
-fn firsts(alloc: Global, seat: Seat, votes: &[Vote], tag: u8) -> Result<Vec<Vote>, Fail> {
+fn firsts(
+    alloc: Global,
+    scheme: &SaltedScheme,
+    round: &Round,
+    votes: &[Vote],
+    tag: u8,
+) -> Result<Vec<Vote>, Fail> {
     let mut found = Vec::new(alloc);
     for payload in 10..13 {
         let mut first = None;
         for vote in votes {
             let is_wanted = tag_of(*vote) == tag && payload_of(*vote) == payload;
-            if first.is_none() && is_wanted && verifies(seat, *vote)? {
+            if first.is_none() && is_wanted && verifies(scheme, round, *vote)? {
                 first = Some(*vote);
             }
         }
@@ -119,19 +125,24 @@ fn firsts(alloc: Global, seat: Seat, votes: &[Vote], tag: u8) -> Result<Vec<Vote
 }
 
 /// The evidence against the member in the round by an audit that verifies each of its votes.
-pub(crate) fn verified_first(alloc: Global, seat: Seat, votes: &[Vote]) -> Result<Vec<u8>, Fail> {
-    let notarizes = firsts(alloc, seat, votes, 0)?;
-    let nullifies = firsts(alloc, seat, votes, 3)?;
-    let finalizes = firsts(alloc, seat, votes, 5)?;
+pub(crate) fn verified_first(
+    alloc: Global,
+    scheme: &SaltedScheme,
+    round: &Round,
+    votes: &[Vote],
+) -> Result<Vec<u8>, Fail> {
+    let notarizes = firsts(alloc, scheme, round, votes, 0)?;
+    let nullifies = firsts(alloc, scheme, round, votes, 3)?;
+    let finalizes = firsts(alloc, scheme, round, votes, 5)?;
     let mut out = Vec::new(alloc);
     if let [least, next, ..] = notarizes.as_slice() {
-        out.extend_from_slice(&stream_by(alloc, seat, &[(7, &[*least, *next])])?)?;
+        out.extend_from_slice(&stream_by(alloc, scheme, round, &[(7, &[*least, *next])])?)?;
     }
     if let [least, next, ..] = finalizes.as_slice() {
-        out.extend_from_slice(&stream_by(alloc, seat, &[(8, &[*least, *next])])?)?;
+        out.extend_from_slice(&stream_by(alloc, scheme, round, &[(8, &[*least, *next])])?)?;
     }
     if let ([nullify, ..], [finalize, ..]) = (nullifies.as_slice(), finalizes.as_slice()) {
-        out.extend_from_slice(&stream_by(alloc, seat, &[(9, &[*nullify, *finalize])])?)?;
+        out.extend_from_slice(&stream_by(alloc, scheme, round, &[(9, &[*nullify, *finalize])])?)?;
     }
     Ok(out)
 }
@@ -168,7 +179,7 @@ fn ten_thousand_streams_are_judged_as_by_verifying_each_vote(rt: HostRuntime) ->
         let found = evidence(&rt, alloc, &scheme, &loose(alloc, &votes)?)?;
         holds(
             &rt,
-            found == verified_first(alloc, in_view_2(&scheme), &votes)?,
+            found == verified_first(alloc, &scheme, &round(), &votes)?,
         );
     }
     Ok(())

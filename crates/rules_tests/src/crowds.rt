@@ -1,9 +1,7 @@
 //! Votes of several members in a few rounds, of which the first may be any member's, and forged.
 
 use crate::ballots::Vote::Notarize;
-use crate::ballots::{
-    Seat, Vote, append_listed, evidence, in_view_2, round, salted, stream_by, tag_of,
-};
+use crate::ballots::{Vote, append_listed, evidence, round, salted, stream_by, tag_of};
 use crate::claims::{FORGED, drawn, verified_first, vote_of};
 use crate::holds::holds;
 use simplex_rules::SaltedScheme;
@@ -43,14 +41,16 @@ fn members(alloc: Global) -> Result<[SaltedScheme; 3], AllocError> {
 fn reports(alloc: Global, members: &[SaltedScheme], ballots: &[Ballot]) -> Result<Vec<u8>, Fail> {
     let mut out = Vec::new(alloc);
     for ballot in ballots {
-        let seat = Seat {
-            scheme: members.get(ballot.member).ok_or("no member")?,
-            round: ballot.round,
-        };
+        let scheme = members.get(ballot.member).ok_or("no member")?;
         if ballot.is_listed {
-            append_listed(&mut out, seat, ballot.vote)?;
+            append_listed(&mut out, scheme, &ballot.round, ballot.vote)?;
         } else {
-            let loose = stream_by(alloc, seat, &[(tag_of(ballot.vote), &[ballot.vote])])?;
+            let loose = stream_by(
+                alloc,
+                scheme,
+                &ballot.round,
+                &[(tag_of(ballot.vote), &[ballot.vote])],
+            )?;
             out.extend_from_slice(&loose)?;
         }
     }
@@ -72,8 +72,7 @@ fn verified_each(
                     votes.push(ballot.vote)?;
                 }
             }
-            let seat = Seat { scheme, round };
-            out.extend_from_slice(&verified_first(alloc, seat, &votes)?)?;
+            out.extend_from_slice(&verified_first(alloc, scheme, &round, &votes)?)?;
         }
     }
     Ok(out)
@@ -136,8 +135,8 @@ fn a_flood_of_forged_proposals_of_each_member_hides_nothing(rt: HostRuntime) -> 
     let alloc = rt.alloc();
     let (scheme, members) = (salted(alloc)?, members(alloc)?);
     let two: [Vote; 2] = [Notarize(110, 2), Notarize(120, 1)];
-    let mut wanted = stream_by(alloc, in_view_2(&members[0]), &[(7, &two)])?;
-    wanted.extend_from_slice(&stream_by(alloc, in_view_2(&members[2]), &[(7, &two)])?)?;
+    let mut wanted = stream_by(alloc, &members[0], &round(), &[(7, &two)])?;
+    wanted.extend_from_slice(&stream_by(alloc, &members[2], &round(), &[(7, &two)])?)?;
     for falling in [false, true] {
         let bytes = reports(alloc, &members, &flood(alloc, falling)?)?;
         holds(&rt, evidence(&rt, alloc, &scheme, &bytes)? == wanted);

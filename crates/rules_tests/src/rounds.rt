@@ -1,7 +1,7 @@
 //! Votes of many rounds: in order, late, far apart, and in the last view.
 
 use crate::ballots::Vote::{Finalize, Notarize, Nullify};
-use crate::ballots::{Seat, Vote, evidence, salted, stream_by, tag_of};
+use crate::ballots::{Vote, evidence, salted, stream_by, tag_of};
 use crate::holds::holds;
 use simplex_types::{Epoch, Round, View};
 use std::alloc::Global;
@@ -17,21 +17,32 @@ type Cast = (u64, u64, Vote);
 /// Evidence against member 1 in the round of this epoch and view: its tag, and its votes.
 type Piece = (u64, u64, u8, [Vote; 2]);
 
+/// The round of this epoch and view.
+fn round(epoch: u64, view: u64) -> Round {
+    Round::new(Epoch::new(epoch), View::new(view))
+}
+
 /// The audit of the loose votes gives this evidence.
 fn finds(rt: &impl Abort, alloc: Global, casts: &[Cast], wanted: &[Piece]) -> Result<(), Fail> {
     let scheme = salted(alloc)?;
-    let seat = |epoch: u64, view: u64| Seat {
-        scheme: &scheme,
-        round: Round::new(Epoch::new(epoch), View::new(view)),
-    };
     let mut reports = Vec::new(alloc);
     for (epoch, view, vote) in casts {
-        let loose = stream_by(alloc, seat(*epoch, *view), &[(tag_of(*vote), &[*vote])])?;
+        let loose = stream_by(
+            alloc,
+            &scheme,
+            &round(*epoch, *view),
+            &[(tag_of(*vote), &[*vote])],
+        )?;
         reports.extend_from_slice(&loose)?;
     }
     let mut told = Vec::new(alloc);
     for (epoch, view, tag, votes) in wanted {
-        told.extend_from_slice(&stream_by(alloc, seat(*epoch, *view), &[(*tag, votes)])?)?;
+        told.extend_from_slice(&stream_by(
+            alloc,
+            &scheme,
+            &round(*epoch, *view),
+            &[(*tag, votes)],
+        )?)?;
     }
     holds(rt, evidence(rt, alloc, &scheme, &reports)? == told);
     Ok(())
@@ -102,7 +113,7 @@ fn votes_for_one_proposal_accuse_nobody_however_late(rt: HostRuntime) -> Result<
 #[test]
 fn a_nullify_stands_beside_a_finalize_of_its_round_alone(rt: HostRuntime) -> Result<(), Fail> {
     let (nullify, finalize) = (Nullify(1), Finalize(10, 2));
-    let found: [&[Cast]; 4] = [
+    let found: [&[Cast]; 5] = [
         &[(0, 4, finalize), (0, 4, nullify)],
         &[
             (0, 2, finalize),
@@ -116,6 +127,13 @@ fn a_nullify_stands_beside_a_finalize_of_its_round_alone(rt: HostRuntime) -> Res
             (0, 6, finalize),
             (0, 2, finalize),
             (0, 4, finalize),
+        ],
+        // A late finalize for what the last round's is for, in a view of that number.
+        &[
+            (1, 4, finalize),
+            (0, 4, finalize),
+            (1, 6, finalize),
+            (0, 4, nullify),
         ],
     ];
     for casts in found {

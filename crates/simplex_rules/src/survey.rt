@@ -1,6 +1,6 @@
 //! What the votes of the reports are for, round by round, and so whose votes may contradict each other.
 
-ghost use Rattle.std.specs.Prelude.{◌≡◌, ◌∷◌, ◌⊎◌, ⊤, [], List, OnOk, IsTrue, IsSome, Contains};
+ghost use Rattle.std.specs.Prelude.{◌≡◌, ◌∷◌, [], OnOk, IsTrue, IsSome, Contains};
 ghost use Rattle.std.specs.BTreeSet.{IsSubset, contains};
 ghost use Rattle.simplex_types.specs.declared.attestation.Attestation.{Attestation};
 ghost use Rattle.simplex_messages.specs.Guilt.{votes_listed};

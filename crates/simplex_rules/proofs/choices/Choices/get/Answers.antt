@@ -1,4 +1,4 @@
-use Rattle.std.proofs.Common.{sym, ◌∙◌}
+use Rattle.std.proofs.Common.{sym}
 use Rattle.simplex_rules.proofs.Rounds.{at_last, choice_in-first, tied}
 use Rattle.simplex_rules.proofs.choices.Choices.get.Goals as goal
 
