@@ -1,11 +1,12 @@
 -- What is left where views are dropped.
 use Rattle.std.proofs.Common.{◌≡◌, ◌<◌, ◌≤◌, ◌+◌, ◌^◌, ℕ, true, false, ⊎_elim, List, [], ◌∷◌, refl, sym, arith, if◌then◌else◌}
 use Rattle.std.specs.Prelude.{Bool, Option, Some, None, length, nat_lt}
-use Rattle.std.specs.Ordering.{nat_cmp, is_lt}
+use Rattle.std.specs.Ordering.{nat_cmp, is_le, is_lt}
 use Rattle.std.specs.declared.cmp.Reverse.{Reverse}
 use Rattle.std.specs.BTreeMap.{BTreeMap, IsUpperBound, btree_map_len}
 use Rattle.std.proofs.lemmas.Bool.{cases_Bool, cases_eq, cases_lt}
 use Rattle.std.proofs.lemmas.Bool.Decides.{nat_tests}
+use Rattle.std.proofs.lemmas.Map.Keys.{le_from_is_le}
 use Rattle.simplex_round.specs.declared.round.Round.{Round}
 use Rattle.simplex_round.specs.Past.{Item}
 use Rattle.simplex_tracking.specs.Pasts.{forget}
@@ -17,6 +18,17 @@ use Rattle.simplex_tracking.proofs.Tables.{AreKept-at, AreKept-tracked}
 not_below : (a b : ℕ) → is_lt (nat_cmp a b) ≡ false → b ≤ a
 not_below a b ge = grind (arith, nat_tests)
 
+-- what a test and a count say
+pub is_above : (a b : ℕ) → false ≡ is_le (nat_cmp a b) → b < a
+is_above a b test = grind (arith, nat_tests)
+
+pub one_fewer : (a b : ℕ) → a + 1 ≡ b → a < b
+one_fewer a b e = omega arith
+
+-- the view after one below a floor has a number
+pub next_fits : (view floor : ℕ) → view < floor → floor < 2 ^ 64 → view + 1 < 2 ^ 64
+next_fits view floor below fits = omega arith
+
 no_entries : {A : Type 0} (xs : List A) → ¬ (0 < length xs) → xs ≡ []
 no_entries [] never = refl
 no_entries (x ∷ xs) never = absurd (never (omega arith))
@@ -26,9 +38,12 @@ module _ {X : Type 0} (m : BTreeMap (Reverse ℕ) X) where
   pub none_in_empty : (¬ (0 < btree_map_len m)) → (view : ℕ) → stored m view ≡ None
   none_in_empty empty view = let gone : m.entries ≡ [] = no_entries m.entries empty in rw gone refl
 
-  pub none_before_first : (first : ℕ) → IsUpperBound latest_first m (as_key first) → (view : ℕ) → view < first → stored m view ≡ None
+  none_before_first : (first : ℕ) → IsUpperBound latest_first m (as_key first) → (view : ℕ) → view < first → stored m view ≡ None
   none_before_first first least view before = cases_there (stored m view ≡ None) (stored m view) (λ none. none)
       (λ there. let from : first ≤ view = not_below view first (least (as_key view) there) in absurd (omega (arith, from, before)))
+
+  pub none_before_floor : (first floor : ℕ) → IsUpperBound latest_first m (as_key first) → true ≡ is_le (nat_cmp floor first) → (view : ℕ) → view < floor → stored m view ≡ None
+  none_before_floor first floor least test view before = let ge : floor ≤ first = le_from_is_le floor first (sym test) in none_before_first first least view (omega (arith, before, ge))
 
   -- the first view lies below a floor where one that has something does
   pub first_is_below : (first view floor : ℕ) {x : X} → IsUpperBound latest_first m (as_key first) → stored m view ≡ Some x → view < floor → first < floor

@@ -1,18 +1,20 @@
 -- Who leads, view by view.
-use Rattle.std.proofs.Common.{◌≡◌, ◌≤◌, ◌<◌, ◌+◌, ◌-◌, ◌==◌, ℕ, zero, suc, Bool, true, false, ⊎_elim, refl, sym, ap, ◌∙◌, arith, if◌then◌else◌}
-use Rattle.std.specs.Prelude.{Option, Some, None, nat_lt}
+use Rattle.std.proofs.Common.{◌≡◌, ◌⊎◌, ◌≤◌, ◌<◌, ◌+◌, ◌-◌, ◌==◌, ℕ, zero, suc, Bool, true, false, ⊎_elim, refl, sym, ap, ◌∙◌, arith, if◌then◌else◌}
+use Rattle.std.specs.Prelude.{Option, Some, None, is_none, nat_lt}
 use Rattle.std.specs.Option.{option_or}
 use Rattle.std.proofs.lemmas.Grind.{common_steps}
 use Rattle.std.proofs.lemmas.Bool.Decides.{nat_tests}
 use Rattle.std.proofs.lemmas.Bool.{cases_lt, cases_eq, ne_eqb}
-use Rattle.simplex_tracking.specs.Laws.{extend-above, one_more}
+use Rattle.simplex_types.specs.declared.scheme.Scheme.{Ghosts}
+use Rattle.simplex_tracking.specs.declared.tracked.Tracked.{Tracked}
+use Rattle.simplex_tracking.specs.Laws.{IsKept-led, extend-above, one_more, or_none}
 use Rattle.simplex_tracking.specs.Handing.{extend}
 use Rattle.simplex_tracking.specs.Rounds.{learn}
-use Rattle.simplex_tracking.specs.Tracked.{IsClosedAt, handed_on}
+use Rattle.simplex_tracking.specs.Tracked.{Frame, IsClosedAt, IsKept, Tables, handed_on, inherits_by}
 use Rattle.simplex_tracking.proofs.Choices.{is_itself}
 
 -- a view that learns nothing leaves all as they were
-pub still_led : (view : ℕ) (l : Option ℕ) (led : ℕ → Option ℕ) → option_or (led view) l ≡ led view → (u : ℕ) → (if view == u then option_or (led view) l else led u) ≡ led u
+still_led : (view : ℕ) (l : Option ℕ) (led : ℕ → Option ℕ) → option_or (led view) l ≡ led view → (u : ℕ) → (if view == u then option_or (led view) l else led u) ≡ led u
 still_led view l led same u = ⊎_elim
     (λ e. let here : (view == u) ≡ true = grind (arith, common_steps) in rw here (same ∙ ap led e))
     (λ ne. let apart : (view == u) ≡ false = grind (arith, common_steps) in rw apart refl)
@@ -23,6 +25,25 @@ itself_or : {A : Type 0} (o : Option A) (b : Bool) → option_or o (if b then o 
 itself_or None true = refl
 itself_or None false = refl
 itself_or (Some x) b = refl
+
+-- a view learns nothing from one that has no leader or the same
+pub nothing_new : (o l : Option ℕ) (b : Bool) → (l ≡ None) ⊎ (l ≡ o) → option_or o (if b then l else None) ≡ o
+nothing_new o l false why = or_none o
+nothing_new o l true why = ⊎_elim (λ none. rw none (or_none o)) (λ same. rw same (itself_or o true)) why
+
+-- nor where its leader is known
+pub known_stays : (o l : Option ℕ) {b : Bool} → b ≡ is_none o → b ≡ false → option_or o l ≡ o
+known_stays None l none known = absurd (cc (none, known))
+known_stays (Some x) l none known = refl
+
+-- the leader that a view has from the view before
+abbrev pub of_before : {S D P G C : Type 0} → Frame S → Tables S D P G C → ℕ → Option ℕ
+of_before f t view = if inherits_by f t view then t.led (view - 1) else None
+
+module _ {S D P G C : Type 0} {g : Ghosts S D P G C} {f : Frame S} {x : Tracked S D P G C} {t : Tables S D P G C} where
+  -- all is kept where a view learns nothing
+  pub kept-still : (view : ℕ) (l : Option ℕ) → IsKept g f x t → option_or (t.led view) l ≡ t.led view → IsKept g f x (record t { led = λ u. if view == u then option_or (t.led view) l else t.led u })
+  kept-still view l k same = IsKept-led (λ u. if view == u then option_or (t.led view) l else t.led u) k (λ u fits. sym (still_led view l t.led same u))
 
 module _ (here : ℕ → Option ℕ) (from_before : ℕ → Bool) (known : ℕ → Option ℕ) where
   -- below the first that is named no view learns anything, if nothing is left to be handed on there
@@ -43,9 +64,10 @@ module _ (here : ℕ → Option ℕ) (from_before : ℕ → Bool) (known : ℕ �
       (cases_lt u (view + 1))
 
   -- one view further
-  pub handed-on-next : (view : ℕ) → here view ≡ None → (w : ℕ)
-      → (if view == w then option_or (handed_on here from_before known view view) (if from_before view then handed_on here from_before known view (view - 1) else None) else handed_on here from_before known view w)
-      ≡ handed_on here from_before known (view + 1) w
+  abbrev one_further : ℕ → ℕ → Option ℕ
+  one_further view w = if view == w then option_or (handed_on here from_before known view view) (if from_before view then handed_on here from_before known view (view - 1) else None) else handed_on here from_before known view w
+
+  pub handed-on-next : (view : ℕ) → here view ≡ None → (w : ℕ) → one_further view w ≡ handed_on here from_before known (view + 1) w
   handed-on-next zero none w = ⊎_elim
       (λ e. rw (← e) (let first : nat_lt 0 0 ≡ false = refl in let next : nat_lt 0 (0 + 1) ≡ true = refl in itself_or (known 0) (from_before 0)))
       (λ ne.
@@ -70,33 +92,40 @@ module _ (here : ℕ → Option ℕ) (from_before : ℕ → Bool) (known : ℕ �
       (cases_lt w (suc v)))
       (cases_eq (suc v) w)
 
-  -- where the last view that was looked at learnt nothing, leaders are handed on as far as they are
-  pub handed-on-all : (first last view w : ℕ) → first ≤ view → last ≤ view → ((u : ℕ) → first ≤ u → here u ≡ None) → ((u : ℕ) → last ≤ u → u < w → IsClosedAt from_before known u)
-      → extend here from_before known view ≡ known view → handed_on here from_before known (view + 1) w ≡ extend here from_before known w
-  handed-on-all first last view w after behind none closed still = ⊎_elim
-      (λ lt. let within : nat_lt w (view + 1) ≡ true = grind (arith, nat_tests, lt) in rw within refl)
-      (λ ge.
-      let beyond : nat_lt w (view + 1) ≡ false = grind (arith, nat_tests, ge) in
-      rw beyond (sym (extend-above here from_before known view w still (λ u lt. none u (omega (arith, lt, after))) (λ u le below. closed u (omega (arith, le, behind)) below) (omega (arith, ge)))))
-      (cases_lt w (view + 1))
-
   -- what the view at hand has then
-  pub handed-on-here : (view : ℕ) → handed_on here from_before known (view + 1) view ≡ extend here from_before known view
+  handed-on-here : (view : ℕ) → handed_on here from_before known (view + 1) view ≡ extend here from_before known view
   handed-on-here view = let within : nat_lt view (view + 1) ≡ true = grind (arith, nat_tests) in rw within refl
 
-  pub handed-on-before : (view : ℕ) → handed_on here from_before known view view ≡ known view
+  handed-on-before : (view : ℕ) → handed_on here from_before known view view ≡ known view
   handed-on-before view = let beyond : nat_lt view view ≡ false = grind (arith, nat_tests) in rw beyond refl
 
   -- it has what it had where it learns nothing
-  pub handed-on-still : (view : ℕ) → here view ≡ None
+  handed-on-still : (view : ℕ) → here view ≡ None
       → option_or (handed_on here from_before known view view) (if from_before view then handed_on here from_before known view (view - 1) else None) ≡ handed_on here from_before known view view
       → extend here from_before known view ≡ known view
   handed-on-still view none still =
       let at : (view == view) ≡ true = is_itself view in
       sym (handed-on-here view) ∙ sym (handed-on-next view none view) ∙ rw at still ∙ handed-on-before view
 
-  pub handed-on-within : (view w : ℕ) → w < view → handed_on here from_before known view w ≡ extend here from_before known w
-  handed-on-within view w lt = let within : nat_lt w view ≡ true = grind (arith, nat_tests, lt) in rw within refl
+  -- a view before the next has what is handed on
+  pub handed-on-within : (view w : ℕ) → here view ≡ None → w < view + 1 → one_further view w ≡ extend here from_before known w
+  handed-on-within view w none lt = let within : nat_lt w (view + 1) ≡ true = grind (arith, nat_tests, lt) in handed-on-next view none w ∙ rw within refl
+
+  -- so has any, where the last view that was looked at learnt nothing
+  pub handed-on-all : (first last view w : ℕ) → first ≤ view → last ≤ view → ((u : ℕ) → first ≤ u → here u ≡ None) → ((u : ℕ) → last ≤ u → u < w → IsClosedAt from_before known u)
+      → option_or (handed_on here from_before known view view) (if from_before view then handed_on here from_before known view (view - 1) else None) ≡ handed_on here from_before known view view
+      → one_further view w ≡ extend here from_before known w
+  handed-on-all first last view w after behind none closed still = ⊎_elim
+      (λ lt. handed-on-within view w (none view after) lt)
+      (λ ge.
+      let beyond : nat_lt w (view + 1) ≡ false = grind (arith, nat_tests, ge) in
+      let same = extend-above here from_before known view w (handed-on-still view (none view after) still) (λ u lt. none u (omega (arith, lt, after))) (λ u le below. closed u (omega (arith, le, behind)) below) (omega (arith, ge)) in
+      handed-on-next view (none view after) w ∙ rw beyond (sym same))
+      (cases_lt w (view + 1))
+
+-- what is known of each view where leaders are handed on one view further
+abbrev pub further : {S D P G C : Type 0} → Frame S → Tables S D P G C → (ℕ → Option ℕ) → (ℕ → Option ℕ) → ℕ → Tables S D P G C
+further f t here known view = record t { led = one_further here (inherits_by f t) known view }
 
 -- a view before or behind another is another
 not_later : (v w : ℕ) → w < suc v → (w == suc v) ≡ false

@@ -2,7 +2,7 @@
 use Rattle.std.proofs.Common.{◌≡◌, ℕ, true, false, ◌<◌, ◌^◌, List, ◌∷◌, inr, refl, if◌then◌else◌}
 use Rattle.std.specs.Borrow.{MutBor}
 use Rattle.std.specs.Option.{option_copied_mut, option_or}
-use Rattle.std.specs.Prelude.{Option, Some, None, Bool, MatchOption, IsSome, OnSome}
+use Rattle.std.specs.Prelude.{Option, Some, None, Bool, IsSome, OnSome}
 use Rattle.std.specs.declared.cmp.Reverse.{Reverse}
 use Rattle.std.specs.BTreeMap.{BTreeMap}
 use Rattle.simplex_round.specs.declared.round.Round.{Round}
@@ -14,11 +14,6 @@ use Rattle.simplex_tracking.specs.Pasts.{put}
 use Rattle.simplex_tracking.specs.Rounds.{AtEach, Common, IsOpen, IsTracked, Keep, Stores, learn, setup_of, stored}
 use Rattle.simplex_tracking.proofs.Choices.{is_itself, some-is}
 use Rattle.simplex_tracking.proofs.Tables.{AreKept-step, AreOpen-there, happened}
-
--- what is said of what may be lent
-pub known-stands : {A : Type 0} (P : Type 0) (Q : A → Type 0) (found : Option (MutBor A)) → MatchOption (option_copied_mut found) P Q → MatchOption found P (λ x. Q x.now)
-known-stands P Q None h = h
-known-stands P Q (Some x) h = h
 
 -- a round that is open was lent
 pub Follows-open : {S D P G C : Type 0} {key_of : S → ℕ → P} {before now : Rounds S D P G C} {m : BTreeMap (Reverse ℕ) (Round S D P G C)} (view : ℕ) (left : Round S D P G C)

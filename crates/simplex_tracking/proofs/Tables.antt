@@ -1,7 +1,8 @@
 -- A change of one round among many.
 use Rattle.std.proofs.Common.{◌≡◌, ℕ, true, false, ◌==◌, ◌<◌, ◌^◌, ⊎_elim, inl, List, [], ◌∷◌, refl, sym, ap, arith, Bor, if◌then◌else◌}
-use Rattle.std.specs.Option.{option_or}
-use Rattle.std.specs.Prelude.{Option, Some, None, Bool, MatchOption, IsSome, is_some, option_copied, option_map}
+use Rattle.std.specs.Borrow.{MutBor}
+use Rattle.std.specs.Option.{option_copied_mut, option_or}
+use Rattle.std.specs.Prelude.{Option, Some, None, Bool, MatchOption, IsSome, is_some, option_copied}
 use Rattle.simplex_types.specs.declared.position.Round as position
 use Rattle.simplex_types.specs.declared.proposal.Proposal.{Proposal}
 use Rattle.std.specs.declared.cmp.Reverse.{Reverse}
@@ -44,6 +45,18 @@ module _ {S D P G C : Type 0} where
       → MatchOption o ⊥ (λ r. one.Keeps key_of (setup_of s view) r l h)
   is_there key_of s view None l h some right = absurd (cc some)
   is_there key_of s view (Some r) l h some right = right.1
+
+module _ {S D P G C : Type 0} (key_of : S → ℕ → P) (s : Common S) (view : ℕ) (led : Option ℕ) (past : List (Item S D P G C)) where
+  -- what is said of a round that may be read, or lent
+  pub read-stands : (found : Option (Bor (Round S D P G C))) → IsRight key_of s view (option_copied found) led past
+      → MatchOption found ((past ≡ []) × (led ≡ None)) (λ x. IsTracked past led × one.Keeps key_of (setup_of s view) x.now led past)
+  read-stands None h = h
+  read-stands (Some x) h = h
+
+  pub known-stands : (found : Option (MutBor (Round S D P G C))) → IsRight key_of s view (option_copied_mut found) led past
+      → MatchOption found ((past ≡ []) × (led ≡ None)) (λ x. IsTracked past led × one.Keeps key_of (setup_of s view) x.now led past)
+  known-stands None h = h
+  known-stands (Some x) h = h
 
 module _ {S D P G C : Type 0} {key_of : S → ℕ → P} {s : Common S} {m : BTreeMap (Reverse ℕ) (Round S D P G C)} {led : ℕ → Option ℕ} {past : ℕ → List (Item S D P G C)} where
   -- an open round stands where its leader and its past say

@@ -5,10 +5,10 @@ use crate::voter::told;
 use simplex_round::Round;
 use simplex_types::{Scheme, Sha256Digest, View};
 use std::process::Abort;
+use voter_plain as plain;
 use voter_plain::samples::{byte_of, named};
 use voter_plain::views::Mark;
 use voter_plain::{History, Plain};
-use voter_plain as plain;
 
 /// The proposal that is bound, and its parent's payload.
 pub fn binding<S: Scheme<Sha256Digest>>(

@@ -8,13 +8,13 @@ use simplex_rules::Elector;
 use simplex_types::{Proposal, Sha256Digest, View};
 use simplex_views::Views;
 use std::alloc::{AllocError, Global};
+use voter_plain as plain;
 use voter_plain::answers::{Answer, about, yes_or_no};
 use voter_plain::getters::Entry;
 use voter_plain::samples::{
     finalization, named, notarization, nullification, payload, proposal, recalled,
 };
 use voter_plain::{Numbering, Point};
-use voter_plain as plain;
 
 /// What one member knows of all views.
 #[derive(Drop)]

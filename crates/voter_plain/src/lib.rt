@@ -22,10 +22,9 @@ pub mod world;
 
 pub use committees::committee;
 pub use elector::Chosen;
-pub use numbering::Numbering;
-
 use getters::Entry;
 use leaders::Leaders;
+pub use numbering::Numbering;
 use positions::{next_term_start, term_index};
 use simplex_round::TimeoutReason;
 

@@ -1,11 +1,13 @@
 //! What stands for the plain program's proposals, certificates and artifacts. Epochs, views and parents lie below 128, and
 //! certificates and signatures are spelled as the plain scheme spells them.
 
+use crate as plain;
 use crate::getters::Entry;
 use crate::{Point, Setup};
-use crate as plain;
 use simplex_messages::{Artifact, Finalization, Notarization, Nullification};
-use simplex_types::{Digest, Epoch, PlainScheme, Proposal, Read, Round, Scheme, Sha256Digest, View};
+use simplex_types::{
+    Digest, Epoch, PlainScheme, Proposal, Read, Round, Scheme, Sha256Digest, View,
+};
 use std::alloc::{AllocError, Global};
 
 pub type Kept = Artifact<PlainScheme, Sha256Digest>;

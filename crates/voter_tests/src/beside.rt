@@ -8,6 +8,7 @@ use simplex_types::{Proposal, Sha256Digest, View};
 use simplex_voter::CertificateFetch;
 use std::alloc::Global;
 use std::process::Abort;
+use voter_plain as plain;
 use voter_plain::answers::{Answer, yes_or_no};
 use voter_plain::calls::{Call, Reply};
 use voter_plain::requests::{Judging, Look};
@@ -15,7 +16,6 @@ use voter_plain::samples::{A, B, GENESIS, named};
 use voter_plain::views::Mark;
 use voter_plain::world::World;
 use voter_plain::{History, Plain, Point, Setup, VIEWS};
-use voter_plain as plain;
 
 /// A voter, and what happened to it.
 #[derive(Drop)]

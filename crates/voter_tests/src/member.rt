@@ -4,11 +4,11 @@ use simplex_round::{HandoffAbandonedReason, TimeoutReason};
 use simplex_types::{Proposal, Sha256Digest, View};
 use simplex_voter::CertificateFetch;
 use std::alloc::Global;
+use voter_plain as plain;
 use voter_plain::Point;
 use voter_plain::answers::Answer;
 use voter_plain::calls::Reply;
 use voter_plain::getters::Entry;
-use voter_plain as plain;
 
 /// On which proposals verdicts are to be asked for, and which notarizations.
 pub type Verdicts = (Vec<Proposal<Sha256Digest>>, Vec<CertificateFetch>);

@@ -9,6 +9,7 @@ use simplex_rules::Elector;
 use simplex_types::{Context, Epoch, Participant, Proposal, Round, Sha256Digest, View};
 use simplex_voter::{Floor, State, Verify};
 use std::alloc::Global;
+use voter_plain as plain;
 use voter_plain::answers::{Answer, yes_or_no};
 use voter_plain::calls::Reply;
 use voter_plain::getters::Entry;
@@ -16,7 +17,6 @@ use voter_plain::samples::{
     byte_of, finalization, named, notarization, nullification, payload, proposal, recalled,
 };
 use voter_plain::{Numbering, Point};
-use voter_plain as plain;
 
 /// A voter, and what its answers are named by.
 #[derive(Drop)]

@@ -10,9 +10,8 @@ ghost use Rattle.simplex_voter.specs.Verifying.{Answers, Asks, BehindLook, IsKey
 
 use crate::state::State;
 use crate::wanted::Wanted;
-use simplex_due::Verify;
-use simplex_due::a_look_leaves_nothing_to_ask;
 use simplex_due::requests::{VerifyRequest, request_for};
+use simplex_due::{Verify, a_look_leaves_nothing_to_ask};
 use simplex_facts::Facts;
 use simplex_resolver::Kind;
 use simplex_round::TimeoutReason;

@@ -1,6 +1,6 @@
-use Rattle.std.proofs.Common.{refl, ◌∙◌}
+use Rattle.std.proofs.Common.{refl, sym, ◌∙◌}
 use Rattle.simplex_tracking.specs.Rounds.{Keep}
-use Rattle.simplex_tracking.proofs.Choices.{none_from_test}
+use Rattle.simplex_tracking.proofs.Choices.{none_from_test, some-is}
 use Rattle.simplex_tracking.proofs.Tables.{AreOpen-new, AreOpen-there, same_setup}
 use Rattle.simplex_tracking.proofs.rounds.Rounds.add.Goals as goal
 
@@ -11,6 +11,9 @@ returns-then-contains_key-clause-opens g c = λ s led past k. record {
   epoch = k.epoch;
   rounds = AreOpen-there c.args.view k.rounds c.get-number.ensures.fits (rw (← c.if-contains_key.ensures) refl);
 }
+
+pub returns-clause-there : goal.returns-clause-there
+returns-clause-there g c = some-is (sym c.in_ok-insert.ensures.updates.1)
 
 pub returns-clause-opens : goal.returns-clause-opens
 unfolding Keep

@@ -1,4 +1,5 @@
 use Rattle.std.proofs.Common.{refl}
+use Rattle.simplex_tracking.specs.Rounds.{setup_of}
 use Rattle.simplex_tracking.proofs.Lent.{lent-learn}
 use Rattle.simplex_tracking.proofs.Tables.{is-named}
 use Rattle.simplex_tracking.proofs.rounds.Rounds.learn.Goals as goal
@@ -7,7 +8,7 @@ pub returns-clause-keeps : goal.returns-clause-keeps
 returns-clause-keeps g c = λ s led past k member.
     let here = c.in_ok-open.ensures.stands s led past k in
     let follows = c.open.follows.holds c.learn_leader.new.self (rw c.in_ok-open.was refl) in
-    lent-learn s led past c.args.leader follows k (c.learn_leader.ensures.member _ _ _ here member) (is-named (led c.args.view) c.args.leader)
+    lent-learn s led past c.args.leader follows k (c.learn_leader.ensures.member (setup_of s c.args.view) _ _ here member) (is-named (led c.args.view) c.args.leader)
 
 pub returns-clause-answer : goal.returns-clause-answer
-returns-clause-answer g c = λ s led past k. c.learn_leader.ensures.answer _ _ _ (c.in_ok-open.ensures.stands s led past k)
+returns-clause-answer g c = λ s led past k. c.learn_leader.ensures.answer (setup_of s c.args.view) _ _ (c.in_ok-open.ensures.stands s led past k)

@@ -1,4 +1,5 @@
 use Rattle.std.proofs.Common.{refl}
+use Rattle.simplex_tracking.specs.Rounds.{setup_of}
 use Rattle.simplex_tracking.proofs.Recalling.{recalled-kept}
 use Rattle.simplex_tracking.proofs.rounds.Rounds.replay.Goals as goal
 
@@ -6,4 +7,4 @@ pub returns : goal.returns
 returns g c = λ s led past k.
     let here = c.in_ok-open.ensures.stands s led past k in
     let follows = c.open.follows.holds c.replay.new.self (rw c.in_ok-open.was refl) in
-    recalled-kept s led past c.args.artifact.now (rw c.view-view.ensures at follows) k (rw c.view-view.ensures at (c.replay.ensures _ _ _ here))
+    recalled-kept s led past c.args.artifact.now (rw c.view-view.ensures at follows) k (rw c.view-view.ensures at (c.replay.ensures (setup_of s c.view-view.result) (led c.view-view.result) (past c.view-view.result) here))

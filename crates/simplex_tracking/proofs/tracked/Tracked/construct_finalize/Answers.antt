@@ -1,6 +1,7 @@
 use Rattle.std.proofs.Common.{refl}
 use Rattle.std.specs.Prelude.{is_some}
 use Rattle.simplex_round.specs.Past.{voted_finalize}
+use Rattle.simplex_tracking.specs.Rounds.{setup_of}
 use Rattle.simplex_tracking.specs.Tracked.{Holds}
 use Rattle.simplex_tracking.proofs.Growing.{either-plain, plain-kept, put-plain, still-plain}
 use Rattle.simplex_tracking.proofs.Lent.{lent-when}
@@ -12,12 +13,12 @@ returns-in-Some-clause-keeps g c = λ f t k.
     let here = c.in-Some.ensures.stands f.common t.led t.past k.rounds in
     let follows = rw c.in-Some.is at (c.get_mut.follows.holds c.construct_finalize.new.self) in
     let voted = is_some c.construct_finalize.result in
-    plain-kept k (lent-when f.common t.led t.past voted_finalize voted follows k.rounds (c.construct_finalize.ensures.keeps _ _ _ here.1) (λ _. here.0))
+    plain-kept k (lent-when f.common t.led t.past voted_finalize voted follows k.rounds (c.construct_finalize.ensures.keeps (setup_of f.common c.args.view) _ _ here.1) (λ _. here.0))
     (either-plain voted (put-plain c.args.view voted_finalize (λ l. refl) (still-plain t.past)) (still-plain t.past))
 
 pub returns-in-Some-clause-answer : goal.returns-in-Some-clause-answer
 unfolding Holds
-returns-in-Some-clause-answer g c = λ f t k. c.construct_finalize.ensures.answer _ _ _ (c.in-Some.ensures.stands f.common t.led t.past k.rounds).1
+returns-in-Some-clause-answer g c = λ f t k. c.construct_finalize.ensures.answer (setup_of f.common c.args.view) _ _ (c.in-Some.ensures.stands f.common t.led t.past k.rounds).1
 
 pub returns-in-None-clause-keeps : goal.returns-in-None-clause-keeps
 unfolding Holds

@@ -3,6 +3,7 @@ use Rattle.std.specs.Prelude.{is_some}
 use Rattle.simplex_round.specs.Past.{voted_nullify}
 use Rattle.simplex_tracking.specs.declared.sign.Sign.TheVariants as sign
 use Rattle.simplex_tracking.specs.Pasts.{bears}
+use Rattle.simplex_tracking.specs.Rounds.{setup_of}
 use Rattle.simplex_tracking.specs.Tracked.{Holds}
 use Rattle.simplex_tracking.proofs.Lent.{lent-when}
 use Rattle.simplex_tracking.proofs.Showing.{nullified-shown}
@@ -19,8 +20,8 @@ returns-clause-keeps g c = λ f t k.
     record {
       length = k.length;
       optimistic_views = k.optimistic_views;
-      rounds = lent-when f.common t.led t.past voted_nullify (is_some voted) follows k.rounds (c.construct_nullify-voted.ensures.keeps _ _ _ here)
-          (finalized_tracked (t.past view) (t.led view) voted (c.construct_nullify-voted.ensures.answer _ _ _ here));
+      rounds = lent-when f.common t.led t.past voted_nullify (is_some voted) follows k.rounds (c.construct_nullify-voted.ensures.keeps (setup_of f.common c.args.view) _ _ here)
+          (finalized_tracked (t.past view) (t.led view) voted (c.construct_nullify-voted.ensures.answer (setup_of f.common c.args.view) _ _ here));
       signs = nullified-shown k.signs view (is_some voted) (rw c.is_some.ensures at (c.in_ok-mark_if.ensures (λ u. bears sign.GivenUp (t.past u)) k.signs.given_up));
       noted = k.noted;
       members = k.members;
@@ -28,4 +29,4 @@ returns-clause-keeps g c = λ f t k.
 
 pub returns-clause-answer : goal.returns-clause-answer
 unfolding Holds
-returns-clause-answer g c = λ f t k. c.construct_nullify-voted.ensures.answer _ _ _ (c.in_ok-open.ensures.stands f.common t.led t.past k.rounds)
+returns-clause-answer g c = λ f t k. c.construct_nullify-voted.ensures.answer (setup_of f.common c.args.view) _ _ (c.in_ok-open.ensures.stands f.common t.led t.past k.rounds)

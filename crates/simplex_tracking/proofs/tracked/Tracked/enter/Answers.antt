@@ -1,5 +1,6 @@
 use Rattle.std.proofs.Common.{refl}
 use Rattle.simplex_round.specs.Past.{entered, armed}
+use Rattle.simplex_tracking.specs.Rounds.{setup_of}
 use Rattle.simplex_tracking.specs.Tracked.{Holds}
 use Rattle.simplex_tracking.proofs.Growing.{plain-kept, put-plain, still-plain}
 use Rattle.simplex_tracking.proofs.Lent.{lent-put_two}
@@ -10,5 +11,7 @@ unfolding Holds
 returns g c = λ f t k.
     let here = c.in_ok-round.ensures.stands f.common t.led t.past k.rounds in
     let follows = c.open.follows.holds c.set_deadlines.new.self (rw c.in_ok-round.was refl) in
-    plain-kept k (lent-put_two f.common t.led t.past _ _ follows k.rounds (c.set_deadlines.ensures _ _ _ (c.mark_entered.ensures _ _ _ here)))
-    (put-plain c.args.view (armed c.args.leader c.args.certification c.args.stall) (λ l. refl) (put-plain c.args.view (entered c.args.now) (λ l. refl) (still-plain t.past)))
+    let arms = armed c.args.leader c.args.certification c.args.stall in
+    let enters = entered c.args.now in
+    plain-kept k (lent-put_two f.common t.led t.past arms enters follows k.rounds (c.set_deadlines.ensures (setup_of f.common c.args.view) _ _ (c.mark_entered.ensures (setup_of f.common c.args.view) _ _ here)))
+    (put-plain c.args.view arms (λ l. refl) (put-plain c.args.view enters (λ l. refl) (still-plain t.past)))

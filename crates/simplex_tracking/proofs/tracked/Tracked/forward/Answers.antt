@@ -2,6 +2,7 @@ use Rattle.std.proofs.Common.{refl}
 use Rattle.simplex_round.specs.Held as offer
 use Rattle.simplex_round.specs.Past as past
 use Rattle.simplex_round.specs.Past.{has_nullified}
+use Rattle.simplex_tracking.specs.Rounds.{setup_of}
 use Rattle.simplex_tracking.specs.Tracked.{Holds}
 use Rattle.simplex_tracking.proofs.Forwarding.{offered-tables, offered-closed}
 use Rattle.simplex_tracking.proofs.Growing.{either-plain, plain-shown, put-plain, still-plain}
@@ -19,7 +20,7 @@ returns-clause-keeps g c = λ f t k closed.
     (record {
       length = k.length;
       optimistic_views = k.optimistic_views;
-      rounds = lent-unless f.common t.led t.past (past.offered (offer.forwarded c.args.proposal.now)) (has_nullified (t.past view)) follows k.rounds (c.set_proposal-first.ensures.keeps _ _ _ here)
+      rounds = lent-unless f.common t.led t.past (past.offered (offer.forwarded c.args.proposal.now)) (has_nullified (t.past view)) follows k.rounds (c.set_proposal-first.ensures.keeps (setup_of f.common c.args.view) _ _ here)
           (nullified_tracked (t.past view) (t.led view));
       signs = plain-shown k.signs
           (either-plain (has_nullified (t.past view)) (still-plain t.past) (put-plain view (past.offered (offer.forwarded c.args.proposal.now)) (λ l. refl) (still-plain t.past)));
@@ -30,4 +31,4 @@ returns-clause-keeps g c = λ f t k closed.
 
 pub returns-clause-answer : goal.returns-clause-answer
 unfolding Holds
-returns-clause-answer g c = λ f t k. c.set_proposal-first.ensures.answer _ _ _ (c.in_ok-open.ensures.stands f.common t.led t.past k.rounds)
+returns-clause-answer g c = λ f t k. c.set_proposal-first.ensures.answer (setup_of f.common c.args.view) _ _ (c.in_ok-open.ensures.stands f.common t.led t.past k.rounds)

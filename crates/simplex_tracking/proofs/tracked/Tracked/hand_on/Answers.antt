@@ -1,10 +1,21 @@
-use Rattle.std.proofs.Common.{◌+◌, ◌∙◌, arith}
-use Rattle.std.proofs.lemmas.Bool.Decides.{nat_tests}
+use Rattle.std.proofs.Common.{◌≡◌, ◌≤◌, ◌<◌, ◌+◌, ◌-◌, ◌^◌, ◌∙◌, ℕ, true, arith, sym}
+use Rattle.std.specs.Prelude.{Bool}
+use Rattle.std.specs.Ordering.{nat_cmp, is_le}
+use Rattle.std.proofs.lemmas.Map.Keys.{le_from_is_le}
 use Rattle.simplex_tracking.specs.Tracked.{Holds, inherits_by, handed_on}
 use Rattle.simplex_tracking.specs.Handing.{extend}
 use Rattle.simplex_tracking.specs.Laws.{IsKept-led}
-use Rattle.simplex_tracking.proofs.Leading.{handed-on-next, handed-on-all, handed-on-still, handed-on-within}
+use Rattle.simplex_tracking.proofs.Dropping.{next_fits}
+use Rattle.simplex_tracking.proofs.Leading.{further, handed-on-all, handed-on-next, handed-on-within}
 use Rattle.simplex_tracking.proofs.tracked.Tracked.hand_on.Goals as goal
+
+-- a test says that a number is at most another
+at_most : (a b : ℕ) {r : Bool} → r ≡ is_le (nat_cmp a b) → r ≡ true → a ≤ b
+at_most a b test so = le_from_is_le a b (sym test ∙ so)
+
+-- no view with a number lies behind the last one
+up_to_last : (u view number : ℕ) → u < 2 ^ 64 → number ≡ view → 2 ^ 64 - 1 ≤ number → u < view + 1
+up_to_last u view number fits is last = omega arith
 
 pub views-init : goal.views-init
 unfolding Holds
@@ -17,7 +28,7 @@ views-preserved g c = record {
   holds = λ f t k here known b.
       let so_far = c.views.invariant.holds f t k here known b in
       let kept = c.in_ok-learnt.ensures.keeps f (record t { led = handed_on here (inherits_by f t) known c.views.view }) so_far in
-      IsKept-led (handed_on here (inherits_by f t) known c.next-view.result) kept
+      IsKept-led {t = further f t here known c.views.view} (handed_on here (inherits_by f t) known c.next-view.result) kept
       (λ u fits. rw c.next-view.ensures (handed-on-next here (inherits_by f t) known c.views.view (b.unnamed c.views.view c.views.invariant.after) u));
 }
 
@@ -25,13 +36,11 @@ pub returns-then-le : goal.returns-then-le
 unfolding Holds
 returns-then-le g c = λ f t k here known b.
     let so_far = c.views.invariant.holds f t k here known b in
-    let none = b.unnamed c.views.view c.views.invariant.after in
     let kept = c.in_ok-learnt.ensures.keeps f (record t { led = handed_on here (inherits_by f t) known c.views.view }) so_far in
     let still = c.in_ok-learnt.ensures.answer f (record t { led = handed_on here (inherits_by f t) known c.views.view }) so_far c.if-not-learnt.true in
-    IsKept-led (extend here (inherits_by f t) known) kept
-    (λ u fits. handed-on-next here (inherits_by f t) known c.views.view none u
-    ∙ handed-on-all here (inherits_by f t) known c.args.first c.args.last c.views.view u c.views.invariant.after (grind (arith, nat_tests, c.le.ensures, c.if-le.true)) b.unnamed
-    (λ w from below. b.closed w from (omega (arith, below, fits))) (handed-on-still here (inherits_by f t) known c.views.view none still))
+    IsKept-led {t = further f t here known c.views.view} (extend here (inherits_by f t) known) kept
+    (λ u fits. handed-on-all here (inherits_by f t) known c.args.first c.args.last c.views.view u c.views.invariant.after (at_most c.args.last c.views.view c.le.ensures c.if-le.true) b.unnamed
+    (λ w from below. b.closed w from (next_fits w u below fits)) still)
 
 pub returns : goal.returns
 unfolding Holds
@@ -39,5 +48,5 @@ returns g c = λ f t k here known b.
     let so_far = c.views.invariant.holds f t k here known b in
     let none = b.unnamed c.views.view c.views.invariant.after in
     let kept = c.in_ok-_last.ensures.keeps f (record t { led = handed_on here (inherits_by f t) known c.views.view }) so_far in
-    IsKept-led (extend here (inherits_by f t) known) kept
-    (λ u fits. handed-on-next here (inherits_by f t) known c.views.view none u ∙ handed-on-within here (inherits_by f t) known (c.views.view + 1) u (grind (arith, nat_tests, fits, c.get.ensures.value, c.views-test.false)))
+    IsKept-led {t = further f t here known c.views.view} (extend here (inherits_by f t) known) kept
+    (λ u fits. handed-on-within here (inherits_by f t) known c.views.view u none (up_to_last u c.views.view c.get.result fits c.get.ensures.value c.views-test.false))

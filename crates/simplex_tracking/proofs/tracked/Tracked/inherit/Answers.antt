@@ -1,18 +1,42 @@
-use Rattle.std.proofs.Common.{◌≡◌, ◌-◌, true, false, sym}
+use Rattle.std.proofs.Common.{◌≡◌, ◌-◌, true, false, ap, inl, inr, refl, sym}
 use Rattle.std.specs.Prelude.{Some, None}
 use Rattle.std.proofs.lemmas.Bool.{false_from_ne_true}
 use Rattle.simplex_tracking.specs.Tracked.{Holds, inherits_by}
 use Rattle.simplex_tracking.proofs.Choices.{false_is_not}
 use Rattle.simplex_tracking.proofs.Tables.{learn-members}
-use Rattle.simplex_tracking.specs.Laws.{IsKept-led, inherits_from, inherits_says, or_none}
-use Rattle.simplex_tracking.proofs.Leading.{still_led}
+use Rattle.simplex_tracking.specs.Laws.{inherits_from, inherits_says, or_none}
+use Rattle.simplex_tracking.proofs.Leading.{kept-still, known_stays, nothing_new, of_before}
 use Rattle.simplex_tracking.proofs.tracked.Tracked.inherit.Goals as goal
+
+pub returns-in_default-clause-keeps : goal.returns-in_default-clause-keeps
+unfolding Holds
+returns-in_default-clause-keeps g c = λ f t k.
+    let zero : c.args.view ≡ 0 = c.in_default.ensures.none.0 refl in
+    let back : c.args.view - 1 ≡ c.args.view = rw zero refl in
+    kept-still c.args.view (of_before f t c.args.view) k (nothing_new (t.led c.args.view) (t.led (c.args.view - 1)) (inherits_by f t c.args.view) (inr (ap t.led back)))
+
+pub returns-in_default-clause-answer : goal.returns-in_default-clause-answer
+returns-in_default-clause-answer g c = λ f t k _.
+    let zero : c.args.view ≡ 0 = c.in_default.ensures.none.0 refl in
+    let back : c.args.view - 1 ≡ c.args.view = rw zero refl in
+    nothing_new (t.led c.args.view) (t.led (c.args.view - 1)) (inherits_by f t c.args.view) (inr (ap t.led back))
+
+pub returns-in_default-leader-clause-keeps : goal.returns-in_default-leader-clause-keeps
+unfolding Holds
+returns-in_default-leader-clause-keeps g c = λ f t k.
+    let none : t.led (c.args.view - 1) ≡ None = rw c.in-Some.ensures.before at (sym (c.in_default-leader.ensures f t k)) in
+    kept-still c.args.view (of_before f t c.args.view) k (nothing_new (t.led c.args.view) (t.led (c.args.view - 1)) (inherits_by f t c.args.view) (inl none))
+
+pub returns-in_default-leader-clause-answer : goal.returns-in_default-leader-clause-answer
+returns-in_default-leader-clause-answer g c = λ f t k _.
+    let none : t.led (c.args.view - 1) ≡ None = rw c.in-Some.ensures.before at (sym (c.in_default-leader.ensures f t k)) in
+    nothing_new (t.led c.args.view) (t.led (c.args.view - 1)) (inherits_by f t c.args.view) (inl none)
 
 pub returns-then-not-inherits-clause-keeps : goal.returns-then-not-inherits-clause-keeps
 unfolding Holds
 returns-then-not-inherits-clause-keeps g c = λ f t k.
     let never : inherits_by f t c.args.view ≡ false = false_from_ne_true _ (λ so. false_is_not c.if-not-inherits.true ((c.inherits.ensures f t k).1 (inherits_says f t c.args.view so))) in
-    IsKept-led _ k (λ u fits. rw never (sym (still_led c.args.view None t.led (or_none (t.led c.args.view)) u)))
+    kept-still c.args.view (of_before f t c.args.view) k (rw never (or_none (t.led c.args.view)))
 
 pub returns-then-not-inherits-clause-answer : goal.returns-then-not-inherits-clause-answer
 returns-then-not-inherits-clause-answer g c = λ f t k _.
@@ -33,3 +57,7 @@ returns-clause-keeps g c = λ f t k.
       noted = k.noted;
       members = learn-members _ t.led c.args.view c.in-Some-leader.leader k.members member;
     })
+
+pub returns-clause-answer : goal.returns-clause-answer
+unfolding Holds
+returns-clause-answer g c = λ f t k. known_stays (t.led c.args.view) (of_before f t c.args.view) (c.in_ok-new.ensures.answer f.common t.led t.past k.rounds)

@@ -3,6 +3,7 @@ use Rattle.std.specs.Prelude.{is_some, not, ◌&&◌}
 use Rattle.simplex_round.specs.Past.{judged, verdict}
 use Rattle.simplex_tracking.specs.declared.sign.Sign.TheVariants as sign
 use Rattle.simplex_tracking.specs.Pasts.{bears}
+use Rattle.simplex_tracking.specs.Rounds.{setup_of}
 use Rattle.simplex_tracking.specs.Tracked.{Holds}
 use Rattle.simplex_tracking.proofs.Lent.{lent-put}
 use Rattle.simplex_tracking.proofs.Showing.{judged-shown}
@@ -26,7 +27,7 @@ returns g c = λ f t k.
     record {
       length = k.length;
       optimistic_views = k.optimistic_views;
-      rounds = lent-put f.common t.led t.past (judged c.args.is_success) follows k.rounds (c.certified.ensures _ _ _ here);
+      rounds = lent-put f.common t.led t.past (judged c.args.is_success) follows k.rounds (c.certified.ensures (setup_of f.common c.args.view) _ _ here);
       signs = judged-shown k.signs c.args.view c.args.is_success
           (rw certifies at (c.in_ok-mark_if.ensures (λ u. bears sign.Certified (t.past u)) k.signs.certified))
           (rw fails at (c.in_ok-mark_if-2.ensures (λ u. bears sign.Failed (t.past u)) k.signs.failed));

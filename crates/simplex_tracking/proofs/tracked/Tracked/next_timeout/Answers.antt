@@ -1,5 +1,6 @@
 use Rattle.std.proofs.Common.{◌+◌, refl}
 use Rattle.simplex_round.specs.Past.{polled}
+use Rattle.simplex_tracking.specs.Rounds.{setup_of}
 use Rattle.simplex_tracking.specs.Tracked.{Holds}
 use Rattle.simplex_tracking.proofs.Growing.{plain-kept, put-plain, still-plain}
 use Rattle.simplex_tracking.proofs.Lent.{lent-put}
@@ -11,9 +12,9 @@ returns-clause-keeps g c = λ f t k.
     let here = c.in_ok-round.ensures.stands f.common t.led t.past k.rounds in
     let follows = c.open.follows.holds c.next_timeout.new.self (rw c.in_ok-round.was refl) in
     let item = polled (c.args.now + c.args.retry_interval) in
-    plain-kept k (lent-put f.common t.led t.past item follows k.rounds (c.next_timeout.ensures.keeps _ _ _ here))
+    plain-kept k (lent-put f.common t.led t.past item follows k.rounds (c.next_timeout.ensures.keeps (setup_of f.common c.args.view) _ _ here))
     (put-plain c.args.view item (λ l. refl) (still-plain t.past))
 
 pub returns-clause-answer : goal.returns-clause-answer
 unfolding Holds
-returns-clause-answer g c = λ f t k. c.next_timeout.ensures.answer _ _ _ (c.in_ok-round.ensures.stands f.common t.led t.past k.rounds)
+returns-clause-answer g c = λ f t k. c.next_timeout.ensures.answer (setup_of f.common c.args.view) _ _ (c.in_ok-round.ensures.stands f.common t.led t.past k.rounds)

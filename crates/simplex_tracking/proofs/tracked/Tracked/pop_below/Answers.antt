@@ -1,6 +1,6 @@
 use Rattle.std.proofs.Common.{◌+◌, refl}
 use Rattle.simplex_tracking.specs.Tracked.{Holds, count}
-use Rattle.simplex_tracking.proofs.Dropping.{forget-members}
+use Rattle.simplex_tracking.proofs.Dropping.{forget-members, next_fits}
 use Rattle.simplex_tracking.proofs.Showing.{forgotten-shown}
 use Rattle.simplex_tracking.proofs.tracked.Tracked.pop_below.Goals as goal
 
@@ -14,6 +14,13 @@ returns-in_default-clause-keeps g c = λ f t k. record {
   noted = c.forget_marks.ensures.noted t.noted k.noted;
   members = forget-members _ c.args.floor t.led k.members;
 }
+
+pub returns-in_default-clause-popped : goal.returns-in_default-clause-popped
+unfolding Holds
+returns-in_default-clause-popped g c = λ f t k. rw c.in_default.is at (c.pop_below.ensures.popped f.common t.led t.past k.rounds)
+
+pub next-requires : goal.next-requires
+next-requires g c = next_fits c.in-Some.entry.0 c.args.floor (rw c.in-Some.is at c.pop_below.ensures.below) c.get-number.ensures.fits
 
 pub returns-clause-keeps : goal.returns-clause-keeps
 unfolding Holds
@@ -30,3 +37,7 @@ returns-clause-keeps g c =
 pub returns-clause-fewer : goal.returns-clause-fewer
 unfolding count
 returns-clause-fewer g c = λ some. rw c.forget_marks-2.ensures.rounds (c.pop_below.ensures.fewer (rw c.in-Some.is refl))
+
+pub returns-clause-popped : goal.returns-clause-popped
+unfolding Holds
+returns-clause-popped g c = λ f t k. rw c.in-Some.is at (c.pop_below.ensures.popped f.common t.led t.past k.rounds)

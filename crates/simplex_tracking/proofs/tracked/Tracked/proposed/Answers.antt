@@ -1,5 +1,6 @@
 use Rattle.std.proofs.Common.{refl}
 use Rattle.simplex_round.specs.Past.{bound, built}
+use Rattle.simplex_tracking.specs.Rounds.{setup_of}
 use Rattle.simplex_tracking.specs.Tracked.{Holds}
 use Rattle.simplex_tracking.proofs.Choices.{false_is_not}
 use Rattle.simplex_tracking.proofs.Growing.{either-plain, plain-kept, put-plain, still-plain}
@@ -14,11 +15,13 @@ returns-clause-keeps g c = λ f t k.
     let view = proposal.round.view in
     let here = rw c.view.ensures at (c.in_ok-round.ensures.stands f.common t.led t.past k.rounds) in
     let follows = rw c.view.ensures at (c.open.follows.holds c.record_build.new.round (rw c.in_ok-round.was refl)) in
-    let answer = c.record_build.ensures.answer _ _ _ here in
-    plain-kept k (lent-when_two f.common t.led t.past (bound proposal c.args.payload) (built c.args.now proposal) c.record_build.result follows k.rounds (c.record_build.ensures.keeps _ _ _ here)
+    let answer = c.record_build.ensures.answer (setup_of f.common view) (t.led view) (t.past view) here in
+    plain-kept k (lent-when_two f.common t.led t.past (bound proposal c.args.payload) (built c.args.now proposal) c.record_build.result follows k.rounds (c.record_build.ensures.keeps (setup_of f.common view) (t.led view) (t.past view) here)
     (λ no. refused_tracked (t.past view) (t.led view) proposal (λ both. false_is_not no (answer.1 both))))
     (either-plain c.record_build.result (put-plain view (bound proposal c.args.payload) (λ l. refl) (put-plain view (built c.args.now proposal) (λ l. refl) (still-plain t.past))) (still-plain t.past))
 
 pub returns-clause-answer : goal.returns-clause-answer
 unfolding Holds
-returns-clause-answer g c = λ f t k. c.record_build.ensures.answer _ _ _ (rw c.view.ensures at (c.in_ok-round.ensures.stands f.common t.led t.past k.rounds))
+returns-clause-answer g c = λ f t k.
+    let view = c.args.proposal.round.view in
+    c.record_build.ensures.answer (setup_of f.common view) (t.led view) (t.past view) (rw c.view.ensures at (c.in_ok-round.ensures.stands f.common t.led t.past k.rounds))

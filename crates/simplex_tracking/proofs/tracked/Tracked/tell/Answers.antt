@@ -1,5 +1,5 @@
 use Rattle.std.proofs.Common.{refl}
-use Rattle.simplex_tracking.specs.Rounds.{told}
+use Rattle.simplex_tracking.specs.Rounds.{setup_of, told}
 use Rattle.simplex_tracking.specs.Tracked.{Holds}
 use Rattle.simplex_tracking.proofs.Growing.{plain-kept, put-plain, still-plain, told-plain}
 use Rattle.simplex_tracking.proofs.Lent.{lent-put}
@@ -10,5 +10,5 @@ unfolding Holds
 returns g c = λ f t k.
     let here = c.in_ok-open.ensures.stands f.common t.led t.past k.rounds in
     let follows = c.open.follows.holds c.tell.new.round (rw c.in_ok-open.was refl) in
-    plain-kept k (lent-put f.common t.led t.past (told c.args.notice) follows k.rounds (c.tell.ensures _ _ _ here))
+    plain-kept k (lent-put f.common t.led t.past (told c.args.notice) follows k.rounds (c.tell.ensures (setup_of f.common c.args.view) _ _ here))
     (put-plain c.args.view (told c.args.notice) (told-plain c.args.notice) (still-plain t.past))

@@ -21,7 +21,7 @@ returns-clause-keeps g c = λ s h k.
     let behind : c.viewport-viewport.result.finalized + 1 < 2 ^ 64 = rw (c.viewport-viewport.ensures.finalized, k.last_finalized) k.behind in
     let up : first ≤ c.floor-floor.result = rw c.floor-floor.ensures c.first_reaching-first.ensures.up_to_floor in
     let reaches : (view : ℕ) → view < c.floor-floor.result → (view < first) ↔ (term_end s.length view ≤ last_finalized h) =
-        rw (c.viewport-viewport.ensures.finalized, c.viewport-viewport.ensures.lookahead, k.length, k.last_finalized) at (rw (← c.floor-floor.ensures) at (c.first_reaching-first.ensures.reaches behind)) in
+    rw (c.viewport-viewport.ensures.finalized, c.viewport-viewport.ensures.lookahead, k.length, k.last_finalized) at (rw (← c.floor-floor.ensures) at (c.first_reaching-first.ensures.reaches behind)) in
     let dropped = c.in_ok-views.ensures.forgets (frame_of s) (tables s h) k.progress.tracked in
     let kept = c.in_ok-views.ensures.keeps (frame_of s) (tables s h) k.progress.tracked in
     record {
