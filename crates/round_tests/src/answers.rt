@@ -63,6 +63,16 @@ fn the_leader_is_a_member(rt: HostRuntime) -> Result<(), Fail> {
 }
 
 #[test]
+fn the_first_leader_that_is_learnt_stays(rt: HostRuntime) -> Result<(), Fail> {
+    let alloc = rt.alloc();
+    let mut view = Known::new(alloc, 1, 4)?;
+    holds(&rt, view.learn_leader(2));
+    holds(&rt, !view.learn_leader(0));
+    holds(&rt, view.leader(alloc)? == Some(2));
+    Ok(())
+}
+
+#[test]
 fn a_proposal_is_bound_until_it_is_unbound(rt: HostRuntime) -> Result<(), Fail> {
     let mut view = Known::new(rt.alloc(), 1, 0)?;
     holds(&rt, view.verifying().is_none());

@@ -126,6 +126,10 @@ impl Known {
     pub fn set_leader(&mut self, member: u32) {
         self.round.set_leader(Participant::new(member));
     }
+
+    pub fn learn_leader(&mut self, member: u32) -> bool {
+        self.round.learn_leader(Participant::new(member))
+    }
 }
 
 /// Builds, verifications, and what is offered to the proposal.

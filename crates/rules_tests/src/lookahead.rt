@@ -77,6 +77,24 @@ fn admission_limit_is_the_last_view_heard(rt: HostRuntime) {
 }
 
 #[test]
+fn a_nullification_leads_to_the_next_term(rt: HostRuntime) {
+    for (length, view, next) in [
+        (5, 1, 6),
+        (5, 3, 6),
+        (5, 5, 6),
+        (5, 6, 11),
+        (1, 7, 8),
+        (3, 0, 1),
+    ] {
+        assert!(rt; length > 0);
+        let lookahead = lookahead(length, 1);
+        let view = View::new(view);
+        assert!(rt; view.has_room(lookahead.length));
+        holds(&rt, lookahead.after_nullification(view) == View::new(next));
+    }
+}
+
+#[test]
 fn issuance_floor_stops_at_zero(rt: HostRuntime) {
     let five = lookahead(5, 1);
     holds(&rt, five.issuance_floor(View::new(2)) == Some(View::zero()));

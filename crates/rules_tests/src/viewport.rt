@@ -36,6 +36,27 @@ fn floor_stops_at_zero(rt: HostRuntime) {
 }
 
 #[test]
+fn a_term_reaches_past_what_is_finalized_in_it(rt: HostRuntime) {
+    // Of the last finalized view and how many are kept: the first below the floor whose term ends above it, or the floor.
+    for (finalized, view_retention, first) in [
+        (12, 0, 11),
+        (13, 1, 11),
+        (13, 3, 10),
+        (15, 0, 15),
+        (15, 2, 13),
+        (10, 3, 7),
+        (0, 0, 0),
+        (u64::MAX - 1, 0, u64::MAX - 4),
+    ] {
+        assert_eq!(rt;
+            viewport(finalized, view_retention).first_reaching(),
+            View::new(first),
+            "{view_retention} before {finalized}"
+        );
+    }
+}
+
+#[test]
 fn start_is_not_kept(rt: HostRuntime) {
     let viewport = viewport(2, 10);
     assert!(rt; !viewport.retains(View::zero()));
