@@ -130,7 +130,7 @@ impl<S: Scheme<D>, D: Digest> Round<S, D> {
         }
     }
 
-    /// Names the leader, where none is known yet: whether none was. The first stays.
+    /// Names the leader, where none is known yet: whether none was. The first stays. An index that no member has names nobody.
     pub fn learn_leader(&mut self, leader: Participant) -> bool
         ensures member { AtEach S.key_of self.old (λ s l h. leader < S.size s.scheme → Keeps S.key_of s self.new (option_or l (Some leader)) h) }
         ensures stranger { AtEach S.key_of self.old (λ s l h. S.size s.scheme ≤ leader → Keeps S.key_of s self.new l h) }

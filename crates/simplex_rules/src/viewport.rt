@@ -33,7 +33,8 @@ impl Viewport {
     }
 
     /// Of the views below the floor the first whose term ends above the last finalized view, so that a nullification of it still covers
-    /// what may be built on; the floor where there is none.
+    /// what may be built on; the floor where there is none. Of the last number that there is as the finalized view nothing more is said
+    /// than that the floor isn't passed.
     pub fn first_reaching(&self) -> View
         ensures up_to_floor { result ≤ retention_floor self.now.finalized self.now.view_retention }
         ensures reaches { self.now.finalized + 1 < 2 ^ 64 → (view : ℕ) → view < retention_floor self.now.finalized self.now.view_retention → (view < result) ↔ (term_end self.now.lookahead.length view ≤ self.now.finalized) }
