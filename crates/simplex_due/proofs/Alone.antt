@@ -6,7 +6,8 @@ use Rattle.std.proofs.lemmas.Option.{same_Some}
 use Rattle.simplex_types.specs.declared.proposal.Proposal.{Proposal}
 use Rattle.simplex_views.specs.Known.{Known}
 use Rattle.simplex_due.specs.Ancestry.{Member, Supports, IsFirstUncovered, IsInvalidParent, LacksPayload}
-use Rattle.simplex_due.specs.Asking.{Finds, Decides, OneIsFound, OneIsDecided}
+use Rattle.simplex_due.specs.Asking.{Finds, Decides}
+use Rattle.simplex_due.specs.Laws.{OneIsFound, OneIsDecided}
 use Rattle.simplex_due.specs.Requests.{WaitsForParent, VerifyIsDue, IsInvalid, NullificationIsWanted, NotarizationIsWanted, CertifyIsDue, CertifyWaits, IsPutOff, CertificateIsWanted}
 use Rattle.simplex_due.specs.declared.requests.VerifyRequest.{VerifyRequest}
 use Rattle.simplex_due.specs.declared.requests.VerifyRequest.TheVariants as verify

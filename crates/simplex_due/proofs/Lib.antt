@@ -1,16 +1,6 @@
-mod Agreeing
 mod Alone
 mod Asking
-mod Closed
-mod Grounding
-mod Growing
-mod Matched
 mod Preferring
-mod Pruning
-mod Quiet
-mod Recordable
 mod Single
-mod Steady
 mod Voting
 mod Walking
-mod Windowing

@@ -1,14 +1,13 @@
 -- How far what a view supports rests on those below.
-use Rattle.std.proofs.Common.{◌≡◌, ◌≢◌, inl, inr, true, false, ℕ, sym, ◌∙◌, ap, subst, ◌+◌, arith}
+use Rattle.std.proofs.Common.{◌≡◌, ◌≢◌, inl, inr, true, false, ℕ, refl, sym, ◌∙◌, ap, subst, ◌+◌, arith}
 use mathlib.Core.Bool.{true≢false}
-use Rattle.std.proofs.lemmas.Option.{same_Some}
+use Rattle.std.proofs.lemmas.Option.{none-some, same_Some}
 use Rattle.std.specs.Prelude.{Option, Some, None, MatchOption, is_some, option_map}
 use Rattle.std.specs.Option.{ForSome}
 use Rattle.simplex_types.specs.declared.proposal.Proposal.{Proposal}
 use Rattle.simplex_views.specs.Known.{Known}
 use Rattle.simplex_due.specs.Ancestry.{Member, held_at, InWindow, AreCoveredBetween, IsFirstUncovered, has_certificate, certificate_payload, HasFailed, IsVotedFor, Optimistic, at_start, by_certificate, by_own_vote}
 use Rattle.simplex_due.specs.Knowing.{IsLink}
-use Rattle.simplex_due.proofs.Matched.{mapped}
 use Rattle.simplex_due.proofs.Single.{why}
 
 module _ {D : Type 0} (m : Member) (k : Known D) where
@@ -42,13 +41,14 @@ module _ {D : Type 0} (m : Member) (k : Known D) where
         | inr voted ↦
             let one : voted.0 ≡ p = same_Some voted.0 p (sym voted.2.held ∙ v.held) in
             let parent : voted.0.parent ≡ p.parent = ap (λ (x : Proposal D). x.parent) one in
-            (voted.4.0, subst (λ (u : ℕ). Optimistic m k u voted.4.0) parent voted.4.1, λ bound is. bound_as voted.4.0 voted.4.2 bound is)
+            (voted.4.0, subst (λ (u : ℕ). Optimistic m k u voted.4.0) parent voted.4.1, λ bound is. bound_as voted.4.0 (k.binding view) voted.4.2 bound is)
       ]
     ];
   }
     where
-      bound_as : (x : D) → ForSome (k.binding view) (λ b. b.1 ≡ x) → (bound : D) → option_map (λ (b : Proposal D × D). b.1) (k.binding view) ≡ Some bound → bound ≡ x
-      bound_as x stands bound is = let b = mapped (λ (b : Proposal D × D). b.1) (k.binding view) bound is in sym b.2 ∙ stands b.0 b.1
+      bound_as : (x : D) (b : Option (Proposal D × D)) → ForSome b (λ b. b.1 ≡ x) → (bound : D) → option_map (λ (b : Proposal D × D). b.1) b ≡ Some bound → bound ≡ x
+      bound_as x None stands bound is = absurd (none-some bound is)
+      bound_as x (Some b) stands bound is = sym (same_Some b.1 bound is) ∙ stands b refl
 
   -- no vote counts over a view that isn't covered, or outside the window
   pub uncovered_unvoted : (view : ℕ) (p : Proposal D) → held_at m k view ≡ Some p → (o : Option ℕ) → is_some o ≡ true

@@ -26,10 +26,3 @@ module _ {D : Type 0} (m : Member) (k : Known D) (view : ℕ) where
   Decides (certify.Fetch u) = CertificateIsWanted m k view u
   Decides (certify.PutOff u) = IsPutOff m k view u × IsSome (k.notarized u)
   Decides certify.Wait = (p : Proposal D) → VerdictIsOpen m k view p → (k.certify_waited view ≡ true) × ((u : ℕ) × CertifyWaits m k view u)
-
--- of these answers one alone is right: the one that is given
-abbrev pub OneIsFound : Type 0 → Type 0
-OneIsFound D = (m : Member) (k : Known D) (view : ℕ) (a b : VerifyRequest D) → Finds m k view a → Finds m k view b → a ≡ b
-
-abbrev pub OneIsDecided : Type 0 → Type 0
-OneIsDecided D = (m : Member) (k : Known D) (view : ℕ) (a b : CertifyRequest D) → Decides m k view a → Decides m k view b → a ≡ b

@@ -1,9 +1,7 @@
 pub mod Ancestry
 pub mod Answers
 pub mod Asking
-pub mod Building
 pub mod Due
-pub mod Floor
 pub mod Knowing
-pub mod Matching
+pub mod Laws
 pub mod Requests

@@ -1,2 +1,12 @@
-pub mod Showing
-pub mod Walking
+mod Agreeing
+mod Closed
+mod Grounding
+mod Growing
+mod Matched
+mod Pruning
+mod Quiet
+mod Recordable
+mod Showing
+mod Steady
+mod Walking
+mod Windowing

@@ -1,1 +1,4 @@
+pub mod Building
 pub mod Facts
+pub mod Floor
+pub mod Matching

@@ -14,7 +14,7 @@ use Rattle.simplex_views.specs.Known.{Known, known}
 use Rattle.simplex_views.specs.Leaders.{leader}
 use Rattle.simplex_due.specs.Ancestry.{Member, member}
 use Rattle.simplex_due.specs.Requests.{IsPassed, Scanned, WaitsForParent, begun, passed, given_up}
-use Rattle.simplex_due.specs.Matching.{WholeScanLeavesNothing}
+use Rattle.simplex_facts.specs.Matching.{WholeScanLeavesNothing}
 use Rattle.simplex_voter.specs.declared.state.State.{State}
 use Rattle.simplex_voter.specs.State.{Keeps}
 use Rattle.simplex_voter.specs.Verifying.{BehindLook, PassesAll}

@@ -19,7 +19,7 @@ use Rattle.simplex_due.specs.Asking.{Decides}
 use Rattle.simplex_due.specs.Requests.{VerdictIsOpen, CertifyIsDue, CertifyWaits, IsPutOff, CertificateIsWanted, MayBeAsked}
 use Rattle.simplex_due.specs.declared.requests.CertifyRequest.{CertifyRequest}
 use Rattle.simplex_due.specs.declared.requests.CertifyRequest.TheVariants as certify
-use Rattle.simplex_due.specs.declared.certificate_fetch.CertificateFetch.{CertificateFetch}
+use Rattle.simplex_facts.specs.declared.certificate_fetch.CertificateFetch.{CertificateFetch}
 use Rattle.simplex_voter.specs.declared.state.certifying.Verdicts.{Verdicts}
 use Rattle.simplex_voter.specs.Candidates.{Adds, AreAll}
 use Rattle.simplex_voter.proofs.Members.{only_element}

@@ -9,7 +9,7 @@ use Rattle.simplex_due.specs.Ancestry.{Member, member}
 use Rattle.simplex_due.specs.Requests.{MayBeAsked, CertificateIsWanted, AreReady, ArePutOff}
 use Rattle.simplex_due.specs.declared.requests.CertifyRequest.{CertifyRequest}
 use Rattle.simplex_due.specs.declared.requests.CertifyRequest.TheVariants as certify
-use Rattle.simplex_due.specs.declared.certificate_fetch.CertificateFetch.{CertificateFetch}
+use Rattle.simplex_facts.specs.declared.certificate_fetch.CertificateFetch.{CertificateFetch}
 use Rattle.simplex_voter.specs.declared.state.certifying.Verdicts.{Verdicts}
 
 module _ {S D P G C : Type 0} where

@@ -7,8 +7,8 @@ use Rattle.simplex_rules.specs.declared.kind.Kind.TheVariants as kind
 use Rattle.simplex_messages.specs.ProposalCertificate.{Finalization}
 use Rattle.simplex_round.specs.Past as past
 use Rattle.simplex_views.specs.History.{Setup, Point, finalized, seen, sent, started}
-use Rattle.simplex_due.specs.declared.floor.Floor.{Floor}
-use Rattle.simplex_due.specs.declared.floor.Floor.TheVariants as floor
+use Rattle.simplex_facts.specs.declared.floor.Floor.{Floor}
+use Rattle.simplex_facts.specs.declared.floor.Floor.TheVariants as floor
 use Rattle.simplex_voter.specs.declared.state.State.{State}
 use Rattle.simplex_voter.specs.State.{Keeps}
 

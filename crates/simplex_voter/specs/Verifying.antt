@@ -14,8 +14,8 @@ use Rattle.simplex_views.specs.Leaders.{leader}
 use Rattle.simplex_due.specs.Ancestry.{Member, member}
 use Rattle.simplex_due.specs.Requests.{AsksNothing, IsInvalid, IsPassed, NotarizationIsWanted, NullificationIsWanted, Scanned, VerifyIsDue}
 use Rattle.simplex_voter.specs.declared.state.State.{State}
-use Rattle.simplex_due.specs.declared.verify.Verify.{Verify}
-use Rattle.simplex_due.specs.declared.verify.Verify.TheVariants as verify
+use Rattle.simplex_facts.specs.declared.verify.Verify.{Verify}
+use Rattle.simplex_facts.specs.declared.verify.Verify.TheVariants as verify
 use Rattle.simplex_voter.specs.declared.wanted.Wanted.{Wanted}
 use Rattle.simplex_voter.specs.declared.wanted.Wanted.TheVariants as wanted
 use Rattle.simplex_voter.specs.State.{Keeps}

@@ -4,5 +4,5 @@
 mod state;
 mod wanted;
 
-pub use simplex_due::{CertificateFetch, Config, Floor, ProposalRequest, Verify};
+pub use simplex_facts::{CertificateFetch, Config, Floor, ProposalRequest, Verify};
 pub use state::State;

@@ -19,7 +19,7 @@ ghost use Rattle.std.specs.Prelude.{[], IfOk};
 ghost use Rattle.simplex_views.specs.Views.{built};
 ghost use Rattle.simplex_voter.specs.State.{Keeps};
 
-use simplex_due::Config;
+use simplex_facts::Config;
 use simplex_rules::Elector;
 use simplex_types::{Digest, Scheme, View};
 use simplex_views::Views;

@@ -1,5 +1,5 @@
-//! What no contract of the voter says: worked cases in which each call is made, refused memory, and histories beside a plain program; and
-//! each fault of a configuration.
+//! What no contract of the voter says, nor of its views: worked cases in which each call is made, refused memory, and histories beside a
+//! plain program; and each fault of a configuration.
 #![tactic(auto)]
 
 #[cfg(test)]
@@ -30,6 +30,8 @@ mod timing;
 mod trials;
 #[cfg(test)]
 mod verifying;
+#[cfg(test)]
+mod views;
 #[cfg(test)]
 mod voter;
 #[cfg(test)]

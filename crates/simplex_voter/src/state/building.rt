@@ -5,15 +5,14 @@ ghost use Rattle.simplex_rules.specs.Windows.{AdmitsOutbound};
 ghost use Rattle.simplex_views.specs.History.{build_asked, current};
 ghost use Rattle.simplex_views.specs.Known.{known};
 ghost use Rattle.simplex_due.specs.Ancestry.{member};
-ghost use Rattle.simplex_due.specs.Building.{IsPrepared, context_of};
+ghost use Rattle.simplex_facts.specs.Building.{IsPrepared, context_of};
 ghost use Rattle.simplex_due.specs.Requests.{BuildIsDue, IsFirstBuild, IsHandoff, NoBuildIsDue};
 ghost use Rattle.simplex_voter.specs.Building.{IsContextOf};
 ghost use Rattle.simplex_voter.specs.State.{AtEach, Keeps};
 
 use crate::state::State;
-use simplex_due::ProposalRequest;
 use simplex_due::requests::build_on;
-use simplex_facts::Facts;
+use simplex_facts::{Facts, ProposalRequest};
 use simplex_rules::Elector;
 use simplex_types::{Context, Digest, Round, Scheme, View};
 

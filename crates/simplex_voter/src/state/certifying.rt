@@ -14,9 +14,8 @@ ghost use Rattle.simplex_voter.specs.Candidates.{Adds, AreAll, AreAmong, AreWant
 ghost use Rattle.simplex_voter.specs.State.{AtEach, Keeps};
 
 use crate::state::State;
-use simplex_due::CertificateFetch;
 use simplex_due::requests::{CertifyRequest, verdict_for};
-use simplex_facts::Facts;
+use simplex_facts::{CertificateFetch, Facts};
 use simplex_rules::Elector;
 use simplex_types::{Digest, Proposal, Scheme, View, Viewable};
 use simplex_views::Views;

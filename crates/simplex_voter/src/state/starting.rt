@@ -6,7 +6,7 @@ ghost use Rattle.simplex_voter.specs.Floor.{StandsOn, StartsOn};
 ghost use Rattle.simplex_voter.specs.State.{AtEach};
 
 use crate::state::State;
-use simplex_due::Floor;
+use simplex_facts::Floor;
 use simplex_messages::Finalization;
 use simplex_rules::Elector;
 use simplex_types::{Digest, Scheme, Viewable};

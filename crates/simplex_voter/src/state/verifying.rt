@@ -11,8 +11,7 @@ ghost use Rattle.simplex_voter.specs.Verifying.{Answers, Asks, BehindLook, IsKey
 use crate::state::State;
 use crate::wanted::Wanted;
 use simplex_due::requests::{VerifyRequest, request_for};
-use simplex_due::{Verify, a_look_leaves_nothing_to_ask};
-use simplex_facts::Facts;
+use simplex_facts::{Facts, Verify, a_look_leaves_nothing_to_ask};
 use simplex_resolver::Kind;
 use simplex_round::TimeoutReason;
 use simplex_rules::Elector;
