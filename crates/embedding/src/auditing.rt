@@ -1,7 +1,7 @@
 //! The audit.
 
+use simplex_audit::{Audit, audit};
 use simplex_messages::Activity;
-use simplex_rules::{Audit, audit};
 use simplex_types::{Attributable, Participant, PlainScheme, Sha256Digest};
 use std::alloc::{AllocError, Global};
 

@@ -2,7 +2,8 @@
 
 ghost use Rattle.std.specs.Prelude.{◌<◌};
 
-use simplex_rules::{Audit, SaltedScheme, SaltedSignature, audit};
+use simplex_audit::{Audit, audit};
+use simplex_rules::{SaltedScheme, SaltedSignature};
 use simplex_types::{
     Attestation, Epoch, Listing, Participant, Proposal, Round, Scheme, Sha256Digest, Subject, View,
     Write,

@@ -1,4 +1,4 @@
-//! Tests of the rules, by their public calls alone.
+//! Tests of the rules and of the audit, by their public calls alone.
 #![tactic(auto)]
 
 #[cfg(test)]

@@ -11,7 +11,7 @@ use Rattle.simplex_types.specs.Plain.{Committee, Attests}
 use Rattle.simplex_messages.specs.declared.activity.Activity.{Activity}
 use Rattle.simplex_types.specs.AttestationList.{list_fits, list_within, list_spelling, list_at}
 use Rattle.simplex_messages.specs.Activity.{activity_fits, activity_within, activity_spelling, activity_at}
-use Rattle.simplex_rules.specs.Audit.{IsAudit}
+use Rattle.simplex_audit.specs.Audit.{IsAudit}
 use Rattle.simplex_cli.specs.Lines.{lines_of}
 use Rattle.simplex_cli.specs.declared.input.InputError.{InputError}
 use Rattle.simplex_cli.specs.declared.input.InputError.TheVariants as unread

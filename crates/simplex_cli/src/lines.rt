@@ -3,8 +3,8 @@
 ghost use Rattle.std.specs.Prelude.{◌≡◌, ◌++◌, IfOk, OnOk, string_bytes};
 ghost use Rattle.simplex_cli.specs.Lines.{accused_words, beside_line, conflicting_line, evidence_line, fault_line, lines_of, proposal_words};
 
+use simplex_audit::Audit;
 use simplex_messages::{Activity, Finalize, Nullify, ProposalKind, ProposalVote};
-use simplex_rules::Audit;
 use simplex_types::{Participant, PlainScheme, Proposal, Round, Sha256Digest};
 use std::alloc::{AllocError, Global};
 

@@ -10,7 +10,7 @@ use crate::input::read_all;
 use crate::lines::text_of;
 use crate::output::write_whole;
 use crate::trouble::Trouble;
-use simplex_rules::{Audit, audit};
+use simplex_audit::{Audit, audit};
 use simplex_types::{PlainScheme, Sha256Digest};
 use std::alloc::{AllocError, Global};
 use std::io::{Read, Write};
@@ -88,20 +88,26 @@ pub fn write_audit<R: Read, W: Write>(
     ensures broken_off { IfErr result (λ trouble. trouble ≡ Write → IfSome (R.remaining input.old) (λ bytes. BreaksOff count bytes (W.contents output.old) (W.contents output.new))) }
 {
     let bytes = read_all(alloc, input)?;
-    let (text, fault) = answer_to(alloc, count, &bytes)?;
+    let (text, fault) = answer_to(alloc, count, bytes)?;
     if write_whole(output, text.as_bytes()).is_err() {
         return Err(Trouble::Write);
     }
     Ok(fault)
 }
 
-/// The lines of the audit of these bytes, and the place that it named.
-fn answer_to(alloc: Global, count: u16, bytes: &[u8]) -> Result<(String, Option<usize>), AllocError>
+/// The lines of the audit of these bytes, and the place that it named. The bytes are given back before the lines are made, which may take
+/// more room than they.
+fn answer_to(
+    alloc: Global,
+    count: u16,
+    bytes: Vec<u8>,
+) -> Result<(String, Option<usize>), AllocError>
     requires { 0 < count }
-    ensures { IfOk result (λ answer. IsAnswer count bytes.now answer.1 (string_bytes answer.0)) }
+    ensures { IfOk result (λ answer. IsAnswer count bytes.items answer.1 (string_bytes answer.0)) }
 {
     let scheme = PlainScheme::new(alloc, BASE, u32::from(count), None)?;
-    let found: Audit<PlainScheme, Sha256Digest> = audit(alloc, &scheme, bytes)?;
+    let found: Audit<PlainScheme, Sha256Digest> = audit(alloc, &scheme, &bytes)?;
+    drop(bytes);
     let text = text_of(alloc, &found)?;
     Ok((text, found.fault))
 }

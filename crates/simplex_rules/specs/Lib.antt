@@ -6,11 +6,3 @@ pub mod Turns
 pub mod Windows
 pub mod Spans
 pub mod Salted
-pub mod Cast
-pub mod Kept
-pub mod Tally
-pub mod Choices
-pub mod Survey
-pub mod Audit
-pub mod Accountability
-pub mod Counted

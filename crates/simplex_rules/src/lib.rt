@@ -1,34 +1,22 @@
-//! Who leads a view, which views a member listens to, and who is guilty by a list of reports.
+//! Who leads a view, which views a member listens to, and a scheme whose signatures of one subject differ.
 #![tactic(auto)]
 
-mod auditing;
-mod ballots;
-mod cast;
-mod choices;
 pub mod elector;
 mod kind;
-mod laws;
 mod lookahead;
-mod nullifies;
 mod salted;
-mod survey;
-mod tally;
 mod terms;
-mod verdict;
 mod viewport;
 
-pub use auditing::audit;
 pub use elector::{
     Elector, Mode, RoundRobin, RoundRobinElector, a_seed_makes_one_order, a_term_has_one_leader,
     each_participant_leads_once,
 };
 pub use kind::Kind;
-pub use laws::names_rest_on_the_reports;
 pub use lookahead::{
     Lookahead, admission_limit_is_the_last_view_listened_to, few_views_ahead_are_listened_to,
     issuance_floor_leaves_the_optimistic_views_between, what_is_spoken_of_is_listened_to,
 };
 pub use salted::{SaltedScheme, SaltedSignature, signatures_of_two_counters_differ};
 pub use terms::Terms;
-pub use verdict::Audit;
 pub use viewport::Viewport;

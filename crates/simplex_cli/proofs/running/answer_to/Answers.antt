@@ -7,6 +7,6 @@ returns c =
     let count = c.from.ensures in
     record {
       evidence = c.in_ok-found.found.evidence.items;
-      audit = rw (base, participants, count) at c.in_ok-found.ensures.exact;
+      audit = rw (base, participants, count, c.deref.ensures.value) at c.in_ok-found.ensures.exact;
       text_is = c.in_ok-text.ensures;
     }
