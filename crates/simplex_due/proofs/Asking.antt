@@ -1,14 +1,16 @@
 -- Which requests are due.
-use Rattle.std.proofs.Common.{◌≡◌, inl, inr, true, false, ℕ, sym, ◌∙◌, ap, subst, refl, ◌<◌, ◌||◌, arith, if◌then◌else◌}
+use Rattle.std.proofs.Common.{◌≡◌, inl, inr, true, false, ℕ, sym, ◌∙◌, ap, subst, refl, ◌⊎◌, ◌+◌, ◌<◌, ◌≤◌, ◌||◌, arith, if◌then◌else◌}
 use mathlib.Core.Bool.{true≢false}
 use Rattle.std.proofs.lemmas.Bool.{cases_lt}
 use Rattle.std.proofs.lemmas.Option.{none-some, same_Some}
 use Rattle.std.specs.Prelude.{not, Bool, Option, Some, None, is_some, IsTrue, ◌↔◌, MatchOption}
 use Rattle.simplex_types.specs.declared.proposal.Proposal.{Proposal}
+use Rattle.simplex_types.specs.Positions.{IsTermStart}
 use Rattle.simplex_views.specs.Known.{Known}
-use Rattle.simplex_due.specs.Ancestry.{Member, explicit, IsFirstUncovered, IsInvalidParent, IsSpan, IsPreferred, IsRequired}
-use Rattle.simplex_due.specs.Knowing.{AllowsBuild, Explains, uncertified}
+use Rattle.simplex_due.specs.Ancestry.{Member, explicit, InWindow, Supports, IsFirstUncovered, IsInvalidParent, IsSpan, IsParent, LacksPayload, IsPreferred, IsRequired}
+use Rattle.simplex_due.specs.Knowing.{AllowsBuild, AllowsVerify, Explains, uncertified}
 use Rattle.simplex_due.specs.declared.ancestry.ParentFault.{ParentFault}
+use Rattle.simplex_due.specs.declared.ancestry.ParentFault.TheVariants as fault
 use Rattle.simplex_due.specs.Requests.{IsOpen, IsHandoff, BuildIsDue, WaitsForParent, IsPassed, VerdictIsOpen, CertifyIsDue, CertifyWaits, CertificateIsWanted}
 
 -- what isn't there is none
@@ -22,6 +24,18 @@ module _ {D : Type 0} (m : Member) (k : Known D) (view : ℕ) where
   spans_nothing parent (inl above) span = omega (arith, above, span.below)
   spans_nothing parent (inr (inl under)) span = omega (arith, under, span.above)
   spans_nothing parent (inr (inr apart)) span = elim span.next [ inl start ↦ apart.0 start | inr next ↦ apart.1 next ]
+
+  -- and one that lies right spans something, or is valid
+  pub valid_parent : (parent : ℕ) → parent < view → k.last_finalized ≤ parent → IsTermStart m.length view ⊎ (view ≡ parent + 1) → ¬ IsInvalidParent m k view parent
+  valid_parent parent below above next (inl over) = omega (arith, below, over)
+  valid_parent parent below above next (inr (inl under)) = omega (arith, above, under)
+  valid_parent parent below above next (inr (inr apart)) = elim next [ inl start ↦ apart.0 start | inr beside ↦ apart.1 beside ]
+
+  -- where there is a fault no payload is that of a parent
+  pub fault_bars : (parent : ℕ) (why : ParentFault) → Explains m k view parent why → (payload : D) → ¬ IsParent m k view parent payload
+  fault_bars parent fault.Invalid bad payload is = spans_nothing parent bad is.span
+  fault_bars parent (fault.Uncovered first) bare payload is = bare.1.bare (is.span.covered first bare.1.after bare.1.before)
+  fault_bars parent fault.Missing lacks payload is = lacks.missing payload is.supports
 
   -- the first uncovered view is one
   pub one_first : (parent u w : ℕ) → IsFirstUncovered m k parent view u → IsFirstUncovered m k parent view w → u ≡ w
@@ -49,10 +63,42 @@ module _ {D : Type 0} (m : Member) (k : Known D) (view : ℕ) where
     patient = λ handoff. absurd (never_handoff x.0 x.1 found handoff);
   }
 
+  -- where nothing is open nothing waits, and where nothing waits nothing is asked for
+  pub waiting_of : (o : Option (Proposal D)) → IsOpen m k view → MatchOption o ((p : Proposal D) → ¬ AllowsVerify m k view p) (λ p. AllowsVerify m k view p)
+      → MatchOption o ((p : Proposal D) → ¬ WaitsForParent m k view p) (λ p. WaitsForParent m k view p)
+  waiting_of None opens none = λ p waits. none p (record { led = waits.led; not_given_up = opens.not_given_up; held = waits.held; first = waits.first; not_backed = waits.not_backed })
+  waiting_of (Some p) opens allows = record { opens = opens; led = allows.led; held = allows.held; first = allows.first; not_backed = allows.not_backed }
+
+  pub none_waits : ((p : Proposal D) → ¬ WaitsForParent m k view p) → IsPassed m k view
+  none_waits none = record {
+    asks = record {
+      no_verify = λ p payload due. none p due.waits;
+      no_nullification = λ p u wanted. none p wanted.waits;
+      no_notarization = λ p wanted. none p wanted.waits;
+    };
+    not_invalid = λ p bad. none p bad.waits;
+  }
+
   module _ (p : Proposal D) (waits : WaitsForParent m k view p) where
     -- what waits is one
     same_parent : (q : Proposal D) → WaitsForParent m k view q → q.parent ≡ p.parent
     same_parent q other = ap (λ (x : Proposal D). x.parent) (same_Some q p (sym other.held ∙ waits.held))
+
+    -- the payload alone is missing, and inside the window it isn't asked for, nor where it was asked for last
+    pub missing_passes : LacksPayload m k view p.parent → InWindow m k view ⊎ (k.last_asked view ≡ Some p.parent) → IsPassed m k view
+    missing_passes lacks settled = record {
+      asks = record {
+        no_verify = λ q payload due. lacks.missing payload (subst (λ (v : ℕ). Supports m k view v payload) (same_parent q due.waits) due.parent.supports);
+        no_nullification = λ q u wanted.
+            let first = subst (λ (v : ℕ). IsFirstUncovered m k v view u) (same_parent q wanted.waits) wanted.uncovered in
+            first.bare (lacks.span.covered u first.after first.before);
+        no_notarization = λ q wanted. elim settled [
+          | inl inside ↦ wanted.outside inside
+          | inr asked ↦ wanted.first (asked ∙ ap Some (sym (same_parent q wanted.waits)))
+        ];
+      };
+      not_invalid = λ q bad. spans_nothing p.parent (subst (λ (v : ℕ). IsInvalidParent m k view v) (same_parent q bad.waits) bad.invalid) lacks.span;
+    }
 
     -- the first uncovered view was asked for
     pub uncovered_was_asked : (first : ℕ) → ¬ IsInvalidParent m k view p.parent → IsFirstUncovered m k p.parent view first → k.last_asked view ≡ Some first → IsPassed m k view
@@ -107,7 +153,14 @@ module _ {D : Type 0} (m : Member) (k : Known D) (view : ℕ) where
     ready_alone none = record { opens = opens; explicit = λ required asked. absurd (none required asked) }
 
     module _ (required : ℕ) (asked : IsRequired m k view p.parent required) where
-      -- the required parent isn't explicit
+      -- the required parent is explicit
+      pub ready_over : is_some (explicit m k required) ≡ true → CertifyIsDue m k view p
+      ready_over there = record {
+        opens = opens;
+        explicit = λ other is. let one : required ≡ other = omega (arith, asked.next, is.next) in subst (λ (u : ℕ). is_some (explicit m k u) ≡ true) one there;
+      }
+
+      -- or isn't
       pub not_ready : explicit m k required ≡ None → (q : Proposal D) → ¬ CertifyIsDue m k view q
       not_ready missing q due =
           let one : q ≡ p = one_is_open p q opens due.opens in

@@ -6,12 +6,25 @@ use Rattle.std.proofs.lemmas.Option.{none-some, same_Some}
 use Rattle.std.specs.Prelude.{not, Bool, Option, Some, None, IsSome, IsTrue, is_some, ◌↔◌, MatchOption}
 use Rattle.std.specs.Option.{ForSome}
 use Rattle.simplex_types.specs.declared.proposal.Proposal.{Proposal}
-use Rattle.simplex_types.specs.Positions.{term_start}
+use Rattle.simplex_types.specs.Positions.{HasRoom, term_start}
+use Rattle.simplex_rules.specs.Windows.{AdmitsOutbound}
 use Rattle.simplex_views.specs.Known.{Known}
 use Rattle.simplex_due.specs.Ancestry.{Member, held_at, explicit, InWindow, Optimistic, IsRequired}
 use Rattle.simplex_due.specs.Knowing.{HasGivenUpWithin}
 
 module _ {D : Type 0} (m : Member) (k : Known D) where
+  -- what is said of other numbers that are the same
+  pub spoken_by : (view length optimistic current : ℕ) (answer : Bool) → length ≡ m.length → optimistic ≡ m.optimistic_views → current ≡ k.current
+      → HasRoom length view → IsTrue answer ↔ AdmitsOutbound length optimistic current view → IsTrue answer ↔ (HasRoom m.length view × AdmitsOutbound m.length m.optimistic_views k.current view)
+  spoken_by view length optimistic current answer terms early now room law = (
+    λ so. (subst (λ (n : ℕ). HasRoom n view) terms room, there.0 so),
+    λ spoken. there.1 spoken.1,
+  )
+    where
+      there : IsTrue answer ↔ AdmitsOutbound m.length m.optimistic_views k.current view
+      there = subst (λ (n : ℕ). IsTrue answer ↔ AdmitsOutbound m.length m.optimistic_views n view) now
+          (subst (λ (n : ℕ). IsTrue answer ↔ AdmitsOutbound m.length n current view) early (subst (λ (n : ℕ). IsTrue answer ↔ AdmitsOutbound n optimistic current view) terms law))
+
   pub supported_by : (view before : ℕ) (o : Option D) → before ≡ view - 1 → InWindow m k view → MatchOption o ((payload : D) → ¬ Optimistic m k before payload) (λ payload. Optimistic m k before payload)
       → (is_some o ≡ true) ↔ (InWindow m k view → (payload : D) × Optimistic m k (view - 1) payload)
   supported_by view before None is inside none = (

@@ -1,8 +1,9 @@
 -- What a view's round answers, as what is known of the view.
 use Rattle.std.proofs.Common.{◌≡◌, ◌∙◌, ℕ, Bool, true, false, refl, sym, ap, subst}
-use Rattle.std.specs.Prelude.{◌↔◌, ◌&&◌, not, List, Option, Some, None, IsTrue, IsSome, MatchOption, is_some, option_map, if◌then◌else◌}
+use Rattle.std.specs.Prelude.{◌↔◌, ◌&&◌, not, List, [], Option, Some, None, IsTrue, IsSome, MatchOption, is_some, option_map, if◌then◌else◌}
 use Rattle.std.specs.Option.{option_or}
-use Rattle.std.proofs.lemmas.Bool.{and_from}
+use Rattle.std.proofs.lemmas.Bool.{false≢true, and_from}
+use Rattle.std.proofs.lemmas.Option.{none-some}
 use Rattle.simplex_types.specs.declared.proposal.Proposal.{Proposal}
 use Rattle.simplex_types.specs.declared.scheme.Scheme.{Ghosts}
 use Rattle.simplex_messages.specs.ProposalCertificate.{Notarization, Finalization}
@@ -28,6 +29,10 @@ use Rattle.simplex_facts.specs.Facts.{Shows, at}
 pub each : {S L D P G C : Type 0} {g : Ghosts S D P G C} {e : elector.Ghosts L S D P G C} {v : Views S L D P G C} (Q : Member → Known D → Type 0)
     → ((s : Setup S C) (h : List (Point S D P G C)) → Keeps g e s v h → Q (member s) (known s h)) → (m : Member) (k : Known D) → Shows g e v m k → Q m k
 each Q holds m k (at s h kept) = holds s h kept
+
+-- what never holds
+pub never : {P : Type 0} → ¬ P → IsTrue false ↔ P
+never fails = (λ so. absurd (false≢true so), λ there. absurd (fails there))
 
 -- neither of two is so, exactly where both aren't
 undecided : (a b : Bool) → (not a && not b) ≡ true → (a ≡ false) × (b ≡ false)
@@ -87,6 +92,20 @@ module _ {S D P G C : Type 0} (s : Setup S C) (h : List (Point S D P G C)) (firs
 module _ {S D P G C : Type 0} (s : Setup S C) (h : List (Point S D P G C)) (view : ℕ) where
   abbrev x : List (Item S D P G C)
   x = seen s h view
+
+  -- where nothing was seen
+  module _ (unseen : x ≡ []) where
+    pub unverified : ¬ IsVerified (past.offers x)
+    unverified verified = false≢true (rw unseen at verified).0
+
+    pub unheld : (p : Proposal D) → ¬ (held (past.offers x) ≡ Some p)
+    unheld p there = none-some p (rw unseen at there)
+
+    pub unnotarized : ¬ IsSome (option_map (λ (c : Notarization S D P G C). c.proposal) (past.notarization x))
+    unnotarized there = false≢true (rw unseen at there)
+
+    pub unasked : (missing : ℕ) → ¬ (past.last_asked x ≡ Some missing)
+    unasked missing asked = none-some missing (rw unseen at asked)
 
   pub allows_notarize : (b : Bool) → IsTrue b ↔ MayNotarize x → IsTrue b ↔ AllowsNotarize (member s) (known s h) view
   allows_notarize b may = (

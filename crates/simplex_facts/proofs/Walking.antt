@@ -1,5 +1,5 @@
 -- What a walk down over certified views finds.
-use Rattle.std.proofs.Common.{◌≡◌, ◌<◌, ◌≤◌, ◌+◌, ◌-◌, ◌==◌, ℕ, Bool, true, false, refl, sym, ap, ◌∙◌, ⊎_elim, arith, if◌then◌else◌}
+use Rattle.std.proofs.Common.{◌≡◌, ◌<◌, ◌≤◌, ◌+◌, ◌-◌, ◌==◌, ℕ, Bool, true, false, refl, sym, ap, subst, ◌∙◌, ⊎_elim, arith, if◌then◌else◌}
 use Rattle.std.specs.Prelude.{◌||◌, List, Option, Some, None, IfSome, MatchOption, is_some, option_map}
 use Rattle.std.proofs.lemmas.Bool.{cases_lt}
 use Rattle.std.proofs.lemmas.Bool.Decides.{nat_tests}
@@ -12,6 +12,7 @@ use Rattle.simplex_tracking.specs.Pasts.{is_certified}
 use Rattle.simplex_views.specs.History.{Setup, Point, seen}
 use Rattle.simplex_views.specs.Known.{known}
 use Rattle.simplex_due.specs.Ancestry.{explicit, member}
+use Rattle.simplex_due.specs.Knowing.{IsHighest}
 
 -- the last marked view up to the one below an end lies before it
 pub last_before : (f : ℕ → Bool) (first below end : ℕ) (o : Option ℕ) → below < end
@@ -25,6 +26,12 @@ pub behind_start : (f : ℕ → Bool) (first below end : ℕ) (o : Option ℕ) �
     → MatchOption o ((u : ℕ) → 0 < u → u < end → f u ≡ false) (λ last. IsLastMarked f 1 (end - 1) last)
 behind_start f first below end None one before none = λ u some lt. none u (omega (arith, some, one)) (omega (arith, lt, before))
 behind_start f first below end (Some last) one before found = rw (one, before) at found
+
+pub passed : (u top : ℕ) → top ≤ u → u < top → ⊥
+passed u top from below = omega arith
+
+pub within_both : (last end top : ℕ) → last < end → end ≤ top → last ≤ top
+within_both last end top before within = omega arith
 
 -- a payload that is certified is explicit
 certified : {F D : Type 0} (f : F → Proposal D) (final : Option F) (ok : Bool) (o : Option (Proposal D))
@@ -60,3 +67,37 @@ module _ {S D P G C : Type 0} (s : Setup S C) (h : List (Point S D P G C)) where
       (cases_lt u (last + 1)))
       (λ behind. above u behind below some)
       (cases_lt u end)
+
+  -- the last certified view is the highest explicit one, where it has a payload
+  pub highest_of : (last end top : ℕ) (payload : D) → last < end → end ≤ top → IsLastMarked (λ u. is_certified (seen s h u)) 1 (end - 1) last
+      → option_map (λ (p : Proposal D). p.payload) (certified_proposal (seen s h last)) ≡ Some payload
+      → ((u : ℕ) → end ≤ u → u < top → 0 < u → explicit (member s) (known s h) u ≡ None) → IsHighest (member s) (known s h) top last payload
+  highest_of last end top payload before within found is above = record {
+    below = omega (arith, before, within);
+    there = sym (explicit_of last (let first = found.behind in omega (arith, first))) ∙ is;
+    highest = λ u higher below.
+        let some : 0 < u = omega (arith, higher) in
+        ⊎_elim (λ under. unexplicit u some (found.none_above u (omega (arith, higher)) (omega (arith, under)))) (λ from. above u from below some) (cases_lt u end);
+  }
+
+  -- where there is none the start is
+  pub highest_with_start : (end top : ℕ) (o : Option (ℕ × D)) → ((u : ℕ) → 0 < u → u < end → is_certified (seen s h u) ≡ false)
+      → ((u : ℕ) → end ≤ u → u < top → 0 < u → explicit (member s) (known s h) u ≡ None)
+      → MatchOption o (0 < top → explicit (member s) (known s h) 0 ≡ None) (λ start. (start.0 ≡ 0) × (0 < top) × (explicit (member s) (known s h) 0 ≡ Some start.1))
+      → MatchOption o ((u : ℕ) → u < top → explicit (member s) (known s h) u ≡ None) (λ last. IsHighest (member s) (known s h) top last.0 last.1)
+  highest_with_start end top o none above = by o
+    where
+      behind : (u : ℕ) → 0 < u → u < top → explicit (member s) (known s h) u ≡ None
+      behind u some below = ⊎_elim (λ under. unexplicit u some (none u some under)) (λ from. above u from below some) (cases_lt u end)
+
+      by : (o : Option (ℕ × D)) → MatchOption o (0 < top → explicit (member s) (known s h) 0 ≡ None) (λ start. (start.0 ≡ 0) × (0 < top) × (explicit (member s) (known s h) 0 ≡ Some start.1))
+          → MatchOption o ((u : ℕ) → u < top → explicit (member s) (known s h) u ≡ None) (λ last. IsHighest (member s) (known s h) top last.0 last.1)
+      by None bare = λ u below. ⊎_elim
+          (λ some. behind u some below)
+          (λ none. let zero : u ≡ 0 = omega (arith, none) in subst (λ (v : ℕ). explicit (member s) (known s h) v ≡ None) (sym zero) (bare (omega (arith, zero, below))))
+          (cases_lt 0 u)
+      by (Some (at, payload)) start = record {
+        below = omega (arith, start.0, start.1);
+        there = subst (λ (v : ℕ). explicit (member s) (known s h) v ≡ Some payload) (sym start.0) start.2;
+        highest = λ u higher below. behind u (omega (arith, higher)) below;
+      }

@@ -55,14 +55,10 @@ impl<'a, S: Scheme<D> + Drop, L: Elector<S, D>, D: Digest> Knowledge<D> for Fact
     }
 
     fn backed_proposal(&self, view: View) -> Option<Proposal<D>> {
-        let round = self.0.round(view)?;
-        if !round.broadcast_notarize() {
-            return None;
+        match self.0.round(view) {
+            Some(round) if round.broadcast_notarize() && round.is_verified() => round.proposal(),
+            _ => None,
         }
-        if !round.is_verified() {
-            return None;
-        }
-        round.proposal()
     }
 
     fn binding(&self, view: View) -> Option<(Proposal<D>, D)> {
@@ -152,9 +148,13 @@ impl<'a, S: Scheme<D> + Drop, L: Elector<S, D>, D: Digest> Knowledge<D> for Fact
         if self.0.is_backed(view) {
             return None;
         }
-        let round = self.0.round(view)?;
-        let (_leader, proposal) = round.pending_verification()?;
-        Some(proposal)
+        match self.0.round(view) {
+            Some(round) => match round.pending_verification() {
+                Some((_leader, proposal)) => Some(proposal),
+                None => None,
+            },
+            None => None,
+        }
     }
 
     fn is_requested(&self, view: View, missing: View) -> bool {

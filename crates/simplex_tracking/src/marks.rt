@@ -45,7 +45,7 @@ impl Marks {
         ensures { OnOk result ((f : ℕ → Bool) → Shows self.old f → Shows self.new (λ u. (is_so && (view == u)) || f u)) }
     {
         if is_so {
-            self.mark(view)?;
+            return self.mark(view);
         }
         Ok(())
     }

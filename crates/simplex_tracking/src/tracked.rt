@@ -120,8 +120,7 @@ impl<S: Scheme<D> + Drop, D: Digest> Tracked<S, D> {
         if !self.inherits(view) {
             return Ok(false);
         }
-        let new = self.rounds.learn(view, leader)?;
-        Ok(new)
+        self.rounds.learn(view, leader)
     }
 
     /// Hands leaders on from the first view, up to the last at least, and on while one becomes known.
@@ -146,8 +145,7 @@ impl<S: Scheme<D> + Drop, D: Digest> Tracked<S, D> {
         ensures { OnOk result (AtEach S.Scheme self.old (λ f t. 0 < first → leader < S.size f.common.scheme → ((u : ℕ) → (u + 1 < first) ⊎ (last ≤ u) → u + 1 < 2 ^ 64 → IsClosedAt (inherits_by f t) t.led u) → Holds S.Scheme f self.new (record t { led = extend (λ u. if u == first then Some leader else None) (inherits_by f t) t.led }))) }
     {
         let _new = self.rounds.learn(first, leader)?;
-        self.hand_on(first.next(), last)?;
-        Ok(())
+        self.hand_on(first.next(), last)
     }
 
     /// The view is entered, with these deadlines.
@@ -224,8 +222,7 @@ impl<S: Scheme<D> + Drop, D: Digest> Tracked<S, D> {
             return Ok(());
         }
         let next = view.next();
-        self.hand_on(next, next)?;
-        Ok(())
+        self.hand_on(next, next)
     }
 
     /// Offers the leader's proposal of a view: whether it is the first there. Behind an own nullify it is not taken.

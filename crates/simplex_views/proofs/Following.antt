@@ -131,7 +131,7 @@ module _ {S D P G C : Type 0} where
       (omega arith)
 
   -- what is known of each view behind a nullification that enters this view, whose leader is named so
-  abbrev nullified-tables : Setup S C → List (Point S D P G C) → ℕ → Nullification S D P G C → ℕ → ℕ → Tables S D P G C
+  abbrev pub nullified-tables : Setup S C → List (Point S D P G C) → ℕ → Nullification S D P G C → ℕ → ℕ → Tables S D P G C
   nullified-tables s h now c led next =
       let past_next : ℕ → List (Item S D P G C) = put c.round.view (past.nullified c) (enter s (current s h) now next (seen s h)) in
       record {
@@ -152,7 +152,7 @@ module _ {S D P G C : Type 0} where
       (leader s h) (f ∙ ap (λ n. s.elect n (Some c.certificate)) e) u)
 
   -- the same behind a notarization
-  abbrev notarized-tables : Setup S C → List (Point S D P G C) → Notarization S D P G C → ℕ → ℕ → Tables S D P G C
+  abbrev pub notarized-tables : Setup S C → List (Point S D P G C) → Notarization S D P G C → ℕ → ℕ → Tables S D P G C
   notarized-tables s h c led next =
       let past_next : ℕ → List (Item S D P G C) = put c.proposal.round.view (past.notarized c) (seen s h) in
       record {
@@ -173,7 +173,7 @@ module _ {S D P G C : Type 0} where
       (leader s h) (f ∙ ap (λ n. s.elect n (Some c.certificate)) e) u)
 
   -- and behind a finalization, which enters the next view
-  abbrev finalized-tables : Setup S C → List (Point S D P G C) → ℕ → Finalization S D P G C → ℕ → ℕ → Tables S D P G C
+  abbrev pub finalized-tables : Setup S C → List (Point S D P G C) → ℕ → Finalization S D P G C → ℕ → ℕ → Tables S D P G C
   finalized-tables s h now c led next =
       let past_next : ℕ → List (Item S D P G C) = put c.proposal.round.view (past.finalized c) (enter s (current s h) now next (seen s h)) in
       record {
@@ -194,7 +194,7 @@ module _ {S D P G C : Type 0} where
       (leader s h) (f ∙ ap (λ n. s.elect n (Some c.certificate)) e) u)
 
   -- and behind the start, which enters view 1
-  abbrev started-tables : Setup S C → List (Point S D P G C) → ℕ → ℕ → ℕ → Tables S D P G C
+  abbrev pub started-tables : Setup S C → List (Point S D P G C) → ℕ → ℕ → ℕ → Tables S D P G C
   started-tables s h now led first =
       let past_next : ℕ → List (Item S D P G C) = enter s (current s h) now first (seen s h) in
       record {

@@ -1,8 +1,8 @@
 -- What is kept of what is dropped.
 use Rattle.std.proofs.Common.{◌≡◌, ◌↔◌, ◌<◌, ◌≤◌, ◌+◌, ◌++◌, ◌==◌, ℕ, true, false, ⊎_elim, List, [], ◌∷◌, refl, sym, ap, subst, ◌∙◌, arith, if◌then◌else◌}
-use Rattle.std.specs.Prelude.{Option, None, Bool, AllPairs, Contains, is_some, nat_le, nat_lt, slice_index_or, ◌&&◌}
+use Rattle.std.specs.Prelude.{Option, Some, None, Bool, AllPairs, Contains, is_some, nat_le, nat_lt, slice_index_or, ◌&&◌}
 use Rattle.std.specs.Option.{option_or}
-use Rattle.std.specs.Ordering.{nat_cmp, is_eq}
+use Rattle.std.specs.Ordering.{nat_cmp, is_eq, is_lt}
 use Rattle.std.specs.declared.cmp.Ordering.TheVariants.{Less}
 use Rattle.std.specs.Cmp.{nat_cmp_is}
 use Rattle.std.specs.BTreeMap.{BTreeMap, get}
@@ -39,6 +39,51 @@ dropped_twice one end u none x up = ⊎_elim
     (λ lt. let below : nat_lt u end ≡ true = grind (arith, nat_tests, lt) in rw below refl)
     (λ ge. let above : nat_lt u one ≡ false = grind (arith, nat_tests, ge, up) in rw above refl)
     (cases_lt u end)
+
+-- what is kept of a view where one of them is taken out: nothing more if it lies before the first, is kept already, or there is none
+module _ {A : Type 0} (view first u : ℕ) where
+  pub unkept-before : (kept n : Option A) (test : Bool) → test ≡ is_lt (nat_cmp view first) → test ≡ true → kept ≡ (if view == u then option_or kept (if nat_lt u first then None else n) else kept)
+  unkept-before kept n test is so = ⊎_elim
+      (λ same.
+      let here : (view == u) ≡ true = grind (arith, common_steps) in
+      let gone : nat_lt u first ≡ true = grind (arith, nat_tests, is, so, same) in
+      rw (here, gone) (sym (or_none kept)))
+      (λ other. let apart : (view == u) ≡ false = grind (arith, common_steps) in rw apart refl)
+      (cases_eq view u)
+
+  pub unkept-none : (kept n : Option A) → n ≡ None → kept ≡ (if view == u then option_or kept (if nat_lt u first then None else n) else kept)
+  unkept-none kept n none = rw none (unkept (view == u) (nat_lt u first)) where
+    unkept : (here before : Bool) → kept ≡ (if here then option_or kept (if before then None else None) else kept)
+    unkept true true = sym (or_none kept)
+    unkept true false = sym (or_none kept)
+    unkept false before = refl
+
+  pub unkept-there : (kept : ℕ → Option A) (n : Option A) (test : Bool) → test ≡ is_some (kept view) → test ≡ true → kept u ≡ (if view == u then option_or (kept u) (if nat_lt u first then None else n) else kept u)
+  unkept-there kept n test is so = ⊎_elim
+      (λ same. let here : (view == u) ≡ true = grind (arith, common_steps) in rw here (first_there (kept u) (if nat_lt u first then None else n) (subst (λ w. is_some (kept w) ≡ true) same (sym is ∙ so))))
+      (λ other. let apart : (view == u) ≡ false = grind (arith, common_steps) in rw apart refl)
+      (cases_eq view u)
+    where
+      first_there : (a b : Option A) → is_some a ≡ true → a ≡ option_or a b
+      first_there None b never = absurd (cc never)
+      first_there (Some x) b is = refl
+
+  pub kept-new : (old new : ℕ → Option A) (n : Option A) (copy : A) (test there : Bool) → test ≡ is_lt (nat_cmp view first) → test ≡ false → there ≡ is_some (old view) → there ≡ false → Some copy ≡ n → new view ≡ Some copy
+      → ((w : ℕ) → is_eq (nat_cmp view w) ≡ false → new w ≡ old w) → new u ≡ (if view == u then option_or (old u) (if nat_lt u first then None else n) else old u)
+  kept-new old new n copy test there tested from looked bare is at others = ⊎_elim
+      (λ same.
+      let here : (view == u) ≡ true = grind (arith, common_steps) in
+      let behind : nat_lt u first ≡ false = grind (arith, nat_tests, tested, from, same) in
+      rw (here, behind) (subst (λ w. new w ≡ option_or (old w) n) same (at ∙ is ∙ sole (old view) n (sym looked ∙ bare))))
+      (λ other.
+      let apart : (view == u) ≡ false = grind (arith, common_steps) in
+      let unlike : is_eq (nat_cmp view u) ≡ false = grind (arith, nat_tests, other) in
+      rw apart (others u unlike))
+      (cases_eq view u)
+    where
+      sole : (a b : Option A) → is_some a ≡ false → b ≡ option_or a b
+      sole None b none = refl
+      sole (Some x) b never = absurd (cc never)
 
 module _ {S D P G C : Type 0} where
   -- the nullification of a view from the first on

@@ -1,6 +1,6 @@
 -- What an artifact of a record leaves of the voter.
 use Rattle.std.proofs.Common.{◌≡◌, ◌==◌, ℕ, true, false, List, ◌∷◌, refl, ◌∙◌, if◌then◌else◌}
-use Rattle.std.specs.Prelude.{Option, Some, None, Bool, ⊤}
+use Rattle.std.specs.Prelude.{Option, Some, None, Bool, ⊤, ◌||◌}
 use Rattle.simplex_types.specs.declared.proposal.Proposal.{Proposal}
 use Rattle.simplex_types.specs.declared.scheme.Scheme.{Ghosts}
 use Rattle.simplex_messages.specs.declared.artifact.Artifact.{Artifact}
@@ -25,7 +25,7 @@ use Rattle.simplex_tracking.specs.Handing.{extend}
 use Rattle.simplex_tracking.specs.Rounds.{Takes, recalled}
 use Rattle.simplex_tracking.specs.Tracked.{Tables, AtEach, IsClosedAt, Holds, inherits_by}
 use Rattle.simplex_views.specs.Views.{IsKept, recalls}
-use Rattle.simplex_tracking.specs.Laws.{put-fact}
+use Rattle.simplex_tracking.specs.Laws.{Shows-same, put-fact}
 use Rattle.simplex_views.proofs.Advancing.{IsAt-tracked, grown-tables}
 use Rattle.simplex_views.proofs.Stepping.{IsQuiet, like-put, like-seen, quiet-from, sent-quiet, spoken-closed, still-kept}
 
@@ -70,6 +70,13 @@ module _ {S D P G C : Type 0} (s : Setup S C) (h : List (Point S D P G C)) (p : 
   pub recalled-nullification : (u : ℕ) → past.nullification (recalled-past (undecided_payload (seen s h p.parent)) p taken (seen s h) u) ≡ past.nullification (seen s h u)
   recalled-nullification u = recalled-fact past.nullification (λ p payload l. refl) (λ l. refl) (λ p l. refl) (undecided_payload (seen s h p.parent)) p taken (seen s h) u
 
+  -- the own notarize backs its view exactly where its proposal was taken
+  pub recalled-backed : (view : ℕ) (marks : Marks) → view ≡ p.round.view → taken ≡ true → Shows marks (λ u. (view == u) || is_marked s backs h u) → Shows marks (is_marked s backs (History.recalled_notarize p taken ∷ h))
+  recalled-backed view marks at is shows = Shows-same marks (λ u. (view == u) || is_marked s backs h u) (is_marked s backs (History.recalled_notarize p taken ∷ h)) shows (λ u. rw (is, at) refl)
+
+  pub recalled-unbacked : (marks : Marks) → taken ≡ false → Shows marks (is_marked s backs h) → Shows marks (is_marked s backs (History.recalled_notarize p taken ∷ h))
+  recalled-unbacked marks isnt shows = Shows-same marks (is_marked s backs h) (is_marked s backs (History.recalled_notarize p taken ∷ h)) shows (λ u. rw isnt refl)
+
   -- behind another view nothing is left to be handed on
   pub recalled-closed : (u : ℕ) → (p.round.view == u) ≡ false → IsClosedAt (inherits_by (frame_of s) recalled-tables) (leader s h) u
   recalled-closed = spoken-closed s h (recalled-past (undecided_payload (seen s h p.parent)) p taken (seen s h)) p.round.view recalled-direct
@@ -95,7 +102,7 @@ module _ {S L D P G C : Type 0} {g : Ghosts S D P G C} {leads : elector.Ghosts L
       → IsKept g leads s (record v { progress = record v.progress { tracked = x }; backed = marks }) (History.recalled_notarize p taken ∷ h)
   recalled-notarize p taken x marks k holds backed = still-kept (History.recalled_notarize p taken) (record v.progress { tracked = x }) marks v.waiting k
       (record { finalizes = refl; begins = refl; covers = λ u. refl; nullifies = λ u. refl; kept_nullification = recalled-nullification s h p taken })
-      (IsAt-tracked k.progress holds)
+      (IsAt-tracked {t' = tables s (History.recalled_notarize p taken ∷ h)} k.progress holds)
       backed k.waiting
 
 module _ {S D P G C : Type 0} where

@@ -11,6 +11,7 @@ use Rattle.simplex_types.specs.declared.scheme.Scheme.{Ghosts}
 use Rattle.simplex_rules.specs.declared.elector.Elector as elector
 use Rattle.simplex_rules.specs.declared.kind.Kind.{Kind}
 use Rattle.simplex_rules.specs.declared.kind.Kind.TheVariants as kind
+use Rattle.simplex_round.specs.declared.timeout_reason.TimeoutReason.{TimeoutReason}
 use Rattle.simplex_round.specs.declared.timeout_reason.TimeoutReason.TheVariants as reason
 use Rattle.simplex_round.specs.Held as offer
 use Rattle.simplex_round.specs.Past as past
@@ -224,6 +225,12 @@ module _ {S D P G C : Type 0} (s : Setup S C) (h : List (Point S D P G C)) where
   pub polled-none : (now : ℕ) → current s h ≡ 0 → seen s h ≡ seen s (History.polled now ∷ h)
   polled-none now none = rw none refl
 
+  pub polled-answer : (view until : ℕ) (allow : Bool) (timeout : Option (ℕ × TimeoutReason)) → view ≡ current s h → (view ≡ 0 → ⊥) → timeout ≡ past.next_timeout (past.polled until ∷ seen s h view) allow
+      → timeout ≡ (if nat_lt 0 (current s h) then past.next_timeout (past.polled until ∷ seen s h (current s h)) allow else None)
+  polled-answer view until allow timeout at some is =
+      let started : nat_lt 0 view ≡ true = grind (arith, nat_tests, some) in
+      subst (λ n. timeout ≡ (if nat_lt 0 n then past.next_timeout (past.polled until ∷ seen s h n) allow else None)) at (rw started is)
+
   -- a verdict leaves certificates and votes
   pub judged-quiet : (now view : ℕ) (ok : Bool) → IsQuiet (History.judged now view ok)
   judged-quiet now view ok = quiet-from (History.judged now view ok) (refl, refl, λ u. refl, λ u. refl, λ u. refl, λ u. refl, λ u. refl, refl, λ u. refl) (judged-like ok)
@@ -259,7 +266,7 @@ module _ {S D P G C : Type 0} (s : Setup S C) (h : List (Point S D P G C)) where
 module _ {S D P G C : Type 0} {g : Ghosts S D P G C} {s : Setup S C} {h : List (Point S D P G C)} where
   -- the progress is where a point leads that hands no leader on
   pub unled-progress : (x : Point S D P G C) (p : Progress S D P G C) (c : ℕ) → IsUnled s h x → IsAt g s p c (stepped s h x) → IsAt g s p c (tables s (x ∷ h))
-  unled-progress x p c q at = IsAt-tracked at (Holds-led g (frame_of s) p.tracked (stepped s h x) (leader s (x ∷ h)) at.tracked (λ u _. sym (unled-leader s h x q u)))
+  unled-progress x p c q at = IsAt-tracked {t' = tables s (x ∷ h)} at (Holds-led g (frame_of s) p.tracked (stepped s h x) (leader s (x ∷ h)) at.tracked (λ u _. sym (unled-leader s h x q u)))
 
 module _ {S L D P G C : Type 0} {g : Ghosts S D P G C} {leads : elector.Ghosts L S D P G C} {s : Setup S C} {v : Views S L D P G C} {h : List (Point S D P G C)} where
   -- the voter is where a still point leads, if its progress and its marks are

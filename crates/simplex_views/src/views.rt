@@ -296,7 +296,6 @@ impl<S: Scheme<D> + Drop, L: Elector<S, D>, D: Digest> Views<S, L, D> {
     fn tell(&mut self, view: View, notice: Notice) -> Result<(), AllocError>
         ensures { OnOk result (AtEach S.Scheme L.Elector self.old (λ s h. Keeps S.Scheme L.Elector s self.new (noticed view notice ∷ h))) }
     {
-        self.progress.tracked.tell(view, notice)?;
-        Ok(())
+        self.progress.tracked.tell(view, notice)
     }
 }

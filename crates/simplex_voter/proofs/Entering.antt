@@ -1,11 +1,15 @@
 -- The best certificate to enter a view by.
 use Rattle.std.proofs.Common.{◌≡◌, ◌≤◌, ◌<◌, ◌+◌, ◌-◌, ◌==◌, ℕ, zero, suc, Bool, true, false, Bor, refl, sym, ap, ◌∙◌, ⊎_elim, arith, if◌then◌else◌}
-use Rattle.std.specs.Prelude.{◌↔◌, List, Option, Some, None, IsTrue, MatchOption, option_copied}
+use Rattle.std.specs.Prelude.{◌↔◌, List, Option, Some, None, IsTrue, MatchOption, option_copied, option_map}
+use Rattle.std.specs.Option.{option_or}
 use Rattle.std.proofs.lemmas.Bool.{cases_lt, both_ways, eq-eqb, ne_eqb}
 use Rattle.simplex_types.specs.Positions.{InCoveringRange, term_start}
 use Rattle.simplex_messages.specs.declared.certificate.Certificate.{Certificate}
+use Rattle.simplex_messages.specs.declared.certificate.Certificate.TheVariants as certificate
+use Rattle.simplex_messages.specs.ProposalCertificate.{Finalization, Notarization}
 use Rattle.simplex_messages.specs.declared.nullification.Nullification.{Nullification}
-use Rattle.simplex_views.specs.History.{Setup, Point, current, nullification}
+use Rattle.simplex_round.specs.Past as past
+use Rattle.simplex_views.specs.History.{Setup, Point, current, nullification, seen}
 use Rattle.simplex_views.specs.Views.{IsHighestCovering}
 use Rattle.simplex_due.specs.Answers.{best_certificate, covering_nullification, entry_certificate, last_of}
 
@@ -61,3 +65,20 @@ pub best_of : {S D P G C : Type 0} (s : Setup S C) (h : List (Point S D P G C)) 
 best_of s h view before o at under is =
     let e : before ≡ current s h - 1 = under ∙ ap (λ n. n - 1) at in
     is ∙ (λ i. entry_certificate s h (at i) (e i))
+
+where_map : {A B : Type 0} (f : A → B) (b : Bool) (o : Option A) → option_map f (if b then o else None) ≡ (if b then option_map f o else None)
+where_map f true o = refl
+where_map f false o = refl
+
+where_else : {A : Type 0} (b : Bool) (x y : A) → b ≡ false → y ≡ (if b then x else y)
+where_else b x y isnt = rw isnt refl
+
+-- it is the first of these three that is there
+pub entry_is : {S D P G C : Type 0} (s : Setup S C) (h : List (Point S D P G C)) (view before : ℕ) (f : Option (Finalization S D P G C)) (n : Option (Nullification S D P G C)) (t : Option (Notarization S D P G C)) → 0 < before
+    → f ≡ past.finalization (seen s h before) → n ≡ (if view == term_start s.length view then covering_nullification s h before else None) → t ≡ past.notarization (seen s h before)
+    → option_or (option_map certificate.Finalization f) (option_or (option_map certificate.Nullification n) (option_map certificate.Notarization t)) ≡ entry_certificate s h view before
+entry_is s h view before f n t some final skips notarized =
+    let skipped : option_map certificate.Nullification n ≡ (if view == term_start s.length view then option_map certificate.Nullification (covering_nullification s h before) else None) =
+    ap (λ o. option_map certificate.Nullification o) skips ∙ where_map certificate.Nullification (view == term_start s.length view) (covering_nullification s h before) in
+    (λ i. option_or (option_map certificate.Finalization (final i)) (option_or (skipped i) (option_map certificate.Notarization (notarized i))))
+    ∙ where_else (before == 0) None _ (ne_eqb before 0 (λ e. omega (arith, some, e)))

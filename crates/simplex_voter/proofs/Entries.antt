@@ -1,7 +1,7 @@
 -- The first of many views that was entered, and what an option gives.
-use Rattle.std.proofs.Common.{◌≡◌, ◌<◌, ◌≤◌, ◌+◌, ℕ, zero, suc, Bool, true, false, refl, sym, ◌∙◌, ⊎_elim, arith}
+use Rattle.std.proofs.Common.{◌≡◌, ◌<◌, ◌≤◌, ◌+◌, ℕ, zero, suc, Bool, true, false, ◌⊎◌, inl, inr, refl, sym, ◌∙◌, ⊎_elim, arith}
 use Rattle.std.specs.Prelude.{◌↔◌, List, [], Option, Some, None, IsTrue, is_some, MatchOption}
-use Rattle.std.proofs.lemmas.Bool.{cases_lt}
+use Rattle.std.proofs.lemmas.Bool.{both_ways, cases_lt}
 use Rattle.simplex_round.specs.Past as past
 use Rattle.simplex_round.specs.Past.{Item}
 use Rattle.simplex_tracking.specs.Rounds.{AreUntracked}
@@ -20,6 +20,13 @@ module _ {D : Type 0} where
 
   pub none_is_given : (found wanted : Option D) (x : D) → found ≡ None → found ≡ wanted → IsTrue false ↔ (wanted ≡ Some x)
   none_is_given found wanted x none there = (λ never. absurd (cc (never)), λ wants. absurd (cc (none, there, wants)))
+
+-- one of two facts holds exactly where the test of the first says so, or else that of the second
+pub first_holds : (b : Bool) (P Q : Type 0) → IsTrue b ↔ P → b ≡ true → IsTrue true ↔ (P ⊎ Q)
+first_holds b P Q first on = (λ yes. inl (first.0 on), λ is. refl)
+
+pub second_holds : (b c : Bool) (P Q : Type 0) → IsTrue b ↔ P → b ≡ false → IsTrue c ↔ Q → IsTrue c ↔ (P ⊎ Q)
+second_holds b c P Q first off second = (λ yes. inr (second.0 yes), ⊎_elim (λ p. absurd (both_ways b off (first.1 p))) (λ q. second.1 q))
 
 -- there is another parent to build on exactly where one is found
 pub another_preferred : {D : Type 0} (m : Member) (k : Known D) (view parent : ℕ) (payload : D) (o : Option (ℕ × D)) (b : Bool) → b ≡ is_some o → ¬ IsCaptured m k view parent payload

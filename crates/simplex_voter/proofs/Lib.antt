@@ -1,5 +1,7 @@
+pub mod Casting
 pub mod Entering
 pub mod Entries
+pub mod Keeping
 pub mod Looking
 pub mod Lowest
 pub mod Members

@@ -1,6 +1,6 @@
 -- What a look at the proposals that wait passes.
-use Rattle.std.proofs.Common.{◌≡◌, ◌≤◌, ◌<◌, ◌+◌, ◌-◌, ◌^◌, ℕ, zero, suc, max, refl, subst, ⊎_elim, arith}
-use Rattle.std.specs.Prelude.{List, None}
+use Rattle.std.proofs.Common.{◌≡◌, ◌≤◌, ◌<◌, ◌+◌, ◌-◌, ◌^◌, ℕ, zero, suc, max, inl, inr, refl, subst, ⊎_elim, arith}
+use Rattle.std.specs.Prelude.{◌∷◌, List, None}
 use Rattle.std.proofs.lemmas.Bool.{cases_lt}
 use Rattle.simplex_types.specs.declared.proposal.Proposal.{Proposal}
 use Rattle.simplex_types.specs.Positions.{term_end}
@@ -8,8 +8,9 @@ use Rattle.simplex_types.specs.declared.scheme.Scheme.{Ghosts}
 use Rattle.simplex_rules.specs.Spans.{term_end-above}
 use Rattle.simplex_rules.specs.declared.elector.Elector as elector
 use Rattle.simplex_rules.specs.Windows.{AdmitsOutbound}
+use Rattle.simplex_round.specs.declared.timeout_reason.TimeoutReason.TheVariants as reason
 use Rattle.simplex_tracking.specs.Rounds.{AreUntracked}
-use Rattle.simplex_views.specs.History.{Setup, Point, current, seen}
+use Rattle.simplex_views.specs.History.{Setup, Point, current, latched, seen}
 use Rattle.simplex_views.specs.Known.{Known, known}
 use Rattle.simplex_views.specs.Leaders.{leader}
 use Rattle.simplex_due.specs.Ancestry.{Member, member}
@@ -17,7 +18,7 @@ use Rattle.simplex_due.specs.Requests.{IsPassed, Scanned, WaitsForParent, begun,
 use Rattle.simplex_facts.specs.Matching.{WholeScanLeavesNothing}
 use Rattle.simplex_voter.specs.declared.state.State.{State}
 use Rattle.simplex_voter.specs.State.{Keeps}
-use Rattle.simplex_voter.specs.Verifying.{BehindLook, PassesAll}
+use Rattle.simplex_voter.specs.Verifying.{BehindLook, Passes, PassesAll}
 use Rattle.simplex_voter.proofs.Lowest.{outbound_below}
 
 -- a view is passed where no proposal waits in it
@@ -103,3 +104,27 @@ module _ {S L D P G C : Type 0} (g : Ghosts S D P G C) (e : elector.Ghosts L S D
       };
     },
   )
+
+  -- a look goes on over a view that is passed
+  pub looks_on : (end : List (Point S D P G C)) (next view after : ℕ) → current s h ≤ next → next ≤ view → after ≡ view + 1 → Looked s now h view end → Passes g e s state now end view
+      → (end : List (Point S D P G C)) × (current s h ≤ after) × Looked s now h after end × Keeps g e s state end
+  looks_on end next view after from behind is to (inl (passes, k)) = (end, omega (arith, from, behind, is), rw is (passed to passes), k)
+  looks_on end next view after from behind is to (inr (bad, k)) = (latched now view reason.InvalidProposal ∷ end, omega (arith, from, behind, is), rw is (given_up to bad), k)
+
+  -- it passed all behind the last view with a number
+  pub passes_last : WholeScanLeavesNothing S D P G C → (end : List (Point S D P G C)) (view : ℕ) → 0 < s.length → view + 1 ≡ 2 ^ 64 → Looked s now h view end → Passes g e s state now end view
+      → (last : ℕ) × BehindLook s now h last (PassesAll g e s state last)
+  passes_last law end view some last to (inl (passes, k)) = passes_all law end (whole_past s now h end (view + 1) some (omega (arith, last)) (passed to passes)) k
+  passes_last law end view some last to (inr (bad, k)) =
+      let after : List (Point S D P G C) = latched now view reason.InvalidProposal ∷ end in
+      passes_all law after (whole_past s now h after (view + 1) some (omega (arith, last)) (given_up to bad)) k
+
+  -- and where none behind is tracked
+  pub passes_rest : WholeScanLeavesNothing S D P G C → (end : List (Point S D P G C)) (next : ℕ) → 0 < s.length → Looked s now h next end → AreUntracked (leader s end) (seen s end) next (2 ^ 64) → Keeps g e s state end
+      → (last : ℕ) × BehindLook s now h last (PassesAll g e s state last)
+  passes_rest law end next some looked untracked k = passes_all law end
+      (⊎_elim
+      (λ below. whole_past s now h end (2 ^ 64) some (omega arith) (looked_to s now h end next (2 ^ 64) (omega (arith, below)) looked untracked))
+      (λ past. whole_past s now h end next some past looked)
+      (cases_lt next (2 ^ 64)))
+      k

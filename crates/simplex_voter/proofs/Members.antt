@@ -29,6 +29,10 @@ none_left (x ∷ xs) none = absurd (none (omega arith))
 pub nothing_in : (set : BTreeSet ℕ) → (0 < length set.keys → ⊥) → (u : ℕ) → IsTrue (contains nat_cmp set u) → ⊥
 nothing_in set none u there = true≢false (sym (rw (none_left set.keys none) at there))
 
+-- one fewer is left
+pub fewer : (m n : ℕ) → m + 1 ≡ n → m < n
+fewer m n is = omega (arith, is)
+
 module _ {X : Type 0} where
   -- one more element is taken
   pub take_next : (xs : List X) (i : ℕ) (x : X) → i < length xs → x ≡ get_or xs i x → take (i + 1) xs ≡ take i xs ++ x ∷ []

@@ -1,16 +1,16 @@
 -- What is to be asked for a view's proposal, and what is answered once it is.
 use Rattle.std.proofs.Common.{ℕ, List, sym, subst}
-use Rattle.std.specs.Prelude.{IsSome}
+use Rattle.std.specs.Prelude.{IsSome, Option}
 use Rattle.simplex_types.specs.declared.proposal.Proposal.{Proposal}
 use Rattle.simplex_types.specs.declared.scheme.Scheme.{Ghosts}
 use Rattle.simplex_rules.specs.declared.elector.Elector as elector
 use Rattle.simplex_resolver.specs.declared.ask.Kind.TheVariants as kind
-use Rattle.simplex_round.specs.Past.{MayVerify}
+use Rattle.simplex_round.specs.Past.{MayPropose, MayVerify}
 use Rattle.simplex_views.specs.History.{Setup, Point, current, seen}
 use Rattle.simplex_views.specs.Known.{Known, known}
 use Rattle.simplex_views.specs.Leaders.{leader}
 use Rattle.simplex_due.specs.Ancestry.{Member, member}
-use Rattle.simplex_due.specs.Requests.{Scanned, VerifyIsDue}
+use Rattle.simplex_due.specs.Requests.{BuildIsDue, Scanned, VerifyIsDue}
 use Rattle.simplex_voter.specs.declared.state.State.{State}
 use Rattle.simplex_facts.specs.declared.verify.Verify.{Verify}
 use Rattle.simplex_facts.specs.declared.verify.Verify.TheVariants as verify
@@ -31,6 +31,13 @@ module _ {S D P G C : Type 0} where
     another_leads = (due.waits.led.0, λ same. due.waits.led.1 (sym same));
     not_given_up = due.waits.opens.not_given_up;
     first = due.waits.first;
+  }
+
+  pub may_propose : (s : Setup S C) (h : List (Point S D P G C)) (view parent : ℕ) (payload : D) → BuildIsDue (member s) (known s h) view parent payload → MayPropose s.me (leader s h view) (seen s h view)
+  may_propose s h view parent payload due = record {
+    leads = (subst (λ (o : Option ℕ). IsSome o) (sym due.leads.known) due.leads.some, sym due.leads.known);
+    not_given_up = due.opens.not_given_up;
+    is_open = due.vacant;
   }
 
 module _ {S L D P G C : Type 0} (g : Ghosts S D P G C) (e : elector.Ghosts L S D P G C) (s : Setup S C) (state : State S L D P G C) (now : ℕ) (h : List (Point S D P G C)) where

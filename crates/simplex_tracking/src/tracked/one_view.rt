@@ -157,7 +157,7 @@ impl<S: Scheme<D> + Drop, D: Digest> Tracked<S, D> {
         ensures answer { IfOk result (λ copy. AtEach S.Scheme self.old (λ f t. copy ≡ (if has_sent_notarization (t.past view) then None else notarization (t.past view)))) }
     {
         match self.rounds.get_mut(view) {
-            Some(round) => Ok(round.broadcast_notarization(alloc)?),
+            Some(round) => round.broadcast_notarization(alloc),
             None => Ok(None),
         }
     }
@@ -172,7 +172,7 @@ impl<S: Scheme<D> + Drop, D: Digest> Tracked<S, D> {
         ensures answer { IfOk result (λ copy. AtEach S.Scheme self.old (λ f t. copy ≡ (if has_sent_nullification (t.past view) then None else nullification (t.past view)))) }
     {
         match self.rounds.get_mut(view) {
-            Some(round) => Ok(round.broadcast_nullification(alloc)?),
+            Some(round) => round.broadcast_nullification(alloc),
             None => Ok(None),
         }
     }
@@ -187,7 +187,7 @@ impl<S: Scheme<D> + Drop, D: Digest> Tracked<S, D> {
         ensures answer { IfOk result (λ copy. AtEach S.Scheme self.old (λ f t. copy ≡ (if has_sent_finalization (t.past view) then None else finalization (t.past view)))) }
     {
         match self.rounds.get_mut(view) {
-            Some(round) => Ok(round.broadcast_finalization(alloc)?),
+            Some(round) => round.broadcast_finalization(alloc),
             None => Ok(None),
         }
     }
@@ -197,14 +197,13 @@ impl<S: Scheme<D> + Drop, D: Digest> Tracked<S, D> {
         ensures { OnOk result (AtEach S.Scheme self.old (λ f t. (taken : Bool) × Takes t.past artifact.now taken × Holds S.Scheme f self.new (record t { past = recalled taken artifact.now t.past }))) }
     {
         match artifact {
-            Artifact::Certification(round, is_success) => self.judge(round.view(), *is_success)?,
+            Artifact::Certification(round, is_success) => self.judge(round.view(), *is_success),
             Artifact::Nullify(vote) => {
                 self.given_up.mark(vote.view())?;
-                self.rounds.replay(artifact)?;
+                self.rounds.replay(artifact)
             }
-            _ => self.rounds.replay(artifact)?,
+            _ => self.rounds.replay(artifact),
         }
-        Ok(())
     }
 
     /// Binds the proposal to its parent's payload, where there is one.

@@ -57,8 +57,7 @@ impl<S: Scheme<D> + Drop, L: Elector<S, D>, D: Digest> Views<S, L, D> {
     pub fn put_off_verdict(&mut self, view: View) -> Result<(), AllocError>
         ensures { OnOk result (AtEach S.Scheme L.Elector self.old (λ s h. Keeps S.Scheme L.Elector s self.new (certify_waited view ∷ h))) }
     {
-        self.waiting.mark(view)?;
-        Ok(())
+        self.waiting.mark(view)
     }
 
     /// Whether a verdict on the view was put off.

@@ -181,15 +181,13 @@ impl<S: Scheme<D> + Drop, L: Elector<S, D>, D: Digest> Views<S, L, D> {
     {
         self.progress.tracked.judge(view, is_success)?;
         if is_success {
-            self.progress.enter(now, view.next())?;
-            return Ok(());
+            return self.progress.enter(now, view.next());
         }
         if view < self.progress.view {
             return Ok(());
         }
         let notice = Notice::Latched(now, TimeoutReason::FailedCertification);
-        self.progress.tracked.tell(view, notice)?;
-        Ok(())
+        self.progress.tracked.tell(view, notice)
     }
 
     /// Offers the leader's proposal of a view: whether it is the first there. Behind an own nullify it is not taken.
@@ -201,7 +199,6 @@ impl<S: Scheme<D> + Drop, L: Elector<S, D>, D: Digest> Views<S, L, D> {
         ensures keeps { OnOk result (AtEach S.Scheme L.Elector self.old (λ s h. Keeps S.Scheme L.Elector s self.new (forwarded view proposal.now ∷ h))) }
         ensures answer { IfOk result (λ first. AtEach S.Scheme L.Elector self.old (λ s h. IsTrue first ↔ ((has_nullified (seen s h view) ≡ false) × (held (offers (seen s h view)) ≡ None)))) }
     {
-        let first = self.progress.tracked.forward(view, proposal)?;
-        Ok(first)
+        self.progress.tracked.forward(view, proposal)
     }
 }

@@ -50,11 +50,9 @@ impl<S: Scheme<D> + Drop, L: Elector<S, D>, D: Digest> Views<S, L, D> {
         ensures keeps { IfOk result (λ taken. AtEach S.Scheme L.Elector self.old (λ s h. Keeps S.Scheme L.Elector s self.new (if taken then built now proposal parent_payload ∷ h else h))) }
         ensures answer { IfOk result (λ taken. AtEach S.Scheme L.Elector self.old (λ s h. IsTrue taken ↔ ((has_nullified (seen s h proposal.round.view) ≡ false) × Agrees (held (offers (seen s h proposal.round.view))) proposal))) }
     {
-        let taken = self
-            .progress
+        self.progress
             .tracked
-            .proposed(now, proposal, parent_payload)?;
-        Ok(taken)
+            .proposed(now, proposal, parent_payload)
     }
 
     /// Takes it that the held proposal of the view was found good: whether it became verified. Behind an own nullify that is not
@@ -67,8 +65,7 @@ impl<S: Scheme<D> + Drop, L: Elector<S, D>, D: Digest> Views<S, L, D> {
         ensures keeps { OnOk result (AtEach S.Scheme L.Elector self.old (λ s h. Keeps S.Scheme L.Elector s self.new (confirmed view ∷ h))) }
         ensures answer { IfOk result (λ became. AtEach S.Scheme L.Elector self.old (λ s h. IsTrue became ↔ ((has_nullified (seen s h view) ≡ false) × IsUnverified (offers (seen s h view))))) }
     {
-        let became = self.progress.tracked.verified(view)?;
-        Ok(became)
+        self.progress.tracked.verified(view)
     }
 
     /// Drops what the view's proposal was bound to.

@@ -41,14 +41,13 @@ impl<S: Scheme<D> + Drop, L: Elector<S, D>, D: Digest> Views<S, L, D> {
         self.waiting.forget_below(floor);
         self.nullified.forget_below(first);
         drop_before(&mut self.reaching, first);
-        let views = clear_below(
+        clear_below(
             &mut self.progress.tracked,
             &mut self.reaching,
             alloc,
             floor,
             first,
-        )?;
-        Ok(views)
+        )
     }
 }
 

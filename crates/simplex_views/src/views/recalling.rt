@@ -26,8 +26,7 @@ impl<S: Scheme<D> + Drop, L: Elector<S, D>, D: Digest> Views<S, L, D> {
         ensures { OnOk result (AtEach S.Scheme L.Elector self.old (λ s h. (taken : Bool) × Takes (seen s h) artifact.now taken × Keeps S.Scheme L.Elector s self.new (recalls taken artifact.now ∷ h))) }
     {
         let Artifact::Notarize(vote) = artifact else {
-            self.progress.tracked.replay(artifact)?;
-            return Ok(());
+            return self.progress.tracked.replay(artifact);
         };
         let proposal = vote.proposal;
         let view = proposal.view();
@@ -37,7 +36,7 @@ impl<S: Scheme<D> + Drop, L: Elector<S, D>, D: Digest> Views<S, L, D> {
         self.progress.tracked.bind(proposal, payload)?;
         self.progress.tracked.follow(view)?;
         if is_taken {
-            self.backed.mark(view)?;
+            return self.backed.mark(view);
         }
         Ok(())
     }

@@ -26,8 +26,7 @@ impl<S: Scheme<D> + Drop, L: Elector<S, D>, D: Digest> Views<S, L, D> {
         ensures keeps { IfOk result (λ copy. AtEach S.Scheme L.Elector self.old (λ s h. Keeps S.Scheme L.Elector s self.new (if is_some copy then sent kind.Notarization view ∷ h else h))) }
         ensures answer { IfOk result (λ copy. AtEach S.Scheme L.Elector self.old (λ s h. copy ≡ (if past.has_sent_notarization (seen s h view) then None else past.notarization (seen s h view)))) }
     {
-        let copy = self.progress.tracked.broadcast_notarization(alloc, view)?;
-        Ok(copy)
+        self.progress.tracked.broadcast_notarization(alloc, view)
     }
 
     /// A copy of the nullification of the view to hand out, once.
@@ -43,8 +42,7 @@ impl<S: Scheme<D> + Drop, L: Elector<S, D>, D: Digest> Views<S, L, D> {
         ensures keeps { IfOk result (λ copy. AtEach S.Scheme L.Elector self.old (λ s h. Keeps S.Scheme L.Elector s self.new (if is_some copy then sent kind.Nullification view ∷ h else h))) }
         ensures answer { IfOk result (λ copy. AtEach S.Scheme L.Elector self.old (λ s h. copy ≡ (if past.has_sent_nullification (seen s h view) then None else past.nullification (seen s h view)))) }
     {
-        let copy = self.progress.tracked.broadcast_nullification(alloc, view)?;
-        Ok(copy)
+        self.progress.tracked.broadcast_nullification(alloc, view)
     }
 
     /// A copy of the finalization of the view to hand out, once.
@@ -60,7 +58,6 @@ impl<S: Scheme<D> + Drop, L: Elector<S, D>, D: Digest> Views<S, L, D> {
         ensures keeps { IfOk result (λ copy. AtEach S.Scheme L.Elector self.old (λ s h. Keeps S.Scheme L.Elector s self.new (if is_some copy then sent kind.Finalization view ∷ h else h))) }
         ensures answer { IfOk result (λ copy. AtEach S.Scheme L.Elector self.old (λ s h. copy ≡ (if past.has_sent_finalization (seen s h view) then None else past.finalization (seen s h view)))) }
     {
-        let copy = self.progress.tracked.broadcast_finalization(alloc, view)?;
-        Ok(copy)
+        self.progress.tracked.broadcast_finalization(alloc, view)
     }
 }

@@ -51,10 +51,8 @@ impl<S: Scheme<D> + Drop, L: Elector<S, D>, D: Digest> Views<S, L, D> {
         if view.is_zero() {
             return Ok(None);
         }
-        let timeout = self
-            .progress
+        self.progress
             .tracked
-            .next_timeout(view, now, retry_interval, allow_latched_timeout)?;
-        Ok(timeout)
+            .next_timeout(view, now, retry_interval, allow_latched_timeout)
     }
 }

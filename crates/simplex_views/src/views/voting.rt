@@ -39,8 +39,7 @@ impl<S: Scheme<D> + Drop, L: Elector<S, D>, D: Digest> Views<S, L, D> {
         ensures keeps { IfOk result (λ voted. AtEach S.Scheme L.Elector self.old (λ s h. Keeps S.Scheme L.Elector s self.new (if is_some voted then voted_nullify view ∷ h else h))) }
         ensures answer { IfOk result (λ voted. AtEach S.Scheme L.Elector self.old (λ s h. voted ≡ (if has_finalized (seen s h view) then None else Some (has_nullified (seen s h view))))) }
     {
-        let voted = self.progress.tracked.construct_nullify(view)?;
-        Ok(voted)
+        self.progress.tracked.construct_nullify(view)
     }
 
     /// Votes to finalize the view, where the view itself allows it: the held proposal. Else nothing changes.

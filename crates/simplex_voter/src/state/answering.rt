@@ -32,8 +32,7 @@ impl<S: Scheme<D> + Drop, L: Elector<S, D>, D: Digest> State<S, L, D> {
             self.views.clear_verifying(view)?;
             return Ok(false);
         }
-        let became = self.views.verified(view)?;
-        Ok(became)
+        self.views.verified(view)
     }
 
     /// Takes it that the held proposal of the view wasn't found good, for this reason to give the view up: whether the reason counts.
@@ -55,8 +54,7 @@ impl<S: Scheme<D> + Drop, L: Elector<S, D>, D: Digest> State<S, L, D> {
             self.views.clear_verifying(view)?;
             return Ok(false);
         }
-        let counts = self.trigger_timeout(now, view, reason)?;
-        Ok(counts)
+        self.trigger_timeout(now, view, reason)
     }
 
     /// Whether what the view's proposal is bound to hasn't fallen.

@@ -24,9 +24,14 @@ impl<S: Scheme<D> + Drop, L: Elector<S, D>, D: Digest> State<S, L, D> {
         ensures answer { AtEach S.Scheme L.Elector self.old (λ s h. MatchOption result (NoBuildIsDue (member s) (known s h)) (λ x. IsFirstBuild (member s) (known s h) (context_of x).round.view (context_of x).parent.0 (context_of x).parent.1 × IsContextOf S.Scheme s (context_of x))) }
         ensures handoff { AtEach S.Scheme L.Elector self.old (λ s h. IfSome result (λ x. IsPrepared x ↔ IsHandoff (member s) (known s h) (context_of x).round.view (context_of x).parent.0 (context_of x).parent.1)) }
     {
-        let (view, parent, payload) = self.first_build()?;
+        let Some(first) = self.first_build() else {
+            return None;
+        };
+        let (view, parent, payload) = first;
         let is_handoff = self.is_handoff(view, parent, payload);
-        let leader = self.views.try_propose(view)?;
+        let Some(leader) = self.views.try_propose(view) else {
+            return None;
+        };
         let context = Context {
             round: Round::new(self.views.epoch(), view),
             leader: leader.key,

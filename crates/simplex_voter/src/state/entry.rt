@@ -32,8 +32,7 @@ impl<S: Scheme<D> + Drop, L: Elector<S, D>, D: Digest> State<S, L, D> {
         if before.is_zero() {
             return Ok(None);
         }
-        let best = self.entry_certificate(alloc, view, before)?;
-        Ok(best)
+        self.entry_certificate(alloc, view, before)
     }
 
     /// A copy of the best certificate to enter the view by, whose view before is this one, behind the start.

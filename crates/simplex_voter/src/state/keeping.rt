@@ -26,8 +26,7 @@ impl<S: Scheme<D> + Drop, L: Elector<S, D>, D: Digest> State<S, L, D> {
         ensures { OnOk result (AtEach S.Scheme L.Elector self.old (λ s h. (taken : Bool) × Takes (seen s h) artifact.now taken × Keeps S.Scheme L.Elector s self.new (recalls taken artifact.now ∷ h))) }
     {
         wake(&mut self.candidates, artifact.view())?;
-        self.views.replay(artifact)?;
-        Ok(())
+        self.views.replay(artifact)
     }
 
     /// Drops what is known of the views that need not be kept, and answers those of which something was known, ascending. A

@@ -27,8 +27,7 @@ impl<S: Scheme<D> + Drop, L: Elector<S, D>, D: Digest> State<S, L, D> {
         ensures { OnOk result (AtEach S.Scheme L.Elector self.old (λ s h. InTime s now → Keeps S.Scheme L.Elector s self.new (started now payload ∷ h))) }
     {
         wake(&mut self.candidates, View::zero())?;
-        self.views.set_genesis(now, payload)?;
-        Ok(())
+        self.views.set_genesis(now, payload)
     }
 
     /// Takes a notarization that certifies: whether it is the first of its view, and the known leader's key where it took
@@ -48,8 +47,7 @@ impl<S: Scheme<D> + Drop, L: Elector<S, D>, D: Digest> State<S, L, D> {
         ensures same { IfOk result (λ r. AtEach S.Scheme L.Elector self.old (λ s h. Agrees (held (offers (seen s h certificate.proposal.round.view))) certificate.proposal → r.1 ≡ None)) }
     {
         wake(&mut self.candidates, certificate.view())?;
-        let taken = self.views.add_notarization(certificate)?;
-        Ok(taken)
+        self.views.add_notarization(certificate)
     }
 
     /// Takes a nullification that certifies, and enters the next term: whether it is the first of its view. One of a view
@@ -88,8 +86,7 @@ impl<S: Scheme<D> + Drop, L: Elector<S, D>, D: Digest> State<S, L, D> {
     {
         let finalized = certificate.view();
         wake(&mut self.candidates, finalized)?;
-        let taken = self.views.add_finalization(now, certificate)?;
-        Ok(taken)
+        self.views.add_finalization(now, certificate)
     }
 
     /// Takes the verdict on the notarization of a view, and answers that notarization. A true one enters the next view, a
@@ -111,8 +108,7 @@ impl<S: Scheme<D> + Drop, L: Elector<S, D>, D: Digest> State<S, L, D> {
         ensures no_room { IfOk result (λ answer. AtEach S.Scheme L.Elector self.old (λ s h. (HasRoom s.length view → ⊥) → answer ≡ None)) }
     {
         wake(&mut self.candidates, view)?;
-        let answer = self.views.certified(alloc, now, view, is_success)?;
-        Ok(answer)
+        self.views.certified(alloc, now, view, is_success)
     }
 
     /// Offers the leader's proposal of a view: whether it is the first there. Behind an own nullify it is not taken.
@@ -125,7 +121,6 @@ impl<S: Scheme<D> + Drop, L: Elector<S, D>, D: Digest> State<S, L, D> {
         ensures answer { IfOk result (λ first. AtEach S.Scheme L.Elector self.old (λ s h. IsTrue first ↔ ((has_nullified (seen s h view) ≡ false) × (held (offers (seen s h view)) ≡ None)))) }
     {
         wake(&mut self.candidates, view)?;
-        let first = self.views.set_proposal(view, proposal)?;
-        Ok(first)
+        self.views.set_proposal(view, proposal)
     }
 }

@@ -41,8 +41,7 @@ impl<S: Scheme<D> + Drop, L: Elector<S, D>, D: Digest> State<S, L, D> {
         }
         let proposal = Proposal::new(context.round, parent, payload);
         wake(&mut self.candidates, context.round.view)?;
-        let taken = self.views.proposed(now, proposal, parent_payload)?;
-        Ok(taken)
+        self.views.proposed(now, proposal, parent_payload)
     }
 
     /// Whether a parent that a build was asked for on may still be used: it is the one to build on, or the parent rule gives its payload.

@@ -47,7 +47,6 @@ impl<S: Scheme<D> + Drop, L: Elector<S, D>, D: Digest> State<S, L, D> {
     {
         let view = finalization.view();
         let _taken = self.add_finalization(now, finalization)?;
-        let copy = self.broadcast_finalization(alloc, view)?;
-        Ok(copy)
+        self.broadcast_finalization(alloc, view)
     }
 }

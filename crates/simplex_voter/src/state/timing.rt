@@ -72,7 +72,9 @@ impl<S: Scheme<D> + Drop, L: Elector<S, D>, D: Digest> State<S, L, D> {
     fn term_deadline(&self) -> Option<u64>
         ensures { AtEach S.Scheme L.Elector self.now (λ s h. result ≡ term_deadline s h) }
     {
-        let oldest = self.oldest_entered()?;
+        let Some(oldest) = self.oldest_entered() else {
+            return None;
+        };
         match self.views.round(oldest) {
             Some(round) => round.stall_deadline(),
             None => None,

@@ -34,8 +34,7 @@ impl<S: Scheme<D> + Drop, L: Elector<S, D>, D: Digest> State<S, L, D> {
             return Ok(Verify::Wait);
         };
         let (view, wanted) = waiting;
-        let answer = self.ask(view, wanted)?;
-        Ok(answer)
+        self.ask(view, wanted)
     }
 
     /// The lowest view for whose proposal something is to be asked, with that. The views below with a proposal that can never stand
@@ -126,8 +125,12 @@ impl<S: Scheme<D> + Drop, L: Elector<S, D>, D: Digest> State<S, L, D> {
     fn leader_key(&self, view: View) -> Option<S::PublicKey>
         ensures { AtEach S.Scheme L.Elector self.now (λ s h. MatchOption result (leader s h view ≡ None) (λ key. IsKeyOfLeader S.Scheme s h view key)) }
     {
-        let round = self.views.round(view)?;
-        let leader = round.leader()?;
+        let Some(round) = self.views.round(view) else {
+            return None;
+        };
+        let Some(leader) = round.leader() else {
+            return None;
+        };
         Some(leader.key)
     }
 }

@@ -60,7 +60,9 @@ impl<S: Scheme<D> + Drop, L: Elector<S, D>, D: Digest> State<S, L, D> {
         if !self.finalize_is_due(view) {
             return None;
         }
-        let proposal = self.views.construct_finalize(view)?;
+        let Some(proposal) = self.views.construct_finalize(view) else {
+            return None;
+        };
         Finalize::sign(&*self.scheme, proposal)
     }
 

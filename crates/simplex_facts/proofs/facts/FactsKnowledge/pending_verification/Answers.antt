@@ -1,16 +1,19 @@
 use Rattle.std.proofs.Common.{sym, ◌∙◌}
-use Rattle.simplex_facts.proofs.Showing.{allows_verify, each, may_verify}
+use Rattle.std.proofs.lemmas.Bool.{both_ways}
+use Rattle.simplex_facts.proofs.Showing.{allows_verify, each, may_verify, unheld}
 use Rattle.simplex_facts.proofs.facts.FactsKnowledge.pending_verification.Goals as goal
 
-pub returns-in_err-_leader : goal.returns-in_err-_leader
-returns-in_err-_leader g c = each _ (λ s h kept.
-    let round = (c.in_ok-round.ensures.value s h kept).1 in
-    let own = c.in_ok-round.ensures.own s h kept in
-    rw c.from_residual-in_err-_leader.ensures (λ p allows. c.pending_verification.ensures.none _ _ _ round c.in_err-_leader.was (may_verify s h c.args.view _ p own allows)))
+pub returns-then-is_backed : goal.returns-then-is_backed
+returns-then-is_backed g c = each _ (λ s h kept p allows. both_ways c.is_backed.result (c.is_backed.ensures s h kept ∙ allows.not_backed) c.if-is_backed.true)
 
-pub returns : goal.returns
-returns g c = each _ (λ s h kept.
-    let round = (c.in_ok-round.ensures.value s h kept).1 in
-    let own = c.in_ok-round.ensures.own s h kept in
-    let found = c.in_ok-_leader.ensures.some _ _ _ round in
-    allows_verify s h c.args.view _ c.in_ok-_leader.proposal own (sym (c.is_backed.ensures s h kept) ∙ c.if-is_backed.false) found.0 found.2)
+pub returns-in-None : goal.returns-in-None
+returns-in-None g c = each _ (λ s h kept p allows. unheld s h c.args.view (c.in-None.ensures.value s h kept).0 p allows.held)
+
+pub returns-in-None-pending_verification : goal.returns-in-None-pending_verification
+returns-in-None-pending_verification g c = each _ (λ s h kept p allows.
+    c.pending_verification.ensures.none _ _ _ (c.in-Some.ensures.value s h kept).1 c.in-None-pending_verification.is (may_verify s h c.args.view _ p (c.in-Some.ensures.own s h kept) allows))
+
+pub returns-in-Some-pending_verification : goal.returns-in-Some-pending_verification
+returns-in-Some-pending_verification g c = each _ (λ s h kept.
+    let found = c.in-Some-pending_verification.ensures.some _ _ _ (c.in-Some.ensures.value s h kept).1 in
+    allows_verify s h c.args.view _ c.in-Some-pending_verification.proposal (c.in-Some.ensures.own s h kept) (sym (c.is_backed.ensures s h kept) ∙ c.if-is_backed.false) found.0 found.2)

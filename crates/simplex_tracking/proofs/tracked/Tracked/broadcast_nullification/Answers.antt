@@ -1,5 +1,6 @@
 use Rattle.std.proofs.Common.{refl}
 use Rattle.std.specs.Prelude.{is_some}
+use Rattle.std.proofs.lemmas.Result.{MatchResult-weaker}
 use Rattle.simplex_round.specs.Past.{sent_nullification}
 use Rattle.simplex_tracking.specs.Rounds.{setup_of}
 use Rattle.simplex_tracking.specs.Tracked.{Holds}
@@ -7,19 +8,21 @@ use Rattle.simplex_tracking.proofs.Growing.{either-plain, plain-kept, put-plain,
 use Rattle.simplex_tracking.proofs.Lent.{lent-when}
 use Rattle.simplex_tracking.proofs.tracked.Tracked.broadcast_nullification.Goals as goal
 
-pub returns-in_ok-broadcast_nullification-in-Some-clause-keeps : goal.returns-in_ok-broadcast_nullification-in-Some-clause-keeps
+pub returns-in-Some-clause-keeps : goal.returns-in-Some-clause-keeps
 unfolding Holds
-returns-in_ok-broadcast_nullification-in-Some-clause-keeps g c = λ f t k.
+returns-in-Some-clause-keeps g c = MatchResult-weaker c.broadcast_nullification.result c.broadcast_nullification.ensures.keeps
+    (λ copy sends f t k.
     let here = c.in-Some.ensures.stands f.common t.led t.past k.rounds in
     let follows = rw c.in-Some.is at (c.get_mut.follows.holds c.broadcast_nullification.new.self) in
-    let sent = is_some c.in_ok-broadcast_nullification-in-Some.field-0 in
-    plain-kept k (lent-when f.common t.led t.past sent_nullification sent follows k.rounds (c.in_ok-broadcast_nullification-in-Some.ensures.keeps (setup_of f.common c.args.view) _ _ here.1) (λ _. here.0))
-    (either-plain sent (put-plain c.args.view sent_nullification (λ l. refl) (still-plain t.past)) (still-plain t.past))
+    plain-kept k (lent-when f.common t.led t.past sent_nullification (is_some copy) follows k.rounds (sends (setup_of f.common c.args.view) (t.led c.args.view) (t.past c.args.view) here.1) (λ _. here.0))
+    (either-plain (is_some copy) (put-plain c.args.view sent_nullification (λ l. refl) (still-plain t.past)) (still-plain t.past)))
+    (λ e _. tt)
 
-pub returns-in_ok-broadcast_nullification-in-Some-clause-answer : goal.returns-in_ok-broadcast_nullification-in-Some-clause-answer
+pub returns-in-Some-clause-answer : goal.returns-in-Some-clause-answer
 unfolding Holds
-returns-in_ok-broadcast_nullification-in-Some-clause-answer g c = λ f t k.
-    c.in_ok-broadcast_nullification-in-Some.ensures.answer (setup_of f.common c.args.view) _ _ (c.in-Some.ensures.stands f.common t.led t.past k.rounds).1
+returns-in-Some-clause-answer g c = MatchResult-weaker c.broadcast_nullification.result c.broadcast_nullification.ensures.answer
+    (λ copy is f t k. is (setup_of f.common c.args.view) (t.led c.args.view) (t.past c.args.view) (c.in-Some.ensures.stands f.common t.led t.past k.rounds).1)
+    (λ e _. tt)
 
 pub returns-in-None-clause-keeps : goal.returns-in-None-clause-keeps
 unfolding Holds

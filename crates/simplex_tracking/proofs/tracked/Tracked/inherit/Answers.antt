@@ -1,6 +1,7 @@
 use Rattle.std.proofs.Common.{◌≡◌, ◌-◌, true, false, ap, inl, inr, refl, sym}
 use Rattle.std.specs.Prelude.{Some, None}
 use Rattle.std.proofs.lemmas.Bool.{false_from_ne_true}
+use Rattle.std.proofs.lemmas.Result.{MatchResult-weaker}
 use Rattle.simplex_tracking.specs.Tracked.{Holds, inherits_by}
 use Rattle.simplex_tracking.proofs.Choices.{false_is_not}
 use Rattle.simplex_tracking.proofs.Tables.{learn-members}
@@ -45,19 +46,23 @@ returns-then-not-inherits-clause-answer g c = λ f t k _.
 
 pub returns-clause-keeps : goal.returns-clause-keeps
 unfolding Holds
-returns-clause-keeps g c = λ f t k.
+returns-clause-keeps g c = MatchResult-weaker c.learn.result c.learn.ensures.keeps
+    (λ _ learns f t k.
     let so : inherits_by f t c.args.view ≡ true = inherits_from f t c.args.view ((c.inherits.ensures f t k).0 c.if-not-inherits.false) in
     let led : t.led (c.args.view - 1) ≡ Some c.in-Some-leader.leader = rw c.in-Some.ensures.before at (sym (c.in-Some-leader.ensures f t k)) in
     let member = k.members (c.args.view - 1) c.in-Some-leader.leader (rw (← c.in-Some.ensures.before) c.get-number.ensures.fits) led in
     rw (so, led) (record {
       length = k.length;
       optimistic_views = k.optimistic_views;
-      rounds = c.in_ok-new.ensures.keeps f.common t.led t.past k.rounds member;
+      rounds = learns f.common t.led t.past k.rounds member;
       signs = k.signs;
       noted = k.noted;
-      members = learn-members _ t.led c.args.view c.in-Some-leader.leader k.members member;
-    })
+      members = learn-members (g.S.Scheme.size f.common.scheme) t.led c.args.view c.in-Some-leader.leader k.members member;
+    }))
+    (λ e _. tt)
 
 pub returns-clause-answer : goal.returns-clause-answer
 unfolding Holds
-returns-clause-answer g c = λ f t k. known_stays (t.led c.args.view) (of_before f t c.args.view) (c.in_ok-new.ensures.answer f.common t.led t.past k.rounds)
+returns-clause-answer g c = MatchResult-weaker c.learn.result c.learn.ensures.answer
+    (λ new is f t k. known_stays (t.led c.args.view) (of_before f t c.args.view) (is f.common t.led t.past k.rounds))
+    (λ e _. tt)

@@ -1,5 +1,6 @@
 use Rattle.std.proofs.Common.{◌==◌, refl, inl, inr, arith, if◌then◌else◌}
 use Rattle.std.specs.Prelude.{Some, None}
+use Rattle.std.proofs.lemmas.Result.{MatchResult-weaker}
 use Rattle.simplex_tracking.specs.Rounds.{learn}
 use Rattle.simplex_tracking.specs.Tracked.{Holds, inherits_by}
 use Rattle.simplex_tracking.proofs.Tables.{learn-members}
@@ -8,8 +9,9 @@ use Rattle.simplex_tracking.proofs.tracked.Tracked.lead.Goals as goal
 
 pub returns : goal.returns
 unfolding Holds
-returns g c = λ f t k some member closed.
-    c.in_ok-hand_on.ensures f (record t { led = learn c.args.first c.args.leader t.led })
+returns g c = MatchResult-weaker c.hand_on.result c.hand_on.ensures
+    (λ _ handed f t k some member closed.
+    handed f (record t { led = learn c.args.first c.args.leader t.led })
     (record {
       length = k.length;
       optimistic_views = k.optimistic_views;
@@ -23,4 +25,5 @@ returns g c = λ f t k some member closed.
       led = λ u. rw c.next.ensures (named-first c.args.first c.args.leader (inherits_by f t) t.led some (λ v lt. closed v (inl lt) (omega (arith, lt, c.requires))) u);
       unnamed = λ u le. rw (behind_first c.args.first c.next.result u c.next.ensures le) refl;
       closed = λ u le fits. closed u (inr le) fits;
-    })
+    }))
+    (λ e _. tt)

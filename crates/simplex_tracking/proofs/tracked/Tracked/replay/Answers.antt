@@ -1,4 +1,5 @@
-use Rattle.std.proofs.Common.{true}
+use Rattle.std.proofs.Common.{true, false}
+use Rattle.std.proofs.lemmas.Result.{MatchResult-weaker}
 use Rattle.simplex_tracking.specs.declared.sign.Sign.TheVariants as sign
 use Rattle.simplex_tracking.specs.Pasts.{bears}
 use Rattle.simplex_tracking.specs.Tracked.{Holds}
@@ -6,10 +7,17 @@ use Rattle.simplex_tracking.proofs.Growing.{plain-kept, recalled-plain}
 use Rattle.simplex_tracking.proofs.Showing.{nullified-shown}
 use Rattle.simplex_tracking.proofs.tracked.Tracked.replay.Goals as goal
 
-pub returns-in_ok-replay-in-Nullify : goal.returns-in_ok-replay-in-Nullify
+pub returns-in-Certification : goal.returns-in-Certification
 unfolding Holds
-returns-in_ok-replay-in-Nullify g c = λ f t k.
-    let told = rw c.in-Nullify.is at (c.in_ok-replay-in-Nullify.ensures f.common t.led t.past k.rounds) in
+returns-in-Certification g c = MatchResult-weaker c.judge.result c.judge.ensures
+    (λ _ judges f t k. rw c.in-Certification.is (false, tt, rw c.view.ensures at (judges f t k)))
+    (λ e _. tt)
+
+pub returns-in_ok-mark-in-Nullify : goal.returns-in_ok-mark-in-Nullify
+unfolding Holds
+returns-in_ok-mark-in-Nullify g c = MatchResult-weaker c.replay.result c.replay.ensures
+    (λ _ replays f t k.
+    let told = rw c.in-Nullify.is at (replays f.common t.led t.past k.rounds) in
     rw c.in-Nullify.is (
       told.0,
       told.1,
@@ -21,10 +29,13 @@ returns-in_ok-replay-in-Nullify g c = λ f t k.
         noted = k.noted;
         members = k.members;
       },
-    )
+    ))
+    (λ e _. tt)
 
-pub returns-in_ok-replay-in_default : goal.returns-in_ok-replay-in_default
+pub returns-in_default : goal.returns-in_default
 unfolding Holds
-returns-in_ok-replay-in_default g c = λ f t k.
-    let told = c.in_ok-replay-in_default.ensures f.common t.led t.past k.rounds in
-    (told.0, told.1, plain-kept k told.2 (recalled-plain told.0 c.args.artifact.now t.past c.in_default.not-Certification c.in_default.not-Nullify))
+returns-in_default g c = MatchResult-weaker c.replay-in_default.result c.replay-in_default.ensures
+    (λ _ replays f t k.
+    let told = replays f.common t.led t.past k.rounds in
+    (told.0, told.1, plain-kept k told.2 (recalled-plain told.0 c.args.artifact.now t.past c.in_default.not-Certification c.in_default.not-Nullify)))
+    (λ e _. tt)

@@ -1,41 +1,52 @@
-use Rattle.std.proofs.Common.{refl, ◌∙◌, ◌≡◌, ◌+◌, arith, ⊎_elim, inl, inr}
+use Rattle.std.proofs.Common.{refl, ap, ◌∙◌, ◌≡◌, ◌+◌}
 use Rattle.std.specs.Prelude.{Some, None}
-use Rattle.simplex_round.specs.Past.{has_notarized}
 use Rattle.simplex_round.specs.Past as past
-use Rattle.simplex_views.specs.History as History
 use Rattle.simplex_tracking.specs.Pasts.{put}
+use Rattle.simplex_views.proofs.Advancing.{grown-tables}
+use Rattle.simplex_views.proofs.Choices.{fresh_at}
+use Rattle.simplex_views.proofs.Learning.{behind-one, elected, elected-member, notarized-closed, notarized-kept, room_at}
 use Rattle.simplex_views.specs.History.{seen}
 use Rattle.simplex_views.specs.Progress.{frame_of, tables}
 use Rattle.simplex_views.specs.Views.{Keeps}
-use Rattle.simplex_views.proofs.Choices.{copied-none}
-use Rattle.simplex_tracking.specs.Laws.{put-fact}
-use Rattle.simplex_views.proofs.Following.{notarized-at}
-use Rattle.simplex_views.proofs.Stepping.{reached-closed, still-kept}
-use Rattle.simplex_views.proofs.Advancing.{IsAt-tracked}
 use Rattle.simplex_views.proofs.views.Views.add_notarization.Goals as goal
 
 pub returns-clause-keeps : goal.returns-clause-keeps
 unfolding Keeps
 returns-clause-keeps g c = λ s h k.
-    let at = c.args.certificate.proposal.round.view in
-    let next : c.next-next.result ≡ at + 1 = rw (← c.view-view.ensures) c.next-next.ensures in
-    let round : c.new.result ≡ record { epoch = s.epoch; view = c.next-next.result } = λ i. record { epoch = (c.new.ensures.epoch ∙ k.epoch) i; view = c.new.ensures.view i } in
-    let led : c.elect-leader.result ≡ s.elect c.next-next.result (Some c.args.certificate.certificate) = rw round at c.elect-leader.ensures ∙ k.elects c.next-next.result (Some c.args.certificate.certificate) in
-    let fresh : past.notarization (seen s h at) ≡ None = copied-none c.notarization.result (rw c.view-view.ensures at (c.notarization.ensures s h k)) c.if-is_some.ensures in
-    let grown = put at (past.notarized c.args.certificate) (seen s h) in
+    let cert = c.args.certificate in
+    let at = cert.proposal.round.view in
+    let view = c.view-view.result in
+    let next : c.next-next.result ≡ at + 1 = c.next-next.ensures ∙ ap (λ n. n + 1) c.view-view.ensures in
+    let led = elected k c.new.result c.next-next.result (Some cert.certificate) c.elect-leader.result c.new.ensures.epoch c.new.ensures.view c.elect-leader.ensures in
+    let fresh : past.notarization (seen s h at) ≡ None = fresh_at c.notarization.result (λ u. past.notarization (seen s h u)) view at c.view-view.ensures (c.notarization.ensures s h k) c.if-is_some.ensures in
     let added = c.in_ok-key.ensures.keeps (frame_of s) (tables s h) k.progress.tracked fresh in
-    let table = record (tables s h) { past = grown } in
-    let handed = c.in_ok-lead.ensures (frame_of s) table added (omega (arith, next)) (rw led (k.members _ _))
-    (λ u far fits. reached-closed s h grown at
-    (λ w apart. rw apart refl)
-    (λ w. put-fact has_notarized (past.notarized c.args.certificate) (λ l. refl) at (seen s h) w)
-    u
-    (⊎_elim (λ lt. inl (omega (arith, lt, next))) (λ le. inr (rw (← c.view-view.ensures) (c.first_unreached-end.ensures.behind (frame_of s) table added u le fits))) far)) in
-    still-kept (History.notarized c.args.certificate) _ c.args.self.now.backed c.args.self.now.waiting k
-    (record { finalizes = refl; begins = refl; covers = λ u. refl; nullifies = λ u. refl; kept_nullification = put-fact past.nullification (past.notarized c.args.certificate) (λ l. refl) at (seen s h) })
-    (IsAt-tracked k.progress (notarized-at g.S.Scheme _ s h c.args.certificate c.next-next.result c.elect-leader.result next led handed))
-    k.backed k.waiting
+    let table = grown-tables s h (put at (past.notarized cert) (seen s h)) in
+    notarized-kept k cert c.lead.new.self c.next-next.result c.elect-leader.result next led
+    (c.in_ok-lead.ensures (frame_of s) table added (behind-one c.next-next.result at next) (elected-member k c.next-next.result (Some cert.certificate) c.elect-leader.result led)
+    (λ u far fits. notarized-closed s h cert c.next-next.result view c.first_unreached-end.result u next c.view-view.ensures far
+    (λ le. c.first_unreached-end.ensures.behind (frame_of s) table added u le fits)))
 
 pub returns-clause-first : goal.returns-clause-first
 unfolding Keeps
-returns-clause-first g c = λ s h k. (λ t. (rw (← c.view-view.ensures, ← k.length) (c.has_room.ensures.0 c.if-not-has_room.false), copied-none c.notarization.result (rw c.view-view.ensures at (c.notarization.ensures s h k)) c.if-is_some.ensures), λ both. refl)
+returns-clause-first g c = λ s h k.
+    let at = c.args.certificate.proposal.round.view in (
+      λ _. (
+        room_at c.args.self.now.lookahead.length s.length c.view-view.result at k.length c.view-view.ensures (c.has_room.ensures.0 c.if-not-has_room.false),
+        fresh_at c.notarization.result (λ u. past.notarization (seen s h u)) c.view-view.result at c.view-view.ensures (c.notarization.ensures s h k) c.if-is_some.ensures,
+      ),
+      λ both. refl,
+    )
+
+pub returns-clause-replaced : goal.returns-clause-replaced
+unfolding Keeps
+returns-clause-replaced g c = λ s h k _ differs.
+    let at = c.args.certificate.proposal.round.view in
+    c.in_ok-key.ensures.replaced (frame_of s) (tables s h) k.progress.tracked
+    (fresh_at c.notarization.result (λ u. past.notarization (seen s h u)) c.view-view.result at c.view-view.ensures (c.notarization.ensures s h k) c.if-is_some.ensures) differs
+
+pub returns-clause-same : goal.returns-clause-same
+unfolding Keeps
+returns-clause-same g c = λ s h k agrees. c.in_ok-key.ensures.same (frame_of s) (tables s h) k.progress.tracked agrees
+
+pub returns-clause-again : goal.returns-clause-again
+returns-clause-again g c = λ never. absurd (cc never)

@@ -1,5 +1,6 @@
 use Rattle.std.proofs.Common.{refl}
 use Rattle.std.specs.Prelude.{is_some}
+use Rattle.std.proofs.lemmas.Result.{MatchResult-weaker}
 use Rattle.simplex_rules.specs.declared.kind.Kind.TheVariants as kind
 use Rattle.simplex_views.specs.History as History
 use Rattle.simplex_views.specs.Progress.{frame_of, tables}
@@ -9,6 +10,11 @@ use Rattle.simplex_views.proofs.views.Views.broadcast_finalization.Goals as goal
 
 pub returns-clause-keeps : goal.returns-clause-keeps
 unfolding Keeps
-returns-clause-keeps g c = λ s h k.
-    quiet-if (is_some c.in_ok-copy.copy) (History.sent kind.Finalization c.args.view) c.broadcast_finalization.new.self k (sent-quiet s h kind.Finalization c.args.view) refl
-    (c.in_ok-copy.ensures.keeps (frame_of s) (tables s h) k.progress.tracked)
+returns-clause-keeps g c = MatchResult-weaker c.broadcast_finalization.result c.broadcast_finalization.ensures.keeps
+    (λ copy told s h k. quiet-if (is_some copy) (History.sent kind.Finalization c.args.view) c.broadcast_finalization.new.self k (sent-quiet s h kind.Finalization c.args.view) refl
+    (told (frame_of s) (tables s h) k.progress.tracked))
+    (λ e _. tt)
+
+pub returns-clause-answer : goal.returns-clause-answer
+unfolding Keeps
+returns-clause-answer g c = MatchResult-weaker c.broadcast_finalization.result c.broadcast_finalization.ensures.answer (λ copy told s h k. told (frame_of s) (tables s h) k.progress.tracked) (λ e _. tt)

@@ -1,6 +1,5 @@
-use Rattle.std.proofs.Common.{refl}
+use Rattle.std.proofs.Common.{refl, ◌∷◌}
 use Rattle.simplex_round.specs.Past as past
-use Rattle.simplex_round.specs.Past.{has_notarized}
 use Rattle.simplex_views.specs.History as History
 use Rattle.simplex_tracking.specs.Pasts.{is_direct, put}
 use Rattle.simplex_views.specs.History.{is_marked, seen}
@@ -29,8 +28,8 @@ returns-clause-keeps g c = λ s h k.
     let certificates = put-fact is_direct past.voted_notarize (λ l. refl) view (seen s h) in
     let followed = c.in_ok-follow.ensures (frame_of s) (grown-tables s h grown) voted
     (spoken-closed s h grown view certificates (λ w apart. rw apart refl)) in
-    still-kept (History.voted_notarize view c.in-Some.proposal) _ c.mark.new.self c.args.self.now.waiting k (notarize-still s h view c.in-Some.proposal)
-    (IsAt-tracked k.progress followed)
+    still-kept (History.voted_notarize view c.in-Some.proposal) (record c.args.self.now.progress { tracked = c.follow.new.self }) c.mark.new.self c.args.self.now.waiting k (notarize-still s h view c.in-Some.proposal)
+    (IsAt-tracked {t' = tables s (History.voted_notarize view c.in-Some.proposal ∷ h)} k.progress followed)
     (c.in_ok-mark.ensures (is_marked s backs h) k.backed) k.waiting
 
 pub returns-in_default-clause-answer : goal.returns-in_default-clause-answer

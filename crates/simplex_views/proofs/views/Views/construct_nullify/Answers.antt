@@ -1,5 +1,6 @@
 use Rattle.std.proofs.Common.{refl}
 use Rattle.std.specs.Prelude.{is_some}
+use Rattle.std.proofs.lemmas.Result.{MatchResult-weaker}
 use Rattle.simplex_views.specs.History as History
 use Rattle.simplex_views.specs.Progress.{frame_of, tables}
 use Rattle.simplex_views.specs.Views.{Keeps}
@@ -8,6 +9,11 @@ use Rattle.simplex_views.proofs.views.Views.construct_nullify.Goals as goal
 
 pub returns-clause-keeps : goal.returns-clause-keeps
 unfolding Keeps
-returns-clause-keeps g c = λ s h k.
-    quiet-if (is_some c.in_ok-voted.voted) (History.voted_nullify c.args.view) c.construct_nullify.new.self k (nullify-quiet s h c.args.view) refl
-    (c.in_ok-voted.ensures.keeps (frame_of s) (tables s h) k.progress.tracked)
+returns-clause-keeps g c = MatchResult-weaker c.construct_nullify.result c.construct_nullify.ensures.keeps
+    (λ voted told s h k. quiet-if (is_some voted) (History.voted_nullify c.args.view) c.construct_nullify.new.self k (nullify-quiet s h c.args.view) refl
+    (told (frame_of s) (tables s h) k.progress.tracked))
+    (λ e _. tt)
+
+pub returns-clause-answer : goal.returns-clause-answer
+unfolding Keeps
+returns-clause-answer g c = MatchResult-weaker c.construct_nullify.result c.construct_nullify.ensures.answer (λ voted told s h k. told (frame_of s) (tables s h) k.progress.tracked) (λ e _. tt)

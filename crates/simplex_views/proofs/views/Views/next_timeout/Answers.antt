@@ -1,13 +1,12 @@
-use Rattle.std.proofs.Common.{◌≡◌, true, refl, sym, subst, arith}
-use Rattle.std.specs.Prelude.{nat_lt}
-use Rattle.std.proofs.lemmas.Bool.Decides.{nat_tests}
+use Rattle.std.proofs.Common.{◌≡◌, ◌+◌, refl, sym, subst}
+use Rattle.std.proofs.lemmas.Result.{MatchResult-weaker}
 use Rattle.simplex_views.proofs.Advancing.{grown-tables}
+use Rattle.simplex_views.proofs.Choices.{is-not}
 use Rattle.simplex_views.specs.History as History
-use Rattle.simplex_views.specs.History.{current}
 use Rattle.simplex_views.specs.Progress.{frame_of, tables}
 use Rattle.simplex_tracking.specs.Tracked.{Holds}
 use Rattle.simplex_views.specs.Views.{Keeps}
-use Rattle.simplex_views.proofs.Stepping.{polled-none, polled-quiet, polled-some, quiet}
+use Rattle.simplex_views.proofs.Stepping.{polled-answer, polled-none, polled-quiet, polled-some, quiet}
 use Rattle.simplex_views.proofs.views.Views.next_timeout.Goals as goal
 
 pub returns-then-is_zero-clause-keeps : goal.returns-then-is_zero-clause-keeps
@@ -19,16 +18,18 @@ returns-then-is_zero-clause-keeps g c = λ s h k same.
 
 pub returns-clause-keeps : goal.returns-clause-keeps
 unfolding Keeps
-returns-clause-keeps g c = λ s h k same.
-    let some : c.args.self.now.progress.view ≡ 0 → ⊥ = λ zero. absurd (let is = c.is_zero.ensures.1 zero in let isnt = c.if-is_zero.false in cc) in
-    let told = c.in_ok-timeout.ensures.keeps (frame_of s) (tables s h) k.progress.tracked in
+returns-clause-keeps g c = MatchResult-weaker c.next_timeout.result c.next_timeout.ensures.keeps
+    (λ _ told s h k same.
+    let some : c.args.self.now.progress.view ≡ 0 → ⊥ = λ zero. is-not c.if-is_zero.false (c.is_zero.ensures.1 zero) in
     quiet (History.polled c.args.now) c.next_timeout.new.self k (polled-quiet s h c.args.now) refl
-    (subst (λ t. Holds g.S.Scheme (frame_of s) c.next_timeout.new.self (grown-tables s h t)) (polled-some s h c.args.now c.args.self.now.progress.view c.args.retry_interval same k.progress.view some) told)
+    (subst (λ t. Holds g.S.Scheme (frame_of s) c.next_timeout.new.self (grown-tables s h t)) (polled-some s h c.args.now c.args.self.now.progress.view c.args.retry_interval same k.progress.view some)
+    (told (frame_of s) (tables s h) k.progress.tracked)))
+    (λ e _. tt)
 
 pub returns-clause-answer : goal.returns-clause-answer
 unfolding Keeps
-returns-clause-answer g c = λ s h k.
-    let some : c.args.self.now.progress.view ≡ 0 → ⊥ = λ zero. absurd (let is = c.is_zero.ensures.1 zero in let isnt = c.if-is_zero.false in cc) in
-    let started : nat_lt 0 c.args.self.now.progress.view ≡ true = grind (arith, nat_tests, some) in
-    let at : c.args.self.now.progress.view ≡ current s h = k.progress.view in
-    rw (← at) (rw started (c.in_ok-timeout.ensures.answer (frame_of s) (tables s h) k.progress.tracked))
+returns-clause-answer g c = MatchResult-weaker c.next_timeout.result c.next_timeout.ensures.answer
+    (λ timeout told s h k.
+    polled-answer s h c.args.self.now.progress.view (c.args.now + c.args.retry_interval) c.args.allow_latched_timeout timeout k.progress.view (λ zero. is-not c.if-is_zero.false (c.is_zero.ensures.1 zero))
+    (told (frame_of s) (tables s h) k.progress.tracked))
+    (λ e _. tt)

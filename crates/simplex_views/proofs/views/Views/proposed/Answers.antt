@@ -1,4 +1,5 @@
 use Rattle.std.proofs.Common.{refl}
+use Rattle.std.proofs.lemmas.Result.{MatchResult-weaker}
 use Rattle.simplex_views.specs.History as History
 use Rattle.simplex_views.specs.Progress.{frame_of, tables}
 use Rattle.simplex_views.specs.Views.{Keeps}
@@ -7,6 +8,11 @@ use Rattle.simplex_views.proofs.views.Views.proposed.Goals as goal
 
 pub returns-clause-keeps : goal.returns-clause-keeps
 unfolding Keeps
-returns-clause-keeps g c = λ s h k.
-    quiet-if c.in_ok-taken.taken (History.built c.args.now c.args.proposal c.args.parent_payload) c.proposed.new.self k (built-quiet s h c.args.now c.args.proposal c.args.parent_payload) refl
-    (c.in_ok-taken.ensures.keeps (frame_of s) (tables s h) k.progress.tracked)
+returns-clause-keeps g c = MatchResult-weaker c.proposed.result c.proposed.ensures.keeps
+    (λ taken told s h k. quiet-if taken (History.built c.args.now c.args.proposal c.args.parent_payload) c.proposed.new.self k
+    (built-quiet s h c.args.now c.args.proposal c.args.parent_payload) refl (told (frame_of s) (tables s h) k.progress.tracked))
+    (λ e _. tt)
+
+pub returns-clause-answer : goal.returns-clause-answer
+unfolding Keeps
+returns-clause-answer g c = MatchResult-weaker c.proposed.result c.proposed.ensures.answer (λ taken told s h k. told (frame_of s) (tables s h) k.progress.tracked) (λ e _. tt)

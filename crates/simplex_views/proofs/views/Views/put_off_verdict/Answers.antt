@@ -1,3 +1,4 @@
+use Rattle.std.proofs.lemmas.Result.{MatchResult-weaker}
 use Rattle.simplex_views.specs.History as History
 use Rattle.simplex_views.specs.History.{current, is_marked}
 use Rattle.simplex_views.specs.Known.{waits}
@@ -7,7 +8,9 @@ use Rattle.simplex_views.proofs.views.Views.put_off_verdict.Goals as goal
 
 pub returns : goal.returns
 unfolding Keeps
-returns g c = λ s h k.
+returns g c = MatchResult-weaker c.mark.result c.mark.ensures
+    (λ _ marked s h k.
     still-kept (History.certify_waited c.args.view) c.args.self.now.progress c.args.self.now.backed c.mark.new.self k (waited-still s h c.args.view)
     (unled-progress (History.certify_waited c.args.view) c.args.self.now.progress (current s h) (waited-unled s h c.args.view) k.progress)
-    k.backed (c.in_ok-mark.ensures (is_marked s waits h) k.waiting)
+    k.backed (marked (is_marked s waits h) k.waiting))
+    (λ e _. tt)

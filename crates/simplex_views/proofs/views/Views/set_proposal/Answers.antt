@@ -1,4 +1,5 @@
-use Rattle.std.proofs.Common.{refl}
+use Rattle.std.proofs.Common.{refl, ◌∷◌}
+use Rattle.std.proofs.lemmas.Result.{MatchResult-weaker}
 use Rattle.simplex_round.specs.Held as offer
 use Rattle.simplex_round.specs.Past as past
 use Rattle.simplex_round.specs.Past.{has_nullified}
@@ -14,9 +15,10 @@ use Rattle.simplex_views.proofs.views.Views.set_proposal.Goals as goal
 
 pub returns-clause-keeps : goal.returns-clause-keeps
 unfolding Keeps
-returns-clause-keeps g c = λ s h k.
-    let known = c.in_ok-first.ensures.keeps (frame_of s) (tables s h) k.progress.tracked (leader-closed s h) in
-    still-kept (History.forwarded c.args.view c.args.proposal.now) _ c.args.self.now.backed c.args.self.now.waiting k
+returns-clause-keeps g c = MatchResult-weaker c.forward.result c.forward.ensures.keeps
+    (λ first told s h k.
+    let known = told (frame_of s) (tables s h) k.progress.tracked (leader-closed s h) in
+    still-kept (History.forwarded c.args.view c.args.proposal.now) (record c.args.self.now.progress { tracked = c.forward.new.self }) c.args.self.now.backed c.args.self.now.waiting k
     (record {
       finalizes = refl;
       begins = refl;
@@ -25,5 +27,10 @@ returns-clause-keeps g c = λ s h k.
       kept_nullification = (like-unless s h (has_nullified (seen s h c.args.view)) (put c.args.view (past.offered (offer.forwarded c.args.proposal.now)) (seen s h))
           (like-put s h c.args.view (past.offered (offer.forwarded c.args.proposal.now)) (seen s h) (λ l. refl, λ l. refl, λ l. refl) (like-seen s h))).0;
     })
-    (IsAt-tracked k.progress known)
-    k.backed k.waiting
+    (IsAt-tracked {t' = tables s (History.forwarded c.args.view c.args.proposal.now ∷ h)} k.progress known)
+    k.backed k.waiting)
+    (λ e _. tt)
+
+pub returns-clause-answer : goal.returns-clause-answer
+unfolding Keeps
+returns-clause-answer g c = MatchResult-weaker c.forward.result c.forward.ensures.answer (λ first told s h k. told (frame_of s) (tables s h) k.progress.tracked) (λ e _. tt)

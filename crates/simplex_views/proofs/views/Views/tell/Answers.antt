@@ -1,4 +1,5 @@
 use Rattle.std.proofs.Common.{subst}
+use Rattle.std.proofs.lemmas.Result.{MatchResult-weaker}
 use Rattle.simplex_views.proofs.Advancing.{grown-tables}
 use Rattle.simplex_views.specs.Progress.{frame_of, tables}
 use Rattle.simplex_tracking.specs.Tracked.{Holds}
@@ -8,7 +9,8 @@ use Rattle.simplex_views.proofs.views.Views.tell.Goals as goal
 
 pub returns : goal.returns
 unfolding Keeps
-returns g c = λ s h k.
-    let told = c.in_ok-tell.ensures (frame_of s) (tables s h) k.progress.tracked in
+returns g c = MatchResult-weaker c.tell.result c.tell.ensures
+    (λ _ told s h k.
     quiet (noticed c.args.view c.args.notice) c.tell.new.self k (noticed-quiet s h c.args.view c.args.notice) (noticed-stays s h c.args.view c.args.notice)
-    (subst (λ t. Holds g.S.Scheme (frame_of s) c.tell.new.self (grown-tables s h t)) (noticed-seen s h c.args.view c.args.notice) told)
+    (subst (λ t. Holds g.S.Scheme (frame_of s) c.tell.new.self (grown-tables s h t)) (noticed-seen s h c.args.view c.args.notice) (told (frame_of s) (tables s h) k.progress.tracked)))
+    (λ e _. tt)

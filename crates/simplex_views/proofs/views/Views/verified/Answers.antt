@@ -1,4 +1,5 @@
 use Rattle.std.proofs.Common.{refl}
+use Rattle.std.proofs.lemmas.Result.{MatchResult-weaker}
 use Rattle.simplex_views.specs.History as History
 use Rattle.simplex_views.specs.Progress.{frame_of, tables}
 use Rattle.simplex_views.specs.Views.{Keeps}
@@ -7,6 +8,10 @@ use Rattle.simplex_views.proofs.views.Views.verified.Goals as goal
 
 pub returns-clause-keeps : goal.returns-clause-keeps
 unfolding Keeps
-returns-clause-keeps g c = λ s h k.
-    quiet (History.confirmed c.args.view) c.verified.new.self k (confirmed-quiet s h c.args.view) refl
-    (c.in_ok-became.ensures.keeps (frame_of s) (tables s h) k.progress.tracked)
+returns-clause-keeps g c = MatchResult-weaker c.verified.result c.verified.ensures.keeps
+    (λ became told s h k. quiet (History.confirmed c.args.view) c.verified.new.self k (confirmed-quiet s h c.args.view) refl (told (frame_of s) (tables s h) k.progress.tracked))
+    (λ e _. tt)
+
+pub returns-clause-answer : goal.returns-clause-answer
+unfolding Keeps
+returns-clause-answer g c = MatchResult-weaker c.verified.result c.verified.ensures.answer (λ became told s h k. told (frame_of s) (tables s h) k.progress.tracked) (λ e _. tt)

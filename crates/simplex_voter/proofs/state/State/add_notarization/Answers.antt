@@ -1,17 +1,28 @@
 use Rattle.std.proofs.Common.{sym, ap}
 use Rattle.std.specs.Prelude.{Some}
+use Rattle.std.proofs.lemmas.Result.{IfOk-weaker}
 use Rattle.simplex_views.specs.History.{notarized}
 use Rattle.simplex_voter.specs.State.{Keeps}
-use Rattle.simplex_voter.proofs.Waking.{wakes_if}
+use Rattle.simplex_voter.proofs.Keeping.{keeps_woken_if}
 use Rattle.simplex_voter.proofs.state.State.add_notarization.Goals as goal
 
 pub returns-clause-keeps : goal.returns-clause-keeps
 unfolding Keeps
-returns-clause-keeps g c = λ s h k. record {
-  scheme = k.scheme;
-  me = k.me;
-  timeout_retry = k.timeout_retry;
-  skip_budget = k.skip_budget;
-  views = c.in_ok-taken.ensures.keeps s h k.views;
-  candidates = wakes_if s h c.in_ok-taken.taken.0 (notarized c.args.certificate) c.args.self.now.candidates c.wake.new.candidates c.view.result (ap Some (sym c.view.ensures)) c.in_ok-wake.ensures k.candidates;
-}
+returns-clause-keeps g c = IfOk-weaker c.add_notarization.result _ _
+    (λ r moved s h k. keeps_woken_if g.S.Scheme g.L.Elector s h _ _ k r.0 (notarized c.args.certificate) c.wake.new.candidates c.view.result (ap Some (sym c.view.ensures)) c.in_ok-wake.ensures (moved s h k.views))
+    c.add_notarization.ensures.keeps
+
+pub returns-clause-first : goal.returns-clause-first
+unfolding Keeps
+returns-clause-first g c = IfOk-weaker c.add_notarization.result _ _ (λ r is s h k. is s h k.views) c.add_notarization.ensures.first
+
+pub returns-clause-again : goal.returns-clause-again
+returns-clause-again g c = c.add_notarization.ensures.again
+
+pub returns-clause-replaced : goal.returns-clause-replaced
+unfolding Keeps
+returns-clause-replaced g c = IfOk-weaker c.add_notarization.result _ _ (λ r is s h k. is s h k.views) c.add_notarization.ensures.replaced
+
+pub returns-clause-same : goal.returns-clause-same
+unfolding Keeps
+returns-clause-same g c = IfOk-weaker c.add_notarization.result _ _ (λ r is s h k. is s h k.views) c.add_notarization.ensures.same

@@ -1,8 +1,16 @@
-use Rattle.std.proofs.Common.{rules}
+use Rattle.std.proofs.Common.{refl}
+use Rattle.std.proofs.lemmas.Result.{IfOk-weaker}
+use Rattle.simplex_views.specs.History.{nullified}
 use Rattle.simplex_voter.specs.State.{Keeps}
-use Rattle.simplex_voter.proofs.Waking.{stays, stays_if}
+use Rattle.simplex_voter.proofs.Keeping.{keeps_still_if}
 use Rattle.simplex_voter.proofs.state.State.add_nullification.Goals as goal
 
 pub returns-clause-keeps : goal.returns-clause-keeps
 unfolding Keeps
-returns-clause-keeps g c = search (rules, stays, stays_if)
+returns-clause-keeps g c = IfOk-weaker c.add_nullification.result _ _
+    (λ r moved s h k time. keeps_still_if g.S.Scheme g.L.Elector s h _ _ k r (nullified c.args.now c.args.certificate) refl (moved s h k.views time))
+    c.add_nullification.ensures.keeps
+
+pub returns-clause-answer : goal.returns-clause-answer
+unfolding Keeps
+returns-clause-answer g c = IfOk-weaker c.add_nullification.result _ _ (λ r is s h k. is s h k.views) c.add_nullification.ensures.answer

@@ -1,5 +1,6 @@
 use Rattle.std.proofs.Common.{sym, subst}
 use Rattle.std.specs.Prelude.{Contains}
+use Rattle.std.proofs.lemmas.Result.{IfOk-from_err}
 use Rattle.simplex_views.specs.Views as above
 use Rattle.simplex_voter.specs.Candidates.{AreAmong, put_off}
 use Rattle.simplex_voter.specs.State.{Keeps}
@@ -29,3 +30,30 @@ returns-clause-ready g c = λ s h k. (c.in_ok-ready.ensures s h k.views (subst (
 pub returns-clause-wanted : goal.returns-clause-wanted
 unfolding Keeps
 returns-clause-wanted g c = λ s h k. (c.in_ok-ready.ensures s h k.views (subst (λ views. AreAmong s h views) (sym c.replace-candidates.ensures.value) k.candidates)).wanted
+
+pub returns-in_err-ready-clause-keeps : goal.returns-in_err-ready-clause-keeps
+returns-in_err-ready-clause-keeps g c = IfOk-from_err c.from_residual.result _ c.from_residual.ensures.0
+
+pub returns-in_err-ready-clause-ready : goal.returns-in_err-ready-clause-ready
+returns-in_err-ready-clause-ready g c = IfOk-from_err c.from_residual.result _ c.from_residual.ensures.0
+
+pub returns-in_err-ready-clause-wanted : goal.returns-in_err-ready-clause-wanted
+returns-in_err-ready-clause-wanted g c = IfOk-from_err c.from_residual.result _ c.from_residual.ensures.0
+
+pub returns-in_err-put_off_verdicts-clause-keeps : goal.returns-in_err-put_off_verdicts-clause-keeps
+returns-in_err-put_off_verdicts-clause-keeps g c = IfOk-from_err c.from_residual-in_err-put_off_verdicts.result _ c.from_residual-in_err-put_off_verdicts.ensures.0
+
+pub returns-in_err-put_off_verdicts-clause-ready : goal.returns-in_err-put_off_verdicts-clause-ready
+returns-in_err-put_off_verdicts-clause-ready g c = IfOk-from_err c.from_residual-in_err-put_off_verdicts.result _ c.from_residual-in_err-put_off_verdicts.ensures.0
+
+pub returns-in_err-put_off_verdicts-clause-wanted : goal.returns-in_err-put_off_verdicts-clause-wanted
+returns-in_err-put_off_verdicts-clause-wanted g c = IfOk-from_err c.from_residual-in_err-put_off_verdicts.result _ c.from_residual-in_err-put_off_verdicts.ensures.0
+
+pub returns-in_err-keep-clause-keeps : goal.returns-in_err-keep-clause-keeps
+returns-in_err-keep-clause-keeps g c = IfOk-from_err c.from_residual-in_err-keep.result _ c.from_residual-in_err-keep.ensures.0
+
+pub returns-in_err-keep-clause-ready : goal.returns-in_err-keep-clause-ready
+returns-in_err-keep-clause-ready g c = IfOk-from_err c.from_residual-in_err-keep.result _ c.from_residual-in_err-keep.ensures.0
+
+pub returns-in_err-keep-clause-wanted : goal.returns-in_err-keep-clause-wanted
+returns-in_err-keep-clause-wanted g c = IfOk-from_err c.from_residual-in_err-keep.result _ c.from_residual-in_err-keep.ensures.0

@@ -1,4 +1,5 @@
 use Rattle.std.proofs.Common.{◌≡◌, ◌-◌, refl, arith}
+use Rattle.std.proofs.lemmas.Result.{IfOk-weaker}
 use Rattle.simplex_voter.specs.State.{Keeps}
 use Rattle.simplex_voter.proofs.Entering.{best_of, entered_at_start, positive}
 use Rattle.simplex_voter.proofs.state.State.get_best_certificate.Goals as goal
@@ -17,6 +18,8 @@ returns-then-is_zero g c = λ s h k.
 
 pub returns : goal.returns
 unfolding Keeps
-returns g c = λ s h k.
+returns g c = IfOk-weaker c.entry_certificate.result _ _
+    (λ best is s h k.
     let at = c.current_view-view.ensures s h k.views in
-    best_of s h c.current_view-view.result c.in-Some.before _ at c.in-Some.ensures.before (c.in_ok-best.ensures s h k (positive c.in-Some.before c.is_zero.result c.is_zero.ensures c.if-is_zero.false))
+    best_of s h c.current_view-view.result c.in-Some.before _ at c.in-Some.ensures.before (is s h k (positive c.in-Some.before c.is_zero.result c.is_zero.ensures c.if-is_zero.false)))
+    c.entry_certificate.ensures

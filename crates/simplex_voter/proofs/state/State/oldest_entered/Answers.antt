@@ -3,6 +3,7 @@ use Rattle.std.proofs.lemmas.Grind.{common_steps}
 use Rattle.simplex_types.specs.Positions.{term_start}
 use Rattle.simplex_views.specs.History.{current, last_finalized}
 use Rattle.simplex_voter.specs.State.{Keeps}
+use Rattle.simplex_voter.proofs.Stalling.{behind_is}
 use Rattle.simplex_voter.proofs.state.State.oldest_entered.Goals as goal
 
 pub returns : goal.returns
@@ -11,7 +12,7 @@ returns g c = λ s h k.
     let at : c.current_view-current.result ≡ current s h = c.current_view-current.ensures s h k.views in
     let finalized = c.last_finalized-finalized.ensures.value s h k.views in
     let fits = c.last_finalized-finalized.ensures.behind s h k.views in
-    let behind : c.new-behind.result ≡ last_finalized h + 1 = omega (arith, finalized, fits, c.new-behind.ensures, c.saturating_add.ensures, c.get.ensures.value) in
+    let behind = behind_is (last_finalized h) c.last_finalized-finalized.result c.get.result c.saturating_add.result c.new-behind.result finalized fits c.get.ensures.value c.saturating_add.ensures c.new-behind.ensures in
     let start : c.term_start-start.result ≡ term_start s.length (current s h) = rw (c.lookahead.ensures.length s h k.views, at) at c.term_start-start.ensures in
     let low : c.max.result ≡ max (last_finalized h + 1) (term_start s.length (current s h)) = grind (arith, common_steps, c.max.ensures, behind, start) in
     rw (low, at) at (c.first_entered.ensures s h k)

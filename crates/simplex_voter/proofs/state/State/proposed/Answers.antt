@@ -1,20 +1,41 @@
-use Rattle.std.proofs.Common.{◌≡◌, ◌∷◌, refl, subst, if◌then◌else◌}
-use Rattle.simplex_views.specs.History.{built}
+use Rattle.std.proofs.Common.{◌≡◌, ◌∷◌, false, refl, subst, if◌then◌else◌}
+use Rattle.std.specs.Prelude.{◌↔◌, IsTrue}
+use Rattle.std.proofs.lemmas.Bool.{both_ways}
+use Rattle.std.proofs.lemmas.Result.{IfOk-weaker}
+use Rattle.simplex_types.specs.declared.context.Context.{Context}
+use Rattle.simplex_types.specs.declared.proposal.Proposal.{Proposal}
+use Rattle.simplex_round.specs.Held.{Agrees, held}
+use Rattle.simplex_round.specs.Past.{has_nullified, offers}
+use Rattle.simplex_views.specs.History.{built, seen}
 use Rattle.simplex_views.specs.Views as above
 use Rattle.simplex_voter.specs.Building.{proposal_on}
 use Rattle.simplex_voter.specs.State.{Keeps}
-use Rattle.simplex_voter.proofs.Waking.{wakes_if}
+use Rattle.simplex_voter.proofs.Keeping.{keeps_woken_if}
 use Rattle.simplex_voter.proofs.state.State.proposed.Goals as goal
+
+made : {D P : Type 0} (p : Proposal D) (context : Context D P) (payload : D) → p.round ≡ context.round → p.parent ≡ context.parent.0 → p.payload ≡ payload → p ≡ proposal_on context payload
+made p context payload round parent same = λ i. record { round = round i; parent = parent i; payload = same i }
+
+pub returns-then-not-is_captured-clause-keeps : goal.returns-then-not-is_captured-clause-keeps
+returns-then-not-is_captured-clause-keeps g c = λ s h k. k
+
+pub returns-then-not-is_captured-clause-answer : goal.returns-then-not-is_captured-clause-answer
+returns-then-not-is_captured-clause-answer g c = λ s h k. (λ never. absurd (cc (never)), λ is. absurd (both_ways c.is_captured.result c.if-not-is_captured.true ((c.is_captured.ensures s h k).1 is.0)))
 
 pub returns-clause-keeps : goal.returns-clause-keeps
 unfolding Keeps
-returns-clause-keeps g c = λ s h k.
-    let same : c.new-proposal.result ≡ proposal_on c.args.context.now c.args.payload = λ i. record { round = c.new-proposal.ensures.round i; parent = c.new-proposal.ensures.parent i; payload = c.new-proposal.ensures.payload i } in
-    record {
-      scheme = k.scheme;
-      me = k.me;
-      timeout_retry = k.timeout_retry;
-      skip_budget = k.skip_budget;
-      views = subst (λ p. above.Keeps g.S.Scheme g.L.Elector s c.proposed.new.self (if c.in_ok-taken.taken then built c.args.now p c.args.context.now.parent.1 ∷ h else h)) same (c.in_ok-taken.ensures.keeps s h k.views);
-      candidates = wakes_if s h c.in_ok-taken.taken (built c.args.now (proposal_on c.args.context.now c.args.payload) c.args.context.now.parent.1) c.args.self.now.candidates c.wake.new.candidates c.args.context.now.round.view refl c.in_ok-wake.ensures k.candidates;
-    }
+returns-clause-keeps g c = IfOk-weaker c.proposed.result _ _
+    (λ taken moved s h k.
+    let same = made c.new-proposal.result c.args.context.now c.args.payload c.new-proposal.ensures.round c.new-proposal.ensures.parent c.new-proposal.ensures.payload in
+    keeps_woken_if g.S.Scheme g.L.Elector s h _ _ k taken (built c.args.now (proposal_on c.args.context.now c.args.payload) c.args.context.now.parent.1) c.wake.new.candidates c.args.context.now.round.view refl c.in_ok-wake.ensures
+    (subst (λ p. above.Keeps g.S.Scheme g.L.Elector s c.proposed.new.self (if taken then built c.args.now p c.args.context.now.parent.1 ∷ h else h)) same (moved s h k.views)))
+    c.proposed.ensures.keeps
+
+pub returns-clause-answer : goal.returns-clause-answer
+unfolding Keeps
+returns-clause-answer g c = IfOk-weaker c.proposed.result _ _
+    (λ taken is s h k.
+    let same = made c.new-proposal.result c.args.context.now c.args.payload c.new-proposal.ensures.round c.new-proposal.ensures.parent c.new-proposal.ensures.payload in
+    let free = subst (λ p. IsTrue taken ↔ ((has_nullified (seen s h p.round.view) ≡ false) × Agrees (held (offers (seen s h p.round.view))) p)) same (is s h k.views) in
+    (λ yes. let may = free.0 yes in ((c.is_captured.ensures s h k).0 c.if-not-is_captured.false, may.0, may.1), λ all. free.1 (all.1, all.2)))
+    c.proposed.ensures.answer

@@ -1,21 +1,18 @@
 use Rattle.std.proofs.Common.{sym, ◌∙◌}
+use Rattle.std.proofs.lemmas.Result.{on_ok_weaker}
 use Rattle.simplex_views.specs.Views.{recalls}
 use Rattle.simplex_voter.specs.State.{Keeps}
-use Rattle.simplex_voter.proofs.Waking.{recall_tells, wakes}
+use Rattle.simplex_voter.proofs.Keeping.{keeps_woken}
+use Rattle.simplex_voter.proofs.Waking.{recall_tells}
 use Rattle.simplex_voter.proofs.state.State.replay.Goals as goal
 
 pub returns : goal.returns
 unfolding Keeps
-returns g c = λ s h k.
-    let is = c.in_ok-replay.ensures s h k.views in (
-      is.0,
-      is.1,
-      record {
-        scheme = k.scheme;
-        me = k.me;
-        timeout_retry = k.timeout_retry;
-        skip_budget = k.skip_budget;
-        views = is.2;
-        candidates = wakes s h (recalls is.0 c.args.artifact.now) c.args.self.now.candidates c.wake.new.candidates c.view.result (λ u there. recall_tells is.0 c.args.artifact.now u there ∙ sym c.view.ensures) c.in_ok-wake.ensures k.candidates;
-      },
-    )
+returns g c = on_ok_weaker c.replay.result
+    (λ moved s h k.
+    let (taken, takes, views) = moved s h k.views in (
+      taken,
+      takes,
+      keeps_woken g.S.Scheme g.L.Elector s h _ _ k (recalls taken c.args.artifact.now) c.wake.new.candidates c.view.result (λ u there. recall_tells taken c.args.artifact.now u there ∙ sym c.view.ensures) c.in_ok-wake.ensures views,
+    ))
+    c.replay.ensures

@@ -1,5 +1,5 @@
 use Rattle.std.proofs.Common.{◌∙◌}
-use Rattle.std.specs.Prelude.{None, option_copied}
+use Rattle.std.specs.Prelude.{None}
 use Rattle.simplex_due.specs.Answers.{covering_nullification}
 use Rattle.simplex_types.specs.Positions.{term_start}
 use Rattle.simplex_voter.specs.State.{Keeps}

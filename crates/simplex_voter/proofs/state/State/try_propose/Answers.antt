@@ -2,6 +2,7 @@ use Rattle.std.proofs.Common.{◌∙◌, ◌∷◌, refl}
 use Rattle.simplex_views.specs.History.{build_asked}
 use Rattle.simplex_voter.specs.State.{Keeps}
 use Rattle.simplex_voter.proofs.Waking.{stays}
+use Rattle.simplex_voter.proofs.Wanting.{may_propose}
 use Rattle.simplex_voter.proofs.state.State.try_propose.Goals as goal
 
 pub returns-clause-keeps : goal.returns-clause-keeps
@@ -12,17 +13,17 @@ returns-clause-keeps g c = λ s h k.
       me = k.me;
       timeout_retry = k.timeout_retry;
       skip_budget = k.skip_budget;
-      views = c.in_ok-leader.ensures.keeps s h k.views;
-      candidates = stays s h (build_asked c.in_ok-view.view) c.args.self.now.candidates refl k.candidates;
+      views = c.in-Some-try_propose.ensures.keeps s h k.views;
+      candidates = stays s h (build_asked c.in-Some.first.0) c.args.self.now.candidates refl k.candidates;
     })
 
 pub returns-clause-answer : goal.returns-clause-answer
 unfolding Keeps
 returns-clause-answer g c = λ s h k.
-    let made = c.in_ok-leader.ensures.answer s h k.views in
+    let made = c.in-Some-try_propose.ensures.answer s h k.views in
     rw c.new-2.ensures.context (
-      rw c.new.ensures.view (c.in_ok-view.ensures s h k),
-      record { epoch = c.new.ensures.epoch ∙ c.epoch.ensures s (build_asked c.in_ok-view.view ∷ h) (c.in_ok-leader.ensures.keeps s h k.views); index = c.in_ok-leader.leader.idx; me = made.0.leads.1 ∙ made.1.0; key = made.1.1 },
+      rw c.new.ensures.view (c.in-Some.ensures s h k),
+      record { epoch = c.new.ensures.epoch ∙ c.epoch.ensures s (build_asked c.in-Some.first.0 ∷ h) (c.in-Some-try_propose.ensures.keeps s h k.views); index = c.in-Some-try_propose.leader.idx; me = made.0.leads.1 ∙ made.1.0; key = made.1.1 },
     )
 
 pub returns-clause-handoff : goal.returns-clause-handoff
@@ -31,3 +32,17 @@ returns-clause-handoff g c = λ s h k.
     let test = c.is_handoff-is_handoff.ensures s h k in
     let wanted = c.new-2.ensures.handoff in
     rw (c.new-2.ensures.context, c.new.ensures.view) (λ yes. test.0 (wanted.0 yes), λ is. wanted.1 (test.1 is))
+
+pub returns-in_default-clause-keeps : goal.returns-in_default-clause-keeps
+returns-in_default-clause-keeps g c = λ s h k. k
+
+pub returns-in_default-clause-answer : goal.returns-in_default-clause-answer
+returns-in_default-clause-answer g c = λ s h k. c.in_default.ensures s h k
+
+pub returns-in_default-try_propose-clause-keeps : goal.returns-in_default-try_propose-clause-keeps
+unfolding Keeps
+returns-in_default-try_propose-clause-keeps g c = λ s h k. absurd (c.in_default-try_propose.ensures.answer s h k.views (may_propose s h c.in-Some.first.0 c.in-Some.first.1 c.in-Some.first.2 (c.in-Some.ensures s h k).due))
+
+pub returns-in_default-try_propose-clause-answer : goal.returns-in_default-try_propose-clause-answer
+unfolding Keeps
+returns-in_default-try_propose-clause-answer g c = λ s h k. absurd (c.in_default-try_propose.ensures.answer s h k.views (may_propose s h c.in-Some.first.0 c.in-Some.first.1 c.in-Some.first.2 (c.in-Some.ensures s h k).due))

@@ -1,8 +1,9 @@
 use Rattle.std.proofs.Common.{inl, inr, refl}
 use Rattle.std.proofs.lemmas.Bool.{both_ways}
+use Rattle.std.proofs.lemmas.Result.{IfOk-from_err, IfOk-weaker, on_ok_weaker}
 use Rattle.simplex_views.specs.History.{confirmed, unbound}
 use Rattle.simplex_voter.specs.State.{Keeps}
-use Rattle.simplex_voter.proofs.Waking.{stays}
+use Rattle.simplex_voter.proofs.Keeping.{keeps_still}
 use Rattle.simplex_voter.proofs.state.State.verified.Goals as goal
 
 pub returns-then-not-is_steady-clause-keeps : goal.returns-then-not-is_steady-clause-keeps
@@ -10,7 +11,7 @@ unfolding Keeps
 returns-then-not-is_steady-clause-keeps g c = λ s h k.
     inr (
       λ steady. both_ways c.is_steady.result c.if-not-is_steady.true ((c.is_steady.ensures s h k).1 steady),
-      record { scheme = k.scheme; me = k.me; timeout_retry = k.timeout_retry; skip_budget = k.skip_budget; views = c.in_ok-clear_verifying.ensures s h k.views; candidates = stays s h (unbound c.args.view) c.args.self.now.candidates refl k.candidates },
+      keeps_still g.S.Scheme g.L.Elector s h _ _ k (unbound c.args.view) refl (c.in_ok-clear_verifying.ensures s h k.views),
     )
 
 pub returns-then-not-is_steady-clause-answer : goal.returns-then-not-is_steady-clause-answer
@@ -18,16 +19,20 @@ unfolding Keeps
 returns-then-not-is_steady-clause-answer g c = λ s h k.
     (λ never. absurd (cc (never)), λ is. absurd (both_ways c.is_steady.result c.if-not-is_steady.true ((c.is_steady.ensures s h k).1 is.0)))
 
+pub returns-in_err-clear_verifying-clause-keeps : goal.returns-in_err-clear_verifying-clause-keeps
+returns-in_err-clear_verifying-clause-keeps g c = IfOk-from_err c.from_residual.result _ c.from_residual.ensures.0
+
+pub returns-in_err-clear_verifying-clause-answer : goal.returns-in_err-clear_verifying-clause-answer
+returns-in_err-clear_verifying-clause-answer g c = IfOk-from_err c.from_residual.result _ c.from_residual.ensures.0
+
 pub returns-clause-keeps : goal.returns-clause-keeps
 unfolding Keeps
-returns-clause-keeps g c = λ s h k.
-    inl (
-      (c.is_steady.ensures s h k).0 c.if-not-is_steady.false,
-      record { scheme = k.scheme; me = k.me; timeout_retry = k.timeout_retry; skip_budget = k.skip_budget; views = c.in_ok-became.ensures.keeps s h k.views; candidates = stays s h (confirmed c.args.view) c.args.self.now.candidates refl k.candidates },
-    )
+returns-clause-keeps g c = on_ok_weaker c.verified.result
+    (λ moved s h k. inl ((c.is_steady.ensures s h k).0 c.if-not-is_steady.false, keeps_still g.S.Scheme g.L.Elector s h _ _ k (confirmed c.args.view) refl (moved s h k.views)))
+    c.verified.ensures.keeps
 
 pub returns-clause-answer : goal.returns-clause-answer
 unfolding Keeps
-returns-clause-answer g c = λ s h k.
-    let became = c.in_ok-became.ensures.answer s h k.views in
-    (λ yes. let good = became.0 yes in ((c.is_steady.ensures s h k).0 c.if-not-is_steady.false, good.0, good.1), λ is. became.1 (is.1, is.2))
+returns-clause-answer g c = IfOk-weaker c.verified.result _ _
+    (λ became is s h k. let good = is s h k.views in (λ yes. let may = good.0 yes in ((c.is_steady.ensures s h k).0 c.if-not-is_steady.false, may.0, may.1), λ both. good.1 (both.1, both.2)))
+    c.verified.ensures.answer

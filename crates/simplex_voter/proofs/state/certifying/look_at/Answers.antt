@@ -1,8 +1,10 @@
 use Rattle.std.proofs.Common.{◌+◌}
+use Rattle.std.specs.BTreeSet.{btree_set_len}
+use Rattle.std.proofs.lemmas.Result.{IfOk-from_err}
 use Rattle.simplex_views.specs.Known.{known}
 use Rattle.simplex_due.specs.Ancestry.{member}
 use Rattle.simplex_facts.specs.Facts.{at}
-use Rattle.simplex_voter.proofs.Members.{nothing_in}
+use Rattle.simplex_voter.proofs.Members.{fewer, nothing_in}
 use Rattle.simplex_voter.proofs.Sorting.{looked_at_all, looked_at_more, looked_at_none}
 use Rattle.simplex_voter.proofs.Waking.{notarized_at}
 use Rattle.simplex_voter.proofs.state.certifying.look_at.Goals as goal
@@ -24,3 +26,9 @@ pub returns : goal.returns
 returns g c = λ s h k among.
     let whole = c.loop-view.invariant s h k among in
     looked_at_all (member s) (known s h) whole.0 c.loop-view.found c.loop-view.rest whole.1 (nothing_in c.loop-view.rest (λ some. let found = c.in_default.ensures.variant.1 some in absurd (cc found)))
+
+pub returns-in_err-add : goal.returns-in_err-add
+returns-in_err-add g c = IfOk-from_err c.from_residual.result _ c.from_residual.ensures.0
+
+pub loop-view-smaller : goal.loop-view-smaller
+loop-view-smaller g c = fewer (btree_set_len c.pop_first.new.self) (btree_set_len c.loop-view.rest) c.in-Some.ensures.len
