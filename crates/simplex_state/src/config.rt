@@ -6,7 +6,6 @@ ghost use Rattle.simplex_state.specs.declared.config.ForwardPolicy.TheVariants.{
 ghost use Rattle.simplex_state.specs.Configuring.{Applies, IsFirst, SkipsWithin, budget_of, fault_number, skip_budget};
 
 use simplex_types::{Digest, Epoch, ViewDelta};
-pub use simplex_voter::Floor;
 
 /// How many terms may be skipped since the last finalized view.
 #[derive(Clone, Copy, Debug, Default)]

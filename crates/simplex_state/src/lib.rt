@@ -1,6 +1,4 @@
-//! A member of a committee: how it is set up, what it does in its views, and what it still has to fetch of certificates.
+//! How a member of a committee is set up.
 #![tactic(auto)]
 
 pub mod config;
-pub mod resolver;
-pub mod voter;
