@@ -1,7 +1,7 @@
-//! A voter beside the plain program: both are told the same, and have to answer the same.
+//! A voter, or its views, beside the plain program: both are told the same, and have to answer the same.
 
 use crate::holding::holds;
-use crate::member::{Certificates, Course, Member, Standing};
+use crate::member::{Certificates, Course, Known, Member, Standing};
 use crate::trials::End;
 use simplex_round::TimeoutReason;
 use simplex_types::{Proposal, Sha256Digest, View};
@@ -17,17 +17,17 @@ use voter_plain::views::Mark;
 use voter_plain::world::World;
 use voter_plain::{History, Plain, Point, Setup, VIEWS};
 
-/// A voter, and what happened to it.
+/// A voter or its views, and what happened.
 #[derive(Drop)]
-pub struct Beside<M: Member> {
-    member: M,
+pub struct Beside<M: Known> {
+    pub member: M,
     world: World,
     /// What was last asked to be built.
     pub building: (u64, (u64, u8)),
 }
 
-impl<M: Member> Beside<M> {
-    /// The voter of this setup, to which nothing has happened.
+impl<M: Known> Beside<M> {
+    /// What is told of this setup, and nothing has happened.
     pub fn new(alloc: Global, setup: &Setup, member: M) -> Self {
         Beside {
             member,
@@ -42,13 +42,51 @@ impl<M: Member> Beside<M> {
     }
 
     /// This has happened.
-    fn push(&mut self, point: Option<Point>) -> Option<()> {
+    pub fn push(&mut self, point: Option<Point>) -> Option<()> {
         match point {
             Some(point) => self.world.push(point).ok(),
             None => Some(()),
         }
     }
 
+    /// Drops what need not be kept.
+    pub fn prune(&mut self, rt: &impl Abort, alloc: Global) -> Option<Answer> {
+        let dropped = self.member.prune(alloc)?;
+        holds(rt, drops(self.world.history(), &dropped));
+        self.push(Some(Point::Pruned))?;
+        Some(Answer::Yes)
+    }
+
+    /// Of all views together it tells what the plain program tells.
+    pub fn agrees(&self, rt: &impl Abort) {
+        holds(rt, self.member.standing() == standing(self.world.history()));
+    }
+
+    /// So it does of how far the view has come, and of its certificates.
+    pub fn agrees_on(&self, rt: &impl Abort, now: u64, view: u64) {
+        let known = self.world.history();
+        holds(
+            rt,
+            self.member.course(now, view) == course(known, now, view),
+        );
+        holds(
+            rt,
+            self.member.certificates(view) == certificates(known, view),
+        );
+    }
+
+    /// This member is told from the others.
+    pub fn knows_itself(&self, rt: &impl Abort) {
+        let setup = self.world.history().setup;
+        for index in 0..setup.participants {
+            let is_me = self.member.is_me(index);
+            holds(rt, is_me == (setup.me == Some(index)));
+        }
+    }
+}
+
+/// The calls of a voter.
+impl<M: Member> Beside<M> {
     /// Makes the call that would add the point.
     fn tell(&mut self, rt: &impl Abort, alloc: Global, point: Point) -> Option<Reply> {
         let expected = self.plain().tells(point);
@@ -164,18 +202,10 @@ impl<M: Member> Beside<M> {
         Some(reply)
     }
 
-    /// Drops what need not be kept.
-    fn prune(&mut self, rt: &impl Abort, alloc: Global) -> Option<Reply> {
-        let dropped = self.member.prune(alloc)?;
-        holds(rt, drops(self.world.history(), &dropped));
-        self.push(Some(Point::Pruned))?;
-        Some(Reply::Told(Answer::Yes))
-    }
-
     /// Makes the call: the answer, which is the plain program's. None where memory is refused.
     pub fn call(&mut self, rt: &impl Abort, alloc: Global, call: Call) -> Option<Reply> {
         match call {
-            Call::Tell(Point::Pruned) => self.prune(rt, alloc),
+            Call::Tell(Point::Pruned) => Some(Reply::Told(self.prune(rt, alloc)?)),
             Call::Tell(point) => self.tell(rt, alloc, point),
             Call::Refuse { now, view, reason } => self.refuse(rt, now, view, reason),
             Call::Build => self.build(rt),
@@ -190,12 +220,7 @@ impl<M: Member> Beside<M> {
 
 /// What is answered without a change.
 impl<M: Member> Beside<M> {
-    /// Of all views together the voter tells what the plain program tells.
-    pub fn agrees(&self, rt: &impl Abort) {
-        holds(rt, self.member.standing() == standing(self.world.history()));
-    }
-
-    /// So it does of the best certificate to enter the current view by. None where memory is refused.
+    /// It tells the best certificate to enter the current view by. None where memory is refused.
     pub fn agrees_on_entry(&self, rt: &impl Abort, alloc: Global) -> Option<()> {
         let best = self.member.best_certificate(alloc)?;
         holds(rt, best == self.world.history().best_certificate());
@@ -208,7 +233,7 @@ impl<M: Member> Beside<M> {
         Some(End::At(self.member.standing().current, best))
     }
 
-    /// So it is of the view's payload, where it is certified.
+    /// It tells the view's payload, where it is certified.
     fn agrees_on_payload(&self, rt: &impl Abort, view: u64) {
         let explicit = self.plain().explicit(view);
         for byte in [GENESIS, A, B] {
@@ -219,25 +244,8 @@ impl<M: Member> Beside<M> {
 
     /// Of this view the voter tells what the plain program tells.
     pub fn agrees_at(&self, rt: &impl Abort, now: u64, view: u64) {
-        let known = self.world.history();
-        holds(
-            rt,
-            self.member.course(now, view) == course(known, now, view),
-        );
-        holds(
-            rt,
-            self.member.certificates(view) == certificates(known, view),
-        );
+        self.agrees_on(rt, now, view);
         self.agrees_on_payload(rt, view);
-    }
-
-    /// This member is told from the others.
-    pub fn knows_itself(&self, rt: &impl Abort) {
-        let setup = self.world.history().setup;
-        for index in 0..setup.participants {
-            let is_me = self.member.is_me(index);
-            holds(rt, is_me == (setup.me == Some(index)));
-        }
     }
 }
 

@@ -1,25 +1,12 @@
 //! How a member is set up: each fault as the first of all that apply, what just passes, and policies.
 
-use simplex_messages::Finalization;
+use crate::holding::holds;
 use simplex_state::config::{
-    Config, ConfigFault, Floor, ForwardPolicy, SkipBudget, SkipPolicy, check_config,
+    Config, ConfigFault, ForwardPolicy, SkipBudget, SkipPolicy, check_config,
 };
-use simplex_types::{
-    Digest, Duplicate, Epoch, PlainScheme, Read, Scheme, Sha256Digest, View, ViewDelta,
-};
-use std::alloc::{AllocError, Global};
+use simplex_types::{Epoch, Sha256Digest, ViewDelta};
 use std::process::Abort;
-use std::test::Fail;
-
-/// The payload of 32 such bytes.
-fn payload(byte: u8) -> Sha256Digest {
-    Sha256Digest::new([byte; 32])
-}
-
-/// Asserts what a test says.
-fn holds(rt: &impl Abort, is_so: bool) {
-    assert!(rt; is_so);
-}
+use voter_plain::samples::payload;
 
 /// The times of a setup, its retention, and the timeout of its skips, where they are enabled.
 #[derive(Clone, Copy)]
@@ -52,10 +39,10 @@ fn skips(timeout: Option<u64>) -> SkipPolicy {
 }
 
 /// The setup of these times.
-fn settings<D: Digest>(times: Times, genesis: D) -> Config<D> {
+fn settings(times: Times) -> Config<Sha256Digest> {
     Config {
         epoch: Epoch::new(0),
-        genesis,
+        genesis: payload(0),
         leader_timeout: times.leader,
         certification_timeout: times.certification,
         timeout_retry: times.retry,
@@ -68,7 +55,7 @@ fn settings<D: Digest>(times: Times, genesis: D) -> Config<D> {
 
 /// What the setup of these times is told in a committee of so many.
 fn checked(times: Times, participants: u32) -> Result<(), ConfigFault> {
-    check_config(&settings(times, payload(0)), participants)
+    check_config(&settings(times), participants)
 }
 
 /// The number of the fault that is told, and 0 where none is.
@@ -233,76 +220,4 @@ fn policies_say_how_much_they_allow(rt: HostRuntime) {
     holds(&rt, !ForwardPolicy::Disabled.is_enabled());
     holds(&rt, ForwardPolicy::SilentVoters.is_enabled());
     holds(&rt, ForwardPolicy::SilentLeader.is_enabled());
-}
-
-/// What spells the finalization of view 5 by three of four members. What stands for their signatures attests nothing.
-fn spelled(alloc: Global) -> Result<Vec<u8>, AllocError> {
-    let mut bytes = Vec::from_slice(alloc, &[0, 5, 4])?;
-    bytes.extend_from_slice(&[0xaa; 32])?;
-    bytes.push(3)?;
-    for signer in [0, 2, 3].iter() {
-        bytes.extend_from_slice(&[*signer; 33])?;
-    }
-    Ok(bytes)
-}
-
-/// The floor that is what these bytes spell, at any scheme.
-fn finalized<S: Scheme<Sha256Digest>>(
-    alloc: Global,
-    bytes: &[u8],
-) -> Result<Floor<S, Sha256Digest>, Fail> {
-    let mut rest = bytes;
-    Ok(Floor::Finalized(Finalization::read_cfg(alloc, &mut rest, 4)?))
-}
-
-/// Whether both floors are the same.
-fn are_same<S: Scheme<Sha256Digest>>(
-    floor: &Floor<S, Sha256Digest>,
-    other: &Floor<S, Sha256Digest>,
-) -> bool {
-    match (floor, other) {
-        (Floor::Genesis(payload), Floor::Genesis(other)) => payload == other,
-        (Floor::Finalized(kept), Floor::Finalized(other)) => kept == other,
-        _ => false,
-    }
-}
-
-/// The floor is of this view, and its copy the same as the other one.
-fn is_copied<S: Scheme<Sha256Digest>>(
-    rt: &impl Abort,
-    alloc: Global,
-    floor: &Floor<S, Sha256Digest>,
-    other: &Floor<S, Sha256Digest>,
-    view: u64,
-) -> Result<(), AllocError> {
-    holds(rt, floor.view() == View::new(view));
-    let copy = floor.duplicate(alloc)?;
-    holds(rt, are_same(&copy, other));
-    Ok(())
-}
-
-/// A start on what the bytes spell is copied whole.
-fn is_copied_whole<S: Scheme<Sha256Digest>>(
-    rt: &impl Abort,
-    alloc: Global,
-    bytes: &[u8],
-) -> Result<(), Fail> {
-    let floor = finalized::<S>(alloc, bytes)?;
-    let other = finalized::<S>(alloc, bytes)?;
-    is_copied(rt, alloc, &floor, &other, 5)?;
-    Ok(())
-}
-
-#[test]
-fn a_floor_is_view_0_or_what_is_finalized(rt: HostRuntime) -> Result<(), Fail> {
-    let genesis: Floor<PlainScheme, Sha256Digest> = Floor::Genesis(payload(7));
-    let other = Floor::Genesis(payload(7));
-    is_copied(&rt, rt.alloc(), &genesis, &other, 0)?;
-    Ok(())
-}
-
-#[test]
-fn a_finalized_floor_is_copied_whole(rt: HostRuntime) -> Result<(), Fail> {
-    let bytes = spelled(rt.alloc())?;
-    is_copied_whole::<PlainScheme>(&rt, rt.alloc(), &bytes)
 }

@@ -18,10 +18,10 @@ use voter_plain::views::Mark;
 use voter_plain::{Plain, Point, Proposal, Setup};
 
 /// What was last asked to be built: the view, and its parent with its payload.
-type Building = (u64, (u64, u8));
+pub type Building = (u64, (u64, u8));
 
 /// A committee of up to seven members, in terms of this length with up to two optimistic views.
-fn setup(chance: &mut Chance, length: u64) -> Setup {
+pub fn setup(chance: &mut Chance, length: u64) -> Setup {
     let participants = 1 + chance.below(7);
     let me = chance.below(participants);
     let is_observer = chance.below(12) == 0;
@@ -43,7 +43,7 @@ fn setup(chance: &mut Chance, length: u64) -> Setup {
 }
 
 /// A view to speak of: often the current one or one beside it, or one of the first few, and always below 22.
-fn view(chance: &mut Chance, current: u64) -> u64 {
+pub fn view(chance: &mut Chance, current: u64) -> u64 {
     let view = match chance.below(10) {
         0..=3 => current,
         4..=5 => current.saturating_add(1),
@@ -55,7 +55,7 @@ fn view(chance: &mut Chance, current: u64) -> u64 {
 }
 
 /// A proposal of the view, mostly on the view before.
-fn proposal(chance: &mut Chance, view: u64) -> Proposal {
+pub fn proposal(chance: &mut Chance, view: u64) -> Proposal {
     let parent = match chance.below(3) {
         0 => chance.below(view.max(1)),
         _ => view.saturating_sub(1),
@@ -273,7 +273,7 @@ const fn started(now: u64) -> Call {
 }
 
 /// What comes next, at this moment.
-fn next(chance: &mut Chance, plain: Plain<'_>, building: Building, now: u64) -> Call {
+pub fn next(chance: &mut Chance, plain: Plain<'_>, building: Building, now: u64) -> Call {
     let current = plain.known.current();
     if current == 0 && chance.below(6) != 0 {
         return started(now);

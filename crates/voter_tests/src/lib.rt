@@ -9,6 +9,8 @@ mod config;
 #[cfg(test)]
 mod entering;
 #[cfg(test)]
+mod facts;
+#[cfg(test)]
 mod founding;
 #[cfg(test)]
 mod histories;
@@ -19,11 +21,15 @@ mod member;
 #[cfg(test)]
 mod memory;
 #[cfg(test)]
+mod plain_rows;
+#[cfg(test)]
 mod rows;
 #[cfg(test)]
 mod starting;
 #[cfg(test)]
 mod steps;
+#[cfg(test)]
+mod telling;
 #[cfg(test)]
 mod timing;
 #[cfg(test)]

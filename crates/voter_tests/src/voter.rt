@@ -1,16 +1,19 @@
 //! A voter over any scheme and elector: its calls by the plain program's names, each written once. At one scheme they would cost the
 //! prover several times as much.
 
-use crate::member::{Begun, Certificates, Course, Member, Standing, Start, Verdicts};
-use simplex_messages::{Artifact, Certificate, Finalization, Notarization, Nullification, Nullify};
+use crate::member::{
+    Begun, Certificates, Course, Known, Member, Standing, Start, Verdicts, name, number,
+};
+use crate::telling::{Calls, addition, done, sent, tell, whether};
+use simplex_messages::{Certificate, Finalization, Nullify};
 use simplex_resolver::Kind;
 use simplex_round::{HandoffAbandonedReason, TimeoutReason, Token};
 use simplex_rules::Elector;
-use simplex_types::{Context, Epoch, Participant, Proposal, Round, Sha256Digest, View};
+use simplex_types::{Context, Duplicate, Epoch, Participant, Proposal, Round, Sha256Digest, View};
 use simplex_voter::{Floor, State, Verify};
 use std::alloc::Global;
 use voter_plain as plain;
-use voter_plain::answers::{Answer, yes_or_no};
+use voter_plain::answers::Answer;
 use voter_plain::calls::Reply;
 use voter_plain::getters::Entry;
 use voter_plain::samples::{
@@ -33,33 +36,15 @@ fn is_of_epoch(proposal: &Proposal<Sha256Digest>, epoch: u64) -> bool {
     proposal.round.epoch.get() == epoch
 }
 
-/// The number of a member that is there.
-fn number(member: Option<Participant>) -> Option<u32> {
-    Some(member?.get())
-}
-
-/// The plain program's name for a proposal that is there.
-fn name(proposal: Option<Proposal<Sha256Digest>>) -> Option<plain::Proposal> {
-    Some(named(proposal?))
-}
-
-/// What adding a certificate answers.
-fn addition<S: Numbering>(is_first: bool, replaced: Option<S::PublicKey>) -> Answer {
-    match replaced {
-        Some(key) => Answer::InPlace(S::number_of(key)),
-        None => yes_or_no(is_first),
-    }
-}
-
-/// What a start on the other finalization answers.
+/// What a start on the floor answers.
 fn begun<S: Numbering>(
     answer: Option<Finalization<S, Sha256Digest>>,
-    other: &Finalization<S, Sha256Digest>,
+    floor: &Floor<S, Sha256Digest>,
 ) -> Begun {
-    match answer {
-        Some(answer) if answer == *other => Begun::Same,
-        Some(_) => Begun::Other,
-        None => Begun::Nothing,
+    match (answer, floor) {
+        (Some(answer), Floor::Finalized(started)) if answer == *started => Begun::Same,
+        (Some(_), _) => Begun::Other,
+        (None, _) => Begun::Nothing,
     }
 }
 
@@ -91,53 +76,75 @@ impl<S: Numbering, L: Elector<S, Sha256Digest>> Voter<S, L> {
     }
 }
 
-/// The start, certificates, verdicts, and what leaders propose.
+/// The start.
 impl<S: Numbering, L: Elector<S, Sha256Digest>> Voter<S, L> {
-    fn set_genesis(&mut self, now: u64, byte: u8) -> Option<Answer> {
-        self.state.set_genesis(now, payload(byte)).ok()?;
-        Some(Answer::Yes)
+    /// Starts on a copy of the floor, which is of this view. None where it is of another one, or where memory is refused.
+    fn begin(
+        &mut self,
+        alloc: Global,
+        floor: &Floor<S, Sha256Digest>,
+        view: u64,
+    ) -> Option<Option<Finalization<S, Sha256Digest>>> {
+        if floor.view().get() != view {
+            return None;
+        }
+        let copy = floor.duplicate(alloc).ok()?;
+        self.state.set_floor(alloc, 0, copy).ok()
     }
 
     fn start_on(&mut self, alloc: Global, byte: u8) -> Option<Begun> {
         let floor = Floor::Genesis(payload(byte));
-        match self.state.set_floor(alloc, 0, floor).ok()? {
+        match self.begin(alloc, &floor, 0)? {
             Some(_) => Some(Begun::Other),
             None => Some(Begun::Nothing),
         }
     }
 
-    /// Starts on the finalization. The other one is the same.
-    fn start_on_final(
-        &mut self,
-        alloc: Global,
-        certificate: Option<Finalization<S, Sha256Digest>>,
-        other: &Finalization<S, Sha256Digest>,
-    ) -> Option<Begun> {
-        let floor = Floor::Finalized(certificate?);
-        Some(begun(self.state.set_floor(alloc, 0, floor).ok()?, other))
+    fn start_on_final(&mut self, alloc: Global, proposal: plain::Proposal) -> Option<Begun> {
+        let floor = Floor::Finalized(finalization(alloc, self.epoch, proposal, 3)?);
+        let answer = self.begin(alloc, &floor, proposal.view)?;
+        Some(begun(answer, &floor))
+    }
+}
+
+/// What a vote to give a view up answers: no, where it is of another view, or not in this member's name.
+impl<S: Numbering, L: Elector<S, Sha256Digest>> Voter<S, L> {
+    fn given_up(&self, view: View, vote: &Nullify<S, Sha256Digest>, is_repetition: bool) -> Answer {
+        if !self.is_own(vote.attestation.signer) || vote.round.view.get() != view.get() {
+            return Answer::No;
+        }
+        if is_repetition {
+            Answer::Again
+        } else {
+            Answer::Yes
+        }
+    }
+}
+
+impl<S: Numbering, L: Elector<S, Sha256Digest>> Calls for Voter<S, L> {
+    fn set_genesis(&mut self, now: u64, byte: u8) -> Option<Answer> {
+        done(self.state.set_genesis(now, payload(byte)))
     }
 
-    fn notarize(&mut self, certificate: Option<Notarization<S, Sha256Digest>>) -> Option<Answer> {
-        let (is_first, replaced) = self.state.add_notarization(certificate?).ok()?;
-        Some(addition::<S>(is_first, replaced))
+    fn notarize(&mut self, alloc: Global, of: plain::Proposal, mark: u64) -> Option<Answer> {
+        let certificate = notarization(alloc, self.epoch, of, mark)?;
+        addition::<S>(self.state.add_notarization(certificate))
     }
 
-    fn nullify(
-        &mut self,
-        now: u64,
-        certificate: Option<Nullification<S, Sha256Digest>>,
-    ) -> Option<Answer> {
-        let is_first = self.state.add_nullification(now, certificate?).ok()?;
-        Some(yes_or_no(is_first))
+    fn nullify(&mut self, alloc: Global, now: u64, view: u64, mark: u64) -> Option<Answer> {
+        let certificate = nullification(alloc, self.epoch, view, mark)?;
+        whether(self.state.add_nullification(now, certificate))
     }
 
     fn finalize(
         &mut self,
+        alloc: Global,
         now: u64,
-        certificate: Option<Finalization<S, Sha256Digest>>,
+        of: plain::Proposal,
+        mark: u64,
     ) -> Option<Answer> {
-        let (is_first, replaced) = self.state.add_finalization(now, certificate?).ok()?;
-        Some(addition::<S>(is_first, replaced))
+        let certificate = finalization(alloc, self.epoch, of, mark)?;
+        addition::<S>(self.state.add_finalization(now, certificate))
     }
 
     fn judge(&mut self, alloc: Global, now: u64, view: View, ok: bool) -> Option<Answer> {
@@ -149,80 +156,30 @@ impl<S: Numbering, L: Elector<S, Sha256Digest>> Voter<S, L> {
 
     fn forward(&mut self, view: View, offered: plain::Proposal) -> Option<Answer> {
         let offered = proposal(self.epoch, offered);
-        let is_first = self.state.set_proposal(view, &offered).ok()?;
-        Some(yes_or_no(is_first))
+        whether(self.state.set_proposal(view, &offered))
     }
 
-    /// The call that adds what is learnt, or else what is heard.
-    fn learn(&mut self, alloc: Global, point: Point) -> Option<Answer> {
-        let epoch = self.epoch;
-        match point {
-            Point::Notarized { proposal, mark } => {
-                self.notarize(notarization(alloc, epoch, proposal, mark))
-            }
-            Point::Nullified { now, view, mark } => {
-                self.nullify(now, nullification(alloc, epoch, view, mark))
-            }
-            Point::Finalized {
-                now,
-                proposal,
-                mark,
-            } => self.finalize(now, finalization(alloc, epoch, proposal, mark)),
-            Point::Judged { now, view, ok } => self.judge(alloc, now, View::new(view), ok),
-            Point::Forwarded { view, proposal } => self.forward(View::new(view), proposal),
-            Point::Started { now, payload } => self.set_genesis(now, payload),
-            _ => self.hear(alloc, point),
-        }
-    }
-}
-
-/// What the application answers, and why a view is given up.
-impl<S: Numbering, L: Elector<S, Sha256Digest>> Voter<S, L> {
     fn take(&mut self, now: u64, built: plain::Proposal, parent: u8) -> Option<Answer> {
         let building = self.building(built.view, (built.parent, parent));
-        let payload = payload(built.payload);
-        let is_taken = self.state.proposed(now, &building, payload).ok()?;
-        Some(yes_or_no(is_taken))
+        whether(self.state.proposed(now, &building, payload(built.payload)))
     }
 
     fn confirm(&mut self, view: View) -> Option<Answer> {
-        Some(yes_or_no(self.state.verified(view).ok()?))
+        whether(self.state.verified(view))
     }
 
     fn latch(&mut self, now: u64, view: View, reason: TimeoutReason) -> Option<Answer> {
-        let counts = self.state.trigger_timeout(now, view, reason).ok()?;
-        Some(yes_or_no(counts))
+        whether(self.state.trigger_timeout(now, view, reason))
     }
 
     fn release(&mut self, view: View) -> Option<Answer> {
-        self.state.release_proposal_request(view).ok()?;
-        Some(Answer::Yes)
+        done(self.state.release_proposal_request(view))
     }
 
     fn ask_verdict(&mut self, view: View) -> Option<Answer> {
-        self.state.set_certify_handle(view, Token(view.get())).ok()?;
-        Some(Answer::Yes)
+        done(self.state.set_certify_handle(view, Token(view.get())))
     }
 
-    /// The call that adds what is heard, or else what is voted.
-    fn hear(&mut self, alloc: Global, point: Point) -> Option<Answer> {
-        match point {
-            Point::Built {
-                now,
-                proposal,
-                parent_payload,
-            } => self.take(now, proposal, parent_payload),
-            Point::Confirmed { view } => self.confirm(View::new(view)),
-            Point::Latched { now, view, reason } => self.latch(now, View::new(view), reason),
-            Point::BuildReleased { view } => self.release(View::new(view)),
-            Point::CertifyAsked { view } => self.ask_verdict(View::new(view)),
-            _ => self.vote(alloc, point),
-        }
-    }
-}
-
-/// Votes, what is handed out, and what the record says.
-impl<S: Numbering, L: Elector<S, Sha256Digest>> Voter<S, L> {
     fn vote_notarize(&mut self, view: View) -> Option<Answer> {
         match self.state.construct_notarize(view).ok()? {
             Some(vote) => Some(self.about(vote.proposal, vote.attestation.signer)),
@@ -238,62 +195,32 @@ impl<S: Numbering, L: Elector<S, Sha256Digest>> Voter<S, L> {
         }
     }
 
-    /// What a vote to give a view up answers: no, where it is of another view, or not in this member's name.
-    fn given_up(&self, view: View, vote: &Nullify<S, Sha256Digest>, is_repetition: bool) -> Answer {
-        if !self.is_own(vote.attestation.signer) || vote.round.view.get() != view.get() {
-            return Answer::No;
-        }
-        if is_repetition {
-            Answer::Again
-        } else {
-            Answer::Yes
-        }
-    }
-
-    fn vote_finalize(&mut self, view: View) -> Answer {
+    fn vote_finalize(&mut self, view: View) -> Option<Answer> {
         match self.state.construct_finalize(view) {
-            Some(vote) => self.about(vote.proposal, vote.attestation.signer),
-            None => Answer::No,
+            Some(vote) => Some(self.about(vote.proposal, vote.attestation.signer)),
+            None => Some(Answer::No),
         }
     }
 
     fn send_notarization(&mut self, alloc: Global, view: View) -> Option<Answer> {
-        let sent = self.state.broadcast_notarization(alloc, view).ok()?;
-        Some(yes_or_no(sent.is_some()))
+        sent(self.state.broadcast_notarization(alloc, view))
     }
 
     fn send_nullification(&mut self, alloc: Global, view: View) -> Option<Answer> {
-        let sent = self.state.broadcast_nullification(alloc, view).ok()?;
-        Some(yes_or_no(sent.is_some()))
+        sent(self.state.broadcast_nullification(alloc, view))
     }
 
     fn send_finalization(&mut self, alloc: Global, view: View) -> Option<Answer> {
-        let sent = self.state.broadcast_finalization(alloc, view).ok()?;
-        Some(yes_or_no(sent.is_some()))
+        sent(self.state.broadcast_finalization(alloc, view))
     }
 
-    fn send(&mut self, alloc: Global, entry: Entry) -> Option<Answer> {
-        match entry {
-            Entry::Notarization(view) => self.send_notarization(alloc, View::new(view)),
-            Entry::Nullification(view) => self.send_nullification(alloc, View::new(view)),
-            Entry::Finalization(view) => self.send_finalization(alloc, View::new(view)),
-        }
+    fn recall(&mut self, alloc: Global, point: Point) -> Option<Answer> {
+        let artifact = recalled(alloc, self.epoch, point)?;
+        done(self.state.replay(&artifact))
     }
 
-    /// The call that adds what is voted or handed out, or else what the record says.
-    fn vote(&mut self, alloc: Global, point: Point) -> Option<Answer> {
-        match point {
-            Point::VotedNotarize { view } => self.vote_notarize(View::new(view)),
-            Point::VotedNullify { view } => self.vote_nullify(View::new(view)),
-            Point::VotedFinalize { view } => Some(self.vote_finalize(View::new(view))),
-            Point::Sent(entry) => self.send(alloc, entry),
-            _ => self.recall(recalled(alloc, self.epoch, point)),
-        }
-    }
-
-    fn recall(&mut self, artifact: Option<Artifact<S, Sha256Digest>>) -> Option<Answer> {
-        self.state.replay(&artifact?).ok()?;
-        Some(Answer::Yes)
+    fn ask_alone(&mut self, _point: Point) -> Option<Answer> {
+        None
     }
 }
 
@@ -311,66 +238,13 @@ impl<S: Numbering, L: Elector<S, Sha256Digest>> Voter<S, L> {
     }
 }
 
-impl<S: Numbering, L: Elector<S, Sha256Digest>> Member for Voter<S, L> {
-    fn start(&mut self, alloc: Global, start: Start) -> Option<Begun> {
-        match start {
-            Start::Payload(byte) => self.start_on(alloc, byte),
-            Start::Finalized(proposal) => {
-                let other = finalization(alloc, self.epoch, proposal, 3)?;
-                let certificate = finalization(alloc, self.epoch, proposal, 3);
-                self.start_on_final(alloc, certificate, &other)
-            }
-        }
-    }
-
+impl<S: Numbering, L: Elector<S, Sha256Digest>> Known for Voter<S, L> {
     fn tell(&mut self, alloc: Global, point: Point) -> Option<Answer> {
-        self.learn(alloc, point)
-    }
-
-    fn refuse(&mut self, now: u64, view: u64, reason: TimeoutReason) -> Option<bool> {
-        let view = View::new(view);
-        self.state.verification_failed(now, view, reason).ok()
-    }
-
-    fn build(&mut self) -> Reply {
-        match self.state.try_propose() {
-            Some(request) => self.request(&request.into_context()),
-            None => Reply::Nothing,
-        }
-    }
-
-    fn supersede(&mut self, view: u64, parent: (u64, u8)) -> Option<bool> {
-        let building = self.building(view, parent);
-        self.state.supersede_proposal_request(&building).ok()
-    }
-
-    fn abandon(&self, view: u64, parent: (u64, u8)) -> Option<HandoffAbandonedReason> {
-        let building = self.building(view, parent);
-        self.state.pending_handoff_abandonment(&building)
-    }
-
-    fn ask(&mut self, now: u64) -> Option<Reply> {
-        Some(asked::<S>(self.state.try_verify(now).ok()?))
-    }
-
-    fn certify(&mut self, alloc: Global) -> Option<Verdicts> {
-        self.state.certify_candidates(alloc).ok()
-    }
-
-    fn time(&mut self, now: u64) -> Option<Reply> {
-        match self.state.next_timeout(now).ok()? {
-            Some((moment, reason)) => Some(Reply::Time(moment, reason)),
-            None => Some(Reply::Nothing),
-        }
+        tell(self, alloc, point)
     }
 
     fn prune(&mut self, alloc: Global) -> Option<Vec<View>> {
         self.state.prune(alloc).ok()
-    }
-
-    fn best_certificate(&self, alloc: Global) -> Option<Option<Entry>> {
-        let best = self.state.get_best_certificate(alloc).ok()?;
-        Some(entry(best.as_ref()))
     }
 
     fn standing(&self) -> Standing {
@@ -412,12 +286,63 @@ impl<S: Numbering, L: Elector<S, Sha256Digest>> Member for Voter<S, L> {
         }
     }
 
-    fn is_certified(&self, view: u64, byte: u8) -> bool {
-        self.state.parent_certified(View::new(view), payload(byte))
-    }
-
     fn is_me(&self, index: u32) -> bool {
         self.state.is_me(Participant::new(index))
+    }
+}
+
+impl<S: Numbering, L: Elector<S, Sha256Digest>> Member for Voter<S, L> {
+    fn start(&mut self, alloc: Global, start: Start) -> Option<Begun> {
+        match start {
+            Start::Payload(byte) => self.start_on(alloc, byte),
+            Start::Finalized(proposal) => self.start_on_final(alloc, proposal),
+        }
+    }
+
+    fn refuse(&mut self, now: u64, view: u64, reason: TimeoutReason) -> Option<bool> {
+        let view = View::new(view);
+        self.state.verification_failed(now, view, reason).ok()
+    }
+
+    fn build(&mut self) -> Reply {
+        match self.state.try_propose() {
+            Some(request) => self.request(&request.into_context()),
+            None => Reply::Nothing,
+        }
+    }
+
+    fn supersede(&mut self, view: u64, parent: (u64, u8)) -> Option<bool> {
+        let building = self.building(view, parent);
+        self.state.supersede_proposal_request(&building).ok()
+    }
+
+    fn abandon(&self, view: u64, parent: (u64, u8)) -> Option<HandoffAbandonedReason> {
+        let building = self.building(view, parent);
+        self.state.pending_handoff_abandonment(&building)
+    }
+
+    fn ask(&mut self, now: u64) -> Option<Reply> {
+        Some(asked::<S>(self.state.try_verify(now).ok()?))
+    }
+
+    fn certify(&mut self, alloc: Global) -> Option<Verdicts> {
+        self.state.certify_candidates(alloc).ok()
+    }
+
+    fn time(&mut self, now: u64) -> Option<Reply> {
+        match self.state.next_timeout(now).ok()? {
+            Some((moment, reason)) => Some(Reply::Time(moment, reason)),
+            None => Some(Reply::Nothing),
+        }
+    }
+
+    fn best_certificate(&self, alloc: Global) -> Option<Option<Entry>> {
+        let best = self.state.get_best_certificate(alloc).ok()?;
+        Some(entry(best.as_ref()))
+    }
+
+    fn is_certified(&self, view: u64, byte: u8) -> bool {
+        self.state.parent_certified(View::new(view), payload(byte))
     }
 }
 

@@ -1,6 +1,7 @@
 //! The view that a voter stands at, by each kind of certificate.
 
-use crate::views::facts::{Fact, Step};
+use crate::facts::Fact;
+use crate::views::beside::Step;
 use crate::views::plain_scheme::walks;
 use simplex_round::TimeoutReason;
 use std::alloc::Global;
@@ -13,13 +14,13 @@ use voter_plain::samples::{
 
 /// In terms of five views, these lead to this view, and the voter has entered it, and neither the one before nor the one behind it.
 fn enters(rt: &impl Abort, alloc: Global, steps: &[Step], current: u64) {
-    let facts = [
-        Fact::Current(current),
-        Fact::Entered(current, 0 < current),
-        Fact::Entered(current.wrapping_sub(1), false),
-        Fact::Entered(current.wrapping_add(1), false),
+    let rows = [
+        (2, Fact::Current(current)),
+        (2, Fact::Entered(current, 0 < current)),
+        (2, Fact::Entered(current.wrapping_sub(1), false)),
+        (2, Fact::Entered(current.wrapping_add(1), false)),
     ];
-    walks(rt, alloc, &member(5, 0), steps, &facts);
+    walks(rt, alloc, &member(5, 0), steps, &rows);
 }
 
 #[test]
@@ -64,38 +65,39 @@ fn the_current_view_only_rises(rt: HostRuntime) {
         (judged(50, 3, true), Answer::Proposal(plain(3, 2, A))),
         (judged(60, 9, true), Answer::No),
     ];
-    let facts = [
-        Fact::Current(11),
-        Fact::LastFinalized(4),
-        Fact::Entered(4, false),
-        Fact::Entered(5, false),
+    let rows = [
+        (6, Fact::Current(11)),
+        (6, Fact::LastFinalized(4)),
+        (6, Fact::Entered(4, false)),
+        (6, Fact::Entered(5, false)),
     ];
-    walks(&rt, rt.alloc(), &member(5, 0), &steps, &facts);
+    walks(&rt, rt.alloc(), &member(5, 0), &steps, &rows);
 }
 
 #[test]
 fn deadlines_run_from_the_entry_on(rt: HostRuntime) {
-    let first = [
-        (nullified(300, 5), Answer::Yes),
-        (nullified(400, 6), Answer::Yes),
-    ];
-    // Nothing is held: the leader's deadline. Something is: the verdict's.
-    let silent = Fact::TimesOut(500, Some((1_400, TimeoutReason::LeaderTimeout)));
-    walks(&rt, rt.alloc(), &member(5, 0), &first, &[silent]);
     let steps = [
         (nullified(300, 5), Answer::Yes),
         (nullified(400, 6), Answer::Yes),
         (Point::Polled { now: 500 }, Answer::Yes),
         (forwarded(11, 10, A), Answer::Yes),
+        (Point::Polled { now: 600 }, Answer::Yes),
     ];
-    let unjudged = Fact::TimesOut(600, Some((2_400, TimeoutReason::CertificationTimeout)));
-    walks(&rt, rt.alloc(), &member(5, 0), &steps, &[unjudged]);
+    // Nothing is held: the leader's deadline. Something is: the verdict's.
+    let silent = Some((1_400, TimeoutReason::LeaderTimeout));
+    let unjudged = Some((2_400, TimeoutReason::CertificationTimeout));
+    let rows = [
+        (3, Fact::TimesOut(500, silent)),
+        (5, Fact::TimesOut(600, unjudged)),
+    ];
+    walks(&rt, rt.alloc(), &member(5, 0), &steps, &rows);
 }
 
 #[test]
 fn nothing_times_out_before_the_start(rt: HostRuntime) {
-    let facts = [Fact::TimesOut(500, None)];
-    walks(&rt, rt.alloc(), &member(1, 0), &[], &facts);
+    let steps = [(Point::Polled { now: 500 }, Answer::Yes)];
+    let rows = [(1, Fact::TimesOut(500, None))];
+    walks(&rt, rt.alloc(), &member(1, 0), &steps, &rows);
 }
 
 #[test]
@@ -104,8 +106,9 @@ fn a_false_verdict_counts_where_its_view_is_not_behind(rt: HostRuntime) {
         (started(), Answer::Yes),
         (notarized(1, 0, A), Answer::Yes),
         (judged(700, 1, false), Answer::Proposal(plain(1, 0, A))),
+        (Point::Polled { now: 800 }, Answer::Yes),
     ];
     let failed = Some((700, TimeoutReason::FailedCertification));
-    let facts = [Fact::TimesOut(800, failed)];
-    walks(&rt, rt.alloc(), &member(5, 0), &steps, &facts);
+    let rows = [(4, Fact::TimesOut(800, failed))];
+    walks(&rt, rt.alloc(), &member(5, 0), &steps, &rows);
 }

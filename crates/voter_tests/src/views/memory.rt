@@ -1,6 +1,6 @@
 //! What is answered where memory is refused.
 
-use crate::views::facts::Step;
+use crate::views::beside::Step;
 use crate::views::plain_scheme::attempt;
 use crate::views::trials::Trial;
 use simplex_round::TimeoutReason;

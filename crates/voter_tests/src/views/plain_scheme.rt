@@ -1,8 +1,10 @@
 //! The drivers at the plain scheme and an elector of the tests' own.
 
+use crate::beside::Beside;
+use crate::facts::Fact;
 use crate::holding::holds;
-use crate::views::beside::Beside;
-use crate::views::facts::{Fact, Step};
+use crate::views::beside::Step;
+use crate::views::kept::Kept;
 use crate::views::trials::{Trial, undergo};
 use simplex_types::{Epoch, PlainScheme, Sha256Digest, ViewDelta};
 use simplex_views::Views;
@@ -33,15 +35,25 @@ fn views(alloc: Global, setup: &Setup) -> Option<PlainViews> {
     views.ok()
 }
 
-/// A voter of this setup undergoes the trial: how many points have happened. None where memory is refused. One place alone makes views of
-/// this scheme, since each costs the prover as much again.
+/// A voter's views of this setup undergo the trial: how many points have happened. None where memory is refused. One place alone makes views
+/// of this scheme, since each costs the prover as much again.
 pub fn attempt(rt: &impl Abort, alloc: Global, setup: &Setup, trial: Trial<'_>) -> Option<usize> {
-    let mut beside = Beside::new(alloc, views(alloc, setup)?, setup);
-    undergo(rt, alloc, &mut beside, trial)
+    let kept = Kept {
+        views: views(alloc, setup)?,
+        epoch: setup.epoch,
+        retry: (setup.timeout_retry & 0xffff_ffff) as u32,
+    };
+    undergo(rt, alloc, Beside::new(alloc, setup, kept), trial)
 }
 
-/// Hands the steps in, and asks whether the facts are so, where no memory is refused.
-pub fn walks(rt: &impl Abort, alloc: Global, setup: &Setup, steps: &[Step], facts: &[Fact]) {
-    let count = attempt(rt, alloc, setup, Trial::Steps(steps, facts));
+/// Hands the steps in, and asks whether the rows are so, where no memory is refused.
+pub fn walks(
+    rt: &impl Abort,
+    alloc: Global,
+    setup: &Setup,
+    steps: &[Step],
+    rows: &[(usize, Fact<'_>)],
+) {
+    let count = attempt(rt, alloc, setup, Trial::Steps(steps, rows));
     holds(rt, count.is_some());
 }

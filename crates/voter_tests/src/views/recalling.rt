@@ -1,17 +1,21 @@
 //! What a voter takes in from its member's record, in the order of the record.
 
-use crate::views::facts::Fact;
+use crate::facts::Fact;
 use crate::views::plain_scheme::walks;
-use voter_plain::Point;
 use voter_plain::answers::Answer;
 use voter_plain::getters::Entry;
 use voter_plain::samples::{
     A, B, finalized, forwarded, judged, member, notarized, nullified, plain, started,
 };
+use voter_plain::{Point, Proposal};
+
+/// The record says that this member voted to notarize the proposal.
+const fn recalled(proposal: Proposal) -> Point {
+    Point::RecalledNotarize { proposal }
+}
 
 #[test]
 fn a_record_is_taken_in_in_its_order(rt: HostRuntime) {
-    let recalled = |proposal| Point::RecalledNotarize { proposal };
     let steps = [
         (started(), Answer::Yes),
         (recalled(plain(1, 0, A)), Answer::Yes),
@@ -35,13 +39,17 @@ fn a_record_is_taken_in_in_its_order(rt: HostRuntime) {
         (Point::VotedFinalize { view: 1 }, Answer::No),
         (Point::VotedNullify { view: 2 }, Answer::Again),
     ];
-    let facts = [Fact::Current(3)];
-    walks(&rt, rt.alloc(), &member(1, 0), &steps, &facts);
+    walks(
+        &rt,
+        rt.alloc(),
+        &member(1, 0),
+        &steps,
+        &[(14, Fact::Current(3))],
+    );
 }
 
 #[test]
 fn a_recorded_notarize_is_bound_to_what_its_parent_holds(rt: HostRuntime) {
-    let recalled = |proposal| Point::RecalledNotarize { proposal };
     let steps = [
         (started(), Answer::Yes),
         (forwarded(3, 2, B), Answer::Yes),
@@ -50,11 +58,11 @@ fn a_recorded_notarize_is_bound_to_what_its_parent_holds(rt: HostRuntime) {
         (recalled(plain(3, 2, A)), Answer::Yes),
     ];
     // Genesis is no proposal. Where another proposal is held, the vote counts and its proposal is not taken.
-    let facts = [
-        Fact::Bound(1, None),
-        Fact::Bound(2, Some((plain(2, 1, B), A))),
-        Fact::Backed(2, true),
-        Fact::Backed(3, false),
+    let rows = [
+        (5, Fact::Bound(1, None)),
+        (5, Fact::Bound(2, Some((plain(2, 1, B), A)))),
+        (5, Fact::Backed(2, true)),
+        (5, Fact::Backed(3, false)),
     ];
-    walks(&rt, rt.alloc(), &member(5, 2), &steps, &facts);
+    walks(&rt, rt.alloc(), &member(5, 2), &steps, &rows);
 }

@@ -1,34 +1,33 @@
 //! What a new voter's views are put through.
 
-use crate::views::beside::Beside;
-use crate::views::facts::{Fact, Step};
+use crate::beside::Beside;
+use crate::facts::Fact;
+use crate::member::Viewed;
+use crate::views::beside::Step;
 use crate::views::histories::live;
 use simplex_fakes::Chance;
-use simplex_rules::Elector;
-use simplex_types::Sha256Digest;
 use std::alloc::Global;
 use std::process::Abort;
-use voter_plain::Numbering;
 
 /// What a new voter's views are put through.
 #[derive(Drop)]
 pub enum Trial<'a> {
-    /// These steps, behind which the facts are so.
-    Steps(&'a [Step], &'a [Fact<'a>]),
+    /// These steps, behind which the rows are so.
+    Steps(&'a [Step], &'a [(usize, Fact<'a>)]),
     /// A history by chance.
-    History(&'a mut Chance),
+    History(Chance),
 }
 
-/// The voter undergoes the trial: how many points have happened. None where memory is refused.
-pub fn undergo<S: Numbering, L: Elector<S, Sha256Digest>>(
+/// The views undergo the trial: how many points have happened. None where memory is refused.
+pub fn undergo<V: Viewed>(
     rt: &impl Abort,
     alloc: Global,
-    beside: &mut Beside<S, L>,
+    mut beside: Beside<V>,
     trial: Trial<'_>,
 ) -> Option<usize> {
     match trial {
-        Trial::Steps(steps, facts) => beside.walk(rt, alloc, steps, facts)?,
-        Trial::History(chance) => live(rt, alloc, chance, beside)?,
+        Trial::Steps(steps, rows) => beside.walk(rt, alloc, steps, rows)?,
+        Trial::History(chance) => live(rt, alloc, chance, &mut beside)?,
     }
-    Some(beside.history().points.len())
+    Some(beside.plain().known.points.len())
 }

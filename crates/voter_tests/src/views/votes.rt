@@ -1,6 +1,6 @@
 //! What is asked for, voted and handed out.
 
-use crate::views::facts::Fact;
+use crate::facts::Fact;
 use crate::views::plain_scheme::walks;
 use voter_plain::Point;
 use voter_plain::answers::Answer;
@@ -35,8 +35,11 @@ fn a_leader_builds_and_votes_once(rt: HostRuntime) {
         (Point::VotedFinalize { view: 1 }, Answer::No),
         (Point::VotedNullify { view: 1 }, Answer::No),
     ];
-    let facts = [Fact::Bound(1, Some((own, GENESIS))), Fact::Backed(1, true)];
-    walks(&rt, rt.alloc(), &member(1, 0), &steps, &facts);
+    let rows = [
+        (10, Fact::Bound(1, Some((own, GENESIS)))),
+        (10, Fact::Backed(1, true)),
+    ];
+    walks(&rt, rt.alloc(), &member(1, 0), &steps, &rows);
 }
 
 #[test]
@@ -66,8 +69,11 @@ fn another_members_proposal_is_verified_and_voted_for(rt: HostRuntime) {
         (Point::VotedNotarize { view: 2 }, Answer::Proposal(other)),
         (Point::Unbound { view: 2 }, Answer::Yes),
     ];
-    let facts = [Fact::Bound(2, None)];
-    walks(&rt, rt.alloc(), &member(1, 0), &steps, &facts);
+    let rows = [
+        (7, Fact::Bound(2, Some((other, A)))),
+        (9, Fact::Bound(2, None)),
+    ];
+    walks(&rt, rt.alloc(), &member(1, 0), &steps, &rows);
 }
 
 #[test]
@@ -119,6 +125,9 @@ fn a_certificate_that_replaces_a_proposal_tells_its_leader(rt: HostRuntime) {
         (finalized(0, 1, 0, A), Answer::InPlace(1)),
         (Point::VotedNotarize { view: 1 }, Answer::No),
     ];
-    let facts = [Fact::Forwardable(1, Some(plain(1, 0, A)))];
-    walks(&rt, rt.alloc(), &member(1, 0), &steps, &facts);
+    let rows = [
+        (3, Fact::Forwardable(1, Some(plain(1, 0, B)))),
+        (4, Fact::Forwardable(1, Some(plain(1, 0, A)))),
+    ];
+    walks(&rt, rt.alloc(), &member(1, 0), &steps, &rows);
 }
