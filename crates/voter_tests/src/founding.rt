@@ -1,7 +1,7 @@
 //! A new voter in the plain scheme, with an elector of the tests' own.
 
-use crate::trials::{End, Trial, undergo};
-use crate::voter::Voter;
+use crate::trials::{End, Trial};
+use crate::voter::{Voter, undergoes};
 use simplex_types::{Epoch, Participant, PlainKey, PlainScheme, Sha256Digest, ViewDelta};
 use simplex_voter::{Config, State};
 use std::alloc::Global;
@@ -42,5 +42,5 @@ fn voter(alloc: Global, setup: &Setup) -> Option<Voter<PlainScheme, Chosen>> {
 /// A new voter of this setup undergoes the trial: how it ends. None where memory is refused. One place alone makes a voter of this scheme,
 /// since each costs the prover as much again.
 pub fn attempt(rt: &impl Abort, alloc: Global, setup: &Setup, trial: Trial<'_>) -> Option<End> {
-    undergo(rt, alloc, setup, voter(alloc, setup)?, trial)
+    undergoes(rt, alloc, setup, voter(alloc, setup)?, trial)
 }

@@ -5,6 +5,7 @@ use crate::member::{
     Begun, Certificates, Course, Known, Member, Standing, Start, Verdicts, name, number,
 };
 use crate::telling::{Calls, addition, done, sent, tell, whether};
+use crate::trials::{End, Trial, undergo};
 use simplex_messages::{Certificate, Finalization, Nullify};
 use simplex_resolver::Kind;
 use simplex_round::{HandoffAbandonedReason, TimeoutReason, Token};
@@ -12,6 +13,7 @@ use simplex_rules::Elector;
 use simplex_types::{Context, Duplicate, Epoch, Participant, Proposal, Round, Sha256Digest, View};
 use simplex_voter::{Floor, State, Verify};
 use std::alloc::Global;
+use std::process::Abort;
 use voter_plain as plain;
 use voter_plain::answers::Answer;
 use voter_plain::calls::Reply;
@@ -19,7 +21,7 @@ use voter_plain::getters::Entry;
 use voter_plain::samples::{
     byte_of, finalization, named, notarization, nullification, payload, proposal, recalled,
 };
-use voter_plain::{Numbering, Point};
+use voter_plain::{Numbering, Point, Setup};
 
 /// A voter, and what its answers are named by.
 #[derive(Drop)]
@@ -344,6 +346,17 @@ impl<S: Numbering, L: Elector<S, Sha256Digest>> Member for Voter<S, L> {
     fn is_certified(&self, view: u64, byte: u8) -> bool {
         self.state.parent_certified(View::new(view), payload(byte))
     }
+}
+
+/// The voter undergoes the trial: how it ends. None where memory is refused. At a scheme and an elector this call alone is made.
+pub fn undergoes<S: Numbering, L: Elector<S, Sha256Digest>>(
+    rt: &impl Abort,
+    alloc: Global,
+    setup: &Setup,
+    voter: Voter<S, L>,
+    trial: Trial<'_>,
+) -> Option<End> {
+    undergo(rt, alloc, setup, voter, trial)
 }
 
 /// The plain program's name for a certificate that is there.

@@ -1,21 +1,24 @@
 //! A voter's views, whatever the scheme and the elector: what is written here is made at one of each in `plain_scheme` alone, since each
 //! place at which a generic call is made at a type costs the prover as much again.
 
+use crate::beside::Beside;
 use crate::holding::all;
 use crate::member::{Certificates, Course, Known, Standing, Viewed, name, number};
 use crate::telling::{Calls, addition, done, sent, tell, whether};
 use crate::views::rounds::{byte, certified, is_round_of, scheduled, times};
+use crate::views::trials::{Trial, undergo};
 use simplex_round::{TimeoutReason, Token};
 use simplex_rules::Elector;
 use simplex_types::{Participant, Sha256Digest, View};
 use simplex_views::Views;
 use std::alloc::Global;
+use std::process::Abort;
 use voter_plain as plain;
 use voter_plain::answers::{Answer, about, yes_or_no};
 use voter_plain::samples::{
     finalization, named, notarization, nullification, payload, proposal, recalled,
 };
-use voter_plain::{Numbering, Plain, Point};
+use voter_plain::{Numbering, Plain, Point, Setup};
 
 /// What one member keeps of all views.
 #[derive(Drop)]
@@ -250,4 +253,16 @@ impl<S: Numbering, L: Elector<S, Sha256Digest>> Kept<S, L> {
             is_round_of(self.views.round(at), plain, view),
         ])
     }
+}
+
+/// The views undergo the trial: how many points have happened. None where memory is refused. At a scheme and an elector this call alone is
+/// made.
+pub fn undergoes<S: Numbering, L: Elector<S, Sha256Digest>>(
+    rt: &impl Abort,
+    alloc: Global,
+    setup: &Setup,
+    kept: Kept<S, L>,
+    trial: Trial<'_>,
+) -> Option<usize> {
+    undergo(rt, alloc, Beside::new(alloc, setup, kept), trial)
 }

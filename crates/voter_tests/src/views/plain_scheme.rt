@@ -1,11 +1,10 @@
 //! The drivers at the plain scheme and an elector of the tests' own.
 
-use crate::beside::Beside;
 use crate::facts::Fact;
 use crate::holding::holds;
 use crate::views::beside::Step;
-use crate::views::kept::Kept;
-use crate::views::trials::{Trial, undergo};
+use crate::views::kept::{Kept, undergoes};
+use crate::views::trials::Trial;
 use simplex_types::{Epoch, PlainScheme, Sha256Digest, ViewDelta};
 use simplex_views::Views;
 use std::alloc::Global;
@@ -43,7 +42,7 @@ pub fn attempt(rt: &impl Abort, alloc: Global, setup: &Setup, trial: Trial<'_>) 
         epoch: setup.epoch,
         retry: (setup.timeout_retry & 0xffff_ffff) as u32,
     };
-    undergo(rt, alloc, Beside::new(alloc, setup, kept), trial)
+    undergoes(rt, alloc, setup, kept, trial)
 }
 
 /// Hands the steps in, and asks whether the rows are so, where no memory is refused.
