@@ -8,6 +8,7 @@ use crate::views::plain_scheme::attempt;
 use crate::views::trials::Trial;
 use simplex_fakes::Chance;
 use std::alloc::Global;
+use std::ops::Range;
 use std::process::Abort;
 use voter_plain::calls::Call;
 use voter_plain::samples::A;
@@ -95,41 +96,31 @@ pub fn live<V: Viewed>(
     Some(())
 }
 
-/// The two thousand histories from this seed on, in terms of this length.
-fn histories(rt: &impl Abort, alloc: Global, first: u64, length: u64) {
+/// The histories of these seeds, in terms of this length, in which more points happen than these.
+fn histories(rt: &impl Abort, alloc: Global, seeds: Range<u64>, length: u64, points: usize) {
     let mut count = 0usize;
-    for seed in first..first.saturating_add(2_000) {
+    for seed in seeds {
         let mut chance = Chance::seeded(seed);
         let setup = setup(&mut chance, length);
         let trial = Trial::History(chance);
-        let points = attempt(rt, alloc, &setup, trial).expect(rt, "there is memory");
-        count = count.saturating_add(points);
+        let happened = attempt(rt, alloc, &setup, trial).expect(rt, "there is memory");
+        count = count.saturating_add(happened);
     }
     // Where nothing stood there was nothing to agree on.
-    holds(rt, 15_000 < count);
+    holds(rt, points < count);
 }
 
 #[test]
-fn the_first_histories_are_as_the_plain_program_tells(rt: HostRuntime) {
-    histories(&rt, rt.alloc(), 0, 1);
+fn all_is_as_the_plain_program_tells_in_terms_of_one_view(rt: HostRuntime) {
+    histories(&rt, rt.alloc(), 0..3_000, 1, 22_500);
 }
 
 #[test]
-fn the_second_histories_are_as_the_plain_program_tells(rt: HostRuntime) {
-    histories(&rt, rt.alloc(), 2_000, 1);
+fn all_is_as_the_plain_program_tells_in_terms_of_two_views(rt: HostRuntime) {
+    histories(&rt, rt.alloc(), 3_000..6_000, 2, 22_500);
 }
 
 #[test]
-fn the_third_histories_are_as_the_plain_program_tells(rt: HostRuntime) {
-    histories(&rt, rt.alloc(), 4_000, 2);
-}
-
-#[test]
-fn the_fourth_histories_are_as_the_plain_program_tells(rt: HostRuntime) {
-    histories(&rt, rt.alloc(), 6_000, 5);
-}
-
-#[test]
-fn the_last_histories_are_as_the_plain_program_tells(rt: HostRuntime) {
-    histories(&rt, rt.alloc(), 8_000, 5);
+fn all_is_as_the_plain_program_tells_in_terms_of_five_views(rt: HostRuntime) {
+    histories(&rt, rt.alloc(), 6_000..10_000, 5, 30_000);
 }
