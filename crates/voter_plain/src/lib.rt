@@ -1,8 +1,7 @@
 //! What a voter knows, what is due for it and what each of its calls answers, by a plain list of what happened to it, the oldest first. Each
 //! answer goes over the whole list, sentence by sentence, as slow as it may be. Views lie below `VIEWS`, and parents below their views.
 //!
-//! Beside it what else the tests of a voter share: a committee, an elector, and what stands for the plain program's proposals,
-//! certificates and records.
+//! Beside it what else the tests of a voter share: a committee and an elector.
 #![tactic(auto)]
 
 pub mod ancestry;

@@ -2,6 +2,7 @@
 
 use crate::holding::holds;
 use crate::member::{Certificates, Course, Known, Member, Standing};
+use crate::spelling::named;
 use crate::trials::End;
 use simplex_round::TimeoutReason;
 use simplex_types::{Proposal, Sha256Digest, View};
@@ -12,7 +13,7 @@ use voter_plain as plain;
 use voter_plain::answers::{Answer, yes_or_no};
 use voter_plain::calls::{Call, Reply};
 use voter_plain::requests::{Judging, Look};
-use voter_plain::samples::{A, B, GENESIS, named};
+use voter_plain::samples::{A, B, GENESIS};
 use voter_plain::views::Mark;
 use voter_plain::world::World;
 use voter_plain::{History, Plain, Point, Setup, VIEWS};

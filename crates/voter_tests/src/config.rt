@@ -1,31 +1,19 @@
 //! How a member is set up: each fault as the first of all that apply, what just passes, and policies.
 
 use crate::holding::holds;
+use crate::spelling::payload;
 use simplex_state::config::{
     Config, ConfigFault, ForwardPolicy, SkipBudget, SkipPolicy, check_config,
 };
 use simplex_types::{Epoch, Sha256Digest, ViewDelta};
 use std::process::Abort;
-use voter_plain::samples::payload;
 
-/// The times of a setup, its retention, and the timeout of its skips, where they are enabled.
-#[derive(Clone, Copy)]
-struct Times {
-    leader: u64,
-    certification: u64,
-    retry: u64,
-    retention: u64,
-    skip: Option<u64>,
-}
+/// How long a leader may take and how long a verdict, after how long a nullify is voted again, how many views are kept, and the timeout of
+/// skips, where they are enabled.
+type Times = (u64, u64, u64, u64, Option<u64>);
 
 /// Times without a fault.
-const GOOD: Times = Times {
-    leader: 1_000,
-    certification: 2_000,
-    retry: 5_000,
-    retention: 10,
-    skip: Some(8_000),
-};
+const GOOD: Times = (1_000, 2_000, 5_000, 10, Some(8_000));
 
 /// The policy that skips behind this timeout, where there is one.
 fn skips(timeout: Option<u64>) -> SkipPolicy {
@@ -40,14 +28,15 @@ fn skips(timeout: Option<u64>) -> SkipPolicy {
 
 /// The setup of these times.
 fn settings(times: Times) -> Config<Sha256Digest> {
+    let (leader_timeout, certification_timeout, timeout_retry, retention, skip) = times;
     Config {
         epoch: Epoch::new(0),
         genesis: payload(0),
-        leader_timeout: times.leader,
-        certification_timeout: times.certification,
-        timeout_retry: times.retry,
-        view_retention: ViewDelta::new(times.retention),
-        skip: skips(times.skip),
+        leader_timeout,
+        certification_timeout,
+        timeout_retry,
+        view_retention: ViewDelta::new(retention),
+        skip: skips(skip),
         forward: ForwardPolicy::Disabled,
         track_historical_votes: true,
     }
@@ -75,41 +64,16 @@ fn are_told(rt: &impl Abort, rows: &[(Times, u32, u8)]) {
 
 #[test]
 fn a_good_setup_changed_in_one_place(rt: HostRuntime) {
-    let no_time = Times {
-        leader: 0,
-        certification: 0,
-        ..GOOD
-    };
-    let no_longer = Times {
-        certification: 1_000,
-        ..GOOD
-    };
-    let early = Times {
-        skip: Some(2_000),
-        ..GOOD
-    };
-    let as_retried = Times {
-        skip: Some(5_000),
-        ..GOOD
-    };
-    let at_once = Times {
-        skip: None,
-        retry: 0,
-        ..GOOD
-    };
-    let forgetful = Times {
-        retention: 0,
-        ..GOOD
-    };
+    let skip = Some(8_000);
     let rows = [
         (GOOD, 4, 0),
-        (no_time, 4, 2),
-        (no_time, 0, 1),
-        (no_longer, 4, 3),
-        (early, 4, 4),
-        (as_retried, 4, 5),
-        (at_once, 4, 6),
-        (forgetful, 4, 7),
+        ((0, 0, 5_000, 10, skip), 4, 2),
+        ((0, 0, 5_000, 10, skip), 0, 1),
+        ((1_000, 1_000, 5_000, 10, skip), 4, 3),
+        ((1_000, 2_000, 5_000, 10, Some(2_000)), 4, 4),
+        ((1_000, 2_000, 5_000, 10, Some(5_000)), 4, 5),
+        ((1_000, 2_000, 0, 10, None), 4, 6),
+        ((1_000, 2_000, 5_000, 0, skip), 4, 7),
         (GOOD, 65_536, 8),
     ];
     are_told(&rt, &rows);
@@ -117,94 +81,36 @@ fn a_good_setup_changed_in_one_place(rt: HostRuntime) {
 
 #[test]
 fn of_several_faults_the_one_with_the_least_number_is_told(rt: HostRuntime) {
-    let all = Times {
-        leader: 0,
-        certification: 0,
-        retry: 0,
-        retention: 0,
-        skip: Some(0),
-    };
-    let led = Times {
-        leader: 1,
-        certification: 1,
-        ..all
-    };
-    let judged = Times {
-        certification: 2,
-        ..led
-    };
-    let skipped = Times {
-        skip: Some(3),
-        retry: 3,
-        ..judged
-    };
-    let late = Times {
-        retry: 0,
-        ..skipped
-    };
-    let retried = Times { retry: 1, ..late };
-    let kept = Times {
-        retention: 1,
-        ..retried
-    };
     let rows = [
-        (all, 0, 1),
-        (all, 65_536, 2),
-        (led, 65_536, 3),
-        (judged, 65_536, 4),
-        (skipped, 65_536, 5),
-        (late, 65_536, 6),
-        (retried, 65_536, 7),
-        (kept, 65_536, 8),
+        ((0, 0, 0, 0, Some(0)), 0, 1),
+        ((0, 0, 0, 0, Some(0)), 65_536, 2),
+        ((1, 1, 0, 0, Some(0)), 65_536, 3),
+        ((1, 2, 0, 0, Some(0)), 65_536, 4),
+        ((1, 2, 3, 0, Some(3)), 65_536, 5),
+        ((1, 2, 0, 0, Some(3)), 65_536, 6),
+        ((1, 2, 1, 0, Some(3)), 65_536, 7),
+        ((1, 2, 1, 1, Some(3)), 65_536, 8),
     ];
     are_told(&rt, &rows);
 }
 
 #[test]
 fn what_just_passes_and_what_just_does_not(rt: HostRuntime) {
-    let least = Times {
-        leader: 1,
-        certification: 2,
-        retry: 2,
-        retention: 1,
-        skip: Some(3),
-    };
-    let without_skips = Times {
-        certification: 3,
-        retry: 3,
-        skip: None,
-        ..least
-    };
-    let slow = Times {
-        certification: 3,
-        ..least
-    };
-    let end = Times {
-        leader: u64::MAX,
-        certification: u64::MAX,
-        ..least
-    };
     let rows = [
-        (least, 1, 0),
-        (least, 65_535, 0),
-        (slow, 1, 4),
-        (Times { retry: 3, ..least }, 1, 5),
-        (without_skips, 1, 0),
-        (end, 1, 3),
+        ((1, 2, 2, 1, Some(3)), 1, 0),
+        ((1, 2, 2, 1, Some(3)), 65_535, 0),
+        ((1, 3, 2, 1, Some(3)), 1, 4),
+        ((1, 2, 3, 1, Some(3)), 1, 5),
+        ((1, 3, 3, 1, None), 1, 0),
+        ((u64::MAX, u64::MAX, 2, 1, Some(3)), 1, 3),
     ];
     are_told(&rt, &rows);
 }
 
 #[test]
 fn a_fault_is_named(rt: HostRuntime) {
-    let forgetful = Times {
-        retention: 0,
-        ..GOOD
-    };
-    holds(
-        &rt,
-        checked(forgetful, 4) == Err(ConfigFault::RetentionZero),
-    );
+    let forgetful = checked((1_000, 2_000, 5_000, 0, None), 4);
+    holds(&rt, forgetful == Err(ConfigFault::RetentionZero));
 }
 
 #[test]

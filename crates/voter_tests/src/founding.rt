@@ -1,46 +1,60 @@
-//! A new voter in the plain scheme, with an elector of the tests' own.
+//! A new voter, or its views alone, in the plain scheme, with an elector of the tests' own.
 
-use crate::trials::{End, Trial};
-use crate::voter::{Voter, undergoes};
-use simplex_types::{Epoch, Participant, PlainKey, PlainScheme, Sha256Digest, ViewDelta};
-use simplex_voter::{Config, State};
+ghost use Rattle.std.specs.Prelude.{◌≡◌};
+
+use crate::trials::{End, Trial, undergo};
+use crate::views::kept::Kept;
+use crate::views::trials as views;
+use crate::voter::Voter;
+use simplex_rules::Elector;
+use simplex_types::{Participant, PlainKey, Sha256Digest};
 use std::alloc::Global;
 use std::process::Abort;
-use voter_plain::{Chosen, Setup, committee};
+use std::rc::Rc;
+use voter_plain::{Chosen, Numbering, Setup, committee};
 
-/// What a voter of this setup knows to which nothing has happened.
-fn state(alloc: Global, setup: &Setup) -> Option<State<PlainScheme, Chosen, Sha256Digest>> {
+/// Who is put through what.
+#[derive(Drop)]
+pub enum Case<'a> {
+    /// A voter.
+    Voter(Trial<'a>),
+    /// A voter's views alone.
+    Views(views::Trial<'a>),
+}
+
+/// A new voter, or its views, of this committee and elector undergo the case: how it ends. None where memory is refused.
+fn undergoes<S: Numbering, L: Elector<S, Sha256Digest>>(
+    rt: &impl Abort,
+    alloc: Global,
+    setup: &Setup,
+    scheme: Rc<S>,
+    elector: L,
+    key: S::PublicKey,
+    case: Case<'_>,
+) -> Option<End>
+    requires { L.built_for elector (S.size scheme.value) }
+{
+    match case {
+        Case::Voter(trial) => {
+            let voter = Voter::new(alloc, setup, scheme, elector, key)?;
+            undergo(rt, alloc, setup, voter, trial)
+        }
+        Case::Views(trial) => {
+            let kept = Kept::new(alloc, setup, scheme, elector)?;
+            views::undergo(rt, alloc, setup, kept, trial)
+        }
+    }
+}
+
+/// The case in this setup: how it ends. A committee has one to seven members. None where memory is refused. This place alone names the
+/// scheme and the elector, since each costs the prover as much again.
+pub fn attempt(rt: &impl Abort, alloc: Global, setup: &Setup, case: Case<'_>) -> Option<End> {
     let participants = setup.participants;
     if participants == 0 || 7 < participants {
         return None;
     }
     let scheme = committee(alloc, participants, setup.me)?;
     let elector = Chosen::new(alloc, setup, participants)?;
-    let config = Config {
-        scheme,
-        elector,
-        epoch: Epoch::new(setup.epoch),
-        view_retention: ViewDelta::new(setup.retention),
-        leader_timeout: setup.leader_timeout,
-        certification_timeout: setup.certification_timeout,
-        timeout_retry: setup.timeout_retry,
-        skip_budget: setup.skip_budget,
-    };
-    State::new(alloc, config).ok()
-}
-
-/// A voter of this setup, to which nothing has happened. A committee has one to seven members. None where memory is refused.
-fn voter(alloc: Global, setup: &Setup) -> Option<Voter<PlainScheme, Chosen>> {
-    Some(Voter {
-        state: state(alloc, setup)?,
-        epoch: setup.epoch,
-        me: setup.me,
-        key: PlainKey::new(Participant::new(setup.me.unwrap_or(0))),
-    })
-}
-
-/// A new voter of this setup undergoes the trial: how it ends. None where memory is refused. One place alone makes a voter of this scheme,
-/// since each costs the prover as much again.
-pub fn attempt(rt: &impl Abort, alloc: Global, setup: &Setup, trial: Trial<'_>) -> Option<End> {
-    undergoes(rt, alloc, setup, voter(alloc, setup)?, trial)
+    let key = PlainKey::new(Participant::new(setup.me.unwrap_or(0)));
+    undergoes(rt, alloc, setup, scheme, elector, key, case)
 }

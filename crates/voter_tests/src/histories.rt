@@ -1,7 +1,7 @@
 //! Histories by chance, in which each answer of each call is the plain program's.
 
 use crate::beside::Beside;
-use crate::founding::attempt;
+use crate::founding::{Case, attempt};
 use crate::holding::holds;
 use crate::member::Member;
 use crate::trials::{End, Trial};
@@ -349,12 +349,9 @@ pub fn unfold<M: Member>(
     Some(End::Behind(beside.plain().known.points.len()))
 }
 
-/// The history of this seed, in terms of this length: how many points have happened.
-fn history(rt: &impl Abort, alloc: Global, seed: u64, length: u64) -> usize {
-    let mut chance = Chance::seeded(seed);
-    let setup = setup(&mut chance, length);
-    let end = attempt(rt, alloc, &setup, Trial::History(chance)).expect(rt, "there is memory");
-    match end {
+/// Behind how many points a case by chance ends.
+pub fn happened(rt: &impl Abort, alloc: Global, setup: &Setup, case: Case<'_>) -> usize {
+    match attempt(rt, alloc, setup, case).expect(rt, "there is memory") {
         End::Behind(points) => points,
         _ => 0,
     }
@@ -364,7 +361,10 @@ fn history(rt: &impl Abort, alloc: Global, seed: u64, length: u64) -> usize {
 fn histories(rt: &impl Abort, alloc: Global, seeds: Range<u64>, length: u64, points: usize) {
     let mut count = 0usize;
     for seed in seeds {
-        count = count.saturating_add(history(rt, alloc, seed, length));
+        let mut chance = Chance::seeded(seed);
+        let setup = setup(&mut chance, length);
+        let case = Case::Voter(Trial::History(chance));
+        count = count.saturating_add(happened(rt, alloc, &setup, case));
     }
     // Where nothing stood there was nothing to agree on.
     holds(rt, points < count);

@@ -25,6 +25,8 @@ mod plain_rows;
 #[cfg(test)]
 mod rows;
 #[cfg(test)]
+mod spelling;
+#[cfg(test)]
 mod starting;
 #[cfg(test)]
 mod steps;

@@ -1,5 +1,6 @@
 //! A voter, and its views, as the plain program speaks of them.
 
+use crate::spelling::named;
 use simplex_round::{HandoffAbandonedReason, TimeoutReason};
 use simplex_types::{Participant, Proposal, Sha256Digest, View};
 use simplex_voter::CertificateFetch;
@@ -8,7 +9,6 @@ use voter_plain as plain;
 use voter_plain::answers::Answer;
 use voter_plain::calls::Reply;
 use voter_plain::getters::Entry;
-use voter_plain::samples::named;
 use voter_plain::{Plain, Point};
 
 /// On which proposals verdicts are to be asked for, and which notarizations.

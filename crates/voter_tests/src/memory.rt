@@ -1,6 +1,6 @@
 //! What is answered where memory is refused.
 
-use crate::founding::attempt;
+use crate::founding::{Case, attempt};
 use crate::holding::holds;
 use crate::rows::{asks, builds, record, timeouts, verdicts, votes};
 use crate::starting::{FLOOR, FLOORED};
@@ -14,7 +14,7 @@ use voter_plain::Setup;
 /// Where `rt try --test --fail-alloc N` refuses a request, the call is refused and no other answer stands in its place. The voter is
 /// used no more then, and the next list begins anew.
 fn ends(rt: &impl Abort, alloc: Global, setup: &Setup, steps: &[Step]) {
-    let _end = attempt(rt, alloc, setup, Trial::Calls(steps));
+    let _end = attempt(rt, alloc, setup, Case::Voter(Trial::Calls(steps)));
 }
 
 #[test]
@@ -49,7 +49,7 @@ fn a_refused_allocation_is_answered_by_verdicts(rt: HostRuntime) {
 
 #[test]
 fn a_refused_allocation_is_answered_by_a_start(rt: HostRuntime) {
-    let trial = Trial::Start(FLOOR, &[]);
-    let end = attempt(&rt, rt.alloc(), &rotating(), trial);
+    let case = Case::Voter(Trial::Start(FLOOR, &[]));
+    let end = attempt(&rt, rt.alloc(), &rotating(), case);
     holds(&rt, end.unwrap_or(FLOORED) == FLOORED);
 }

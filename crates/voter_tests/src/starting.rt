@@ -1,6 +1,6 @@
 //! What a voter starts on: worked cases.
 
-use crate::founding::attempt;
+use crate::founding::{Case, attempt};
 use crate::holding::holds;
 use crate::member::{Begun, Member, Start};
 use crate::steps::rotating;
@@ -42,8 +42,8 @@ pub fn begin<M: Member>(
 
 /// A new voter that starts so, behind which nothing of this happens, ends so.
 fn begins(rt: &impl Abort, alloc: Global, start: Start, points: &[Point], end: End) {
-    let trial = Trial::Start(start, points);
-    holds(rt, attempt(rt, alloc, &rotating(), trial) == Some(end));
+    let case = Case::Voter(Trial::Start(start, points));
+    holds(rt, attempt(rt, alloc, &rotating(), case) == Some(end));
 }
 
 #[test]

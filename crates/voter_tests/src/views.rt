@@ -3,12 +3,11 @@
 mod beside;
 mod entering;
 mod histories;
-mod kept;
+pub mod kept;
 mod leaders;
 mod memory;
-mod plain_scheme;
 mod pruning;
 mod recalling;
 mod rounds;
-mod trials;
+pub mod trials;
 mod votes;

@@ -1,36 +1,39 @@
 //! A voter over any scheme and elector: its calls by the plain program's names, each written once. At one scheme they would cost the
 //! prover several times as much.
 
+ghost use Rattle.std.specs.Prelude.{◌≡◌};
+
 use crate::member::{
     Begun, Certificates, Course, Known, Member, Standing, Start, Verdicts, name, number,
 };
+use crate::spelling::{
+    byte_of, finalization, named, notarization, nullification, payload, proposal, recalled,
+};
 use crate::telling::{Calls, addition, done, sent, tell, whether};
-use crate::trials::{End, Trial, undergo};
 use simplex_messages::{Certificate, Finalization, Nullify};
 use simplex_resolver::Kind;
 use simplex_round::{HandoffAbandonedReason, TimeoutReason, Token};
 use simplex_rules::Elector;
-use simplex_types::{Context, Duplicate, Epoch, Participant, Proposal, Round, Sha256Digest, View};
-use simplex_voter::{Floor, State, Verify};
+use simplex_types::{
+    Context, Duplicate, Epoch, Participant, Proposal, Round, Sha256Digest, View, ViewDelta,
+};
+use simplex_voter::{Config, Floor, State, Verify};
 use std::alloc::Global;
-use std::process::Abort;
+use std::rc::Rc;
 use voter_plain as plain;
 use voter_plain::answers::Answer;
 use voter_plain::calls::Reply;
 use voter_plain::getters::Entry;
-use voter_plain::samples::{
-    byte_of, finalization, named, notarization, nullification, payload, proposal, recalled,
-};
 use voter_plain::{Numbering, Point, Setup};
 
 /// A voter, and what its answers are named by.
 #[derive(Drop)]
 pub struct Voter<S: Numbering, L: Elector<S, Sha256Digest>> {
-    pub state: State<S, L, Sha256Digest>,
-    pub epoch: u64,
-    pub me: Option<u32>,
+    state: State<S, L, Sha256Digest>,
+    epoch: u64,
+    me: Option<u32>,
     /// What builds are led by: this member's key, or another one where it has none.
-    pub key: S::PublicKey,
+    key: S::PublicKey,
 }
 
 /// Whether the proposal is of this epoch.
@@ -51,6 +54,34 @@ fn begun<S: Numbering>(
 }
 
 impl<S: Numbering, L: Elector<S, Sha256Digest>> Voter<S, L> {
+    /// A voter of this setup, to which nothing has happened. None where memory is refused.
+    pub fn new(
+        alloc: Global,
+        setup: &Setup,
+        scheme: Rc<S>,
+        elector: L,
+        key: S::PublicKey,
+    ) -> Option<Self>
+        requires { L.built_for elector (S.size scheme.value) }
+    {
+        let config = Config {
+            scheme,
+            elector,
+            epoch: Epoch::new(setup.epoch),
+            view_retention: ViewDelta::new(setup.retention),
+            leader_timeout: setup.leader_timeout,
+            certification_timeout: setup.certification_timeout,
+            timeout_retry: setup.timeout_retry,
+            skip_budget: setup.skip_budget,
+        };
+        Some(Voter {
+            state: State::new(alloc, config).ok()?,
+            epoch: setup.epoch,
+            me: setup.me,
+            key,
+        })
+    }
+
     /// A build of the view on this parent with its payload, in the name of this member.
     fn building(&self, view: u64, parent: (u64, u8)) -> Context<Sha256Digest, S::PublicKey> {
         Context {
@@ -346,17 +377,6 @@ impl<S: Numbering, L: Elector<S, Sha256Digest>> Member for Voter<S, L> {
     fn is_certified(&self, view: u64, byte: u8) -> bool {
         self.state.parent_certified(View::new(view), payload(byte))
     }
-}
-
-/// The voter undergoes the trial: how it ends. None where memory is refused. At a scheme and an elector this call alone is made.
-pub fn undergoes<S: Numbering, L: Elector<S, Sha256Digest>>(
-    rt: &impl Abort,
-    alloc: Global,
-    setup: &Setup,
-    voter: Voter<S, L>,
-    trial: Trial<'_>,
-) -> Option<End> {
-    undergo(rt, alloc, setup, voter, trial)
 }
 
 /// The plain program's name for a certificate that is there.

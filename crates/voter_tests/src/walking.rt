@@ -1,7 +1,7 @@
 //! Lists of calls, made one after the other.
 
 use crate::beside::Beside;
-use crate::founding::attempt;
+use crate::founding::{Case, attempt};
 use crate::holding::holds;
 use crate::member::Member;
 use crate::trials::{End, Trial};
@@ -36,7 +36,8 @@ pub fn follow<M: Member>(
 
 /// Makes these calls of a new voter of this setup, where no memory is refused.
 pub fn walked(rt: &impl Abort, alloc: Global, setup: &Setup, steps: &[Step]) {
-    holds(rt, attempt(rt, alloc, setup, Trial::Calls(steps)).is_some());
+    let case = Case::Voter(Trial::Calls(steps));
+    holds(rt, attempt(rt, alloc, setup, case).is_some());
 }
 
 /// Behind these calls this view is the current one, and this certificate the best to enter it by.
@@ -48,6 +49,6 @@ pub fn enters(
     view: u64,
     entry: Option<Entry>,
 ) {
-    let end = attempt(rt, alloc, setup, Trial::Calls(steps));
+    let end = attempt(rt, alloc, setup, Case::Voter(Trial::Calls(steps)));
     holds(rt, end == Some(End::At(view, entry)));
 }

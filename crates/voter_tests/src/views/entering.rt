@@ -2,7 +2,7 @@
 
 use crate::facts::Fact;
 use crate::views::beside::Step;
-use crate::views::plain_scheme::walks;
+use crate::views::trials::walks;
 use simplex_round::TimeoutReason;
 use std::alloc::Global;
 use std::process::Abort;

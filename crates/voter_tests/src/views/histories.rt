@@ -1,10 +1,10 @@
 //! Histories by chance, in which each answer of a voter's views, and all that they tell, is the plain program's.
 
 use crate::beside::Beside;
-use crate::histories::{Building, next, proposal, setup, view};
+use crate::founding::Case;
+use crate::histories::{Building, happened, next, proposal, setup, view};
 use crate::holding::holds;
 use crate::member::Viewed;
-use crate::views::plain_scheme::attempt;
 use crate::views::trials::Trial;
 use simplex_fakes::Chance;
 use std::alloc::Global;
@@ -102,9 +102,8 @@ fn histories(rt: &impl Abort, alloc: Global, seeds: Range<u64>, length: u64, poi
     for seed in seeds {
         let mut chance = Chance::seeded(seed);
         let setup = setup(&mut chance, length);
-        let trial = Trial::History(chance);
-        let happened = attempt(rt, alloc, &setup, trial).expect(rt, "there is memory");
-        count = count.saturating_add(happened);
+        let case = Case::Views(Trial::History(chance));
+        count = count.saturating_add(happened(rt, alloc, &setup, case));
     }
     // Where nothing stood there was nothing to agree on.
     holds(rt, points < count);

@@ -1,31 +1,52 @@
-//! A voter's views, whatever the scheme and the elector: what is written here is made at one of each in `plain_scheme` alone, since each
-//! place at which a generic call is made at a type costs the prover as much again.
+//! A voter's views, whatever the scheme and the elector: at one of each they would cost the prover several times as much.
 
-use crate::beside::Beside;
+ghost use Rattle.std.specs.Prelude.{◌≡◌};
+
 use crate::holding::all;
 use crate::member::{Certificates, Course, Known, Standing, Viewed, name, number};
-use crate::telling::{Calls, addition, done, sent, tell, whether};
-use crate::views::rounds::{byte, certified, is_round_of, scheduled, times};
-use crate::views::trials::{Trial, undergo};
-use simplex_round::{TimeoutReason, Token};
-use simplex_rules::Elector;
-use simplex_types::{Participant, Sha256Digest, View};
-use simplex_views::Views;
-use std::alloc::Global;
-use std::process::Abort;
-use voter_plain as plain;
-use voter_plain::answers::{Answer, about, yes_or_no};
-use voter_plain::samples::{
+use crate::spelling::{
     finalization, named, notarization, nullification, payload, proposal, recalled,
 };
+use crate::telling::{Calls, addition, done, sent, tell, whether};
+use crate::views::rounds::{byte, certified, is_round_of, scheduled, times};
+use simplex_round::{TimeoutReason, Token};
+use simplex_rules::Elector;
+use simplex_types::{Epoch, Participant, Sha256Digest, View, ViewDelta};
+use simplex_views::Views;
+use std::alloc::Global;
+use std::rc::Rc;
+use voter_plain as plain;
+use voter_plain::answers::{Answer, about, yes_or_no};
 use voter_plain::{Numbering, Plain, Point, Setup};
 
 /// What one member keeps of all views.
 #[derive(Drop)]
 pub struct Kept<S: Numbering, L: Elector<S, Sha256Digest>> {
-    pub views: Views<S, L, Sha256Digest>,
-    pub epoch: u64,
-    pub retry: u32,
+    views: Views<S, L, Sha256Digest>,
+    epoch: u64,
+    retry: u32,
+}
+
+impl<S: Numbering, L: Elector<S, Sha256Digest>> Kept<S, L> {
+    /// Views of this setup, to which nothing has happened. None where memory is refused.
+    pub fn new(alloc: Global, setup: &Setup, scheme: Rc<S>, elector: L) -> Option<Self>
+        requires { L.built_for elector (S.size scheme.value) }
+    {
+        let views = Views::new(
+            alloc,
+            scheme,
+            elector,
+            Epoch::new(setup.epoch),
+            ViewDelta::new(setup.retention),
+            setup.leader_timeout,
+            setup.certification_timeout,
+        );
+        Some(Kept {
+            views: views.ok()?,
+            epoch: setup.epoch,
+            retry: (setup.timeout_retry & 0xffff_ffff) as u32,
+        })
+    }
 }
 
 /// What is asked for.
@@ -253,16 +274,4 @@ impl<S: Numbering, L: Elector<S, Sha256Digest>> Kept<S, L> {
             is_round_of(self.views.round(at), plain, view),
         ])
     }
-}
-
-/// The views undergo the trial: how many points have happened. None where memory is refused. At a scheme and an elector this call alone is
-/// made.
-pub fn undergoes<S: Numbering, L: Elector<S, Sha256Digest>>(
-    rt: &impl Abort,
-    alloc: Global,
-    setup: &Setup,
-    kept: Kept<S, L>,
-    trial: Trial<'_>,
-) -> Option<usize> {
-    undergo(rt, alloc, Beside::new(alloc, setup, kept), trial)
 }

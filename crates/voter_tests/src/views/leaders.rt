@@ -1,7 +1,7 @@
 //! Who leads, by each of the rules.
 
 use crate::facts::Fact;
-use crate::views::plain_scheme::walks;
+use crate::views::trials::walks;
 use voter_plain::answers::Answer;
 use voter_plain::samples::{
     A, B, finalized, forwarded, member, notarized, nullified, plain, started,

@@ -1,7 +1,7 @@
 //! What is answered where memory is refused.
 
+use crate::founding::{Case, attempt};
 use crate::views::beside::Step;
-use crate::views::plain_scheme::attempt;
 use crate::views::trials::Trial;
 use simplex_round::TimeoutReason;
 use std::alloc::Global;
@@ -16,7 +16,8 @@ use voter_plain::samples::{
 /// Where `rt try --test --fail-alloc N` refuses a request, the call is refused and no other answer stands in its place. The voter is
 /// used no more then, and the next list begins anew.
 fn ends(rt: &impl Abort, alloc: Global, steps: &[Step]) {
-    let _count = attempt(rt, alloc, &member(5, 2), Trial::Steps(steps, &[]));
+    let case = Case::Views(Trial::Steps(steps, &[]));
+    let _end = attempt(rt, alloc, &member(5, 2), case);
 }
 
 #[test]

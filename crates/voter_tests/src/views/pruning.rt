@@ -1,7 +1,7 @@
 //! What is dropped, and what outlives it.
 
 use crate::facts::Fact;
-use crate::views::plain_scheme::walks;
+use crate::views::trials::walks;
 use voter_plain::answers::Answer;
 use voter_plain::samples::{A, finalized, forwarded, member, notarized, nullified, started};
 use voter_plain::{Point, Setup};

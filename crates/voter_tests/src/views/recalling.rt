@@ -1,7 +1,7 @@
 //! What a voter takes in from its member's record, in the order of the record.
 
 use crate::facts::Fact;
-use crate::views::plain_scheme::walks;
+use crate::views::trials::walks;
 use voter_plain::answers::Answer;
 use voter_plain::getters::Entry;
 use voter_plain::samples::{

@@ -2,11 +2,11 @@
 
 use crate::holding::all;
 use crate::member::name;
+use crate::spelling::{byte_of, named};
 use simplex_messages::{ProposalCertificate, ProposalKind};
 use simplex_round::Round;
 use simplex_types::{Scheme, Sha256Digest, View};
 use voter_plain as plain;
-use voter_plain::samples::{byte_of, named};
 use voter_plain::views::Mark;
 use voter_plain::{History, Plain, Setup};
 

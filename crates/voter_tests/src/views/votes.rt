@@ -1,7 +1,7 @@
 //! What is asked for, voted and handed out.
 
 use crate::facts::Fact;
-use crate::views::plain_scheme::walks;
+use crate::views::trials::walks;
 use voter_plain::Point;
 use voter_plain::answers::Answer;
 use voter_plain::getters::Entry;
