@@ -16,7 +16,7 @@ use Rattle.simplex_types.specs.Positions.{InCoveringRange}
 use Rattle.simplex_types.specs.Subject.{notarize, nullify, finalize, statement_round}
 use Rattle.simplex_messages.specs.ProposalCertificate.{Notarization, Finalization}
 use Rattle.simplex_record.specs.Record as recorded
-use Rattle.simplex_record.specs.Record.{Entry, greatest, finalizes, enters, HasVoted, HasTaken}
+use Rattle.simplex_record.specs.Record.{Entry, greatest, finalizes, enters, HasTaken}
 use Rattle.simplex_round.specs.Held as offer
 use Rattle.simplex_round.specs.Held.{Offer, Agrees, IsTainted, held}
 use Rattle.simplex_round.specs.Past as past

@@ -8,7 +8,6 @@ use Rattle.simplex_types.specs.Positions.{term_start}
 use Rattle.simplex_rules.specs.Windows.{issuance_floor}
 use Rattle.simplex_messages.specs.ProposalCertificate.{Notarization, Finalization}
 use Rattle.simplex_round.specs.Past as past
-use Rattle.simplex_round.specs.Past.{Item}
 use Rattle.simplex_tracking.specs.Pasts.{is_direct}
 use Rattle.simplex_views.specs.History.{Setup, Point, seen}
 use Rattle.simplex_tracking.specs.Handing.{any_from}

@@ -16,7 +16,7 @@ use Rattle.simplex_round.specs.Past as past
 use Rattle.simplex_views.specs.History.{Setup, Point, notarized, nullified, finalized, judged, built, latched, voted_notarize, voted_nullify, voted_finalize, recalled_notarize, recalled_nullify, recalled_finalize, recalled_verdict, sent, polled, pruned, current, last_finalized, seen}
 use Rattle.simplex_views.specs.Leaders.{is_in_window, inherits, leader}
 use Rattle.simplex_views.specs.Known.{Known, known}
-use Rattle.simplex_due.specs.Ancestry.{Member, member, held_at, IsCovered, InWindow, Optimistic, IsPreferred}
+use Rattle.simplex_due.specs.Ancestry.{Member, member, held_at, IsCovered, InWindow}
 use Rattle.simplex_due.specs.Requests.{Scanned, BuildIsDue, IsSuperseded, VerifyIsDue, IsInvalid, AsksNothing, NullificationIsWanted, NotarizationIsWanted, CertifyIsDue, CertificateIsWanted}
 use Rattle.simplex_due.specs.Due.{NotarizeIsDue, NullifyIsDue, FinalizeIsDue, MayLatch, timeout}
 

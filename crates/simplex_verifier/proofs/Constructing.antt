@@ -24,7 +24,7 @@ use Rattle.simplex_verifier.specs.declared.pool.Pool.{Pool}
 use Rattle.simplex_verifier.specs.declared.verifier.Verifier.{Verifier}
 use Rattle.simplex_judging.specs.Judging.{IsJudged, IsWhole}
 use Rattle.simplex_verifier.specs.Votes.{vote_proposal, vote_statement, vote_attestation}
-use Rattle.simplex_verifier.specs.History.{History, Setup, selected, context, statement_for, verified, waiting, is_ready, are_one}
+use Rattle.simplex_verifier.specs.History.{History, Setup, selected, context, verified, waiting, is_ready, are_one}
 use Rattle.simplex_verifier.specs.Lawful.{IsLawful}
 use Rattle.simplex_verifier.specs.Pools.{pool_at, PoolIs, settled_waiting, settled_verified}
 use Rattle.simplex_verifier.specs.Keeping.{IsVerifierKept}

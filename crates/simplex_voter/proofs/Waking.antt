@@ -17,7 +17,7 @@ use Rattle.simplex_messages.specs.declared.artifact.Artifact.{Artifact}
 use Rattle.simplex_messages.specs.declared.artifact.Artifact.TheVariants as artifact
 use Rattle.simplex_rules.specs.declared.kind.Kind.TheVariants as kind
 use Rattle.simplex_round.specs.Held as offer
-use Rattle.simplex_round.specs.Held.{Offer, held}
+use Rattle.simplex_round.specs.Held.{held}
 use Rattle.simplex_round.specs.Past as past
 use Rattle.simplex_round.specs.Past.{Item}
 use Rattle.simplex_tracking.specs.Pasts.{put, bind}
