@@ -5,6 +5,7 @@ use crate::founding::{Case, attempt};
 use crate::holding::holds;
 use crate::member::Member;
 use crate::trials::{End, Trial};
+use crate::views::trials as views;
 use simplex_fakes::Chance;
 use simplex_round::TimeoutReason;
 use std::alloc::Global;
@@ -349,8 +350,24 @@ pub fn unfold<M: Member>(
     Some(End::Behind(beside.plain().known.points.len()))
 }
 
+/// Who lives through histories by chance.
+pub enum Whose {
+    /// A voter.
+    Voter,
+    /// A voter's views alone.
+    Views,
+}
+
+/// The history of this chance.
+fn by_chance(whose: &Whose, chance: Chance) -> Case<'static> {
+    match whose {
+        Whose::Voter => Case::Voter(Trial::History(chance)),
+        Whose::Views => Case::Views(views::Trial::History(chance)),
+    }
+}
+
 /// Behind how many points a case by chance ends.
-pub fn happened(rt: &impl Abort, alloc: Global, setup: &Setup, case: Case<'_>) -> usize {
+fn happened(rt: &impl Abort, alloc: Global, setup: &Setup, case: Case<'_>) -> usize {
     match attempt(rt, alloc, setup, case).expect(rt, "there is memory") {
         End::Behind(points) => points,
         _ => 0,
@@ -358,12 +375,19 @@ pub fn happened(rt: &impl Abort, alloc: Global, setup: &Setup, case: Case<'_>) -
 }
 
 /// The histories of these seeds, in terms of this length, in which more points happen than these.
-fn histories(rt: &impl Abort, alloc: Global, seeds: Range<u64>, length: u64, points: usize) {
+pub fn histories(
+    rt: &impl Abort,
+    alloc: Global,
+    whose: &Whose,
+    seeds: Range<u64>,
+    length: u64,
+    points: usize,
+) {
     let mut count = 0usize;
     for seed in seeds {
         let mut chance = Chance::seeded(seed);
         let setup = setup(&mut chance, length);
-        let case = Case::Voter(Trial::History(chance));
+        let case = by_chance(whose, chance);
         count = count.saturating_add(happened(rt, alloc, &setup, case));
     }
     // Where nothing stood there was nothing to agree on.
@@ -372,15 +396,15 @@ fn histories(rt: &impl Abort, alloc: Global, seeds: Range<u64>, length: u64, poi
 
 #[test]
 fn each_answer_is_the_plain_programs_in_terms_of_one_view(rt: HostRuntime) {
-    histories(&rt, rt.alloc(), 0..3_000, 1, 30_000);
+    histories(&rt, rt.alloc(), &Whose::Voter, 0..3_000, 1, 30_000);
 }
 
 #[test]
 fn each_answer_is_the_plain_programs_in_terms_of_two_views(rt: HostRuntime) {
-    histories(&rt, rt.alloc(), 3_000..6_000, 2, 30_000);
+    histories(&rt, rt.alloc(), &Whose::Voter, 3_000..6_000, 2, 30_000);
 }
 
 #[test]
 fn each_answer_is_the_plain_programs_in_terms_of_five_views(rt: HostRuntime) {
-    histories(&rt, rt.alloc(), 6_000..10_000, 5, 40_000);
+    histories(&rt, rt.alloc(), &Whose::Voter, 6_000..10_000, 5, 40_000);
 }

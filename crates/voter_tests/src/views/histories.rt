@@ -1,14 +1,10 @@
 //! Histories by chance, in which each answer of a voter's views, and all that they tell, is the plain program's.
 
 use crate::beside::Beside;
-use crate::founding::Case;
-use crate::histories::{Building, happened, next, proposal, setup, view};
-use crate::holding::holds;
+use crate::histories::{Building, Whose, histories, next, proposal, view};
 use crate::member::Viewed;
-use crate::views::trials::Trial;
 use simplex_fakes::Chance;
 use std::alloc::Global;
-use std::ops::Range;
 use std::process::Abort;
 use voter_plain::calls::Call;
 use voter_plain::samples::A;
@@ -96,30 +92,17 @@ pub fn live<V: Viewed>(
     Some(())
 }
 
-/// The histories of these seeds, in terms of this length, in which more points happen than these.
-fn histories(rt: &impl Abort, alloc: Global, seeds: Range<u64>, length: u64, points: usize) {
-    let mut count = 0usize;
-    for seed in seeds {
-        let mut chance = Chance::seeded(seed);
-        let setup = setup(&mut chance, length);
-        let case = Case::Views(Trial::History(chance));
-        count = count.saturating_add(happened(rt, alloc, &setup, case));
-    }
-    // Where nothing stood there was nothing to agree on.
-    holds(rt, points < count);
-}
-
 #[test]
 fn all_is_as_the_plain_program_tells_in_terms_of_one_view(rt: HostRuntime) {
-    histories(&rt, rt.alloc(), 0..3_000, 1, 22_500);
+    histories(&rt, rt.alloc(), &Whose::Views, 0..3_000, 1, 22_500);
 }
 
 #[test]
 fn all_is_as_the_plain_program_tells_in_terms_of_two_views(rt: HostRuntime) {
-    histories(&rt, rt.alloc(), 3_000..6_000, 2, 22_500);
+    histories(&rt, rt.alloc(), &Whose::Views, 3_000..6_000, 2, 22_500);
 }
 
 #[test]
 fn all_is_as_the_plain_program_tells_in_terms_of_five_views(rt: HostRuntime) {
-    histories(&rt, rt.alloc(), 6_000..10_000, 5, 30_000);
+    histories(&rt, rt.alloc(), &Whose::Views, 6_000..10_000, 5, 30_000);
 }
