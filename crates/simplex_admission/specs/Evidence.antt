@@ -4,8 +4,8 @@ use Rattle.simplex_messages.specs.declared.vote.Vote.{Vote}
 use Rattle.simplex_messages.specs.declared.vote.Vote.TheVariants as vote
 use Rattle.simplex_messages.specs.declared.activity.Activity.{Activity}
 use Rattle.simplex_messages.specs.declared.activity.Activity.TheVariants as activity
-use Rattle.simplex_messages.specs.ProposalVote.{contradict}
-use Rattle.simplex_messages.specs.NullifyFinalize.{stands_beside}
+use Rattle.simplex_certificates.specs.ProposalVote.{contradict}
+use Rattle.simplex_certificates.specs.StandsBeside.{stands_beside}
 
 module _ {S D P G C : Type 0} where
   -- the vote as a report

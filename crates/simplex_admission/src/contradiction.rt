@@ -2,7 +2,7 @@
 
 ghost use Rattle.std.specs.Prelude.{◌≡◌, ◌↔◌, IsTrue, Some, None, is_some, if◌then◌else◌};
 ghost use Rattle.simplex_messages.specs.declared.activity.Activity.TheVariants as activity;
-ghost use Rattle.simplex_messages.specs.NullifyFinalize.{stands_beside};
+ghost use Rattle.simplex_certificates.specs.StandsBeside.{stands_beside};
 ghost use Rattle.simplex_admission.specs.Evidence.{AreForTwo, evidence};
 
 use crate::copies::{again, nullify_again};

@@ -8,17 +8,18 @@ use Rattle.simplex_types.specs.declared.attestation.Attestation.{Attestation}
 use Rattle.simplex_types.specs.declared.position.Round.{Round}
 use Rattle.simplex_types.specs.declared.proposal.Proposal.{Proposal}
 use Rattle.simplex_types.specs.Overlap.{AttestsIn, two_quorums_attest}
-use Rattle.simplex_types.specs.Quorum.{IsQuorum, faults}
+use Rattle.simplex_types.specs.Quorum.{IsQuorum}
+use Rattle.simplex_committee.specs.Committee.{faults}
 use Rattle.simplex_types.specs.Subject.{Statement, notarize, nullify, finalize}
 use Rattle.simplex_messages.specs.declared.activity.Activity.{Activity}
 use Rattle.simplex_messages.specs.declared.activity.Activity.TheVariants as activity
-use Rattle.simplex_messages.specs.declared.nullification.Nullification.{Nullification}
+use Rattle.simplex_certificates.specs.declared.nullification.Nullification.{Nullification}
 use Rattle.simplex_messages.specs.Guilt.{IsGuilty, notarizes_in, nullifies_in, finalizes_in, notarizes_of, nullifies_of, finalizes_of}
-use Rattle.simplex_messages.specs.Nullify.{nullify_of_parts}
-use Rattle.simplex_messages.specs.ProposalCertificate.{Notarization, Finalization}
-use Rattle.simplex_messages.specs.ProposalVote.{vote_of_parts}
-use Rattle.simplex_messages.specs.declared.proposal_certificate.ProposalCertificate.{ProposalCertificate}
-use Rattle.simplex_messages.specs.declared.proposal_vote.ProposalVote.{ProposalVote}
+use Rattle.simplex_certificates.specs.Nullify.{nullify_of_parts}
+use Rattle.simplex_certificates.specs.ProposalCertificate.{Notarization, Finalization}
+use Rattle.simplex_certificates.specs.ProposalVote.{vote_of_parts}
+use Rattle.simplex_certificates.specs.declared.proposal_certificate.ProposalCertificate.{ProposalCertificate}
+use Rattle.simplex_certificates.specs.declared.proposal_vote.ProposalVote.{ProposalVote}
 use Rattle.simplex_audit.specs.Accountability.{HoldNotarization, AreTwoNotarized, AreTwoFinalized, IsNullifiedFinalized, IsContradicted, NamesAtLeast}
 use Rattle.simplex_audit.specs.Audit.{IsAccused, IsVerdict, Offence, TwoNotarizes, TwoFinalizes, NullifyBeside}
 use Rattle.simplex_audit.proofs.Lists.{in-flat_map}

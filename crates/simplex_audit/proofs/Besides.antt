@@ -3,10 +3,10 @@ use Rattle.std.proofs.Common.{◌≡◌, ℕ, List, Some, None, sym, ap, ◌∙�
 use Rattle.std.specs.declared.cmp.Ordering.{Ordering}
 use Rattle.simplex_types.specs.declared.position.Round.{Round}
 use Rattle.simplex_types.specs.Subject.{Statement, finalize}
-use Rattle.simplex_messages.specs.declared.nullify.Nullify.{Nullify}
-use Rattle.simplex_messages.specs.ProposalVote.{Finalize}
+use Rattle.simplex_certificates.specs.declared.nullify.Nullify.{Nullify}
+use Rattle.simplex_certificates.specs.ProposalVote.{Finalize}
 use Rattle.simplex_messages.specs.Guilt.{IsGuiltyBeside}
-use Rattle.simplex_messages.specs.NullifyFinalize.{StandsBeside}
+use Rattle.simplex_certificates.specs.StandsBeside.{StandsBeside}
 use Rattle.simplex_audit.specs.declared.cast.Suspect.{Suspect}
 use Rattle.simplex_audit.specs.Tally.{nullify_suspect, suspect_of, IsFirstOf, IsLeastOf, IsBesideOf}
 use Rattle.simplex_audit.proofs.Judging.{suspect_from}

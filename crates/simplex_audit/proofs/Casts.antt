@@ -7,7 +7,7 @@ use Rattle.std.specs.declared.cmp.Ordering.TheVariants.{Less, Equal, Greater}
 use Rattle.simplex_audit.specs.declared.cast.Choice.{Choice}
 use Rattle.simplex_audit.specs.declared.cast.Cast.{Cast}
 use Rattle.std.specs.Prelude.{Contains, None}
-use Rattle.simplex_types.specs.Counting.{Contains-nil}
+use Rattle.simplex_committee.specs.Counting.{Contains-nil}
 use Rattle.simplex_audit.specs.declared.cast.Kept.{Kept}
 use Rattle.simplex_audit.specs.declared.cast.Kept.TheVariants.{Nothing, Claim, One, Two}
 use Rattle.simplex_audit.specs.Cast.{IsLower, IsFirst, AreNone, IsFor, HasOne, HasTwo, StandsForAll, Summarizes, IsSettled, IsPlacedAt}

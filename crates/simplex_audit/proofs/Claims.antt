@@ -2,7 +2,7 @@
 use Rattle.std.proofs.Common.{◌≡◌, ℕ, List, [], ◌∷◌, ◌++◌, subst}
 use Rattle.std.specs.Prelude.{Contains}
 use Rattle.simplex_types.specs.Subject.{Statement}
-use Rattle.simplex_types.specs.Counting.{Contains-nil}
+use Rattle.simplex_committee.specs.Counting.{Contains-nil}
 use Rattle.simplex_audit.specs.declared.cast.Suspect.{Suspect}
 use Rattle.simplex_audit.specs.declared.nullifies.Given.TheVariants as given
 use Rattle.simplex_audit.specs.Cast.{AreNone}

@@ -5,7 +5,7 @@ use Rattle.std.specs.Ordering.{is_eq}
 use Rattle.std.specs.BTreeSet.{BTreeSet, contains, IsSubset, Updates}
 use Rattle.std.proofs.lemmas.Bool.{cases_Bool}
 use Rattle.std.proofs.lemmas.List.{map-append, take_more}
-use Rattle.simplex_types.specs.Counting.{Contains-nil}
+use Rattle.simplex_committee.specs.Counting.{Contains-nil}
 use Rattle.simplex_audit.specs.declared.cast.Suspect.{Suspect}
 use Rattle.simplex_audit.specs.Kept.{suspect_cmp}
 use Rattle.simplex_audit.proofs.Lists.{each_push}

@@ -7,11 +7,11 @@ use Rattle.std.specs.declared.cmp.Ordering.{Ordering}
 use Rattle.simplex_types.specs.declared.position.Round.{Round}
 use Rattle.simplex_types.specs.declared.proposal.Proposal.{Proposal}
 use Rattle.simplex_types.specs.Subject.{Statement}
-use Rattle.simplex_types.specs.Counting.{Contains-nil}
-use Rattle.simplex_messages.specs.declared.nullify.Nullify.{Nullify}
-use Rattle.simplex_messages.specs.declared.proposal_vote.ProposalVote.{ProposalVote}
-use Rattle.simplex_messages.specs.ProposalVote.{IsAttested}
-use Rattle.simplex_messages.specs.Nullify.{NullifyIsAttested}
+use Rattle.simplex_committee.specs.Counting.{Contains-nil}
+use Rattle.simplex_certificates.specs.declared.nullify.Nullify.{Nullify}
+use Rattle.simplex_certificates.specs.declared.proposal_vote.ProposalVote.{ProposalVote}
+use Rattle.simplex_certificates.specs.ProposalVote.{IsAttested}
+use Rattle.simplex_certificates.specs.Nullify.{NullifyIsAttested}
 use Rattle.simplex_messages.specs.Guilt.{IsGuilty, IsFirstRead, IsLeastEvidence, IsFirstNullify}
 use Rattle.simplex_audit.specs.declared.cast.Choice.{Choice}
 use Rattle.simplex_audit.specs.declared.cast.Cast.{Cast}

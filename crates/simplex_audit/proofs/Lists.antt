@@ -4,7 +4,7 @@ use Rattle.std.specs.Prelude.{Contains, AllPairs, OnOk, Result, Ok, Err}
 use Rattle.std.specs.List.{flat_map}
 use Rattle.std.proofs.lemmas.List.Elements.{Contains-append_left, Contains-append_right, Contains-append_cases, Contains-get_or}
 use Rattle.std.proofs.lemmas.List.Kept.{AllPairs-cons}
-use Rattle.simplex_types.specs.Counting.{Contains-nil, Contains-head, Contains-rest, Contains-cases}
+use Rattle.simplex_committee.specs.Counting.{Contains-nil, Contains-head, Contains-rest, Contains-cases}
 
 -- the one element of a list of one
 pub only_element : {X : Type 0} (x y : X) → Contains (x ∷ []) y → x ≡ y

@@ -1,12 +1,12 @@
 -- A loose notarize that is read as such.
 use Rattle.std.proofs.Common.{◌≡◌, ◌≢◌, ℕ, List, [], ◌∷◌, ◌++◌, Bool, refl, ap}
 use Rattle.std.specs.Prelude.{⊤, Result, Err, IsErr}
-use Rattle.simplex_types.specs.declared.codec.CodecError.{CodecError}
-use Rattle.simplex_types.specs.declared.codec.CodecError.TheVariants.{End, Invalid, TooLong, Memory}
-use Rattle.simplex_types.specs.Codec.{Gives, Readable}
+use Rattle.simplex_codec.specs.declared.codec.CodecError.{CodecError}
+use Rattle.simplex_codec.specs.declared.codec.CodecError.TheVariants.{End, Invalid, TooLong, Memory}
+use Rattle.simplex_codec.specs.Codec.{Gives, Readable}
 use Rattle.simplex_messages.specs.declared.activity.Activity.{Activity}
 use Rattle.simplex_messages.specs.Activity.{activity_at, activity_behind, activity_body, activity_fits, activity_spelling, activity_tag, activity_within, notarize_report}
-use Rattle.simplex_messages.specs.ProposalVote.{Notarize, vote_at, vote_fits, vote_spelling}
+use Rattle.simplex_certificates.specs.ProposalVote.{Notarize, vote_at, vote_fits, vote_spelling}
 use Rattle.simplex_audit.specs.Counted.{CountsOne}
 
 module _ {S D P G C T : Type 0} (Holds : List (Activity S D P G C) → T → Type 0) where

@@ -7,12 +7,12 @@ use Rattle.std.proofs.lemmas.List.Elements.{Contains-append_right}
 use Rattle.simplex_types.specs.declared.attestation.Attestation.{Attestation}
 use Rattle.simplex_types.specs.declared.proposal.Proposal.{Proposal}
 use Rattle.simplex_types.specs.Subject.{Statement, notarize, finalize}
-use Rattle.simplex_types.specs.Counting.{Contains-head}
+use Rattle.simplex_committee.specs.Counting.{Contains-head}
 use Rattle.simplex_messages.specs.declared.activity.Activity.{Activity}
 use Rattle.simplex_messages.specs.declared.activity.Activity.TheVariants as activity
-use Rattle.simplex_messages.specs.declared.nullify.Nullify.{Nullify}
-use Rattle.simplex_messages.specs.declared.proposal_vote.ProposalVote.{ProposalVote}
-use Rattle.simplex_messages.specs.ProposalVote.{Finalize}
+use Rattle.simplex_certificates.specs.declared.nullify.Nullify.{Nullify}
+use Rattle.simplex_certificates.specs.declared.proposal_vote.ProposalVote.{ProposalVote}
+use Rattle.simplex_certificates.specs.ProposalVote.{Finalize}
 use Rattle.simplex_messages.specs.Guilt.{notarizes_in, nullifies_in, finalizes_in, notarizes_of, nullifies_of, finalizes_of, IsGuilty, IsLeastEvidence, IsGuiltyBeside, IsLeastBeside}
 use Rattle.simplex_audit.specs.Audit.{Accusation, IsAccused, IsLeast, IsVerdict, accused}
 use Rattle.simplex_audit.proofs.Lists.{Contains-flat_map, in-flat_map}

@@ -6,7 +6,7 @@ use Rattle.std.proofs.lemmas.Bool.{cases_Bool}
 use Rattle.std.proofs.lemmas.Cmp.{tied_itself}
 use Rattle.simplex_types.specs.declared.position.Round.{Round}
 use Rattle.simplex_types.specs.declared.proposal.Proposal.{Proposal}
-use Rattle.simplex_types.specs.Counting.{Contains-nil, Contains-head, Contains-rest, Contains-cases}
+use Rattle.simplex_committee.specs.Counting.{Contains-nil, Contains-head, Contains-rest, Contains-cases}
 use Rattle.simplex_audit.specs.declared.cast.Choice.{Choice}
 use Rattle.simplex_audit.specs.declared.cast.Suspect.{Suspect}
 use Rattle.simplex_audit.specs.Kept.{suspect_cmp, casts_of}

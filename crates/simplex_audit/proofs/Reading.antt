@@ -5,9 +5,9 @@ use Rattle.std.specs.List.{flat_map}
 use Rattle.std.proofs.lemmas.List.{append-nil}
 use Rattle.std.proofs.lemmas.List.Concat.{flat_map-append}
 use Rattle.std.proofs.lemmas.List.Elements.{All-nil, All-cons, All-append, All-head, All-tail}
-use Rattle.simplex_types.specs.declared.codec.CodecError.{CodecError}
-use Rattle.simplex_types.specs.declared.codec.CodecError.TheVariants.{End, Invalid, TooLong, Memory}
-use Rattle.simplex_types.specs.Codec.{IsCodec, Gives}
+use Rattle.simplex_codec.specs.declared.codec.CodecError.{CodecError}
+use Rattle.simplex_codec.specs.declared.codec.CodecError.TheVariants.{End, Invalid, TooLong, Memory}
+use Rattle.simplex_codec.specs.Codec.{IsCodec, Gives}
 use Rattle.simplex_messages.specs.declared.activity.Activity.{Activity}
 use Rattle.simplex_messages.specs.Activity.{activity_spelling}
 use Rattle.simplex_audit.specs.Audit.{IsRead}

@@ -12,14 +12,14 @@ use Rattle.simplex_types.specs.declared.attestation.Attestation.{Attestation}
 use Rattle.simplex_types.specs.declared.position.Round.{Round}
 use Rattle.simplex_types.specs.declared.proposal.Proposal.{Proposal}
 use Rattle.simplex_types.specs.Subject.{Statement, notarize, finalize}
-use Rattle.simplex_types.specs.Counting.{Contains-nil, Contains-head, Contains-cases}
+use Rattle.simplex_committee.specs.Counting.{Contains-nil, Contains-head, Contains-cases}
 use Rattle.simplex_messages.specs.declared.activity.Activity.{Activity}
-use Rattle.simplex_messages.specs.declared.nullify.Nullify.{Nullify}
-use Rattle.simplex_messages.specs.declared.proposal_vote.ProposalVote.{ProposalVote}
-use Rattle.simplex_messages.specs.declared.nullification.Nullification.{Nullification}
-use Rattle.simplex_messages.specs.declared.proposal_certificate.ProposalCertificate.{ProposalCertificate}
-use Rattle.simplex_messages.specs.Nullify.{nullify_of_parts}
-use Rattle.simplex_messages.specs.ProposalVote.{Notarize, Finalize, vote_of_parts}
+use Rattle.simplex_certificates.specs.declared.nullify.Nullify.{Nullify}
+use Rattle.simplex_certificates.specs.declared.proposal_vote.ProposalVote.{ProposalVote}
+use Rattle.simplex_certificates.specs.declared.nullification.Nullification.{Nullification}
+use Rattle.simplex_certificates.specs.declared.proposal_certificate.ProposalCertificate.{ProposalCertificate}
+use Rattle.simplex_certificates.specs.Nullify.{nullify_of_parts}
+use Rattle.simplex_certificates.specs.ProposalVote.{Notarize, Finalize, vote_of_parts}
 use Rattle.simplex_messages.specs.Guilt.{votes_listed, nullifies_listed, notarizes_in, nullifies_in, finalizes_in, notarizes_of, nullifies_of, finalizes_of, IsGuilty}
 use Rattle.simplex_audit.specs.declared.cast.Choice.{Choice}
 use Rattle.simplex_audit.specs.declared.cast.Suspect.{Suspect}

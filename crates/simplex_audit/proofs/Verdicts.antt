@@ -13,10 +13,10 @@ use Rattle.std.proofs.lemmas.Map.Views.{All-after_first, btree_set_contains_iff}
 use Rattle.simplex_types.specs.declared.attestation.Attestation.{Attestation}
 use Rattle.simplex_types.specs.declared.position.Round.{Round}
 use Rattle.simplex_types.specs.Subject.{Statement, notarize, finalize}
-use Rattle.simplex_types.specs.Counting.{Contains-nil, Contains-head, Contains-rest}
+use Rattle.simplex_committee.specs.Counting.{Contains-nil, Contains-head, Contains-rest}
 use Rattle.simplex_messages.specs.declared.activity.Activity.{Activity}
-use Rattle.simplex_messages.specs.declared.nullify.Nullify.{Nullify}
-use Rattle.simplex_messages.specs.ProposalVote.{Finalize}
+use Rattle.simplex_certificates.specs.declared.nullify.Nullify.{Nullify}
+use Rattle.simplex_certificates.specs.ProposalVote.{Finalize}
 use Rattle.simplex_messages.specs.Activity.{conflicting_notarize_report, conflicting_finalize_report, nullify_finalize_report}
 use Rattle.simplex_messages.specs.Guilt.{notarizes_of, nullifies_of, finalizes_of, IsGuilty, IsGuiltyBeside}
 use Rattle.simplex_audit.specs.declared.cast.Kept.{Kept}

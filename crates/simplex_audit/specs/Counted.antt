@@ -1,8 +1,8 @@
 -- What an audit has counted of the bytes that it reads.
 use Rattle.std.specs.Prelude.{◌≡◌, ◌≢◌, ℕ, Bool, true, false, List, [], ◌∷◌, ◌++◌, All, Result, Ok, Err, Option}
 use Rattle.std.specs.List.{flat_map}
-use Rattle.simplex_types.specs.declared.codec.CodecError.{CodecError}
-use Rattle.simplex_types.specs.declared.codec.CodecError.TheVariants.{Memory}
+use Rattle.simplex_codec.specs.declared.codec.CodecError.{CodecError}
+use Rattle.simplex_codec.specs.declared.codec.CodecError.TheVariants.{Memory}
 use Rattle.simplex_messages.specs.declared.activity.Activity.{Activity}
 use Rattle.simplex_audit.specs.Audit.{IsRead}
 

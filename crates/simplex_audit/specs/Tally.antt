@@ -6,10 +6,10 @@ use Rattle.simplex_types.specs.declared.attestation.Attestation.{Attestation}
 use Rattle.simplex_types.specs.declared.proposal.Proposal.{Proposal}
 use Rattle.simplex_types.specs.Subject.{Statement, notarize, nullify, finalize}
 use Rattle.simplex_messages.specs.declared.activity.Activity.{Activity}
-use Rattle.simplex_messages.specs.declared.nullify.Nullify.{Nullify}
-use Rattle.simplex_messages.specs.declared.proposal_vote.ProposalVote.{ProposalVote}
-use Rattle.simplex_messages.specs.ProposalVote.{Finalize, IsAttested}
-use Rattle.simplex_messages.specs.Nullify.{NullifyIsAttested}
+use Rattle.simplex_certificates.specs.declared.nullify.Nullify.{Nullify}
+use Rattle.simplex_certificates.specs.declared.proposal_vote.ProposalVote.{ProposalVote}
+use Rattle.simplex_certificates.specs.ProposalVote.{Finalize, IsAttested}
+use Rattle.simplex_certificates.specs.Nullify.{NullifyIsAttested}
 use Rattle.simplex_messages.specs.Activity.{conflicting_notarize_report, conflicting_finalize_report, nullify_finalize_report}
 use Rattle.simplex_messages.specs.Guilt.{notarizes_of, nullifies_of, finalizes_of, IsBelow, IsCastBy, IsFirstRead, IsFirstNullify, IsGuiltyBeside, IsLeastBeside}
 use Rattle.simplex_audit.specs.declared.cast.Cast.{Cast}

@@ -1,8 +1,8 @@
 //! The audit of reports: whose votes contradict each other.
 
 ghost use Rattle.std.specs.Prelude.{◌≡◌, ℕ, Option, ◌+◌, ◌++◌, ◌∷◌, [], List, IfOk, IfSome, IsErr, MatchBool};
-ghost use Rattle.simplex_types.specs.Codec.{Gives, Readable};
-ghost use Rattle.simplex_types.specs.Quorum.{faults};
+ghost use Rattle.simplex_codec.specs.Codec.{Gives, Readable};
+ghost use Rattle.simplex_committee.specs.Committee.{faults};
 ghost use Rattle.simplex_types.specs.declared.position.Round.{Round};
 ghost use Rattle.simplex_messages.specs.declared.activity.Activity.{Activity};
 ghost use Rattle.simplex_audit.specs.Accountability.{IsContradicted, NamesAtLeast};

@@ -2,7 +2,7 @@
 
 ghost use Rattle.std.specs.Prelude.{◌≡◌, ◌<◌, ◌↔◌, ◌++◌, ◌∷◌, [], List, OnOk, IsTrue, IfSome, MatchBool, Some, false, length, slice_get};
 ghost use Rattle.std.specs.BTreeSet.{BTreeSet};
-ghost use Rattle.simplex_messages.specs.declared.proposal_vote.ProposalVote.{ProposalVote};
+ghost use Rattle.simplex_certificates.specs.declared.proposal_vote.ProposalVote.{ProposalVote};
 ghost use Rattle.simplex_messages.specs.Guilt.{votes_listed};
 ghost use Rattle.simplex_audit.specs.declared.cast.Cast.{Cast};
 ghost use Rattle.simplex_audit.specs.declared.cast.Kept.{Kept};

@@ -1,7 +1,7 @@
 //! What is kept of each signer's votes to give a round up.
 
 ghost use Rattle.std.specs.Prelude.{◌≡◌, ◌<◌, ◌↔◌, ◌++◌, ◌∷◌, [], List, OnOk, IsTrue, IfSome, length};
-ghost use Rattle.simplex_messages.specs.declared.nullify.Nullify.{Nullify};
+ghost use Rattle.simplex_certificates.specs.declared.nullify.Nullify.{Nullify};
 ghost use Rattle.simplex_messages.specs.Guilt.{nullifies_listed};
 ghost use Rattle.simplex_audit.specs.declared.cast.Suspect.{Suspect};
 ghost use Rattle.std.specs.BTreeSet.{BTreeSet};

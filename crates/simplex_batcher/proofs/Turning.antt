@@ -1,7 +1,7 @@
 -- The kinds, taken in turn.
 use Rattle.std.proofs.Common.{◌≡◌, ◌<◌, ◌+◌, ℕ, suc, Bool, true, false, List, refl, arith, drop, get_or, drop-cons}
 use Rattle.std.specs.Prelude.{Option, Some, None, MatchOption, find}
-use Rattle.simplex_messages.specs.declared.certificate.Certificate.{Certificate}
+use Rattle.simplex_certificates.specs.declared.certificate.Certificate.{Certificate}
 use Rattle.simplex_judging.specs.declared.kind.Kind.{Kind}
 use Rattle.simplex_judging.specs.Turn.{in_turn}
 use Rattle.simplex_verifier.specs.declared.batch.Batch.{Batch}

@@ -3,10 +3,10 @@ use Rattle.std.specs.Prelude.{◌≡◌, ◌≢◌, ◌↔◌, ℕ, Bool, false,
 use Rattle.simplex_types.specs.Subject.{Statement}
 use Rattle.simplex_types.specs.declared.scheme.Scheme.{Ghosts}
 use Rattle.simplex_messages.specs.declared.vote.Vote.{Vote}
-use Rattle.simplex_messages.specs.declared.certificate.Certificate.{Certificate}
+use Rattle.simplex_certificates.specs.declared.certificate.Certificate.{Certificate}
 use Rattle.simplex_messages.specs.declared.activity.Activity.{Activity}
 use Rattle.simplex_messages.specs.VoteParts.{vote_round}
-use Rattle.simplex_messages.specs.Certificate.{certificate_round}
+use Rattle.simplex_certificates.specs.Certificate.{certificate_round}
 use Rattle.simplex_verifier.specs.declared.fault.BatcherFault.TheVariants.{WrongRound, OtherLeader, Memory}
 use Rattle.simplex_judging.specs.declared.kind.Kind.TheVariants.{Notarization}
 use Rattle.simplex_admission.specs.declared.admission.Admission.{Admission}

@@ -2,9 +2,9 @@
 
 ghost use Rattle.std.specs.Prelude.{◌≡◌, ◌≢◌, ◌↔◌, ◌<◌, ◌∷◌, [], ◌&&◌, ℕ, List, Bool, true, false, Err, Option, Some, None, find, IsTrue, IfOk, IfErr, IfSome, MatchOption, OnOk, OnErr, is_none, is_some, if◌then◌else◌};
 ghost use Rattle.std.specs.Option.{option_copied};
-ghost use Rattle.simplex_types.specs.Quorum.{quorum};
+ghost use Rattle.simplex_committee.specs.Committee.{quorum};
 ghost use Rattle.simplex_messages.specs.VoteParts.{vote_round, vote_signer};
-ghost use Rattle.simplex_messages.specs.Certificate.{certificate_round};
+ghost use Rattle.simplex_certificates.specs.Certificate.{certificate_round};
 ghost use Rattle.simplex_verifier.specs.declared.fault.BatcherFault.TheVariants.{WrongRound, OtherLeader, Contradicts, Memory};
 ghost use Rattle.simplex_judging.specs.declared.kind.Kind.TheVariants.{Notarization};
 ghost use Rattle.simplex_verifier.specs.Votes.{vote_kind, certificate_kind};

@@ -2,7 +2,7 @@
 
 ghost use Rattle.std.specs.Prelude.{◌≡◌};
 ghost use Rattle.simplex_messages.specs.VoteParts.{vote_round, vote_signer};
-ghost use Rattle.simplex_messages.specs.Certificate.{certificate_round};
+ghost use Rattle.simplex_certificates.specs.Certificate.{certificate_round};
 ghost use Rattle.simplex_verifier.specs.Votes.{is_notarize_of};
 ghost use Rattle.simplex_batcher.specs.Queries.{is_nullify, is_backing};
 

@@ -5,8 +5,8 @@ use Rattle.std.specs.Cmp.Lexicographic.{slice_cmp, pointwise}
 use Rattle.std.specs.Prelude.{◌==◌}
 use Rattle.std.specs.Io.KnownBytes.{Appends}
 use Rattle.simplex_types.specs.declared.attestation.Attestation.{Attestation}
-use Rattle.simplex_types.specs.Codec.{Readable, bytes_at}
-use Rattle.simplex_types.specs.declared.codec.CodecError.{CodecError}
+use Rattle.simplex_codec.specs.Codec.{Readable, bytes_at}
+use Rattle.simplex_codec.specs.declared.codec.CodecError.{CodecError}
 use Rattle.simplex_types.specs.Plain.{Committee, Attests}
 use Rattle.simplex_messages.specs.declared.activity.Activity.{Activity}
 use Rattle.simplex_types.specs.AttestationList.{list_fits, list_within, list_spelling, list_at}

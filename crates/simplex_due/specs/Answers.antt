@@ -2,9 +2,9 @@
 use Rattle.std.specs.Prelude.{◌↔◌, ◌+◌, ◌-◌, ◌<◌, ◌==◌, ℕ, zero, suc, List, AllPairs, Contains, Option, None, option_map, if◌then◌else◌}
 use Rattle.std.specs.Option.{option_or}
 use Rattle.simplex_types.specs.Positions.{term_start}
-use Rattle.simplex_messages.specs.declared.certificate.Certificate.{Certificate}
-use Rattle.simplex_messages.specs.declared.certificate.Certificate.TheVariants as certificate
-use Rattle.simplex_messages.specs.declared.nullification.Nullification.{Nullification}
+use Rattle.simplex_certificates.specs.declared.certificate.Certificate.{Certificate}
+use Rattle.simplex_certificates.specs.declared.certificate.Certificate.TheVariants as certificate
+use Rattle.simplex_certificates.specs.declared.nullification.Nullification.{Nullification}
 use Rattle.simplex_round.specs.Past as past
 use Rattle.simplex_views.specs.History.{Setup, Point, current, min_active, nullification, seen}
 use Rattle.simplex_due.specs.Due.{IsTracked}

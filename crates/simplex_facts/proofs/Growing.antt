@@ -3,7 +3,7 @@ use Rattle.std.proofs.Common.{◌≡◌, ◌⊎◌, inl, inr, true, false, ℕ, 
 use mathlib.Core.Bool.{true≢false}
 use Rattle.std.proofs.lemmas.Bool.Decides.{nat_tests, Decides-eqb}
 use Rattle.std.specs.Prelude.{◌==◌, nat_lt, nat_le, Bool, Option, Some, None, IsTrue, Contains, ⊤}
-use Rattle.simplex_types.specs.Counting.{Contains-head, Contains-rest}
+use Rattle.simplex_committee.specs.Counting.{Contains-head, Contains-rest}
 use Rattle.simplex_types.specs.declared.proposal.Proposal.{Proposal}
 use Rattle.simplex_types.specs.Positions.{next_term_start}
 use Rattle.simplex_types.specs.Subject.{notarize, nullify, finalize}

@@ -9,12 +9,12 @@ use Rattle.std.proofs.lemmas.Option.{none-some, same_Some}
 use Rattle.std.specs.Prelude.{◌==◌, nat_lt, Bool, Option, Some, None, ◌||◌, Contains, option_map, ⊤}
 use Rattle.std.specs.List.{cons_option}
 use Rattle.std.specs.Option.{option_or}
-use Rattle.simplex_types.specs.Counting.{Contains-cases, Contains-head, Contains-rest}
+use Rattle.simplex_committee.specs.Counting.{Contains-cases, Contains-head, Contains-rest}
 use Rattle.simplex_types.specs.declared.position.Round.{Round}
 use Rattle.simplex_types.specs.declared.proposal.Proposal.{Proposal}
 use Rattle.simplex_types.specs.Positions.{InCoveringRange}
 use Rattle.simplex_types.specs.Subject.{notarize, nullify, finalize, statement_round}
-use Rattle.simplex_messages.specs.ProposalCertificate.{Notarization, Finalization}
+use Rattle.simplex_certificates.specs.ProposalCertificate.{Notarization, Finalization}
 use Rattle.simplex_record.specs.Record as recorded
 use Rattle.simplex_record.specs.Record.{Entry, greatest, finalizes, enters, HasTaken}
 use Rattle.simplex_round.specs.Held as offer

@@ -7,7 +7,7 @@ use Rattle.std.proofs.lemmas.Option.{none-some, same_Some}
 use Rattle.std.specs.Prelude.{◌==◌, ◌↔◌, nat_lt, Bool, Option, Some, None, is_some, IsSome, option_map, option_and_then}
 use Rattle.std.specs.List.{cons_option}
 use Rattle.std.specs.Option.{option_or}
-use Rattle.simplex_messages.specs.ProposalCertificate.{Notarization, Finalization}
+use Rattle.simplex_certificates.specs.ProposalCertificate.{Notarization, Finalization}
 use Rattle.simplex_round.specs.declared.timeout_reason.TimeoutReason.{TimeoutReason}
 use Rattle.simplex_round.specs.Held as offer
 use Rattle.simplex_round.specs.Held.{Offer, held}

@@ -3,7 +3,7 @@ use Rattle.std.proofs.Common.{◌≡◌, true, false, ℕ, suc, List, ◌∷◌,
 use Rattle.std.proofs.lemmas.Bool.Decides.{Decides-eqb}
 use Rattle.std.specs.Prelude.{◌==◌, nat_lt, Bool, Option, Some, None, IsSome, option_map}
 use Rattle.simplex_types.specs.declared.proposal.Proposal.{Proposal}
-use Rattle.simplex_messages.specs.ProposalCertificate.{Notarization, Finalization}
+use Rattle.simplex_certificates.specs.ProposalCertificate.{Notarization, Finalization}
 use Rattle.simplex_rules.specs.declared.kind.Kind.TheVariants as kind
 use Rattle.simplex_round.specs.Held.{Offer}
 use Rattle.simplex_round.specs.Past as past

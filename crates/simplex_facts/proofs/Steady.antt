@@ -3,7 +3,7 @@ use Rattle.std.proofs.Common.{◌≡◌, ℕ, List, ◌∷◌, refl, sym, ap, in
 use Rattle.std.specs.Prelude.{Contains}
 use Rattle.std.proofs.lemmas.Option.{same_Some}
 use Rattle.std.proofs.lemmas.Bool.{cases_lt}
-use Rattle.simplex_types.specs.Counting.{Contains-head, Contains-rest}
+use Rattle.simplex_committee.specs.Counting.{Contains-head, Contains-rest}
 use Rattle.simplex_types.specs.declared.proposal.Proposal.{Proposal}
 use Rattle.simplex_round.specs.declared.timeout_reason.TimeoutReason.TheVariants as reason
 use Rattle.simplex_views.specs.History.{Setup, Point, latched, current}

@@ -4,7 +4,7 @@ use Rattle.std.specs.Prelude.{◌||◌, List, Option, Some, None, IfSome, MatchO
 use Rattle.std.proofs.lemmas.Bool.{cases_lt}
 use Rattle.std.proofs.lemmas.Bool.Decides.{nat_tests}
 use Rattle.simplex_types.specs.declared.proposal.Proposal.{Proposal}
-use Rattle.simplex_messages.specs.ProposalCertificate.{Finalization}
+use Rattle.simplex_certificates.specs.ProposalCertificate.{Finalization}
 use Rattle.simplex_round.specs.Held.{held}
 use Rattle.simplex_round.specs.Past.{certified_proposal, finalization, offers, verdict, verdict_is_true}
 use Rattle.simplex_tracking.specs.Marks.{IsLastMarked}

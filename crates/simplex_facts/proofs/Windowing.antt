@@ -6,7 +6,7 @@ use Rattle.std.proofs.lemmas.Bool.Decides.{nat_tests}
 use Rattle.std.specs.Prelude.{◌||◌, ◌&&◌, ◌==◌, not, Bool, Option, Some, None, is_some, option_map}
 use Rattle.simplex_types.specs.Positions.{term_start}
 use Rattle.simplex_rules.specs.Windows.{issuance_floor}
-use Rattle.simplex_messages.specs.ProposalCertificate.{Notarization, Finalization}
+use Rattle.simplex_certificates.specs.ProposalCertificate.{Notarization, Finalization}
 use Rattle.simplex_round.specs.Past as past
 use Rattle.simplex_tracking.specs.Pasts.{is_direct}
 use Rattle.simplex_views.specs.History.{Setup, Point, seen}

@@ -3,7 +3,7 @@
 ghost use Rattle.std.specs.Prelude.{◌≡◌};
 ghost use Rattle.simplex_facts.specs.Floor.{floor_view};
 
-use simplex_messages::Finalization;
+use simplex_certificates::Finalization;
 use simplex_types::{Digest, Duplicate, Scheme, View, Viewable};
 use std::alloc::{AllocError, Global};
 

@@ -2,7 +2,7 @@
 use Rattle.std.proofs.Common.{◌≡◌, ◌≢◌, inl, inr, ℕ, ◌+◌, ◌-◌, ◌<◌, ◌≤◌, List, [], ◌∷◌, ◌++◌, length, get_or, take, drop, refl, sym, ◌∙◌, ap, subst, arith, append_assoc, length-append, length-take, length-drop, take-append-drop, map}
 use Rattle.std.specs.List.{All}
 use Rattle.std.proofs.lemmas.List.{map-append}
-use Rattle.simplex_types.specs.Codec.{SpellsNone}
+use Rattle.simplex_codec.specs.Codec.{SpellsNone}
 use Rattle.simplex_journal.specs.Record.{size, HasEntry, IsEnd, IsLeft, IsFound, IsForeign}
 use Rattle.simplex_journal.proofs.Images.{entries_push}
 

@@ -5,8 +5,8 @@ use Rattle.std.proofs.lemmas.List.{append-nil, map-append}
 use Rattle.std.proofs.lemmas.List.Elements.{All-nil, All-cons, All-head, All-tail, All-push, All-take, All-contains, All-weaker, Contains-append_left, Contains-push}
 use Rattle.std.specs.declared.alloc.Global.{Global}
 use Rattle.std.specs.declared.vec.Vec.{Vec}
-use Rattle.simplex_types.specs.declared.codec.CodecError.{CodecError}
-use Rattle.simplex_types.specs.Codec.{IsCodec, spelling-one}
+use Rattle.simplex_codec.specs.declared.codec.CodecError.{CodecError}
+use Rattle.simplex_codec.specs.Codec.{IsCodec, spelling-one}
 use Rattle.simplex_journal.specs.declared.fault.JournalFault.{JournalFault}
 use Rattle.simplex_journal.specs.declared.fault.JournalFault.TheVariants.{Device, Memory, Foreign, TooLong, Failed}
 use Rattle.simplex_journal.specs.declared.history.Event.{Event}

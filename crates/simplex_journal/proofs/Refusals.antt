@@ -2,7 +2,7 @@
 use Rattle.std.proofs.Common.{◌≡◌, inr, ℕ, ◌<◌, List, [], ◌∷◌, ◌++◌, length, map, refl, sym, ◌∙◌, ap, subst, arith, append_assoc, length-append}
 use Rattle.std.specs.Prelude.{All}
 use Rattle.std.proofs.lemmas.List.Elements.{All-head, All-tail}
-use Rattle.simplex_types.specs.Codec.{SpellsNone}
+use Rattle.simplex_codec.specs.Codec.{SpellsNone}
 use Rattle.simplex_journal.specs.Record.{HasEntry, AreEntries, Reads, IsLeft, IsForeign, end_of}
 use Rattle.simplex_journal.proofs.Finding.{left_first}
 use Rattle.simplex_journal.proofs.Total.{reads_any, reads_next, next_of, unique}

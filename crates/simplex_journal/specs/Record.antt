@@ -1,6 +1,6 @@
 -- The record on a disk: entries of an open gate, a length in four bytes and a body, and then a closed gate.
 use Rattle.std.specs.Prelude.{◌≡◌, ◌⊎◌, ◌+◌, ◌*◌, ◌<◌, ℕ, List, [], ◌∷◌, ◌++◌, length, map, All}
-use Rattle.simplex_types.specs.Codec.{SpellsNone}
+use Rattle.simplex_codec.specs.Codec.{SpellsNone}
 use Rattle.simplex_journal.specs.Disk.{Call, Synced, MayLeave}
 
 -- the number that four bytes spell, most significant first

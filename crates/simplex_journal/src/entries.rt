@@ -1,7 +1,7 @@
 //! Reading the entries of a record.
 
 ghost use Rattle.std.specs.Prelude.{◌≡◌, ◌⊎◌, ◌↔◌, ◌+◌, ◌<◌, [], ℕ, length, take, drop, map, All, IfOk, IfErr, IfSome, IfNone, IsTrue};
-ghost use Rattle.simplex_types.specs.Codec.{Readable};
+ghost use Rattle.simplex_codec.specs.Codec.{Readable};
 ghost use Rattle.simplex_journal.specs.Record.{HasEntry, IsEnd, IsFound, IsForeign};
 ghost use Rattle.simplex_journal.specs.declared.fault.JournalFault.TheVariants.{Foreign, Memory};
 

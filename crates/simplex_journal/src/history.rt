@@ -1,7 +1,7 @@
 //! Whole histories of a journal: openings, appends and crashes, one after the other.
 
 ghost use Rattle.std.specs.Prelude.{◌≡◌, ℕ, List, [], ◌∷◌, map, reverse, All, IfOk, IfErr};
-ghost use Rattle.simplex_types.specs.Codec.{Readable};
+ghost use Rattle.simplex_codec.specs.Codec.{Readable};
 ghost use Rattle.simplex_journal.specs.Disk.{Call, MayLeave};
 ghost use Rattle.simplex_journal.specs.declared.history.Event.{Event};
 ghost use Rattle.simplex_journal.specs.declared.history.Request.TheVariants.{Open, Append, Crash};

@@ -1,7 +1,7 @@
 //! The journal: a list of messages on a disk.
 
 ghost use Rattle.std.specs.Prelude.{◌≡◌, ◌≢◌, ◌⊎◌, ◌+◌, ◌<◌, ◌≤◌, ◌^◌, ◌++◌, [], ◌∷◌, List, ℕ, length, map, All, true, false, IfOk, IfErr, OnOk, IsErrOf, is_ok};
-ghost use Rattle.simplex_types.specs.Codec.{Readable};
+ghost use Rattle.simplex_codec.specs.Codec.{Readable};
 ghost use Rattle.simplex_journal.specs.declared.fault.JournalFault.TheVariants.{Device, Failed, Foreign, Memory, TooLong};
 ghost use Rattle.simplex_journal.specs.Disk.{MayLeave, LeavesOnly, Synced, counted};
 ghost use Rattle.simplex_journal.specs.Journal.{IsRecord, IsTooLong};

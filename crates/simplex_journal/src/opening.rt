@@ -1,7 +1,7 @@
 //! The steps of an opening.
 
 ghost use Rattle.std.specs.Prelude.{◌≡◌, ◌≢◌, ◌+◌, ◌<◌, ◌≤◌, ◌^◌, List, ℕ, length, map, [], ◌∷◌, All, IfErr, IfOk, OnOk, OnErr, is_ok, IsErrOf, true, false, ◌⊎◌};
-ghost use Rattle.simplex_types.specs.Codec.{Readable};
+ghost use Rattle.simplex_codec.specs.Codec.{Readable};
 ghost use Rattle.simplex_journal.specs.declared.fault.JournalFault.TheVariants.{Device, Foreign, Memory};
 ghost use Rattle.simplex_journal.specs.Disk.{MayLeave, LeavesOnly, Synced, counted};
 ghost use Rattle.simplex_journal.specs.Record.{Reads, IsForeign, IsFound, IsFixed, IsAtRest, IsReopened};

@@ -1,3 +1,2 @@
-pub mod Voters
 pub mod FirstItems
 pub mod SlotLemmas

@@ -1,14 +1,7 @@
-pub mod ProposalVote
-pub mod Nullify
-pub mod Assembly
-pub mod ProposalCertificate
-pub mod Nullification
 pub mod ConflictingVotes
 pub mod NullifyFinalize
 pub mod VoteParts
 pub mod Vote
-pub mod Certificate
-pub mod Artifact
 pub mod Activity
 pub mod Guilt
 pub mod AttributableMap

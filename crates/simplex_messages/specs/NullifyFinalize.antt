@@ -1,22 +1,13 @@
 -- A nullify and a finalize of one signer and one round.
 use Rattle.std.specs.Prelude.{◌≡◌, ℕ, ◌==◌, ◌&&◌, Bool, true, List, ◌++◌, Result}
-use Rattle.simplex_types.specs.declared.codec.CodecError.{CodecError}
-use Rattle.simplex_types.specs.Codec.{IsCodec, both_at, checked_at, both-IsCodec, checked-IsCodec}
-use Rattle.simplex_messages.specs.declared.nullify.Nullify.{Nullify}
-use Rattle.simplex_messages.specs.ProposalVote.{Finalize, vote_spelling, vote_fits, vote_at, vote-IsCodec}
-use Rattle.simplex_messages.specs.Nullify.{nullify_spelling, nullify_fits, nullify_at, nullify-IsCodec}
+use Rattle.simplex_codec.specs.declared.codec.CodecError.{CodecError}
+use Rattle.simplex_codec.specs.Codec.{IsCodec, both_at, checked_at, both-IsCodec, checked-IsCodec}
+use Rattle.simplex_certificates.specs.declared.nullify.Nullify.{Nullify}
+use Rattle.simplex_certificates.specs.ProposalVote.{Finalize, vote_spelling, vote_fits, vote_at, vote-IsCodec}
+use Rattle.simplex_certificates.specs.Nullify.{nullify_spelling, nullify_fits, nullify_at, nullify-IsCodec}
 
 -- votes of the scheme S on payloads D, with keys P, signatures G and certificates C
 module _ {S D P G C : Type 0} where
-  -- a nullify and a finalize of one signer and one round
-  pub record StandsBeside (x : Nullify S D P G C) (y : Finalize S D P G C) : Type 0 where
-    pub one_round : x.round ≡ y.proposal.round
-    pub one_signer : x.attestation.signer ≡ y.attestation.signer
-
-  -- the same as a test
-  abbrev pub stands_beside : Nullify S D P G C → Finalize S D P G C → Bool
-  stands_beside x y = ((x.round.epoch == y.proposal.round.epoch) && (x.round.view == y.proposal.round.view)) && (x.attestation.signer == y.attestation.signer)
-
   -- the bytes of evidence: the nullify, then the finalize
   unfoldable pub beside_spelling : (D → List ℕ) → (G → List ℕ) → Nullify S D P G C × Finalize S D P G C → List ℕ
   beside_spelling payload signature c = nullify_spelling signature c.0 ++ vote_spelling payload signature c.1

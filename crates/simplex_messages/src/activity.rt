@@ -1,16 +1,15 @@
 //! What a member reports.
 
 ghost use Rattle.std.specs.Prelude.{◌≡◌, ◌≤◌, IfNone, IfSome, Err};
-ghost use Rattle.simplex_types.specs.Codec.{Gives};
-ghost use Rattle.simplex_types.specs.declared.codec.CodecError.TheVariants.{End};
+ghost use Rattle.simplex_codec.specs.Codec.{Gives};
+ghost use Rattle.simplex_codec.specs.declared.codec.CodecError.TheVariants.{End};
 ghost use Rattle.simplex_messages.specs.Activity.{activity_behind};
 
 use crate::conflicting_votes::{ConflictingFinalize, ConflictingNotarize};
-use crate::nullification::Nullification;
-use crate::nullify::Nullify;
 use crate::nullify_finalize::NullifyFinalize;
-use crate::proposal_certificate::{Finalization, Notarization};
-use crate::proposal_vote::{Finalize, Notarize};
+use simplex_certificates::{
+    Finalization, Finalize, Notarization, Notarize, Nullification, Nullify,
+};
 use simplex_types::{
     CodecError, Digest, Duplicate, EncodeSize, Epoch, Epochable, Read, Round, Scheme, View,
     Viewable, Write,
@@ -18,7 +17,7 @@ use simplex_types::{
 use std::alloc::{AllocError, Global};
 
 /// A report: what a member saw of the others, or did itself.
-#[derive_where(Debug, PartialEq, Eq, Hash; D, S::Signature, S::Certificate)]
+#[derive_where(PartialEq, Eq, Hash; D, S::Signature, S::Certificate)]
 #[derive(Drop)]
 pub enum Activity<S: Scheme<D>, D: Digest> {
     /// A vote to certify a proposal. Its tag is 0.
@@ -230,7 +229,7 @@ impl<S: Scheme<D>, D: Digest> EncodeSize for Activity<S, D> {
 }
 
 impl<S: Scheme<D>, D: Digest> Read for Activity<S, D> {
-    ghost use Rattle.simplex_types.specs.Codec.{bounded-IsCodec};
+    ghost use Rattle.simplex_codec.specs.Codec.{bounded-IsCodec};
     ghost use Rattle.simplex_messages.specs.Activity.{activity_at, activity_within, activity_within-weaker, activity-IsCodec};
 
     ghost within = { λ n. activity_within (S.Certificate.within n) };

@@ -2,8 +2,7 @@
 
 ghost use Rattle.std.specs.Prelude.{◌≡◌};
 
-use crate::kind::{Finalizing, Notarizing, ProposalKind};
-use crate::proposal_vote::ProposalVote;
+use simplex_certificates::{Finalizing, Notarizing, ProposalKind, ProposalVote};
 use simplex_types::{
     Attributable, CodecError, Digest, Duplicate, EncodeSize, Epoch, Epochable, MaxEncodeSize,
     Participant, Read, Round, Scheme, View, Viewable, Write,
@@ -20,7 +19,7 @@ pub type ConflictingFinalize<S, D> = ConflictingVotes<Finalizing, S, D>;
 /// Evidence against a signer: its votes for two different proposals of one round.
 ///
 /// It keeps the order of its votes: with the votes swapped it is another value.
-#[derive_where(Debug, PartialEq, Eq, Hash; D, S::Signature)]
+#[derive_where(PartialEq, Eq, Hash; D, S::Signature)]
 #[derive(Drop)]
 pub struct ConflictingVotes<K: ProposalKind<D>, S: Scheme<D>, D: Digest> {
     first: ProposalVote<K, S, D>,
@@ -29,8 +28,8 @@ pub struct ConflictingVotes<K: ProposalKind<D>, S: Scheme<D>, D: Digest> {
 
 impl<K: ProposalKind<D>, S: Scheme<D>, D: Digest> Model for ConflictingVotes<K, S, D> {
     ghost use Rattle.std.specs.Prelude.{◌≡◌, true};
-    ghost use Rattle.simplex_messages.specs.ProposalVote.{contradict};
-    ghost use Rattle.simplex_messages.specs.declared.proposal_vote.ProposalVote.{ProposalVote};
+    ghost use Rattle.simplex_certificates.specs.ProposalVote.{contradict};
+    ghost use Rattle.simplex_certificates.specs.declared.proposal_vote.ProposalVote.{ProposalVote};
 
     ghost Value = { ProposalVote K S D S.PublicKey S.Signature S.Certificate × ProposalVote K S D S.PublicKey S.Signature S.Certificate };
 
@@ -43,7 +42,7 @@ impl<K: ProposalKind<D>, S: Scheme<D>, D: Digest> Model for ConflictingVotes<K, 
 
 impl<K: ProposalKind<D>, S: Scheme<D>, D: Digest> ConflictingVotes<K, S, D> {
     ghost use Rattle.std.specs.Prelude.{◌≡◌, ◌↔◌, IsTrue};
-    ghost use Rattle.simplex_messages.specs.ProposalVote.{Contradict, IsAttested};
+    ghost use Rattle.simplex_certificates.specs.ProposalVote.{Contradict, IsAttested};
 
     /// The evidence of two votes that contradict each other. [`ProposalVote::contradicts`] is the test.
     pub fn new(first: ProposalVote<K, S, D>, second: ProposalVote<K, S, D>) -> Self
@@ -157,7 +156,7 @@ impl<K: ProposalKind<D>, S: Scheme<D>, D: Digest> MaxEncodeSize for ConflictingV
 
 impl<K: ProposalKind<D>, S: Scheme<D>, D: Digest> Read for ConflictingVotes<K, S, D> {
     ghost use Rattle.std.specs.Prelude.{⊤};
-    ghost use Rattle.simplex_types.specs.Codec.{bounded-IsCodec, unbounded-IsCodec};
+    ghost use Rattle.simplex_codec.specs.Codec.{bounded-IsCodec, unbounded-IsCodec};
     ghost use Rattle.simplex_messages.specs.ConflictingVotes.{conflicting_at, conflicting-IsCodec};
 
     ghost within = { λ _ _. ⊤ };

@@ -2,8 +2,7 @@
 
 ghost use Rattle.std.specs.Prelude.{◌≡◌};
 
-use crate::nullify::Nullify;
-use crate::proposal_vote::Finalize;
+use simplex_certificates::{Finalize, Nullify};
 use simplex_types::{
     Attributable, CodecError, Digest, Duplicate, EncodeSize, Epoch, Epochable, MaxEncodeSize,
     Participant, Read, Round, Scheme, View, Viewable, Write,
@@ -12,7 +11,7 @@ use std::alloc::{AllocError, Global};
 use std::marker::Model;
 
 /// Evidence against a signer: its votes to give a round up and to finalize a proposal of it.
-#[derive_where(Debug, PartialEq, Eq, Hash; D, S::Signature)]
+#[derive_where(PartialEq, Eq, Hash; D, S::Signature)]
 #[derive(Drop)]
 pub struct NullifyFinalize<S: Scheme<D>, D: Digest> {
     nullify: Nullify<S, D>,
@@ -21,9 +20,9 @@ pub struct NullifyFinalize<S: Scheme<D>, D: Digest> {
 
 impl<S: Scheme<D>, D: Digest> Model for NullifyFinalize<S, D> {
     ghost use Rattle.std.specs.Prelude.{◌≡◌, true};
-    ghost use Rattle.simplex_messages.specs.ProposalVote.{Finalize};
-    ghost use Rattle.simplex_messages.specs.NullifyFinalize.{stands_beside};
-    ghost use Rattle.simplex_messages.specs.declared.nullify.Nullify.{Nullify};
+    ghost use Rattle.simplex_certificates.specs.ProposalVote.{Finalize};
+    ghost use Rattle.simplex_certificates.specs.StandsBeside.{stands_beside};
+    ghost use Rattle.simplex_certificates.specs.declared.nullify.Nullify.{Nullify};
 
     ghost Value = { Nullify S D S.PublicKey S.Signature S.Certificate × Finalize S D S.PublicKey S.Signature S.Certificate };
 
@@ -37,9 +36,9 @@ impl<S: Scheme<D>, D: Digest> Model for NullifyFinalize<S, D> {
 impl<S: Scheme<D>, D: Digest> NullifyFinalize<S, D> {
     ghost use Rattle.std.specs.Prelude.{◌≡◌, ◌↔◌, IsTrue};
     ghost use Rattle.simplex_types.specs.Subject.{finalize};
-    ghost use Rattle.simplex_messages.specs.ProposalVote.{IsAttested};
-    ghost use Rattle.simplex_messages.specs.Nullify.{NullifyIsAttested};
-    ghost use Rattle.simplex_messages.specs.NullifyFinalize.{StandsBeside};
+    ghost use Rattle.simplex_certificates.specs.ProposalVote.{IsAttested};
+    ghost use Rattle.simplex_certificates.specs.Nullify.{NullifyIsAttested};
+    ghost use Rattle.simplex_certificates.specs.StandsBeside.{StandsBeside};
 
     /// The evidence of two votes of one signer and one round. [`Nullify::stands_beside`] is the test.
     pub fn new(nullify: Nullify<S, D>, finalize: Finalize<S, D>) -> Self
@@ -153,7 +152,7 @@ impl<S: Scheme<D>, D: Digest> MaxEncodeSize for NullifyFinalize<S, D> {
 
 impl<S: Scheme<D>, D: Digest> Read for NullifyFinalize<S, D> {
     ghost use Rattle.std.specs.Prelude.{⊤};
-    ghost use Rattle.simplex_types.specs.Codec.{bounded-IsCodec, unbounded-IsCodec};
+    ghost use Rattle.simplex_codec.specs.Codec.{bounded-IsCodec, unbounded-IsCodec};
     ghost use Rattle.simplex_messages.specs.NullifyFinalize.{beside_at, beside-IsCodec};
 
     ghost within = { λ _ _. ⊤ };

@@ -2,9 +2,9 @@
 
 ghost use Rattle.std.specs.Prelude.{◌↔◌, IfOk, IsTrue};
 ghost use Rattle.std.specs.List.{AllZip};
-ghost use Rattle.simplex_messages.specs.Certificate.{certificate_statement, certified_by};
+ghost use Rattle.simplex_certificates.specs.Certificate.{certificate_statement, certified_by};
 
-use crate::certificate::Certificate;
+use simplex_certificates::Certificate;
 use simplex_types::{Digest, Scheme};
 use std::alloc::{AllocError, Global};
 

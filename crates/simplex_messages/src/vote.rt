@@ -1,11 +1,10 @@
 //! Votes of the three kinds.
 
 ghost use Rattle.std.specs.Prelude.{◌≡◌};
-ghost use Rattle.simplex_types.specs.Codec.{Gives};
+ghost use Rattle.simplex_codec.specs.Codec.{Gives};
 ghost use Rattle.simplex_messages.specs.Vote.{any_vote_behind};
 
-use crate::nullify::Nullify;
-use crate::proposal_vote::{Finalize, Notarize};
+use simplex_certificates::{Finalize, Notarize, Nullify};
 use simplex_types::{
     Attributable, CodecError, Digest, Duplicate, EncodeSize, Epoch, Epochable, MaxEncodeSize,
     Participant, Read, Round, Scheme, View, Viewable, Write,
@@ -13,7 +12,7 @@ use simplex_types::{
 use std::alloc::{AllocError, Global};
 
 /// A vote of any kind.
-#[derive_where(Debug, PartialEq, Eq, Hash; D, S::Signature)]
+#[derive_where(PartialEq, Eq, Hash; D, S::Signature)]
 #[derive(Drop)]
 pub enum Vote<S: Scheme<D>, D: Digest> {
     /// A vote to certify a proposal. Its tag is 0.
@@ -154,7 +153,7 @@ impl<S: Scheme<D>, D: Digest> MaxEncodeSize for Vote<S, D> {
 
 impl<S: Scheme<D>, D: Digest> Read for Vote<S, D> {
     ghost use Rattle.std.specs.Prelude.{⊤};
-    ghost use Rattle.simplex_types.specs.Codec.{bounded-IsCodec, unbounded-IsCodec};
+    ghost use Rattle.simplex_codec.specs.Codec.{bounded-IsCodec, unbounded-IsCodec};
     ghost use Rattle.simplex_messages.specs.Vote.{any_vote_at, any_vote-IsCodec};
 
     ghost within = { λ _ _. ⊤ };
@@ -193,5 +192,27 @@ fn read_behind<S: Scheme<D>, D: Digest>(
         1 => Ok(Vote::Nullify(Nullify::read_cfg(alloc, input, bound)?)),
         2 => Ok(Vote::Finalize(Finalize::read_cfg(alloc, input, bound)?)),
         _ => Err(CodecError::Invalid),
+    }
+}
+
+impl<S: Scheme<D>, D: Digest> From<Vote<S, D>> for Artifact<S, D> {
+    ghost use Rattle.std.specs.Prelude.{◌≡◌};
+    ghost use Rattle.simplex_messages.specs.VoteParts.{vote_artifact};
+
+    ghost from_gives = { λ vote artifact. artifact ≡ vote_artifact vote };
+
+    fn from(vote: Vote<S, D>) -> Self {
+        match &vote {
+            Vote::Notarize(vote) => {
+                Artifact::Notarize(Notarize::new(vote.proposal, vote.attestation))
+            }
+            Vote::Nullify(vote) => Artifact::Nullify(Nullify {
+                round: vote.round,
+                attestation: vote.attestation,
+            }),
+            Vote::Finalize(vote) => {
+                Artifact::Finalize(Finalize::new(vote.proposal, vote.attestation))
+            }
+        }
     }
 }

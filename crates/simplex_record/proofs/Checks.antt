@@ -4,7 +4,7 @@ use Rattle.std.proofs.lemmas.List.{append-nil, map-append}
 use Rattle.simplex_types.specs.declared.position.Round.{Round}
 use Rattle.simplex_types.specs.Positions.{HasRoom}
 use Rattle.simplex_types.specs.Subject.{Statement, notarize}
-use Rattle.simplex_messages.specs.declared.artifact.Artifact.{Artifact}
+use Rattle.simplex_certificates.specs.declared.artifact.Artifact.{Artifact}
 use Rattle.simplex_record.specs.declared.certificates.Certificates.{Certificates}
 use Rattle.simplex_record.specs.declared.owner.Owner.{Owner}
 use Rattle.simplex_record.specs.declared.standing.Standing.{Standing}

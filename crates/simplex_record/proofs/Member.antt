@@ -6,12 +6,12 @@ use Rattle.simplex_types.specs.declared.position.Round.{Round}
 use Rattle.simplex_types.specs.declared.proposal.Proposal.{Proposal}
 use Rattle.simplex_types.specs.Positions.{InCoveringRange}
 use Rattle.simplex_types.specs.Subject.{Statement, notarize, nullify, finalize}
-use Rattle.simplex_messages.specs.declared.artifact.Artifact.{Artifact}
-use Rattle.simplex_messages.specs.declared.artifact.Artifact.TheVariants as artifact
-use Rattle.simplex_messages.specs.declared.certificate.Certificate.{Certificate}
-use Rattle.simplex_messages.specs.declared.certificate.Certificate.TheVariants as certificate
-use Rattle.simplex_messages.specs.Artifact.{certificate_artifact}
-use Rattle.simplex_messages.specs.Certificate.{certificate_statement, certified_by}
+use Rattle.simplex_certificates.specs.declared.artifact.Artifact.{Artifact}
+use Rattle.simplex_certificates.specs.declared.artifact.Artifact.TheVariants as artifact
+use Rattle.simplex_certificates.specs.declared.certificate.Certificate.{Certificate}
+use Rattle.simplex_certificates.specs.declared.certificate.Certificate.TheVariants as certificate
+use Rattle.simplex_certificates.specs.Artifact.{certificate_artifact}
+use Rattle.simplex_certificates.specs.Certificate.{certificate_statement, certified_by}
 use Rattle.simplex_record.specs.Record.{Entry, voted, taken, judged, entry, entries, HasVoted, HasTaken, HasJudged, finalizes, last_finalized, enters, current_view, IsCovered}
 use Rattle.simplex_record.specs.Rules.{MayNotarize, MayNullify, MayFinalize, MayTake, MayFollow, MayEverFollow}
 use Rattle.simplex_record.specs.declared.owner.Owner.{Owner}

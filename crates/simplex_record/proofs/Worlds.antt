@@ -8,14 +8,16 @@ use Rattle.simplex_types.specs.declared.attestation.Attestation.{Attestation}
 use Rattle.simplex_types.specs.declared.position.Round.{Round}
 use Rattle.simplex_types.specs.declared.proposal.Proposal.{Proposal}
 use Rattle.simplex_types.specs.Positions.{term_start, IsTermStart, InCoveringRange}
-use Rattle.simplex_types.specs.Quorum.{IsQuorum, faults, quorum}
-use Rattle.simplex_types.specs.Counting.{Contains-head, Contains-rest, escapes}
-use Rattle.simplex_types.specs.Overlap.{AreQuorum, signers, AttestsIn, two_quorums_meet, signers-AreQuorum, signers-attest}
+use Rattle.simplex_types.specs.Quorum.{IsQuorum}
+use Rattle.simplex_committee.specs.Committee.{faults, quorum}
+use Rattle.simplex_committee.specs.Counting.{Contains-head, Contains-rest, escapes}
+use Rattle.simplex_types.specs.Overlap.{signers, AttestsIn, signers-AreQuorum, signers-attest}
+use Rattle.simplex_committee.specs.Committee.{AreQuorum, two_quorums_meet}
 use Rattle.simplex_types.specs.Subject.{Statement, notarize, nullify, finalize}
-use Rattle.simplex_messages.specs.declared.certificate.Certificate.{Certificate}
-use Rattle.simplex_messages.specs.declared.certificate.Certificate.TheVariants as certificate
-use Rattle.simplex_messages.specs.Certificate.{certificate_statement, certified_by}
-use Rattle.simplex_messages.specs.Artifact.{certificate_artifact}
+use Rattle.simplex_certificates.specs.declared.certificate.Certificate.{Certificate}
+use Rattle.simplex_certificates.specs.declared.certificate.Certificate.TheVariants as certificate
+use Rattle.simplex_certificates.specs.Certificate.{certificate_statement, certified_by}
+use Rattle.simplex_certificates.specs.Artifact.{certificate_artifact}
 use Rattle.simplex_record.specs.Record.{entries, HasVoted, HasTaken, HasJudged}
 use Rattle.simplex_record.specs.declared.owner.Owner.{Owner}
 use Rattle.simplex_record.specs.World.{World, IsCorrect, IsSound, IsAlike, IsWorld}

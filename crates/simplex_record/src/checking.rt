@@ -8,7 +8,7 @@ ghost use Rattle.simplex_record.specs.Standing.{Keeps};
 
 use crate::owner::Owner;
 use crate::standing::Standing;
-use simplex_messages::Artifact;
+use simplex_certificates::Artifact;
 use simplex_types::{Digest, Epoch, Epochable, Participant, Scheme, TermLength};
 use std::alloc::{AllocError, Global};
 

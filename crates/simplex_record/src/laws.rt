@@ -1,7 +1,7 @@
 //! Agreement of members whose records are lawful, and the chain that what they finalize is.
 
 ghost use Rattle.std.specs.Prelude.{ℕ, List, [], ◌∷◌, ◌++◌, Option};
-ghost use Rattle.simplex_messages.specs.declared.artifact.Artifact.{Artifact};
+ghost use Rattle.simplex_certificates.specs.declared.artifact.Artifact.{Artifact};
 ghost use Rattle.simplex_record.specs.declared.owner.Owner.{Owner};
 ghost use Rattle.simplex_record.specs.Chain.{StandsOnGround, MayFollowOnGround, AllStandOnGround, OneChain};
 ghost use Rattle.simplex_record.specs.Record.{Entry};

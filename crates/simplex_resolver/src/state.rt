@@ -7,7 +7,7 @@ use crate::ask::Kind;
 use crate::effect::{Effect, push_if};
 use crate::held::Held;
 use crate::terms::{scan_start, terms_between};
-use simplex_messages::{Certificate, Notarization};
+use simplex_certificates::{Certificate, Notarization};
 use simplex_types::{Digest, Scheme, TermLength, View, Viewable, Write};
 use std::alloc::{AllocError, Global};
 
@@ -32,7 +32,7 @@ pub struct State {
 impl State {
     ghost use Rattle.std.specs.Prelude.{◌≡◌, ◌+◌, ◌++◌, ◌∷◌, [], ℕ, List, not, nat_lt, ◌&&◌, OnOk, IfOk, true, false, map};
     ghost use Rattle.std.specs.Option.{option_map};
-    ghost use Rattle.simplex_messages.specs.Certificate.{any_certificate_spelling, certificate_round, as_notarization};
+    ghost use Rattle.simplex_certificates.specs.Certificate.{any_certificate_spelling, certificate_round, as_notarization};
     ghost use Rattle.simplex_resolver.specs.declared.effect.Effect.{Effect};
     ghost use Rattle.simplex_resolver.specs.History.{Item, Nullified, Notarized, Finalized, Judged, Replayed, item_of, covered, floor, live};
     ghost use Rattle.simplex_resolver.specs.Outstanding.{Gives, Scans, ScansBehind, AreMissing, fetch_failed, scanned};

@@ -2,8 +2,8 @@
 use Rattle.std.specs.Prelude.{◌≡◌, ◌≢◌, ◌-◌, ℕ, Bool, true, false, not, ◌&&◌, ◌||◌, List, [], ◌∷◌, Option, Some, None, is_some, is_none, IsSome, option_map, filter_map, if◌then◌else◌}
 use Rattle.std.specs.Option.{option_or}
 use Rattle.simplex_types.specs.declared.proposal.Proposal.{Proposal}
-use Rattle.simplex_messages.specs.declared.nullification.Nullification.{Nullification}
-use Rattle.simplex_messages.specs.ProposalCertificate.{Notarization, Finalization}
+use Rattle.simplex_certificates.specs.declared.nullification.Nullification.{Nullification}
+use Rattle.simplex_certificates.specs.ProposalCertificate.{Notarization, Finalization}
 use Rattle.simplex_round.specs.declared.timeout_reason.TimeoutReason.{TimeoutReason}
 use Rattle.simplex_round.specs.declared.timeout_reason.TimeoutReason.TheVariants as reason
 use Rattle.simplex_round.specs.declared.token.Token.{Token}

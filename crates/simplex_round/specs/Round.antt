@@ -2,8 +2,8 @@
 use Rattle.std.specs.Prelude.{◌≡◌, ◌⊎◌, ℕ, List, ◌∷◌, Option, Some, option_map}
 use Rattle.std.specs.Option.{ForSome}
 use Rattle.simplex_types.specs.declared.position.Round.{Round}
-use Rattle.simplex_messages.specs.declared.artifact.Artifact.{Artifact}
-use Rattle.simplex_messages.specs.declared.artifact.Artifact.TheVariants as artifact
+use Rattle.simplex_certificates.specs.declared.artifact.Artifact.{Artifact}
+use Rattle.simplex_certificates.specs.declared.artifact.Artifact.TheVariants as artifact
 use Rattle.simplex_round.specs.declared.leader.Leader.{Leader}
 use Rattle.simplex_round.specs.declared.round.Round as kept
 use Rattle.simplex_round.specs.Slot as slot

@@ -16,7 +16,7 @@ use crate::leader::Leader;
 use crate::slot::Slot;
 use crate::timeout_reason::TimeoutReason;
 use crate::token::Token;
-use simplex_messages::{Finalization, Notarization, Nullification};
+use simplex_certificates::{Finalization, Notarization, Nullification};
 use simplex_types::{Digest, Participant, Proposal, Round as Position, Scheme, View};
 use std::rc::Rc;
 

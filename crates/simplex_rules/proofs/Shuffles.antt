@@ -11,7 +11,7 @@ use Rattle.std.proofs.lemmas.Cmp.{ranked, nat_cmp_total, nat_list_cmp_total, on_
 use Rattle.std.proofs.lemmas.List.{get_or-map, length-map}
 use Rattle.std.proofs.lemmas.List.FromFn.{length-map-range_with_len, get_or-map-range_with_len}
 use Rattle.std.proofs.lemmas.List.Sorted.{IsPermutation-map, IsPermutation-sym, All-permutation, Contains-permutation, ranks_by, sorted_far}
-use Rattle.simplex_types.specs.Counting.{Contains-cases, Contains-rest}
+use Rattle.simplex_committee.specs.Counting.{Contains-cases, Contains-rest}
 use Rattle.simplex_rules.specs.Rotation.{indices, IsOrder}
 use Rattle.simplex_rules.specs.Shuffle.{lot, lot_cmp, IsBefore, IsShuffled}
 use Rattle.simplex_rules.proofs.Orders.{order-IsOnce}

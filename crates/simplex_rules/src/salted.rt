@@ -3,12 +3,12 @@
 ghost use Rattle.std.specs.Prelude.{◌≡◌, ◌↔◌, ◌<◌, ◌≤◌, ◌^◌, ◌++◌, ℕ, List, Option, Some, None, length, Contains, IfOk, IfSome, IfNone, IsNone, IsSome, true, ⊤, Ok, Err};
 ghost use Rattle.std.specs.Option.{ForSome};
 ghost use Rattle.std.proofs.Common.{rules, arith};
-ghost use Rattle.simplex_types.specs.Codec.{bytes_at, bytes-IsCodec, unbounded-IsCodec};
+ghost use Rattle.simplex_codec.specs.Codec.{bytes_at, bytes-IsCodec, unbounded-IsCodec};
 ghost use Rattle.simplex_types.specs.AttestationList.{list_within};
 ghost use Rattle.simplex_types.specs.Quorum.{IsQuorum};
 ghost use Rattle.simplex_types.specs.Subject.{Statement, statement};
 ghost use Rattle.simplex_types.specs.declared.attestation.Attestation.{Attestation};
-ghost use Rattle.simplex_types.specs.declared.codec.CodecError.TheVariants.{End};
+ghost use Rattle.simplex_codec.specs.declared.codec.CodecError.TheVariants.{End};
 ghost use Rattle.simplex_rules.specs.Salted.{salted_hash, salted_signature, IsSalted, Attests};
 
 use sha2::{Digest as _, Sha256};

@@ -2,9 +2,9 @@
 use Rattle.std.proofs.Common.{◌↔◌, ◌⊎◌, ℕ, true, false, ⊎_elim, List, ◌∷◌, refl, if◌then◌else◌}
 use Rattle.std.specs.Prelude.{Option, Some, None, Bool, IsTrue}
 use Rattle.simplex_types.specs.declared.proposal.Proposal.{Proposal}
-use Rattle.simplex_messages.specs.declared.artifact.Artifact.{Artifact}
-use Rattle.simplex_messages.specs.declared.artifact.Artifact.TheVariants as artifact
-use Rattle.simplex_messages.specs.Artifact.{artifact_round}
+use Rattle.simplex_certificates.specs.declared.artifact.Artifact.{Artifact}
+use Rattle.simplex_certificates.specs.declared.artifact.Artifact.TheVariants as artifact
+use Rattle.simplex_certificates.specs.Artifact.{artifact_round}
 use Rattle.simplex_round.specs.declared.round.Round.{Round}
 use Rattle.simplex_round.specs.Held.{held, recorded, Agrees, Differs}
 use Rattle.simplex_round.specs.Past.{Item, offered, sent_notarization, sent_nullification, sent_finalization, voted_notarize, voted_nullify, voted_finalize, judged, offers}

@@ -5,8 +5,8 @@ use Rattle.std.specs.Ordering.{nat_cmp}
 use Rattle.std.specs.declared.cmp.Ordering.{Ordering}
 use Rattle.std.specs.declared.cmp.Reverse.{Reverse}
 use Rattle.std.specs.BTreeMap.{BTreeMap, UpdatesBy, get}
-use Rattle.simplex_messages.specs.declared.artifact.Artifact.{Artifact}
-use Rattle.simplex_messages.specs.declared.artifact.Artifact.TheVariants as artifact
+use Rattle.simplex_certificates.specs.declared.artifact.Artifact.{Artifact}
+use Rattle.simplex_certificates.specs.declared.artifact.Artifact.TheVariants as artifact
 use Rattle.simplex_round.specs.declared.round.Round.{Round}
 use Rattle.simplex_round.specs.Round as one
 use Rattle.simplex_round.specs.Held as offer

@@ -9,7 +9,7 @@ ghost use Rattle.simplex_tracking.specs.Lending.{LendsKnown, LendsOpen};
 ghost use Rattle.simplex_tracking.specs.Pasts.{forget};
 ghost use Rattle.simplex_tracking.specs.Rounds.{Common, Keep, AreUntracked, AtEach, IsFirstBelow, IsFirstTracked, IsOpen, IsTracked, Takes, learn, recalled, setup_of, stored, unled};
 
-use simplex_messages::Artifact;
+use simplex_certificates::Artifact;
 use simplex_round::Round;
 use simplex_types::{Digest, Epoch, Participant, Round as Position, Scheme, View, Viewable};
 use std::alloc::{AllocError, Global};

@@ -17,7 +17,7 @@ ghost use Rattle.simplex_tracking.specs.Tracked.{Frame, Tables, Holds, AtEach, I
 use crate::marks::Marks;
 use crate::rounds::Rounds;
 use crate::sign::Sign;
-use simplex_messages::{Finalization, Notarization, Nullification};
+use simplex_certificates::{Finalization, Notarization, Nullification};
 use simplex_round::Round;
 use simplex_rules::Lookahead;
 use simplex_types::{Digest, Epoch, Participant, Proposal, Scheme, View, Viewable};

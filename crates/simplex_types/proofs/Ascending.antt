@@ -1,10 +1,10 @@
 -- Reading attestations one after the other, as a loop does.
 use Rattle.std.proofs.Common.{◌≡◌, ℕ, suc, ◌-◌, ◌+◌, ◌≤◌, ◌<◌, List, [], ◌∷◌, ◌++◌, Result, Ok, Err, refl, sym, ap, ◌∙◌, append_assoc, arith}
 use Rattle.std.proofs.lemmas.List.{append-nil}
-use Rattle.simplex_types.specs.declared.codec.CodecError.{CodecError}
-use Rattle.simplex_types.specs.declared.codec.CodecError.TheVariants.{End, Invalid, TooLong, Memory}
+use Rattle.simplex_codec.specs.declared.codec.CodecError.{CodecError}
+use Rattle.simplex_codec.specs.declared.codec.CodecError.TheVariants.{End, Invalid, TooLong, Memory}
 use Rattle.simplex_types.specs.declared.attestation.Attestation.{Attestation}
-use Rattle.simplex_types.specs.Codec.{◌>>=◌, Gives, GivesBy}
+use Rattle.simplex_codec.specs.Codec.{◌>>=◌, Gives, GivesBy}
 use Rattle.simplex_types.specs.AttestationList.{next_at, ascending_at}
 
 module _ {G : Type 0} where

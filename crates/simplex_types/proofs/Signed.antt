@@ -1,8 +1,8 @@
 -- Namespaces of two kinds differ, and what is signed belongs to one statement.
 use Rattle.std.proofs.Common.{◌≡◌, ℕ, List, ◌++◌, codes, Result, reverse, refl, ap, sym, ◌∙◌, arith, get_or}
 use Rattle.std.proofs.lemmas.List.{reverse-append}
-use Rattle.simplex_types.specs.declared.codec.CodecError.{CodecError}
-use Rattle.simplex_types.specs.Codec.{IsCodec, spelling-one}
+use Rattle.simplex_codec.specs.declared.codec.CodecError.{CodecError}
+use Rattle.simplex_codec.specs.Codec.{IsCodec, spelling-one}
 use Rattle.simplex_types.specs.Round.{round-IsCodec}
 use Rattle.simplex_types.specs.Proposal.{proposal-IsCodec}
 use Rattle.simplex_types.specs.Subject.{Statement, notarize, nullify, finalize, namespace, kind_name, OneSubjectEach}

@@ -1,9 +1,9 @@
 -- Attestations as bytes.
 use Rattle.std.specs.Prelude.{ℕ, ◌≤◌, List, ◌++◌, Result, refl}
-use Rattle.simplex_types.specs.declared.codec.CodecError.{CodecError}
+use Rattle.simplex_codec.specs.declared.codec.CodecError.{CodecError}
 use Rattle.simplex_types.specs.declared.attestation.Attestation.{Attestation}
-use Rattle.simplex_types.specs.Codec.{IsCodec, both_at, as_at, both-IsCodec, as-IsCodec}
-use Rattle.simplex_types.specs.Varint.{varint, varint_at, varint-IsCodec, max_u32}
+use Rattle.simplex_codec.specs.Codec.{IsCodec, both_at, as_at, both-IsCodec, as-IsCodec}
+use Rattle.simplex_codec.specs.Varint.{varint, varint_at, varint-IsCodec, max_u32}
 
 module _ {G : Type 0} where
   -- the attestation of a signer and a signature

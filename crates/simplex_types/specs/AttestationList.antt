@@ -4,12 +4,12 @@ use Rattle.std.specs.List.{flat_map}
 use Rattle.std.specs.Ordering.{on, eq_of_both}
 use Rattle.std.proofs.Common.{arith}
 use Rattle.std.specs.Cmp.Lexicographic.{pointwise}
-use Rattle.simplex_types.specs.declared.codec.CodecError.{CodecError}
-use Rattle.simplex_types.specs.declared.codec.CodecError.TheVariants.{TooLong}
+use Rattle.simplex_codec.specs.declared.codec.CodecError.{CodecError}
+use Rattle.simplex_codec.specs.declared.codec.CodecError.TheVariants.{TooLong}
 use Rattle.simplex_types.specs.declared.attestation.Attestation.{Attestation}
 use Rattle.simplex_types.specs.Attestation.{attestation_of, attestation_spelling, attestation_fits}
-use Rattle.simplex_types.specs.Codec.{◌>>=◌, both_at, as_at, checked_at}
-use Rattle.simplex_types.specs.Varint.{varint, varint_at, max_u32, max_u64}
+use Rattle.simplex_codec.specs.Codec.{◌>>=◌, both_at, as_at, checked_at}
+use Rattle.simplex_codec.specs.Varint.{varint, varint_at, max_u32, max_u64}
 
 -- an index that may stand behind others of which the last is below low, under the bound n
 abbrev pub is_next : ℕ → ℕ → ℕ → Bool

@@ -1,8 +1,5 @@
 pub mod Positions
-pub mod Codec
-pub mod Varint
 pub mod Round
-pub mod Truth
 pub mod Proposal
 pub mod Attestation
 pub mod AttestationList
@@ -11,7 +8,6 @@ pub mod ListCodec
 pub mod ListEquality
 pub mod ListSize
 pub mod Quorum
-pub mod Counting
 pub mod Overlap
 pub mod Subject
 pub mod Plain

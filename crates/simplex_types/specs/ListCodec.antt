@@ -5,12 +5,12 @@ use Rattle.std.proofs.Common.{sym, ap, ◌∙◌, subst, append_assoc, arith, co
 use Rattle.std.proofs.lemmas.Bool.{ltb-false, le-ltb, lt-ltb, ltb-true, cases_lt}
 use Rattle.std.proofs.lemmas.List.Concat.{flat_map-cons}
 use Rattle.std.proofs.lemmas.List.Elements.{All-nil, All-cons, All-tail}
-use Rattle.simplex_types.specs.declared.codec.CodecError.{CodecError}
-use Rattle.simplex_types.specs.declared.codec.CodecError.TheVariants.{TooLong}
+use Rattle.simplex_codec.specs.declared.codec.CodecError.{CodecError}
+use Rattle.simplex_codec.specs.declared.codec.CodecError.TheVariants.{TooLong}
 use Rattle.simplex_types.specs.declared.attestation.Attestation.{Attestation}
 use Rattle.simplex_types.specs.Attestation.{attestation_of, attestation_parts, attestation_spelling, attestation_fits}
-use Rattle.simplex_types.specs.Codec.{◌>>=◌, IsCodec, Readable, both-IsCodec, as-IsCodec, checked-IsCodec, said-IsCodec, bind_ok, refused_ok, ok_is}
-use Rattle.simplex_types.specs.Varint.{varint, varint_at, varint-IsCodec, max_u32, max_u64}
+use Rattle.simplex_codec.specs.Codec.{◌>>=◌, IsCodec, Readable, both-IsCodec, as-IsCodec, checked-IsCodec, said-IsCodec, bind_ok, refused_ok, ok_is}
+use Rattle.simplex_codec.specs.Varint.{varint, varint_at, varint-IsCodec, max_u32, max_u64}
 use Rattle.simplex_types.specs.AttestationList.{AscendsFrom, list_spelling, list_fits, list_within, is_next, next_at, ascending_at, list_at}
 
 -- what passes stands from low on and below n

@@ -6,7 +6,7 @@ use Rattle.std.proofs.lemmas.List.Concat.{flat_map-cons}
 use Rattle.std.proofs.lemmas.List.Elements.{All-tail}
 use Rattle.std.proofs.lemmas.Nat.{mul-le}
 use Rattle.std.proofs.Math.Nat.{suc-mul, mul-le-mul_right}
-use Rattle.simplex_types.specs.Varint.{varint, length-varint}
+use Rattle.simplex_codec.specs.Varint.{varint, length-varint}
 use Rattle.simplex_types.specs.declared.attestation.Attestation.{Attestation}
 use Rattle.simplex_types.specs.Attestation.{attestation_spelling, attestation_fits}
 use Rattle.simplex_types.specs.AttestationList.{list_spelling, list_fits, list_within}

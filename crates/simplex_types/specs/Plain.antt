@@ -6,8 +6,8 @@ use Rattle.std.proofs.Common.{arith, ap, sym, ◌∙◌, subst, inl, inr, true, 
 use Rattle.std.proofs.lemmas.Bool.{cases_lt, lt-ltb, le-ltb}
 use Rattle.std.proofs.lemmas.Nat.{be_bytes_4, from_be_bytes-to_be_bytes_4}
 use Rattle.sha2.specs.Sha256.{sha256}
-use Rattle.simplex_types.specs.declared.codec.CodecError.{CodecError}
-use Rattle.simplex_types.specs.Codec.{IsCodec, done, bytes_at, checked_at, as_at, bind_ok, ok_is, bytes-IsCodec, checked-IsCodec}
+use Rattle.simplex_codec.specs.declared.codec.CodecError.{CodecError}
+use Rattle.simplex_codec.specs.Codec.{IsCodec, done, bytes_at, checked_at, as_at, bind_ok, ok_is, bytes-IsCodec, checked-IsCodec}
 use Rattle.simplex_types.specs.Subject.{Statement, message, namespace}
 
 -- a committee under the plain scheme: the base of its namespaces, its size, and the index whose key is here

@@ -2,11 +2,11 @@
 use Rattle.std.specs.Prelude.{ℕ, ◌≤◌, List, ◌++◌, Result, refl}
 use Rattle.std.specs.Ordering.{nat_cmp, ordering_then}
 use Rattle.std.specs.declared.cmp.Ordering.{Ordering}
-use Rattle.simplex_types.specs.declared.codec.CodecError.{CodecError}
+use Rattle.simplex_codec.specs.declared.codec.CodecError.{CodecError}
 use Rattle.simplex_types.specs.declared.position.Round.{Round}
 use Rattle.simplex_types.specs.declared.proposal.Proposal.{Proposal}
-use Rattle.simplex_types.specs.Codec.{IsCodec, both_at, as_at, both-IsCodec, as-IsCodec}
-use Rattle.simplex_types.specs.Varint.{varint, varint_at, varint-IsCodec, max_u64}
+use Rattle.simplex_codec.specs.Codec.{IsCodec, both_at, as_at, both-IsCodec, as-IsCodec}
+use Rattle.simplex_codec.specs.Varint.{varint, varint_at, varint-IsCodec, max_u64}
 use Rattle.simplex_types.specs.Round.{round_spelling, round_fits, round_at, round-IsCodec}
 
 -- the proposal of a round, a parent and a payload

@@ -1,5 +1,5 @@
--- How many members of a committee may lie, and how many are a quorum.
-use Rattle.std.specs.Prelude.{ℕ, ◌≢◌, ◌+◌, ◌-◌, ◌/◌, ◌≤◌, ◌<◌, List, [], ◌∷◌, length, All, AllPairs}
+-- Attestations of a quorum of a committee.
+use Rattle.std.specs.Prelude.{ℕ, ◌≢◌, ◌+◌, ◌≤◌, ◌<◌, List, [], ◌∷◌, length, All, AllPairs}
 use Rattle.std.proofs.Common.{arith}
 use Rattle.std.proofs.lemmas.List.Elements.{All-nil, All-cons}
 use Rattle.std.specs.List.Sorted.{IsPermutation}
@@ -7,14 +7,7 @@ use Rattle.std.proofs.lemmas.List.Kept.{AllPairs-cons}
 use Rattle.std.proofs.lemmas.List.Sorted.{All-permutation}
 use Rattle.simplex_types.specs.declared.attestation.Attestation.{Attestation}
 use Rattle.simplex_types.specs.AttestationList.{AscendsFrom}
-
--- the most members of a committee of n that may be faulty
-abbrev pub faults : ℕ → ℕ
-faults n = (n - 1) / 3
-
--- the members of a committee of n that are a quorum: all but as many as may be faulty
-abbrev pub quorum : ℕ → ℕ
-quorum n = n - faults n
+use Rattle.simplex_committee.specs.Committee.{quorum}
 
 -- no two of the attestations are in one member's name
 abbrev pub AreDistinct : {G : Type 0} → List (Attestation G) → Type 0

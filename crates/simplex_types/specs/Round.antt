@@ -1,9 +1,9 @@
 -- Rounds as bytes.
 use Rattle.std.specs.Prelude.{ℕ, ◌≤◌, List, ◌++◌, Result, refl}
-use Rattle.simplex_types.specs.declared.codec.CodecError.{CodecError}
+use Rattle.simplex_codec.specs.declared.codec.CodecError.{CodecError}
 use Rattle.simplex_types.specs.declared.position.Round.{Round}
-use Rattle.simplex_types.specs.Codec.{IsCodec, both_at, as_at, both-IsCodec, as-IsCodec}
-use Rattle.simplex_types.specs.Varint.{varint, varint_at, varint-IsCodec, max_u64}
+use Rattle.simplex_codec.specs.Codec.{IsCodec, both_at, as_at, both-IsCodec, as-IsCodec}
+use Rattle.simplex_codec.specs.Varint.{varint, varint_at, varint-IsCodec, max_u64}
 
 -- the round of an epoch and a view
 abbrev pub round_of : ℕ × ℕ → Round

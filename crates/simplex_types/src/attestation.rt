@@ -3,9 +3,9 @@
 ghost use Rattle.std.specs.Prelude.{◌≡◌, ◌↔◌, ◌≤◌, ◌<◌, ◌^◌, ℕ, Bool, List, Ok, length, IfSome, IfNone, IsErr, IsTrue};
 
 use crate::attributes::Attributable;
-use crate::codec::{CodecError, EncodeSize, MaxEncodeSize, Read, Write};
 use crate::duplicate::Duplicate;
 use crate::position::Participant;
+use simplex_codec::{CodecError, EncodeSize, MaxEncodeSize, Read, Write};
 use std::alloc::{AllocError, Global};
 use std::hash::Hash;
 
@@ -81,7 +81,7 @@ impl<G: Signature> MaxEncodeSize for Attestation<G> {
 
 impl<G: Signature> Read for Attestation<G> {
     ghost use Rattle.std.specs.Prelude.{⊤};
-    ghost use Rattle.simplex_types.specs.Codec.{unbounded-IsCodec, bounded-IsCodec};
+    ghost use Rattle.simplex_codec.specs.Codec.{unbounded-IsCodec, bounded-IsCodec};
     ghost use Rattle.simplex_types.specs.Attestation.{attestation_at, attestation-IsCodec};
 
     ghost within = { λ _ _. ⊤ };

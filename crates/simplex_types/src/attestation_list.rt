@@ -3,16 +3,17 @@
 ghost use Rattle.std.specs.Prelude.{◌≡◌, ◌+◌, ◌++◌, ◌<◌, ◌≤◌, ◌^◌, length, take, vec_len, All, IfOk, OnOk, OnErr};
 ghost use Rattle.std.specs.List.{flat_map};
 ghost use Rattle.simplex_types.specs.Attestation.{attestation_fits, attestation_spelling};
-ghost use Rattle.simplex_types.specs.Codec.{Gives, GivesBy};
+ghost use Rattle.simplex_codec.specs.Codec.{Gives, GivesBy};
 ghost use Rattle.simplex_types.specs.AttestationList.{next_at, ascending_at};
 
 use crate::attestation::{Attestation, Signature};
-use crate::codec::{CodecError, EncodeSize, MaxEncodeSize, Read, Write};
-use crate::committee::quorum;
 use crate::duplicate::Duplicate;
 use crate::position::Participant;
 use crate::scheme::{Aggregate, AssemblyError};
-use crate::varint::{put_varint, read_u64, varint_size};
+use simplex_codec::{
+    CodecError, EncodeSize, MaxEncodeSize, Read, Write, put_varint, read_u64, varint_size,
+};
+use simplex_committee::quorum;
 use std::alloc::{AllocError, Global};
 use std::hash::{Hash, Hasher};
 use std::marker::Model;
@@ -27,7 +28,7 @@ impl<G: Signature> Model for AttestationList<G> {
     ghost use Rattle.std.specs.Prelude.{List, length, ◌≤◌};
     ghost use Rattle.simplex_types.specs.declared.attestation.Attestation.{Attestation};
     ghost use Rattle.simplex_types.specs.AttestationList.{AscendsFrom};
-    ghost use Rattle.simplex_types.specs.Varint.{max_u32};
+    ghost use Rattle.simplex_codec.specs.Varint.{max_u32};
 
     ghost Value = { List (Attestation G) };
 
@@ -40,7 +41,8 @@ impl<G: Signature> AttestationList<G> {
     ghost use Rattle.std.specs.Prelude.{◌≡◌, ◌<◌, ◌≤◌, length, All, Err, IfOk, IfErr};
     ghost use Rattle.std.specs.List.Sorted.{IsPermutation};
     ghost use Rattle.simplex_types.specs.AttestationList.{AscendsFrom, list_within};
-    ghost use Rattle.simplex_types.specs.Quorum.{AreDistinct, quorum};
+    ghost use Rattle.simplex_types.specs.Quorum.{AreDistinct};
+    ghost use Rattle.simplex_committee.specs.Committee.{quorum};
     ghost use Rattle.simplex_types.specs.declared.scheme.AssemblyError.TheVariants.{InsufficientAttestations, Memory};
 
     /// The list of these attestations, of distinct members of a committee of so many, as
@@ -176,7 +178,7 @@ impl<G: Signature> Write for AttestationList<G> {
 
 impl<G: Signature> Read for AttestationList<G> {
     ghost use Rattle.simplex_types.specs.AttestationList.{list_within, list_within-grows, list_at};
-    ghost use Rattle.simplex_types.specs.Codec.{bounded-IsCodec};
+    ghost use Rattle.simplex_codec.specs.Codec.{bounded-IsCodec};
     ghost use Rattle.simplex_types.specs.ListCodec.{list-IsCodec};
 
     ghost within = { list_within };

@@ -9,12 +9,12 @@ ghost use Rattle.simplex_types.specs.Subject.{Statement, statement};
 
 use crate::attestation::{Attestation, Signature};
 use crate::attestation_list::AttestationList;
-use crate::committee::quorum;
 use crate::digest::Digest;
 use crate::membership::are_of_distinct_members;
 use crate::position::Participant;
 use crate::scheme::AssemblyError;
 use crate::subject::Subject;
+use simplex_committee::quorum;
 use std::alloc::{AllocError, Global};
 
 /// Committees in which each attestation is judged by itself. A scheme of one whose certificates list their

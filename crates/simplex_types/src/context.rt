@@ -4,11 +4,11 @@ ghost use Rattle.std.specs.Prelude.{◌≡◌, ◌↔◌, IsTrue};
 ghost use Rattle.simplex_types.specs.declared.context.Context.{Context};
 
 use crate::attributes::{Epochable, Viewable};
-use crate::codec::{CodecError, EncodeSize, MaxEncodeSize, Read, Write};
 use crate::digest::Digest;
 use crate::duplicate::Duplicate;
 use crate::key::PublicKey;
 use crate::position::{Epoch, Round, View};
+use simplex_codec::{CodecError, EncodeSize, MaxEncodeSize, Read, Write};
 use std::alloc::{AllocError, Global};
 
 /// What a proposal is built on.
@@ -85,7 +85,7 @@ impl<D: Digest, P: PublicKey> MaxEncodeSize for Context<D, P> {
 
 impl<D: Digest, P: PublicKey> Read for Context<D, P> {
     ghost use Rattle.std.specs.Prelude.{⊤};
-    ghost use Rattle.simplex_types.specs.Codec.{unbounded-IsCodec, bounded-IsCodec};
+    ghost use Rattle.simplex_codec.specs.Codec.{unbounded-IsCodec, bounded-IsCodec};
     ghost use Rattle.simplex_types.specs.Context.{context_at, context-IsCodec};
 
     ghost within = { λ _ _. ⊤ };

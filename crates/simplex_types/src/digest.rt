@@ -3,10 +3,10 @@
 ghost use Rattle.std.specs.Prelude.{◌≡◌, ◌≤◌, ◌<◌, ◌^◌, ℕ, Bool, ◌↔◌, List, Some, length, IsTrue, ⊤};
 ghost use Rattle.std.proofs.Common.{rules};
 ghost use Rattle.hex.specs.Hex.{encode_lower};
-ghost use Rattle.simplex_types.specs.Codec.{bytes_at, bytes-IsCodec, unbounded-IsCodec};
+ghost use Rattle.simplex_codec.specs.Codec.{bytes_at, bytes-IsCodec, unbounded-IsCodec};
 
-use crate::codec::{CodecError, EncodeSize, MaxEncodeSize, Read, Write, read_bytes};
 use crate::duplicate::Duplicate;
+use simplex_codec::{CodecError, EncodeSize, MaxEncodeSize, Read, Write, read_bytes};
 use std::alloc::{AllocError, Global};
 use std::fmt;
 use std::hash::Hash;

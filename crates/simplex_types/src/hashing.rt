@@ -6,7 +6,7 @@ ghost use Rattle.sha2.specs.Hashers.{Holds256};
 ghost use Rattle.simplex_types.specs.Proposal.{proposal_spelling};
 ghost use Rattle.simplex_types.specs.Round.{round_spelling};
 ghost use Rattle.simplex_types.specs.Subject.{statement, message};
-ghost use Rattle.simplex_types.specs.Varint.{varint};
+ghost use Rattle.simplex_codec.specs.Varint.{varint};
 
 use crate::digest::Digest;
 use crate::position::{Participant, Round};
@@ -62,7 +62,7 @@ fn hash_round(hasher: &mut Sha256, round: &Round)
 }
 
 /// Hashes a number as it is spelled.
-#[tactic(auto, using(crate::specs::Varint::varint_steps))]
+#[tactic(auto, using(simplex_codec::specs::Varint::varint_steps))]
 fn hash_number(hasher: &mut Sha256, number: u64)
     ensures { (m : List ℕ) → Holds256 hasher.old m → Holds256 hasher.new (m ++ varint number) }
 {

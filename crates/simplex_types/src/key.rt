@@ -2,8 +2,8 @@
 
 ghost use Rattle.std.specs.Prelude.{◌≡◌, ◌↔◌, ◌≤◌, ◌<◌, ◌^◌, ℕ, Bool, List, length, IsTrue};
 
-use crate::codec::{MaxEncodeSize, Read};
 use crate::duplicate::Duplicate;
+use simplex_codec::{MaxEncodeSize, Read};
 use std::hash::Hash;
 
 /// Public keys: short values that are compared as they are.

@@ -5,8 +5,6 @@ mod attestation;
 mod attestation_list;
 mod attesting;
 mod attributes;
-mod codec;
-mod committee;
 mod context;
 mod digest;
 mod duplicate;
@@ -19,14 +17,11 @@ mod proposal;
 mod scheme;
 mod spelling;
 mod subject;
-mod varint;
 
 pub use attestation::{Attestation, Signature};
 pub use attestation_list::AttestationList;
 pub use attesting::{Attesting, failing_signers, list_of_quorum, lists_quorum};
 pub use attributes::{Attributable, Epochable, Viewable};
-pub use codec::{CodecError, EncodeSize, MaxEncodeSize, Read, Write, decode_cfg};
-pub use committee::{faults, quorum, two_quorums_share_members};
 pub use context::{Context, equal_contexts_are_one};
 pub use digest::{Digest, Sha256Digest};
 pub use duplicate::Duplicate;
@@ -37,5 +32,8 @@ pub use plain::{PlainKey, PlainScheme, PlainSignature};
 pub use position::{Epoch, Participant, Round, TermLength, View, ViewDelta};
 pub use proposal::{Proposal, proposals_are_ordered};
 pub use scheme::{Aggregate, AssemblyError, Listing, Scheme};
+pub use simplex_codec::{
+    CodecError, EncodeSize, MaxEncodeSize, Read, Write, decode_cfg, numbers_have_one_spelling,
+};
+pub use simplex_committee::{faults, quorum, two_quorums_share_members};
 pub use subject::{Namespace, Subject, signed_bytes_name_one_subject};
-pub use varint::numbers_have_one_spelling;

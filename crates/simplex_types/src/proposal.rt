@@ -5,10 +5,10 @@ ghost use Rattle.simplex_types.specs.declared.proposal.Proposal.{Proposal};
 ghost use Rattle.simplex_types.specs.Proposal.{proposal_cmp};
 
 use crate::attributes::{Epochable, Viewable};
-use crate::codec::{CodecError, EncodeSize, MaxEncodeSize, Read, Write};
 use crate::digest::Digest;
 use crate::duplicate::Duplicate;
 use crate::position::{Epoch, Round, View};
+use simplex_codec::{CodecError, EncodeSize, MaxEncodeSize, Read, Write};
 use std::alloc::{AllocError, Global};
 
 /// A payload for a round, on top of the proposal of an earlier view, its parent.
@@ -97,7 +97,7 @@ impl<D: Digest> MaxEncodeSize for Proposal<D> {
 
 impl<D: Digest> Read for Proposal<D> {
     ghost use Rattle.std.specs.Prelude.{⊤};
-    ghost use Rattle.simplex_types.specs.Codec.{unbounded-IsCodec, bounded-IsCodec};
+    ghost use Rattle.simplex_codec.specs.Codec.{unbounded-IsCodec, bounded-IsCodec};
     ghost use Rattle.simplex_types.specs.Proposal.{proposal_at, proposal-IsCodec};
 
     ghost within = { λ _ _. ⊤ };

@@ -5,16 +5,17 @@ ghost use Rattle.simplex_types.specs.declared.attestation.Attestation.{Attestati
 ghost use Rattle.simplex_types.specs.declared.scheme.AssemblyError.TheVariants.{InsufficientAttestations, Memory};
 ghost use Rattle.simplex_types.specs.AttestationList.{AscendsFrom};
 ghost use Rattle.simplex_types.specs.Batching.{AreFailing};
-ghost use Rattle.simplex_types.specs.Quorum.{AreDistinct, IsQuorum, quorum};
+ghost use Rattle.simplex_types.specs.Quorum.{AreDistinct, IsQuorum};
+ghost use Rattle.simplex_committee.specs.Committee.{quorum};
 ghost use Rattle.simplex_types.specs.Subject.{Statement, statement};
 
 use crate::attestation::{Attestation, Signature};
-use crate::codec::{EncodeSize, Read};
 use crate::digest::Digest;
 use crate::duplicate::Duplicate;
 use crate::key::PublicKey;
 use crate::position::Participant;
 use crate::subject::Subject;
+use simplex_codec::{EncodeSize, Read};
 use std::alloc::{AllocError, Global};
 use std::hash::Hash;
 use thiserror::Error;

@@ -4,10 +4,10 @@ ghost use Rattle.std.specs.Prelude.{◌≡◌, ◌++◌, ◌≤◌, ℕ, List, I
 ghost use Rattle.simplex_types.specs.Subject.{Statement, statement, message, namespace, kind_name, OneSubjectEach};
 
 use crate::attributes::{Epochable, Viewable};
-use crate::codec::Write;
 use crate::digest::Digest;
 use crate::position::{Epoch, Round, View};
 use crate::proposal::Proposal;
+use simplex_codec::Write;
 use std::alloc::{AllocError, Global};
 use std::marker::Model;
 

@@ -3,7 +3,7 @@ use Rattle.std.proofs.Common.{◌≡◌, Bool, true, false, not, ◌&&◌, ◌||
 use Rattle.std.specs.Prelude.{None, if◌then◌else◌}
 use Rattle.simplex_types.specs.declared.scheme.Scheme.{Ghosts}
 use Rattle.simplex_messages.specs.declared.vote.Vote.{Vote}
-use Rattle.simplex_messages.specs.declared.certificate.Certificate.{Certificate}
+use Rattle.simplex_certificates.specs.declared.certificate.Certificate.{Certificate}
 use Rattle.simplex_judging.specs.declared.kind.Kind.{Kind}
 use Rattle.simplex_judging.specs.declared.kind.Kind.TheVariants.{Notarization, Nullification, Finalization}
 use Rattle.simplex_verifier.specs.declared.pool.Pool.{Pool}

@@ -4,7 +4,7 @@ use Rattle.std.specs.Prelude.{Option, None, Some, filter, find, is_some, if◌th
 use Rattle.std.specs.List.{filter_map}
 use Rattle.std.proofs.lemmas.List.Elements.{filter-append}
 use Rattle.simplex_messages.specs.declared.vote.Vote.{Vote}
-use Rattle.simplex_messages.specs.declared.certificate.Certificate.{Certificate}
+use Rattle.simplex_certificates.specs.declared.certificate.Certificate.{Certificate}
 use Rattle.simplex_judging.specs.declared.kind.Kind.{Kind}
 use Rattle.simplex_judging.specs.declared.kind.Kind.TheVariants.{Notarization, Nullification, Finalization}
 use Rattle.simplex_verifier.specs.declared.pool.Pool.{Pool}

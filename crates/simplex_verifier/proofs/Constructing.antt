@@ -14,8 +14,8 @@ use Rattle.simplex_types.specs.Subject.{Statement}
 use Rattle.simplex_types.specs.Batching.{AreFailing}
 use Rattle.simplex_messages.specs.declared.vote.Vote.{Vote}
 use Rattle.simplex_messages.specs.declared.vote.Vote.TheVariants as vote
-use Rattle.simplex_messages.specs.declared.certificate.Certificate.{Certificate}
-use Rattle.simplex_messages.specs.Certificate.{certificate_statement, certified_by}
+use Rattle.simplex_certificates.specs.declared.certificate.Certificate.{Certificate}
+use Rattle.simplex_certificates.specs.Certificate.{certificate_statement, certified_by}
 use Rattle.simplex_messages.specs.VoteParts.{vote_round}
 use Rattle.simplex_judging.specs.declared.kind.Kind.{Kind}
 use Rattle.simplex_judging.specs.declared.judging.Judged.{Judged}

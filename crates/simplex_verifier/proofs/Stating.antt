@@ -13,9 +13,9 @@ use Rattle.simplex_types.specs.declared.attestation.Attestation.{Attestation}
 use Rattle.simplex_types.specs.Subject.{Statement, notarize, nullify, finalize}
 use Rattle.simplex_messages.specs.declared.vote.Vote.{Vote}
 use Rattle.simplex_messages.specs.declared.vote.Vote.TheVariants as vote
-use Rattle.simplex_messages.specs.declared.certificate.Certificate.{Certificate}
-use Rattle.simplex_messages.specs.declared.certificate.Certificate.TheVariants as certificate
-use Rattle.simplex_messages.specs.Certificate.{certificate_round, certificate_statement}
+use Rattle.simplex_certificates.specs.declared.certificate.Certificate.{Certificate}
+use Rattle.simplex_certificates.specs.declared.certificate.Certificate.TheVariants as certificate
+use Rattle.simplex_certificates.specs.Certificate.{certificate_round, certificate_statement}
 use Rattle.simplex_messages.specs.VoteParts.{vote_round}
 use Rattle.simplex_judging.specs.declared.kind.Kind.{Kind}
 use Rattle.simplex_judging.specs.declared.kind.Kind.TheVariants.{Notarization, Nullification, Finalization}

@@ -2,9 +2,9 @@
 use Rattle.std.specs.Prelude.{◌≡◌, ℕ, Bool, true, false, List, [], ◌∷◌, Contains, None, is_some, ⊤}
 use Rattle.simplex_types.specs.Subject.{Statement}
 use Rattle.simplex_messages.specs.declared.vote.Vote.{Vote}
-use Rattle.simplex_messages.specs.declared.certificate.Certificate.{Certificate}
+use Rattle.simplex_certificates.specs.declared.certificate.Certificate.{Certificate}
 use Rattle.simplex_messages.specs.VoteParts.{vote_round, vote_signer}
-use Rattle.simplex_messages.specs.Certificate.{certificate_round}
+use Rattle.simplex_certificates.specs.Certificate.{certificate_round}
 use Rattle.simplex_judging.specs.declared.kind.Kind.{Kind}
 use Rattle.simplex_judging.specs.Judging.{is_among}
 use Rattle.simplex_verifier.specs.Votes.{vote_statement, vote_attestation}

@@ -1,6 +1,6 @@
 -- Quorums of votes, and that none is lost.
 use Rattle.std.specs.Prelude.{◌≡◌, ◌≤◌, ℕ, true, List, [], ◌∷◌, length, All, Contains, Some, MatchOption, ⊤}
-use Rattle.simplex_types.specs.Counting.{NoneTwice}
+use Rattle.simplex_committee.specs.Counting.{NoneTwice}
 use Rattle.simplex_types.specs.Subject.{Statement}
 use Rattle.simplex_types.specs.declared.proposal.Proposal.{Proposal}
 use Rattle.simplex_messages.specs.declared.vote.Vote.{Vote}

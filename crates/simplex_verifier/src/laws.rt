@@ -2,7 +2,7 @@
 
 ghost use Rattle.std.specs.Prelude.{◌≡◌, ◌≤◌, ◌<◌, ◌∷◌, None, Some, false, length};
 ghost use Rattle.simplex_messages.specs.declared.vote.Vote.{Vote};
-ghost use Rattle.simplex_messages.specs.declared.certificate.Certificate.{Certificate};
+ghost use Rattle.simplex_certificates.specs.declared.certificate.Certificate.{Certificate};
 ghost use Rattle.simplex_judging.specs.declared.kind.Kind.{Kind};
 ghost use Rattle.simplex_verifier.specs.declared.batch.Batch.{Batch};
 ghost use Rattle.simplex_verifier.specs.declared.verifier.Verifier.{Verifier};

@@ -3,8 +3,8 @@
 ghost use Rattle.std.specs.Prelude.{◌≡◌, ◌↔◌, ◌++◌, ◌∷◌, ◌≤◌, [], ◌&&◌, ◌||◌, ℕ, List, Bool, not, filter, length, Option, Some, None, IsTrue, IfOk, IfErr, IfSome, Err, ◌≢◌, OnOk, OnErr, MatchOption, if◌then◌else◌, is_some, nat_le, max, true, false};
 ghost use Rattle.std.specs.Option.{option_copied, option_map};
 ghost use Rattle.simplex_verifier.specs.declared.fault.BatcherFault.TheVariants.{OtherLeader};
-ghost use Rattle.simplex_types.specs.Quorum.{quorum};
-ghost use Rattle.simplex_messages.specs.Certificate.{certificate_round};
+ghost use Rattle.simplex_committee.specs.Committee.{quorum};
+ghost use Rattle.simplex_certificates.specs.Certificate.{certificate_round};
 ghost use Rattle.simplex_verifier.specs.Votes.{vote_kind, fixed_proposal};
 ghost use Rattle.simplex_verifier.specs.History.{Taken, Cast, Certified, Led, History, Setup, select, proposal_of, selected, selection, leader_of, led, notarized_by, context, waiting, verified, is_candidate, is_complete, is_ready, is_due, next_kind};
 ghost use Rattle.simplex_verifier.specs.Lawful.{Allowed};

@@ -2,7 +2,7 @@
 
 ghost use Rattle.std.specs.Prelude.{◌≡◌, Option, Some, None, Bool, if◌then◌else◌};
 ghost use Rattle.simplex_types.specs.Subject.{statement};
-ghost use Rattle.simplex_messages.specs.Certificate.{certificate_statement, certified_by};
+ghost use Rattle.simplex_certificates.specs.Certificate.{certificate_statement, certified_by};
 ghost use Rattle.simplex_verifier.specs.Votes.{vote_kind, vote_statement, vote_attestation, certificate_kind, certificate_proposal, fixed_proposal};
 ghost use Rattle.simplex_verifier.specs.History.{is_candidate};
 

@@ -4,7 +4,7 @@ use Rattle.std.specs.Prelude.{Option, Some, None, Bool, is_some, nat_lt, â—Œ||â—
 use Rattle.std.specs.Option.{option_or}
 use Rattle.std.proofs.lemmas.Grind.{common_steps}
 use Rattle.std.proofs.lemmas.Bool.{cases_Bool, cases_eq}
-use Rattle.simplex_messages.specs.declared.nullification.Nullification.{Nullification}
+use Rattle.simplex_certificates.specs.declared.nullification.Nullification.{Nullification}
 use Rattle.simplex_round.specs.Past.{Item, nullification}
 use Rattle.simplex_round.specs.Past as past
 use Rattle.simplex_tracking.specs.Laws.{put-fact}

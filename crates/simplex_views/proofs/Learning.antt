@@ -7,8 +7,8 @@ use Rattle.std.specs.BTreeMap.{get}
 use Rattle.simplex_types.specs.Positions.{HasRoom, next_term_start, term_end}
 use Rattle.simplex_types.specs.declared.position.Round.{Round}
 use Rattle.simplex_types.specs.declared.scheme.Scheme.{Ghosts}
-use Rattle.simplex_messages.specs.declared.nullification.Nullification.{Nullification}
-use Rattle.simplex_messages.specs.ProposalCertificate.{Notarization, Finalization}
+use Rattle.simplex_certificates.specs.declared.nullification.Nullification.{Nullification}
+use Rattle.simplex_certificates.specs.ProposalCertificate.{Notarization, Finalization}
 use Rattle.simplex_rules.specs.declared.elector.Elector as elector
 use Rattle.simplex_record.specs.declared.coverage.Coverage.{Coverage}
 use Rattle.simplex_record.specs.Coverage as spans

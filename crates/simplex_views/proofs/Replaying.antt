@@ -3,14 +3,14 @@ use Rattle.std.proofs.Common.{◌≡◌, ◌==◌, ℕ, true, false, List, ◌�
 use Rattle.std.specs.Prelude.{Option, Some, None, Bool, ⊤, ◌||◌}
 use Rattle.simplex_types.specs.declared.proposal.Proposal.{Proposal}
 use Rattle.simplex_types.specs.declared.scheme.Scheme.{Ghosts}
-use Rattle.simplex_messages.specs.declared.artifact.Artifact.{Artifact}
-use Rattle.simplex_messages.specs.declared.artifact.Artifact.TheVariants as artifact
+use Rattle.simplex_certificates.specs.declared.artifact.Artifact.{Artifact}
+use Rattle.simplex_certificates.specs.declared.artifact.Artifact.TheVariants as artifact
 use Rattle.simplex_rules.specs.declared.elector.Elector as elector
 use Rattle.simplex_rules.specs.declared.kind.Kind.TheVariants as kind
 use Rattle.simplex_round.specs.Held.{recorded}
 use Rattle.simplex_round.specs.Past as past
 use Rattle.simplex_round.specs.Past.{Item, has_notarized}
-use Rattle.simplex_messages.specs.ProposalVote.{Notarize}
+use Rattle.simplex_certificates.specs.ProposalVote.{Notarize}
 use Rattle.simplex_tracking.specs.declared.marks.Marks.{Marks}
 use Rattle.simplex_tracking.specs.declared.tracked.Tracked.{Tracked}
 use Rattle.simplex_views.specs.declared.views.Views.{Views}

@@ -3,8 +3,8 @@ use Rattle.std.specs.Prelude.{◌+◌, ◌==◌, ◌&&◌, ◌||◌, nat_lt, nat
 use Rattle.std.specs.Option.{option_or}
 use Rattle.simplex_types.specs.declared.proposal.Proposal.{Proposal}
 use Rattle.simplex_types.specs.Positions.{next_term_start, term_end}
-use Rattle.simplex_messages.specs.declared.nullification.Nullification.{Nullification}
-use Rattle.simplex_messages.specs.ProposalCertificate.{Notarization, Finalization}
+use Rattle.simplex_certificates.specs.declared.nullification.Nullification.{Nullification}
+use Rattle.simplex_certificates.specs.ProposalCertificate.{Notarization, Finalization}
 use Rattle.simplex_rules.specs.declared.elector.Mode.{Mode}
 use Rattle.simplex_rules.specs.declared.elector.Mode.TheVariants.{Scheduled, Dynamic}
 use Rattle.simplex_rules.specs.declared.kind.Kind.{Kind}

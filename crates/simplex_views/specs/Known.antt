@@ -1,7 +1,7 @@
 -- What a voter knows: of each view and of all of them. All that is due, timeouts aside, is a matter of this alone.
 use Rattle.std.specs.Prelude.{◌&&◌, ◌==◌, ℕ, Bool, false, List, Option, option_map}
 use Rattle.simplex_types.specs.declared.proposal.Proposal.{Proposal}
-use Rattle.simplex_messages.specs.ProposalCertificate.{Notarization, Finalization}
+use Rattle.simplex_certificates.specs.ProposalCertificate.{Notarization, Finalization}
 use Rattle.simplex_round.specs.Held.{Offer}
 use Rattle.simplex_round.specs.Past as past
 use Rattle.simplex_views.specs.History.{Setup, Point, voted_notarize, recalled_notarize, certify_waited, current, last_finalized, floor, genesis, is_marked, was_nullified, seen}

@@ -5,9 +5,9 @@ use Rattle.std.specs.BTreeMap.{get}
 use Rattle.std.specs.Ordering.{nat_cmp}
 use Rattle.simplex_types.specs.Positions.{InCoveringRange}
 use Rattle.simplex_types.specs.declared.scheme.Scheme.{Ghosts}
-use Rattle.simplex_messages.specs.declared.nullification.Nullification.{Nullification}
-use Rattle.simplex_messages.specs.declared.artifact.Artifact.{Artifact}
-use Rattle.simplex_messages.specs.declared.artifact.Artifact.TheVariants as artifact
+use Rattle.simplex_certificates.specs.declared.nullification.Nullification.{Nullification}
+use Rattle.simplex_certificates.specs.declared.artifact.Artifact.{Artifact}
+use Rattle.simplex_certificates.specs.declared.artifact.Artifact.TheVariants as artifact
 use Rattle.simplex_rules.specs.declared.elector.Elector as elector
 use Rattle.simplex_rules.specs.declared.kind.Kind.TheVariants as kind
 use Rattle.simplex_record.specs.Coverage as spans

@@ -23,7 +23,7 @@ ghost use Rattle.simplex_views.specs.Leaders.{leader};
 ghost use Rattle.simplex_views.specs.Views.{Keeps, AtEach, built, AreCoveredBetween, IsFirstUncovered, IsHighestCovering, IsTracked, noticed, round_of};
 
 use crate::progress::Progress;
-use simplex_messages::{Finalization, Notarization, Nullification};
+use simplex_certificates::{Finalization, Notarization, Nullification};
 use simplex_record::Coverage;
 use simplex_round::Round;
 use simplex_rules::{Elector, Lookahead, Mode, Viewport};

@@ -10,11 +10,11 @@ use Rattle.simplex_types.specs.declared.proposal.Proposal.{Proposal}
 use Rattle.simplex_types.specs.declared.scheme.Scheme.{Ghosts}
 use Rattle.simplex_types.specs.Positions.{HasRoom}
 use Rattle.simplex_types.specs.Subject.{Statement}
-use Rattle.simplex_messages.specs.declared.nullify.Nullify.{Nullify}
-use Rattle.simplex_messages.specs.declared.proposal_vote.ProposalVote.{ProposalVote}
-use Rattle.simplex_messages.specs.Nullify.{NullifyIsAttested}
-use Rattle.simplex_messages.specs.ProposalVote.{IsAttested}
-use Rattle.simplex_messages.specs.ProposalCertificate.{Notarization}
+use Rattle.simplex_certificates.specs.declared.nullify.Nullify.{Nullify}
+use Rattle.simplex_certificates.specs.declared.proposal_vote.ProposalVote.{ProposalVote}
+use Rattle.simplex_certificates.specs.Nullify.{NullifyIsAttested}
+use Rattle.simplex_certificates.specs.ProposalVote.{IsAttested}
+use Rattle.simplex_certificates.specs.ProposalCertificate.{Notarization}
 use Rattle.simplex_round.specs.Past as past
 use Rattle.simplex_views.specs.History.{Setup, Point, current, seen}
 use Rattle.simplex_views.specs.Known.{known}

@@ -4,10 +4,10 @@ use Rattle.std.specs.Prelude.{◌↔◌, List, Option, Some, None, IsTrue, Match
 use Rattle.std.specs.Option.{option_or}
 use Rattle.std.proofs.lemmas.Bool.{cases_lt, both_ways, eq-eqb, ne_eqb}
 use Rattle.simplex_types.specs.Positions.{InCoveringRange, term_start}
-use Rattle.simplex_messages.specs.declared.certificate.Certificate.{Certificate}
-use Rattle.simplex_messages.specs.declared.certificate.Certificate.TheVariants as certificate
-use Rattle.simplex_messages.specs.ProposalCertificate.{Finalization, Notarization}
-use Rattle.simplex_messages.specs.declared.nullification.Nullification.{Nullification}
+use Rattle.simplex_certificates.specs.declared.certificate.Certificate.{Certificate}
+use Rattle.simplex_certificates.specs.declared.certificate.Certificate.TheVariants as certificate
+use Rattle.simplex_certificates.specs.ProposalCertificate.{Finalization, Notarization}
+use Rattle.simplex_certificates.specs.declared.nullification.Nullification.{Nullification}
 use Rattle.simplex_round.specs.Past as past
 use Rattle.simplex_views.specs.History.{Setup, Point, current, nullification, seen}
 use Rattle.simplex_views.specs.Views.{IsHighestCovering}

@@ -10,7 +10,7 @@ use Rattle.std.specs.Prelude.{◌↔◌, AllPairs, Contains, Some, None, is_some
 use Rattle.std.specs.Ordering.{nat_cmp}
 use Rattle.std.specs.BTreeMap.{is_at}
 use Rattle.std.specs.BTreeSet.{BTreeSet, contains, IsLowerBound, Updates}
-use Rattle.simplex_types.specs.Counting.{Contains-nil, Contains-head}
+use Rattle.simplex_committee.specs.Counting.{Contains-nil, Contains-head}
 use Rattle.simplex_types.specs.declared.proposal.Proposal.{Proposal}
 use Rattle.simplex_rules.specs.Spans.{term_end-above}
 use Rattle.simplex_views.specs.Known.{Known}

@@ -9,12 +9,12 @@ use Rattle.std.specs.Option.{option_or}
 use Rattle.std.specs.Ordering.{nat_cmp}
 use Rattle.std.specs.BTreeSet.{BTreeSet, contains}
 use Rattle.simplex_types.specs.declared.proposal.Proposal.{Proposal}
-use Rattle.simplex_types.specs.Counting.{Contains-nil, Contains-cases}
+use Rattle.simplex_committee.specs.Counting.{Contains-nil, Contains-cases}
 use Rattle.simplex_types.specs.Positions.{next_term_start, term_start}
-use Rattle.simplex_messages.specs.ProposalCertificate.{Notarization, Finalization}
-use Rattle.simplex_messages.specs.Artifact.{artifact_round}
-use Rattle.simplex_messages.specs.declared.artifact.Artifact.{Artifact}
-use Rattle.simplex_messages.specs.declared.artifact.Artifact.TheVariants as artifact
+use Rattle.simplex_certificates.specs.ProposalCertificate.{Notarization, Finalization}
+use Rattle.simplex_certificates.specs.Artifact.{artifact_round}
+use Rattle.simplex_certificates.specs.declared.artifact.Artifact.{Artifact}
+use Rattle.simplex_certificates.specs.declared.artifact.Artifact.TheVariants as artifact
 use Rattle.simplex_rules.specs.declared.kind.Kind.TheVariants as kind
 use Rattle.simplex_round.specs.Held as offer
 use Rattle.simplex_round.specs.Held.{held}

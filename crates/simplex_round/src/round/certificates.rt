@@ -6,7 +6,7 @@ ghost use Rattle.simplex_round.specs.Past.{notarized, nullified, finalized, sent
 ghost use Rattle.simplex_round.specs.Round.{AtEach, Becomes};
 
 use crate::round::Round;
-use simplex_messages::{Finalization, Notarization, Nullification};
+use simplex_certificates::{Finalization, Notarization, Nullification};
 use simplex_types::{Digest, Duplicate, Scheme};
 use std::alloc::{AllocError, Global};
 

@@ -6,7 +6,7 @@ ghost use Rattle.simplex_round.specs.Past.{voted_notarize, voted_nullify, voted_
 ghost use Rattle.simplex_round.specs.Round.{AtEach, Becomes, Recalls};
 
 use crate::round::Round;
-use simplex_messages::Artifact;
+use simplex_certificates::Artifact;
 use simplex_types::{Digest, Proposal, Scheme};
 
 impl<S: Scheme<D>, D: Digest> Round<S, D> {

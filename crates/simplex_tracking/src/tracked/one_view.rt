@@ -10,7 +10,7 @@ ghost use Rattle.simplex_tracking.specs.Tracked.{Tables, Holds, AtEach};
 
 use crate::notice::Notice;
 use crate::tracked::Tracked;
-use simplex_messages::{Artifact, Finalization, Notarization, Nullification};
+use simplex_certificates::{Artifact, Finalization, Notarization, Nullification};
 use simplex_round::{Leader, Round, TimeoutReason};
 use simplex_types::{Digest, Proposal, Scheme, View, Viewable};
 use std::alloc::{AllocError, Global};

@@ -11,7 +11,7 @@ ghost use Rattle.simplex_views.specs.Progress.{InTime};
 ghost use Rattle.simplex_views.specs.Views.{Keeps, AtEach};
 
 use crate::views::Views;
-use simplex_messages::{Finalization, Notarization, Nullification};
+use simplex_certificates::{Finalization, Notarization, Nullification};
 use simplex_round::TimeoutReason;
 use simplex_rules::Elector;
 use simplex_tracking::{Notice, later};

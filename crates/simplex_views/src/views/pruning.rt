@@ -13,7 +13,7 @@ ghost use Rattle.simplex_tracking.specs.Tracked.{Holds, forgotten};
 ghost use Rattle.simplex_views.specs.Views.{Keeps, AreDropped, AreTrackedBelow, AtEach, kept_from};
 
 use crate::views::Views;
-use simplex_messages::Nullification;
+use simplex_certificates::Nullification;
 use simplex_round::Round;
 use simplex_rules::Elector;
 use simplex_tracking::Tracked;

@@ -8,7 +8,7 @@ ghost use Rattle.simplex_tracking.specs.Rounds.{Takes};
 ghost use Rattle.simplex_views.specs.Views.{Keeps, AtEach, recalls};
 
 use crate::views::Views;
-use simplex_messages::Artifact;
+use simplex_certificates::Artifact;
 use simplex_rules::Elector;
 use simplex_types::{Digest, Proposal, Scheme, View, Viewable};
 use std::alloc::AllocError;

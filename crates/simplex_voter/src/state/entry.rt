@@ -6,7 +6,7 @@ ghost use Rattle.simplex_due.specs.Answers.{best_certificate, covering_nullifica
 ghost use Rattle.simplex_voter.specs.State.{AtEach};
 
 use crate::state::State;
-use simplex_messages::{Certificate, Nullification};
+use simplex_certificates::{Certificate, Nullification};
 use simplex_rules::Elector;
 use simplex_types::{Digest, Duplicate, Scheme, View};
 use std::alloc::{AllocError, Global};

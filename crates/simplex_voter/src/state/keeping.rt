@@ -8,7 +8,7 @@ ghost use Rattle.simplex_voter.specs.State.{AtEach, Keeps};
 
 use crate::state::State;
 use crate::state::certifying::wake;
-use simplex_messages::Artifact;
+use simplex_certificates::Artifact;
 use simplex_rules::Elector;
 use simplex_types::{Digest, Scheme, View, Viewable};
 use std::alloc::{AllocError, Global};

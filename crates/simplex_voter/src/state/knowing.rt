@@ -10,9 +10,9 @@ ghost use Rattle.simplex_due.specs.Ancestry.{explicit, member};
 ghost use Rattle.simplex_voter.specs.State.{AtEach, Keeps};
 
 use crate::state::State;
+use simplex_certificates::{Finalization, Notarization, Nullification};
 use simplex_due::ancestry::explicit_payload;
 use simplex_facts::Facts;
-use simplex_messages::{Finalization, Notarization, Nullification};
 use simplex_rules::Elector;
 use simplex_types::{Digest, Epoch, Participant, Proposal, Scheme, View};
 

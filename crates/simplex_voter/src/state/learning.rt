@@ -12,7 +12,7 @@ ghost use Rattle.simplex_voter.specs.State.{AtEach, Keeps};
 
 use crate::state::State;
 use crate::state::certifying::wake;
-use simplex_messages::{Finalization, Notarization, Nullification};
+use simplex_certificates::{Finalization, Notarization, Nullification};
 use simplex_rules::Elector;
 use simplex_types::{Digest, Proposal, Scheme, View, Viewable};
 use std::alloc::{AllocError, Global};

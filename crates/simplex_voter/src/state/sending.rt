@@ -7,7 +7,7 @@ ghost use Rattle.simplex_views.specs.History.{sent, seen};
 ghost use Rattle.simplex_voter.specs.State.{AtEach, Keeps};
 
 use crate::state::State;
-use simplex_messages::{Finalization, Notarization, Nullification};
+use simplex_certificates::{Finalization, Notarization, Nullification};
 use simplex_rules::Elector;
 use simplex_types::{Digest, Scheme, View};
 use std::alloc::{AllocError, Global};

@@ -6,8 +6,8 @@ ghost use Rattle.simplex_voter.specs.Floor.{StandsOn, StartsOn};
 ghost use Rattle.simplex_voter.specs.State.{AtEach};
 
 use crate::state::State;
+use simplex_certificates::Finalization;
 use simplex_facts::Floor;
-use simplex_messages::Finalization;
 use simplex_rules::Elector;
 use simplex_types::{Digest, Scheme, Viewable};
 use std::alloc::{AllocError, Global};

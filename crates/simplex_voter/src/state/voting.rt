@@ -12,9 +12,9 @@ ghost use Rattle.simplex_voter.specs.State.{AtEach, Keeps};
 ghost use Rattle.simplex_voter.specs.Votes.{IsOwn, IsOwnNullify};
 
 use crate::state::State;
+use simplex_certificates::{Finalize, Notarize, Nullify};
 use simplex_due::votes::{finalize_is_due, notarize_is_due};
 use simplex_facts::Facts;
-use simplex_messages::{Finalize, Notarize, Nullify};
 use simplex_round::TimeoutReason;
 use simplex_rules::Elector;
 use simplex_types::{Digest, Round, Scheme, View};

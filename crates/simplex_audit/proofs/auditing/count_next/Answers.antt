@@ -1,5 +1,5 @@
 use Rattle.std.proofs.Common.{◌≢◌, refl, rules}
-use Rattle.simplex_types.specs.declared.codec.CodecError.TheVariants.{Memory}
+use Rattle.simplex_codec.specs.declared.codec.CodecError.TheVariants.{Memory}
 use Rattle.simplex_audit.specs.Tally.{HoldsReports}
 use Rattle.simplex_audit.proofs.Loose.{loose-counted, loose-none}
 use Rattle.simplex_audit.proofs.auditing.count_next.Goals as goal

@@ -1,5 +1,5 @@
 use Rattle.std.proofs.Common.{◌≢◌, refl, rules}
-use Rattle.simplex_types.specs.declared.codec.CodecError.TheVariants.{Memory}
+use Rattle.simplex_codec.specs.declared.codec.CodecError.TheVariants.{Memory}
 use Rattle.simplex_messages.specs.Activity.{notarize_report}
 use Rattle.simplex_audit.specs.Survey.{AreSurveyed}
 use Rattle.simplex_audit.proofs.Loose.{loose-counted, loose-none}

@@ -1,5 +1,5 @@
 use Rattle.std.proofs.Common.{length}
-use Rattle.simplex_types.specs.Codec.{Readable}
+use Rattle.simplex_codec.specs.Codec.{Readable}
 use Rattle.simplex_messages.specs.Activity.{activity_fits, activity_spelling, activity_within}
 use Rattle.simplex_audit.specs.Counted.{CountsSoFar}
 use Rattle.simplex_audit.specs.Survey.{AreSurveyed}

@@ -1,6 +1,6 @@
 use Rattle.std.proofs.Common.{[], length, map}
 use Rattle.std.specs.List.{All}
-use Rattle.simplex_types.specs.Codec.{Readable}
+use Rattle.simplex_codec.specs.Codec.{Readable}
 use Rattle.simplex_journal.specs.Record.{IsLeft}
 use Rattle.simplex_journal.proofs.entries.read_entries.Given as goal
 

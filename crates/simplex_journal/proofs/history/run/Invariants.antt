@@ -1,6 +1,6 @@
 use Rattle.std.proofs.Common.{◌≡◌, ◌≤◌, ◌++◌, length, map}
 use Rattle.std.specs.Prelude.{All, reverse, vec_capacity}
-use Rattle.simplex_types.specs.Codec.{Readable}
+use Rattle.simplex_codec.specs.Codec.{Readable}
 use Rattle.simplex_journal.specs.History.{OfMessage, request_of, AtEachEvent, IsAnswer, IsStage, disk_of, failures_told, Stands, CameBy}
 use Rattle.simplex_journal.proofs.history.run.Given as goal
 

@@ -2,7 +2,8 @@ use Rattle.std.proofs.Common.{◌≡◌, ◌≤◌, arith, length}
 use Rattle.std.proofs.lemmas.List.Sorted.{Contains-permutation, IsPermutation-sym, length_permutation}
 use Rattle.simplex_types.specs.AttestationList.{list_within-grows}
 use Rattle.simplex_types.specs.Subject.{statement}
-use Rattle.simplex_types.specs.Quorum.{quorum, IsQuorum-from_given}
+use Rattle.simplex_types.specs.Quorum.{IsQuorum-from_given}
+use Rattle.simplex_committee.specs.Committee.{quorum}
 use Rattle.simplex_types.proofs.attesting.list_of_quorum.Goals as goal
 
 pub returns-clause-certifies : goal.returns-clause-certifies

@@ -1,6 +1,7 @@
 use Rattle.std.proofs.Common.{◌≡◌, ◌≤◌, ap, arith, length}
 use Rattle.simplex_types.specs.Subject.{statement}
-use Rattle.simplex_types.specs.Quorum.{quorum, IsQuorum-from_ascending}
+use Rattle.simplex_types.specs.Quorum.{IsQuorum-from_ascending}
+use Rattle.simplex_committee.specs.Committee.{quorum}
 use Rattle.simplex_types.proofs.attesting.lists_quorum.Goals as goal
 
 pub returns-then-quorum-listed : goal.returns-then-quorum-listed

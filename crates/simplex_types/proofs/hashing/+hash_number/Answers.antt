@@ -1,5 +1,5 @@
 use Rattle.std.proofs.Common.{arith, ◌≤◌, append_assoc}
-use Rattle.simplex_types.specs.Varint.{varint-step}
+use Rattle.simplex_codec.specs.Varint.{varint-step}
 use Rattle.simplex_types.proofs.hashing.+hash_number.Goals as goal
 
 pub returns-else-number-lt128 : goal.returns-else-number-lt128

@@ -1,5 +1,5 @@
 use Rattle.std.proofs.Common.{arith}
-use Rattle.simplex_types.specs.Codec.{bounded-IsCodec}
+use Rattle.simplex_codec.specs.Codec.{bounded-IsCodec}
 use Rattle.simplex_types.proofs.Signed.{kinds-differ, one_subject}
 use Rattle.simplex_types.proofs.subject.signed_bytes_name_one_subject.Goals as goal
 

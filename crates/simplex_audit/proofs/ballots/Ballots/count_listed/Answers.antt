@@ -1,6 +1,6 @@
 use Rattle.std.proofs.Common.{◌++◌, ◌∷◌, [], List, map, subst}
 use Rattle.simplex_types.specs.declared.attestation.Attestation.{Attestation}
-use Rattle.simplex_messages.specs.declared.proposal_vote.ProposalVote.{ProposalVote}
+use Rattle.simplex_certificates.specs.declared.proposal_vote.ProposalVote.{ProposalVote}
 use Rattle.simplex_audit.proofs.Listed.{Adds, Adds-none, Adds-next, Adds-all, HoldsAlike, vote_by, vote_by-is}
 use Rattle.simplex_audit.proofs.ballots.Ballots.count_listed.Goals as goal
 

@@ -6,8 +6,8 @@ use Rattle.std.proofs.lemmas.List.{append-nil}
 use Rattle.simplex_types.specs.declared.attestation.Attestation.{Attestation}
 use Rattle.simplex_types.specs.Subject.{Statement}
 use Rattle.simplex_messages.specs.declared.activity.Activity.{Activity}
-use Rattle.simplex_messages.specs.declared.nullify.Nullify.{Nullify}
-use Rattle.simplex_messages.specs.ProposalVote.{Finalize}
+use Rattle.simplex_certificates.specs.declared.nullify.Nullify.{Nullify}
+use Rattle.simplex_certificates.specs.ProposalVote.{Finalize}
 use Rattle.simplex_messages.specs.Activity.{nullify_finalize_report}
 use Rattle.simplex_audit.specs.declared.cast.Suspect.{Suspect}
 use Rattle.simplex_audit.specs.declared.tally.Tally.{Tally}

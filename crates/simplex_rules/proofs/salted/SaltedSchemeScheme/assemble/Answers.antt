@@ -1,7 +1,8 @@
 use Rattle.std.proofs.Common.{◌≡◌, ◌≤◌, arith, length}
 use Rattle.std.proofs.lemmas.List.Sorted.{Contains-permutation, IsPermutation-sym}
 use Rattle.simplex_types.specs.AttestationList.{list_within-grows}
-use Rattle.simplex_types.specs.Quorum.{quorum, IsQuorum-from_given}
+use Rattle.simplex_types.specs.Quorum.{IsQuorum-from_given}
+use Rattle.simplex_committee.specs.Committee.{quorum}
 use Rattle.simplex_rules.specs.Salted.{Attests}
 use Rattle.simplex_rules.proofs.salted.SaltedSchemeScheme.assemble.Goals as goal
 

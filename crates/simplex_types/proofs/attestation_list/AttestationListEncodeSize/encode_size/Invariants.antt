@@ -1,7 +1,7 @@
 use Rattle.std.proofs.Common.{◌≡◌, ◌+◌, ◌*◌, ℕ, ◌<◌, ◌≤◌, length, take, get_or}
 use Rattle.std.specs.List.{flat_map}
 use Rattle.simplex_types.specs.declared.attestation.Attestation.{Attestation}
-use Rattle.simplex_types.specs.Varint.{varint}
+use Rattle.simplex_codec.specs.Varint.{varint}
 use Rattle.simplex_types.specs.Attestation.{attestation_spelling, attestation_fits}
 use Rattle.simplex_types.proofs.attestation_list.AttestationListEncodeSize.encode_size.Given as goal
 

@@ -1,5 +1,5 @@
 use Rattle.std.proofs.Common.{arith, ◌≤◌}
-use Rattle.simplex_types.specs.Codec.{bounded-IsCodec}
+use Rattle.simplex_codec.specs.Codec.{bounded-IsCodec}
 use Rattle.simplex_types.specs.ListCodec.{ascending-read}
 use Rattle.simplex_types.proofs.attestation_list.AttestationListRead.read_cfg.Goals as goal
 

@@ -2,7 +2,8 @@ use Rattle.std.proofs.Common.{◌≡◌, ◌≤◌, ap, length}
 use Rattle.std.proofs.lemmas.List.Sorted.{Contains-permutation, IsPermutation-sym}
 use Rattle.simplex_types.specs.AttestationList.{list_within-grows}
 use Rattle.simplex_types.specs.Plain.{Attests}
-use Rattle.simplex_types.specs.Quorum.{quorum, IsQuorum-from_given}
+use Rattle.simplex_types.specs.Quorum.{IsQuorum-from_given}
+use Rattle.simplex_committee.specs.Committee.{quorum}
 use Rattle.simplex_types.proofs.plain.PlainSchemeScheme.assemble.Goals as goal
 
 pub returns-clause-certifies : goal.returns-clause-certifies

@@ -4,7 +4,7 @@ use Rattle.std.proofs.lemmas.List.{take_all}
 use Rattle.std.specs.Ordering.{nat_cmp}
 use Rattle.std.specs.BTreeSet.{contains}
 use Rattle.std.proofs.lemmas.Result.{IfOk-from_err}
-use Rattle.simplex_types.specs.Counting.{Contains-nil}
+use Rattle.simplex_committee.specs.Counting.{Contains-nil}
 use Rattle.simplex_types.specs.declared.proposal.Proposal.{Proposal}
 use Rattle.simplex_voter.proofs.Members.{in_next, stays_in}
 use Rattle.simplex_voter.proofs.state.certifying.keep.Goals as goal

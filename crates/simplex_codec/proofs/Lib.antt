@@ -1,0 +1,3 @@
+pub mod OneVarint
+pub mod ShortVarints
+pub mod Decoding
