@@ -4,7 +4,7 @@ ghost use Rattle.std.specs.Prelude.{◌≡◌};
 ghost use Rattle.simplex_codec.specs.Codec.{Gives};
 ghost use Rattle.simplex_messages.specs.Vote.{any_vote_behind};
 
-use simplex_certificates::{Finalize, Notarize, Nullify};
+use simplex_certificates::{Artifact, Finalize, Notarize, Nullify};
 use simplex_types::{
     Attributable, CodecError, Digest, Duplicate, EncodeSize, Epoch, Epochable, MaxEncodeSize,
     Participant, Read, Round, Scheme, View, Viewable, Write,
