@@ -1,6 +1,6 @@
 #!/bin/sh
-# Measures certificates against the baseline: certificates.sh [--quick] [--runs N]
-# CERTIFICATES may name the program of certificates/main.rt.txt, else it is built here.
+# certificates.sh [--quick] [--runs N]: measures certificates against the baseline; --quick leaves out the greatest size.
+# CERTIFICATES may name the program of certificates/main.rt.txt, else it is proved and built here, which takes minutes.
 . "$(dirname "$0")/common.sh"
 
 rustc -O --edition 2021 -o "$folder/baseline" "$here/baseline/certificates.rs"

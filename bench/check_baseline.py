@@ -154,6 +154,8 @@ def some_input(chance):
 
 
 def main():
+    if len(sys.argv) < 2 or sys.argv[1] in ("-h", "--help"):
+        return print(__doc__)
     program, cases = sys.argv[1], int((sys.argv[2:] or ["2000"])[0])
     for seed in range(cases):
         data = some_input(random.Random(seed))

@@ -1,5 +1,15 @@
-# Read by the scripts that measure: a folder for one run, and how a program of this folder is made in it.
+# Read by the scripts that measure: their help, a folder for one run, and how a program of this folder is made in it.
 set -eu
+
+# Asked for help, a script prints the comment at its head, and does nothing else.
+for word in "$@"; do
+    case $word in
+        -h | --help)
+            sed -n '/^#!/d; /^#/!q; s/^# //p' "$0"
+            exit
+            ;;
+    esac
+done
 
 here=$(cd "$(dirname "$0")" && pwd)
 root=$(dirname "$here")
@@ -7,14 +17,29 @@ folder=$(mktemp -d)
 trap 'rm -rf "$folder"' EXIT
 trap 'exit 1' HUP INT TERM
 
-# lay_out NAME LIBRARY..: the program of NAME/main.rt.txt, beside copies of the libraries that it stands on.
+# below LIBRARY..: these, and all libraries of the repository that they stand on.
+below() {
+    awk -v named="$*" '
+        /^[a-z]/ { name = $1; sub(":", "", name); $1 = ""; stands_on[name] = $0 }
+        END {
+            last = split(named, waiting, " ")
+            for (at = 1; at <= last; at++)
+                if (waiting[at] in stands_on && !met[waiting[at]]++) {
+                    print waiting[at]
+                    more = split(stands_on[waiting[at]], lower, " ")
+                    for (it = 1; it <= more; it++) waiting[++last] = lower[it]
+                }
+        }' "$root/crates.txt"
+}
+
+# lay_out NAME LIBRARY..: the program of NAME/main.rt.txt, which names these libraries, beside copies of all that it needs.
 lay_out() {
     name=$1
     shift
     crate=$folder/crates/$name
     mkdir -p "$crate/src"
     cp "$here/$name/main.rt.txt" "$crate/src/main.rt"
-    for library in "$@"; do
+    for library in $(below "$@"); do
         cp -pR "$root/crates/$library" "$folder/crates"
         grep "^$library:" "$root/crates.txt" >>"$folder/crates.txt"
     done

@@ -1,6 +1,7 @@
 #!/bin/sh
-# Measures the journal: journal.sh [--quick] [--rounds N] [--place FOLDER]
-# JOURNAL may name the program of journal/main.rt.txt, else it is built here.
+# journal.sh [--quick] [--rounds N] [--place FOLDER]: measures the journal against the baseline, in files of that folder;
+# --quick appends a tenth.
+# JOURNAL may name the program of journal/main.rt.txt, else it is proved and built here, which takes minutes.
 . "$(dirname "$0")/common.sh"
 
 rustc -O --edition 2021 -o "$folder/baseline" "$here/baseline/journal.rs"

@@ -1,6 +1,7 @@
 #!/bin/sh
-# Measures simplex's audit against both baselines: run.sh [--quick] [--runs N] [--instructions] [SIMPLEX]
-# The simplex program may be named in the environment variable SIMPLEX instead.
+# run.sh [--quick] [--runs N] [--instructions] [SIMPLEX]: measures simplex's audit against both baselines; --quick leaves out
+# the greatest size, --instructions counts instructions in place of all else, which needs valgrind.
+# SIMPLEX is the path of the program, and may be named in the environment instead.
 . "$(dirname "$0")/common.sh"
 
 for program in audit lazy; do

@@ -880,6 +880,8 @@ def main(words):
     elif words[:1] == ["check"]:
         for path in words[1:]:
             check(path)
+    elif words and words != ["test"]:
+        print(__doc__)
     else:
         count = test()
         if words[:1] == ["test"]:

@@ -1,12 +1,11 @@
 #!/bin/sh
-# Measures a voter against the baseline: voter.sh [--quick] [--runs N]
-# VOTER may name the program of voter/main.rt.txt, else it is built here.
+# voter.sh [--quick] [--runs N]: measures a voter against the baseline; --quick makes few runs over shorter histories.
+# VOTER may name the program of voter/main.rt.txt, else it is proved and built here, which takes minutes to hours.
 . "$(dirname "$0")/common.sh"
 
 rustc -O --edition 2021 -o "$folder/baseline" "$here/baseline/voter.rs"
 if [ -z "${VOTER:-}" ]; then
-    lay_out voter simplex_voter simplex_facts simplex_due simplex_views simplex_tracking simplex_resolver simplex_record \
-        simplex_round simplex_messages simplex_rules simplex_types
+    lay_out voter simplex_voter simplex_resolver simplex_round simplex_rules simplex_messages simplex_types
     build finalized 4 1 1
 fi
 python3 -B "$here/measure_voter.py" --baseline "$folder/baseline" \

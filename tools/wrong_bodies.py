@@ -48,3 +48,7 @@ def replace(file, path, old, new):
         raise Unfit(f"an 'old:' stands {found} times in {path}")
     file.lines.append(file.text[: file.text.index(old)].count("\n"))
     file.text = file.text.replace(old, new)
+
+
+if __name__ == "__main__":
+    print(__doc__)
