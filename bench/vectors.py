@@ -20,6 +20,7 @@ Values are tuples whose first item names their kind:
 """
 
 import hashlib
+import re
 import sys
 
 U32 = 2**32 - 1
@@ -829,8 +830,16 @@ def formats():
 
 # ---------------------------------------------------------------- checking the two files
 
+def salted_nullify():
+    """The one example of the salted scheme, as a report: a counter, and the hash behind it of it and of what else is hashed."""
+    view, counter = ("round", 0, 3), bytes(range(1, 9))
+    namespace = BASE + NAMES["nullify"]
+    hashed = counter + (1).to_bytes(4, "big") + len(namespace).to_bytes(4, "big") + namespace + spelled(view)
+    return b"\x03" + spelled(view) + b"\x01" + counter + hashlib.sha256(hashed).digest()
+
+
 def known_bytes():
-    out = {spelled(CONTEXT)}
+    out = {spelled(CONTEXT), salted_nullify()}
     for value in MESSAGES:
         out |= {data for _, data in as_types(value)}
     return out
@@ -854,8 +863,7 @@ def check(path):
     if path.endswith(".md"):
         data = b""
         for line in lines + [""]:
-            if line.startswith("    ") and set(line[4:6]) <= set("0123456789abcdef") and line[6] == " " or \
-                    line.startswith("    ") and line[4:7] == "aa ":
+            if re.match("    ([0-9a-f][0-9a-f])+ ", line):
                 data += hex_bytes(line[4:].split("  ")[0])
             elif data:
                 assert data in known, data.hex()
