@@ -5,15 +5,24 @@ ghost use Rattle.std.specs.Prelude.{◌<◌};
 
 mod auditing;
 mod checking;
+mod deciding;
+mod gathering;
 mod recording;
+mod repairing;
 mod voting;
 
 use auditing::guilty;
 use checking::first_breach;
+use deciding::{begun, vote_for};
+use gathering::{Certified, Gathered, hand_in, next_certificate};
 use recording::{Item, open_record, remember};
+use repairing::to_ask_for;
 use simplex_journal::FileDisk;
-use simplex_messages::{Activity, Notarize};
-use simplex_types::{Epoch, Participant, PlainScheme, Proposal, Round, Sha256Digest, View, Write};
+use simplex_messages::{Activity, Notarize, Vote};
+use simplex_resolver::State as Repair;
+use simplex_types::{
+    Epoch, Participant, PlainScheme, Proposal, Round, Sha256Digest, TermLength, View, Write,
+};
 use std::alloc::{AllocError, Global};
 use std::rc::Rc;
 use std::{fs, io};
@@ -71,12 +80,64 @@ fn start(rt: &HostRuntime, byte: u8) -> io::Result<()> {
     }
 }
 
+/// The vote of the member with this index for the proposal of view 1, where it is due. Member 1 leads there and made it.
+fn vote_of(
+    alloc: Global,
+    member: u32,
+) -> Result<Option<Notarize<PlainScheme, Sha256Digest>>, AllocError>
+    requires { member < 4 }
+{
+    let scheme = committee(alloc, member)?;
+    if member == 1 {
+        return Ok(Notarize::sign(&scheme, proposal(0xaa)));
+    }
+    let scheme = Rc::new(alloc, scheme)?;
+    let mut voter = begun(alloc, scheme, Sha256Digest::new([0; 32]), 0)?;
+    vote_for(&mut voter, &proposal(0xaa), 10)
+}
+
+/// Four members vote, and their votes make a certificate, unless one of them is refused.
+fn decide(alloc: Global, votes: &mut Gathered) -> Result<Option<Certified>, AllocError> {
+    if votes.set_leader(Participant::new(1)).is_err() {
+        return Ok(None);
+    }
+    for member in 0..4 {
+        if let Some(vote) = vote_of(alloc, member)? {
+            let sender = Participant::new(member);
+            if !matches!(hand_in(votes, sender, Vote::Notarize(vote)), Ok(false)) {
+                return Ok(None);
+            }
+        }
+    }
+    next_certificate(alloc, votes)
+}
+
+/// How many views a member that knew nothing has to repair behind the certificate.
+fn missing_behind(alloc: Global, certificate: &Certified) -> Result<usize, AllocError> {
+    let mut repair = Repair::new(alloc, TermLength::ONE);
+    repair.replayed(alloc)?;
+    Ok(to_ask_for(alloc, &mut repair, certificate)?.len())
+}
+
+/// A member that knew nothing learns what four decided.
+fn learn(rt: &HostRuntime) -> io::Result<()> {
+    let alloc = rt.alloc();
+    let scheme = Rc::new(alloc, committee(alloc, 0)?)?;
+    let mut votes = Gathered::new(alloc, first_round(), scheme, false);
+    let Some(certificate) = decide(alloc, &mut votes)? else {
+        return println!(rt; "no certificate");
+    };
+    let views = missing_behind(alloc, &certificate)?;
+    println!(rt; "a certificate, and views to ask others for: {views}")
+}
+
 fn main(rt: HostRuntime) -> io::Result<()> {
     let alloc = rt.alloc();
     start(&rt, 0xaa)?;
     // The same after a crash, with another proposal from a leader that lies.
     start(&rt, 0xbb)?;
     fs::remove_file(&rt, "record")?;
+    learn(&rt)?;
     let reports = lies(alloc, &committee(alloc, 2)?)?;
     let (guilty, fault) = guilty(alloc, &committee(alloc, 0)?, &reports)?;
     for member in &guilty {
