@@ -3,9 +3,11 @@ pub mod Casts
 pub mod Claims
 pub mod Suspects
 pub mod Tallies
+pub mod Reports
 pub mod Listed
 pub mod Gathering
 pub mod Places
+pub mod Ends
 pub mod Judging
 pub mod Besides
 pub mod Pieces

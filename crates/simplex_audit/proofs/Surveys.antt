@@ -51,6 +51,10 @@ module _ {K S D P G C : Type 0} where
     | inr chosen ↦ inr (extends v.proposal.round (cast_of v).choice chosen)
   ]
 
+  -- no vote at all
+  pub Notes-none : (m : List (Round × Choice D)) (s : BTreeSet Suspect) → Notes {K = K} {S = S} {P = P} {G = G} {C = C} m m s s []
+  Notes-none m s = record { extends = λ r c before. before; stay = λ q before. before; noted = λ v there. absurd (Contains-nil v there) }
+
   -- one vote, and then others
   pub Notes-two : (m n o : List (Round × Choice D)) (s t u : BTreeSet Suspect) (v w : ProposalVote K S D P G C) → Notes m n s t (v ∷ []) → Notes n o t u (w ∷ []) → Notes m o s u (v ∷ w ∷ [])
   Notes-two m n o s t u v w first second = record {
@@ -126,24 +130,31 @@ module _ {K S D P G C : Type 0} where
       some_is a b e = cc
 
 module _ {S D P G C : Type 0} (lists : C → List (Attestation G)) where
-  -- a report of nullifies
-  pub one-nullifies : (report : Activity S D P G C) (old new : Survey D) → old.notarized ≡ new.notarized → old.finalized ≡ new.finalized → old.contested ≡ new.contested → IsSubset suspect_cmp old.nullified new.nullified
-      → notarizes_in lists report ≡ [] → finalizes_in lists report ≡ [] → AreGivenUp new.nullified (nullifies_in lists report) → SurveysOne lists report old new
-  one-nullifies report old new notarized finalized contested nullified no_notarizes no_finalizes given_up = record {
-    notarized = λ r c before. subst (λ (m : List (Round × Choice D)). choice_in m r ≡ Some c) notarized before;
-    finalized = λ r c before. subst (λ (m : List (Round × Choice D)). choice_in m r ≡ Some c) finalized before;
-    nullified = nullified;
-    contested = λ q before. subst (λ (s : BTreeSet Suspect). IsTrue (contains suspect_cmp s q)) contested before;
-    notarizes = λ v there. absurd (Contains-nil v (subst (λ (vs : List (Notarize S D P G C)). Contains vs v) no_notarizes there));
-    finalizes = λ v there. absurd (Contains-nil v (subst (λ (vs : List (Finalize S D P G C)). Contains vs v) no_finalizes there));
+  -- a report of which the notarizes were noted, then the finalizes, and then who gave its round up
+  pub OnOk-surveyed : {T E : Type 0} (r : Result T E) (report : Activity S D P G C) (old new : Survey D) (between : BTreeSet Suspect)
+      → Notes old.notarized new.notarized old.contested between (notarizes_in lists report) → Notes old.finalized new.finalized between new.contested (finalizes_in lists report)
+      → OnOk r (IsSubset suspect_cmp old.nullified new.nullified) → OnOk r (AreGivenUp new.nullified (nullifies_in lists report)) → OnOk r (SurveysOne lists report old new)
+  OnOk-surveyed (Ok x) report old new between first second stay given_up = record {
+    notarized = first.extends;
+    finalized = second.extends;
+    nullified = stay;
+    contested = λ q before. second.stay q (first.stay q before);
+    notarizes = λ v there. noted-stays new.notarized new.notarized between new.contested (λ r c before. before) second.stay v (first.noted v there);
+    finalizes = second.noted;
     nullifies = given_up;
   }
+  OnOk-surveyed (Err e) report old new between first second stay given_up = tt
 
   -- the nullifies that a nullification lists
-  pub given_up-listed : (s : BTreeSet Suspect) (made : Nullification S D P G C) → ((a : Attestation G) → Contains (lists made.certificate) a → IsTrue (contains suspect_cmp s (suspect_from made.round a.signer))) → AreGivenUp s (nullifies_listed lists made)
+  given_up-listed : (s : BTreeSet Suspect) (made : Nullification S D P G C) → ((a : Attestation G) → Contains (lists made.certificate) a → IsTrue (contains suspect_cmp s (suspect_from made.round a.signer))) → AreGivenUp s (nullifies_listed lists made)
   given_up-listed s made all = λ w there.
       let found = Contains-map (λ (a : Attestation G). nullify_of_parts {S = S} {D = D} {P = P} {C = C} (made.round, a)) (lists made.certificate) w there in
       subst (λ (x : Nullify S D P G C). IsTrue (contains suspect_cmp s (nullify_suspect x))) found.2 (all found.0 found.1)
+
+  -- the same of an answer that may be a refusal
+  pub OnOk-given_up : {T E : Type 0} (r : Result T E) (s : BTreeSet Suspect) (made : Nullification S D P G C) → OnOk r ((a : Attestation G) → Contains (lists made.certificate) a → IsTrue (contains suspect_cmp s (suspect_from made.round a.signer))) → OnOk r (AreGivenUp s (nullifies_listed lists made))
+  OnOk-given_up (Ok x) s made all = given_up-listed s made all
+  OnOk-given_up (Err e) s made all = tt
 
   -- one more report
   pub surveyed-more : (reports : List (Activity S D P G C)) (report : Activity S D P G C) (old new : Survey D) → SurveysOne lists report old new → AreSurveyed lists reports old → AreSurveyed lists (reports ++ report ∷ []) new

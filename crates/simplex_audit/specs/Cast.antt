@@ -60,6 +60,13 @@ module _ {D G : Type 0} where
   IsSettled (One a) = ⊤
   IsSettled (Two a b) = ⊤
 
+  -- the first and the last of the verified votes that are kept
+  abbrev pub ends_of : Kept D G → Option (Cast D G × Cast D G)
+  ends_of Nothing = None
+  ends_of (Claim a) = None
+  ends_of (One a) = Some (a, a)
+  ends_of (Two a b) = Some (a, b)
+
   -- where one more vote for this choice stands among those that are kept, if it is kept
   abbrev pub IsPlacedAt : (D → D → Ordering) → Kept D G → Choice D → Option Place → Type 0
   IsPlacedAt cmp Nothing choice place = ⊥

@@ -4,6 +4,7 @@ ghost use Rattle.std.specs.Prelude.{◌≡◌, ◌<◌, ◌↔◌, ◌++◌, ◌
 ghost use Rattle.std.specs.BTreeSet.{BTreeSet};
 ghost use Rattle.simplex_certificates.specs.declared.proposal_vote.ProposalVote.{ProposalVote};
 ghost use Rattle.simplex_messages.specs.Guilt.{votes_listed};
+ghost use Rattle.simplex_testimony.specs.Held.{votes_held};
 ghost use Rattle.simplex_audit.specs.declared.cast.Cast.{Cast};
 ghost use Rattle.simplex_audit.specs.declared.cast.Kept.{Kept};
 ghost use Rattle.simplex_audit.specs.declared.cast.Suspect.{Suspect};
@@ -14,6 +15,7 @@ ghost use Rattle.simplex_audit.specs.Tally.{AreApart, CastIsAttested, HoldsVotes
 use crate::cast::{Cast, Choice, Kept, Place, Suspect};
 use crate::roster::Suspects;
 use simplex_messages::{ConflictingVotes, ProposalCertificate, ProposalKind, ProposalVote};
+use simplex_testimony::{HeldVotes, evidence_of};
 use simplex_types::{Attestation, Digest, Listing, Proposal, Scheme};
 use std::alloc::{AllocError, Global};
 use std::marker::PhantomData;
@@ -188,7 +190,7 @@ impl<K: ProposalKind<D>, S: Scheme<D>, D: Digest> Ballots<K, S, D> {
     }
 
     /// Counts both votes of evidence.
-    pub(crate) fn count_both(
+    fn count_both(
         &mut self,
         scheme: &S,
         contested: &Suspects,
@@ -220,15 +222,8 @@ impl<K: ProposalKind<D>, S: Scheme<D>, D: Digest> Ballots<K, S, D> {
         requires { AreApart self.now.kept.items place }
         ensures { result ≡ conflict_in suspect.now (slice_get self.now.kept.items place) }
     {
-        match self.kept.get(place)? {
-            Kept::Nothing => None,
-            Kept::Claim(_) => None,
-            Kept::One(_) => None,
-            Kept::Two(least, next) => Some(ConflictingVotes::new(
-                vote_from(suspect, least),
-                vote_from(suspect, next),
-            )),
-        }
+        let (least, last) = self.kept.get(place)?.ends()?;
+        evidence_of(vote_from(suspect, &least), vote_from(suspect, &last))
     }
 
     /// Of the votes that verify of the suspect at the place the first for the least proposal.
@@ -256,8 +251,25 @@ impl<K: ProposalKind<D>, S: Scheme<D>, D: Digest> Ballots<K, S, D> {
 }
 
 impl<K: ProposalKind<D>, S: Listing<D>, D: Digest> Ballots<K, S, D> {
+    /// Counts the votes that a report holds.
+    pub(crate) fn count_held(
+        &mut self,
+        scheme: &S,
+        contested: &Suspects,
+        held: HeldVotes<'_, K, S, D>,
+    ) -> Result<(), AllocError>
+        ensures { OnOk result ((votes : List (ProposalVote K S D S.PublicKey S.Signature S.Certificate)) → HoldsVotes K.states (S.attests scheme.now) D.cmp contested.now votes self.old.kept.items → HoldsVotes K.states (S.attests scheme.now) D.cmp contested.now (votes ++ votes_held S.lists held.entry) self.new.kept.items) }
+    {
+        match held {
+            HeldVotes::Nothing => Ok(()),
+            HeldVotes::One(vote) => self.count(scheme, contested, vote),
+            HeldVotes::Listed(made) => self.count_listed(scheme, contested, made),
+            HeldVotes::Both(both) => self.count_both(scheme, contested, both),
+        }
+    }
+
     /// Counts the votes that a certificate lists.
-    pub(crate) fn count_listed(
+    fn count_listed(
         &mut self,
         scheme: &S,
         contested: &Suspects,

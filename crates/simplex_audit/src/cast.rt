@@ -79,7 +79,21 @@ pub(crate) enum Kept<D: Digest, G> {
 }
 
 impl<D: Digest, G: Copy> Kept<D, G> {
-    ghost use Rattle.simplex_audit.specs.Cast.{IsPlacedAt, IsSettled};
+    ghost use Rattle.std.specs.Prelude.{◌≡◌};
+    ghost use Rattle.simplex_audit.specs.Cast.{IsPlacedAt, IsSettled, ends_of};
+
+    /// The first and the last of the verified votes that are kept, by what they are for: one vote twice where all
+    /// are for one proposal.
+    pub(crate) fn ends(&self) -> Option<(Cast<D, G>, Cast<D, G>)>
+        ensures { result ≡ ends_of self.now }
+    {
+        match self {
+            Kept::Nothing => None,
+            Kept::Claim(_) => None,
+            Kept::One(only) => Some((*only, *only)),
+            Kept::Two(least, next) => Some((*least, *next)),
+        }
+    }
 
     /// Where one more vote that verifies stands among the verified ones that are kept, if it is kept.
     pub(crate) fn place_of(&self, cast: &Cast<D, G>) -> Option<Place>

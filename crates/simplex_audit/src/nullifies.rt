@@ -3,6 +3,7 @@
 ghost use Rattle.std.specs.Prelude.{◌≡◌, ◌<◌, ◌↔◌, ◌++◌, ◌∷◌, [], List, OnOk, IsTrue, IfSome, length};
 ghost use Rattle.simplex_certificates.specs.declared.nullify.Nullify.{Nullify};
 ghost use Rattle.simplex_messages.specs.Guilt.{nullifies_listed};
+ghost use Rattle.simplex_testimony.specs.Held.{nullifies_held};
 ghost use Rattle.simplex_audit.specs.declared.cast.Suspect.{Suspect};
 ghost use Rattle.std.specs.BTreeSet.{BTreeSet};
 ghost use Rattle.simplex_audit.specs.Kept.{StandsAt, Tallies};
@@ -11,6 +12,7 @@ ghost use Rattle.simplex_audit.specs.Tally.{GivenIsAttested, HoldsNullifies, IsF
 use crate::cast::Suspect;
 use crate::roster::Suspects;
 use simplex_messages::{Nullification, Nullify};
+use simplex_testimony::HeldNullifies;
 use simplex_types::{Attestation, Digest, Listing, Scheme};
 use std::alloc::{AllocError, Global};
 
@@ -107,7 +109,7 @@ impl<S: Scheme<D>, D: Digest> Nullifies<S, D> {
     }
 
     /// Counts a nullify. It is weighed only where its suspect is contested.
-    pub(crate) fn count(
+    fn count(
         &mut self,
         scheme: &S,
         contested: &Suspects,
@@ -150,8 +152,24 @@ impl<S: Scheme<D>, D: Digest> Nullifies<S, D> {
 }
 
 impl<S: Listing<D>, D: Digest> Nullifies<S, D> {
+    /// Counts the nullifies that a report holds.
+    pub(crate) fn count_held(
+        &mut self,
+        scheme: &S,
+        contested: &Suspects,
+        held: HeldNullifies<'_, S, D>,
+    ) -> Result<(), AllocError>
+        ensures { OnOk result ((votes : List (Nullify S D S.PublicKey S.Signature S.Certificate)) → HoldsNullifies (S.attests scheme.now) contested.now votes self.old.kept.items → HoldsNullifies (S.attests scheme.now) contested.now (votes ++ nullifies_held S.lists held.entry) self.new.kept.items) }
+    {
+        match held {
+            HeldNullifies::Nothing => Ok(()),
+            HeldNullifies::One(vote) => self.count(scheme, contested, vote),
+            HeldNullifies::Listed(made) => self.count_listed(scheme, contested, made),
+        }
+    }
+
     /// Counts the nullifies that a nullification lists.
-    pub(crate) fn count_listed(
+    fn count_listed(
         &mut self,
         scheme: &S,
         contested: &Suspects,

@@ -4,19 +4,21 @@ ghost use Rattle.std.specs.Prelude.{◌≡◌, ◌∷◌, [], OnOk, IfOk, IsTrue
 ghost use Rattle.std.specs.BTreeSet.{IsSubset, contains};
 ghost use Rattle.simplex_types.specs.declared.attestation.Attestation.{Attestation};
 ghost use Rattle.simplex_messages.specs.Activity.{notarize_report};
-ghost use Rattle.simplex_messages.specs.Guilt.{votes_listed};
+ghost use Rattle.simplex_messages.specs.Guilt.{nullifies_listed, votes_listed};
+ghost use Rattle.simplex_testimony.specs.Held.{nullifies_held, votes_held};
 ghost use Rattle.simplex_audit.specs.declared.cast.Suspect.{Suspect};
 ghost use Rattle.simplex_audit.specs.Choices.{choice_in};
 ghost use Rattle.simplex_audit.specs.Kept.{suspect_cmp};
-ghost use Rattle.simplex_audit.specs.Survey.{AreSurveyed, Notes, SurveysOne};
+ghost use Rattle.simplex_audit.specs.Survey.{AreGivenUp, AreSurveyed, Notes, SurveysOne};
 
 use crate::cast::Suspect;
 use crate::choices::Choices;
 use crate::roster::{Gathered, Suspects};
 use simplex_messages::{
-    Activity, ConflictingVotes, Notarize, NullifyFinalize, ProposalCertificate, ProposalKind,
+    Activity, ConflictingVotes, Notarize, Nullification, ProposalCertificate, ProposalKind,
     ProposalVote,
 };
+use simplex_testimony::{HeldNullifies, HeldVotes, held_finalizes, held_notarizes, held_nullifies};
 use simplex_types::{Attestation, Digest, Listing, Round, Scheme};
 use std::alloc::{AllocError, Global};
 
@@ -47,43 +49,18 @@ impl<D: Digest> Survey<D> {
         }
     }
 
-    /// Notes what the votes of a report are for: a loose vote, one for each attestation that a certificate
-    /// lists, and both votes of evidence.
+    /// Notes what the votes that the report holds are for.
     pub(crate) fn note_report<S: Listing<D>>(
         &mut self,
         report: &Activity<S, D>,
     ) -> Result<(), AllocError>
         ensures { OnOk result (SurveysOne S.lists report.now self.old self.new) }
     {
-        match report {
-            Activity::Notarize(vote) => note(&mut self.notarized, &mut self.contested, vote)?,
-            Activity::Notarization(made) | Activity::Certification(made) => {
-                note_listed(&mut self.notarized, &mut self.contested, made)?
-            }
-            Activity::ConflictingNotarize(both) => {
-                note_both(&mut self.notarized, &mut self.contested, both)?
-            }
-            Activity::Finalize(vote) => note(&mut self.finalized, &mut self.contested, vote)?,
-            Activity::Finalization(made) => {
-                note_listed(&mut self.finalized, &mut self.contested, made)?
-            }
-            Activity::ConflictingFinalize(both) => {
-                note_both(&mut self.finalized, &mut self.contested, both)?
-            }
-            Activity::Nullify(vote) => {
-                insert(&mut self.nullified, vote.round, &vote.attestation)?;
-            }
-            Activity::Nullification(made) => {
-                let listed = S::attestations(&made.certificate);
-                insert_all::<S, D>(&mut self.nullified, &made.round, listed)?;
-            }
-            Activity::NullifyFinalize(both) => {
-                let nullify = both.nullify();
-                insert(&mut self.nullified, nullify.round, &nullify.attestation)?;
-                note(&mut self.finalized, &mut self.contested, both.finalize())?;
-            }
-        }
-        Ok(())
+        let notarizes = held_notarizes(report);
+        note_held(&mut self.notarized, &mut self.contested, notarizes)?;
+        let finalizes = held_finalizes(report);
+        note_held(&mut self.finalized, &mut self.contested, finalizes)?;
+        insert_held(&mut self.nullified, held_nullifies(report))
     }
 
     /// Notes what a loose notarize is for.
@@ -148,6 +125,22 @@ fn note<K: ProposalKind<D>, S: Scheme<D>, D: Digest>(
     Ok(())
 }
 
+/// Notes what the votes are for that a report holds.
+fn note_held<K: ProposalKind<D>, S: Listing<D>, D: Digest>(
+    chosen: &mut Choices<D>,
+    contested: &mut Gathered,
+    votes: HeldVotes<'_, K, S, D>,
+) -> Result<(), AllocError>
+    ensures { OnOk result (Notes chosen.old chosen.new contested.old contested.new (votes_held S.lists votes.entry)) }
+{
+    match votes {
+        HeldVotes::Nothing => Ok(()),
+        HeldVotes::One(vote) => note(chosen, contested, vote),
+        HeldVotes::Listed(made) => note_listed(chosen, contested, made),
+        HeldVotes::Both(both) => note_both(chosen, contested, both),
+    }
+}
+
 /// Notes what both votes of evidence are for.
 fn note_both<K: ProposalKind<D>, S: Scheme<D>, D: Digest>(
     chosen: &mut Choices<D>,
@@ -174,6 +167,33 @@ fn note_listed<K: ProposalKind<D>, S: Listing<D>, D: Digest>(
         insert_all::<S, D>(contested, &certified.round, listed)?;
     }
     Ok(())
+}
+
+/// Adds those whose nullifies a report holds.
+fn insert_held<S: Listing<D>, D: Digest>(
+    nullified: &mut Gathered,
+    votes: HeldNullifies<'_, S, D>,
+) -> Result<(), AllocError>
+    ensures stay { OnOk result (IsSubset suspect_cmp nullified.old nullified.new) }
+    ensures given_up { OnOk result (AreGivenUp nullified.new (nullifies_held S.lists votes.entry)) }
+{
+    match votes {
+        HeldNullifies::Nothing => Ok(()),
+        HeldNullifies::One(vote) => insert(nullified, vote.round, &vote.attestation),
+        HeldNullifies::Listed(made) => insert_listed(nullified, made),
+    }
+}
+
+/// Adds those whose nullifies the certificate lists.
+fn insert_listed<S: Listing<D>, D: Digest>(
+    nullified: &mut Gathered,
+    made: &Nullification<S, D>,
+) -> Result<(), AllocError>
+    ensures stay { OnOk result (IsSubset suspect_cmp nullified.old nullified.new) }
+    ensures given_up { OnOk result (AreGivenUp nullified.new (nullifies_listed S.lists made.now)) }
+{
+    let listed = S::attestations(&made.certificate);
+    insert_all::<S, D>(nullified, &made.round, listed)
 }
 
 /// Adds the signer in the round.

@@ -15,6 +15,7 @@ use crate::cast::Suspect;
 use crate::nullifies::Nullifies;
 use crate::roster::Suspects;
 use simplex_messages::{Activity, Finalizing, Notarize, Notarizing, NullifyFinalize};
+use simplex_testimony::{held_finalizes, held_notarizes, held_nullifies};
 use simplex_types::{Digest, Listing, Scheme};
 use std::alloc::{AllocError, Global};
 
@@ -136,8 +137,7 @@ impl<S: Scheme<D>, D: Digest> Tally<S, D> {
 }
 
 impl<S: Listing<D>, D: Digest> Tally<S, D> {
-    /// Counts the votes of a report: a loose vote, one for each attestation that a
-    /// certificate lists, and both votes of evidence. Those of the contested are weighed.
+    /// Counts the votes that the report holds. Those of the contested are weighed.
     pub(crate) fn count_report(
         &mut self,
         scheme: &S,
@@ -146,22 +146,12 @@ impl<S: Listing<D>, D: Digest> Tally<S, D> {
     ) -> Result<(), AllocError>
         ensures { OnOk result ((reports : List (Activity S D S.PublicKey S.Signature S.Certificate)) → HoldsReports S.lists (S.attests scheme.now) D.cmp contested.now reports self.old → HoldsReports S.lists (S.attests scheme.now) D.cmp contested.now (reports ++ report.now ∷ []) self.new) }
     {
-        match report {
-            Activity::Notarize(vote) => self.notarizes.count(scheme, contested, vote),
-            Activity::Nullify(vote) => self.nullifies.count(scheme, contested, vote),
-            Activity::Finalize(vote) => self.finalizes.count(scheme, contested, vote),
-            Activity::Notarization(made) => self.notarizes.count_listed(scheme, contested, made),
-            Activity::Certification(made) => self.notarizes.count_listed(scheme, contested, made),
-            Activity::Nullification(made) => self.nullifies.count_listed(scheme, contested, made),
-            Activity::Finalization(made) => self.finalizes.count_listed(scheme, contested, made),
-            Activity::ConflictingNotarize(both) => self
-                .notarizes
-                .count_both(scheme, contested, both),
-            Activity::ConflictingFinalize(both) => self
-                .finalizes
-                .count_both(scheme, contested, both),
-            Activity::NullifyFinalize(both) => self.count_beside(scheme, contested, both),
-        }
+        self.notarizes
+            .count_held(scheme, contested, held_notarizes(report))?;
+        self.nullifies
+            .count_held(scheme, contested, held_nullifies(report))?;
+        self.finalizes
+            .count_held(scheme, contested, held_finalizes(report))
     }
 
     /// Counts a loose notarize.
@@ -175,19 +165,6 @@ impl<S: Listing<D>, D: Digest> Tally<S, D> {
         ensures { OnOk result ((reports : List (Activity S D S.PublicKey S.Signature S.Certificate)) → HoldsReports S.lists (S.attests scheme.now) D.cmp contested.now reports self.old → HoldsReports S.lists (S.attests scheme.now) D.cmp contested.now (reports ++ notarize_report vote.now ∷ []) self.new) }
     {
         self.notarizes.count(scheme, contested, vote)
-    }
-
-    /// Counts both votes of evidence of a nullify beside a finalize.
-    fn count_beside(
-        &mut self,
-        scheme: &S,
-        contested: &Suspects,
-        both: &NullifyFinalize<S, D>,
-    ) -> Result<(), AllocError>
-        ensures { OnOk result ((reports : List (Activity S D S.PublicKey S.Signature S.Certificate)) → HoldsReports S.lists (S.attests scheme.now) D.cmp contested.now reports self.old → HoldsReports S.lists (S.attests scheme.now) D.cmp contested.now (reports ++ nullify_finalize_report both.now ∷ []) self.new) }
-    {
-        self.nullifies.count(scheme, contested, both.nullify())?;
-        self.finalizes.count(scheme, contested, both.finalize())
     }
 }
 
