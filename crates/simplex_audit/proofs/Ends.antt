@@ -1,5 +1,5 @@
 -- The evidence of the first and the last of the votes that are kept.
-use Rattle.std.proofs.Common.{◌≡◌, ◌≢◌, ℕ, Option, Some, None, true, false, refl, sym, ap, ◌∙◌}
+use Rattle.std.proofs.Common.{◌≡◌, ◌≢◌, Option, Some, None, true, false, refl, sym, ap, ◌∙◌}
 use Rattle.std.specs.Prelude.{◌↔◌, IfSome, IsSome}
 use Rattle.simplex_certificates.specs.declared.proposal_vote.ProposalVote.{ProposalVote}
 use Rattle.simplex_certificates.specs.ProposalVote.{Contradict}

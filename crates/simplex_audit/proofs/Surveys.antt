@@ -19,7 +19,7 @@ use Rattle.simplex_certificates.specs.declared.proposal_vote.ProposalVote.{Propo
 use Rattle.simplex_certificates.specs.declared.nullification.Nullification.{Nullification}
 use Rattle.simplex_certificates.specs.declared.proposal_certificate.ProposalCertificate.{ProposalCertificate}
 use Rattle.simplex_certificates.specs.Nullify.{nullify_of_parts}
-use Rattle.simplex_certificates.specs.ProposalVote.{Notarize, Finalize, vote_of_parts}
+use Rattle.simplex_certificates.specs.ProposalVote.{vote_of_parts}
 use Rattle.simplex_messages.specs.Guilt.{votes_listed, nullifies_listed, notarizes_in, nullifies_in, finalizes_in, notarizes_of, nullifies_of, finalizes_of, IsGuilty}
 use Rattle.simplex_audit.specs.declared.cast.Choice.{Choice}
 use Rattle.simplex_audit.specs.declared.cast.Suspect.{Suspect}
