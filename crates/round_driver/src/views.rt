@@ -1,0 +1,433 @@
+//! Calls on the round of a view.
+
+use script_certificates::{CertificateWords, SayCertificates};
+use script_words::{Committee, Say, Trouble, Words};
+use simplex_round::{Leader, Round, TimeoutReason, Token};
+use simplex_types::{Duplicate, PlainKey, PlainScheme, Sha256Digest};
+use std::alloc::Global;
+use std::rc::Rc;
+
+/// The reasons that the scripts name.
+const REASONS: [TimeoutReason; 10] = [
+    TimeoutReason::Retry,
+    TimeoutReason::Inactivity,
+    TimeoutReason::LeaderNullify,
+    TimeoutReason::LeaderTimeout,
+    TimeoutReason::CertificationTimeout,
+    TimeoutReason::StallTimeout,
+    TimeoutReason::MissingProposal,
+    TimeoutReason::IgnoredProposal,
+    TimeoutReason::InvalidProposal,
+    TimeoutReason::FailedCertification,
+];
+
+/// A round, and the size of its committee.
+#[derive(Drop)]
+pub(crate) struct ViewRound {
+    n: u32,
+    round: Round<PlainScheme, Sha256Digest>,
+}
+
+impl ViewRound {
+    /// `N ME EPOCH VIEW`.
+    pub(crate) fn new(alloc: Global, words: &mut Words<'_>) -> Result<Self, Trouble> {
+        let n = words.index()?;
+        let me = words.optional_member()?;
+        let at = words.round()?;
+        words.end()?;
+        let scheme = PlainScheme::member_of(alloc, n, me, 0)?;
+        let scheme = Rc::new(alloc, scheme)?;
+        Ok(ViewRound {
+            n,
+            round: Round::new(scheme, at),
+        })
+    }
+
+    /// Makes the call of this name.
+    pub(crate) fn call(
+        &mut self,
+        name: &str,
+        words: &mut Words<'_>,
+        say: &mut Say,
+    ) -> Result<(), Trouble> {
+        match name {
+            "set_leader" => self.set_leader(words, say),
+            "learn_leader" => self.learn_leader(words, say),
+            "is_signer" => self.is_signer(words, say),
+            "request" => self.request(words, say),
+            "is_requested" => self.is_requested(words, say),
+            _ => self.call_on_proposals(name, words, say),
+        }
+    }
+
+    fn call_on_proposals(
+        &mut self,
+        name: &str,
+        words: &mut Words<'_>,
+        say: &mut Say,
+    ) -> Result<(), Trouble> {
+        match name {
+            "set_proposal" => self.set_proposal(words, say),
+            "proposed" => self.proposed(words, say),
+            "add_recovered_proposal" => self.add_recovered_proposal(words, say),
+            "set_verifying" => self.set_verifying(words, say),
+            "set_certify_handle" => self.set_certify_handle(words, say),
+            "certified" => self.certified(words, say),
+            _ => self.call_on_time(name, words, say),
+        }
+    }
+
+    fn call_on_time(
+        &mut self,
+        name: &str,
+        words: &mut Words<'_>,
+        say: &mut Say,
+    ) -> Result<(), Trouble> {
+        match name {
+            "mark_entered" => self.mark_entered(words, say),
+            "set_deadlines" => self.set_deadlines(words, say),
+            "latch_timeout" => self.latch_timeout(words, say),
+            "next_timeout" => self.next_timeout(words, say),
+            "elapsed_since_start" => self.elapsed_since_start(words, say),
+            "elapsed_since_entry" => self.elapsed_since_entry(words, say),
+            _ => self.call_on_messages(name, words, say),
+        }
+    }
+
+    fn call_on_messages(
+        &mut self,
+        name: &str,
+        words: &mut Words<'_>,
+        say: &mut Say,
+    ) -> Result<(), Trouble> {
+        match name {
+            "replay" => self.replay(words, say),
+            "add_notarization" => self.add_notarization(words, say),
+            "add_nullification" => self.add_nullification(words, say),
+            "add_finalization" => self.add_finalization(words, say),
+            _ => {
+                words.end()?;
+                self.tell(name, say)
+            }
+        }
+    }
+
+    fn set_leader(&mut self, words: &mut Words<'_>, say: &mut Say) -> Result<(), Trouble> {
+        let leader = words.member()?;
+        words.end()?;
+        self.round.set_leader(leader);
+        say.ok()
+    }
+
+    fn learn_leader(&mut self, words: &mut Words<'_>, say: &mut Say) -> Result<(), Trouble> {
+        let leader = words.member()?;
+        words.end()?;
+        say.truth(self.round.learn_leader(leader))
+    }
+
+    fn is_signer(&self, words: &mut Words<'_>, say: &mut Say) -> Result<(), Trouble> {
+        let signer = words.member()?;
+        words.end()?;
+        say.truth(self.round.is_signer(signer))
+    }
+
+    fn request(&mut self, words: &mut Words<'_>, say: &mut Say) -> Result<(), Trouble> {
+        let view = words.view()?;
+        words.end()?;
+        say.truth(self.round.request(view))
+    }
+
+    fn is_requested(&self, words: &mut Words<'_>, say: &mut Say) -> Result<(), Trouble> {
+        let view = words.view()?;
+        words.end()?;
+        say.truth(self.round.is_requested(view))
+    }
+
+    fn set_proposal(&mut self, words: &mut Words<'_>, say: &mut Say) -> Result<(), Trouble> {
+        let proposal = words.proposal()?;
+        words.end()?;
+        say.truth(self.round.set_proposal(&proposal))
+    }
+
+    fn proposed(&mut self, words: &mut Words<'_>, say: &mut Say) -> Result<(), Trouble> {
+        let now = words.number()?;
+        let proposal = words.proposal()?;
+        words.end()?;
+        say.truth(self.round.proposed(now, proposal))
+    }
+
+    fn add_recovered_proposal(
+        &mut self,
+        words: &mut Words<'_>,
+        say: &mut Say,
+    ) -> Result<(), Trouble> {
+        let proposal = words.proposal()?;
+        words.end()?;
+        say.key_or(self.round.add_recovered_proposal(&proposal))
+    }
+
+    fn set_verifying(&mut self, words: &mut Words<'_>, say: &mut Say) -> Result<(), Trouble> {
+        let proposal = words.proposal()?;
+        let parent_payload = words.payload()?;
+        words.end()?;
+        self.round.set_verifying(proposal, parent_payload);
+        say.ok()
+    }
+
+    fn set_certify_handle(&mut self, words: &mut Words<'_>, say: &mut Say) -> Result<(), Trouble> {
+        let handle = words.number()?;
+        words.end()?;
+        self.round.set_certify_handle(Token(handle));
+        say.ok()
+    }
+
+    fn certified(&mut self, words: &mut Words<'_>, say: &mut Say) -> Result<(), Trouble> {
+        let is_success = words.truth()?;
+        words.end()?;
+        self.round.certified(is_success);
+        say.ok()
+    }
+
+    fn mark_entered(&mut self, words: &mut Words<'_>, say: &mut Say) -> Result<(), Trouble> {
+        let now = words.number()?;
+        words.end()?;
+        self.round.mark_entered(now);
+        say.ok()
+    }
+
+    fn set_deadlines(&mut self, words: &mut Words<'_>, say: &mut Say) -> Result<(), Trouble> {
+        let leader = words.number()?;
+        let certification = words.number()?;
+        let stall = words.optional()?;
+        words.end()?;
+        self.round.set_deadlines(leader, certification, stall);
+        say.ok()
+    }
+
+    fn latch_timeout(&mut self, words: &mut Words<'_>, say: &mut Say) -> Result<(), Trouble> {
+        let now = words.number()?;
+        let reason = reason_of(words.word())?;
+        words.end()?;
+        self.round.latch_timeout(now, reason);
+        say.ok()
+    }
+
+    fn next_timeout(&mut self, words: &mut Words<'_>, say: &mut Say) -> Result<(), Trouble> {
+        let now = words.number()?;
+        let retry_interval = words.number()?;
+        let allow_latched = words.truth()?;
+        words.end()?;
+        if now.checked_add(retry_interval).is_none() {
+            return Err(Trouble::Condition);
+        }
+        match self.round.next_timeout(now, retry_interval, allow_latched) {
+            Some((moment, reason)) => {
+                say.number(moment)?;
+                say.gap()?;
+                say.text(reason.as_str())
+            }
+            None => say.none(),
+        }
+    }
+
+    fn elapsed_since_start(&self, words: &mut Words<'_>, say: &mut Say) -> Result<(), Trouble> {
+        let now = words.number()?;
+        words.end()?;
+        say.optional(self.round.elapsed_since_start(now))
+    }
+
+    fn elapsed_since_entry(&self, words: &mut Words<'_>, say: &mut Say) -> Result<(), Trouble> {
+        let now = words.number()?;
+        words.end()?;
+        say.optional(self.round.elapsed_since_entry(now))
+    }
+
+    fn replay(&mut self, words: &mut Words<'_>, say: &mut Say) -> Result<(), Trouble> {
+        let artifact = words.artifact::<PlainScheme>(say.alloc, self.n)?;
+        words.end()?;
+        self.round.replay(&artifact);
+        say.ok()
+    }
+
+    fn add_notarization(&mut self, words: &mut Words<'_>, say: &mut Say) -> Result<(), Trouble> {
+        if words.word() != "notarization" {
+            return Err(Trouble::Unreadable);
+        }
+        let certificate = words.notarization::<PlainScheme>(say.alloc, self.n)?;
+        words.end()?;
+        say_added(self.round.add_notarization(certificate), say)
+    }
+
+    fn add_nullification(&mut self, words: &mut Words<'_>, say: &mut Say) -> Result<(), Trouble> {
+        if words.word() != "nullification" {
+            return Err(Trouble::Unreadable);
+        }
+        let certificate = words.nullification::<PlainScheme>(say.alloc, self.n)?;
+        words.end()?;
+        say.truth(self.round.add_nullification(certificate))
+    }
+
+    fn add_finalization(&mut self, words: &mut Words<'_>, say: &mut Say) -> Result<(), Trouble> {
+        if words.word() != "finalization" {
+            return Err(Trouble::Unreadable);
+        }
+        let certificate = words.finalization::<PlainScheme>(say.alloc, self.n)?;
+        words.end()?;
+        say_added(self.round.add_finalization(certificate), say)
+    }
+
+    /// The calls without words that change something.
+    fn tell(&mut self, name: &str, say: &mut Say) -> Result<(), Trouble> {
+        match name {
+            "clear_proposal_request" => {
+                self.round.clear_proposal_request();
+                say.ok()
+            }
+            "clear_verifying" => {
+                self.round.clear_verifying();
+                say.ok()
+            }
+            "abort_certify" => {
+                let _handle = self.round.abort_certify();
+                say.ok()
+            }
+            "abort_certify_handle" => self.abort_certify_handle(say),
+            "request_verify" => say.truth(self.round.request_verify()),
+            "verified" => say.truth(self.round.verified()),
+            "try_propose" => say_leader(self.round.try_propose().as_ref(), say),
+            _ => self.make_vote(name, say),
+        }
+    }
+
+    /// The same as `abort_certify`, with the handle that it answers.
+    fn abort_certify_handle(&mut self, say: &mut Say) -> Result<(), Trouble> {
+        match self.round.abort_certify() {
+            Some(Token(handle)) => say.number(handle),
+            None => say.none(),
+        }
+    }
+
+    fn make_vote(&mut self, name: &str, say: &mut Say) -> Result<(), Trouble> {
+        match name {
+            "construct_notarize" => say.proposal_or(self.round.construct_notarize()),
+            "construct_finalize" => say.proposal_or(self.round.construct_finalize()),
+            "construct_nullify" => match self.round.construct_nullify() {
+                Some(is_retry) => say.truth(is_retry),
+                None => say.none(),
+            },
+            _ => self.hand_out(name, say),
+        }
+    }
+
+    fn hand_out(&mut self, name: &str, say: &mut Say) -> Result<(), Trouble> {
+        match name {
+            "broadcast_notarization" => {
+                say.notarization_or(self.round.broadcast_notarization(say.alloc)?.as_ref())
+            }
+            "broadcast_nullification" => {
+                say.nullification_or(self.round.broadcast_nullification(say.alloc)?.as_ref())
+            }
+            "broadcast_finalization" => {
+                say.finalization_or(self.round.broadcast_finalization(say.alloc)?.as_ref())
+            }
+            _ => self.ask_of_proposal(name, say),
+        }
+    }
+
+    fn ask_of_proposal(&self, name: &str, say: &mut Say) -> Result<(), Trouble> {
+        match name {
+            "proposal" => say.proposal_or(self.round.proposal()),
+            "has_unequivocated_proposal" => say.truth(self.round.has_unequivocated_proposal()),
+            "is_verified" => say.truth(self.round.is_verified()),
+            "should_propose" => say.truth(self.round.should_propose()),
+            "leader" => say_leader(self.round.leader(), say),
+            "pending_verification" => self.pending_verification(say),
+            "verifying" => self.verifying(say),
+            _ => self.ask_of_verdict(name, say),
+        }
+    }
+
+    fn ask_of_verdict(&self, name: &str, say: &mut Say) -> Result<(), Trouble> {
+        match name {
+            "pending_certification" => say.proposal_or(self.round.pending_certification()),
+            "is_certified" => say.truth(self.round.is_certified()),
+            "has_failed" => say.truth(self.round.has_failed()),
+            "is_directly_notarized" => say.truth(self.round.is_directly_notarized()),
+            "certified_proposal" => say.proposal_or(self.round.certified_proposal()),
+            "certified_payload" => say.payload_or(self.round.certified_payload()),
+            "certificate_ancestry_payload" => {
+                say.payload_or(self.round.certificate_ancestry_payload())
+            }
+            _ => self.ask_of_votes(name, say),
+        }
+    }
+
+    fn ask_of_votes(&self, name: &str, say: &mut Say) -> Result<(), Trouble> {
+        match name {
+            "can_construct_notarize" => say.truth(self.round.can_construct_notarize()),
+            "can_construct_finalize" => say.truth(self.round.can_construct_finalize()),
+            "broadcast_notarize" => say.truth(self.round.broadcast_notarize()),
+            "broadcast_nullify" => say.truth(self.round.broadcast_nullify()),
+            "broadcast_finalize" => say.truth(self.round.broadcast_finalize()),
+            "is_entered" => say.truth(self.round.is_entered()),
+            "stall_deadline" => say.optional(self.round.stall_deadline()),
+            _ => self.ask_of_certificates(name, say),
+        }
+    }
+
+    fn ask_of_certificates(&self, name: &str, say: &mut Say) -> Result<(), Trouble> {
+        match name {
+            "forwardable_proposal" => say.proposal_or(self.round.forwardable_proposal()),
+            "notarization" => say.notarization_or(self.round.notarization()),
+            "nullification" => say.nullification_or(self.round.nullification()),
+            "finalization" => say.finalization_or(self.round.finalization()),
+            _ => Err(Trouble::Unreadable),
+        }
+    }
+
+    fn pending_verification(&self, say: &mut Say) -> Result<(), Trouble> {
+        let Some((leader, proposal)) = self.round.pending_verification() else {
+            return say.none();
+        };
+        say_leader(Some(&leader), say)?;
+        say.gap()?;
+        say.proposal(&proposal)
+    }
+
+    fn verifying(&self, say: &mut Say) -> Result<(), Trouble> {
+        let Some((proposal, parent_payload)) = self.round.verifying() else {
+            return say.none();
+        };
+        say.proposal(&proposal)?;
+        say.gap()?;
+        say.payload(&parent_payload)
+    }
+}
+
+/// The reason of this name.
+fn reason_of(word: &str) -> Result<TimeoutReason, Trouble> {
+    for reason in REASONS {
+        if word == reason.as_str() {
+            return Ok(reason);
+        }
+    }
+    Err(Trouble::Unreadable)
+}
+
+/// `INDEX KEY` of a copy of the leader, or `-`.
+fn say_leader(leader: Option<&Leader<PlainKey>>, say: &mut Say) -> Result<(), Trouble> {
+    let Some(leader) = leader else {
+        return say.none();
+    };
+    let leader = leader.duplicate(say.alloc)?;
+    say.member(leader.idx)?;
+    say.gap()?;
+    say.key(&leader.key)
+}
+
+/// Whether the certificate was new, and the key of who is to be blamed for it.
+fn say_added(answer: (bool, Option<PlainKey>), say: &mut Say) -> Result<(), Trouble> {
+    say.truth(answer.0)?;
+    say.gap()?;
+    say.key_or(answer.1)
+}
