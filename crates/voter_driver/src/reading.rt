@@ -1,0 +1,92 @@
+//! Words that only these scripts have.
+
+use script_certificates::CertificateWords;
+use script_words::{Committee, Trouble, Words};
+use simplex_round::TimeoutReason;
+use simplex_types::{Context, PlainKey, Sha256Digest, View};
+use simplex_voter::Floor;
+use std::alloc::Global;
+
+/// All reasons to give a view up.
+const REASONS: [TimeoutReason; 10] = [
+    TimeoutReason::Retry,
+    TimeoutReason::Inactivity,
+    TimeoutReason::LeaderNullify,
+    TimeoutReason::LeaderTimeout,
+    TimeoutReason::CertificationTimeout,
+    TimeoutReason::StallTimeout,
+    TimeoutReason::MissingProposal,
+    TimeoutReason::IgnoredProposal,
+    TimeoutReason::InvalidProposal,
+    TimeoutReason::FailedCertification,
+];
+
+/// A number that ends the line.
+pub fn last_number(words: &mut Words<'_>) -> Result<u64, Trouble> {
+    let number = words.number()?;
+    words.end()?;
+    Ok(number)
+}
+
+/// A view that ends the line.
+pub fn last_view(words: &mut Words<'_>) -> Result<View, Trouble> {
+    Ok(View::new(last_number(words)?))
+}
+
+/// A payload that ends the line.
+pub fn last_payload(words: &mut Words<'_>) -> Result<Sha256Digest, Trouble> {
+    let payload = words.payload()?;
+    words.end()?;
+    Ok(payload)
+}
+
+/// A context that ends the line.
+pub fn last_context(words: &mut Words<'_>) -> Result<Context<Sha256Digest, PlainKey>, Trouble> {
+    let context = words.context()?;
+    words.end()?;
+    Ok(context)
+}
+
+/// A truth that ends the line.
+pub fn last_truth(words: &mut Words<'_>) -> Result<bool, Trouble> {
+    let truth = words.truth()?;
+    words.end()?;
+    Ok(truth)
+}
+
+/// Why a view is given up, which ends the line.
+pub fn last_reason(words: &mut Words<'_>) -> Result<TimeoutReason, Trouble> {
+    let word = words.word();
+    words.end()?;
+    for reason in REASONS {
+        if reason.as_str() == word {
+            return Ok(reason);
+        }
+    }
+    Err(Trouble::Unreadable)
+}
+
+/// What a member of a committee of so many starts from, which ends the line: `genesis K` or a finalization.
+pub fn last_floor<S: Committee>(
+    alloc: Global,
+    words: &mut Words<'_>,
+    participants: u32,
+) -> Result<Floor<S, Sha256Digest>, Trouble> {
+    match words.word() {
+        "genesis" => Ok(Floor::Genesis(last_payload(words)?)),
+        "finalization" => {
+            let finalization = words.finalization::<S>(alloc, participants)?;
+            words.end()?;
+            Ok(Floor::Finalized(finalization))
+        }
+        _ => Err(Trouble::Unreadable),
+    }
+}
+
+/// The word of a kind.
+pub fn kind(words: &mut Words<'_>, kind: &str) -> Result<(), Trouble> {
+    if words.word() == kind {
+        return Ok(());
+    }
+    Err(Trouble::Unreadable)
+}

@@ -1,0 +1,114 @@
+//! How a voter of a script is set up.
+
+use crate::turns::Turns;
+use crate::voter::Voter;
+use script_words::{Committee, Trouble, Words};
+use simplex_rules::Terms;
+use simplex_rules::elector::Mode;
+use simplex_types::{Epoch, Participant, PlainScheme, Scheme, Sha256Digest, ViewDelta};
+use std::alloc::Global;
+use std::rc::Rc;
+
+/// How a voter is set up: `N ME EPOCH L K STALL RETENTION LEADER CERTIFICATION RETRY BUDGET HANDOFF`. ME is `-` for a voter
+/// without a key, STALL for terms of one view without optimism that never stall. HANDOFF says whether builds are handed off in
+/// the script.
+#[derive(Clone, Copy)]
+pub struct Setup {
+    /// How many members the committee has.
+    pub participants: u32,
+    /// The member whose voter it is.
+    pub me: Option<Participant>,
+    /// The epoch.
+    pub epoch: Epoch,
+    /// How long terms are, and what they allow.
+    pub terms: Terms,
+    /// How many views below the last finalized one are kept.
+    pub view_retention: ViewDelta,
+    /// How long things may take.
+    pub times: Times,
+    /// How many terms may be skipped since the last finalized view.
+    pub skip_budget: u64,
+}
+
+/// How long things may take, in milliseconds.
+#[derive(Clone, Copy)]
+pub struct Times {
+    /// A leader for a proposal.
+    pub leader: u64,
+    /// A view for a true verdict.
+    pub certification: u64,
+    /// Until a nullify is voted again.
+    pub retry: u64,
+}
+
+/// `L K STALL`.
+fn terms(words: &mut Words<'_>) -> Result<Terms, Trouble> {
+    let length = words.term_length()?;
+    let optimistic_views = ViewDelta::new(words.number()?);
+    match words.optional()? {
+        Some(0) => Err(Trouble::Condition),
+        Some(stall) => Ok(Terms::stable(length, stall, optimistic_views)),
+        None if length.get() == 1 && optimistic_views.is_zero() => Ok(Terms::rotating()),
+        None => Err(Trouble::Unreadable),
+    }
+}
+
+impl Times {
+    /// `LEADER CERTIFICATION RETRY`.
+    fn read(words: &mut Words<'_>) -> Result<Self, Trouble> {
+        let leader = words.number()?;
+        let certification = words.number()?;
+        let retry = words.number()?;
+        Ok(Times {
+            leader,
+            certification,
+            retry,
+        })
+    }
+}
+
+impl Setup {
+    /// The words of a setup, up to HANDOFF.
+    fn read(words: &mut Words<'_>) -> Result<Self, Trouble> {
+        let participants = words.index()?;
+        let me = words.optional_member()?;
+        let epoch = words.epoch()?;
+        let terms = terms(words)?;
+        let view_retention = ViewDelta::new(words.number()?);
+        let times = Times::read(words)?;
+        let skip_budget = words.number()?;
+        let _hands_off = words.truth()?;
+        Ok(Setup {
+            participants,
+            me,
+            epoch,
+            terms,
+            view_retention,
+            times,
+            skip_budget,
+        })
+    }
+}
+
+/// What decides who leads, and in which order, to the line's end: nothing more for a schedule by ascending index, `shuffled
+/// SEED` for one in the order of a seed, `dynamic` where certificates matter.
+fn leading<'a>(words: &mut Words<'a>) -> Result<(Mode, Option<&'a str>), Trouble> {
+    let leading = match words.word() {
+        "" => (Mode::Scheduled, None),
+        "shuffled" => (Mode::Scheduled, Some(words.word())),
+        "dynamic" => (Mode::Dynamic, None),
+        _ => return Err(Trouble::Unreadable),
+    };
+    words.end()?;
+    Ok(leading)
+}
+
+/// The voter that these words set up.
+pub fn found(alloc: Global, words: &mut Words<'_>) -> Result<Voter<PlainScheme, Turns>, Trouble> {
+    let setup = Setup::read(words)?;
+    let (mode, seed) = leading(words)?;
+    let scheme = PlainScheme::member_of(alloc, setup.participants, setup.me, 0)?;
+    let participants = Scheme::<Sha256Digest>::participants(&scheme);
+    let turns = Turns::new(alloc, mode, seed, setup.terms, participants)?;
+    Ok(Voter::new(alloc, &setup, Rc::new(alloc, scheme)?, turns)?)
+}

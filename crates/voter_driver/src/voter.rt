@@ -1,0 +1,60 @@
+//! The calls of a voter, whatever its scheme and whoever leads: at one of each they would cost the prover several times as
+//! much. Each group of them hands on to the next group what it doesn't know.
+
+ghost use Rattle.std.specs.Prelude.{◌≡◌};
+
+mod asking;
+mod knowing;
+mod learning;
+mod looking;
+mod voting;
+
+use crate::setup::Setup;
+use script_words::{Committee, Say, Trouble, Words};
+use simplex_rules::Elector;
+use simplex_types::{PlainKey, Scheme, Sha256Digest};
+use simplex_voter::{Config, State};
+use std::alloc::{AllocError, Global};
+use std::rc::Rc;
+
+/// A voter of a committee of so many.
+#[derive(Drop)]
+pub struct Voter<S: Scheme<Sha256Digest>, L: Elector<S, Sha256Digest>> {
+    participants: u32,
+    state: State<S, L, Sha256Digest>,
+}
+
+impl<S: Committee + Scheme<Sha256Digest, PublicKey = PlainKey>, L: Elector<S, Sha256Digest>> Voter<
+    S,
+    L,
+> {
+    /// A voter of this setup, to which nothing has happened.
+    pub fn new(alloc: Global, setup: &Setup, scheme: Rc<S>, elector: L) -> Result<Self, AllocError>
+        requires { L.built_for elector (S.size scheme.value) }
+    {
+        let config = Config {
+            scheme,
+            elector,
+            epoch: setup.epoch,
+            view_retention: setup.view_retention,
+            leader_timeout: setup.times.leader,
+            certification_timeout: setup.times.certification,
+            timeout_retry: setup.times.retry,
+            skip_budget: setup.skip_budget,
+        };
+        Ok(Voter {
+            participants: setup.participants,
+            state: State::new(alloc, config)?,
+        })
+    }
+
+    /// Makes the call of this name.
+    pub fn call(
+        &mut self,
+        name: &str,
+        words: &mut Words<'_>,
+        say: &mut Say,
+    ) -> Result<(), Trouble> {
+        self.standing(name, words, say)
+    }
+}

@@ -1,0 +1,85 @@
+//! What a voter asks its application to build.
+
+use crate::reading::{last_context, last_payload, last_view};
+use crate::voter::Voter;
+use script_words::{Committee, Say, Trouble, Words};
+use simplex_round::HandoffAbandonedReason;
+use simplex_rules::Elector;
+use simplex_types::{PlainKey, Scheme, Sha256Digest};
+use simplex_voter::ProposalRequest;
+
+/// Says what is to be built.
+fn request(
+    say: &mut Say,
+    request: Option<ProposalRequest<Sha256Digest, PlainKey>>,
+) -> Result<(), Trouble> {
+    let Some(request) = request else {
+        return say.none();
+    };
+    say.text(if request.is_handoff() {
+        "Prepare "
+    } else {
+        "Propose "
+    })?;
+    say.context(request.context())
+}
+
+/// The name of a reason to give a handoff up.
+fn name_of(reason: HandoffAbandonedReason) -> &'static str {
+    match reason {
+        HandoffAbandonedReason::ViewExit => "ViewExit",
+        HandoffAbandonedReason::AncestrySuperseded => "AncestrySuperseded",
+        HandoffAbandonedReason::AncestryInvalidated => "AncestryInvalidated",
+        HandoffAbandonedReason::ParentNullify => "ParentNullify",
+        HandoffAbandonedReason::ViewNullify => "ViewNullify",
+        HandoffAbandonedReason::ResponseClosed => "ResponseClosed",
+        HandoffAbandonedReason::IneligibleAtRecording => "IneligibleAtRecording",
+    }
+}
+
+/// Says why a handoff is to stop, if it is.
+fn abandonment(say: &mut Say, reason: Option<HandoffAbandonedReason>) -> Result<(), Trouble> {
+    match reason {
+        Some(reason) => say.text(name_of(reason)),
+        None => say.none(),
+    }
+}
+
+impl<S: Committee + Scheme<Sha256Digest, PublicKey = PlainKey>, L: Elector<S, Sha256Digest>> Voter<
+    S,
+    L,
+> {
+    /// What is built.
+    pub fn built(
+        &mut self,
+        name: &str,
+        words: &mut Words<'_>,
+        say: &mut Say,
+    ) -> Result<(), Trouble> {
+        match name {
+            "try_propose" => {
+                words.end()?;
+                request(say, self.state.try_propose())
+            }
+            "proposed" => {
+                let now = words.number()?;
+                let context = words.context()?;
+                let payload = last_payload(words)?;
+                say.truth(self.state.proposed(now, &context, payload)?)
+            }
+            "release_proposal_request" => {
+                self.state.release_proposal_request(last_view(words)?)?;
+                say.ok()
+            }
+            "supersede_proposal_request" => {
+                let context = last_context(words)?;
+                say.truth(self.state.supersede_proposal_request(&context)?)
+            }
+            "pending_handoff_abandonment" => {
+                let context = last_context(words)?;
+                abandonment(say, self.state.pending_handoff_abandonment(&context))
+            }
+            _ => self.looked_at(name, words, say),
+        }
+    }
+}

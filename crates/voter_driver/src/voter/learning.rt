@@ -1,0 +1,157 @@
+//! What a voter learns.
+
+use crate::reading::{kind, last_floor, last_payload, last_truth};
+use crate::voter::Voter;
+use crate::voter::knowing::{finalized, notarized};
+use script_certificates::CertificateWords;
+use script_words::{Committee, Say, Trouble, Words};
+use simplex_certificates::{Artifact, Finalization, Notarization, Nullification};
+use simplex_rules::Elector;
+use simplex_types::{PlainKey, Scheme, Sha256Digest};
+use std::alloc::Global;
+
+/// Says whether a certificate is the first of its view, and whose proposal it took the place of.
+fn added(say: &mut Say, added: (bool, Option<PlainKey>)) -> Result<(), Trouble> {
+    let (is_first, leader) = added;
+    say.truth(is_first)?;
+    say.gap()?;
+    say.key_or(leader)
+}
+
+/// `notarization ..` of a committee of so many, which ends the line.
+fn notarization<S: Committee>(
+    alloc: Global,
+    words: &mut Words<'_>,
+    participants: u32,
+) -> Result<Notarization<S, Sha256Digest>, Trouble> {
+    kind(words, "notarization")?;
+    let certificate = words.notarization::<S>(alloc, participants)?;
+    words.end()?;
+    Ok(certificate)
+}
+
+/// `nullification ..` of a committee of so many, which ends the line.
+fn nullification<S: Committee>(
+    alloc: Global,
+    words: &mut Words<'_>,
+    participants: u32,
+) -> Result<Nullification<S, Sha256Digest>, Trouble> {
+    kind(words, "nullification")?;
+    let certificate = words.nullification::<S>(alloc, participants)?;
+    words.end()?;
+    Ok(certificate)
+}
+
+/// `finalization ..` of a committee of so many, which ends the line.
+fn finalization<S: Committee>(
+    alloc: Global,
+    words: &mut Words<'_>,
+    participants: u32,
+) -> Result<Finalization<S, Sha256Digest>, Trouble> {
+    kind(words, "finalization")?;
+    let certificate = words.finalization::<S>(alloc, participants)?;
+    words.end()?;
+    Ok(certificate)
+}
+
+/// An artifact of a committee of so many, which ends the line.
+fn artifact<S: Committee>(
+    alloc: Global,
+    words: &mut Words<'_>,
+    participants: u32,
+) -> Result<Artifact<S, Sha256Digest>, Trouble> {
+    let artifact = words.artifact::<S>(alloc, participants)?;
+    words.end()?;
+    Ok(artifact)
+}
+
+impl<S: Committee + Scheme<Sha256Digest, PublicKey = PlainKey>, L: Elector<S, Sha256Digest>> Voter<
+    S,
+    L,
+> {
+    /// What is learnt from others.
+    pub fn learnt(
+        &mut self,
+        name: &str,
+        words: &mut Words<'_>,
+        say: &mut Say,
+    ) -> Result<(), Trouble> {
+        match name {
+            "add_notarization" => {
+                let certificate = notarization(say.alloc, words, self.participants)?;
+                added(say, self.state.add_notarization(certificate)?)
+            }
+            "add_nullification" => {
+                let now = words.number()?;
+                let certificate = nullification(say.alloc, words, self.participants)?;
+                say.truth(self.state.add_nullification(now, certificate)?)
+            }
+            "add_finalization" => {
+                let now = words.number()?;
+                let certificate = finalization(say.alloc, words, self.participants)?;
+                added(say, self.state.add_finalization(now, certificate)?)
+            }
+            "certified" => self.judged(words, say),
+            "set_proposal" => self.forwarded(words, say),
+            _ => self.kept_on(name, words, say),
+        }
+    }
+
+    /// `NOW VIEW T`: a verdict.
+    fn judged(&mut self, words: &mut Words<'_>, say: &mut Say) -> Result<(), Trouble> {
+        let now = words.number()?;
+        let view = words.view()?;
+        let is_success = last_truth(words)?;
+        notarized(say, self.state.certified(say.alloc, now, view, is_success)?)
+    }
+
+    /// `VIEW PROPOSAL`: what the view's leader proposes.
+    fn forwarded(&mut self, words: &mut Words<'_>, say: &mut Say) -> Result<(), Trouble> {
+        let view = words.view()?;
+        let proposal = words.proposal()?;
+        words.end()?;
+        say.truth(self.state.set_proposal(view, &proposal)?)
+    }
+
+    /// What a voter starts from, takes from its record, and drops.
+    fn kept_on(&mut self, name: &str, words: &mut Words<'_>, say: &mut Say) -> Result<(), Trouble> {
+        match name {
+            "set_genesis" => {
+                let now = words.number()?;
+                self.state.set_genesis(now, last_payload(words)?)?;
+                say.ok()
+            }
+            "set_floor" => self.floored(words, say),
+            "replay" => {
+                let artifact = artifact(say.alloc, words, self.participants)?;
+                self.state.replay(&artifact)?;
+                say.ok()
+            }
+            "prune" => self.pruned(words, say),
+            _ => self.built(name, words, say),
+        }
+    }
+
+    /// `NOW genesis K` or `NOW finalization ..`: a start.
+    fn floored(&mut self, words: &mut Words<'_>, say: &mut Say) -> Result<(), Trouble> {
+        let alloc = say.alloc;
+        let now = words.number()?;
+        let floor = last_floor(alloc, words, self.participants)?;
+        finalized(say, self.state.set_floor(alloc, now, floor)?)
+    }
+
+    /// The views that a prune drops.
+    fn pruned(&mut self, words: &mut Words<'_>, say: &mut Say) -> Result<(), Trouble> {
+        words.end()?;
+        let views = self.state.prune(say.alloc)?;
+        let Some((first, rest)) = views.split_first() else {
+            return say.none();
+        };
+        say.view(*first)?;
+        for view in rest {
+            say.text(",")?;
+            say.view(*view)?;
+        }
+        Ok(())
+    }
+}

@@ -1,0 +1,116 @@
+//! What a voter asks its application, and others, about proposals.
+
+use crate::reading::{last_number, last_reason, last_view};
+use crate::voter::Voter;
+use script_words::{Committee, Say, Trouble, Words};
+use simplex_round::Token;
+use simplex_rules::Elector;
+use simplex_types::{PlainKey, Proposal, Scheme, Sha256Digest};
+use simplex_voter::{CertificateFetch, Verify};
+
+/// Says what is asked for, to judge the proposals of others.
+fn wanted(say: &mut Say, wanted: &Verify<Sha256Digest, PlainKey>) -> Result<(), Trouble> {
+    match wanted {
+        Verify::Ready(context, proposal) => {
+            say.text("Ready ")?;
+            say.context(context)?;
+            say.gap()?;
+            say.proposal(proposal)
+        }
+        Verify::Resolve {
+            proposal,
+            view,
+            kind,
+            target,
+        } => {
+            say.text("Resolve ")?;
+            say.view(*proposal)?;
+            say.gap()?;
+            say.view(*view)?;
+            say.gap()?;
+            say.text(kind.as_str())?;
+            say.gap()?;
+            say.key(target)
+        }
+        Verify::Wait => say.text("Wait"),
+    }
+}
+
+/// Says on which proposals verdicts are to be asked for.
+fn ready(say: &mut Say, proposals: &[Proposal<Sha256Digest>]) -> Result<(), Trouble> {
+    let Some((first, rest)) = proposals.split_first() else {
+        return say.none();
+    };
+    say.proposal(first)?;
+    for proposal in rest {
+        say.text(" , ")?;
+        say.proposal(proposal)?;
+    }
+    Ok(())
+}
+
+/// Says which notarization is to be asked for, and for whose verdict.
+fn fetch(say: &mut Say, fetch: &CertificateFetch) -> Result<(), Trouble> {
+    say.view(fetch.proposal)?;
+    say.gap()?;
+    say.view(fetch.view)
+}
+
+/// Says which notarizations are to be asked for.
+fn fetches(say: &mut Say, fetches: &[CertificateFetch]) -> Result<(), Trouble> {
+    let Some((first, rest)) = fetches.split_first() else {
+        return say.none();
+    };
+    fetch(say, first)?;
+    for next in rest {
+        say.text(" , ")?;
+        fetch(say, next)?;
+    }
+    Ok(())
+}
+
+impl<S: Committee + Scheme<Sha256Digest, PublicKey = PlainKey>, L: Elector<S, Sha256Digest>> Voter<
+    S,
+    L,
+> {
+    /// What is asked of proposals, and what is answered.
+    pub fn looked_at(
+        &mut self,
+        name: &str,
+        words: &mut Words<'_>,
+        say: &mut Say,
+    ) -> Result<(), Trouble> {
+        match name {
+            "try_verify" => wanted(say, &self.state.try_verify(last_number(words)?)?),
+            "verified" => say.truth(self.state.verified(last_view(words)?)?),
+            "verification_failed" => self.failed(words, say),
+            "certify_candidates" => self.candidates(words, say),
+            "set_certify_handle" => {
+                let view = words.view()?;
+                let handle = Token(last_number(words)?);
+                self.state.set_certify_handle(view, handle)?;
+                say.ok()
+            }
+            _ => self.voted(name, words, say),
+        }
+    }
+
+    /// `NOW VIEW REASON`: a proposal wasn't found good.
+    fn failed(&mut self, words: &mut Words<'_>, say: &mut Say) -> Result<(), Trouble> {
+        let now = words.number()?;
+        let view = words.view()?;
+        let reason = last_reason(words)?;
+        let _counts = self.state.verification_failed(now, view, reason)?;
+        say.ok()
+    }
+
+    /// What is to be asked for verdicts.
+    fn candidates(&mut self, words: &mut Words<'_>, say: &mut Say) -> Result<(), Trouble> {
+        words.end()?;
+        let (proposals, certificates) = self.state.certify_candidates(say.alloc)?;
+        say.text("ready ")?;
+        ready(say, &proposals)?;
+        say.text(" fetch ")?;
+        fetches(say, &certificates)
+    }
+}

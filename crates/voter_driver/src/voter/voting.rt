@@ -1,0 +1,96 @@
+//! What a voter votes, and when it gives a view up.
+
+use crate::reading::{last_number, last_reason, last_view};
+use crate::voter::Voter;
+use script_certificates::SayCertificates;
+use script_words::{Committee, Say, Trouble, Words};
+use simplex_certificates::{Finalize, Notarize, Nullify};
+use simplex_round::TimeoutReason;
+use simplex_rules::Elector;
+use simplex_types::{PlainKey, Scheme, Sha256Digest};
+
+/// Says a vote to notarize, where there is one.
+fn notarize<S: Committee>(
+    say: &mut Say,
+    vote: Option<Notarize<S, Sha256Digest>>,
+) -> Result<(), Trouble> {
+    match vote {
+        Some(vote) => say.notarize(&vote),
+        None => say.none(),
+    }
+}
+
+/// Says a vote to finalize, where there is one.
+fn finalize<S: Committee>(
+    say: &mut Say,
+    vote: Option<Finalize<S, Sha256Digest>>,
+) -> Result<(), Trouble> {
+    match vote {
+        Some(vote) => say.finalize(&vote),
+        None => say.none(),
+    }
+}
+
+/// Says whether a view was given up before, and the vote for that, where there is one.
+fn nullify<S: Committee>(
+    say: &mut Say,
+    vote: Option<(bool, Nullify<S, Sha256Digest>)>,
+) -> Result<(), Trouble> {
+    match vote {
+        Some((is_repetition, vote)) => {
+            say.truth(is_repetition)?;
+            say.gap()?;
+            say.nullify(&vote)
+        }
+        None => say.none(),
+    }
+}
+
+/// Says when and why the current view is given up, if it is.
+fn timeout(say: &mut Say, next: Option<(u64, TimeoutReason)>) -> Result<(), Trouble> {
+    match next {
+        Some((moment, reason)) => {
+            say.number(moment)?;
+            say.gap()?;
+            say.text(reason.as_str())
+        }
+        None => say.none(),
+    }
+}
+
+impl<S: Committee + Scheme<Sha256Digest, PublicKey = PlainKey>, L: Elector<S, Sha256Digest>> Voter<
+    S,
+    L,
+> {
+    /// What is voted, and when a view is given up.
+    pub fn voted(
+        &mut self,
+        name: &str,
+        words: &mut Words<'_>,
+        say: &mut Say,
+    ) -> Result<(), Trouble> {
+        match name {
+            "construct_notarize" => {
+                notarize(say, self.state.construct_notarize(last_view(words)?)?)
+            }
+            "construct_finalize" => finalize(say, self.state.construct_finalize(last_view(words)?)),
+            "construct_nullify" => {
+                let view = words.view()?;
+                let reason = last_reason(words)?;
+                nullify(say, self.state.construct_nullify(view, reason)?)
+            }
+            "next_timeout" => timeout(say, self.state.next_timeout(last_number(words)?)?),
+            "trigger_timeout" => self.latched(words, say),
+            _ => Err(Trouble::Unreadable),
+        }
+    }
+
+    /// `NOW VIEW REASON`: why a view is given up.
+    fn latched(&mut self, words: &mut Words<'_>, say: &mut Say) -> Result<(), Trouble> {
+        let now = words.number()?;
+        let view = words.view()?;
+        let reason = last_reason(words)?;
+        let _counts = self.state.trigger_timeout(now, view, reason)?;
+        say.ok()
+    }
+}
