@@ -1,0 +1,60 @@
+//! The calls of a disk that the script tears.
+
+use crate::session::Session;
+use crate::torn_disk::TornDisk;
+use script_words::{Say, Trouble, Words};
+use std::alloc::Global;
+
+/// Such a disk, which holds the bytes of the last word.
+pub(crate) fn session(words: &mut Words<'_>, alloc: Global) -> Result<Session<TornDisk>, Trouble> {
+    let bytes = words.bytes(alloc)?;
+    words.end()?;
+    Ok(Session::new(TornDisk::with(alloc, bytes)))
+}
+
+/// The calls of such a disk, and of the journal on it.
+pub(crate) fn answer(
+    session: &mut Session<TornDisk>,
+    name: &str,
+    words: &mut Words<'_>,
+    say: &mut Say,
+) -> Result<(), Trouble> {
+    match name {
+        "stop" => stop(session, words, say),
+        "crash" => crash(session, words, say),
+        "calls" => calls(session, words, say),
+        _ => session.answer(name, words, say),
+    }
+}
+
+/// `stop CALLS BYTES`: lets so many calls through. The next fails and leaves the bytes, and each further one fails.
+fn stop(
+    session: &mut Session<TornDisk>,
+    words: &mut Words<'_>,
+    say: &mut Say,
+) -> Result<(), Trouble> {
+    let calls = words.number()?;
+    let left = words.bytes(say.alloc)?;
+    words.end()?;
+    session.disk()?.stop_after(calls, left);
+    say.ok()
+}
+
+/// `crash BYTES`: a crash, which takes the journal and leaves the bytes.
+fn crash(
+    session: &mut Session<TornDisk>,
+    words: &mut Words<'_>,
+    say: &mut Say,
+) -> Result<(), Trouble> {
+    let left = words.bytes(say.alloc)?;
+    words.end()?;
+    session.close();
+    session.disk()?.crash(left);
+    say.ok()
+}
+
+/// `calls`: the calls of the disk since they were told last, while no journal is open.
+fn calls(session: &mut Session<TornDisk>, words: &Words<'_>, say: &mut Say) -> Result<(), Trouble> {
+    words.end()?;
+    session.disk()?.say_calls(say)
+}

@@ -1,0 +1,45 @@
+//! What a script works on.
+
+use crate::record::Record;
+use crate::{coverage, laws};
+use script_words::{Layer, Say, Trouble, Words};
+use simplex_record::Coverage;
+use std::alloc::Global;
+
+/// A record, or views that are covered.
+#[derive(Drop)]
+pub(crate) enum Desk {
+    /// Before the first `reset`.
+    Nothing,
+    /// The record of a member.
+    Record(Record),
+    /// Covered views alone.
+    Coverage(Coverage),
+}
+
+impl Layer for Desk {
+    /// `reset record N LENGTH MEMBER EPOCH`, `reset coverage`.
+    fn reset(&mut self, words: &mut Words<'_>, alloc: Global) -> Result<(), Trouble> {
+        let desk = match words.word() {
+            "record" => Desk::Record(Record::new(words, alloc)?),
+            "coverage" => {
+                words.end()?;
+                Desk::Coverage(Coverage::new(alloc))
+            }
+            _ => return Err(Trouble::Unreadable),
+        };
+        *self = desk;
+        Ok(())
+    }
+
+    fn call(&mut self, name: &str, words: &mut Words<'_>, say: &mut Say) -> Result<(), Trouble> {
+        if name == "laws" {
+            return laws::answer(words, say);
+        }
+        match self {
+            Desk::Nothing => Err(Trouble::Unreadable),
+            Desk::Record(record) => record.answer(name, words, say),
+            Desk::Coverage(covered) => coverage::answer(covered, name, words, say),
+        }
+    }
+}

@@ -1,0 +1,107 @@
+//! The record of a member.
+
+use script_certificates::CertificateWords;
+use script_words::{Committee, Say, Trouble, Words};
+use simplex_certificates::Artifact;
+use simplex_record::{Owner, Standing, first_refused};
+use simplex_types::{PlainScheme, Sha256Digest};
+use std::alloc::Global;
+
+/// An artifact under the plain scheme.
+type Item = Artifact<PlainScheme, Sha256Digest>;
+
+/// A list of artifacts, and what is kept of those that were added.
+#[derive(Drop)]
+pub(crate) struct Record {
+    members: u32,
+    scheme: PlainScheme,
+    owner: Owner,
+    artifacts: Vec<Item>,
+    standing: Standing<Sha256Digest>,
+}
+
+impl Record {
+    /// `N LENGTH MEMBER EPOCH`: an empty record of this member of so many, in terms of so many views.
+    pub(crate) fn new(words: &mut Words<'_>, alloc: Global) -> Result<Self, Trouble> {
+        let members = words.index()?;
+        let term_length = words.term_length()?;
+        let signer = words.member()?;
+        let epoch = words.epoch()?;
+        words.end()?;
+        Ok(Record {
+            members,
+            scheme: PlainScheme::member_of(alloc, members, Some(signer), 0)?,
+            owner: Owner {
+                epoch,
+                term_length,
+                signer,
+            },
+            artifacts: Vec::new(alloc),
+            standing: Standing::new(alloc),
+        })
+    }
+
+    /// The artifact that the words that are left stand for.
+    fn artifact(&self, words: &mut Words<'_>, alloc: Global) -> Result<Item, Trouble> {
+        let item = words.artifact(alloc, self.members)?;
+        words.end()?;
+        Ok(item)
+    }
+
+    /// `push ARTIFACT`: puts an artifact behind the list.
+    fn push(&mut self, words: &mut Words<'_>, say: &mut Say) -> Result<(), Trouble> {
+        let item = self.artifact(words, say.alloc)?;
+        self.artifacts.push(item)?;
+        say.ok()
+    }
+
+    /// `push_spelled BYTES`: the same of the artifact that the bytes spell.
+    fn push_spelled(&mut self, words: &mut Words<'_>, say: &mut Say) -> Result<(), Trouble> {
+        let item: Item = words.value(say.alloc, self.members)?;
+        words.end()?;
+        self.artifacts.push(item)?;
+        say.ok()
+    }
+
+    /// `first_refused`: the position of the first of the list that a lawful record refuses, or `-`.
+    fn first_refused(&self, words: &Words<'_>, say: &mut Say) -> Result<(), Trouble> {
+        words.end()?;
+        match first_refused(say.alloc, &self.scheme, self.owner, &self.artifacts)? {
+            Some(position) => say.number(position as u64),
+            None => say.none(),
+        }
+    }
+
+    /// `allows ARTIFACT`: whether the rules allow it behind those that were added, whoever signed it.
+    fn allows(&self, words: &mut Words<'_>, say: &mut Say) -> Result<(), Trouble> {
+        let item = self.artifact(words, say.alloc)?;
+        say.truth(self.standing.allows(self.owner.term_length, &item))
+    }
+
+    /// `add ARTIFACT`: adds it to those, where the rules allow it.
+    fn add(&mut self, words: &mut Words<'_>, say: &mut Say) -> Result<(), Trouble> {
+        let item = self.artifact(words, say.alloc)?;
+        if !self.standing.allows(self.owner.term_length, &item) {
+            return Err(Trouble::Condition);
+        }
+        self.standing.add(self.owner.term_length, &item)?;
+        say.ok()
+    }
+
+    /// The calls of a record.
+    pub(crate) fn answer(
+        &mut self,
+        name: &str,
+        words: &mut Words<'_>,
+        say: &mut Say,
+    ) -> Result<(), Trouble> {
+        match name {
+            "push" => self.push(words, say),
+            "push_spelled" => self.push_spelled(words, say),
+            "first_refused" => self.first_refused(words, say),
+            "allows" => self.allows(words, say),
+            "add" => self.add(words, say),
+            _ => Err(Trouble::Unreadable),
+        }
+    }
+}
