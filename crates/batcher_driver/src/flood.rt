@@ -36,7 +36,7 @@ pub(crate) fn pour<S: Committee>(
     round: &mut Round<S, Sha256Digest>,
     n: u32,
     times: u8,
-    at: Position,
+    at: &Position,
     say: &mut Say,
 ) -> Result<(), Trouble> {
     let mut counts = Counts {
@@ -63,11 +63,11 @@ fn pour_each<S: Committee>(
     round: &mut Round<S, Sha256Digest>,
     n: u32,
     signer: Participant,
-    at: Position,
+    at: &Position,
     counts: &mut Counts,
 ) -> Result<(), Trouble> {
     for sent in EACH {
-        let vote = vote_of::<S>(alloc, n, signer, at, sent)?;
+        let vote = vote_of::<S>(alloc, n, signer, *at, sent)?;
         let admission = match round.add_network(signer, vote) {
             Ok(admission) => admission,
             Err(BatcherFault::Memory) => return Err(Trouble::Memory),

@@ -111,7 +111,7 @@ impl<S: Committee> Votes<S> {
         let times = words.small()?;
         let at = words.round()?;
         words.end()?;
-        pour(&mut self.round, self.n, times, at, say)
+        pour(&mut self.round, self.n, times, &at, say)
     }
 
     /// The calls that change nothing.
