@@ -1,5 +1,6 @@
 //! The calls of a disk itself.
 
+use crate::item::bytes;
 use crate::medium::Medium;
 use script_words::{Say, Trouble, Words};
 use simplex_journal::DiskFault;
@@ -54,7 +55,7 @@ pub(crate) fn write_at<K: Medium>(
     say: &mut Say,
 ) -> Result<(), Trouble> {
     let at = words.number()?;
-    let bytes = words.bytes(say.alloc)?;
+    let bytes = bytes(words, say.alloc)?;
     words.end()?;
     if !disk.reaches(at) {
         return Err(Trouble::Condition);

@@ -1,5 +1,6 @@
 //! The system's files.
 
+use crate::item::bytes;
 use crate::session::Session;
 use script_words::{Say, Trouble, Words};
 use simplex_journal::FileDisk;
@@ -48,7 +49,7 @@ pub(crate) fn answer(
     let name = words.word();
     let path = words.word();
     if name == "write" {
-        let bytes = words.bytes(say.alloc)?;
+        let bytes = bytes(words, say.alloc)?;
         words.end()?;
         return say_done(say, fs::write(files, path, &bytes));
     }

@@ -11,6 +11,14 @@ use std::alloc::Global;
 /// An artifact under the plain scheme. In a script it stands as the bytes that spell it.
 pub(crate) type Item = Artifact<PlainScheme, Sha256Digest>;
 
+/// The bytes of the next word, `-` for none: the word has to be there.
+pub(crate) fn bytes(words: &mut Words<'_>, alloc: Global) -> Result<Vec<u8>, Trouble> {
+    if !words.more() {
+        return Err(Trouble::Unreadable);
+    }
+    words.bytes(alloc)
+}
+
 /// The message that the next word spells, which can be read again.
 pub(crate) fn message<M: Read + Drop>(words: &mut Words<'_>, alloc: Global) -> Result<M, Trouble>
     ensures { IfOk result (M.within 65535) }

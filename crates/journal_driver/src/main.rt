@@ -1,5 +1,17 @@
 //! Plays scripts of calls on journals and disks: reads calls from standard input, one a line, makes them, and prints
-//! one line for each.
+//! one line for each. An artifact stands as the bytes that spell it.
+//!
+//! - `reset memory BYTES`, `reset torn BYTES`: a disk in memory, or one that the script tears, which holds these bytes;
+//!   `reset file PATH`: a disk in a file; `reset nothing`: no disk, which lets a file go
+//! - `open`: what was found, `opened ARTIFACTS`, or the fault; `append ARTIFACT`: `ok` or the fault; `close`,
+//!   `is_failed`, `failures`; while no journal is open `bytes`, and of the disk `len`, `read AT COUNT`,
+//!   `write_at AT BYTES`, `cut LEN`, `sync`: `DiskFault` where they fail
+//! - in memory `fuse CALLS`, `fail_at CALLS`, `crash`, and `run` of `open`, `append ARTIFACT` and `crash`: the event
+//!   that comes of each
+//! - torn `stop CALLS BYTES`: lets so many calls through, the next leaves the bytes; `crash BYTES`; `calls`: the calls
+//!   of the disk since they were told last
+//! - at any time `finds BYTES`: what an opening of these bytes finds and leaves; `file open`, `file read`, `file remove`,
+//!   `file make_folder`, `file remove_folder`, each with a path, and `file write PATH BYTES`
 #![tactic(auto)]
 
 mod desk;

@@ -1,6 +1,7 @@
 //! The calls of a disk in memory.
 
 use crate::history;
+use crate::item::bytes;
 use crate::session::Session;
 use script_words::{Say, Trouble, Words};
 use simplex_journal::{Crash, MemoryDisk};
@@ -11,7 +12,7 @@ pub(crate) fn session(
     words: &mut Words<'_>,
     alloc: Global,
 ) -> Result<Session<MemoryDisk>, Trouble> {
-    let bytes = words.bytes(alloc)?;
+    let bytes = bytes(words, alloc)?;
     words.end()?;
     if bytes.is_empty() {
         return Ok(Session::new(MemoryDisk::new(alloc)));

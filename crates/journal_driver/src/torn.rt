@@ -1,5 +1,6 @@
 //! The calls of a disk that the script tears.
 
+use crate::item::bytes;
 use crate::session::Session;
 use crate::torn_disk::TornDisk;
 use script_words::{Say, Trouble, Words};
@@ -7,7 +8,7 @@ use std::alloc::Global;
 
 /// Such a disk, which holds the bytes of the last word.
 pub(crate) fn session(words: &mut Words<'_>, alloc: Global) -> Result<Session<TornDisk>, Trouble> {
-    let bytes = words.bytes(alloc)?;
+    let bytes = bytes(words, alloc)?;
     words.end()?;
     Ok(Session::new(TornDisk::with(alloc, bytes)))
 }
@@ -34,7 +35,7 @@ fn stop(
     say: &mut Say,
 ) -> Result<(), Trouble> {
     let calls = words.number()?;
-    let left = words.bytes(say.alloc)?;
+    let left = bytes(words, say.alloc)?;
     words.end()?;
     session.disk()?.stop_after(calls, left);
     say.ok()
@@ -46,7 +47,7 @@ fn crash(
     words: &mut Words<'_>,
     say: &mut Say,
 ) -> Result<(), Trouble> {
-    let left = words.bytes(say.alloc)?;
+    let left = bytes(words, say.alloc)?;
     words.end()?;
     session.close();
     session.disk()?.crash(left);

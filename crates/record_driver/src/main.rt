@@ -1,5 +1,13 @@
 //! Plays scripts of calls on records: reads calls from standard input, one a line, makes them, and prints one line for
 //! each.
+//!
+//! - `reset record N LENGTH MEMBER EPOCH`: an empty list of artifacts of this member of so many, in terms of so many
+//!   views, under the plain scheme; `push ARTIFACT`, and `push_spelled BYTES` of one that is spelled;
+//!   `first_refused`: the position of the first that a lawful record refuses, or `-`
+//! - `allows ARTIFACT`, `add ARTIFACT`: whether the rules allow it behind those that were added, whoever signed it;
+//!   adding asks for that
+//! - `reset coverage`: no view is covered; `cover FIRST LAST`, `covers_between PARENT VIEW`, `first_uncovered PARENT VIEW`
+//! - at any time `laws`
 #![tactic(auto)]
 
 mod coverage;
