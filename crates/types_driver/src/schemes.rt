@@ -1,0 +1,174 @@
+//! Committees: what they sign, take and assemble.
+
+use crate::subjects::Stated;
+use script_values as values;
+use script_words::{Committee, Say, Trouble, Words};
+use simplex_fakes::OneByOne;
+use simplex_types::{
+    AssemblyError, Attestation, Listing, PlainScheme, Sha256Digest, are_of_distinct_members,
+};
+
+/// `scheme KIND MEMBERS ME CALL ..`, where KIND is `plain` or `serial`, and ME is `-` for nobody of it.
+pub fn scheme(words: &mut Words<'_>, say: &mut Say) -> Result<(), Trouble> {
+    match words.word() {
+        "plain" => {
+            let scheme = plain(words, say)?;
+            ask(&scheme, words, say)
+        }
+        "serial" => {
+            let plain = plain(words, say)?;
+            ask(&OneByOne { plain }, words, say)
+        }
+        _ => Err(Trouble::Unreadable),
+    }
+}
+
+/// The committee of so many as the next word says, seen by the member of the word behind it.
+fn plain(words: &mut Words<'_>, say: &Say) -> Result<PlainScheme, Trouble> {
+    let members = words.index()?;
+    let me = words.optional_member()?;
+    PlainScheme::member_of(say.alloc, members, me, 0)
+}
+
+/// What is asked of the committee.
+fn ask<S: Listing<Sha256Digest>>(
+    scheme: &S,
+    words: &mut Words<'_>,
+    say: &mut Say,
+) -> Result<(), Trouble> {
+    match words.word() {
+        "shown" => shown(scheme, say),
+        "key" => key(scheme, words, say),
+        "sign" => sign(scheme, words, say),
+        "verify" => verify(scheme, words, say),
+        "verify_certificate" => verify_certificate(scheme, words, say),
+        "assemble" => assemble(scheme, words, say),
+        name => ask_at_once(name, scheme, words, say),
+    }
+}
+
+/// What is asked of many attestations of one subject at once.
+fn ask_at_once<S: Listing<Sha256Digest>>(
+    name: &str,
+    scheme: &S,
+    words: &mut Words<'_>,
+    say: &mut Say,
+) -> Result<(), Trouble> {
+    match name {
+        "failing" => failing(scheme, words, say),
+        "optimistic" => optimistic(scheme, words, say),
+        _ => Err(Trouble::Unreadable),
+    }
+}
+
+/// `shown`: how many members, who sees it, and whether it is batchable.
+fn shown<S: Listing<Sha256Digest>>(scheme: &S, say: &mut Say) -> Result<(), Trouble> {
+    say.number(u64::from(scheme.participants()))?;
+    say.gap()?;
+    match scheme.me() {
+        Some(me) => say.number(u64::from(me.get()))?,
+        None => say.none()?,
+    }
+    say.gap()?;
+    say.truth(scheme.is_batchable())
+}
+
+/// `key INDEX`.
+fn key<S: Listing<Sha256Digest>>(
+    scheme: &S,
+    words: &mut Words<'_>,
+    say: &mut Say,
+) -> Result<(), Trouble> {
+    match scheme.key(words.member()?) {
+        Some(key) => say.value(&key),
+        None => say.none(),
+    }
+}
+
+/// `sign SUBJECT`.
+fn sign<S: Listing<Sha256Digest>>(
+    scheme: &S,
+    words: &mut Words<'_>,
+    say: &mut Say,
+) -> Result<(), Trouble> {
+    let stated = Stated::read(words)?;
+    match scheme.sign(&stated.subject()) {
+        Some(attestation) => say.value(&attestation),
+        None => say.none(),
+    }
+}
+
+/// `verify SUBJECT ATTESTATION`.
+fn verify<S: Listing<Sha256Digest>>(
+    scheme: &S,
+    words: &mut Words<'_>,
+    say: &mut Say,
+) -> Result<(), Trouble> {
+    let stated = Stated::read(words)?;
+    let attestation: Attestation<S::Signature> = words.value(say.alloc, u32::MAX)?;
+    say.truth(scheme.verify_attestation(&stated.subject(), &attestation))
+}
+
+/// `verify_certificate SUBJECT LIST`.
+fn verify_certificate<S: Listing<Sha256Digest>>(
+    scheme: &S,
+    words: &mut Words<'_>,
+    say: &mut Say,
+) -> Result<(), Trouble> {
+    let stated = Stated::read(words)?;
+    let certificate: S::Certificate = words.value(say.alloc, u32::MAX)?;
+    say.truth(scheme.verify_certificate(&stated.subject(), &certificate))
+}
+
+/// `assemble ATTESTATION..`: the certificate, or why there is none.
+fn assemble<S: Listing<Sha256Digest>>(
+    scheme: &S,
+    words: &mut Words<'_>,
+    say: &mut Say,
+) -> Result<(), Trouble> {
+    let given = values::all::<Attestation<S::Signature>>(words, say.alloc)?;
+    if !are_of_distinct_members(say.alloc, scheme.participants(), &given)? {
+        return Err(Trouble::Condition);
+    }
+    match scheme.assemble(say.alloc, &given) {
+        Ok(certificate) => say.value(&certificate),
+        Err(AssemblyError::Memory) => Err(Trouble::Memory),
+        Err(error) => say.text(&format!(in say.alloc; "{error}")?),
+    }
+}
+
+/// `failing SUBJECT ATTESTATION..`: in whose names one fails.
+fn failing<S: Listing<Sha256Digest>>(
+    scheme: &S,
+    words: &mut Words<'_>,
+    say: &mut Say,
+) -> Result<(), Trouble> {
+    let stated = Stated::read(words)?;
+    let given = values::all::<Attestation<S::Signature>>(words, say.alloc)?;
+    let failing = scheme.verify_attestations(say.alloc, &stated.subject(), &given)?;
+    say.number(failing.len() as u64)?;
+    for member in &failing {
+        say.gap()?;
+        say.number(u64::from(member.get()))?;
+    }
+    Ok(())
+}
+
+/// `optimistic SUBJECT ATTESTATION..`: the certificate, and whether it certifies.
+fn optimistic<S: Listing<Sha256Digest>>(
+    scheme: &S,
+    words: &mut Words<'_>,
+    say: &mut Say,
+) -> Result<(), Trouble> {
+    let stated = Stated::read(words)?;
+    let given = values::all::<Attestation<S::Signature>>(words, say.alloc)?;
+    let subject = stated.subject();
+    match scheme.optimistic_assemble(say.alloc, &subject, &given)? {
+        Some(certificate) => {
+            say.value(&certificate)?;
+            say.gap()?;
+            say.truth(scheme.verify_certificate(&subject, &certificate))
+        }
+        None => say.none(),
+    }
+}
