@@ -18,16 +18,17 @@ class Edited:
     lines: list
 
 
-def apply(edit, crate):
+def apply(edit, crate, texts=None):
     """What the edit makes of the crate's files: an `Edited` for each path that it names. Each `old:` text must stand once in its
-    file, after the pairs above it were applied."""
+    file, after the pairs above it were applied. A file that `texts` has is read there."""
     path, old, made, pairs = None, None, {}, 0
     for line in edit.read_text().split("\n"):
         if line.startswith("file: "):
             path = line.removeprefix("file: ").strip()
             if not (crate / path).is_file():
                 raise Unfit(f"there is no file {path}")
-            made.setdefault(path, Edited((crate / path).read_text(), []))
+            if path not in made:
+                made[path] = Edited((texts or {}).get(path) or (crate / path).read_text(), [])
         elif line.startswith("old: "):
             old = line.removeprefix("old: ")
         elif line.startswith("new:"):
