@@ -3,14 +3,18 @@
 
 usage: check_baseline.py PROGRAM [CASES]
 
-Messages are read by the plain program in vectors.py.
+The model is the plain definition in tools/audited.py.
 """
 
 import random
 import subprocess
 import sys
+from pathlib import Path
 
-from vectors import VOTE_OF, attests, read, tagged_parts, vote
+sys.path.insert(0, str(Path(__file__).resolve().parent.parent / "tools"))
+
+from audited import Plain, audit, lines_of
+from vectors import VOTE_OF, tagged_parts, vote
 
 COUNT = 3
 NUMBERS = [0, 1, 2, 127, 128, 2**14, 2**32 - 1, 2**32, 2**63 - 1, 2**63, 2**64 - 1]
@@ -32,54 +36,9 @@ CERTIFICATES = ("notarization", "nullification", "finalization")
 # The model
 
 
-def votes_in(message):
-    """A loose vote itself, one for each attestation that a certificate lists, both of evidence."""
-    kind, *items = message
-    if kind in VOTES:
-        return [message]
-    if kind in VOTE_OF:
-        subject, listed = items
-        return [(VOTE_OF[kind], subject, attestation) for attestation in listed[1:]]
-    return [each for item in items for each in votes_in(item)]
-
-
-def gather(votes):
-    """By round and signer, then by kind of vote, what the verifying votes are for."""
-    cast = {}
-    for kind, subject, attestation in votes:
-        if attests(COUNT, kind, subject, attestation):
-            round_ = subject if kind == "nullify" else subject[1]
-            choice = () if kind == "nullify" else subject[2:]
-            key = (round_[1], round_[2], attestation[1])
-            cast.setdefault(key, {}).setdefault(kind, set()).add(choice)
-    return cast
-
-
-def lines_of(cast):
-    for key in sorted(cast):
-        chosen = {kind: sorted(cast[key].get(kind, ())) for kind in VOTES}
-        for kind in ("notarize", "finalize"):
-            if len(chosen[kind]) > 1:
-                yield line(f"conflicting-{kind}", key, chosen[kind][:2])
-        if chosen["nullify"] and chosen["finalize"]:
-            yield line("nullify-finalize", key, chosen["finalize"][:1])
-
-
-def line(word, key, choices):
-    least = "".join(f" parent {parent} payload {payload.hex()}" for parent, payload in choices)
-    return "{} epoch {} view {} signer {}".format(word, *key) + least + "\n"
-
-
 def model(data):
-    votes, rest, last = [], data, ""
-    while rest and not last:
-        answer = read("Activity", rest, COUNT)
-        if isinstance(answer, str):
-            last = f"fault at byte {len(data) - len(rest)}\n"
-        else:
-            votes += votes_in(answer[0])
-            rest = answer[1]
-    return "".join(lines_of(gather(votes))) + last, 3 if last else 0
+    evidence, fault = audit(Plain, COUNT, data)
+    return lines_of(evidence, fault), 0 if fault is None else 3
 
 
 # The inputs

@@ -107,11 +107,15 @@ def tagged(type_, value):
 NAMES = {"notarize": b"_NOTARIZE", "nullify": b"_NULLIFY", "finalize": b"_FINALIZE"}
 
 
-def signature(signer, kind, subject, base=BASE):
-    """The signature on a proposal (notarize, finalize) or a round (nullify)."""
+def hashed(signer, kind, subject, base=BASE):
+    """What the signature on a proposal (notarize, finalize) or a round (nullify) is the SHA-256 of."""
     namespace = base + NAMES[kind]
-    hashed = signer.to_bytes(4, "big") + len(namespace).to_bytes(4, "big") + namespace
-    return hashlib.sha256(hashed + spelled(subject)).digest()
+    front = signer.to_bytes(4, "big") + len(namespace).to_bytes(4, "big") + namespace
+    return front + spelled(subject)
+
+
+def signature(signer, kind, subject, base=BASE):
+    return hashlib.sha256(hashed(signer, kind, subject, base)).digest()
 
 
 def vote(kind, signer, subject):
@@ -153,9 +157,10 @@ class Trouble(Exception):
 
 
 class Input:
-    def __init__(self, data):
+    def __init__(self, data, signature_size=32):
         self.data = data
         self.at = 0
+        self.signature_size = signature_size  # 32 in the plain scheme, 40 in the salted one
 
     def trouble(self, name):
         return Trouble(name, self.at)
@@ -225,7 +230,7 @@ def read_context(i, n):
 
 def read_attestation(i, n):
     signer = i.number(U32)
-    return ("attestation", signer, i.raw(32))
+    return ("attestation", signer, i.raw(i.signature_size))
 
 
 def read_list(i, n):
@@ -237,7 +242,7 @@ def read_list(i, n):
         index = i.number(U32)
         if index <= last or index >= n:
             raise i.trouble("Invalid")  # before the signature is looked at
-        listed.append(("attestation", index, i.raw(32)))
+        listed.append(("attestation", index, i.raw(i.signature_size)))
         last = index
     return ("list",) + tuple(listed)
 
@@ -312,9 +317,9 @@ for _type, _tags in TAGGED.items():
     READERS[_type] = tagged_reader(_tags)
 
 
-def read(type_, data, n):
+def read(type_, data, n, signature_size=32):
     """(value, rest), or the name of the first trouble: "End", "Invalid" or "TooLong"."""
-    i = Input(data)
+    i = Input(data, signature_size)
     try:
         value = READERS[type_](i, n)
     except Trouble as trouble:

@@ -1,0 +1,91 @@
+//! Plays scripts on the command line program: each line is a call, answered by a line. The streams that a call is given
+//! are fakes, which the lines before it describe.
+//!
+//! | Line | Answer |
+//! |---|---|
+//! | `reset` | `ok`: an input without bytes, and streams that move all at once and never fail |
+//! | `append TIMES HEX` | how many bytes the input has with these behind it, so many times |
+//! | `reader SIZE ROOM FAULT`, `output ..`, `faults ..` | `ok`: such is the stream of each call from here on |
+//! | `audit COUNT` | `STATUS LEFT OUTPUT FAULTS` of `audit_over` |
+//! | `run WORD ..` | the same of the program with these words |
+//! | `write COUNT` | what `write_audit` answers, then `LEFT OUTPUT` |
+//! | `report OUTCOME`, `unread KIND` | `STATUS FAULTS` of `report`, and of `words_unread` after such an error |
+//! | `parse WORD ..` | `audit COUNT`, `node PATH INDEX COUNT`, or `-` |
+//! | `number WORD` | the number, or `-` |
+//! | `usage`, `line TROUBLE` | the text |
+//!
+//! SIZE is how many bytes a read or write moves at most, ROOM how many the stream has or takes in all: a reader ends
+//! there, a writer then takes none; `-` is no bound. FAULT is `never`, or `KIND CALLS`: so the call (a read, write or
+//! flush) behind so many fails, once. KIND is an `io::ErrorKind`: `interrupted`, `other`, `would-block`, `broken-pipe`,
+//! `out-of-memory` or `invalid-data`. LEFT is how many bytes the reader has left.
+//!
+//! A WORD is as it stands, with `_` for a blank in it; `-` is the empty one. OUTCOME is `whole`, `place N` or a TROUBLE:
+//! `memory`, `device`, `write`. A text stands in quotes with `\n` for each newline; one of more than a thousand bytes is
+//! told by its length and its sum.
+#![tactic(auto)]
+
+mod commands;
+mod fakes;
+mod streams;
+mod texts;
+
+use crate::streams::Streams;
+use script_words::{Layer, Say, Trouble, Words, play};
+use std::alloc::Global;
+use std::io;
+use std::process::ExitCode;
+
+/// What the calls are made on.
+#[derive(Drop)]
+struct Cli {
+    streams: Streams,
+}
+
+impl Layer for Cli {
+    fn reset(&mut self, words: &mut Words<'_>, alloc: Global) -> Result<(), Trouble> {
+        words.end()?;
+        self.streams = Streams::new(alloc);
+        Ok(())
+    }
+
+    fn call(&mut self, name: &str, words: &mut Words<'_>, say: &mut Say) -> Result<(), Trouble> {
+        match name {
+            "append" => self.streams.append(words, say),
+            "reader" => self.streams.set_reader(words, say),
+            "output" => self.streams.set_output(words, say),
+            "faults" => self.streams.set_faults(words, say),
+            _ => ask(&self.streams, name, words, say),
+        }
+    }
+}
+
+/// The calls that leave the streams as they are described.
+fn ask(streams: &Streams, name: &str, words: &mut Words<'_>, say: &mut Say) -> Result<(), Trouble> {
+    match name {
+        "audit" => streams.audit(words, say),
+        "run" => streams.run(words, say),
+        "write" => streams.write(words, say),
+        "report" => streams.report(words, say),
+        "unread" => streams.unread(words, say),
+        _ => ask_words(name, words, say),
+    }
+}
+
+/// The calls that are given no stream.
+fn ask_words(name: &str, words: &mut Words<'_>, say: &mut Say) -> Result<(), Trouble> {
+    match name {
+        "parse" => commands::parse(words, say),
+        "number" => commands::number(words, say),
+        "usage" => commands::usage(words, say),
+        "line" => commands::line(words, say),
+        _ => Err(Trouble::Unreadable),
+    }
+}
+
+fn main(rt: HostRuntime) -> ExitCode {
+    let alloc = rt.alloc();
+    let mut cli = Cli {
+        streams: Streams::new(alloc),
+    };
+    ExitCode::from(play(alloc, &mut cli, rt.reader(), &mut io::writer(&rt)))
+}

@@ -1,0 +1,50 @@
+"""A script of calls with their answers: what `stdin` and `stdout` of a driver are."""
+
+from pathlib import Path
+
+TOP = Path(__file__).resolve().parent.parent
+
+
+class Script:
+    def __init__(self):
+        self.calls = []
+        self.answers = []
+
+    def note(self, text):
+        """A comment, which is echoed."""
+        self.calls.append("# " + text)
+        self.answers.append("# " + text)
+
+    def ask(self, call, answer):
+        self.calls.append(call)
+        self.answers.append(str(answer))
+
+    def reset(self):
+        self.ask("reset", "ok")
+
+    def write(self, crate):
+        for name, lines in (("stdin", self.calls), ("stdout", self.answers)):
+            text = "".join(line + "\n" for line in lines)
+            (TOP / "crates" / crate / name).write_text(text, encoding="utf-8")
+            print(f"{crate}/{name}: {len(lines)} lines, {len(text)} bytes")
+
+
+def listed(numbers):
+    """Numbers as a word."""
+    return ",".join(map(str, numbers)) or "-"
+
+
+def digits(data):
+    """Bytes as a word."""
+    return data.hex() or "-"
+
+
+def truth(is_so):
+    return "true" if is_so else "false"
+
+
+def sum_of(data, before=0):
+    """The sum by which long bytes are told."""
+    for byte in data:
+        before = (before * 31 + byte) % 65521
+    return before
