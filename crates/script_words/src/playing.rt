@@ -78,6 +78,8 @@ fn play_lines<L: Layer, R: Read + Drop, W: Write>(
         let line = line?;
         say.clear();
         let answer = answer_to(layer, &line, &mut say)?;
+        // A line is held back whole or not at all.
+        held.try_reserve(answer.len().saturating_add(1))?;
         held.push_str(answer)?;
         held.push('\n')?;
         if held.len() >= PIECE {

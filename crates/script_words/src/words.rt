@@ -192,6 +192,9 @@ impl<'a> Words<'a> {
         if word == "-" {
             return Ok(Vec::new(alloc));
         }
+        if word.is_empty() {
+            return Err(Trouble::Unreadable);
+        }
         match hex::decode(alloc, word) {
             Ok(bytes) => Ok(bytes),
             Err(FromHexError::OutOfMemory) => Err(Trouble::Memory),
