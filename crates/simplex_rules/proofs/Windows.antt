@@ -1,9 +1,7 @@
 -- How many views the windows hold.
-use Rattle.std.proofs.Common.{ℕ, zero, suc, ◌≡◌, ◌≤◌, ◌<◌, ◌+◌, ◌-◌, ◌*◌, ◌/◌, ◌↔◌, ◌⊎◌, min, inl, inr, arith}
-use Rattle.std.proofs.Math.Nat.{div-lt_iff_lt-mul}
-use Rattle.std.proofs.lemmas.Grind.{common_steps}
+use Rattle.std.proofs.Common.{ℕ, ◌≡◌, ◌≤◌, ◌<◌, ◌+◌, ◌-◌, ◌*◌, ◌↔◌, ◌⊎◌, min, inl, inr, arith}
 use Rattle.std.proofs.lemmas.Bool.{cases_lt}
-use Rattle.simplex_types.specs.Positions.{term_index, term_end, next_term_start}
+use Rattle.simplex_types.specs.Positions.{term_end, next_term_start}
 use Rattle.simplex_rules.specs.Spans.{term_end-above}
 use Rattle.simplex_rules.specs.Windows.{Admits, later_term_start, early_views, issuance_floor, HasExactly}
 use Rattle.simplex_rules.proofs.Exactly.{row, row_more, one_count}
