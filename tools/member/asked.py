@@ -1,0 +1,74 @@
+"""What a node asked for since its opening, and what of it stands."""
+from .history import Asks, AsksBuild, AsksCertify, AsksVerify, Built, Checked, GivesBack, Heard, LeavesBehind, latest, opened_at, over
+from .positions import MOST
+from .record import is_judged
+from .repair import is_settled
+from .voter import last_finalized
+
+
+@over(0)
+def next_number(number, here):
+    """How many numbers were used: the next one."""
+    return number + isinstance(here.point, (AsksBuild, AsksVerify))
+
+
+def has_number(h):
+    """A number is left."""
+    return next_number(h) < MOST
+
+
+@over({})
+def builds(standing, here):
+    """The builds that stand, neither answered, nor given back, nor left behind: by number, whether for a handoff, the context."""
+    match here.point:
+        case AsksBuild(number, handoff, context):
+            return {**standing, number: (handoff, context)}
+        case Built(number=number) | GivesBack(number, _) | LeavesBehind(number):
+            return {it: told for it, told in standing.items() if it != number}
+    return standing
+
+
+@over({})
+def checks(standing, here):
+    """The verifications that stand, not yet answered: by number, the view."""
+    match here.point:
+        case AsksVerify(number, context, _):
+            return {**standing, number: context.view}
+        case Checked(number=number):
+            return {it: told for it, told in standing.items() if it != number}
+    return standing
+
+
+@over(frozenset())
+def certify_asked(asked, here):
+    """The views for which a verdict was asked for."""
+    return asked | {here.point.proposal.view} if isinstance(here.point, AsksCertify) else asked
+
+
+def is_awaited(h, view):
+    """The request for a verdict stands: it was asked for, the view lies above the last finalized one, no verdict is there."""
+    return view in certify_asked(h) and view > last_finalized(h) and not is_judged(h, view)
+
+
+@over(frozenset())
+def sent(asked, here):
+    """The asks that were sent: view, kind, until when, to whom."""
+    point = here.point
+    return asked | {(point.view, point.kind, point.until, point.to)} if isinstance(point, Asks) else asked
+
+
+def is_answered(h, view, kind, until, to):
+    """This was asked for already, of the same member or of all; or nothing is left to be asked."""
+    return is_settled(h, view, kind) or (view, kind, until, to) in sent(h)
+
+
+@over({})
+def heard(moments, here):
+    """When members were heard last: at their last accepted vote."""
+    point = here.point
+    return {**moments, point.vote.signer: latest(here)} if isinstance(point, Heard) else moments
+
+
+def last_heard(h, member):
+    """When a member was heard last: at its last accepted vote, or at the opening."""
+    return heard(h).get(member, opened_at(h))

@@ -1,0 +1,290 @@
+"""Cases as text, and what the model says of them.
+
+A case begins with a `reset` line; each line is a call and, behind `=>`, what the node answered. Events, replies and artifacts
+stand as words (see words.py) or as the hexadecimal digits of their spelling.
+
+    reset node SCHEME N ME EPOCH L K STALL RETENTION LEADER CERTIFICATION RETRY SKIP BUDGET FORWARD TRACK HANDOFFS => ok
+        SCHEME is plain or salted, of N members with the base `simplex`; ME the own index, - for none. Terms have L views,
+        K of them optimistic; members take turns, a term each. Times are milliseconds: STALL of a term (- for none), LEADER,
+        CERTIFICATION, RETRY, SKIP (- where no leader's silence counts). RETENTION views are kept below the last finalized
+        one. BUDGET is how many terms may be skipped, - for the number of members. FORWARD is disabled, silent-voters or
+        silent-leader. TRACK is 1 where votes are kept in full for good, HANDOFFS where a view may be built before the last
+        view of the term before it is decided. Payloads have 32 bytes; view 0 stands for 32 bytes 00
+    found ARTIFACT , ARTIFACT ..  => ok      the disk holds these (- for none)
+    disk HEX                      => ok      the disk holds these bytes
+    open NOW                      => REPLY, fault NUMBER, fault NUMBER PLACE, or crash
+    event EVENT                   => REPLY, fault NUMBER, or crash
+    current_view, last_finalized  => NUMBER
+    record                        => the artifacts, as behind found
+    fuse K, fail_at K             => ok      calls of the disk fail from now on, which says nothing of a node
+
+Before the first `open` of a case the disk is empty, unless a line tells what it holds. A later `open` finds what the node
+recorded; behind a fault or crash a line has to tell what the disk holds (found, disk, or what record answers), and that is
+judged too. A line that begins with `not`
+holds an answer that isn't allowed; the node stays where it was. One that begins with `times N` stands for so many. One that
+begins with `#` says something to readers.
+"""
+from . import words
+from .acts import point_of
+from .codec import Reader, Unreadable, artifact_bytes, event_bytes, reply_bytes, whole
+from .member import Disagreement, may_be_left, opening, read_record, step
+from .record import bodies, first_refused, record
+from .refusals import refusal_of
+from .scheme import SCHEMES
+from .setup import FORWARDS, Setup
+from .voter import current, last_finalized
+
+NO_KEY, CONFIG, MOMENT_TOO_LATE, FOREIGN, CONTRADICTION, DEVICE, MEMORY = range(1, 8)
+STEP_MEMORY, STEP_DEVICE, STEP_FAILED = 1, 2, 3
+
+
+class BadCase(Exception):
+    """A line that is no line of a case."""
+
+
+def maybe(word):
+    return None if word == "-" else int(word)
+
+
+def setup_of(text):
+    """The setup that the words behind `reset` tell."""
+    try:
+        node, scheme, n, me, epoch, *numbers, forward, track, handoffs = text.split()
+        length, optimistic, stall, retention, leader, certification, retry, skip, budget = map(maybe, numbers)
+        if node != "node" or forward not in FORWARDS:
+            raise ValueError
+        return Setup(
+            SCHEMES[scheme](int(n)), maybe(me), int(epoch), length, optimistic, stall, retention, leader, certification, retry,
+            skip, budget, forward, track == "1", handoffs == "1",
+        )
+    except (ValueError, KeyError) as trouble:
+        raise BadCase(f"no setup: {text}") from trouble
+
+
+def reset_line(setup):
+    """The `reset` line of a setup."""
+    of = [
+        setup.scheme.name, setup.scheme.members, setup.me, setup.epoch, setup.length, setup.optimistic, setup.stall,
+        setup.retention, setup.leader_timeout, setup.certification_timeout, setup.retry, setup.skip, setup.fixed_budget,
+        setup.forward, int(setup.tracks), int(setup.handoffs),
+    ]
+    return "reset node " + " ".join("-" if it is None else str(it) for it in of)
+
+
+def artifacts_of(text, scheme):
+    if text == "-":
+        return ()
+    parts = text.split(" , ") if " " in text else text.split(",")
+    return tuple(words.artifact_of(part.strip(), scheme) for part in parts)
+
+
+class Case:
+    """A node as far as its answers tell."""
+
+    def __init__(self, setup):
+        self.setup, self.found, self.disk, self.foreign = setup, (), None, None
+        self.h, self.has_failed, self.may_hold, self.told = None, False, None, []
+
+    # ---- what the disk holds
+
+    def hold(self, artifacts):
+        """The disk holds these; behind a crash only what may be left."""
+        if self.may_hold is not None and not self.may_hold(artifacts):
+            raise Disagreement("the disk may not be left so")
+        self.found, self.foreign, self.may_hold, self.h = artifacts, None, None, None
+
+    def hold_bytes(self, data):
+        artifacts = []
+        for place, body in bodies(data):
+            try:
+                artifacts.append(whole(body, self.setup.scheme.signature_size, 65_535, Reader.artifact))
+            except Unreadable:
+                self.foreign = place
+                return
+        self.hold(tuple(artifacts))
+
+    # ---- calls
+
+    def fault_of_opening(self, now):
+        """The first fault of an opening, but for a device that fails and want of memory."""
+        s = self.setup
+        if s.me is None:
+            return str(NO_KEY)
+        if s.fault():
+            return f"{CONFIG} {s.fault()}"
+        if not s.is_in_time(now):
+            return str(MOMENT_TOO_LATE)
+        if self.foreign is not None:
+            return f"{FOREIGN} {self.foreign}"
+        position = first_refused(s, self.found)
+        return None if position is None else f"{CONTRADICTION} {position}"
+
+    def open(self, text, answer):
+        now = int(text)
+        if self.h is not None:
+            self.hold(record(self.h))
+        if self.may_hold is not None:
+            raise BadCase("nothing tells what the disk holds")
+        fault = self.fault_of_opening(now)
+        if answer == "crash" or answer in (f"fault {DEVICE}", f"fault {MEMORY}"):
+            if fault is None:
+                self.h, found = None, self.found
+                self.may_hold = lambda left: left == found or may_be_left(read_record(self.setup, now, found)[0], left)
+            return
+        if fault is not None or answer.startswith("fault"):
+            if answer != f"fault {fault}":
+                raise Disagreement(f"an opening answers {'a reply' if fault is None else f'fault {fault}'}")
+            return
+        self.h = opening(self.setup, now, self.found, words.reply_of(answer, self.setup.scheme).actions)
+        self.has_failed = False
+
+    def event(self, text, answer):
+        event = words.event_of(text, self.setup.scheme)
+        if self.has_failed or self.h is None:
+            if answer != f"fault {STEP_FAILED}":
+                raise Disagreement(f"a node that has failed answers fault {STEP_FAILED}")
+            return
+        if answer == "crash" or answer in (f"fault {STEP_MEMORY}", f"fault {STEP_DEVICE}"):
+            self.cut(event)
+            return
+        if answer.startswith("fault"):
+            raise Disagreement("no such fault")
+        self.h = step(self.h, event, words.reply_of(answer, self.setup.scheme))
+
+    def cut(self, event):
+        """The step ends somewhere, and hands nothing out."""
+        h = self.h
+        begun = h if refusal_of(h, event) else h.then(point_of(h, event))
+        self.may_hold = lambda left: left == record(h) or may_be_left(begun, left)
+        self.h, self.has_failed = None, True
+
+    def answer(self, call, answer):
+        """Judges an answer; a disagreement leaves the node where it was."""
+        name, _, rest = call.partition(" ")
+        if name == "found":
+            self.hold(artifacts_of(rest, self.setup.scheme))
+        elif name == "disk":
+            self.hold_bytes(bytes.fromhex(rest.replace("-", "")))
+        elif name == "open":
+            self.open(rest, answer)
+        elif name == "event":
+            self.event(rest, answer)
+        elif name in ("current_view", "last_finalized") and self.h is not None:
+            right = {"current_view": current, "last_finalized": last_finalized}[name](self.h)
+            if answer != str(right):
+                raise Disagreement(f"it is {right}")
+        elif name == "record":
+            self.tell_record(artifacts_of(answer, self.setup.scheme))
+        elif name in ("fuse", "fail_at"):
+            int(rest)
+        else:
+            raise BadCase(f"no call: {call}")
+
+    def tell_record(self, artifacts):
+        if self.may_hold is not None:
+            self.hold(artifacts)
+        right = self.found if self.h is None else record(self.h)
+        if artifacts != right:
+            raise Disagreement("it holds " + (" , ".join(words.message(it, self.setup.scheme) for it in right) or "-"))
+
+    def told_as(self, call, answer, event_as, reply_as, artifacts_as):
+        """A line with its event, reply and artifacts written so, where they can be read."""
+        name, _, rest = call.partition(" ")
+        try:
+            if name == "event":
+                call = f"event {event_as(words.event_of(rest, self.setup.scheme))}"
+            elif name == "found":
+                call = f"found {artifacts_as(artifacts_of(rest, self.setup.scheme))}"
+            if name in ("event", "open"):
+                answer = reply_as(words.reply_of(answer, self.setup.scheme))
+            elif name == "record":
+                answer = artifacts_as(artifacts_of(answer, self.setup.scheme))
+        except (Unreadable, words.Unclear, ValueError):
+            pass
+        return f"{call} => {answer}"
+
+    def in_words(self, call, answer):
+        scheme = self.setup.scheme
+
+        def in_a_row(artifacts):
+            return " , ".join(words.message(it, scheme) for it in artifacts) or "-"
+
+        return self.told_as(call, answer, lambda it: words.event(it, scheme), lambda it: words.reply(it, scheme), in_a_row)
+
+    def in_bytes(self, call, answer):
+        return self.told_as(call, answer, lambda it: event_bytes(it).hex(), lambda it: reply_bytes(it).hex(), spelled)
+
+
+def spelled(artifacts):
+    """Artifacts as a word of bytes."""
+    return ",".join(artifact_bytes(it).hex() for it in artifacts) or "-"
+
+
+def lines_of(text, answers=None):
+    """The lines of a file of cases, or of a file of calls and one of answers: number, call, answer."""
+    lines, found = text.splitlines(), []
+    if answers is not None:
+        pairs = list(zip(lines, answers.splitlines(), strict=True))
+    else:
+        pairs = [tuple(part.strip() for part in line.partition("=>")[::2]) for line in lines]
+    for number, (call, answer) in enumerate(pairs, 1):
+        count = 1
+        if call.startswith("times "):
+            count, call = int(call.split()[1]), call.split(maxsplit=2)[2]
+        if call and not call.startswith("#"):
+            found += [(number, call, answer)] * count
+    return found
+
+
+def in_bytes(lines):
+    """Lines as a driver reads and answers them: bytes in place of words, without the answers that aren't allowed."""
+    case = None
+    for _, call, answer in lines:
+        if call.startswith("reset "):
+            case = Case(setup_of(call.removeprefix("reset ")))
+        if case is not None and not call.startswith("not "):
+            yield case.in_bytes(call, answer)
+
+
+class Judgement:
+    """What came of judging lines: how many cases and lines, and the disagreements."""
+
+    def __init__(self, say=None):
+        self.cases, self.lines, self.troubles, self.say = 0, 0, [], say or (lambda *told: None)
+        self.case = None
+
+    def trouble(self, number, call, answer, why):
+        said = self.case.in_words(call, answer) if self.case else f"{call} => {answer}"
+        self.troubles.append((number, said, why))
+
+    def line(self, number, call, answer):
+        self.lines += 1
+        refuses = call.startswith("not ")
+        call = call.removeprefix("not ")
+        if call.startswith("reset "):
+            self.cases += 1
+            self.case = Case(setup_of(call.removeprefix("reset ")))
+            return
+        if self.case is None:
+            return
+        before = vars(self.case).copy()
+        try:
+            self.case.answer(call, answer)
+            why = "this answer is allowed" if refuses else None
+        except (Disagreement, Unreadable) as trouble:
+            why = None if refuses else str(trouble) or "the answer can't be read"
+        self.say(number, self.case, before["h"], call, answer)
+        if refuses:
+            vars(self.case).update(before)
+        if why:
+            self.trouble(number, call, answer, why)
+            self.case = None if not refuses else self.case
+
+    def judge(self, lines):
+        for number, call, answer in lines:
+            try:
+                self.line(number, call, answer)
+            except (BadCase, words.Unclear, ValueError) as trouble:
+                self.trouble(number, call, answer, f"no line of a case: {trouble}")
+                self.case = None
+        return self

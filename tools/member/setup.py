@@ -1,0 +1,69 @@
+"""What stays the same from an opening on: the committee, the terms, times and policies of one member."""
+from dataclasses import dataclass
+from functools import cached_property
+
+from .positions import MOST, Terms
+
+FORWARDS = ("disabled", "silent-voters", "silent-leader")
+
+
+@dataclass(frozen=True)
+class Setup:
+    """Times are in milliseconds. What may be missing is None: the own index, the stall and skip timeouts, and the skip budget
+    where it is the number of members."""
+
+    scheme: object
+    me: int | None
+    epoch: int
+    length: int
+    optimistic: int
+    stall: int | None
+    retention: int
+    leader_timeout: int
+    certification_timeout: int
+    retry: int
+    skip: int | None
+    fixed_budget: int | None
+    forward: str
+    tracks: bool
+    # whether a view may be built on the last view of the term before, while that isn't decided
+    handoffs: bool
+    genesis: bytes = bytes(32)
+
+    @cached_property
+    def terms(self):
+        return Terms(self.length, self.optimistic)
+
+    @cached_property
+    def budget(self):
+        """How many terms may be skipped since the last finalized view."""
+        if self.skip is None:
+            return 0
+        return self.scheme.members if self.fixed_budget is None else self.fixed_budget
+
+    @cached_property
+    def longest(self):
+        """The longest of all times."""
+        return max(self.leader_timeout, self.certification_timeout, self.retry, self.stall or 0, self.skip or 0)
+
+    def elect(self, view):
+        """Whom the schedule names for a view: members take turns, a term each."""
+        return (self.epoch + self.terms.index(view)) % 2**64 % self.scheme.members
+
+    def is_in_time(self, now):
+        """A moment lies so early that each deadline counted from it is a moment."""
+        return now + self.longest <= MOST
+
+    def fault(self):
+        """The number of the first trouble of the configuration, or None."""
+        troubles = (
+            self.scheme.members < 1,
+            self.leader_timeout == 0,
+            self.certification_timeout <= self.leader_timeout,
+            self.skip is not None and self.skip <= self.certification_timeout,
+            self.skip is not None and self.skip <= self.retry,
+            self.retry == 0,
+            self.retention == 0,
+            self.scheme.members > 65_535,
+        )
+        return next((number for number, trouble in enumerate(troubles, 1) if trouble), None)
