@@ -3,7 +3,7 @@
 use simplex_messages::Notarize;
 use simplex_rules::elector::{Config as Building, RoundRobin, RoundRobinElector};
 use simplex_types::{Epoch, PlainScheme, Proposal, Scheme, Sha256Digest, ViewDelta, Viewable};
-use simplex_voter::{Config, State, Verify};
+use simplex_voter::{Config, ForwardPolicy, SkipBudget, SkipPolicy, State, Verify};
 use std::alloc::{AllocError, Global};
 use std::rc::Rc;
 
@@ -24,17 +24,21 @@ pub(crate) fn begun(
         members,
     )?;
     let config = Config {
-        scheme,
-        elector,
         epoch: Epoch::new(0),
-        view_retention: ViewDelta::new(10),
+        genesis,
         leader_timeout: 1000,
         certification_timeout: 2000,
         timeout_retry: 5000,
-        skip_budget: 4,
+        view_retention: ViewDelta::new(10),
+        skip: SkipPolicy::Enabled {
+            timeout: 30_000,
+            budget: SkipBudget::Participants,
+        },
+        forward: ForwardPolicy::Disabled,
+        track_historical_votes: false,
     };
-    let mut voter = State::new(alloc, config)?;
-    voter.set_genesis(now, genesis)?;
+    let mut voter = State::new(alloc, scheme, elector, &config)?;
+    voter.set_genesis(now, config.genesis)?;
     Ok(voter)
 }
 

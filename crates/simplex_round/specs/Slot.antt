@@ -6,7 +6,7 @@ use Rattle.simplex_round.specs.declared.slot.Status.{Status}
 use Rattle.simplex_round.specs.declared.slot.Status.TheVariants as status
 use Rattle.simplex_round.specs.declared.slot.Change.{Change}
 use Rattle.simplex_round.specs.declared.slot.Change.TheVariants as change
-use Rattle.simplex_round.specs.Held.{Offer, held, IsTainted, IsConfirmed, IsVerified, IsUnverified, IsBuildAsked, IsVerifyAsked}
+use Rattle.simplex_history.specs.Held.{Offer, held, IsTainted, IsConfirmed, IsVerified, IsUnverified, IsBuildAsked, IsVerifyAsked}
 
 module _ {D : Type 0} where
   -- the status by what was offered: exactly one holds

@@ -14,9 +14,8 @@ ghost use Rattle.simplex_round.specs.Round.{Keeps, AtEach, IsLeader};
 
 use crate::leader::Leader;
 use crate::slot::Slot;
-use crate::timeout_reason::TimeoutReason;
-use crate::token::Token;
 use simplex_certificates::{Finalization, Notarization, Nullification};
+use simplex_history::{TimeoutReason, Token};
 use simplex_types::{Digest, Participant, Proposal, Round as Position, Scheme, View};
 use std::rc::Rc;
 

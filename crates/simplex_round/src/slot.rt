@@ -1,7 +1,7 @@
 //! The proposal of a view.
 
 ghost use Rattle.std.specs.Prelude.{◌≡◌, ◌↔◌, [], ◌∷◌, IsTrue, MatchBool, MatchOption, option_copied};
-ghost use Rattle.simplex_round.specs.Held.{forwarded, certified, recorded, confirmed, building, released, verifying, held, Agrees, Differs, IsTainted, IsUnequivocated, IsUnverified, BuildIsOpen, IsVerifyAsked};
+ghost use Rattle.simplex_history.specs.Held.{forwarded, certified, recorded, confirmed, building, released, verifying, held, Agrees, Differs, IsTainted, IsUnequivocated, IsUnverified, BuildIsOpen, IsVerifyAsked};
 ghost use Rattle.simplex_round.specs.Slot.{Keeps, AtEach, Becomes, HasStatus, IsChange, KeepsHeld, TakesPlace};
 
 use simplex_types::{Digest, Duplicate, Proposal};

@@ -8,8 +8,8 @@ use Rattle.std.proofs.lemmas.Bool.{cases_Bool, cases_eq, cases_lt}
 use Rattle.std.proofs.lemmas.Bool.Decides.{nat_tests}
 use Rattle.std.proofs.lemmas.Map.Keys.{le_from_is_le}
 use Rattle.simplex_round.specs.declared.round.Round.{Round}
-use Rattle.simplex_round.specs.Past.{Item}
-use Rattle.simplex_tracking.specs.Pasts.{forget}
+use Rattle.simplex_history.specs.Past.{Item}
+use Rattle.simplex_history.specs.Pasts.{forget}
 use Rattle.simplex_tracking.specs.Rounds.{Common, AreKept, AreUntracked, IsFirstBelow, Stores, as_key, latest_first, stored, unled}
 use Rattle.simplex_tracking.specs.Tracked.{AreMembers}
 use Rattle.simplex_tracking.proofs.Finding.{bare_at, cases_there}

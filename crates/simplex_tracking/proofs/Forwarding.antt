@@ -2,10 +2,10 @@
 use Rattle.std.proofs.Common.{◌≡◌, ℕ, suc, true, false, ◌==◌, ◌-◌, List, ◌∷◌, refl, sym, subst, ◌∙◌, arith, if◌then◌else◌}
 use Rattle.std.specs.Prelude.{Bool, ◌||◌}
 use Rattle.simplex_types.specs.declared.proposal.Proposal.{Proposal}
-use Rattle.simplex_round.specs.Held as offer
-use Rattle.simplex_round.specs.Past as past
-use Rattle.simplex_round.specs.Past.{Item, has_notarized, has_nullified}
-use Rattle.simplex_tracking.specs.Pasts.{is_direct, put}
+use Rattle.simplex_history.specs.Held as offer
+use Rattle.simplex_history.specs.Past as past
+use Rattle.simplex_history.specs.Past.{Item, has_notarized, has_nullified}
+use Rattle.simplex_history.specs.Pasts.{is_direct, put}
 use Rattle.simplex_tracking.specs.Tracked.{Frame, Tables, IsClosedAt, inherits_by, is_spoken}
 use Rattle.simplex_tracking.specs.Laws.{put-fact}
 use Rattle.simplex_tracking.specs.Laws.{inherits-less}

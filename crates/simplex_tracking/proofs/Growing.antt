@@ -7,18 +7,18 @@ use Rattle.simplex_types.specs.declared.scheme.Scheme.{Ghosts}
 use Rattle.simplex_certificates.specs.declared.artifact.Artifact.{Artifact}
 use Rattle.simplex_certificates.specs.declared.artifact.Artifact.TheVariants as artifact
 use Rattle.simplex_certificates.specs.declared.nullify.Nullify.{Nullify}
-use Rattle.simplex_round.specs.Held as offer
-use Rattle.simplex_round.specs.Past as past
-use Rattle.simplex_round.specs.Past.{Item}
+use Rattle.simplex_history.specs.Held as offer
+use Rattle.simplex_history.specs.Past as past
+use Rattle.simplex_history.specs.Past.{Item}
 use Rattle.simplex_tracking.specs.declared.marks.Marks.{Marks}
 use Rattle.simplex_tracking.specs.declared.notice.Notice.{Notice}
 use Rattle.simplex_tracking.specs.declared.notice.Notice.TheVariants as notice
 use Rattle.simplex_tracking.specs.declared.rounds.Rounds.{Rounds}
-use Rattle.simplex_tracking.specs.declared.sign.Sign.TheVariants as sign
+use Rattle.simplex_history.specs.declared.sign.Sign.TheVariants as sign
 use Rattle.simplex_tracking.specs.declared.tracked.Tracked.{Tracked}
 use Rattle.simplex_tracking.specs.Laws.{put-fact}
 use Rattle.simplex_tracking.specs.Marks.{Shows}
-use Rattle.simplex_tracking.specs.Pasts.{bears, bind, put}
+use Rattle.simplex_history.specs.Pasts.{bears, bind, put}
 use Rattle.simplex_tracking.specs.Rounds.{Keep, recalled, told}
 use Rattle.simplex_tracking.specs.Tracked.{Frame, Tables, AreShown, IsKept}
 

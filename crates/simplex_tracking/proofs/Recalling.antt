@@ -6,12 +6,12 @@ use Rattle.simplex_certificates.specs.declared.artifact.Artifact.{Artifact}
 use Rattle.simplex_certificates.specs.declared.artifact.Artifact.TheVariants as artifact
 use Rattle.simplex_certificates.specs.Artifact.{artifact_round}
 use Rattle.simplex_round.specs.declared.round.Round.{Round}
-use Rattle.simplex_round.specs.Held.{held, recorded, Agrees, Differs}
-use Rattle.simplex_round.specs.Past.{Item, offered, sent_notarization, sent_nullification, sent_finalization, voted_notarize, voted_nullify, voted_finalize, judged, offers}
+use Rattle.simplex_history.specs.Held.{held, recorded, Agrees, Differs}
+use Rattle.simplex_history.specs.Past.{Item, offered, sent_notarization, sent_nullification, sent_finalization, voted_notarize, voted_nullify, voted_finalize, judged, offers}
 use Rattle.simplex_round.specs.Round as one
 use Rattle.simplex_tracking.specs.declared.rounds.Rounds.{Rounds}
 use Rattle.simplex_tracking.specs.Lending.{Follows}
-use Rattle.simplex_tracking.specs.Pasts.{put}
+use Rattle.simplex_history.specs.Pasts.{put}
 use Rattle.simplex_tracking.specs.Rounds.{Common, Keep, Takes, recalled, setup_of}
 use Rattle.simplex_tracking.proofs.Lent.{lent-put, lent-put_two}
 

@@ -5,13 +5,13 @@ use Rattle.std.specs.Option.{option_or}
 use Rattle.std.proofs.lemmas.Grind.{common_steps}
 use Rattle.std.proofs.lemmas.Bool.{cases_eq, or_right}
 use Rattle.simplex_certificates.specs.ProposalCertificate.{Notarization, Finalization}
-use Rattle.simplex_round.specs.Past as past
-use Rattle.simplex_round.specs.Past.{Item, finalization, notarization, verdict, verdict_is_false, verdict_is_true}
+use Rattle.simplex_history.specs.Past as past
+use Rattle.simplex_history.specs.Past.{Item, finalization, notarization, verdict, verdict_is_false, verdict_is_true}
 use Rattle.simplex_tracking.specs.declared.marks.Marks.{Marks}
-use Rattle.simplex_tracking.specs.declared.sign.Sign.TheVariants as sign
+use Rattle.simplex_history.specs.declared.sign.Sign.TheVariants as sign
 use Rattle.simplex_tracking.specs.Laws.{put-fact}
 use Rattle.simplex_tracking.specs.Marks.{Shows}
-use Rattle.simplex_tracking.specs.Pasts.{bears, forget, put}
+use Rattle.simplex_history.specs.Pasts.{bears, forget, put}
 use Rattle.simplex_tracking.specs.Tracked.{AreShown}
 use Rattle.simplex_tracking.proofs.Dropping.{forget-fact}
 

@@ -11,8 +11,8 @@ use Rattle.std.proofs.lemmas.Grind.{common_steps}
 use Rattle.std.proofs.lemmas.Bool.{cases_eq}
 use Rattle.simplex_round.specs.declared.round.Round.{Round}
 use Rattle.simplex_round.specs.Round as one
-use Rattle.simplex_round.specs.Held.{held, Agrees}
-use Rattle.simplex_round.specs.Past.{Item, has_finalized, has_nullified, offers}
+use Rattle.simplex_history.specs.Held.{held, Agrees}
+use Rattle.simplex_history.specs.Past.{Item, has_finalized, has_nullified, offers}
 use Rattle.simplex_tracking.specs.Rounds.{Common, Stores, as_key, setup_of, stored, learn, IsTracked, IsRight, AreKept, AreOpen}
 use Rattle.simplex_tracking.specs.Tracked.{AreMembers}
 

@@ -9,12 +9,12 @@ use Rattle.std.proofs.lemmas.Bool.{cases_lt, cases_eq, or_cases, or_left, or_rig
 use Rattle.simplex_types.specs.Positions.{term_start}
 use Rattle.simplex_types.specs.declared.scheme.Scheme.{Ghosts}
 use Rattle.simplex_rules.specs.Windows.{issuance_floor}
-use Rattle.simplex_round.specs.Past.{Item}
+use Rattle.simplex_history.specs.Past.{Item}
 use Rattle.simplex_tracking.specs.declared.marks.Marks.{Marks}
 use Rattle.simplex_tracking.specs.declared.rounds.Rounds.{Rounds}
 use Rattle.simplex_tracking.specs.declared.tracked.Tracked.{Tracked}
-use Rattle.simplex_tracking.specs.Pasts.{put}
-use Rattle.simplex_tracking.specs.Handing.{any_from, extend}
+use Rattle.simplex_history.specs.Pasts.{put}
+use Rattle.simplex_history.specs.Handing.{any_from, extend}
 use Rattle.simplex_tracking.specs.Marks.{Shows}
 use Rattle.simplex_tracking.specs.Rounds.{Keep}
 use Rattle.simplex_tracking.specs.Rounds as rounds

@@ -3,7 +3,7 @@ use Rattle.std.specs.Prelude.{◌≡◌, ◌==◌, ℕ, false, List, Option, Res
 use Rattle.std.specs.Borrow.{Fml, LendsSo, LendsSoOk, MutBor, RattleType}
 use Rattle.simplex_round.specs.contracts.round.Round as lent
 use Rattle.simplex_round.specs.declared.round.Round.{Round}
-use Rattle.simplex_round.specs.Past.{Item}
+use Rattle.simplex_history.specs.Past.{Item}
 use Rattle.simplex_round.specs.Round as one
 use Rattle.simplex_tracking.specs.contracts.rounds.Rounds.{the_row}
 use Rattle.simplex_tracking.specs.declared.rounds.Rounds.{Rounds}

@@ -1,7 +1,5 @@
-pub mod Handing
 pub mod Laws
 pub mod Lending
 pub mod Marks
-pub mod Pasts
 pub mod Rounds
 pub mod Tracked

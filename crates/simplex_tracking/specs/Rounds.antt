@@ -9,11 +9,11 @@ use Rattle.simplex_certificates.specs.declared.artifact.Artifact.{Artifact}
 use Rattle.simplex_certificates.specs.declared.artifact.Artifact.TheVariants as artifact
 use Rattle.simplex_round.specs.declared.round.Round.{Round}
 use Rattle.simplex_round.specs.Round as one
-use Rattle.simplex_round.specs.Held as offer
-use Rattle.simplex_round.specs.Held.{held, Agrees}
-use Rattle.simplex_round.specs.Past as past
-use Rattle.simplex_round.specs.Past.{Item, offers}
-use Rattle.simplex_tracking.specs.Pasts.{put}
+use Rattle.simplex_history.specs.Held as offer
+use Rattle.simplex_history.specs.Held.{held, Agrees}
+use Rattle.simplex_history.specs.Past as past
+use Rattle.simplex_history.specs.Past.{Item, offers}
+use Rattle.simplex_history.specs.Pasts.{put}
 use Rattle.simplex_tracking.specs.declared.notice.Notice.{Notice}
 use Rattle.simplex_tracking.specs.declared.notice.Notice.TheVariants as notice
 use Rattle.simplex_tracking.specs.declared.rounds.Rounds.{Rounds}

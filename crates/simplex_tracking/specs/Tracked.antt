@@ -6,14 +6,14 @@ use Rattle.simplex_types.specs.Positions.{term_start}
 use Rattle.simplex_types.specs.declared.proposal.Proposal.{Proposal}
 use Rattle.simplex_types.specs.declared.scheme.Scheme.{Ghosts}
 use Rattle.simplex_rules.specs.Windows.{issuance_floor}
-use Rattle.simplex_round.specs.Held as offer
-use Rattle.simplex_round.specs.Past as past
-use Rattle.simplex_round.specs.Past.{Item}
+use Rattle.simplex_history.specs.Held as offer
+use Rattle.simplex_history.specs.Past as past
+use Rattle.simplex_history.specs.Past.{Item}
 use Rattle.simplex_tracking.specs.declared.marks.Marks.{Marks}
-use Rattle.simplex_tracking.specs.declared.sign.Sign.TheVariants as sign
+use Rattle.simplex_history.specs.declared.sign.Sign.TheVariants as sign
 use Rattle.simplex_tracking.specs.declared.tracked.Tracked.{Tracked}
-use Rattle.simplex_tracking.specs.Pasts.{bears, forget, is_direct, put}
-use Rattle.simplex_tracking.specs.Handing.{any_from, extend}
+use Rattle.simplex_history.specs.Pasts.{bears, forget, is_direct, put}
+use Rattle.simplex_history.specs.Handing.{any_from, extend}
 use Rattle.simplex_tracking.specs.Marks.{Shows, IsMarkedWithin}
 use Rattle.simplex_tracking.specs.Rounds.{Common, Keep, unled}
 

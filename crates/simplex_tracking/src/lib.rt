@@ -4,10 +4,8 @@
 mod marks;
 mod notice;
 mod rounds;
-mod sign;
 mod tracked;
 
 pub use marks::Marks;
 pub use notice::Notice;
-pub use sign::Sign;
 pub use tracked::{Tracked, later};

@@ -1,6 +1,6 @@
 //! What may be told of a view.
 
-use simplex_round::{TimeoutReason, Token};
+use simplex_history::{TimeoutReason, Token};
 use simplex_types::View;
 
 /// What happens to a view whatever happened to it before, and asks for no answer.

@@ -6,7 +6,7 @@ ghost use Rattle.std.specs.Borrow.{sem};
 ghost use Rattle.std.specs.BTreeMap.{btree_map_len};
 ghost use Rattle.simplex_round.specs.Round as one;
 ghost use Rattle.simplex_tracking.specs.Lending.{LendsKnown, LendsOpen};
-ghost use Rattle.simplex_tracking.specs.Pasts.{forget};
+ghost use Rattle.simplex_history.specs.Pasts.{forget};
 ghost use Rattle.simplex_tracking.specs.Rounds.{Common, Keep, AreUntracked, AtEach, IsFirstBelow, IsFirstTracked, IsOpen, IsTracked, Takes, learn, recalled, setup_of, stored, unled};
 
 use simplex_certificates::Artifact;

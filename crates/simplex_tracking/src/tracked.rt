@@ -5,19 +5,19 @@ mod one_view;
 
 ghost use Rattle.std.specs.Prelude.{◌≡◌, ◌≢◌, ◌↔◌, ◌⊎◌, ◌<◌, ◌≤◌, ◌+◌, ◌-◌, ◌^◌, ◌==◌, if◌then◌else◌, nat_lt, min, ℕ, Bool, false, true, List, [], ◌∷◌, Option, Some, None, is_none, IsSome, IsTrue, IfOk, OnOk, MatchOption, option_map};
 ghost use Rattle.std.specs.Option.{option_or};
-ghost use Rattle.simplex_round.specs.Held.{held, Agrees, Differs};
-ghost use Rattle.simplex_round.specs.Past.{entered, armed, notarized, nullified, finalized, notarization, nullification, finalization, offers, has_nullified};
+ghost use Rattle.simplex_history.specs.Held.{held, Agrees, Differs};
+ghost use Rattle.simplex_history.specs.Past.{entered, armed, notarized, nullified, finalized, notarization, nullification, finalization, offers, has_nullified};
 ghost use Rattle.simplex_round.specs.Round as one;
 ghost use Rattle.simplex_tracking.specs.Marks.{Shows};
-ghost use Rattle.simplex_tracking.specs.Pasts.{bears, put};
-ghost use Rattle.simplex_tracking.specs.Handing.{extend};
+ghost use Rattle.simplex_history.specs.Pasts.{bears, put};
+ghost use Rattle.simplex_history.specs.Handing.{extend};
 ghost use Rattle.simplex_tracking.specs.Rounds.{AreUntracked, IsFirstBelow, IsTracked, setup_of};
 ghost use Rattle.simplex_tracking.specs.Tracked.{Frame, Tables, Holds, AtEach, Inherits, IsBegun, IsClosedAt, count, forgotten, inherits_by, is_spoken, proposed};
 
 use crate::marks::Marks;
 use crate::rounds::Rounds;
-use crate::sign::Sign;
 use simplex_certificates::{Finalization, Notarization, Nullification};
+use simplex_history::Sign;
 use simplex_round::Round;
 use simplex_rules::Lookahead;
 use simplex_types::{Digest, Epoch, Participant, Proposal, Scheme, View, Viewable};

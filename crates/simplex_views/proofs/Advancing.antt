@@ -1,12 +1,12 @@
 -- How far a voter is, where only what is known of views changes.
 use Rattle.std.specs.Prelude.{ℕ, List}
 use Rattle.simplex_types.specs.declared.scheme.Scheme.{Ghosts}
-use Rattle.simplex_round.specs.Past.{Item}
+use Rattle.simplex_history.specs.Past.{Item}
 use Rattle.simplex_tracking.specs.declared.tracked.Tracked.{Tracked}
 use Rattle.simplex_tracking.specs.Tracked.{Tables, Holds}
 use Rattle.simplex_views.specs.declared.progress.Progress.{Progress}
-use Rattle.simplex_views.specs.History.{Setup, Point}
-use Rattle.simplex_views.specs.Leaders.{leader, was_forwarded}
+use Rattle.simplex_history.specs.History.{Setup, Point}
+use Rattle.simplex_history.specs.Leaders.{leader, was_forwarded}
 use Rattle.simplex_views.specs.Progress.{IsAt, frame_of}
 
 -- the current view and the timeouts stay where what is known of views changes

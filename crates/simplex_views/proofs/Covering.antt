@@ -4,7 +4,7 @@ use Rattle.std.specs.Prelude.{Option, Some, None, MatchOption, is_some, option_c
 use Rattle.simplex_types.specs.Positions.{InCoveringRange, term_start}
 use Rattle.simplex_certificates.specs.declared.nullification.Nullification.{Nullification}
 use Rattle.simplex_tracking.specs.Marks.{IsLastMarked}
-use Rattle.simplex_views.specs.History.{Setup, Point, nullification}
+use Rattle.simplex_history.specs.History.{Setup, Point, nullification}
 use Rattle.simplex_views.specs.Views.{IsHighestCovering}
 
 -- an option that isn't there is none

@@ -5,11 +5,11 @@ use Rattle.std.specs.Option.{option_or}
 use Rattle.std.proofs.lemmas.Grind.{common_steps}
 use Rattle.std.proofs.lemmas.Bool.{cases_Bool, cases_eq}
 use Rattle.simplex_certificates.specs.declared.nullification.Nullification.{Nullification}
-use Rattle.simplex_round.specs.Past.{Item, nullification}
-use Rattle.simplex_round.specs.Past as past
+use Rattle.simplex_history.specs.Past.{Item, nullification}
+use Rattle.simplex_history.specs.Past as past
 use Rattle.simplex_tracking.specs.Laws.{put-fact}
-use Rattle.simplex_tracking.specs.Pasts.{put}
-use Rattle.simplex_views.specs.History.{Setup, enter, later}
+use Rattle.simplex_history.specs.Pasts.{put}
+use Rattle.simplex_history.specs.History.{Setup, enter, later}
 
 -- of three, the first that is there
 pub or-assoc : {A : Type 0} (a b c : Option A) → option_or (option_or a b) c ≡ option_or a (option_or b c)

@@ -8,15 +8,15 @@ use Rattle.std.proofs.lemmas.Bool.{cases_Bool, cases_eq, or_cases, or_left, or_r
 use Rattle.simplex_types.specs.Positions.{next_term_start}
 use Rattle.simplex_certificates.specs.declared.nullification.Nullification.{Nullification}
 use Rattle.simplex_certificates.specs.ProposalCertificate.{Notarization, Finalization}
-use Rattle.simplex_round.specs.Past as past
-use Rattle.simplex_round.specs.Past.{Item, has_notarized}
-use Rattle.simplex_views.specs.History as History
+use Rattle.simplex_history.specs.Past as past
+use Rattle.simplex_history.specs.Past.{Item, has_notarized}
+use Rattle.simplex_history.specs.History as History
 use Rattle.simplex_types.specs.declared.scheme.Scheme.{Ghosts}
 use Rattle.simplex_tracking.specs.declared.tracked.Tracked.{Tracked}
-use Rattle.simplex_tracking.specs.Pasts.{forget, is_direct, put}
-use Rattle.simplex_views.specs.History.{Setup, Point, min_active, seen, enter, current}
-use Rattle.simplex_tracking.specs.Handing.{extend}
-use Rattle.simplex_views.specs.Leaders.{named, named_early, inherits, leader, was_forwarded}
+use Rattle.simplex_history.specs.Pasts.{forget, is_direct, put}
+use Rattle.simplex_history.specs.History.{Setup, Point, min_active, seen, enter, current}
+use Rattle.simplex_history.specs.Handing.{extend}
+use Rattle.simplex_history.specs.Leaders.{named, named_early, inherits, leader, was_forwarded}
 use Rattle.simplex_views.specs.Progress.{frame_of, tables}
 use Rattle.simplex_tracking.specs.Tracked.{Tables, Inherits, IsClosedAt, Holds, inherits_by}
 use Rattle.simplex_tracking.specs.Laws.{or_none, extend-above, inherits_from, inherits_says, Holds-led}

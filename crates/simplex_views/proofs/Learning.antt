@@ -13,19 +13,19 @@ use Rattle.simplex_rules.specs.declared.elector.Elector as elector
 use Rattle.simplex_record.specs.declared.coverage.Coverage.{Coverage}
 use Rattle.simplex_record.specs.Coverage as spans
 use Rattle.simplex_record.specs.Coverage.{LiesIn}
-use Rattle.simplex_round.specs.Past as past
-use Rattle.simplex_round.specs.Past.{Item, has_notarized}
+use Rattle.simplex_history.specs.Past as past
+use Rattle.simplex_history.specs.Past.{Item, has_notarized}
 use Rattle.simplex_tracking.specs.declared.marks.Marks.{Marks}
 use Rattle.simplex_tracking.specs.declared.tracked.Tracked.{Tracked}
 use Rattle.simplex_tracking.specs.Laws.{Shows-same, inherits-same, put-fact}
 use Rattle.simplex_tracking.specs.Marks.{Shows}
-use Rattle.simplex_tracking.specs.Pasts.{is_direct, put}
+use Rattle.simplex_history.specs.Pasts.{is_direct, put}
 use Rattle.simplex_tracking.specs.Tracked.{Tables, Holds, IsClosedAt, inherits_by}
 use Rattle.simplex_views.specs.declared.progress.Progress.{Progress}
 use Rattle.simplex_views.specs.declared.views.Views.{Views}
-use Rattle.simplex_views.specs.History as History
-use Rattle.simplex_views.specs.History.{Setup, Point, current, enter, seen}
-use Rattle.simplex_views.specs.Leaders.{leader, was_forwarded}
+use Rattle.simplex_history.specs.History as History
+use Rattle.simplex_history.specs.History.{Setup, Point, current, enter, seen}
+use Rattle.simplex_history.specs.Leaders.{leader, was_forwarded}
 use Rattle.simplex_views.specs.Progress.{IsAt, frame_of, tables}
 use Rattle.simplex_views.specs.Views.{IsKept}
 use Rattle.simplex_views.proofs.Advancing.{IsAt-tracked, grown-tables}

@@ -6,5 +6,7 @@ pub mod Following
 pub mod Learning
 pub mod Pruning
 pub mod Replaying
+mod Showing
 pub mod Stepping
 pub mod Uncovering
+mod Walking

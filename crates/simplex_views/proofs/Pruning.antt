@@ -16,8 +16,8 @@ use Rattle.simplex_types.specs.Positions.{term_end}
 use Rattle.simplex_types.specs.declared.scheme.Scheme.{Ghosts}
 use Rattle.simplex_certificates.specs.declared.nullification.Nullification.{Nullification}
 use Rattle.simplex_round.specs.declared.round.Round.{Round}
-use Rattle.simplex_round.specs.Past as past
-use Rattle.simplex_round.specs.Past.{Item}
+use Rattle.simplex_history.specs.Past as past
+use Rattle.simplex_history.specs.Past.{Item}
 use Rattle.simplex_round.specs.Round as one
 use Rattle.simplex_tracking.specs.Rounds.{AreUntracked, Common, IsFirstBelow, IsTracked, setup_of}
 use Rattle.simplex_tracking.specs.declared.tracked.Tracked.{Tracked}

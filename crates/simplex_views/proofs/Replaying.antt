@@ -7,21 +7,21 @@ use Rattle.simplex_certificates.specs.declared.artifact.Artifact.{Artifact}
 use Rattle.simplex_certificates.specs.declared.artifact.Artifact.TheVariants as artifact
 use Rattle.simplex_rules.specs.declared.elector.Elector as elector
 use Rattle.simplex_rules.specs.declared.kind.Kind.TheVariants as kind
-use Rattle.simplex_round.specs.Held.{recorded}
-use Rattle.simplex_round.specs.Past as past
-use Rattle.simplex_round.specs.Past.{Item, has_notarized}
+use Rattle.simplex_history.specs.Held.{recorded}
+use Rattle.simplex_history.specs.Past as past
+use Rattle.simplex_history.specs.Past.{Item, has_notarized}
 use Rattle.simplex_certificates.specs.ProposalVote.{Notarize}
 use Rattle.simplex_tracking.specs.declared.marks.Marks.{Marks}
 use Rattle.simplex_tracking.specs.declared.tracked.Tracked.{Tracked}
 use Rattle.simplex_views.specs.declared.views.Views.{Views}
-use Rattle.simplex_views.specs.History as History
-use Rattle.simplex_tracking.specs.Pasts.{bind, is_direct, put}
-use Rattle.simplex_views.specs.History.{Setup, Point, current, is_marked, seen, undecided_payload}
-use Rattle.simplex_views.specs.Known.{backs}
-use Rattle.simplex_views.specs.Leaders.{leader, was_forwarded}
+use Rattle.simplex_history.specs.History as History
+use Rattle.simplex_history.specs.Pasts.{bind, is_direct, put}
+use Rattle.simplex_history.specs.History.{Setup, Point, current, is_marked, seen, undecided_payload}
+use Rattle.simplex_history.specs.Known.{backs}
+use Rattle.simplex_history.specs.Leaders.{leader, was_forwarded}
 use Rattle.simplex_tracking.specs.Marks.{Shows}
 use Rattle.simplex_views.specs.Progress.{frame_of, tables}
-use Rattle.simplex_tracking.specs.Handing.{extend}
+use Rattle.simplex_history.specs.Handing.{extend}
 use Rattle.simplex_tracking.specs.Rounds.{Takes, recalled}
 use Rattle.simplex_tracking.specs.Tracked.{Tables, AtEach, IsClosedAt, Holds, inherits_by}
 use Rattle.simplex_views.specs.Views.{IsKept, recalls}

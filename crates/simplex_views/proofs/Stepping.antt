@@ -11,23 +11,23 @@ use Rattle.simplex_types.specs.declared.scheme.Scheme.{Ghosts}
 use Rattle.simplex_rules.specs.declared.elector.Elector as elector
 use Rattle.simplex_rules.specs.declared.kind.Kind.{Kind}
 use Rattle.simplex_rules.specs.declared.kind.Kind.TheVariants as kind
-use Rattle.simplex_round.specs.declared.timeout_reason.TimeoutReason.{TimeoutReason}
-use Rattle.simplex_round.specs.declared.timeout_reason.TimeoutReason.TheVariants as reason
-use Rattle.simplex_round.specs.Held as offer
-use Rattle.simplex_round.specs.Past as past
-use Rattle.simplex_round.specs.Past.{Item, has_notarized, has_nullified}
+use Rattle.simplex_history.specs.declared.timeout_reason.TimeoutReason.{TimeoutReason}
+use Rattle.simplex_history.specs.declared.timeout_reason.TimeoutReason.TheVariants as reason
+use Rattle.simplex_history.specs.Held as offer
+use Rattle.simplex_history.specs.Past as past
+use Rattle.simplex_history.specs.Past.{Item, has_notarized, has_nullified}
 use Rattle.simplex_tracking.specs.declared.marks.Marks.{Marks}
 use Rattle.simplex_tracking.specs.declared.notice.Notice.{Notice}
 use Rattle.simplex_tracking.specs.declared.notice.Notice.TheVariants as notice
 use Rattle.simplex_views.specs.declared.progress.Progress.{Progress}
 use Rattle.simplex_tracking.specs.declared.tracked.Tracked.{Tracked}
 use Rattle.simplex_views.specs.declared.views.Views.{Views}
-use Rattle.simplex_views.specs.History as History
-use Rattle.simplex_tracking.specs.Pasts.{is_direct, put}
-use Rattle.simplex_views.specs.History.{Setup, Point, current, enter, is_marked, seen, sent_item, was_nullified}
-use Rattle.simplex_views.specs.Known.{backs, waits}
-use Rattle.simplex_tracking.specs.Handing.{extend}
-use Rattle.simplex_views.specs.Leaders.{named, named_early, inherits, leader, was_forwarded}
+use Rattle.simplex_history.specs.History as History
+use Rattle.simplex_history.specs.Pasts.{is_direct, put}
+use Rattle.simplex_history.specs.History.{Setup, Point, current, enter, is_marked, seen, sent_item, was_nullified}
+use Rattle.simplex_history.specs.Known.{backs, waits}
+use Rattle.simplex_history.specs.Handing.{extend}
+use Rattle.simplex_history.specs.Leaders.{named, named_early, inherits, leader, was_forwarded}
 use Rattle.simplex_tracking.specs.Marks.{Shows}
 use Rattle.simplex_views.specs.Progress.{IsAt, frame_of, tables}
 use Rattle.simplex_tracking.specs.Rounds.{told}

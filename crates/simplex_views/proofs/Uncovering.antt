@@ -7,7 +7,7 @@ use Rattle.simplex_certificates.specs.declared.nullification.Nullification.{Null
 use Rattle.simplex_record.specs.Coverage as spans
 use Rattle.simplex_record.specs.Coverage.{LiesIn}
 use Rattle.simplex_record.specs.Spans.{covers-span}
-use Rattle.simplex_views.specs.History.{Setup, Point, nullified, was_nullified}
+use Rattle.simplex_history.specs.History.{Setup, Point, nullified, was_nullified}
 use Rattle.simplex_views.specs.Views.{IsCovered, AreCoveredBetween, IsFirstUncovered}
 
 module _ {S D P G C : Type 0} where

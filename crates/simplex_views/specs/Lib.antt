@@ -1,5 +1,3 @@
-pub mod History
-pub mod Known
-pub mod Leaders
+pub mod Knowledge
 pub mod Progress
 pub mod Views

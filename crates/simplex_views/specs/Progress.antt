@@ -3,8 +3,8 @@ use Rattle.std.specs.Prelude.{◌≡◌, ◌+◌, ◌<◌, ◌^◌, ℕ, List}
 use Rattle.std.specs.Option.{ForSome}
 use Rattle.simplex_types.specs.declared.scheme.Scheme.{Ghosts}
 use Rattle.simplex_views.specs.declared.progress.Progress.{Progress}
-use Rattle.simplex_views.specs.History.{Setup, Point, seen}
-use Rattle.simplex_views.specs.Leaders.{leader, was_forwarded}
+use Rattle.simplex_history.specs.History.{Setup, Point, seen}
+use Rattle.simplex_history.specs.Leaders.{leader, was_forwarded}
 use Rattle.simplex_tracking.specs.Tracked.{Frame, Tables, Holds}
 
 -- what stays the same of all views

@@ -11,16 +11,18 @@ use Rattle.simplex_certificates.specs.declared.artifact.Artifact.TheVariants as 
 use Rattle.simplex_rules.specs.declared.elector.Elector as elector
 use Rattle.simplex_rules.specs.declared.kind.Kind.TheVariants as kind
 use Rattle.simplex_record.specs.Coverage as spans
-use Rattle.simplex_round.specs.Past.{Item}
-use Rattle.simplex_round.specs.Past as past
+use Rattle.simplex_history.specs.Past.{Item}
+use Rattle.simplex_history.specs.Past as past
 use Rattle.simplex_round.specs.Round as one
 use Rattle.simplex_tracking.specs.declared.notice.Notice.{Notice}
 use Rattle.simplex_tracking.specs.declared.notice.Notice.TheVariants as notice
+use Rattle.simplex_decisions.specs.declared.config.Config.{Config}
+use Rattle.simplex_decisions.specs.Configuring.{skip_budget}
 use Rattle.simplex_views.specs.declared.views.Views.{Views}
-use Rattle.simplex_views.specs.History as History
-use Rattle.simplex_views.specs.History.{Setup, Point, latched, unbound, build_released, ancestry_asked, certify_asked, recalled_notarize, recalled_nullify, recalled_finalize, recalled_verdict, sent, current, last_finalized, min_active, genesis, is_marked, seen, was_nullified, nullification}
-use Rattle.simplex_views.specs.Known.{backs, waits}
-use Rattle.simplex_views.specs.Leaders.{leader}
+use Rattle.simplex_history.specs.History as History
+use Rattle.simplex_history.specs.History.{Setup, Point, latched, unbound, build_released, ancestry_asked, certify_asked, recalled_notarize, recalled_nullify, recalled_finalize, recalled_verdict, sent, current, last_finalized, min_active, genesis, is_marked, seen, was_nullified, nullification}
+use Rattle.simplex_history.specs.Known.{backs, waits}
+use Rattle.simplex_history.specs.Leaders.{leader}
 use Rattle.simplex_tracking.specs.Marks.{Shows}
 use Rattle.simplex_views.specs.Progress.{IsAt, frame_of, tables}
 use Rattle.simplex_tracking.specs.Rounds as tracking
@@ -93,21 +95,21 @@ module _ {S D P G C : Type 0} where
 
 module _ {S L D P G C : Type 0} where
   -- the setup of a voter that was built so
-  abbrev pub built : Ghosts S D P G C → elector.Ghosts L S D P G C → S → L → ℕ → ℕ → ℕ → ℕ → ℕ → ℕ → Setup S C
-  built g e scheme l epoch retention leader_timeout certification_timeout retry budget = record {
+  abbrev pub built : Ghosts S D P G C → elector.Ghosts L S D P G C → S → L → Config D → Setup S C
+  built g e scheme l c = record {
     scheme = scheme;
     me = g.own scheme;
-    epoch = epoch;
+    epoch = c.epoch;
     length = (e.terms_of l).length;
     optimistic_views = (e.terms_of l).optimistic_views;
     stall_timeout = (e.terms_of l).stall_timeout;
     mode = e.mode_of l;
-    elect = λ view c. e.leader l (record { epoch = epoch; view = view }) c;
-    retention = retention;
-    leader_timeout = leader_timeout;
-    certification_timeout = certification_timeout;
-    timeout_retry = retry;
-    skip_budget = budget;
+    elect = λ view certificate. e.leader l (record { epoch = c.epoch; view = view }) certificate;
+    retention = c.view_retention;
+    leader_timeout = c.leader_timeout;
+    certification_timeout = c.certification_timeout;
+    timeout_retry = c.timeout_retry;
+    skip_budget = skip_budget c.skip (g.size scheme);
   }
 
   pub record IsKept (g : Ghosts S D P G C) (e : elector.Ghosts L S D P G C) (s : Setup S C) (v : Views S L D P G C) (h : List (Point S D P G C)) : Type 0 where

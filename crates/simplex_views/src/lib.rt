@@ -1,6 +1,8 @@
-//! What a voter keeps of its views, and how far it is.
+//! What a voter keeps of its views, how far it is, and what that answers to whoever asks what is due.
 #![tactic(auto)]
 
+mod knowing;
+mod looking;
 mod progress;
 mod views;
 

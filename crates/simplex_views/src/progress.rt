@@ -1,7 +1,7 @@
 //! How far the voter is.
 
 ghost use Rattle.std.specs.Prelude.{◌≡◌, ℕ, OnOk, max};
-ghost use Rattle.simplex_views.specs.History.{Setup, enter};
+ghost use Rattle.simplex_history.specs.History.{Setup, enter};
 ghost use Rattle.simplex_views.specs.Progress.{IsAt, InTime};
 ghost use Rattle.simplex_tracking.specs.Tracked.{Tables};
 

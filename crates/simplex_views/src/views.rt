@@ -13,21 +13,23 @@ mod voting;
 ghost use Rattle.std.specs.Prelude.{◌≡◌, ◌↔◌, ◌+◌, ◌<◌, ◌≤◌, ◌^◌, ◌∷◌, ℕ, [], Some, None, IsTrue, IfSome, IfOk, OnOk, MatchOption, option_copied};
 ghost use Rattle.simplex_types.specs.Positions.{InCoveringRange};
 ghost use Rattle.simplex_rules.specs.Windows.{Admits, Retains};
-ghost use Rattle.simplex_round.specs.Past as past;
+ghost use Rattle.simplex_history.specs.Past as past;
 ghost use Rattle.simplex_round.specs.Round as one;
 ghost use Rattle.simplex_tracking.specs.Marks.{Shows};
-ghost use Rattle.simplex_tracking.specs.Pasts.{bears};
+ghost use Rattle.simplex_history.specs.Pasts.{bears};
 ghost use Rattle.simplex_tracking.specs.Rounds.{AreUntracked, IsFirstTracked};
-ghost use Rattle.simplex_views.specs.History.{current, last_finalized, min_active, genesis, nullification, scheduled_leader, seen};
-ghost use Rattle.simplex_views.specs.Leaders.{leader};
+ghost use Rattle.simplex_history.specs.History.{current, last_finalized, min_active, genesis, nullification, scheduled_leader, seen};
+ghost use Rattle.simplex_history.specs.Leaders.{leader};
 ghost use Rattle.simplex_views.specs.Views.{Keeps, AtEach, built, AreCoveredBetween, IsFirstUncovered, IsHighestCovering, IsTracked, noticed, round_of};
 
 use crate::progress::Progress;
 use simplex_certificates::{Finalization, Notarization, Nullification};
+use simplex_decisions::config::Config;
+use simplex_history::Sign;
 use simplex_record::Coverage;
 use simplex_round::Round;
 use simplex_rules::{Elector, Lookahead, Mode, Viewport};
-use simplex_tracking::{Marks, Notice, Sign, Tracked};
+use simplex_tracking::{Marks, Notice, Tracked};
 use simplex_types::{
     Digest, Epoch, Participant, Proposal, Round as Position, Scheme, View, ViewDelta,
 };
@@ -68,27 +70,24 @@ impl<S: Scheme<D> + Drop, L: Elector<S, D>, D: Digest> Views<S, L, D> {
         alloc: Global,
         scheme: Rc<S>,
         elector: L,
-        epoch: Epoch,
-        retention: ViewDelta,
-        leader_timeout: u64,
-        certification_timeout: u64,
+        config: &Config<D>,
     ) -> Result<Self, AllocError>
         requires { L.built_for elector (S.size scheme.value) }
-        ensures { IfOk result (λ v. (retry budget : ℕ) → Keeps S.Scheme L.Elector (built S.Scheme L.Elector scheme.value elector epoch retention leader_timeout certification_timeout retry budget) v []) }
+        ensures { IfOk result (λ v. Keeps S.Scheme L.Elector (built S.Scheme L.Elector scheme.value elector config.now) v []) }
     {
         let terms = elector.terms();
         let shared = scheme.clone()?;
-        let tracked = Tracked::new(alloc, shared, epoch, Lookahead::new(&terms));
+        let tracked = Tracked::new(alloc, shared, config.epoch, Lookahead::new(&terms));
         Ok(Views {
             scheme,
             elector,
-            epoch,
+            epoch: config.epoch,
             lookahead: Lookahead::new(&terms),
-            retention,
+            retention: config.view_retention,
             progress: Progress {
                 view: View::zero(),
-                leader_timeout,
-                certification_timeout,
+                leader_timeout: config.leader_timeout,
+                certification_timeout: config.certification_timeout,
                 stall_timeout: terms.stall_timeout(),
                 tracked,
             },

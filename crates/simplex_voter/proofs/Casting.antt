@@ -15,11 +15,11 @@ use Rattle.simplex_certificates.specs.declared.proposal_vote.ProposalVote.{Propo
 use Rattle.simplex_certificates.specs.Nullify.{NullifyIsAttested}
 use Rattle.simplex_certificates.specs.ProposalVote.{IsAttested}
 use Rattle.simplex_certificates.specs.ProposalCertificate.{Notarization}
-use Rattle.simplex_round.specs.Past as past
-use Rattle.simplex_views.specs.History.{Setup, Point, current, seen}
-use Rattle.simplex_views.specs.Known.{known}
-use Rattle.simplex_due.specs.Ancestry.{member}
-use Rattle.simplex_due.specs.Due.{FinalizeIsDue, MayGiveUp}
+use Rattle.simplex_history.specs.Past as past
+use Rattle.simplex_history.specs.History.{Setup, Point, current, seen}
+use Rattle.simplex_history.specs.Known.{known}
+use Rattle.simplex_decisions.specs.Ancestry.{member}
+use Rattle.simplex_decisions.specs.Due.{FinalizeIsDue, MayGiveUp}
 use Rattle.simplex_voter.proofs.Entering.{positive}
 use Rattle.simplex_voter.specs.Votes.{IsOwn, IsOwnNullify}
 

@@ -8,10 +8,10 @@ use Rattle.simplex_certificates.specs.declared.certificate.Certificate.{Certific
 use Rattle.simplex_certificates.specs.declared.certificate.Certificate.TheVariants as certificate
 use Rattle.simplex_certificates.specs.ProposalCertificate.{Finalization, Notarization}
 use Rattle.simplex_certificates.specs.declared.nullification.Nullification.{Nullification}
-use Rattle.simplex_round.specs.Past as past
-use Rattle.simplex_views.specs.History.{Setup, Point, current, nullification, seen}
+use Rattle.simplex_history.specs.Past as past
+use Rattle.simplex_history.specs.History.{Setup, Point, current, nullification, seen}
 use Rattle.simplex_views.specs.Views.{IsHighestCovering}
-use Rattle.simplex_due.specs.Answers.{best_certificate, covering_nullification, entry_certificate, last_of}
+use Rattle.simplex_decisions.specs.Answers.{best_certificate, covering_nullification, entry_certificate, last_of}
 
 module _ {X : Type 0} (f : ℕ → Option X) where
   -- none of so many numbers up to this one gives anything

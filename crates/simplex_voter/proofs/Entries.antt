@@ -2,13 +2,13 @@
 use Rattle.std.proofs.Common.{◌≡◌, ◌<◌, ◌≤◌, ◌+◌, ℕ, zero, suc, Bool, true, false, ◌⊎◌, inl, inr, refl, sym, ◌∙◌, ⊎_elim, arith}
 use Rattle.std.specs.Prelude.{◌↔◌, List, [], Option, Some, None, IsTrue, is_some, MatchOption}
 use Rattle.std.proofs.lemmas.Bool.{both_ways, cases_lt}
-use Rattle.simplex_round.specs.Past as past
-use Rattle.simplex_round.specs.Past.{Item}
+use Rattle.simplex_history.specs.Past as past
+use Rattle.simplex_history.specs.Past.{Item}
 use Rattle.simplex_tracking.specs.Rounds.{AreUntracked}
-use Rattle.simplex_views.specs.Known.{Known}
-use Rattle.simplex_due.specs.Ancestry.{Member, IsPreferred}
-use Rattle.simplex_due.specs.Due.{first_from}
-use Rattle.simplex_due.specs.Requests.{IsCaptured, IsSuperseded}
+use Rattle.simplex_history.specs.Known.{Known}
+use Rattle.simplex_decisions.specs.Ancestry.{Member, IsPreferred}
+use Rattle.simplex_decisions.specs.Due.{first_from}
+use Rattle.simplex_decisions.specs.Requests.{IsCaptured, IsSuperseded}
 
 module _ {D : Type 0} where
   -- what an option gives is another value exactly where a test of both says so

@@ -5,7 +5,7 @@ use Rattle.std.specs.BTreeSet.{BTreeSet}
 use Rattle.simplex_types.specs.declared.scheme.Scheme.{Ghosts}
 use Rattle.simplex_rules.specs.declared.elector.Elector as elector
 use Rattle.simplex_views.specs.declared.views.Views.{Views}
-use Rattle.simplex_views.specs.History.{Setup, Point}
+use Rattle.simplex_history.specs.History.{Setup, Point}
 use Rattle.simplex_views.specs.Views as above
 use Rattle.simplex_voter.specs.Candidates.{IsWoken}
 use Rattle.simplex_voter.specs.State.{Keeps}

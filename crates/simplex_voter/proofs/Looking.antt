@@ -8,14 +8,14 @@ use Rattle.simplex_types.specs.declared.scheme.Scheme.{Ghosts}
 use Rattle.simplex_rules.specs.Spans.{term_end-above}
 use Rattle.simplex_rules.specs.declared.elector.Elector as elector
 use Rattle.simplex_rules.specs.Windows.{AdmitsOutbound}
-use Rattle.simplex_round.specs.declared.timeout_reason.TimeoutReason.TheVariants as reason
+use Rattle.simplex_history.specs.declared.timeout_reason.TimeoutReason.TheVariants as reason
 use Rattle.simplex_tracking.specs.Rounds.{AreUntracked}
-use Rattle.simplex_views.specs.History.{Setup, Point, current, latched, seen}
-use Rattle.simplex_views.specs.Known.{Known, known}
-use Rattle.simplex_views.specs.Leaders.{leader}
-use Rattle.simplex_due.specs.Ancestry.{Member, member}
-use Rattle.simplex_due.specs.Requests.{IsPassed, Scanned, WaitsForParent, begun, passed, given_up}
-use Rattle.simplex_facts.specs.Matching.{WholeScanLeavesNothing}
+use Rattle.simplex_history.specs.History.{Setup, Point, current, latched, seen}
+use Rattle.simplex_history.specs.Known.{Known, known}
+use Rattle.simplex_history.specs.Leaders.{leader}
+use Rattle.simplex_decisions.specs.Ancestry.{Member, member}
+use Rattle.simplex_decisions.specs.Requests.{IsPassed, Scanned, WaitsForParent, begun, passed, given_up}
+use Rattle.simplex_laws.specs.Matching.{WholeScanLeavesNothing}
 use Rattle.simplex_voter.specs.declared.state.State.{State}
 use Rattle.simplex_voter.specs.State.{Keeps}
 use Rattle.simplex_voter.specs.Verifying.{BehindLook, Passes, PassesAll}

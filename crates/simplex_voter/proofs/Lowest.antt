@@ -6,11 +6,11 @@ use Rattle.simplex_types.specs.Positions.{term_end}
 use Rattle.simplex_rules.specs.Spans.{term_end-above}
 use Rattle.simplex_rules.specs.Windows.{AdmitsOutbound}
 use Rattle.simplex_tracking.specs.Rounds.{AreUntracked}
-use Rattle.simplex_views.specs.History.{Setup, Point, current, seen}
-use Rattle.simplex_views.specs.Known.{known}
-use Rattle.simplex_views.specs.Leaders.{leader}
-use Rattle.simplex_due.specs.Ancestry.{member}
-use Rattle.simplex_due.specs.Requests.{BuildIsDue, NoBuildIsDue}
+use Rattle.simplex_history.specs.History.{Setup, Point, current, seen}
+use Rattle.simplex_history.specs.Known.{known}
+use Rattle.simplex_history.specs.Leaders.{leader}
+use Rattle.simplex_decisions.specs.Ancestry.{member}
+use Rattle.simplex_decisions.specs.Requests.{BuildIsDue, NoBuildIsDue}
 
 -- between the current view and one that may be spoken of each may
 pub outbound_below : (n c o view u : ℕ) → c ≤ view → view ≤ u → (u ≤ c) ⊎ ((u ≤ min (c + o) n) ⊎ ((u ≡ n + 1) × (n ≤ c + o)))

@@ -13,13 +13,13 @@ use Rattle.std.specs.BTreeSet.{BTreeSet, contains, IsLowerBound, Updates}
 use Rattle.simplex_committee.specs.Counting.{Contains-nil, Contains-head}
 use Rattle.simplex_types.specs.declared.proposal.Proposal.{Proposal}
 use Rattle.simplex_rules.specs.Spans.{term_end-above}
-use Rattle.simplex_views.specs.Known.{Known}
-use Rattle.simplex_due.specs.Ancestry.{Member, explicit, IsRequired}
-use Rattle.simplex_due.specs.Asking.{Decides}
-use Rattle.simplex_due.specs.Requests.{VerdictIsOpen, CertifyIsDue, CertifyWaits, IsPutOff, CertificateIsWanted, MayBeAsked}
-use Rattle.simplex_due.specs.declared.requests.CertifyRequest.{CertifyRequest}
-use Rattle.simplex_due.specs.declared.requests.CertifyRequest.TheVariants as certify
-use Rattle.simplex_facts.specs.declared.certificate_fetch.CertificateFetch.{CertificateFetch}
+use Rattle.simplex_history.specs.Known.{Known}
+use Rattle.simplex_decisions.specs.Ancestry.{Member, explicit, IsRequired}
+use Rattle.simplex_decisions.specs.Asking.{Decides}
+use Rattle.simplex_decisions.specs.Requests.{VerdictIsOpen, CertifyIsDue, CertifyWaits, IsPutOff, CertificateIsWanted, MayBeAsked}
+use Rattle.simplex_decisions.specs.declared.requests.CertifyRequest.{CertifyRequest}
+use Rattle.simplex_decisions.specs.declared.requests.CertifyRequest.TheVariants as certify
+use Rattle.simplex_decisions.specs.declared.certificate_fetch.CertificateFetch.{CertificateFetch}
 use Rattle.simplex_voter.specs.declared.state.certifying.Verdicts.{Verdicts}
 use Rattle.simplex_voter.specs.Candidates.{Adds, AreAll}
 use Rattle.simplex_voter.proofs.Members.{only_element}

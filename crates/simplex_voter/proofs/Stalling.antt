@@ -6,16 +6,16 @@ use Rattle.std.specs.Prelude.{◌↔◌, ◌||◌, not, nat_lt, List, [], ◌∷
 use Rattle.std.proofs.lemmas.Bool.{cases_Bool}
 use Rattle.std.proofs.lemmas.Bool.Decides.{nat_tests}
 use Rattle.std.proofs.lemmas.Grind.{common_steps}
-use Rattle.simplex_round.specs.contracts.timeout_reason.TimeoutReason.{the_type}
-use Rattle.simplex_round.specs.declared.timeout_reason.TimeoutReason.{TimeoutReason}
-use Rattle.simplex_round.specs.declared.timeout_reason.TimeoutReason.TheVariants as reason
-use Rattle.simplex_round.specs.Held.{IsUnequivocated}
-use Rattle.simplex_round.specs.Past as past
-use Rattle.simplex_round.specs.Past.{Item}
-use Rattle.simplex_tracking.specs.Pasts.{put}
-use Rattle.simplex_views.specs.History.{Setup, Point, current, polled, seen}
-use Rattle.simplex_views.specs.Leaders.{leader}
-use Rattle.simplex_due.specs.Due.{IsTracked, MayLatch, earlier, has_budget, oldest_entered, term_deadline, timeout, timeout_of}
+use Rattle.simplex_history.specs.contracts.timeout_reason.TimeoutReason.{the_type}
+use Rattle.simplex_history.specs.declared.timeout_reason.TimeoutReason.{TimeoutReason}
+use Rattle.simplex_history.specs.declared.timeout_reason.TimeoutReason.TheVariants as reason
+use Rattle.simplex_history.specs.Held.{IsUnequivocated}
+use Rattle.simplex_history.specs.Past as past
+use Rattle.simplex_history.specs.Past.{Item}
+use Rattle.simplex_history.specs.Pasts.{put}
+use Rattle.simplex_history.specs.History.{Setup, Point, current, polled, seen}
+use Rattle.simplex_history.specs.Leaders.{leader}
+use Rattle.simplex_decisions.specs.Due.{IsTracked, MayLatch, earlier, has_budget, oldest_entered, term_deadline, timeout, timeout_of}
 use Rattle.simplex_voter.specs.Timing.{MayStall}
 
 -- what happened to a view last happened to it

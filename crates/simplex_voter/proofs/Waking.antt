@@ -16,16 +16,16 @@ use Rattle.simplex_certificates.specs.Artifact.{artifact_round}
 use Rattle.simplex_certificates.specs.declared.artifact.Artifact.{Artifact}
 use Rattle.simplex_certificates.specs.declared.artifact.Artifact.TheVariants as artifact
 use Rattle.simplex_rules.specs.declared.kind.Kind.TheVariants as kind
-use Rattle.simplex_round.specs.Held as offer
-use Rattle.simplex_round.specs.Held.{held}
-use Rattle.simplex_round.specs.Past as past
-use Rattle.simplex_round.specs.Past.{Item}
-use Rattle.simplex_tracking.specs.Pasts.{put, bind}
-use Rattle.simplex_views.specs.History.{Setup, Point, started, notarized, nullified, finalized, judged, forwarded, built, confirmed, unbound, latched, build_asked, build_released, verify_asked, ancestry_asked, certify_asked, certify_waited, voted_notarize, voted_nullify, voted_finalize, recalled_notarize, recalled_nullify, recalled_finalize, recalled_verdict, sent, polled, pruned, enter, undecided_payload, current, last_finalized, min_active, genesis, is_marked, seen}
-use Rattle.simplex_views.specs.Known.{known, waits}
+use Rattle.simplex_history.specs.Held as offer
+use Rattle.simplex_history.specs.Held.{held}
+use Rattle.simplex_history.specs.Past as past
+use Rattle.simplex_history.specs.Past.{Item}
+use Rattle.simplex_history.specs.Pasts.{put, bind}
+use Rattle.simplex_history.specs.History.{Setup, Point, started, notarized, nullified, finalized, judged, forwarded, built, confirmed, unbound, latched, build_asked, build_released, verify_asked, ancestry_asked, certify_asked, certify_waited, voted_notarize, voted_nullify, voted_finalize, recalled_notarize, recalled_nullify, recalled_finalize, recalled_verdict, sent, polled, pruned, enter, undecided_payload, current, last_finalized, min_active, genesis, is_marked, seen}
+use Rattle.simplex_history.specs.Known.{known, waits}
 use Rattle.simplex_views.specs.Views.{recalls}
-use Rattle.simplex_due.specs.Ancestry.{member, explicit, IsRequired, IsSpan}
-use Rattle.simplex_due.specs.Requests.{MayBeAsked}
+use Rattle.simplex_decisions.specs.Ancestry.{member, explicit, IsRequired, IsSpan}
+use Rattle.simplex_decisions.specs.Requests.{MayBeAsked}
 use Rattle.simplex_voter.specs.declared.state.certifying.Verdicts.{Verdicts}
 use Rattle.simplex_voter.specs.Candidates.{AreAll, AreAmong, IsWoken, put_off}
 

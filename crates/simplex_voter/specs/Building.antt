@@ -3,7 +3,7 @@ use Rattle.std.specs.Prelude.{◌≡◌, ℕ, Some}
 use Rattle.simplex_types.specs.declared.context.Context.{Context}
 use Rattle.simplex_types.specs.declared.proposal.Proposal.{Proposal}
 use Rattle.simplex_types.specs.declared.scheme.Scheme.{Ghosts}
-use Rattle.simplex_views.specs.History.{Setup}
+use Rattle.simplex_history.specs.History.{Setup}
 
 -- the proposal of this payload in a context
 abbrev pub proposal_on : {D P : Type 0} → Context D P → D → Proposal D

@@ -3,13 +3,13 @@ use Rattle.std.specs.Prelude.{◌≡◌, ◌⊎◌, ◌+◌, ◌<◌, ◌^◌, �
 use Rattle.std.specs.Ordering.{nat_cmp}
 use Rattle.std.specs.BTreeSet.{BTreeSet, contains}
 use Rattle.simplex_types.specs.declared.proposal.Proposal.{Proposal}
-use Rattle.simplex_views.specs.History.{Setup, Point, certify_waited}
-use Rattle.simplex_views.specs.Known.{Known, known}
-use Rattle.simplex_due.specs.Ancestry.{Member, member}
-use Rattle.simplex_due.specs.Requests.{MayBeAsked, CertificateIsWanted, AreReady, ArePutOff}
-use Rattle.simplex_due.specs.declared.requests.CertifyRequest.{CertifyRequest}
-use Rattle.simplex_due.specs.declared.requests.CertifyRequest.TheVariants as certify
-use Rattle.simplex_facts.specs.declared.certificate_fetch.CertificateFetch.{CertificateFetch}
+use Rattle.simplex_history.specs.History.{Setup, Point, certify_waited}
+use Rattle.simplex_history.specs.Known.{Known, known}
+use Rattle.simplex_decisions.specs.Ancestry.{Member, member}
+use Rattle.simplex_decisions.specs.Requests.{MayBeAsked, CertificateIsWanted, AreReady, ArePutOff}
+use Rattle.simplex_decisions.specs.declared.requests.CertifyRequest.{CertifyRequest}
+use Rattle.simplex_decisions.specs.declared.requests.CertifyRequest.TheVariants as certify
+use Rattle.simplex_decisions.specs.declared.certificate_fetch.CertificateFetch.{CertificateFetch}
 use Rattle.simplex_voter.specs.declared.state.certifying.Verdicts.{Verdicts}
 
 module _ {S D P G C : Type 0} where

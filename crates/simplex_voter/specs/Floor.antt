@@ -5,10 +5,10 @@ use Rattle.simplex_types.specs.declared.scheme.Scheme.{Ghosts}
 use Rattle.simplex_rules.specs.declared.elector.Elector as elector
 use Rattle.simplex_rules.specs.declared.kind.Kind.TheVariants as kind
 use Rattle.simplex_certificates.specs.ProposalCertificate.{Finalization}
-use Rattle.simplex_round.specs.Past as past
-use Rattle.simplex_views.specs.History.{Setup, Point, finalized, seen, sent, started}
-use Rattle.simplex_facts.specs.declared.floor.Floor.{Floor}
-use Rattle.simplex_facts.specs.declared.floor.Floor.TheVariants as floor
+use Rattle.simplex_history.specs.Past as past
+use Rattle.simplex_history.specs.History.{Setup, Point, finalized, seen, sent, started}
+use Rattle.simplex_decisions.specs.declared.floor.Floor.{Floor}
+use Rattle.simplex_decisions.specs.declared.floor.Floor.TheVariants as floor
 use Rattle.simplex_voter.specs.declared.state.State.{State}
 use Rattle.simplex_voter.specs.State.{Keeps}
 

@@ -2,7 +2,7 @@
 use Rattle.std.specs.Prelude.{◌≡◌, List}
 use Rattle.simplex_types.specs.declared.scheme.Scheme.{Ghosts}
 use Rattle.simplex_rules.specs.declared.elector.Elector as elector
-use Rattle.simplex_views.specs.History.{Setup, Point}
+use Rattle.simplex_history.specs.History.{Setup, Point}
 use Rattle.simplex_views.specs.Views as views
 use Rattle.simplex_voter.specs.Candidates.{AreAmong}
 use Rattle.simplex_voter.specs.declared.state.State.{State}

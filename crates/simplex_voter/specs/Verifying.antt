@@ -7,15 +7,15 @@ use Rattle.simplex_rules.specs.declared.elector.Elector as elector
 use Rattle.simplex_rules.specs.Windows.{AdmitsOutbound}
 use Rattle.simplex_resolver.specs.declared.ask.Kind.{Kind}
 use Rattle.simplex_resolver.specs.declared.ask.Kind.TheVariants as kind
-use Rattle.simplex_round.specs.declared.timeout_reason.TimeoutReason.TheVariants as reason
-use Rattle.simplex_views.specs.History.{Setup, Point, ancestry_asked, current, latched, verify_asked}
-use Rattle.simplex_views.specs.Known.{Known, known}
-use Rattle.simplex_views.specs.Leaders.{leader}
-use Rattle.simplex_due.specs.Ancestry.{Member, member}
-use Rattle.simplex_due.specs.Requests.{AsksNothing, IsInvalid, IsPassed, NotarizationIsWanted, NullificationIsWanted, Scanned, VerifyIsDue}
+use Rattle.simplex_history.specs.declared.timeout_reason.TimeoutReason.TheVariants as reason
+use Rattle.simplex_history.specs.History.{Setup, Point, ancestry_asked, current, latched, verify_asked}
+use Rattle.simplex_history.specs.Known.{Known, known}
+use Rattle.simplex_history.specs.Leaders.{leader}
+use Rattle.simplex_decisions.specs.Ancestry.{Member, member}
+use Rattle.simplex_decisions.specs.Requests.{AsksNothing, IsInvalid, IsPassed, NotarizationIsWanted, NullificationIsWanted, Scanned, VerifyIsDue}
 use Rattle.simplex_voter.specs.declared.state.State.{State}
-use Rattle.simplex_facts.specs.declared.verify.Verify.{Verify}
-use Rattle.simplex_facts.specs.declared.verify.Verify.TheVariants as verify
+use Rattle.simplex_voter.specs.declared.verify.Verify.{Verify}
+use Rattle.simplex_voter.specs.declared.verify.Verify.TheVariants as verify
 use Rattle.simplex_voter.specs.declared.wanted.Wanted.{Wanted}
 use Rattle.simplex_voter.specs.declared.wanted.Wanted.TheVariants as wanted
 use Rattle.simplex_voter.specs.State.{Keeps}

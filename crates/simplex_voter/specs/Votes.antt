@@ -7,7 +7,7 @@ use Rattle.simplex_certificates.specs.declared.nullify.Nullify.{Nullify}
 use Rattle.simplex_certificates.specs.declared.proposal_vote.ProposalVote.{ProposalVote}
 use Rattle.simplex_certificates.specs.Nullify.{NullifyIsAttested}
 use Rattle.simplex_certificates.specs.ProposalVote.{IsAttested}
-use Rattle.simplex_views.specs.History.{Setup}
+use Rattle.simplex_history.specs.History.{Setup}
 
 module _ {S D P G C : Type 0} where
   -- a vote on a proposal is in this member's name, and attests what a vote of its kind states

@@ -2,7 +2,12 @@
 #![tactic(auto)]
 
 mod state;
+mod verify;
 mod wanted;
 
-pub use simplex_facts::{CertificateFetch, Config, Floor, ProposalRequest, Verify};
+pub use simplex_decisions::config::{
+    Config, ConfigFault, ForwardPolicy, SkipBudget, SkipPolicy, check_config,
+};
+pub use simplex_decisions::{CertificateFetch, Floor, ProposalRequest};
 pub use state::State;
+pub use verify::Verify;

@@ -16,10 +16,11 @@ mod verifying;
 mod voting;
 
 ghost use Rattle.std.specs.Prelude.{[], IfOk};
+ghost use Rattle.simplex_views.specs.Views as above;
 ghost use Rattle.simplex_views.specs.Views.{built};
-ghost use Rattle.simplex_voter.specs.State.{Keeps};
+ghost use Rattle.simplex_voter.specs.State.{AtEach, Keeps};
 
-use simplex_facts::Config;
+use simplex_decisions::config::Config;
 use simplex_rules::Elector;
 use simplex_types::{Digest, Scheme, View};
 use simplex_views::Views;
@@ -41,31 +42,37 @@ pub struct State<S: Scheme<D>, L: Elector<S, D>, D: Digest> {
 }
 
 impl<S: Scheme<D> + Drop, L: Elector<S, D>, D: Digest> State<S, L, D> {
-    /// A voter to which nothing has happened.
+    /// A voter of this member of the committee that the elector was built for, set up so, to which nothing has happened. What is
+    /// wrong with a configuration `check_config` tells.
     ///
     /// # Errors
     ///
     /// `AllocError` where memory ran out.
-    pub fn new(alloc: Global, config: Config<S, L>) -> Result<Self, AllocError>
-        requires { L.built_for config.elector (S.size config.scheme.value) }
-        ensures { IfOk result (λ state. Keeps S.Scheme L.Elector (built S.Scheme L.Elector config.scheme.value config.elector config.epoch config.view_retention config.leader_timeout config.certification_timeout config.timeout_retry config.skip_budget) state []) }
+    pub fn new(
+        alloc: Global,
+        scheme: Rc<S>,
+        elector: L,
+        config: &Config<D>,
+    ) -> Result<Self, AllocError>
+        requires { L.built_for elector (S.size scheme.value) }
+        ensures { IfOk result (λ state. Keeps S.Scheme L.Elector (built S.Scheme L.Elector scheme.value elector config.now) state []) }
     {
-        let shared = config.scheme.clone()?;
-        let views = Views::new(
-            alloc,
-            shared,
-            config.elector,
-            config.epoch,
-            config.view_retention,
-            config.leader_timeout,
-            config.certification_timeout,
-        )?;
+        let skip_budget = config.skip.budget(scheme.participants());
+        let shared = scheme.clone()?;
+        let views = Views::new(alloc, shared, elector, config)?;
         Ok(State {
-            scheme: config.scheme,
+            scheme,
             views,
             timeout_retry: config.timeout_retry,
-            skip_budget: config.skip_budget,
+            skip_budget,
             candidates: BTreeSet::new(alloc),
         })
+    }
+
+    /// What it has learnt of its views, which answer what is known of each.
+    pub const fn views(&self) -> &Views<S, L, D>
+        ensures { AtEach S.Scheme L.Elector self.now (λ s h. above.Keeps S.Scheme L.Elector s result.now h) }
+    {
+        &self.views
     }
 }

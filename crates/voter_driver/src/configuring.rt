@@ -2,8 +2,8 @@
 
 use crate::reading::last_floor;
 use script_words::{Say, Trouble, Words};
+use simplex_decisions::config::{Config, ForwardPolicy, SkipBudget, SkipPolicy, check_config};
 use simplex_resolver::{Ask, Kind, Until};
-use simplex_state::config::{Config, ForwardPolicy, SkipBudget, SkipPolicy, check_config};
 use simplex_types::{PlainScheme, Sha256Digest, ViewDelta};
 
 /// How many members the committees have whose certificates are read.

@@ -2,7 +2,7 @@
 
 use script_certificates::CertificateWords;
 use script_words::{Committee, Trouble, Words};
-use simplex_round::TimeoutReason;
+use simplex_history::TimeoutReason;
 use simplex_types::{Context, PlainKey, Sha256Digest, View};
 use simplex_voter::Floor;
 use std::alloc::Global;

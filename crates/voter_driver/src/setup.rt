@@ -3,6 +3,7 @@
 use crate::turns::Turns;
 use crate::voter::Voter;
 use script_words::{Committee, Trouble, Words};
+use simplex_decisions::config::{Config, ForwardPolicy, SkipBudget, SkipPolicy};
 use simplex_rules::Terms;
 use simplex_rules::elector::Mode;
 use simplex_types::{Epoch, Participant, PlainScheme, Scheme, Sha256Digest, ViewDelta};
@@ -12,33 +13,16 @@ use std::rc::Rc;
 /// How a voter is set up: `N ME EPOCH L K STALL RETENTION LEADER CERTIFICATION RETRY BUDGET HANDOFF`. ME is `-` for a voter
 /// without a key, STALL for terms of one view without optimism that never stall. HANDOFF says whether builds are handed off in
 /// the script.
-#[derive(Clone, Copy)]
+#[derive(Drop)]
 pub struct Setup {
     /// How many members the committee has.
     pub participants: u32,
     /// The member whose voter it is.
     pub me: Option<Participant>,
-    /// The epoch.
-    pub epoch: Epoch,
     /// How long terms are, and what they allow.
     pub terms: Terms,
-    /// How many views below the last finalized one are kept.
-    pub view_retention: ViewDelta,
-    /// How long things may take.
-    pub times: Times,
-    /// How many terms may be skipped since the last finalized view.
-    pub skip_budget: u64,
-}
-
-/// How long things may take, in milliseconds.
-#[derive(Clone, Copy)]
-pub struct Times {
-    /// A leader for a proposal.
-    pub leader: u64,
-    /// A view for a true verdict.
-    pub certification: u64,
-    /// Until a nullify is voted again.
-    pub retry: u64,
+    /// How that voter is set up. What it starts on, and when leaders count as inactive, it doesn't ask of that.
+    pub config: Config<Sha256Digest>,
 }
 
 /// `L K STALL`.
@@ -53,18 +37,27 @@ fn terms(words: &mut Words<'_>) -> Result<Terms, Trouble> {
     }
 }
 
-impl Times {
-    /// `LEADER CERTIFICATION RETRY`.
-    fn read(words: &mut Words<'_>) -> Result<Self, Trouble> {
-        let leader = words.number()?;
-        let certification = words.number()?;
-        let retry = words.number()?;
-        Ok(Times {
-            leader,
-            certification,
-            retry,
-        })
-    }
+/// `RETENTION LEADER CERTIFICATION RETRY BUDGET`, in this epoch.
+fn config(words: &mut Words<'_>, epoch: Epoch) -> Result<Config<Sha256Digest>, Trouble> {
+    let view_retention = ViewDelta::new(words.number()?);
+    let leader_timeout = words.number()?;
+    let certification_timeout = words.number()?;
+    let timeout_retry = words.number()?;
+    let budget = SkipBudget::Fixed(words.number()?);
+    Ok(Config {
+        epoch,
+        genesis: Sha256Digest::new([0; 32]),
+        leader_timeout,
+        certification_timeout,
+        timeout_retry,
+        view_retention,
+        skip: SkipPolicy::Enabled {
+            timeout: u64::MAX,
+            budget,
+        },
+        forward: ForwardPolicy::Disabled,
+        track_historical_votes: false,
+    })
 }
 
 impl Setup {
@@ -74,18 +67,13 @@ impl Setup {
         let me = words.optional_member()?;
         let epoch = words.epoch()?;
         let terms = terms(words)?;
-        let view_retention = ViewDelta::new(words.number()?);
-        let times = Times::read(words)?;
-        let skip_budget = words.number()?;
+        let config = config(words, epoch)?;
         let _hands_off = words.truth()?;
         Ok(Setup {
             participants,
             me,
-            epoch,
             terms,
-            view_retention,
-            times,
-            skip_budget,
+            config,
         })
     }
 }

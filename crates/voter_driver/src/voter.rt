@@ -13,7 +13,7 @@ use crate::setup::Setup;
 use script_words::{Committee, Say, Trouble, Words};
 use simplex_rules::Elector;
 use simplex_types::{PlainKey, Scheme, Sha256Digest};
-use simplex_voter::{Config, State};
+use simplex_voter::State;
 use std::alloc::{AllocError, Global};
 use std::rc::Rc;
 
@@ -32,19 +32,9 @@ impl<S: Committee + Scheme<Sha256Digest, PublicKey = PlainKey>, L: Elector<S, Sh
     pub fn new(alloc: Global, setup: &Setup, scheme: Rc<S>, elector: L) -> Result<Self, AllocError>
         requires { L.built_for elector (S.size scheme.value) }
     {
-        let config = Config {
-            scheme,
-            elector,
-            epoch: setup.epoch,
-            view_retention: setup.view_retention,
-            leader_timeout: setup.times.leader,
-            certification_timeout: setup.times.certification,
-            timeout_retry: setup.times.retry,
-            skip_budget: setup.skip_budget,
-        };
         Ok(Voter {
             participants: setup.participants,
-            state: State::new(alloc, config)?,
+            state: State::new(alloc, scheme, elector, &setup.config)?,
         })
     }
 

@@ -1,12 +1,12 @@
 //! Verdicts, and what the certificates support.
 
 ghost use Rattle.std.specs.Prelude.{◌≡◌, ◌||◌, ◌∷◌, is_some, option_map};
-ghost use Rattle.simplex_round.specs.Past.{certifying, aborted, judged, notarization, finalization, verdict, certify_handle, uncertified_proposal, certified_proposal, forwardable_proposal, certificate_payload, verdict_is_true, verdict_is_false};
+ghost use Rattle.simplex_history.specs.Past.{certifying, aborted, judged, notarization, finalization, verdict, certify_handle, uncertified_proposal, certified_proposal, forwardable_proposal, certificate_payload, verdict_is_true, verdict_is_false};
 ghost use Rattle.simplex_types.specs.declared.proposal.Proposal.{Proposal};
 ghost use Rattle.simplex_round.specs.Round.{AtEach, Becomes};
 
 use crate::round::Round;
-use crate::token::Token;
+use simplex_history::Token;
 use simplex_types::{Digest, Proposal, Scheme};
 
 impl<S: Scheme<D>, D: Digest> Round<S, D> {

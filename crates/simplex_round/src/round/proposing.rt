@@ -1,8 +1,8 @@
 //! Builds, and what is offered to the proposal.
 
 ghost use Rattle.std.specs.Prelude.{◌≡◌, ◌↔◌, if◌then◌else◌, false, ◌∷◌, None, is_some, IsTrue, MatchBool, MatchOption, option_map};
-ghost use Rattle.simplex_round.specs.Held.{forwarded, certified, confirmed, building, released, held, Agrees, Differs, IsVerified, IsUnverified, IsUnequivocated};
-ghost use Rattle.simplex_round.specs.Past.{offered, built, offers, has_nullified, MayPropose};
+ghost use Rattle.simplex_history.specs.Held.{forwarded, certified, confirmed, building, released, held, Agrees, Differs, IsVerified, IsUnverified, IsUnequivocated};
+ghost use Rattle.simplex_history.specs.Past.{offered, built, offers, has_nullified, MayPropose};
 ghost use Rattle.simplex_round.specs.Round.{Keeps, AtEach, Becomes, IsLeader};
 
 use crate::leader::Leader;

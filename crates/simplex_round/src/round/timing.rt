@@ -2,11 +2,11 @@
 
 ghost use Rattle.std.specs.Prelude.{◌≡◌, ◌+◌, ◌^◌, ◌<◌, ◌∷◌, is_some};
 ghost use Rattle.std.specs.Option.{option_or};
-ghost use Rattle.simplex_round.specs.Past.{entered, armed, latched, polled, entered_at, proposed_at, elapsed, stall_deadline, first_timeout, next_timeout};
+ghost use Rattle.simplex_history.specs.Past.{entered, armed, latched, polled, entered_at, proposed_at, elapsed, stall_deadline, first_timeout, next_timeout};
 ghost use Rattle.simplex_round.specs.Round.{AtEach, Becomes};
 
 use crate::round::Round;
-use crate::timeout_reason::TimeoutReason;
+use simplex_history::TimeoutReason;
 use simplex_types::{Digest, Scheme};
 
 impl<S: Scheme<D>, D: Digest> Round<S, D> {

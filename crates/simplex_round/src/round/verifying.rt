@@ -1,8 +1,8 @@
 //! Verifications of the held proposal, and what it rests on.
 
 ghost use Rattle.std.specs.Prelude.{◌≡◌, ◌≢◌, ◌↔◌, if◌then◌else◌, ◌∷◌, Some, None, IsSome, IsTrue, IfSome};
-ghost use Rattle.simplex_round.specs.Held.{verifying, held};
-ghost use Rattle.simplex_round.specs.Past.{offered, asked, bound, unbound, offers, last_asked, binding, MayVerify};
+ghost use Rattle.simplex_history.specs.Held.{verifying, held};
+ghost use Rattle.simplex_history.specs.Past.{offered, asked, bound, unbound, offers, last_asked, binding, MayVerify};
 ghost use Rattle.simplex_round.specs.Round.{AtEach, Becomes, IsLeader};
 
 use crate::leader::Leader;

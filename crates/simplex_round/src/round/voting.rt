@@ -1,8 +1,8 @@
 //! Own votes, and what a record says of them.
 
 ghost use Rattle.std.specs.Prelude.{◌≡◌, ◌↔◌, if◌then◌else◌, ◌∷◌, Some, None, is_some, IsTrue, MatchOption};
-ghost use Rattle.simplex_round.specs.Held.{held};
-ghost use Rattle.simplex_round.specs.Past.{voted_notarize, voted_nullify, voted_finalize, offers, has_notarized, has_nullified, has_finalized, MayNotarize, MayFinalize};
+ghost use Rattle.simplex_history.specs.Held.{held};
+ghost use Rattle.simplex_history.specs.Past.{voted_notarize, voted_nullify, voted_finalize, offers, has_notarized, has_nullified, has_finalized, MayNotarize, MayFinalize};
 ghost use Rattle.simplex_round.specs.Round.{AtEach, Becomes, Recalls};
 
 use crate::round::Round;

@@ -1,17 +1,18 @@
 //! What happens to one view. It is no certificate, and hands no leader on: a proposal or an own notarize lets `follow` do that.
 
 ghost use Rattle.std.specs.Prelude.{◌≡◌, ◌↔◌, ◌<◌, ◌≤◌, ◌+◌, ◌^◌, if◌then◌else◌, Bool, false, ◌∷◌, Some, None, is_some, IsTrue, IfSome, IfOk, OnOk, MatchOption};
-ghost use Rattle.simplex_round.specs.Held.{held, building, confirmed, verifying, Agrees, IsUnverified};
-ghost use Rattle.simplex_round.specs.Past.{offered, sent_notarization, sent_nullification, sent_finalization, has_sent_notarization, has_sent_nullification, has_sent_finalization, judged, bound, built, polled, voted_finalize, voted_notarize, voted_nullify, notarization, nullification, finalization, offers, has_finalized, has_nullified, next_timeout, verdict, MayFinalize, MayNotarize, MayPropose, MayVerify};
+ghost use Rattle.simplex_history.specs.Held.{held, building, confirmed, verifying, Agrees, IsUnverified};
+ghost use Rattle.simplex_history.specs.Past.{offered, sent_notarization, sent_nullification, sent_finalization, has_sent_notarization, has_sent_nullification, has_sent_finalization, judged, bound, built, polled, voted_finalize, voted_notarize, voted_nullify, notarization, nullification, finalization, offers, has_finalized, has_nullified, next_timeout, verdict, MayFinalize, MayNotarize, MayPropose, MayVerify};
 ghost use Rattle.simplex_round.specs.Round as one;
-ghost use Rattle.simplex_tracking.specs.Pasts.{bind, put};
+ghost use Rattle.simplex_history.specs.Pasts.{bind, put};
 ghost use Rattle.simplex_tracking.specs.Rounds.{AreUntracked, IsFirstTracked, Takes, recalled, setup_of, told};
 ghost use Rattle.simplex_tracking.specs.Tracked.{Tables, Holds, AtEach};
 
 use crate::notice::Notice;
 use crate::tracked::Tracked;
 use simplex_certificates::{Artifact, Finalization, Notarization, Nullification};
-use simplex_round::{Leader, Round, TimeoutReason};
+use simplex_history::TimeoutReason;
+use simplex_round::{Leader, Round};
 use simplex_types::{Digest, Proposal, Scheme, View, Viewable};
 use std::alloc::{AllocError, Global};
 

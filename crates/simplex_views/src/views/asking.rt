@@ -1,14 +1,14 @@
 //! What a voter has asked for: verifications, certificates that proposals wait for, verdicts.
 
 ghost use Rattle.std.specs.Prelude.{◌≡◌, ◌↔◌, if◌then◌else◌, ◌∷◌, IsTrue, OnOk};
-ghost use Rattle.simplex_round.specs.Past.{MayVerify};
-ghost use Rattle.simplex_views.specs.History.{ancestry_asked, certify_asked, certify_waited, is_marked, seen, verify_asked};
-ghost use Rattle.simplex_views.specs.Known.{backs, waits};
-ghost use Rattle.simplex_views.specs.Leaders.{leader};
+ghost use Rattle.simplex_history.specs.Past.{MayVerify};
+ghost use Rattle.simplex_history.specs.History.{ancestry_asked, certify_asked, certify_waited, is_marked, seen, verify_asked};
+ghost use Rattle.simplex_history.specs.Known.{backs, waits};
+ghost use Rattle.simplex_history.specs.Leaders.{leader};
 ghost use Rattle.simplex_views.specs.Views.{Keeps, AtEach};
 
 use crate::views::Views;
-use simplex_round::Token;
+use simplex_history::Token;
 use simplex_rules::Elector;
 use simplex_tracking::Notice;
 use simplex_types::{Digest, Proposal, Scheme, View};

@@ -1,11 +1,11 @@
 //! What a voter builds, and what it finds good.
 
 ghost use Rattle.std.specs.Prelude.{◌≡◌, ◌↔◌, if◌then◌else◌, false, ◌∷◌, is_some, IsTrue, IfOk, OnOk, MatchOption};
-ghost use Rattle.simplex_round.specs.Held.{held, Agrees, IsUnverified};
-ghost use Rattle.simplex_round.specs.Past.{offers, has_nullified, MayPropose};
+ghost use Rattle.simplex_history.specs.Held.{held, Agrees, IsUnverified};
+ghost use Rattle.simplex_history.specs.Past.{offers, has_nullified, MayPropose};
 ghost use Rattle.simplex_round.specs.Round.{IsLeader};
-ghost use Rattle.simplex_views.specs.History.{build_asked, build_released, built, confirmed, seen, unbound};
-ghost use Rattle.simplex_views.specs.Leaders.{leader};
+ghost use Rattle.simplex_history.specs.History.{build_asked, build_released, built, confirmed, seen, unbound};
+ghost use Rattle.simplex_history.specs.Leaders.{leader};
 ghost use Rattle.simplex_views.specs.Views.{Keeps, AtEach, round_of};
 
 use crate::views::Views;

@@ -4,10 +4,10 @@ ghost use Rattle.std.specs.Prelude.{◌≡◌, ◌↔◌, ◌<◌, ◌≤◌, �
 ghost use Rattle.std.specs.Option.{option_or};
 ghost use Rattle.std.specs.Ordering.{nat_cmp};
 ghost use Rattle.std.specs.BTreeMap.{get};
-ghost use Rattle.simplex_round.specs.Past as past;
+ghost use Rattle.simplex_history.specs.Past as past;
 ghost use Rattle.simplex_round.specs.Round as one;
 ghost use Rattle.simplex_types.specs.Positions.{term_end};
-ghost use Rattle.simplex_views.specs.History.{last_finalized, pruned};
+ghost use Rattle.simplex_history.specs.History.{last_finalized, pruned};
 ghost use Rattle.simplex_tracking.specs.Tracked as many;
 ghost use Rattle.simplex_tracking.specs.Tracked.{Holds, forgotten};
 ghost use Rattle.simplex_views.specs.Views.{Keeps, AreDropped, AreTrackedBelow, AtEach, kept_from};

@@ -1,9 +1,9 @@
 //! What a voter takes in from the record of its member.
 
 ghost use Rattle.std.specs.Prelude.{◌≡◌, ◌↔◌, Bool, ◌∷◌, IsTrue, OnOk};
-ghost use Rattle.simplex_round.specs.Held.{held, Agrees};
-ghost use Rattle.simplex_round.specs.Past.{offers};
-ghost use Rattle.simplex_views.specs.History.{seen, undecided_payload};
+ghost use Rattle.simplex_history.specs.Held.{held, Agrees};
+ghost use Rattle.simplex_history.specs.Past.{offers};
+ghost use Rattle.simplex_history.specs.History.{seen, undecided_payload};
 ghost use Rattle.simplex_tracking.specs.Rounds.{Takes};
 ghost use Rattle.simplex_views.specs.Views.{Keeps, AtEach, recalls};
 

@@ -2,8 +2,8 @@
 
 ghost use Rattle.std.specs.Prelude.{◌≡◌, if◌then◌else◌, ◌∷◌, None, IfOk, is_some};
 ghost use Rattle.simplex_rules.specs.declared.kind.Kind.TheVariants as kind;
-ghost use Rattle.simplex_round.specs.Past as past;
-ghost use Rattle.simplex_views.specs.History.{sent, seen};
+ghost use Rattle.simplex_history.specs.Past as past;
+ghost use Rattle.simplex_history.specs.History.{sent, seen};
 ghost use Rattle.simplex_views.specs.Views.{Keeps, AtEach};
 
 use crate::views::Views;

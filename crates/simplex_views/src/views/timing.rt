@@ -1,12 +1,12 @@
 //! When a voter gives a view up.
 
 ghost use Rattle.std.specs.Prelude.{◌≡◌, ◌+◌, ◌^◌, ◌<◌, if◌then◌else◌, nat_lt, ◌∷◌, None, IfOk, OnOk};
-ghost use Rattle.simplex_round.specs.Past as past;
-ghost use Rattle.simplex_views.specs.History.{current, latched, polled, seen};
+ghost use Rattle.simplex_history.specs.Past as past;
+ghost use Rattle.simplex_history.specs.History.{current, latched, polled, seen};
 ghost use Rattle.simplex_views.specs.Views.{Keeps, AtEach};
 
 use crate::views::Views;
-use simplex_round::TimeoutReason;
+use simplex_history::TimeoutReason;
 use simplex_rules::Elector;
 use simplex_tracking::Notice;
 use simplex_types::{Digest, Scheme, View};

@@ -1,9 +1,9 @@
 //! What a voter votes.
 
 ghost use Rattle.std.specs.Prelude.{◌≡◌, if◌then◌else◌, ◌∷◌, Some, None, is_some, IfOk, MatchOption};
-ghost use Rattle.simplex_round.specs.Held.{held};
-ghost use Rattle.simplex_round.specs.Past.{offers, has_finalized, has_nullified, MayNotarize, MayFinalize};
-ghost use Rattle.simplex_views.specs.History.{seen, voted_finalize, voted_notarize, voted_nullify};
+ghost use Rattle.simplex_history.specs.Held.{held};
+ghost use Rattle.simplex_history.specs.Past.{offers, has_finalized, has_nullified, MayNotarize, MayFinalize};
+ghost use Rattle.simplex_history.specs.History.{seen, voted_finalize, voted_notarize, voted_nullify};
 ghost use Rattle.simplex_views.specs.Views.{Keeps, AtEach};
 
 use crate::views::Views;

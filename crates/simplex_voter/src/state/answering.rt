@@ -1,18 +1,17 @@
 //! What a voter's application answers of proposals.
 
 ghost use Rattle.std.specs.Prelude.{◌≡◌, ◌↔◌, ◌⊎◌, if◌then◌else◌, false, ◌∷◌, IsTrue, IfOk, OnOk};
-ghost use Rattle.simplex_round.specs.Held.{IsUnverified};
-ghost use Rattle.simplex_round.specs.Past.{offers, has_nullified};
-ghost use Rattle.simplex_views.specs.History.{certify_asked, confirmed, latched, seen, unbound};
-ghost use Rattle.simplex_views.specs.Known.{known};
-ghost use Rattle.simplex_due.specs.Ancestry.{IsSteady, member};
-ghost use Rattle.simplex_due.specs.Due.{MayLatch};
+ghost use Rattle.simplex_history.specs.Held.{IsUnverified};
+ghost use Rattle.simplex_history.specs.Past.{offers, has_nullified};
+ghost use Rattle.simplex_history.specs.History.{certify_asked, confirmed, latched, seen, unbound};
+ghost use Rattle.simplex_history.specs.Known.{known};
+ghost use Rattle.simplex_decisions.specs.Ancestry.{IsSteady, member};
+ghost use Rattle.simplex_decisions.specs.Due.{MayLatch};
 ghost use Rattle.simplex_voter.specs.State.{AtEach, Keeps};
 
 use crate::state::State;
-use simplex_due::ancestry::is_steady;
-use simplex_facts::Facts;
-use simplex_round::{TimeoutReason, Token};
+use simplex_decisions::ancestry::is_steady;
+use simplex_history::{TimeoutReason, Token};
 use simplex_rules::Elector;
 use simplex_types::{Digest, Scheme, View};
 use std::alloc::AllocError;
@@ -61,7 +60,7 @@ impl<S: Scheme<D> + Drop, L: Elector<S, D>, D: Digest> State<S, L, D> {
     fn is_steady(&self, view: View) -> bool
         ensures { AtEach S.Scheme L.Elector self.now (λ s h. IsTrue result ↔ IsSteady (member s) (known s h) view) }
     {
-        is_steady(&Facts(&self.views), view)
+        is_steady(&self.views, view)
     }
 
     /// Takes it that a verdict on the view was asked for, under this name.

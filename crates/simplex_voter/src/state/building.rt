@@ -2,17 +2,17 @@
 
 ghost use Rattle.std.specs.Prelude.{◌≡◌, ◌↔◌, ℕ, ◌∷◌, Some, IfSome, IsTrue, MatchOption};
 ghost use Rattle.simplex_rules.specs.Windows.{AdmitsOutbound};
-ghost use Rattle.simplex_views.specs.History.{build_asked, current};
-ghost use Rattle.simplex_views.specs.Known.{known};
-ghost use Rattle.simplex_due.specs.Ancestry.{member};
-ghost use Rattle.simplex_facts.specs.Building.{IsPrepared, context_of};
-ghost use Rattle.simplex_due.specs.Requests.{BuildIsDue, IsFirstBuild, IsHandoff, NoBuildIsDue};
+ghost use Rattle.simplex_history.specs.History.{build_asked, current};
+ghost use Rattle.simplex_history.specs.Known.{known};
+ghost use Rattle.simplex_decisions.specs.Ancestry.{member};
+ghost use Rattle.simplex_decisions.specs.Building.{IsPrepared, context_of};
+ghost use Rattle.simplex_decisions.specs.Requests.{BuildIsDue, IsFirstBuild, IsHandoff, NoBuildIsDue};
 ghost use Rattle.simplex_voter.specs.Building.{IsContextOf};
 ghost use Rattle.simplex_voter.specs.State.{AtEach, Keeps};
 
 use crate::state::State;
-use simplex_due::requests::build_on;
-use simplex_facts::{Facts, ProposalRequest};
+use simplex_decisions::ProposalRequest;
+use simplex_decisions::requests::build_on;
 use simplex_rules::Elector;
 use simplex_types::{Context, Digest, Round, Scheme, View};
 
@@ -84,6 +84,6 @@ impl<S: Scheme<D> + Drop, L: Elector<S, D>, D: Digest> State<S, L, D> {
     fn build_on(&self, view: View) -> Option<(View, D)>
         ensures { AtEach S.Scheme L.Elector self.now (λ s h. MatchOption result ((parent : ℕ) (payload : D) → ¬ BuildIsDue (member s) (known s h) view parent payload) (λ x. BuildIsDue (member s) (known s h) view x.0 x.1)) }
     {
-        build_on(&Facts(&self.views), view)
+        build_on(&self.views, view)
     }
 }

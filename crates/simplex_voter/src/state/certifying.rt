@@ -5,17 +5,17 @@ ghost use Rattle.std.specs.Prelude.{◌≡◌, ℕ, List, [], Contains, IsTrue, 
 ghost use Rattle.std.specs.Ordering.{nat_cmp};
 ghost use Rattle.std.specs.BTreeSet.{contains};
 ghost use Rattle.simplex_types.specs.declared.proposal.Proposal.{Proposal};
-ghost use Rattle.simplex_views.specs.Known.{known};
+ghost use Rattle.simplex_history.specs.Known.{known};
 ghost use Rattle.simplex_views.specs.Views as above;
-ghost use Rattle.simplex_due.specs.Ancestry.{member};
-ghost use Rattle.simplex_due.specs.Requests.{AreReady, ArePutOff};
-ghost use Rattle.simplex_due.specs.declared.requests.CertifyRequest.TheVariants as request;
+ghost use Rattle.simplex_decisions.specs.Ancestry.{member};
+ghost use Rattle.simplex_decisions.specs.Requests.{AreReady, ArePutOff};
+ghost use Rattle.simplex_decisions.specs.declared.requests.CertifyRequest.TheVariants as request;
 ghost use Rattle.simplex_voter.specs.Candidates.{Adds, AreAll, AreAmong, AreWanted, IsWoken, put_off};
 ghost use Rattle.simplex_voter.specs.State.{AtEach, Keeps};
 
 use crate::state::State;
-use simplex_due::requests::{CertifyRequest, verdict_for};
-use simplex_facts::{CertificateFetch, Facts};
+use simplex_decisions::CertificateFetch;
+use simplex_decisions::requests::{CertifyRequest, verdict_for};
 use simplex_rules::Elector;
 use simplex_types::{Digest, Proposal, Scheme, View, Viewable};
 use simplex_views::Views;
@@ -115,7 +115,7 @@ fn look_at<S: Scheme<D> + Drop, L: Elector<S, D>, D: Digest>(
     let mut found = Verdicts::new(alloc);
     let mut rest = candidates;
     while let Some(view) = rest.pop_first() {
-        found.add(view, verdict_for(&Facts(views), view))?;
+        found.add(view, verdict_for(views, view))?;
     }
     Ok(found)
 }

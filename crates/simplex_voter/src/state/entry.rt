@@ -2,7 +2,7 @@
 
 ghost use Rattle.std.specs.Prelude.{◌≡◌, ◌==◌, ◌<◌, if◌then◌else◌, IfOk, None, option_copied};
 ghost use Rattle.simplex_types.specs.Positions.{term_start};
-ghost use Rattle.simplex_due.specs.Answers.{best_certificate, covering_nullification, entry_certificate};
+ghost use Rattle.simplex_decisions.specs.Answers.{best_certificate, covering_nullification, entry_certificate};
 ghost use Rattle.simplex_voter.specs.State.{AtEach};
 
 use crate::state::State;

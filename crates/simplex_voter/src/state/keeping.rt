@@ -2,7 +2,7 @@
 
 ghost use Rattle.std.specs.Prelude.{◌≡◌, Bool, ◌∷◌, IfOk, OnOk};
 ghost use Rattle.simplex_tracking.specs.Rounds.{Takes};
-ghost use Rattle.simplex_views.specs.History.{pruned, seen};
+ghost use Rattle.simplex_history.specs.History.{pruned, seen};
 ghost use Rattle.simplex_views.specs.Views.{AreDropped, recalls};
 ghost use Rattle.simplex_voter.specs.State.{AtEach, Keeps};
 

@@ -2,11 +2,11 @@
 
 ghost use Rattle.std.specs.Prelude.{◌≡◌, ◌↔◌, if◌then◌else◌, false, true, ◌∷◌, None, IsTrue, IfOk, OnOk, is_some, option_map};
 ghost use Rattle.simplex_types.specs.Positions.{HasRoom};
-ghost use Rattle.simplex_round.specs.Held.{held, Agrees, Differs};
-ghost use Rattle.simplex_round.specs.Past.{offers, has_nullified};
-ghost use Rattle.simplex_round.specs.Past as past;
-ghost use Rattle.simplex_views.specs.History.{started, notarized, nullified, finalized, judged, forwarded, nullification, seen};
-ghost use Rattle.simplex_views.specs.Leaders.{leader};
+ghost use Rattle.simplex_history.specs.Held.{held, Agrees, Differs};
+ghost use Rattle.simplex_history.specs.Past.{offers, has_nullified};
+ghost use Rattle.simplex_history.specs.Past as past;
+ghost use Rattle.simplex_history.specs.History.{started, notarized, nullified, finalized, judged, forwarded, nullification, seen};
+ghost use Rattle.simplex_history.specs.Leaders.{leader};
 ghost use Rattle.simplex_views.specs.Progress.{InTime};
 ghost use Rattle.simplex_voter.specs.State.{AtEach, Keeps};
 

@@ -1,20 +1,19 @@
 //! What a voter builds.
 
 ghost use Rattle.std.specs.Prelude.{◌≡◌, ◌↔◌, if◌then◌else◌, false, ◌∷◌, IsTrue, IfOk, OnOk};
-ghost use Rattle.simplex_round.specs.Held.{held, Agrees};
-ghost use Rattle.simplex_round.specs.Past.{offers, has_nullified};
-ghost use Rattle.simplex_views.specs.History.{build_released, built, seen};
-ghost use Rattle.simplex_views.specs.Known.{known};
-ghost use Rattle.simplex_due.specs.Ancestry.{member};
-ghost use Rattle.simplex_due.specs.Requests.{IsCaptured, IsSuperseded, StopsHandoff};
+ghost use Rattle.simplex_history.specs.Held.{held, Agrees};
+ghost use Rattle.simplex_history.specs.Past.{offers, has_nullified};
+ghost use Rattle.simplex_history.specs.History.{build_released, built, seen};
+ghost use Rattle.simplex_history.specs.Known.{known};
+ghost use Rattle.simplex_decisions.specs.Ancestry.{member};
+ghost use Rattle.simplex_decisions.specs.Requests.{IsCaptured, IsSuperseded, StopsHandoff};
 ghost use Rattle.simplex_voter.specs.Building.{proposal_on};
 ghost use Rattle.simplex_voter.specs.State.{AtEach, Keeps};
 
 use crate::state::State;
 use crate::state::certifying::wake;
-use simplex_due::ancestry::{allows_parent, preferred_parent, prefers};
-use simplex_facts::Facts;
-use simplex_round::HandoffAbandonedReason;
+use simplex_decisions::ancestry::{allows_parent, preferred_parent, prefers};
+use simplex_history::HandoffAbandonedReason;
 use simplex_rules::Elector;
 use simplex_types::{Context, Digest, Proposal, Scheme, View};
 use std::alloc::AllocError;
@@ -48,10 +47,10 @@ impl<S: Scheme<D> + Drop, L: Elector<S, D>, D: Digest> State<S, L, D> {
     fn is_captured(&self, view: View, parent: View, payload: D) -> bool
         ensures { AtEach S.Scheme L.Elector self.now (λ s h. IsTrue result ↔ IsCaptured (member s) (known s h) view parent payload) }
     {
-        if prefers(&Facts(&self.views), view, parent, payload) {
+        if prefers(&self.views, view, parent, payload) {
             return true;
         }
-        allows_parent(&Facts(&self.views), view, parent, payload)
+        allows_parent(&self.views, view, parent, payload)
     }
 
     /// Gives the build back that was asked for in the view.
@@ -94,7 +93,7 @@ impl<S: Scheme<D> + Drop, L: Elector<S, D>, D: Digest> State<S, L, D> {
         if self.is_captured(view, parent, payload) {
             return false;
         }
-        preferred_parent(&Facts(&self.views), view).is_some()
+        preferred_parent(&self.views, view).is_some()
     }
 
     /// Why a handoff that was asked for in this context is to stop: never where the parent is explicit with its payload; else since the

@@ -7,7 +7,7 @@ ghost use Rattle.simplex_voter.specs.State.{AtEach};
 
 use crate::state::State;
 use simplex_certificates::Finalization;
-use simplex_facts::Floor;
+use simplex_decisions::Floor;
 use simplex_rules::Elector;
 use simplex_types::{Digest, Scheme, Viewable};
 use std::alloc::{AllocError, Global};

@@ -2,15 +2,15 @@
 
 ghost use Rattle.std.specs.Prelude.{◌≡◌, ◌↔◌, ◌+◌, ◌-◌, ◌^◌, ◌<◌, if◌then◌else◌, nat_lt, ℕ, ◌∷◌, None, is_some, IsTrue, IfOk, OnOk};
 ghost use Rattle.std.specs.Option.{option_or};
-ghost use Rattle.simplex_round.specs.Past as past;
-ghost use Rattle.simplex_views.specs.History.{current, latched, polled, seen};
-ghost use Rattle.simplex_due.specs.Due.{MayLatch, first_from, has_budget, oldest_entered, term_deadline, timeout};
+ghost use Rattle.simplex_history.specs.Past as past;
+ghost use Rattle.simplex_history.specs.History.{current, latched, polled, seen};
+ghost use Rattle.simplex_decisions.specs.Due.{MayLatch, first_from, has_budget, oldest_entered, term_deadline, timeout};
 ghost use Rattle.simplex_voter.specs.State.{AtEach, Keeps};
 ghost use Rattle.simplex_voter.specs.Timing.{MayStall};
 
 use crate::state::State;
-use simplex_due::timing::{earlier, has_budget};
-use simplex_round::TimeoutReason;
+use simplex_decisions::timing::{earlier, has_budget};
+use simplex_history::TimeoutReason;
 use simplex_rules::Elector;
 use simplex_types::{Digest, Scheme, View};
 use std::alloc::AllocError;

@@ -1,19 +1,20 @@
 //! What a voter asks for, to judge the proposals of others.
 
 ghost use Rattle.std.specs.Prelude.{◌≡◌, ℕ, IfOk, MatchOption, None};
-ghost use Rattle.simplex_views.specs.Known.{known};
-ghost use Rattle.simplex_views.specs.Leaders.{leader};
-ghost use Rattle.simplex_due.specs.Ancestry.{member};
-ghost use Rattle.simplex_due.specs.Asking.{Finds};
+ghost use Rattle.simplex_history.specs.Known.{known};
+ghost use Rattle.simplex_history.specs.Leaders.{leader};
+ghost use Rattle.simplex_decisions.specs.Ancestry.{member};
+ghost use Rattle.simplex_decisions.specs.Asking.{Finds};
 ghost use Rattle.simplex_voter.specs.State.{AtEach, Keeps};
 ghost use Rattle.simplex_voter.specs.Verifying.{Answers, Asks, BehindLook, IsKeyOfLeader, IsWanted, Passes, PassesAll};
 
 use crate::state::State;
+use crate::verify::Verify;
 use crate::wanted::Wanted;
-use simplex_due::requests::{VerifyRequest, request_for};
-use simplex_facts::{Facts, Verify, a_look_leaves_nothing_to_ask};
+use simplex_decisions::requests::{VerifyRequest, request_for};
+use simplex_history::TimeoutReason;
+use simplex_laws::a_look_leaves_nothing_to_ask;
 use simplex_resolver::Kind;
-use simplex_round::TimeoutReason;
 use simplex_rules::Elector;
 use simplex_types::{Context, Digest, Round, Scheme, View};
 use std::alloc::AllocError;
@@ -89,7 +90,7 @@ impl<S: Scheme<D> + Drop, L: Elector<S, D>, D: Digest> State<S, L, D> {
     fn request_for(&self, view: View) -> VerifyRequest<D>
         ensures { AtEach S.Scheme L.Elector self.now (λ s h. Finds (member s) (known s h) view result) }
     {
-        request_for(&Facts(&self.views), view)
+        request_for(&self.views, view)
     }
 
     /// Asks for what is wanted for the view's proposal, and puts that down.

@@ -3,19 +3,18 @@
 ghost use Rattle.std.specs.Prelude.{◌≡◌, ◌↔◌, ◌<◌, ◌∷◌, if◌then◌else◌, is_some, IsSome, IsTrue, IfOk, MatchOption};
 ghost use Rattle.simplex_types.specs.Positions.{HasRoom};
 ghost use Rattle.simplex_types.specs.Subject.{notarize, finalize};
-ghost use Rattle.simplex_round.specs.Past.{has_nullified};
-ghost use Rattle.simplex_views.specs.History.{current, seen, voted_finalize, voted_notarize, voted_nullify};
-ghost use Rattle.simplex_views.specs.Known.{known};
-ghost use Rattle.simplex_due.specs.Ancestry.{held_at, member};
-ghost use Rattle.simplex_due.specs.Due.{FinalizeIsDue, MayGiveUp, NotarizeIsDue};
+ghost use Rattle.simplex_history.specs.Past.{has_nullified};
+ghost use Rattle.simplex_history.specs.History.{current, seen, voted_finalize, voted_notarize, voted_nullify};
+ghost use Rattle.simplex_history.specs.Known.{known};
+ghost use Rattle.simplex_decisions.specs.Ancestry.{held_at, member};
+ghost use Rattle.simplex_decisions.specs.Due.{FinalizeIsDue, MayGiveUp, NotarizeIsDue};
 ghost use Rattle.simplex_voter.specs.State.{AtEach, Keeps};
 ghost use Rattle.simplex_voter.specs.Votes.{IsOwn, IsOwnNullify};
 
 use crate::state::State;
 use simplex_certificates::{Finalize, Notarize, Nullify};
-use simplex_due::votes::{finalize_is_due, notarize_is_due};
-use simplex_facts::Facts;
-use simplex_round::TimeoutReason;
+use simplex_decisions::votes::{finalize_is_due, notarize_is_due};
+use simplex_history::TimeoutReason;
 use simplex_rules::Elector;
 use simplex_types::{Digest, Round, Scheme, View};
 use std::alloc::AllocError;
@@ -46,7 +45,7 @@ impl<S: Scheme<D> + Drop, L: Elector<S, D>, D: Digest> State<S, L, D> {
     fn notarize_is_due(&self, view: View) -> bool
         ensures { AtEach S.Scheme L.Elector self.now (λ s h. IsTrue result ↔ NotarizeIsDue (member s) (known s h) view) }
     {
-        notarize_is_due(&Facts(&self.views), view)
+        notarize_is_due(&self.views, view)
     }
 
     /// Votes to finalize the held proposal of the view, where that is due. Else nothing changes. Without a key nothing is voted.
@@ -70,7 +69,7 @@ impl<S: Scheme<D> + Drop, L: Elector<S, D>, D: Digest> State<S, L, D> {
     fn finalize_is_due(&self, view: View) -> bool
         ensures { AtEach S.Scheme L.Elector self.now (λ s h. IsTrue result ↔ FinalizeIsDue (member s) (known s h) view) }
     {
-        finalize_is_due(&Facts(&self.views), view)
+        finalize_is_due(&self.views, view)
     }
 
     /// Votes to give the view up, where it is the current one and this member voted no finalize for it: whether it voted so before, with the

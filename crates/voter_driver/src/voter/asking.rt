@@ -3,7 +3,7 @@
 use crate::reading::{last_context, last_payload, last_view};
 use crate::voter::Voter;
 use script_words::{Committee, Say, Trouble, Words};
-use simplex_round::HandoffAbandonedReason;
+use simplex_history::HandoffAbandonedReason;
 use simplex_rules::Elector;
 use simplex_types::{PlainKey, Scheme, Sha256Digest};
 use simplex_voter::ProposalRequest;

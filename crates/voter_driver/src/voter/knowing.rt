@@ -72,10 +72,10 @@ impl<S: Committee + Scheme<Sha256Digest, PublicKey = PlainKey>, L: Elector<S, Sh
         say: &mut Say,
     ) -> Result<(), Trouble> {
         match name {
-            "epoch" => alone(words, say, self.state.epoch().get()),
+            "epoch" => alone(words, say, self.state.views().epoch().get()),
             "current_view" => alone(words, say, self.state.current_view().get()),
             "last_finalized" => alone(words, say, self.state.last_finalized().get()),
-            "min_active" => alone(words, say, self.state.min_active().get()),
+            "min_active" => alone(words, say, self.state.views().min_active().get()),
             "get_best_certificate" => {
                 words.end()?;
                 helped(say, self.state.get_best_certificate(say.alloc)?)
@@ -87,9 +87,11 @@ impl<S: Committee + Scheme<Sha256Digest, PublicKey = PlainKey>, L: Elector<S, Sh
     /// Who leads a view, which messages of it are taken, and how far it has come.
     fn course(&mut self, name: &str, words: &mut Words<'_>, say: &mut Say) -> Result<(), Trouble> {
         match name {
-            "leader_index" => leader(say, self.state.leader_index(last_view(words)?)),
-            "admits_vote" => say.truth(self.state.admits_vote(last_view(words)?)),
-            "admits_certificate" => say.truth(self.state.admits_certificate(last_view(words)?)),
+            "leader_index" => leader(say, self.state.views().leader_index(last_view(words)?)),
+            "admits_vote" => say.truth(self.state.views().admits_vote(last_view(words)?)),
+            "admits_certificate" => say.truth(
+                self.state.views().admits_certificate(last_view(words)?),
+            ),
             "voted_nullify" => say.truth(self.state.voted_nullify(last_view(words)?)),
             "elapsed_since_start" => {
                 let (now, view) = moment(words)?;
@@ -106,11 +108,17 @@ impl<S: Committee + Scheme<Sha256Digest, PublicKey = PlainKey>, L: Elector<S, Sh
     /// What is kept of a view, and of this member.
     fn kept(&mut self, name: &str, words: &mut Words<'_>, say: &mut Say) -> Result<(), Trouble> {
         match name {
-            "notarization" => say.notarization_or(self.state.notarization(last_view(words)?)),
-            "nullification" => say.nullification_or(self.state.nullification(last_view(words)?)),
-            "finalization" => say.finalization_or(self.state.finalization(last_view(words)?)),
+            "notarization" => say.notarization_or(
+                self.state.views().notarization(last_view(words)?),
+            ),
+            "nullification" => say.nullification_or(
+                self.state.views().nullification(last_view(words)?),
+            ),
+            "finalization" => say.finalization_or(
+                self.state.views().finalization(last_view(words)?),
+            ),
             "forwardable_proposal" => {
-                say.proposal_or(self.state.forwardable_proposal(last_view(words)?))
+                say.proposal_or(self.state.views().forwardable_proposal(last_view(words)?))
             }
             "parent_certified" => {
                 let view = words.view()?;
@@ -119,7 +127,7 @@ impl<S: Committee + Scheme<Sha256Digest, PublicKey = PlainKey>, L: Elector<S, Sh
             "is_me" => {
                 let index = words.member()?;
                 words.end()?;
-                say.truth(self.state.is_me(index))
+                say.truth(self.state.views().is_me(index))
             }
             _ => self.sent(name, words, say),
         }

@@ -3,7 +3,7 @@
 use crate::reading::{last_number, last_reason, last_view};
 use crate::voter::Voter;
 use script_words::{Committee, Say, Trouble, Words};
-use simplex_round::Token;
+use simplex_history::Token;
 use simplex_rules::Elector;
 use simplex_types::{PlainKey, Proposal, Scheme, Sha256Digest};
 use simplex_voter::{CertificateFetch, Verify};

@@ -5,7 +5,7 @@ use crate::voter::Voter;
 use script_certificates::SayCertificates;
 use script_words::{Committee, Say, Trouble, Words};
 use simplex_certificates::{Finalize, Notarize, Nullify};
-use simplex_round::TimeoutReason;
+use simplex_history::TimeoutReason;
 use simplex_rules::Elector;
 use simplex_types::{PlainKey, Scheme, Sha256Digest};
 

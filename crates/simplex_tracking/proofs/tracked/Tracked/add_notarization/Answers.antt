@@ -1,7 +1,7 @@
 use Rattle.std.proofs.Common.{refl}
-use Rattle.simplex_round.specs.Past.{notarized}
-use Rattle.simplex_tracking.specs.declared.sign.Sign.TheVariants as sign
-use Rattle.simplex_tracking.specs.Pasts.{bears}
+use Rattle.simplex_history.specs.Past.{notarized}
+use Rattle.simplex_history.specs.declared.sign.Sign.TheVariants as sign
+use Rattle.simplex_history.specs.Pasts.{bears}
 use Rattle.simplex_tracking.specs.Rounds.{setup_of}
 use Rattle.simplex_tracking.specs.Tracked.{Holds}
 use Rattle.simplex_tracking.proofs.Choices.{none_is}

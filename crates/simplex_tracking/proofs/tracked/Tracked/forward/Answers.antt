@@ -1,7 +1,7 @@
 use Rattle.std.proofs.Common.{refl}
-use Rattle.simplex_round.specs.Held as offer
-use Rattle.simplex_round.specs.Past as past
-use Rattle.simplex_round.specs.Past.{has_nullified}
+use Rattle.simplex_history.specs.Held as offer
+use Rattle.simplex_history.specs.Past as past
+use Rattle.simplex_history.specs.Past.{has_nullified}
 use Rattle.simplex_tracking.specs.Rounds.{setup_of}
 use Rattle.simplex_tracking.specs.Tracked.{Holds}
 use Rattle.simplex_tracking.proofs.Forwarding.{offered-tables, offered-closed}

@@ -1,8 +1,8 @@
 use Rattle.std.proofs.Common.{◌≡◌, refl}
 use Rattle.std.specs.Prelude.{is_some, not, ◌&&◌}
-use Rattle.simplex_round.specs.Past.{judged, verdict}
-use Rattle.simplex_tracking.specs.declared.sign.Sign.TheVariants as sign
-use Rattle.simplex_tracking.specs.Pasts.{bears}
+use Rattle.simplex_history.specs.Past.{judged, verdict}
+use Rattle.simplex_history.specs.declared.sign.Sign.TheVariants as sign
+use Rattle.simplex_history.specs.Pasts.{bears}
 use Rattle.simplex_tracking.specs.Rounds.{setup_of}
 use Rattle.simplex_tracking.specs.Tracked.{Holds}
 use Rattle.simplex_tracking.proofs.Lent.{lent-put}

@@ -1,5 +1,5 @@
 use Rattle.std.proofs.Common.{◌+◌, refl}
-use Rattle.simplex_round.specs.Past.{polled}
+use Rattle.simplex_history.specs.Past.{polled}
 use Rattle.simplex_tracking.specs.Rounds.{setup_of}
 use Rattle.simplex_tracking.specs.Tracked.{Holds}
 use Rattle.simplex_tracking.proofs.Growing.{plain-kept, put-plain, still-plain}

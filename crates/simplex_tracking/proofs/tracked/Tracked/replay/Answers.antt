@@ -1,7 +1,7 @@
 use Rattle.std.proofs.Common.{true, false}
 use Rattle.std.proofs.lemmas.Result.{MatchResult-weaker}
-use Rattle.simplex_tracking.specs.declared.sign.Sign.TheVariants as sign
-use Rattle.simplex_tracking.specs.Pasts.{bears}
+use Rattle.simplex_history.specs.declared.sign.Sign.TheVariants as sign
+use Rattle.simplex_history.specs.Pasts.{bears}
 use Rattle.simplex_tracking.specs.Tracked.{Holds}
 use Rattle.simplex_tracking.proofs.Growing.{plain-kept, recalled-plain}
 use Rattle.simplex_tracking.proofs.Showing.{nullified-shown}

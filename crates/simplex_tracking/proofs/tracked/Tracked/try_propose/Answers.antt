@@ -1,7 +1,7 @@
 use Rattle.std.proofs.Common.{refl}
 use Rattle.std.specs.Prelude.{is_some}
-use Rattle.simplex_round.specs.Held.{building}
-use Rattle.simplex_round.specs.Past.{offered}
+use Rattle.simplex_history.specs.Held.{building}
+use Rattle.simplex_history.specs.Past.{offered}
 use Rattle.simplex_tracking.specs.Rounds.{setup_of}
 use Rattle.simplex_tracking.specs.Tracked.{Holds}
 use Rattle.simplex_tracking.proofs.Growing.{either-plain, plain-kept, put-plain, still-plain}

@@ -1,6 +1,6 @@
 use Rattle.std.proofs.Common.{refl}
-use Rattle.simplex_round.specs.Held.{confirmed}
-use Rattle.simplex_round.specs.Past.{has_nullified, offered}
+use Rattle.simplex_history.specs.Held.{confirmed}
+use Rattle.simplex_history.specs.Past.{has_nullified, offered}
 use Rattle.simplex_tracking.specs.Rounds.{setup_of}
 use Rattle.simplex_tracking.specs.Tracked.{Holds}
 use Rattle.simplex_tracking.proofs.Growing.{either-plain, plain-kept, put-plain, still-plain}

@@ -1,12 +1,12 @@
 use Rattle.std.proofs.Common.{refl, ap, sym, subst, ◌∙◌, ◌≡◌, ◌+◌}
 use Rattle.std.specs.Prelude.{Some, None}
-use Rattle.simplex_round.specs.Held.{held, Agrees, Differs}
-use Rattle.simplex_round.specs.Past as past
-use Rattle.simplex_tracking.specs.Pasts.{put}
+use Rattle.simplex_history.specs.Held.{held, Agrees, Differs}
+use Rattle.simplex_history.specs.Past as past
+use Rattle.simplex_history.specs.Pasts.{put}
 use Rattle.simplex_views.proofs.Advancing.{grown-tables}
 use Rattle.simplex_views.proofs.Choices.{fresh_at}
 use Rattle.simplex_views.proofs.Learning.{behind-one, elected, elected-member, finalized-closed, finalized-kept, inside, inside-finalization, inside-offers, room_at}
-use Rattle.simplex_views.specs.History.{current, seen}
+use Rattle.simplex_history.specs.History.{current, seen}
 use Rattle.simplex_views.specs.Progress.{frame_of, tables}
 use Rattle.simplex_views.specs.Views.{Keeps}
 use Rattle.simplex_views.proofs.views.Views.add_finalization.Goals as goal

@@ -4,12 +4,12 @@ use Rattle.std.specs.Ordering.{nat_cmp}
 use Rattle.std.specs.BTreeMap.{get}
 use Rattle.simplex_types.specs.Positions.{next_term_start, term_end}
 use Rattle.simplex_rules.specs.Spans.{term_end-above}
-use Rattle.simplex_round.specs.Past as past
-use Rattle.simplex_tracking.specs.Pasts.{put}
+use Rattle.simplex_history.specs.Past as past
+use Rattle.simplex_history.specs.Pasts.{put}
 use Rattle.simplex_views.proofs.Advancing.{grown-tables}
 use Rattle.simplex_views.proofs.Choices.{fresh_at, or_neither}
 use Rattle.simplex_views.proofs.Learning.{elected, elected-member, end_at, inside, inside-nullification, next_term-some, nullified-closed, nullified-kept, room_at, start_at}
-use Rattle.simplex_views.specs.History.{current, nullification, seen}
+use Rattle.simplex_history.specs.History.{current, nullification, seen}
 use Rattle.simplex_views.specs.Progress.{frame_of, tables}
 use Rattle.simplex_views.specs.Views.{Keeps}
 use Rattle.simplex_views.proofs.views.Views.add_nullification.Goals as goal

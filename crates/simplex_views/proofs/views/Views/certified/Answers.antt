@@ -1,5 +1,5 @@
-use Rattle.simplex_round.specs.Past as past
-use Rattle.simplex_views.specs.History.{seen}
+use Rattle.simplex_history.specs.Past as past
+use Rattle.simplex_history.specs.History.{seen}
 use Rattle.simplex_views.specs.Views.{Keeps}
 use Rattle.simplex_views.proofs.Choices.{found_copy}
 use Rattle.simplex_views.proofs.views.Views.certified.Goals as goal

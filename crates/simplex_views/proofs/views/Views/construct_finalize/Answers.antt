@@ -1,8 +1,8 @@
 use Rattle.std.proofs.Common.{refl}
-use Rattle.simplex_round.specs.Past as past
-use Rattle.simplex_views.specs.History as History
-use Rattle.simplex_tracking.specs.Pasts.{put}
-use Rattle.simplex_views.specs.History.{seen}
+use Rattle.simplex_history.specs.Past as past
+use Rattle.simplex_history.specs.History as History
+use Rattle.simplex_history.specs.Pasts.{put}
+use Rattle.simplex_history.specs.History.{seen}
 use Rattle.simplex_views.specs.Progress.{frame_of, tables}
 use Rattle.simplex_views.specs.Views.{Keeps}
 use Rattle.simplex_views.proofs.Stepping.{finalize-quiet, quiet-option}

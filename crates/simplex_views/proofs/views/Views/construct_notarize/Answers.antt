@@ -1,9 +1,9 @@
 use Rattle.std.proofs.Common.{refl, ◌∷◌}
-use Rattle.simplex_round.specs.Past as past
-use Rattle.simplex_views.specs.History as History
-use Rattle.simplex_tracking.specs.Pasts.{is_direct, put}
-use Rattle.simplex_views.specs.History.{is_marked, seen}
-use Rattle.simplex_views.specs.Known.{backs}
+use Rattle.simplex_history.specs.Past as past
+use Rattle.simplex_history.specs.History as History
+use Rattle.simplex_history.specs.Pasts.{is_direct, put}
+use Rattle.simplex_history.specs.History.{is_marked, seen}
+use Rattle.simplex_history.specs.Known.{backs}
 use Rattle.simplex_views.specs.Progress.{frame_of, tables}
 use Rattle.simplex_tracking.specs.Tracked.{Holds}
 use Rattle.simplex_views.specs.Views.{Keeps}

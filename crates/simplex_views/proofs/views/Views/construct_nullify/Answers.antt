@@ -1,7 +1,7 @@
 use Rattle.std.proofs.Common.{refl}
 use Rattle.std.specs.Prelude.{is_some}
 use Rattle.std.proofs.lemmas.Result.{MatchResult-weaker}
-use Rattle.simplex_views.specs.History as History
+use Rattle.simplex_history.specs.History as History
 use Rattle.simplex_views.specs.Progress.{frame_of, tables}
 use Rattle.simplex_views.specs.Views.{Keeps}
 use Rattle.simplex_views.proofs.Stepping.{nullify-quiet, quiet-if}

@@ -1,5 +1,5 @@
 use Rattle.std.specs.Prelude.{is_some}
-use Rattle.simplex_views.specs.History.{nullification}
+use Rattle.simplex_history.specs.History.{nullification}
 use Rattle.simplex_views.specs.Views.{Keeps}
 use Rattle.simplex_views.proofs.Covering.{highest_covering}
 use Rattle.simplex_views.proofs.views.Views.covering_nullification.Goals as goal

@@ -6,7 +6,7 @@ use Rattle.simplex_views.proofs.views.Views.new.Goals as goal
 
 pub returns : goal.returns
 unfolding Keeps
-returns g c = λ retry budget.
+returns g c =
     let length : c.new.result.length ≡ (g.L.Elector.terms_of c.args.elector).length = c.new.ensures.length ∙ ap (λ (t : Timing). t.length) c.terms-terms.ensures in
     let optimistic : c.new.result.optimistic_views ≡ (g.L.Elector.terms_of c.args.elector).optimistic_views = c.new.ensures.optimistic_views ∙ ap (λ (t : Timing). t.optimistic_views) c.terms-terms.ensures in
     record {

@@ -2,7 +2,7 @@ use Rattle.std.proofs.Common.{◌≡◌, ◌+◌, refl, sym, subst}
 use Rattle.std.proofs.lemmas.Result.{MatchResult-weaker}
 use Rattle.simplex_views.proofs.Advancing.{grown-tables}
 use Rattle.simplex_views.proofs.Choices.{is-not}
-use Rattle.simplex_views.specs.History as History
+use Rattle.simplex_history.specs.History as History
 use Rattle.simplex_views.specs.Progress.{frame_of, tables}
 use Rattle.simplex_tracking.specs.Tracked.{Holds}
 use Rattle.simplex_views.specs.Views.{Keeps}

@@ -1,10 +1,10 @@
 use Rattle.std.proofs.Common.{ap, sym, ◌∙◌}
 use Rattle.std.specs.BTreeMap.{get}
 use Rattle.std.specs.Ordering.{nat_cmp}
-use Rattle.simplex_round.specs.Past as past
+use Rattle.simplex_history.specs.Past as past
 use Rattle.simplex_views.proofs.Choices.{found_first, found_second}
-use Rattle.simplex_views.specs.History.{nullification, seen}
-use Rattle.simplex_views.specs.Leaders.{leader}
+use Rattle.simplex_history.specs.History.{nullification, seen}
+use Rattle.simplex_history.specs.Leaders.{leader}
 use Rattle.simplex_views.specs.Progress.{frame_of, tables}
 use Rattle.simplex_views.specs.Views.{Keeps, round_of}
 use Rattle.simplex_views.proofs.views.Views.nullification.Goals as goal

@@ -3,10 +3,10 @@ use Rattle.std.specs.Prelude.{is_some}
 use Rattle.std.specs.Ordering.{nat_cmp}
 use Rattle.std.specs.BTreeMap.{get}
 use Rattle.std.proofs.lemmas.Result.{MatchResult-weaker}
-use Rattle.simplex_views.specs.History as History
+use Rattle.simplex_history.specs.History as History
 use Rattle.simplex_types.specs.Positions.{term_end}
-use Rattle.simplex_views.specs.History.{is_marked, last_finalized, min_active, nullification, seen}
-use Rattle.simplex_views.specs.Known.{backs, waits}
+use Rattle.simplex_history.specs.History.{is_marked, last_finalized, min_active, nullification, seen}
+use Rattle.simplex_history.specs.Known.{backs, waits}
 use Rattle.simplex_views.specs.Progress.{frame_of, tables}
 use Rattle.simplex_views.specs.Views.{Keeps}
 use Rattle.simplex_tracking.specs.Laws.{Shows-same}

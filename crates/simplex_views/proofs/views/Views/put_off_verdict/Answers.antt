@@ -1,7 +1,7 @@
 use Rattle.std.proofs.lemmas.Result.{MatchResult-weaker}
-use Rattle.simplex_views.specs.History as History
-use Rattle.simplex_views.specs.History.{current, is_marked}
-use Rattle.simplex_views.specs.Known.{waits}
+use Rattle.simplex_history.specs.History as History
+use Rattle.simplex_history.specs.History.{current, is_marked}
+use Rattle.simplex_history.specs.Known.{waits}
 use Rattle.simplex_views.specs.Views.{Keeps}
 use Rattle.simplex_views.proofs.Stepping.{still-kept, unled-progress, waited-still, waited-unled}
 use Rattle.simplex_views.proofs.views.Views.put_off_verdict.Goals as goal

@@ -1,9 +1,9 @@
 use Rattle.std.proofs.Common.{◌≡◌, true, false, ◌∷◌, subst}
 use Rattle.std.proofs.lemmas.Result.{MatchResult-weaker}
 use Rattle.simplex_views.proofs.Advancing.{grown-tables}
-use Rattle.simplex_views.specs.History as History
-use Rattle.simplex_views.specs.History.{is_marked}
-use Rattle.simplex_views.specs.Known.{backs}
+use Rattle.simplex_history.specs.History as History
+use Rattle.simplex_history.specs.History.{is_marked}
+use Rattle.simplex_history.specs.Known.{backs}
 use Rattle.simplex_tracking.specs.Marks.{Shows}
 use Rattle.simplex_tracking.specs.Tracked.{Holds}
 use Rattle.simplex_views.specs.Progress.{frame_of, tables}

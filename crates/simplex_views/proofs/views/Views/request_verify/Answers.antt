@@ -1,5 +1,5 @@
 use Rattle.std.proofs.Common.{refl}
-use Rattle.simplex_views.specs.History as History
+use Rattle.simplex_history.specs.History as History
 use Rattle.simplex_views.specs.Progress.{frame_of, tables}
 use Rattle.simplex_views.specs.Views.{Keeps}
 use Rattle.simplex_views.proofs.Stepping.{quiet-if, verify_asked-quiet}

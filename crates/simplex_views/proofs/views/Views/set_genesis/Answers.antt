@@ -2,7 +2,7 @@ use Rattle.std.proofs.Common.{ap, ◌∙◌, ◌≡◌, ◌+◌}
 use Rattle.std.specs.Prelude.{None}
 use Rattle.simplex_views.proofs.Advancing.{grown-tables}
 use Rattle.simplex_views.proofs.Learning.{behind-one, elected, elected-member, inside, started-closed, started-kept}
-use Rattle.simplex_views.specs.History.{current}
+use Rattle.simplex_history.specs.History.{current}
 use Rattle.simplex_views.specs.Progress.{frame_of, tables}
 use Rattle.simplex_views.specs.Views.{Keeps}
 use Rattle.simplex_views.proofs.views.Views.set_genesis.Goals as goal

@@ -1,11 +1,11 @@
 use Rattle.std.proofs.Common.{refl, ◌∷◌}
 use Rattle.std.proofs.lemmas.Result.{MatchResult-weaker}
-use Rattle.simplex_round.specs.Held as offer
-use Rattle.simplex_round.specs.Past as past
-use Rattle.simplex_round.specs.Past.{has_nullified}
-use Rattle.simplex_tracking.specs.Pasts.{put}
-use Rattle.simplex_views.specs.History as History
-use Rattle.simplex_views.specs.History.{seen}
+use Rattle.simplex_history.specs.Held as offer
+use Rattle.simplex_history.specs.Past as past
+use Rattle.simplex_history.specs.Past.{has_nullified}
+use Rattle.simplex_history.specs.Pasts.{put}
+use Rattle.simplex_history.specs.History as History
+use Rattle.simplex_history.specs.History.{seen}
 use Rattle.simplex_views.specs.Progress.{frame_of, tables}
 use Rattle.simplex_views.specs.Views.{Keeps}
 use Rattle.simplex_views.proofs.Following.{leader-closed}

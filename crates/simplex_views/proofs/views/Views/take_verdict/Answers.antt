@@ -1,14 +1,14 @@
 use Rattle.std.proofs.Common.{◌≡◌, false, subst, ◌∷◌}
 use Rattle.std.specs.Prelude.{nat_le}
 use Rattle.std.proofs.lemmas.Result.{MatchResult-weaker}
-use Rattle.simplex_round.specs.Past as past
-use Rattle.simplex_tracking.specs.Pasts.{put}
+use Rattle.simplex_history.specs.Past as past
+use Rattle.simplex_history.specs.Pasts.{put}
 use Rattle.simplex_tracking.specs.Tracked.{Holds}
 use Rattle.simplex_views.proofs.Advancing.{IsAt-tracked, grown-tables}
 use Rattle.simplex_views.proofs.Choices.{isnt_before, is_before}
 use Rattle.simplex_views.proofs.Stepping.{quiet, quiet-progress, judged-quiet, judged-ahead, judged-behind, judged-stays, judged-true}
-use Rattle.simplex_views.specs.History as History
-use Rattle.simplex_views.specs.History.{current, seen}
+use Rattle.simplex_history.specs.History as History
+use Rattle.simplex_history.specs.History.{current, seen}
 use Rattle.simplex_views.specs.Progress.{frame_of, tables}
 use Rattle.simplex_views.specs.Views.{Keeps}
 use Rattle.simplex_views.proofs.views.Views.take_verdict.Goals as goal

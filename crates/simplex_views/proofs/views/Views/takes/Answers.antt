@@ -1,10 +1,10 @@
 use Rattle.std.proofs.Common.{sym, subst}
 use Rattle.std.specs.Prelude.{IsTrue, ◌↔◌}
-use Rattle.simplex_round.specs.Held.{held, Agrees}
-use Rattle.simplex_round.specs.Past.{offers}
+use Rattle.simplex_history.specs.Held.{held, Agrees}
+use Rattle.simplex_history.specs.Past.{offers}
 use Rattle.simplex_views.proofs.Choices.{held_at, is-one}
-use Rattle.simplex_views.specs.History.{seen}
-use Rattle.simplex_views.specs.Leaders.{leader}
+use Rattle.simplex_history.specs.History.{seen}
+use Rattle.simplex_history.specs.Leaders.{leader}
 use Rattle.simplex_views.specs.Progress.{frame_of, tables}
 use Rattle.simplex_views.specs.Views.{Keeps, round_of}
 use Rattle.simplex_views.proofs.views.Views.takes.Goals as goal

@@ -1,6 +1,6 @@
 use Rattle.std.specs.BTreeMap.{get}
 use Rattle.std.specs.Ordering.{nat_cmp}
-use Rattle.simplex_round.specs.Past as past
+use Rattle.simplex_history.specs.Past as past
 use Rattle.simplex_views.proofs.Choices.{found_copy, found_none}
 use Rattle.simplex_views.proofs.Pruning.{kept-new, unkept-before, unkept-none, unkept-there}
 use Rattle.simplex_views.proofs.views.pruning.keep_one.Goals as goal

@@ -1,7 +1,7 @@
 use Rattle.std.proofs.Common.{sym, ap}
 use Rattle.std.specs.Prelude.{Some}
 use Rattle.std.proofs.lemmas.Result.{IfOk-weaker}
-use Rattle.simplex_views.specs.History.{notarized}
+use Rattle.simplex_history.specs.History.{notarized}
 use Rattle.simplex_voter.specs.State.{Keeps}
 use Rattle.simplex_voter.proofs.Keeping.{keeps_woken_if}
 use Rattle.simplex_voter.proofs.state.State.add_notarization.Goals as goal

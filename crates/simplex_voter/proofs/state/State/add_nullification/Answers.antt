@@ -1,6 +1,6 @@
 use Rattle.std.proofs.Common.{refl}
 use Rattle.std.proofs.lemmas.Result.{IfOk-weaker}
-use Rattle.simplex_views.specs.History.{nullified}
+use Rattle.simplex_history.specs.History.{nullified}
 use Rattle.simplex_voter.specs.State.{Keeps}
 use Rattle.simplex_voter.proofs.Keeping.{keeps_still_if}
 use Rattle.simplex_voter.proofs.state.State.add_nullification.Goals as goal

@@ -1,10 +1,10 @@
 use Rattle.std.proofs.Common.{◌≡◌, true, ◌∙◌, refl}
 use Rattle.std.specs.Prelude.{None}
-use Rattle.simplex_views.specs.History.{ancestry_asked, verify_asked}
-use Rattle.simplex_views.specs.Known.{known}
-use Rattle.simplex_views.specs.Leaders.{leader}
-use Rattle.simplex_due.specs.Ancestry.{member}
-use Rattle.simplex_due.specs.Requests.{VerifyIsDue}
+use Rattle.simplex_history.specs.History.{ancestry_asked, verify_asked}
+use Rattle.simplex_history.specs.Known.{known}
+use Rattle.simplex_history.specs.Leaders.{leader}
+use Rattle.simplex_decisions.specs.Ancestry.{member}
+use Rattle.simplex_decisions.specs.Requests.{VerifyIsDue}
 use Rattle.simplex_voter.specs.State.{Keeps}
 use Rattle.simplex_voter.proofs.Waking.{stays}
 use Rattle.simplex_voter.proofs.Wanting.{may_verify, wanted_led}

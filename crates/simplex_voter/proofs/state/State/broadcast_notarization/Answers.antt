@@ -2,7 +2,7 @@ use Rattle.std.proofs.Common.{refl}
 use Rattle.std.specs.Prelude.{is_some}
 use Rattle.std.proofs.lemmas.Result.{IfOk-weaker}
 use Rattle.simplex_rules.specs.declared.kind.Kind.TheVariants as kind
-use Rattle.simplex_views.specs.History.{sent}
+use Rattle.simplex_history.specs.History.{sent}
 use Rattle.simplex_voter.specs.State.{Keeps}
 use Rattle.simplex_voter.proofs.Keeping.{keeps_still_if}
 use Rattle.simplex_voter.proofs.state.State.broadcast_notarization.Goals as goal

@@ -1,4 +1,4 @@
-use Rattle.simplex_facts.specs.Facts.{at}
+use Rattle.simplex_views.specs.Knowledge.{at}
 use Rattle.simplex_voter.specs.State.{Keeps}
 use Rattle.simplex_voter.proofs.state.State.build_on.Goals as goal
 

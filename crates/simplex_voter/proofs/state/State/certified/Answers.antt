@@ -1,7 +1,7 @@
 use Rattle.std.proofs.Common.{refl}
 use Rattle.std.specs.Prelude.{is_some}
 use Rattle.std.proofs.lemmas.Result.{IfOk-weaker}
-use Rattle.simplex_views.specs.History.{judged}
+use Rattle.simplex_history.specs.History.{judged}
 use Rattle.simplex_voter.specs.State.{Keeps}
 use Rattle.simplex_voter.proofs.Keeping.{keeps_woken_if}
 use Rattle.simplex_voter.proofs.state.State.certified.Goals as goal

@@ -3,9 +3,9 @@ use Rattle.std.specs.Prelude.{Some}
 use Rattle.std.proofs.lemmas.Bool.{both_ways}
 use Rattle.std.proofs.lemmas.Option.{IfSome_then}
 use Rattle.simplex_types.specs.Subject.{finalize}
-use Rattle.simplex_round.specs.Held.{held}
-use Rattle.simplex_round.specs.Past.{offers}
-use Rattle.simplex_views.specs.History.{seen, voted_finalize}
+use Rattle.simplex_history.specs.Held.{held}
+use Rattle.simplex_history.specs.Past.{offers}
+use Rattle.simplex_history.specs.History.{seen, voted_finalize}
 use Rattle.simplex_voter.specs.State.{Keeps}
 use Rattle.simplex_voter.proofs.Casting.{casts, keyless, may_finalize, signs}
 use Rattle.simplex_voter.proofs.Keeping.{keeps_still}

@@ -4,9 +4,9 @@ use Rattle.std.proofs.lemmas.Bool.{both_ways}
 use Rattle.std.proofs.lemmas.Option.{IfSome_then}
 use Rattle.std.proofs.lemmas.Result.{IfOk-from_err}
 use Rattle.simplex_types.specs.Subject.{notarize}
-use Rattle.simplex_round.specs.Held.{held}
-use Rattle.simplex_round.specs.Past.{offers}
-use Rattle.simplex_views.specs.History.{seen, voted_notarize}
+use Rattle.simplex_history.specs.Held.{held}
+use Rattle.simplex_history.specs.Past.{offers}
+use Rattle.simplex_history.specs.History.{seen, voted_notarize}
 use Rattle.simplex_voter.specs.State.{Keeps}
 use Rattle.simplex_voter.proofs.Casting.{casts, keyless, signs}
 use Rattle.simplex_voter.proofs.Keeping.{keeps_still}

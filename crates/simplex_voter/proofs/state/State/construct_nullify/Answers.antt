@@ -1,6 +1,6 @@
 use Rattle.std.proofs.Common.{◌∙◌, refl}
 use Rattle.std.proofs.lemmas.Result.{IfOk-from_err}
-use Rattle.simplex_views.specs.History.{voted_nullify}
+use Rattle.simplex_history.specs.History.{voted_nullify}
 use Rattle.simplex_voter.specs.State.{Keeps}
 use Rattle.simplex_voter.proofs.Casting.{casts_nullify, gives_up, is_decided, stays_up, unsigned}
 use Rattle.simplex_voter.proofs.Keeping.{keeps_still}

@@ -1,9 +1,9 @@
 use Rattle.std.proofs.Common.{◌<◌, ◌≤◌, ◌+◌, ◌-◌, ◌^◌, sym, ◌∙◌, arith}
 use Rattle.std.specs.Prelude.{is_some}
 use Rattle.std.proofs.lemmas.Bool.Decides.{nat_tests}
-use Rattle.simplex_round.specs.Past.{entered_at}
-use Rattle.simplex_views.specs.History.{seen}
-use Rattle.simplex_views.specs.Leaders.{leader}
+use Rattle.simplex_history.specs.Past.{entered_at}
+use Rattle.simplex_history.specs.History.{seen}
+use Rattle.simplex_history.specs.Leaders.{leader}
 use Rattle.simplex_voter.specs.State.{Keeps}
 use Rattle.simplex_voter.proofs.Entries.{first_from-is, first_from-none, unentered_through, unentered_up}
 use Rattle.simplex_voter.proofs.state.State.first_entered.Goals as goal

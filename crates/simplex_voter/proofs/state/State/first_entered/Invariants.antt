@@ -1,7 +1,7 @@
 use Rattle.std.proofs.Common.{◌≡◌, ◌≤◌, ◌<◌, ◌+◌, ◌-◌, ℕ, false, List}
 use Rattle.std.specs.Prelude.{is_some}
-use Rattle.simplex_round.specs.Past as past
-use Rattle.simplex_views.specs.History.{Setup, Point, seen}
+use Rattle.simplex_history.specs.Past as past
+use Rattle.simplex_history.specs.History.{Setup, Point, seen}
 use Rattle.simplex_voter.specs.State.{Keeps}
 use Rattle.simplex_voter.proofs.state.State.first_entered.Given as goal
 

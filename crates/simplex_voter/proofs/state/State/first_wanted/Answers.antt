@@ -1,7 +1,7 @@
 use Rattle.std.proofs.Common.{◌≡◌, ◌+◌, ◌^◌, sym, subst, arith}
 use Rattle.std.proofs.lemmas.Bool.{both_ways}
 use Rattle.simplex_rules.specs.Windows.{AdmitsOutbound}
-use Rattle.simplex_due.specs.Requests.{begun}
+use Rattle.simplex_decisions.specs.Requests.{begun}
 use Rattle.simplex_voter.specs.State.{Keeps}
 use Rattle.simplex_voter.proofs.Looking.{looked_from, looked_to, looks_on, passes_all, passes_last, passes_rest, whole_before}
 use Rattle.simplex_voter.proofs.state.State.first_wanted.Goals as goal

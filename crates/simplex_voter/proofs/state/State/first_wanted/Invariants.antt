@@ -1,5 +1,5 @@
 use Rattle.std.proofs.Common.{◌≤◌, ◌-◌, ◌^◌, List}
-use Rattle.simplex_views.specs.History.{Setup, Point, current}
+use Rattle.simplex_history.specs.History.{Setup, Point, current}
 use Rattle.simplex_voter.specs.State.{Keeps}
 use Rattle.simplex_voter.proofs.Looking.{Looked}
 use Rattle.simplex_voter.proofs.state.State.first_wanted.Given as goal

@@ -1,4 +1,4 @@
-use Rattle.simplex_views.specs.History.{current}
+use Rattle.simplex_history.specs.History.{current}
 use Rattle.simplex_voter.specs.State.{Keeps}
 use Rattle.simplex_voter.proofs.Casting.{is_there, not_at_start, not_elsewhere}
 use Rattle.simplex_voter.proofs.state.State.is_current.Goals as goal

@@ -1,6 +1,6 @@
 use Rattle.std.proofs.Common.{inl, inr, refl}
-use Rattle.simplex_round.specs.declared.timeout_reason.TimeoutReason.TheVariants as reason
-use Rattle.simplex_views.specs.History.{latched}
+use Rattle.simplex_history.specs.declared.timeout_reason.TimeoutReason.TheVariants as reason
+use Rattle.simplex_history.specs.History.{latched}
 use Rattle.simplex_voter.specs.State.{Keeps}
 use Rattle.simplex_voter.proofs.Waking.{stays}
 use Rattle.simplex_voter.proofs.state.State.look.Goals as goal

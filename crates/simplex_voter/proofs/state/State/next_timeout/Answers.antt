@@ -1,7 +1,7 @@
 use Rattle.std.proofs.Common.{◌+◌, ap, refl, sym}
 use Rattle.std.proofs.lemmas.Bool.{both_ways}
 use Rattle.std.proofs.lemmas.Result.{IfOk-from_err}
-use Rattle.simplex_views.specs.History.{polled}
+use Rattle.simplex_history.specs.History.{polled}
 use Rattle.std.specs.Prelude.{◌∷◌}
 use Rattle.simplex_voter.specs.State.{Keeps}
 use Rattle.simplex_voter.proofs.Keeping.{keeps_still}

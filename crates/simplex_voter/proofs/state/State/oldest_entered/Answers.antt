@@ -1,7 +1,7 @@
 use Rattle.std.proofs.Common.{◌≡◌, ◌+◌, max, arith}
 use Rattle.std.proofs.lemmas.Grind.{common_steps}
 use Rattle.simplex_types.specs.Positions.{term_start}
-use Rattle.simplex_views.specs.History.{current, last_finalized}
+use Rattle.simplex_history.specs.History.{current, last_finalized}
 use Rattle.simplex_voter.specs.State.{Keeps}
 use Rattle.simplex_voter.proofs.Stalling.{behind_is}
 use Rattle.simplex_voter.proofs.state.State.oldest_entered.Goals as goal

@@ -4,9 +4,9 @@ use Rattle.std.proofs.lemmas.Bool.{both_ways}
 use Rattle.std.proofs.lemmas.Result.{IfOk-weaker}
 use Rattle.simplex_types.specs.declared.context.Context.{Context}
 use Rattle.simplex_types.specs.declared.proposal.Proposal.{Proposal}
-use Rattle.simplex_round.specs.Held.{Agrees, held}
-use Rattle.simplex_round.specs.Past.{has_nullified, offers}
-use Rattle.simplex_views.specs.History.{built, seen}
+use Rattle.simplex_history.specs.Held.{Agrees, held}
+use Rattle.simplex_history.specs.Past.{has_nullified, offers}
+use Rattle.simplex_history.specs.History.{built, seen}
 use Rattle.simplex_views.specs.Views as above
 use Rattle.simplex_voter.specs.Building.{proposal_on}
 use Rattle.simplex_voter.specs.State.{Keeps}

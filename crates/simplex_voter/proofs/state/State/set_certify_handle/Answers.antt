@@ -1,6 +1,6 @@
 use Rattle.std.proofs.Common.{refl}
 use Rattle.std.proofs.lemmas.Result.{on_ok_weaker}
-use Rattle.simplex_views.specs.History.{certify_asked}
+use Rattle.simplex_history.specs.History.{certify_asked}
 use Rattle.simplex_voter.specs.State.{Keeps}
 use Rattle.simplex_voter.proofs.Keeping.{keeps_still}
 use Rattle.simplex_voter.proofs.state.State.set_certify_handle.Goals as goal

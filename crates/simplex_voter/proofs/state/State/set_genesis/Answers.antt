@@ -1,7 +1,7 @@
 use Rattle.std.proofs.Common.{sym, ◌∙◌}
 use Rattle.std.proofs.lemmas.Option.{same_Some}
 use Rattle.std.proofs.lemmas.Result.{on_ok_weaker}
-use Rattle.simplex_views.specs.History.{started}
+use Rattle.simplex_history.specs.History.{started}
 use Rattle.simplex_voter.specs.State.{Keeps}
 use Rattle.simplex_voter.proofs.Keeping.{keeps_woken}
 use Rattle.simplex_voter.proofs.state.State.set_genesis.Goals as goal

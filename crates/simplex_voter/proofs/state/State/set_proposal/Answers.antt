@@ -1,7 +1,7 @@
 use Rattle.std.proofs.Common.{sym}
 use Rattle.std.proofs.lemmas.Option.{same_Some}
 use Rattle.std.proofs.lemmas.Result.{IfOk-weaker, on_ok_weaker}
-use Rattle.simplex_views.specs.History.{forwarded}
+use Rattle.simplex_history.specs.History.{forwarded}
 use Rattle.simplex_voter.specs.State.{Keeps}
 use Rattle.simplex_voter.proofs.Keeping.{keeps_woken}
 use Rattle.simplex_voter.proofs.state.State.set_proposal.Goals as goal

@@ -1,6 +1,6 @@
 use Rattle.std.proofs.Common.{◌∙◌}
 use Rattle.std.specs.Prelude.{None}
-use Rattle.simplex_due.specs.Answers.{covering_nullification}
+use Rattle.simplex_decisions.specs.Answers.{covering_nullification}
 use Rattle.simplex_types.specs.Positions.{term_start}
 use Rattle.simplex_voter.specs.State.{Keeps}
 use Rattle.simplex_voter.proofs.Entering.{covering_is, where_not, where_starts}

@@ -1,6 +1,6 @@
 use Rattle.std.proofs.Common.{◌≡◌, ◌∷◌, inl, inr, true, false, Bool, subst, if◌then◌else◌}
 use Rattle.std.proofs.lemmas.Bool.{cases_Bool}
-use Rattle.simplex_views.specs.History.{finalized}
+use Rattle.simplex_history.specs.History.{finalized}
 use Rattle.simplex_voter.specs.Floor.{HandsOut}
 use Rattle.simplex_voter.specs.State.{Keeps}
 use Rattle.simplex_voter.proofs.Keeping.{both_of}

@@ -1,5 +1,5 @@
 use Rattle.std.proofs.Common.{◌∙◌, ◌∷◌, refl}
-use Rattle.simplex_views.specs.History.{build_asked}
+use Rattle.simplex_history.specs.History.{build_asked}
 use Rattle.simplex_voter.specs.State.{Keeps}
 use Rattle.simplex_voter.proofs.Waking.{stays}
 use Rattle.simplex_voter.proofs.Wanting.{may_propose}

@@ -1,9 +1,9 @@
 use Rattle.std.proofs.Common.{ℕ, List}
 use Rattle.std.specs.BTreeSet.{btree_set_len}
-use Rattle.simplex_views.specs.History.{Setup, Point}
-use Rattle.simplex_views.specs.Known.{known}
+use Rattle.simplex_history.specs.History.{Setup, Point}
+use Rattle.simplex_history.specs.Known.{known}
 use Rattle.simplex_views.specs.Views.{Keeps}
-use Rattle.simplex_due.specs.Ancestry.{member}
+use Rattle.simplex_decisions.specs.Ancestry.{member}
 use Rattle.simplex_voter.specs.Candidates.{AreAmong}
 use Rattle.simplex_voter.proofs.Sorting.{IsLookedAt}
 use Rattle.simplex_voter.proofs.state.certifying.look_at.Given as goal

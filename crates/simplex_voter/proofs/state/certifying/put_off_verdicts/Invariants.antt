@@ -1,5 +1,5 @@
 use Rattle.std.proofs.Common.{List, take}
-use Rattle.simplex_views.specs.History.{Setup, Point}
+use Rattle.simplex_history.specs.History.{Setup, Point}
 use Rattle.simplex_views.specs.Views.{Keeps}
 use Rattle.simplex_voter.specs.Candidates.{put_off}
 use Rattle.simplex_voter.proofs.state.certifying.put_off_verdicts.Given as goal

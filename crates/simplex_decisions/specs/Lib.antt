@@ -1,0 +1,10 @@
+pub mod Ancestry
+pub mod Answers
+pub mod Asking
+pub mod Building
+pub mod Configuring
+pub mod Due
+pub mod Floor
+pub mod Knowing
+pub mod Laws
+pub mod Requests

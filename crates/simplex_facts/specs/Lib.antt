@@ -1,4 +1,0 @@
-pub mod Building
-pub mod Facts
-pub mod Floor
-pub mod Matching

@@ -1,0 +1,8 @@
+pub mod Handing
+pub mod Held
+pub mod History
+pub mod Known
+pub mod Leaders
+pub mod Past
+pub mod Pasts
+pub mod Reasons

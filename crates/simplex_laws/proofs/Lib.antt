@@ -1,0 +1,10 @@
+mod Agreeing
+mod Closed
+mod Grounding
+mod Growing
+mod Matched
+mod Pruning
+mod Quiet
+mod Recordable
+mod Steady
+mod Windowing

@@ -1,0 +1,10 @@
+//! What follows from the definitions of what a voter knows, and of what is due by it.
+#![tactic(auto)]
+
+mod laws;
+
+pub use laws::{
+    a_latch_changes_nothing_due, a_look_leaves_nothing_to_ask, a_prune_changes_nothing_due,
+    what_is_due_may_be_recorded, what_is_due_stands_on_ground, what_is_known_is_recorded,
+    windows_are_one,
+};

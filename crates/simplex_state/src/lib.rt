@@ -1,4 +1,0 @@
-//! How a member of a committee is set up.
-#![tactic(auto)]
-
-pub mod config;
