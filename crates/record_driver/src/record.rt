@@ -3,8 +3,9 @@
 use script_certificates::CertificateWords;
 use script_words::{Committee, Say, Trouble, Words};
 use simplex_certificates::Artifact;
-use simplex_record::{Owner, Standing, first_refused};
-use simplex_types::{PlainScheme, Sha256Digest};
+use simplex_record::{Owner, Standing, check, first_refused};
+use simplex_rules::Kind;
+use simplex_types::{PlainScheme, Sha256Digest, Viewable};
 use std::alloc::Global;
 
 /// An artifact under the plain scheme.
@@ -78,14 +79,59 @@ impl Record {
         say.truth(self.standing.allows(self.owner.term_length, &item))
     }
 
-    /// `add ARTIFACT`: adds it to those, where the rules allow it.
+    /// `add ARTIFACT`: adds it to those, where the rules allow it, or where its view has no room.
     fn add(&mut self, words: &mut Words<'_>, say: &mut Say) -> Result<(), Trouble> {
         let item = self.artifact(words, say.alloc)?;
-        if !self.standing.allows(self.owner.term_length, &item) {
+        let length = self.owner.term_length;
+        if !self.standing.allows(length, &item) && item.view().has_room(length) {
             return Err(Trouble::Condition);
         }
-        self.standing.add(self.owner.term_length, &item)?;
-        say.ok()
+        let taken = self.standing.add(length, &item)?;
+        say.truth(taken)
+    }
+
+    /// `check`: the same as `first_refused`; where the list is lawful, it is what was added.
+    fn check(&mut self, words: &Words<'_>, say: &mut Say) -> Result<(), Trouble> {
+        words.end()?;
+        match check(say.alloc, &self.scheme, self.owner, &self.artifacts)? {
+            Ok(standing) => {
+                self.standing = standing;
+                say.none()
+            }
+            Err(position) => say.number(position as u64),
+        }
+    }
+
+    /// `verdict VIEW`: the verdict on the view of those that were added, or `-`.
+    fn verdict(&self, words: &mut Words<'_>, say: &mut Say) -> Result<(), Trouble> {
+        let view = words.view()?;
+        words.end()?;
+        match self.standing.verdict(view) {
+            Some(verdict) => say.truth(verdict),
+            None => say.none(),
+        }
+    }
+
+    /// `has_certificate KIND VIEW`: whether one of the kind and view was added.
+    fn has_certificate(&self, words: &mut Words<'_>, say: &mut Say) -> Result<(), Trouble> {
+        let kind = match words.word() {
+            "notarization" => Kind::Notarization,
+            "nullification" => Kind::Nullification,
+            "finalization" => Kind::Finalization,
+            _ => return Err(Trouble::Unreadable),
+        };
+        let view = words.view()?;
+        words.end()?;
+        say.truth(self.standing.has_certificate(kind, view))
+    }
+
+    /// `last_nullify`: how many were added before the last own nullify, or `-`.
+    fn last_nullify(&self, words: &Words<'_>, say: &mut Say) -> Result<(), Trouble> {
+        words.end()?;
+        match self.standing.last_nullify() {
+            Some(place) => say.number(place as u64),
+            None => say.none(),
+        }
     }
 
     /// The calls of a record.
@@ -101,6 +147,17 @@ impl Record {
             "first_refused" => self.first_refused(words, say),
             "allows" => self.allows(words, say),
             "add" => self.add(words, say),
+            "check" => self.check(words, say),
+            _ => self.asked(name, words, say),
+        }
+    }
+
+    /// Those that ask what was added.
+    fn asked(&self, name: &str, words: &mut Words<'_>, say: &mut Say) -> Result<(), Trouble> {
+        match name {
+            "verdict" => self.verdict(words, say),
+            "has_certificate" => self.has_certificate(words, say),
+            "last_nullify" => self.last_nullify(words, say),
             _ => Err(Trouble::Unreadable),
         }
     }

@@ -20,7 +20,7 @@ use Rattle.simplex_record.specs.declared.votes.Votes.{Votes}
 use Rattle.simplex_record.specs.Coverage as coverage
 use Rattle.simplex_record.specs.Record.{Entry, voted, taken, judged, HasTaken, HasJudged, IsCovered, finalizes, enters}
 use Rattle.simplex_record.specs.Rules.{AreAlike, MayTake, MayJudge}
-use Rattle.simplex_record.specs.Standing.{KeepsVotes, KeepsCertificates, KeepsVerdicts, Keeps}
+use Rattle.simplex_record.specs.Standing.{KeepsVotes, KeepsCertificates, KeepsVerdicts, KeepsViews}
 use Rattle.simplex_record.specs.Told.{told, notarized_at, nullified_at, finalized_at, vote_in, certificate_in, verdict_at}
 use Rattle.simplex_record.specs.Spans.{covers-span}
 use Rattle.simplex_record.proofs.AddingTold.{greatest-push, greatest-same, KeepsSet-same, KeepsSet-push, KeepsMap-same, KeepsMap-push}
@@ -290,10 +290,10 @@ module _ {D : Type 0} (map : BTreeMap ℕ Bool) (before : List (Entry D)) (keeps
 pub greater : (a b m : ℕ) → m ≡ ord_max nat_cmp a b → m ≡ max a b
 greater a b m is = grind (arith, nat_tests, is)
 
-module _ {D : Type 0} (views : ℕ) (standing : Standing D) (before : List (Entry D)) (keeps : Keeps views standing before) where
+module _ {D : Type 0} (views : ℕ) (standing : Standing D) (before : List (Entry D)) (keeps : KeepsViews views standing before) where
   -- a vote changes nothing but the votes
-  pub Keeps-voted : (s : Statement D) (votes : Votes) → KeepsVotes votes (before ++ voted s ∷ []) → Keeps views (record standing { votes = votes }) (before ++ voted s ∷ [])
-  Keeps-voted s votes kept = record {
+  pub KeepsViews-voted : (s : Statement D) (votes : Votes) → KeepsVotes votes (before ++ voted s ∷ []) → KeepsViews views (record standing { votes = votes }) (before ++ voted s ∷ [])
+  KeepsViews-voted s votes kept = record {
     votes = kept;
     certificates = KeepsCertificates-same views standing.certificates before keeps.certificates (voted s) (λ never. never);
     verdicts = KeepsVerdicts-same standing.verdicts before keeps.verdicts (voted s) (λ never. never);
@@ -302,10 +302,10 @@ module _ {D : Type 0} (views : ℕ) (standing : Standing D) (before : List (Entr
   }
 
   -- a certificate changes neither the votes nor the verdicts
-  pub Keeps-taken : (s : Statement D) (certificates : Certificates D) (last current : ℕ) → KeepsCertificates views certificates (before ++ taken s ∷ [])
+  pub KeepsViews-taken : (s : Statement D) (certificates : Certificates D) (last current : ℕ) → KeepsCertificates views certificates (before ++ taken s ∷ [])
       → last ≡ max standing.last_finalized (finalizes (taken s)) → current ≡ max standing.current_view (enters views (taken s))
-      → Keeps views (record standing { certificates = certificates; last_finalized = last; current_view = current }) (before ++ taken s ∷ [])
-  Keeps-taken s certificates last current kept last_is current_is = record {
+      → KeepsViews views (record standing { certificates = certificates; last_finalized = last; current_view = current }) (before ++ taken s ∷ [])
+  KeepsViews-taken s certificates last current kept last_is current_is = record {
     votes = KeepsVotes-same standing.votes before keeps.votes (taken s) (λ never. never);
     certificates = kept;
     verdicts = KeepsVerdicts-same standing.verdicts before keeps.verdicts (taken s) (λ never. never);
@@ -314,10 +314,10 @@ module _ {D : Type 0} (views : ℕ) (standing : Standing D) (before : List (Entr
   }
 
   -- a verdict changes the verdicts and the current view
-  pub Keeps-judged : (r : Round) (verdict : Bool) (verdicts : BTreeMap ℕ Bool) (current : ℕ) → KeepsVerdicts verdicts (before ++ judged r verdict ∷ [])
+  pub KeepsViews-judged : (r : Round) (verdict : Bool) (verdicts : BTreeMap ℕ Bool) (current : ℕ) → KeepsVerdicts verdicts (before ++ judged r verdict ∷ [])
       → current ≡ max standing.current_view (enters {D = D} views (judged r verdict))
-      → Keeps views (record standing { verdicts = verdicts; current_view = current }) (before ++ judged r verdict ∷ [])
-  Keeps-judged r verdict verdicts current kept current_is = record {
+      → KeepsViews views (record standing { verdicts = verdicts; current_view = current }) (before ++ judged r verdict ∷ [])
+  KeepsViews-judged r verdict verdicts current kept current_is = record {
     votes = KeepsVotes-same standing.votes before keeps.votes (judged r verdict) (λ never. never);
     certificates = KeepsCertificates-same views standing.certificates before keeps.certificates (judged r verdict) (λ never. never);
     verdicts = kept;

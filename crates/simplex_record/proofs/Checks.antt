@@ -8,8 +8,8 @@ use Rattle.simplex_certificates.specs.declared.artifact.Artifact.{Artifact}
 use Rattle.simplex_record.specs.declared.certificates.Certificates.{Certificates}
 use Rattle.simplex_record.specs.declared.owner.Owner.{Owner}
 use Rattle.simplex_record.specs.declared.standing.Standing.{Standing}
-use Rattle.simplex_record.specs.Record.{Entry, entry, entries}
-use Rattle.simplex_record.specs.Rules.{MayJudge}
+use Rattle.simplex_record.specs.Record.{Entry, voted, taken, judged, entry, entries}
+use Rattle.simplex_record.specs.Rules.{MayFollow, MayJudge, LeavesRoom}
 use Rattle.simplex_record.specs.Lawful.{Fits, IsLawful, IsRefusedAt}
 use Rattle.simplex_record.specs.Standing.{Keeps, KeepsCertificates}
 use Rattle.simplex_rules.specs.Spans.{term_end-le}
@@ -21,11 +21,11 @@ room-next views (suc v) some room = omega (arith, room, (term_end-le views v v s
 
 module _ {X : Type 0} where
   -- what stands at a place of a list with one more element stands there before, or is that element
-  record IsPushed (xs : List X) (x : X) (before : List X) (y : X) : Type 0 where
+  pub record IsPushed (xs : List X) (x : X) (before : List X) (y : X) : Type 0 where
     pub before_is : before ≡ xs
     pub is : y ≡ x
 
-  last_or_earlier : (xs : List X) (x : X) (before after : List X) (y : X) → xs ++ x ∷ [] ≡ before ++ y ∷ after → IsPushed xs x before y ⊎ ((rest : List X) × (xs ≡ before ++ y ∷ rest))
+  pub last_or_earlier : (xs : List X) (x : X) (before after : List X) (y : X) → xs ++ x ∷ [] ≡ before ++ y ∷ after → IsPushed xs x before y ⊎ ((rest : List X) × (xs ≡ before ++ y ∷ rest))
   last_or_earlier [] x [] after y same = inl (record { before_is = refl; is = sym (ap (λ (l : List X). get_or l 0 x) same) })
   last_or_earlier [] x (b ∷ before) after y same = absurd (omega (arith, ap length same, length-append before (y ∷ after)))
   last_or_earlier (z ∷ xs) x [] after y same = inr (xs, ap (λ (w : X). w ∷ xs) (ap (λ (l : List X). get_or l 0 z) same))
@@ -42,6 +42,12 @@ module _ {D : Type 0} where
   judged_room views certificates before keeps r may =
       let p = may.notarized in
       subst (λ (t : Round). HasRoom views t.view) p.1 (keeps.room (notarize p.0) p.2)
+
+  -- what may follow has room
+  pub follows_room : (views : ℕ) (standing : Standing D) (before : List (Entry D)) → Keeps views standing before → (e : Entry D) → MayFollow views before e → LeavesRoom views e
+  follows_room views standing before keeps (voted s) may = tt
+  follows_room views standing before keeps (taken s) may = may.room
+  follows_room views standing before keeps (judged r verdict) may = judged_room views standing.certificates before keeps.by_view.certificates r may
 
 module _ {S D P G C : Type 0} {attests : ℕ → Statement D → G → Type 0} {certifies : Statement D → C → Type 0} {owner : Owner} where
   -- an empty record is lawful
@@ -94,3 +100,7 @@ module _ {S D P G C : Type 0} {attests : ℕ → Statement D → G → Type 0} {
   -- and when nothing is left, all of it is lawful
   pub checked_all : (artifacts : List (Artifact S D P G C)) (standing : Standing D) → IsChecked attests certifies owner artifacts [] standing → IsLawful attests certifies owner artifacts
   checked_all artifacts standing so_far = subst (IsLawful attests certifies owner) (sym (so_far.is ∙ append-nil so_far.before)) so_far.lawful
+
+  -- and kept
+  pub kept_all : (artifacts : List (Artifact S D P G C)) (standing : Standing D) → IsChecked attests certifies owner artifacts [] standing → Keeps owner.term_length standing (entries artifacts)
+  kept_all artifacts standing so_far = subst (λ (l : List (Artifact S D P G C)). Keeps owner.term_length standing (entries l)) (sym (so_far.is ∙ append-nil so_far.before)) so_far.keeps

@@ -1,4 +1,4 @@
--- What the lawful record of one member says.
+-- What a member has recorded that votes lawfully.
 use Rattle.std.proofs.Common.{◌≡◌, ◌≢◌, ◌⊎◌, inl, inr, ⊎_elim, ℕ, ◌+◌, ◌<◌, ◌≤◌, true, List, ◌∷◌, ◌++◌, sym, ◌∙◌, ap, subst, arith, append_assoc}
 use Rattle.std.specs.Prelude.{⊤}
 use Rattle.std.specs.List.{Contains}
@@ -13,9 +13,9 @@ use Rattle.simplex_certificates.specs.declared.certificate.Certificate.TheVarian
 use Rattle.simplex_certificates.specs.Artifact.{certificate_artifact}
 use Rattle.simplex_certificates.specs.Certificate.{certificate_statement, certified_by}
 use Rattle.simplex_record.specs.Record.{Entry, voted, taken, judged, entry, entries, HasVoted, HasTaken, HasJudged, finalizes, last_finalized, enters, current_view, IsCovered}
-use Rattle.simplex_record.specs.Rules.{MayNotarize, MayNullify, MayFinalize, MayTake, MayFollow, MayEverFollow}
+use Rattle.simplex_record.specs.Rules.{MayNotarize, MayNullify, MayFinalize, StandsByVotes}
 use Rattle.simplex_record.specs.declared.owner.Owner.{Owner}
-use Rattle.simplex_record.specs.Lawful.{EverFits, IsLawful, IsEverLawful}
+use Rattle.simplex_record.specs.Lawful.{EverStands, VotesLawfully}
 use Rattle.simplex_record.proofs.Places.{two_places, Stands, stands, Contains-earlier, Contains-mapped, Contains-place}
 use Rattle.simplex_record.proofs.Figures.{greatest-at, greatest-found, term_start-some}
 
@@ -70,14 +70,12 @@ module _ {D : Type 0} where
   finalize-nullify p r same = subst IsFinalize same tt
 
 module _ {S D P G C : Type 0} {attests : ℕ → Statement D → G → Type 0} {certifies : Statement D → C → Type 0} {owner : Owner} where
-  -- what may follow at the place of an entry
-  pub follows : (record_ : List (Artifact S D P G C)) (e : Entry D) → IsEverLawful attests certifies owner record_ → (s : Stands entry record_ e) → (kept : List (Artifact S D P G C)) × MayEverFollow owner.term_length (entries s.before) (entries kept) e
-  follows record_ e lawful s =
-      let fits = lawful s.before s.after s.x s.is in
-      (fits.0, subst (λ (z : Entry D). MayEverFollow owner.term_length (entries s.before) (entries fits.0) z) s.gives fits.1.follows)
+  -- what stands at the place of an entry
+  pub follows : (record_ : List (Artifact S D P G C)) (e : Entry D) → VotesLawfully attests certifies owner record_ → (s : Stands entry record_ e) → StandsByVotes owner.term_length (entries s.before) e
+  follows record_ e lawful s = subst (λ (z : Entry D). StandsByVotes owner.term_length (entries s.before) z) s.gives (lawful s.before s.after s.x s.is).stands
 
   -- what stood before a place is lawful too
-  pub lawful_before : (record_ : List (Artifact S D P G C)) (e : Entry D) → IsEverLawful attests certifies owner record_ → (s : Stands entry record_ e) → IsEverLawful attests certifies owner s.before
+  pub lawful_before : (record_ : List (Artifact S D P G C)) (e : Entry D) → VotesLawfully attests certifies owner record_ → (s : Stands entry record_ e) → VotesLawfully attests certifies owner s.before
   lawful_before record_ e lawful s = λ before after x is.
       lawful before (after ++ s.x ∷ s.after) x (s.is ∙ ap (λ (l : List (Artifact S D P G C)). l ++ s.x ∷ s.after) is ∙ append_assoc before (x ∷ after) (s.x ∷ s.after))
 
@@ -96,14 +94,14 @@ module _ {S D P G C : Type 0} where
       told : (before : List (Artifact S D P G C)) (x : Artifact S D P G C) (z : Entry D) → Contains before x → entry x ≡ z → Contains (entries before) z
       told before x z here is = subst (λ (y : Entry D). Contains (entries before) y) is (Contains-mapped entry before x here)
 
-module _ {S D P G C : Type 0} {attests : ℕ → Statement D → G → Type 0} {certifies : Statement D → C → Type 0} (owner : Owner) (record_ : List (Artifact S D P G C)) (lawful : IsEverLawful attests certifies owner record_) where
+module _ {S D P G C : Type 0} {attests : ℕ → Statement D → G → Type 0} {certifies : Statement D → C → Type 0} (owner : Owner) (record_ : List (Artifact S D P G C)) (lawful : VotesLawfully attests certifies owner record_) where
   -- a member votes to notarize one proposal of a view
   pub one_notarize : (p q : Proposal D) → p.round.view ≡ q.round.view → HasVoted (entries record_) (notarize p) → HasVoted (entries record_) (notarize q) → p ≡ q
   one_notarize p q same here there =
       let s = stands entry record_ (voted (notarize p)) here in
       let t = stands entry record_ (voted (notarize q)) there in
-      let at_p : MayNotarize owner.term_length (entries s.before) p = (follows record_ (voted (notarize p)) lawful s).1 in
-      let at_q : MayNotarize owner.term_length (entries t.before) q = (follows record_ (voted (notarize q)) lawful t).1 in
+      let at_p : MayNotarize owner.term_length (entries s.before) p = follows record_ (voted (notarize p)) lawful s in
+      let at_q : MayNotarize owner.term_length (entries t.before) q = follows record_ (voted (notarize q)) lawful t in
       ⊎_elim (λ one. notarize-once p q (voted-once (notarize p) (notarize q) one))
       (λ apart. ⊎_elim (λ before. absurd (at_p.first (notarize q) same before)) (λ before. absurd (at_q.first (notarize p) (sym same) before)) apart)
       (two_entries record_ (voted (notarize p)) (voted (notarize q)) s t)
@@ -112,14 +110,14 @@ module _ {S D P G C : Type 0} {attests : ℕ → Statement D → G → Type 0} {
   pub finalize_is_notarized : (p : Proposal D) → HasVoted (entries record_) (finalize p) → HasTaken (entries record_) (notarize p)
   finalize_is_notarized p here =
       let s = stands entry record_ (voted (finalize p)) here in
-      let at_p : MayFinalize owner.term_length (entries s.before) p = (follows record_ (voted (finalize p)) lawful s).1 in
+      let at_p : MayFinalize owner.term_length (entries s.before) p = follows record_ (voted (finalize p)) lawful s in
       within record_ (voted (finalize p)) (taken (notarize p)) s at_p.notarized
 
   -- and what it has judged true
   pub finalize_is_judged : (p : Proposal D) → HasVoted (entries record_) (finalize p) → (r : Round) × (r.view ≡ p.round.view) × HasJudged (entries record_) r true
   finalize_is_judged p here =
       let s = stands entry record_ (voted (finalize p)) here in
-      let at_p : MayFinalize owner.term_length (entries s.before) p = (follows record_ (voted (finalize p)) lawful s).1 in
+      let at_p : MayFinalize owner.term_length (entries s.before) p = follows record_ (voted (finalize p)) lawful s in
       let verdict = at_p.certified in
       (verdict.0, verdict.1, within record_ (voted (finalize p)) (judged verdict.0 true) s verdict.2)
 
@@ -127,15 +125,13 @@ module _ {S D P G C : Type 0} {attests : ℕ → Statement D → G → Type 0} {
   pub notarized_is_above : (p : Proposal D) → HasTaken (entries record_) (notarize p) → p.parent < p.round.view
   notarized_is_above p here =
       let s = stands entry record_ (taken (notarize p)) here in
-      let met = follows record_ (taken (notarize p)) lawful s in
-      let at_p : MayTake owner.term_length (entries met.0) (notarize p) = met.1 in
-      at_p.parent_below
+      follows record_ (taken (notarize p)) lawful s
 
   -- what it votes to finalize lies behind the floor
   pub finalize_is_above : (p : Proposal D) → HasVoted (entries record_) (finalize p) → 0 < p.round.view
   finalize_is_above p here =
       let s = stands entry record_ (voted (finalize p)) here in
-      let at_p : MayFinalize owner.term_length (entries s.before) p = (follows record_ (voted (finalize p)) lawful s).1 in
+      let at_p : MayFinalize owner.term_length (entries s.before) p = follows record_ (voted (finalize p)) lawful s in
       omega (arith, at_p.above)
 
   -- behind a vote to finalize and one to nullify an earlier view of the term stands a finalization between them
@@ -154,7 +150,7 @@ module _ {S D P G C : Type 0} {attests : ℕ → Statement D → G → Type 0} {
 
       nullified_first : HasVoted (entries s.before) (nullify r) → (q : Proposal D) × (r.view ≤ q.round.view) × (q.round.view < p.round.view) × HasTaken (entries record_) (finalize q)
       nullified_first before =
-          let at_p : MayFinalize owner.term_length (entries s.before) p = (follows record_ (voted (finalize p)) lawful s).1 in
+          let at_p : MayFinalize owner.term_length (entries s.before) p = follows record_ (voted (finalize p)) lawful s in
           let apart : r.view ≢ p.round.view = λ same. at_p.not_given_up (nullify r) (sym same) before in
           let below : r.view < p.round.view = grind (arith, apart, range.1) in
           let low : r.view ≤ last_finalized (entries s.before) = at_p.healed r range.0 below before in
@@ -163,9 +159,9 @@ module _ {S D P G C : Type 0} {attests : ℕ → Statement D → G → Type 0} {
 
       finalized_first : HasVoted (entries t.before) (finalize p) → (q : Proposal D) × (r.view ≤ q.round.view) × (q.round.view < p.round.view) × HasTaken (entries record_) (finalize q)
       finalized_first before =
-          let at_r : MayNullify owner.term_length (entries t.before) r = (follows record_ (voted (nullify r)) lawful t).1 in
+          let at_r : MayNullify owner.term_length (entries t.before) r = follows record_ (voted (nullify r)) lawful t in
           let u = stands entry t.before (voted (finalize p)) before in
-          let at_p : MayFinalize owner.term_length (entries u.before) p = (follows t.before (voted (finalize p)) (lawful_before record_ (voted (nullify r)) lawful t) u).1 in
+          let at_p : MayFinalize owner.term_length (entries u.before) p = follows t.before (voted (finalize p)) (lawful_before record_ (voted (nullify r)) lawful t) u in
           let verdict = at_p.certified in
           let judged_before : HasJudged (entries t.before) verdict.0 true = within t.before (voted (finalize p)) (judged verdict.0 true) u verdict.2 in
           let passed : p.round.view + 1 ≤ current_view owner.term_length (entries t.before) = omega (arith, verdict.1, greatest-at 1 (enters owner.term_length) (entries t.before) (judged verdict.0 true) judged_before) in
@@ -175,7 +171,7 @@ module _ {S D P G C : Type 0} {attests : ℕ → Statement D → G → Type 0} {
   pub skipped_is_covered : (p : Proposal D) (view : ℕ) → HasVoted (entries record_) (notarize p) → p.parent < view → view < p.round.view → 0 < view → IsCovered owner.term_length (entries record_) view
   skipped_is_covered p view here above below some =
       let s = stands entry record_ (voted (notarize p)) here in
-      let at_p : MayNotarize owner.term_length (entries s.before) p = (follows record_ (voted (notarize p)) lawful s).1 in
+      let at_p : MayNotarize owner.term_length (entries s.before) p = follows record_ (voted (notarize p)) lawful s in
       let covered = at_p.covered view above below some in
       (covered.0, covered.1, within record_ (voted (notarize p)) (taken (nullify covered.0)) s covered.2)
 
@@ -183,10 +179,10 @@ module _ {S D P G C : Type 0} {attests : ℕ → Statement D → G → Type 0} {
   pub taken_certifies : (s : Statement D) → HasTaken (entries record_) s → (c : Certificate S D P G C) × (certificate_statement c ≡ s) × Contains record_ (certificate_artifact c) × certifies (certificate_statement c) (certified_by c)
   taken_certifies s here =
       let t = stands entry record_ (taken s) here in
-      let at = (lawful t.before t.after t.x t.is).1 in
+      let at = lawful t.before t.after t.x t.is in
       of_artifact t.x t.gives (subst (λ (l : List (Artifact S D P G C)). Contains l t.x) (sym t.is) (Contains-place t.before t.after t.x)) at
     where
-      of_artifact : {before kept : List (Artifact S D P G C)} (x : Artifact S D P G C) → entry x ≡ taken s → Contains record_ x → EverFits attests certifies owner before kept x
+      of_artifact : {before : List (Artifact S D P G C)} (x : Artifact S D P G C) → entry x ≡ taken s → Contains record_ x → EverStands attests certifies owner before x
           → (c : Certificate S D P G C) × (certificate_statement c ≡ s) × Contains record_ (certificate_artifact c) × certifies (certificate_statement c) (certified_by c)
       of_artifact (artifact.Notarize v) says in_it fits = absurd (subst IsVote says tt)
       of_artifact (artifact.Notarization c) says in_it fits = (certificate.Notarization c, ap (statement_or s) says, in_it, fits.verifies.verifies)
@@ -195,19 +191,3 @@ module _ {S D P G C : Type 0} {attests : ℕ → Statement D → G → Type 0} {
       of_artifact (artifact.Nullification c) says in_it fits = (certificate.Nullification c, ap (statement_or s) says, in_it, fits.verifies.verifies)
       of_artifact (artifact.Finalize v) says in_it fits = absurd (subst IsVote says tt)
       of_artifact (artifact.Finalization c) says in_it fits = (certificate.Finalization c, ap (statement_or s) says, in_it, fits.verifies.verifies)
-
-module _ {D : Type 0} where
-  -- what may follow may follow where all is kept
-  kept_whole : (views : ℕ) (es : List (Entry D)) (e : Entry D) → MayFollow views es e → MayEverFollow views es es e
-  kept_whole views es (voted (notarize p)) may = may
-  kept_whole views es (voted (nullify r)) may = may
-  kept_whole views es (voted (finalize p)) may = may
-  kept_whole views es (taken s) may = may
-  kept_whole views es (judged r verdict) may = may
-
-module _ {S D P G C : Type 0} {attests : ℕ → Statement D → G → Type 0} {certifies : Statement D → C → Type 0} {owner : Owner} where
-  -- a lawful record of which nothing was ever dropped is all that was ever recorded
-  pub all_kept : (artifacts : List (Artifact S D P G C)) → IsLawful attests certifies owner artifacts → IsEverLawful attests certifies owner artifacts
-  all_kept artifacts lawful before after x is =
-      let fits = lawful before after x is in
-      (before, record { verifies = fits.verifies; follows = kept_whole owner.term_length (entries before) (entry x) fits.follows })

@@ -12,12 +12,13 @@ use Rattle.simplex_types.specs.declared.proposal.Proposal.{Proposal}
 use Rattle.simplex_types.specs.Subject.{Statement, notarize, nullify, finalize}
 use Rattle.simplex_record.specs.declared.certificates.Certificates.{Certificates}
 use Rattle.simplex_record.specs.declared.votes.Votes.{Votes}
-use Rattle.simplex_record.specs.Record.{Entry, voted, taken, judged, HasVoted, HasTaken, HasJudged, finalizes, last_finalized}
+use Rattle.simplex_record.specs.Record.{Entry, voted, taken, judged, HasVoted, HasTaken, HasJudged, HasVerdict, HasCertificate, finalizes, last_finalized}
 use Rattle.simplex_record.specs.Rules.{AreAlike, HasNoVoteLike}
 use Rattle.simplex_record.specs.Standing.{KeepsVotes, KeepsCertificates, KeepsVerdicts}
-use Rattle.simplex_record.specs.Told.{notarized_at, nullified_at, finalized_at, verdict_at}
+use Rattle.simplex_record.specs.Told.{told, certificate_in, notarized_at, nullified_at, finalized_at, verdict_at}
+use Rattle.simplex_rules.specs.declared.kind.Kind.TheVariants as kind
 use Rattle.simplex_record.proofs.Figures.{greatest-at}
-use Rattle.simplex_record.proofs.Telling.{is_some-false, some-once, cases_option, told-none, told-some, told-nothing, votes-none, votes-nothing, certificates-none, certificates-nothing, certificates-some, notarize-alike, notarize-none, nullify-alike, nullify-none, finalize-alike, finalize-none, at_same, at_other, of_view}
+use Rattle.simplex_record.proofs.Telling.{is_some-false, is_some-true, some-once, cases_option, told-none, told-some, told-nothing, votes-none, votes-nothing, certificates-none, certificates-nothing, certificates-some, notarize-alike, notarize-none, nullify-alike, nullify-none, finalize-alike, finalize-none, at_same, at_other, of_view}
 
 -- an answer is false just where its negation is true
 pub true_not : (b : Bool) → (not b ≡ true) ↔ (b ≡ false)
@@ -129,6 +130,56 @@ module _ {D : Type 0} (views : ℕ) (certificates : Certificates D) (before : Li
     λ never. lacks _ _ (keeps.finalizations p.round.view) (certificates-nothing (finalized_at p.round.view) before (finalize-none (HasTaken before) p never)),
   )
 
+  -- something is told of certificates just where it is given of one
+  told_certificate : {Y : Type 0} (f : Statement D → Option Y) → IsTrue (is_some (told (certificate_in f) before)) ↔ ((s : Statement D) × HasTaken before s × IsTrue (is_some (f s)))
+  told_certificate f = (
+    λ some.
+        let y = is_some-true (told (certificate_in f) before) some in
+        let found = certificates-some f before y.0 y.1 in
+        (found.0, found.1, ap is_some found.2),
+    λ found. elim (cases_option (told (certificate_in f) before)) [
+      | inl none ↦ absurd (true-false (sym found.2 ∙ ap is_some (certificates-none f before none found.0 found.1)))
+      | inr some ↦ ap is_some some.1
+    ],
+  )
+
+  -- a certificate of a kind and view is kept just where it is recorded
+  pub kept_notarization : (view : ℕ) → IsTrue (is_some (get nat_cmp certificates.notarizations view)) ↔ HasCertificate before kind.Notarization view
+  kept_notarization view =
+      let told_so = told_certificate (notarized_at view) in (
+        λ some. let found = told_so.0 (sym (ap is_some (keeps.notarizations view)) ∙ some) in of_statement found.0 found.1 found.2,
+        λ has. ap is_some (keeps.notarizations view) ∙ told_so.1 (notarize has.0, has.2, ap is_some (at_same view has.0.round.view has.0 has.1)),
+      )
+    where
+      of_statement : (s : Statement D) → HasTaken before s → IsTrue (is_some (notarized_at view s)) → HasCertificate before kind.Notarization view
+      of_statement (notarize p) here some = let y = is_some-true (notarized_at view (notarize p)) some in (p, (of_view view p.round.view p y.0 y.1).0, here)
+      of_statement (nullify r) here some = absurd (true-false (sym some))
+      of_statement (finalize p) here some = absurd (true-false (sym some))
+
+  pub kept_nullification : (view : ℕ) → IsTrue (contains nat_cmp certificates.nullifications view) ↔ HasCertificate before kind.Nullification view
+  kept_nullification view =
+      let told_so = told_certificate (nullified_at view) in (
+        λ some. let found = told_so.0 (sym (keeps.nullifications view) ∙ some) in of_statement found.0 found.1 found.2,
+        λ has. keeps.nullifications view ∙ told_so.1 (nullify has.0, has.2, ap is_some (at_same view has.0.view has.0 has.1)),
+      )
+    where
+      of_statement : (s : Statement D) → HasTaken before s → IsTrue (is_some (nullified_at view s)) → HasCertificate before kind.Nullification view
+      of_statement (notarize p) here some = absurd (true-false (sym some))
+      of_statement (nullify r) here some = let y = is_some-true (nullified_at {D = D} view (nullify r)) some in (r, (of_view view r.view r y.0 y.1).0, here)
+      of_statement (finalize p) here some = absurd (true-false (sym some))
+
+  pub kept_finalization : (view : ℕ) → IsTrue (contains nat_cmp certificates.finalizations view) ↔ HasCertificate before kind.Finalization view
+  kept_finalization view =
+      let told_so = told_certificate (finalized_at view) in (
+        λ some. let found = told_so.0 (sym (keeps.finalizations view) ∙ some) in of_statement found.0 found.1 found.2,
+        λ has. keeps.finalizations view ∙ told_so.1 (finalize has.0, has.2, ap is_some (at_same view has.0.round.view has.0 has.1)),
+      )
+    where
+      of_statement : (s : Statement D) → HasTaken before s → IsTrue (is_some (finalized_at view s)) → HasCertificate before kind.Finalization view
+      of_statement (notarize p) here some = absurd (true-false (sym some))
+      of_statement (nullify r) here some = absurd (true-false (sym some))
+      of_statement (finalize p) here some = let y = is_some-true (finalized_at view (finalize p)) some in (p, (of_view view p.round.view p y.0 y.1).0, here)
+
   -- where a proposal is kept, one of this round is notarized just where it is of this round
   pub notarized_of : (r : Round) (p : Proposal D) → get nat_cmp certificates.notarizations r.view ≡ Some p → (p.round ≡ r) ↔ ((q : Proposal D) × (q.round ≡ r) × HasTaken before (notarize q))
   notarized_of r p kept = (
@@ -153,28 +204,29 @@ module _ {D : Type 0} (map : BTreeMap ℕ Bool) (before : List (Entry D)) (keeps
       of_entry r never verdict (taken s) here gives = none-some verdict gives
       of_entry r never verdict (judged t other) here gives = never t other (of_view r.view t.view other verdict gives).0 here
 
-  -- a true verdict is kept of a view just where one is recorded
-  pub true_verdict : (view : ℕ) → (get nat_cmp map view ≡ Some true) ↔ ((r : Round) × (r.view ≡ view) × HasJudged before r true)
-  true_verdict view = (
-    λ kept. let given = told-some (verdict_at view) before true (sym (keeps.verdicts view) ∙ kept) in of_entry view given.x given.there given.gives,
+  -- a verdict is kept of a view just where it is recorded
+  pub kept_verdict : (view : ℕ) (verdict : Bool) → (get nat_cmp map view ≡ Some verdict) ↔ HasVerdict before view verdict
+  kept_verdict view verdict = (
+    λ kept. let given = told-some (verdict_at view) before verdict (sym (keeps.verdicts view) ∙ kept) in of_verdict view verdict given.x given.there given.gives,
     λ some. elim (cases_option (get nat_cmp map view)) [
-      | inl none ↦ absurd (none-some true (sym (told-none (verdict_at view) before (sym (keeps.verdicts view) ∙ none) (judged some.0 true) some.2) ∙ at_same view some.0.view true some.1))
+      | inl none ↦ absurd (none-some verdict (sym (told-none (verdict_at view) before (sym (keeps.verdicts view) ∙ none) (judged some.0 verdict) some.2) ∙ at_same view some.0.view verdict some.1))
       | inr other ↦
           let given = told-some (verdict_at view) before other.0 (sym (keeps.verdicts view) ∙ other.1) in
-          let verdict = of_verdict view other.0 given.x given.there given.gives in
-          other.1 ∙ ap Some (keeps.one_verdict verdict.0 some.0 other.0 true (verdict.1 ∙ sym some.1) verdict.2 some.2)
+          let found = of_verdict view other.0 given.x given.there given.gives in
+          other.1 ∙ ap Some (keeps.one_verdict found.0 some.0 other.0 verdict (found.1 ∙ sym some.1) found.2 some.2)
     ],
   )
     where
-      of_verdict : (view : ℕ) (verdict : Bool) (e : Entry D) → Contains before e → verdict_at view e ≡ Some verdict → (r : Round) × (r.view ≡ view) × HasJudged before r verdict
+      of_verdict : (view : ℕ) (verdict : Bool) (e : Entry D) → Contains before e → verdict_at view e ≡ Some verdict → HasVerdict before view verdict
       of_verdict view verdict (voted s) here gives = absurd (none-some verdict gives)
       of_verdict view verdict (taken s) here gives = absurd (none-some verdict gives)
       of_verdict view verdict (judged t other) here gives =
           let same = of_view view t.view other verdict gives in
           (t, same.0, subst (λ (v : Bool). HasJudged before t v) same.1 here)
 
-      of_entry : (view : ℕ) (e : Entry D) → Contains before e → verdict_at view e ≡ Some true → (r : Round) × (r.view ≡ view) × HasJudged before r true
-      of_entry view e here gives = of_verdict view true e here gives
+  -- a true one too
+  pub true_verdict : (view : ℕ) → (get nat_cmp map view ≡ Some true) ↔ HasVerdict before view true
+  true_verdict view = kept_verdict view true
 
 module _ {D : Type 0} where
   -- a finalization above the last finalized view is none

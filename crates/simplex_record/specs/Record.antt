@@ -1,10 +1,13 @@
 -- What a record says: of a list of artifacts, oldest first, what each one says, and what follows from all of them.
-use Rattle.std.specs.Prelude.{ℕ, ◌+◌, ◌≤◌, Bool, true, false, max, List, [], ◌∷◌, map, Contains}
+use Rattle.std.specs.Prelude.{◌≡◌, ℕ, ◌+◌, ◌≤◌, Bool, true, false, max, List, [], ◌∷◌, ◌++◌, length, map, Contains, ⊤}
 use Rattle.simplex_types.specs.declared.position.Round.{Round}
+use Rattle.simplex_types.specs.declared.proposal.Proposal.{Proposal}
 use Rattle.simplex_types.specs.Positions.{next_term_start, InCoveringRange}
 use Rattle.simplex_types.specs.Subject.{Statement, notarize, nullify, finalize}
 use Rattle.simplex_certificates.specs.declared.artifact.Artifact.{Artifact}
 use Rattle.simplex_certificates.specs.declared.artifact.Artifact.TheVariants as artifact
+use Rattle.simplex_rules.specs.declared.kind.Kind.{Kind}
+use Rattle.simplex_rules.specs.declared.kind.Kind.TheVariants as kind
 use Rattle.simplex_rules.specs.Windows.{retention_floor}
 
 -- what an artifact says: that the record's member voted for a statement, that it took a certificate for one, or what the
@@ -46,6 +49,33 @@ module _ {D : Type 0} where
   -- it recorded this verdict on the round
   abbrev pub HasJudged : List (Entry D) → Round → Bool → Type 0
   HasJudged record_ round verdict = Contains record_ (judged round verdict)
+
+  -- it recorded this verdict on a round of the view
+  abbrev pub HasVerdict : List (Entry D) → ℕ → Bool → Type 0
+  HasVerdict record_ view verdict = (r : Round) × (r.view ≡ view) × HasJudged record_ r verdict
+
+  -- it recorded a certificate of this kind and view
+  abbrev pub HasCertificate : List (Entry D) → Kind → ℕ → Type 0
+  HasCertificate record_ kind.Notarization view = (p : Proposal D) × (p.round.view ≡ view) × HasTaken record_ (notarize p)
+  HasCertificate record_ kind.Nullification view = (r : Round) × (r.view ≡ view) × HasTaken record_ (nullify r)
+  HasCertificate record_ kind.Finalization view = (p : Proposal D) × (p.round.view ≡ view) × HasTaken record_ (finalize p)
+
+  -- an entry is a vote of the member to nullify
+  abbrev pub IsNullify : Entry D → Type 0
+  IsNullify (voted (notarize p)) = ⊥
+  IsNullify (voted (nullify r)) = ⊤
+  IsNullify (voted (finalize p)) = ⊥
+  IsNullify (taken s) = ⊥
+  IsNullify (judged r verdict) = ⊥
+
+  -- the last nullify that the member recorded stands at this place, behind so many entries
+  pub record IsLastNullify (record_ : List (Entry D)) (place : ℕ) : Type 0 where
+    pub before : List (Entry D)
+    pub round : Round
+    pub after : List (Entry D)
+    pub is : record_ ≡ before ++ voted (nullify round) ∷ after
+    pub place_is : place ≡ length before
+    pub last : (r : Round) → HasVoted after (nullify r) → ⊥
 
   -- the view that an entry finalizes, and 0 where it finalizes none
   abbrev pub finalizes : Entry D → ℕ

@@ -2,7 +2,7 @@
 use Rattle.std.specs.Prelude.{◌≡◌, ◌⊎◌, ℕ, ◌≤◌, ◌<◌, Bool, true, List, ⊤}
 use Rattle.simplex_types.specs.declared.position.Round.{Round}
 use Rattle.simplex_types.specs.declared.proposal.Proposal.{Proposal}
-use Rattle.simplex_types.specs.Positions.{term_start, HasRoom}
+use Rattle.simplex_types.specs.Positions.{term_start, term_end, HasRoom}
 use Rattle.simplex_types.specs.Subject.{Statement, notarize, nullify, finalize, statement_round}
 use Rattle.simplex_record.specs.Record.{Entry, voted, taken, judged, HasVoted, HasTaken, HasJudged, last_finalized, current_view, IsCovered, floor}
 
@@ -18,6 +18,13 @@ module _ {D : Type 0} where
   AreAlike (finalize p) (notarize q) = ⊥
   AreAlike (finalize p) (nullify r) = ⊥
   AreAlike (finalize p) (finalize q) = p.round.view ≡ q.round.view
+
+  -- a vote for the one stands in the way of a vote for the other: they are of one kind and view, or of one view one gives
+  -- it up and the other finalizes it
+  abbrev pub StandsInTheWay : Statement D → Statement D → Type 0
+  StandsInTheWay (nullify r) (finalize q) = r.view ≡ q.round.view
+  StandsInTheWay (finalize p) (nullify r) = p.round.view ≡ r.view
+  StandsInTheWay s t = AreAlike s t
 
   -- what a statement names as a parent lies below its view
   abbrev pub HasParentBelow : Statement D → Type 0
@@ -81,6 +88,23 @@ module _ {D : Type 0} where
   LeavesRoom views (voted s) = ⊤
   LeavesRoom views (taken s) = HasRoom views (statement_round s).view
   LeavesRoom views (judged r verdict) = HasRoom views r.view
+
+  -- an entry stands in its place by all that was ever recorded before it, as far as agreement asks: a vote by the rules on
+  -- votes, a certificate where its parent lies below, a verdict anywhere
+  abbrev pub StandsByVotes : ℕ → List (Entry D) → Entry D → Type 0
+  StandsByVotes views ever (voted (notarize p)) = MayNotarize views ever p
+  StandsByVotes views ever (voted (nullify r)) = MayNullify views ever r
+  StandsByVotes views ever (voted (finalize p)) = MayFinalize views ever p
+  StandsByVotes views ever (taken s) = HasParentBelow s
+  StandsByVotes views ever (judged r verdict) = ⊤
+
+  -- up to which view an entry reaches: a nullification up to the end of its term, all else up to its own
+  abbrev pub reach : ℕ → Entry D → ℕ
+  reach views (voted s) = (statement_round s).view
+  reach views (taken (notarize p)) = p.round.view
+  reach views (taken (nullify r)) = term_end views r.view
+  reach views (taken (finalize p)) = p.round.view
+  reach views (judged r verdict) = r.view
 
   -- an entry may stand behind all these that were ever recorded, where so much is kept: the rules on votes ask all that was
   -- ever recorded, those on certificates and verdicts what is kept

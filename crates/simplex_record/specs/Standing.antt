@@ -1,17 +1,18 @@
 -- What is kept of a record while it is checked.
-use Rattle.std.specs.Prelude.{◌≡◌, ◌↔◌, ◌≤◌, ℕ, Bool, List, Option, is_some}
+use Rattle.std.specs.Prelude.{◌≡◌, ◌↔◌, ◌≤◌, ℕ, Bool, List, length, Option, is_some, MatchOption}
 use Rattle.std.specs.BTreeMap.{BTreeMap, get}
 use Rattle.std.specs.BTreeSet.{BTreeSet, contains}
 use Rattle.std.specs.Ordering.{nat_cmp}
 use Rattle.simplex_types.specs.declared.position.Round.{Round}
 use Rattle.simplex_types.specs.declared.proposal.Proposal.{Proposal}
 use Rattle.simplex_types.specs.Positions.{HasRoom}
-use Rattle.simplex_types.specs.Subject.{Statement, notarize, statement_round}
+use Rattle.simplex_types.specs.Subject.{Statement, notarize, nullify, statement_round}
 use Rattle.simplex_record.specs.declared.certificates.Certificates.{Certificates}
+use Rattle.simplex_record.specs.declared.numbering.Numbering.{Numbering}
 use Rattle.simplex_record.specs.declared.standing.Standing.{Standing}
 use Rattle.simplex_record.specs.declared.votes.Votes.{Votes}
 use Rattle.simplex_record.specs.Coverage as coverage
-use Rattle.simplex_record.specs.Record.{Entry, HasTaken, HasJudged, IsCovered, last_finalized, current_view}
+use Rattle.simplex_record.specs.Record.{Entry, HasVoted, HasTaken, HasJudged, IsLastNullify, IsCovered, last_finalized, current_view}
 use Rattle.simplex_record.specs.Told.{told, notarized_at, nullified_at, finalized_at, vote_in, certificate_in, verdict_at}
 
 module _ {D Y : Type 0} where
@@ -44,10 +45,24 @@ module _ {D : Type 0} where
     pub verdicts : KeepsMap verdict_at map before
     pub one_verdict : (r t : Round) (this that : Bool) → r.view ≡ t.view → HasJudged before r this → HasJudged before t that → this ≡ that
 
-  -- what is kept of a record is what its entries tell
-  pub record Keeps (views : ℕ) (standing : Standing D) (before : List (Entry D)) : Type 0 where
+  -- the place of the last own nullify, or that there is none
+  abbrev pub TellsLastNullify : List (Entry D) → Option ℕ → Type 0
+  TellsLastNullify before place = MatchOption place ((r : Round) → HasVoted before (nullify r) → ⊥) (IsLastNullify before)
+
+  -- how many entries there are is kept, and where the last own nullify stands
+  pub record KeepsNumbering (numbering : Numbering) (before : List (Entry D)) : Type 0 where
+    pub count : numbering.count ≡ length before
+    pub last_nullify : TellsLastNullify before numbering.last_nullify
+
+  -- what is kept of each view is what the entries tell
+  pub record KeepsViews (views : ℕ) (standing : Standing D) (before : List (Entry D)) : Type 0 where
     pub votes : KeepsVotes standing.votes before
     pub certificates : KeepsCertificates views standing.certificates before
     pub verdicts : KeepsVerdicts standing.verdicts before
     pub last_finalized : standing.last_finalized ≡ last_finalized before
     pub current_view : standing.current_view ≡ current_view views before
+
+  -- what is kept of a record is what its entries tell
+  pub record Keeps (views : ℕ) (standing : Standing D) (before : List (Entry D)) : Type 0 where
+    pub by_view : KeepsViews views standing before
+    pub numbering : KeepsNumbering standing.numbering before

@@ -9,7 +9,7 @@ use Rattle.simplex_certificates.specs.declared.certificate.Certificate.{Certific
 use Rattle.simplex_certificates.specs.Artifact.{certificate_artifact}
 use Rattle.simplex_certificates.specs.Certificate.{certificate_statement, certified_by}
 use Rattle.simplex_record.specs.Record.{entries, HasVoted}
-use Rattle.simplex_record.specs.Lawful.{IsEverLawful}
+use Rattle.simplex_record.specs.Lawful.{VotesLawfully}
 
 -- how many members the committee has, its epoch and how many views a term has, which members are excused from all
 -- rules, and for each other member the list of all artifacts that it ever recorded
@@ -46,11 +46,11 @@ pub record IsAlike {D G : Type 0} (size : ℕ) (attests : ℕ → Statement D �
   pub attests_too : (i : ℕ) (s : Statement D) (a : G) → own_attests i s a → attests i s a
 
 module _ {S D P G C : Type 0} (attests : ℕ → Statement D → G → Type 0) (size_by : ℕ → ℕ) (attests_by : ℕ → ℕ → Statement D → G → Type 0) (certifies_by : ℕ → Statement D → C → Type 0) (lists : C → List (Attestation G)) (world : World S D P G C) where
-  -- at most as many are excused as may be faulty. Of each correct member, the scheme is like the committee's, all that it
-  -- ever recorded is lawful by its own scheme, and the certificates in it are honest
+  -- at most as many are excused as may be faulty. Of each correct member, the scheme is like the committee's, it votes
+  -- lawfully by its own scheme, and the certificates that it ever recorded are honest
   pub record IsWorld : Type 0 where
     pub some : 0 < world.size
     pub few : length world.excused ≤ faults world.size
     pub alike : (i : ℕ) → IsCorrect world i → IsAlike world.size attests (size_by i) (attests_by i)
-    pub lawful : (i : ℕ) → IsCorrect world i → IsEverLawful (attests_by i) (certifies_by i) (record { epoch = world.epoch; term_length = world.term_length; signer = i }) (world.recorded i)
+    pub lawful : (i : ℕ) → IsCorrect world i → VotesLawfully (attests_by i) (certifies_by i) (record { epoch = world.epoch; term_length = world.term_length; signer = i }) (world.recorded i)
     pub honest : (i : ℕ) → IsCorrect world i → (c : Certificate S D P G C) → Contains (world.recorded i) (certificate_artifact c) → IsHonest attests lists world c

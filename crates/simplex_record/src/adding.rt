@@ -5,7 +5,7 @@ ghost use Rattle.simplex_types.specs.Positions.{HasRoom};
 ghost use Rattle.simplex_types.specs.Subject.{notarize, nullify, finalize};
 ghost use Rattle.simplex_record.specs.Record.{Entry, voted, taken, judged};
 ghost use Rattle.simplex_record.specs.Rules.{MayTake, MayJudge};
-ghost use Rattle.simplex_record.specs.Standing.{Keeps};
+ghost use Rattle.simplex_record.specs.Standing.{KeepsViews};
 
 use crate::standing::Standing;
 use simplex_types::{Digest, Proposal, Round, TermLength};
@@ -14,7 +14,8 @@ use std::alloc::AllocError;
 impl<D: Digest> Standing<D> {
     /// Adds the member's vote to notarize the proposal.
     pub(crate) fn add_notarize(&mut self, proposal: &Proposal<D>) -> Result<(), AllocError>
-        ensures { OnOk result ((views : ℕ) (before : List (Entry D)) → Keeps views self.old before → Keeps views self.new (before ++ voted (notarize proposal.now) ∷ [])) }
+        ensures keeps { OnOk result ((views : ℕ) (before : List (Entry D)) → KeepsViews views self.old before → KeepsViews views self.new (before ++ voted (notarize proposal.now) ∷ [])) }
+        ensures numbering { OnOk result (self.new.numbering ≡ self.old.numbering) }
     {
         self.votes.notarizes.insert(proposal.round.view)?;
         Ok(())
@@ -22,7 +23,8 @@ impl<D: Digest> Standing<D> {
 
     /// Adds its vote to nullify the round.
     pub(crate) fn add_nullify(&mut self, round: Round) -> Result<(), AllocError>
-        ensures { OnOk result ((views : ℕ) (before : List (Entry D)) → Keeps views self.old before → Keeps views self.new (before ++ voted (nullify round) ∷ [])) }
+        ensures keeps { OnOk result ((views : ℕ) (before : List (Entry D)) → KeepsViews views self.old before → KeepsViews views self.new (before ++ voted (nullify round) ∷ [])) }
+        ensures numbering { OnOk result (self.new.numbering ≡ self.old.numbering) }
     {
         self.votes.nullifies.insert(round.view)?;
         Ok(())
@@ -30,7 +32,8 @@ impl<D: Digest> Standing<D> {
 
     /// Adds its vote to finalize the proposal.
     pub(crate) fn add_finalize(&mut self, proposal: &Proposal<D>) -> Result<(), AllocError>
-        ensures { OnOk result ((views : ℕ) (before : List (Entry D)) → Keeps views self.old before → Keeps views self.new (before ++ voted (finalize proposal.now) ∷ [])) }
+        ensures keeps { OnOk result ((views : ℕ) (before : List (Entry D)) → KeepsViews views self.old before → KeepsViews views self.new (before ++ voted (finalize proposal.now) ∷ [])) }
+        ensures numbering { OnOk result (self.new.numbering ≡ self.old.numbering) }
     {
         self.votes.finalizes.insert(proposal.round.view)?;
         Ok(())
@@ -38,7 +41,8 @@ impl<D: Digest> Standing<D> {
 
     /// Adds a notarization of the proposal.
     pub(crate) fn add_notarization(&mut self, proposal: &Proposal<D>) -> Result<(), AllocError>
-        ensures { OnOk result ((views : ℕ) (before : List (Entry D)) → Keeps views self.old before → MayTake views before (notarize proposal.now) → Keeps views self.new (before ++ taken (notarize proposal.now) ∷ [])) }
+        ensures keeps { OnOk result ((views : ℕ) (before : List (Entry D)) → KeepsViews views self.old before → MayTake views before (notarize proposal.now) → KeepsViews views self.new (before ++ taken (notarize proposal.now) ∷ [])) }
+        ensures numbering { OnOk result (self.new.numbering ≡ self.old.numbering) }
     {
         self.certificates
             .notarizations
@@ -53,7 +57,8 @@ impl<D: Digest> Standing<D> {
         round: Round,
     ) -> Result<(), AllocError>
         requires { HasRoom length round.view }
-        ensures { OnOk result ((before : List (Entry D)) → Keeps length self.old before → MayTake length before (nullify round) → Keeps length self.new (before ++ taken (nullify round) ∷ [])) }
+        ensures keeps { OnOk result ((before : List (Entry D)) → KeepsViews length self.old before → MayTake length before (nullify round) → KeepsViews length self.new (before ++ taken (nullify round) ∷ [])) }
+        ensures numbering { OnOk result (self.new.numbering ≡ self.old.numbering) }
     {
         let end = round.view.term_end(length);
         self.certificates.covered.cover(round.view, end)?;
@@ -65,7 +70,8 @@ impl<D: Digest> Standing<D> {
     /// Adds a finalization of the proposal, of which the view isn't the last number of 64 bits.
     pub(crate) fn add_finalization(&mut self, proposal: &Proposal<D>) -> Result<(), AllocError>
         requires { proposal.now.round.view + 1 < 2 ^ 64 }
-        ensures { OnOk result ((views : ℕ) (before : List (Entry D)) → Keeps views self.old before → MayTake views before (finalize proposal.now) → Keeps views self.new (before ++ taken (finalize proposal.now) ∷ [])) }
+        ensures keeps { OnOk result ((views : ℕ) (before : List (Entry D)) → KeepsViews views self.old before → MayTake views before (finalize proposal.now) → KeepsViews views self.new (before ++ taken (finalize proposal.now) ∷ [])) }
+        ensures numbering { OnOk result (self.new.numbering ≡ self.old.numbering) }
     {
         let view = proposal.round.view;
         self.certificates.finalizations.insert(view)?;
@@ -77,7 +83,8 @@ impl<D: Digest> Standing<D> {
     /// Adds a verdict on the round, of which the view isn't the last number of 64 bits.
     pub(crate) fn add_verdict(&mut self, round: Round, verdict: bool) -> Result<(), AllocError>
         requires { round.view + 1 < 2 ^ 64 }
-        ensures { OnOk result ((views : ℕ) (before : List (Entry D)) → Keeps views self.old before → MayJudge before round → Keeps views self.new (before ++ judged round verdict ∷ [])) }
+        ensures keeps { OnOk result ((views : ℕ) (before : List (Entry D)) → KeepsViews views self.old before → MayJudge before round → KeepsViews views self.new (before ++ judged round verdict ∷ [])) }
+        ensures numbering { OnOk result (self.new.numbering ≡ self.old.numbering) }
     {
         self.verdicts.insert(round.view, verdict)?;
         if verdict {

@@ -1,15 +1,15 @@
 //! Checking a record by its rules.
 
-ghost use Rattle.std.specs.Prelude.{◌≡◌, ◌↔◌, ◌++◌, ◌∷◌, [], List, IsTrue, IfOk, IfSome, IfNone, OnOk};
-ghost use Rattle.simplex_record.specs.Record.{Entry, entry};
+ghost use Rattle.std.specs.Prelude.{◌≡◌, ◌↔◌, ◌++◌, ◌∷◌, [], List, false, IsTrue, IfErr, IfOk, IfSome, IfNone, OnOk};
+ghost use Rattle.simplex_record.specs.Record.{Entry, entry, entries, IsNullify};
 ghost use Rattle.simplex_record.specs.Rules.{MayFollow, LeavesRoom};
 ghost use Rattle.simplex_record.specs.Lawful.{Verifies, IsLawful, IsRefusedAt};
-ghost use Rattle.simplex_record.specs.Standing.{Keeps};
+ghost use Rattle.simplex_record.specs.Standing.{Keeps, KeepsViews};
 
 use crate::owner::Owner;
 use crate::standing::Standing;
 use simplex_certificates::Artifact;
-use simplex_types::{Digest, Epoch, Epochable, Participant, Scheme, TermLength};
+use simplex_types::{Digest, Epoch, Epochable, Participant, Scheme, TermLength, Viewable};
 use std::alloc::{AllocError, Global};
 
 /// The position of the first artifact that a lawful record of this owner refuses, or `None` where the
@@ -24,20 +24,42 @@ pub fn first_refused<S: Scheme<D>, D: Digest>(
     ensures lawful { IfOk result (λ found. IfNone found (IsLawful (S.attests scheme.now) (S.certifies scheme.now) owner artifacts.now)) }
     ensures refused { IfOk result (λ found. IfSome found (IsRefusedAt (S.attests scheme.now) (S.certifies scheme.now) owner artifacts.now)) }
 {
+    if let Err(position) = check(alloc, scheme, owner, artifacts)? {
+        return Ok(Some(position));
+    }
+    Ok(None)
+}
+
+/// The same, where a lawful record is answered by what is kept of it.
+///
+/// # Errors
+///
+/// Outside where memory is refused; inside the position of the first artifact that a lawful record of this
+/// owner refuses.
+pub fn check<S: Scheme<D>, D: Digest>(
+    alloc: Global,
+    scheme: &S,
+    owner: Owner,
+    artifacts: &[Artifact<S, D>],
+) -> Result<Result<Standing<D>, usize>, AllocError>
+    ensures lawful { IfOk result (λ found. IfOk found (λ standing. IsLawful (S.attests scheme.now) (S.certifies scheme.now) owner artifacts.now)) }
+    ensures keeps { IfOk result (λ found. IfOk found (λ standing. Keeps owner.term_length standing (entries artifacts.now))) }
+    ensures refused { IfOk result (λ found. IfErr found (IsRefusedAt (S.attests scheme.now) (S.certifies scheme.now) owner artifacts.now)) }
+{
     let mut standing = Standing::new(alloc);
     let mut rest = artifacts;
     while let Some((artifact, behind)) = rest.split_first() {
         let position = artifacts.len() - rest.len();
         if !standing.allows(owner.term_length, artifact) {
-            return Ok(Some(position));
+            return Ok(Err(position));
         }
         if !verifies(scheme, &owner, artifact) {
-            return Ok(Some(position));
+            return Ok(Err(position));
         }
         standing.add(owner.term_length, artifact)?;
         rest = behind;
     }
-    Ok(None)
+    Ok(Ok(standing))
 }
 
 /// Whether the artifact verifies: an own vote by its attestation, a certificate by what it is made of.
@@ -74,6 +96,28 @@ fn is_own(owner: &Owner, epoch: Epoch, signer: Participant) -> bool
     epoch == owner.epoch && signer == owner.signer
 }
 
+/// Whether the artifact's view has room, where that is asked of it: of votes nothing is.
+fn leaves_room<S: Scheme<D>, D: Digest>(length: TermLength, artifact: &Artifact<S, D>) -> bool
+    ensures { IsTrue result ↔ LeavesRoom length (entry artifact.now) }
+{
+    match artifact {
+        Artifact::Notarize(_) => true,
+        Artifact::Notarization(certificate) => certificate.view().has_room(length),
+        Artifact::Certification(round, _) => round.view.has_room(length),
+        Artifact::Nullify(_) => true,
+        Artifact::Nullification(certificate) => certificate.view().has_room(length),
+        Artifact::Finalize(_) => true,
+        Artifact::Finalization(certificate) => certificate.view().has_room(length),
+    }
+}
+
+/// Whether the artifact is an own nullify.
+fn is_nullify<S: Scheme<D>, D: Digest>(artifact: &Artifact<S, D>) -> bool
+    ensures { IsTrue result ↔ IsNullify (entry artifact.now) }
+{
+    matches!(artifact, Artifact::Nullify(_))
+}
+
 impl<D: Digest> Standing<D> {
     /// Whether the rules allow the artifact.
     pub fn allows<S: Scheme<D>>(&self, length: TermLength, artifact: &Artifact<S, D>) -> bool
@@ -97,15 +141,35 @@ impl<D: Digest> Standing<D> {
         }
     }
 
-    /// Adds an artifact. What is kept is what the record tells with it, where the rules allow it there.
-    /// Refused only where memory is: then what is kept tells nothing any more.
+    /// Adds an artifact: whether it was taken. A certificate or a verdict of a view without room is not. What
+    /// is kept is what the record tells with it, where the rules allow it there. Refused only where memory
+    /// is: then what is kept tells nothing any more.
     pub fn add<S: Scheme<D>>(
+        &mut self,
+        length: TermLength,
+        artifact: &Artifact<S, D>,
+    ) -> Result<bool, AllocError>
+        ensures taken { IfOk result (λ taken. IsTrue taken ↔ LeavesRoom length (entry artifact.now)) }
+        ensures not_taken { IfOk result (λ taken. taken ≡ false → self.new ≡ self.old) }
+        ensures keeps { OnOk result ((before : List (Entry D)) → Keeps length self.old before → MayFollow length before (entry artifact.now) → Keeps length self.new (before ++ entry artifact.now ∷ [])) }
+    {
+        if !leaves_room(length, artifact) {
+            return Ok(false);
+        }
+        self.take(length, artifact)?;
+        self.numbering.pass(is_nullify(artifact))?;
+        Ok(true)
+    }
+
+    /// Adds an artifact to what is kept of its view.
+    fn take<S: Scheme<D>>(
         &mut self,
         length: TermLength,
         artifact: &Artifact<S, D>,
     ) -> Result<(), AllocError>
         requires { LeavesRoom length (entry artifact.now) }
-        ensures { OnOk result ((before : List (Entry D)) → Keeps length self.old before → MayFollow length before (entry artifact.now) → Keeps length self.new (before ++ entry artifact.now ∷ [])) }
+        ensures keeps { OnOk result ((before : List (Entry D)) → KeepsViews length self.old before → MayFollow length before (entry artifact.now) → KeepsViews length self.new (before ++ entry artifact.now ∷ [])) }
+        ensures numbering { OnOk result (self.new.numbering ≡ self.old.numbering) }
     {
         match artifact {
             Artifact::Notarize(vote) => self.add_notarize(&vote.proposal),

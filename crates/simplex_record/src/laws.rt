@@ -1,11 +1,16 @@
 //! Agreement of members whose records are lawful, and the chain that what they finalize is.
 
-ghost use Rattle.std.specs.Prelude.{ℕ, List, [], ◌∷◌, ◌++◌, Option};
+ghost use Rattle.std.specs.Prelude.{◌≡◌, ℕ, Bool, List, [], ◌∷◌, ◌++◌, Option};
 ghost use Rattle.simplex_certificates.specs.declared.artifact.Artifact.{Artifact};
 ghost use Rattle.simplex_record.specs.declared.owner.Owner.{Owner};
 ghost use Rattle.simplex_record.specs.Chain.{StandsOnGround, MayFollowOnGround, AllStandOnGround, OneChain};
-ghost use Rattle.simplex_record.specs.Record.{Entry};
-ghost use Rattle.simplex_record.specs.Lawful.{IsLawful, IsEverLawful};
+ghost use Rattle.simplex_types.specs.declared.position.Round.{Round};
+ghost use Rattle.simplex_types.specs.declared.proposal.Proposal.{Proposal};
+ghost use Rattle.simplex_types.specs.Subject.{Statement, notarize};
+ghost use Rattle.simplex_certificates.specs.declared.artifact.Artifact.TheVariants as artifact;
+ghost use Rattle.simplex_record.specs.Record.{Entry, voted, entries, HasVoted, HasTaken};
+ghost use Rattle.simplex_record.specs.Rules.{MayFollow, StandsInTheWay};
+ghost use Rattle.simplex_record.specs.Lawful.{Fits, IsLawful, IsEverLawful, VotesLawfully};
 ghost use Rattle.simplex_record.specs.World.{World, IsWorld};
 ghost use Rattle.simplex_record.specs.Agreement.{OneProposalAView, NoFinalizedViewNullified, NoFinalizedViewSkipped};
 
@@ -13,8 +18,8 @@ use simplex_types::{Digest, Listing, Scheme};
 
 /// The law of agreement. In a committee of any size, with terms of any length, let no more members be
 /// excused from all rules than may be faulty. Of each other member let the scheme be of the committee's
-/// size, and what attests by it attest by the committee's; let all that it ever recorded be lawful by its
-/// own scheme; and let each verifying vote that a certificate lists in its name be on a statement for
+/// size, and what attests by it attest by the committee's; let it vote lawfully by its own scheme; and let
+/// each verifying vote that a certificate lists in its name be on a statement for
 /// which it recorded a vote. Then over all certificates that list attestations of a quorum, recorded or
 /// not: no view has notarizations or finalizations for two proposals, no finalized view is nullified, and
 /// no notarized proposal skips a finalized view. Whatever verifies under a scheme of this kind lists such
@@ -39,6 +44,27 @@ pub fn chain<S: Listing<D>, D: Digest>()
 pub fn records_stand_on_ground<D: Digest>()
     ensures first { (size views : ℕ) (leader : ℕ → Option ℕ) (member : ℕ) → StandsOnGround {D = D} size views leader member [] }
     ensures further { (size views : ℕ) (leader : ℕ → Option ℕ) (member : ℕ) (before : List (Entry D)) (e : Entry D) → StandsOnGround size views leader member before → MayFollowOnGround size views leader member before e → StandsOnGround size views leader member (before ++ e ∷ []) }
+{}
+
+/// An empty record is lawful, and so is a lawful one with one more artifact that fits behind it.
+pub fn a_lawful_record_grows<S: Scheme<D>, D: Digest>()
+    ensures first { (scheme : S) (owner : Owner) → IsLawful {S = S} {P = S.PublicKey} (S.attests scheme) (S.certifies scheme) owner [] }
+    ensures further { (scheme : S) (owner : Owner) (before : List (Artifact S D S.PublicKey S.Signature S.Certificate)) (x : Artifact S D S.PublicKey S.Signature S.Certificate) → IsLawful (S.attests scheme) (S.certifies scheme) owner before → Fits (S.attests scheme) (S.certifies scheme) owner before x → IsLawful (S.attests scheme) (S.certifies scheme) owner (before ++ x ∷ []) }
+{}
+
+/// No vote that a record has stands in the way of an own vote that may follow it.
+pub fn no_own_vote_stands_in_the_way<D: Digest>()
+    ensures { (views : ℕ) (before : List (Entry D)) (s t : Statement D) → MayFollow views before (voted s) → HasVoted before t → ¬ StandsInTheWay s t }
+{}
+
+/// A member votes lawfully, of whom all that it ever recorded is lawful.
+pub fn ever_lawful_members_vote_lawfully<S: Scheme<D>, D: Digest>()
+    ensures { (scheme : S) (owner : Owner) (artifacts : List (Artifact S D S.PublicKey S.Signature S.Certificate)) → IsEverLawful (S.attests scheme) (S.certifies scheme) owner artifacts → VotesLawfully (S.attests scheme) (S.certifies scheme) owner artifacts }
+{}
+
+/// Where all that was ever recorded is lawful, a notarization of a verdict's round stands before it.
+pub fn verdicts_follow_their_notarizations<S: Scheme<D>, D: Digest>()
+    ensures { (scheme : S) (owner : Owner) (before after : List (Artifact S D S.PublicKey S.Signature S.Certificate)) (round : Round) (verdict : Bool) → IsEverLawful (S.attests scheme) (S.certifies scheme) owner (before ++ artifact.Certification round verdict ∷ after) → (p : Proposal D) × (p.round ≡ round) × HasTaken (entries before) (notarize p) }
 {}
 
 /// A lawful record of which nothing was ever dropped is lawful as the list of all that was ever recorded.

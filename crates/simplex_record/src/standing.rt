@@ -1,17 +1,19 @@
 //! What is kept of a record: of each view and kind of artifact, whether the record has one. Every question
 //! and every addition takes a logarithmic time.
 
-ghost use Rattle.std.specs.Prelude.{◌≡◌, ◌↔◌, ◌<◌, ◌≤◌, [], List, Some, IsTrue, true};
+ghost use Rattle.std.specs.Prelude.{◌≡◌, ◌↔◌, ◌<◌, ◌≤◌, ℕ, [], Bool, List, Some, IsTrue, true};
 ghost use Rattle.std.specs.BTreeMap.{get};
 ghost use Rattle.std.specs.Ordering.{nat_cmp};
 ghost use Rattle.simplex_types.specs.Positions.{HasRoom};
 ghost use Rattle.simplex_types.specs.Subject.{notarize, nullify, finalize};
-ghost use Rattle.simplex_record.specs.Record.{Entry};
+ghost use Rattle.simplex_record.specs.Record.{Entry, HasVerdict, HasCertificate};
 ghost use Rattle.simplex_record.specs.Rules.{MayNotarize, MayNullify, MayFinalize, MayTake, MayJudge, IsHealed};
-ghost use Rattle.simplex_record.specs.Standing.{Keeps};
+ghost use Rattle.simplex_record.specs.Standing.{Keeps, TellsLastNullify};
 
 use crate::certificates::Certificates;
+use crate::numbering::Numbering;
 use crate::votes::Votes;
+use simplex_rules::Kind;
 use simplex_types::{Digest, Proposal, Round, TermLength, View};
 use std::alloc::Global;
 use std::collections::BTreeMap;
@@ -29,6 +31,8 @@ pub struct Standing<D: Digest> {
     pub(crate) last_finalized: View,
     /// The highest view that was entered, from 1 on.
     pub(crate) current_view: View,
+    /// How many artifacts there are, and where the last own nullify stands.
+    pub(crate) numbering: Numbering,
 }
 
 impl<D: Digest> Standing<D> {
@@ -42,7 +46,33 @@ impl<D: Digest> Standing<D> {
             verdicts: BTreeMap::new(alloc),
             last_finalized: View::zero(),
             current_view: View::new(1),
+            numbering: Numbering::new(),
         }
+    }
+
+    /// The verdict on the view, where one is recorded.
+    pub fn verdict(&self, view: View) -> Option<bool>
+        ensures { (views : ℕ) (before : List (Entry D)) → Keeps views self.now before → (verdict : Bool) → (result ≡ Some verdict) ↔ HasVerdict before view verdict }
+    {
+        self.verdicts.get(&view).copied()
+    }
+
+    /// Whether a certificate of this kind and view is recorded.
+    pub fn has_certificate(&self, kind: Kind, view: View) -> bool
+        ensures { (views : ℕ) (before : List (Entry D)) → Keeps views self.now before → IsTrue result ↔ HasCertificate before kind view }
+    {
+        match kind {
+            Kind::Notarization => self.certificates.notarizations.contains_key(&view),
+            Kind::Nullification => self.certificates.nullifications.contains(&view),
+            Kind::Finalization => self.certificates.finalizations.contains(&view),
+        }
+    }
+
+    /// The place of the last own nullify, where one is recorded: how many artifacts stand before it.
+    pub fn last_nullify(&self) -> Option<usize>
+        ensures { (views : ℕ) (before : List (Entry D)) → Keeps views self.now before → TellsLastNullify before result }
+    {
+        self.numbering.last_nullify
     }
 
     /// Whether the member may vote to notarize the proposal.

@@ -1,21 +1,22 @@
-use Rattle.std.proofs.Common.{arith}
-use Rattle.std.proofs.lemmas.Result.{on_ok_weaker}
-use Rattle.simplex_record.proofs.Checks.{room-next}
+use Rattle.std.proofs.Common.{sym, ◌∙◌, subst}
+use Rattle.simplex_record.specs.declared.numbering.Numbering.{Numbering}
+use Rattle.simplex_record.specs.Record.{entry}
+use Rattle.simplex_record.specs.Standing.{KeepsNumbering}
+use Rattle.simplex_record.proofs.Checks.{follows_room}
+use Rattle.simplex_record.proofs.Placing.{KeepsNumbering-push}
+use Rattle.simplex_record.proofs.Ruling.{true-false}
 use Rattle.simplex_record.proofs.standing.Standing.add.Goals as goal
 
-pub add_verdict-requires : goal.add_verdict-requires
-add_verdict-requires g c =
-    let room = rw c.in-Certification.is at c.requires in
-    room-next c.args.length c.in-Certification.round.view (omega arith) room
+pub returns-then-not-leaves_room-clause-keeps : goal.returns-then-not-leaves_room-clause-keeps
+returns-then-not-leaves_room-clause-keeps g c = λ before k may.
+    absurd (true-false (sym (c.leaves_room.ensures.1 (follows_room c.args.length c.args.self.now before k (entry c.args.artifact.now) may)) ∙ c.if-not-leaves_room.true))
 
-pub returns-in-Notarize : goal.returns-in-Notarize
-returns-in-Notarize g c = rw c.in-Notarize.is (on_ok_weaker c.add_notarize.result (λ adds before k may. adds c.args.length before k) c.add_notarize.ensures)
-
-pub returns-in-Certification : goal.returns-in-Certification
-returns-in-Certification g c = rw c.in-Certification.is (on_ok_weaker c.add_verdict.result (λ adds before k may. adds c.args.length before k may) c.add_verdict.ensures)
-
-pub returns-in-Nullify : goal.returns-in-Nullify
-returns-in-Nullify g c = rw c.in-Nullify.is (on_ok_weaker c.add_nullify.result (λ adds before k may. adds c.args.length before k) c.add_nullify.ensures)
-
-pub returns-in-Finalize : goal.returns-in-Finalize
-returns-in-Finalize g c = rw c.in-Finalize.is (on_ok_weaker c.add_finalize.result (λ adds before k may. adds c.args.length before k) c.add_finalize.ensures)
+pub returns-clause-keeps : goal.returns-clause-keeps
+returns-clause-keeps g c = λ before k may.
+    let kept = c.in_ok-take.ensures.keeps before k.by_view may in
+    let numbered : KeepsNumbering c.take.new.self.numbering before = subst (λ (n : Numbering). KeepsNumbering n before) (sym c.in_ok-take.ensures.numbering) k.numbering in
+    record {
+      by_view = record { votes = kept.votes; certificates = kept.certificates; verdicts = kept.verdicts; last_finalized = kept.last_finalized; current_view = kept.current_view };
+      numbering = KeepsNumbering-push c.take.new.self.numbering c.pass.new.self before (entry c.args.artifact.now) c.is_nullify.result numbered c.in_ok-pass.ensures.count c.in_ok-pass.ensures.last_nullify
+          c.is_nullify.ensures.0 (λ not is. true-false (sym (c.is_nullify.ensures.1 is) ∙ not));
+    }

@@ -1,8 +1,8 @@
 use Rattle.simplex_types.specs.Subject.{notarize}
-use Rattle.simplex_record.proofs.AddingKept.{KeepsVotes-notarize, Keeps-voted}
+use Rattle.simplex_record.proofs.AddingKept.{KeepsVotes-notarize, KeepsViews-voted}
 use Rattle.simplex_record.proofs.standing.Standing.add_notarize.Goals as goal
 
-pub returns : goal.returns
-returns g c = λ views before keeps.
+pub returns-clause-keeps : goal.returns-clause-keeps
+returns-clause-keeps g c = λ views before keeps.
     let standing = c.args.self.now in
-    Keeps-voted views standing before keeps (notarize c.args.proposal.now) _ (KeepsVotes-notarize standing.votes before keeps.votes c.insert.new.self c.args.proposal.now c.in_ok-insert.ensures.updates)
+    KeepsViews-voted views standing before keeps (notarize c.args.proposal.now) _ (KeepsVotes-notarize standing.votes before keeps.votes c.insert.new.self c.args.proposal.now c.in_ok-insert.ensures.updates)

@@ -1,8 +1,8 @@
 use Rattle.simplex_types.specs.Subject.{nullify}
-use Rattle.simplex_record.proofs.AddingKept.{KeepsVotes-nullify, Keeps-voted}
+use Rattle.simplex_record.proofs.AddingKept.{KeepsVotes-nullify, KeepsViews-voted}
 use Rattle.simplex_record.proofs.standing.Standing.add_nullify.Goals as goal
 
-pub returns : goal.returns
-returns g c = λ views before keeps.
+pub returns-clause-keeps : goal.returns-clause-keeps
+returns-clause-keeps g c = λ views before keeps.
     let standing = c.args.self.now in
-    Keeps-voted views standing before keeps (nullify c.args.round) _ (KeepsVotes-nullify standing.votes before keeps.votes c.insert.new.self c.args.round c.in_ok-insert.ensures.updates)
+    KeepsViews-voted views standing before keeps (nullify c.args.round) _ (KeepsVotes-nullify standing.votes before keeps.votes c.insert.new.self c.args.round c.in_ok-insert.ensures.updates)

@@ -13,12 +13,12 @@ returns g c = λ before k.
     let range = c.range.ensures.in_range tt in (
       λ none.
           let empty = (rw (is_some-false c.next-2.result (c.is_none.ensures ∙ ap not none)) at c.next-2.ensures.steps).0 in
-          healed-none c.args.self.now.votes before k.votes c.args.length c.args.view (λ view above past below.
-          none_between c.args.self.now.votes.nullifies c.max-low.result c.args.view c.range.result range empty view (omega (arith, low_is, above, past, k.last_finalized)) below),
+          healed-none c.args.self.now.votes before k.by_view.votes c.args.length c.args.view (λ view above past below.
+          none_between c.args.self.now.votes.nullifies c.max-low.result c.args.view c.range.result range empty view (omega (arith, low_is, above, past, k.by_view.last_finalized)) below),
       λ healed. elim (cases_option c.next-2.result) [
         | inl none ↦ false_not c.is_none.result (sym c.is_none.ensures ∙ ap is_some none)
         | inr some ↦
             let first = first_between c.args.self.now.votes.nullifies c.max-low.result c.args.view c.range.result range some.0.now _ (rw some.1 at c.next-2.ensures.steps) in
-            absurd (none-healed c.args.self.now.votes before k.votes c.args.length c.args.view some.0.now healed (omega (arith, low_is, first)) (omega (arith, low_is, first, k.last_finalized)) first.1 first.2)
+            absurd (none-healed c.args.self.now.votes before k.by_view.votes c.args.length c.args.view some.0.now healed (omega (arith, low_is, first)) (omega (arith, low_is, first, k.by_view.last_finalized)) first.1 first.2)
       ],
     )

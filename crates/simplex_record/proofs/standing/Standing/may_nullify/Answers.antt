@@ -12,15 +12,15 @@ returns-then-eq-clause-lawful g c = λ before k. unlike (λ may.
     absurd (omega (arith, zero, some, may.current)))
 
 pub returns-then-contains-clause-lawful : goal.returns-then-contains-clause-lawful
-returns-then-contains-clause-lawful g c = λ before k. unlike (λ may. sym (c.if-contains.true) ∙ c.contains.ensures ∙ (no_nullify c.args.self.now.votes before k.votes c.args.round).1 may.first)
+returns-then-contains-clause-lawful g c = λ before k. unlike (λ may. sym (c.if-contains.true) ∙ c.contains.ensures ∙ (no_nullify c.args.self.now.votes before k.by_view.votes c.args.round).1 may.first)
 
 pub returns-clause-lawful : goal.returns-clause-lawful
 returns-clause-lawful g c = λ before k.
     let same : c.args.round.view ≡ c.args.self.now.current_view = grind (arith, nat_tests, c.ne.ensures, c.if-ne.false) in
-    let never = no_finalize_of c.args.self.now.votes before k.votes c.args.round.view in (
+    let never = no_finalize_of c.args.self.now.votes before k.by_view.votes c.args.round.view in (
       λ none. record {
-        current = same ∙ k.current_view;
-        first = (no_nullify c.args.self.now.votes before k.votes c.args.round).0 (sym c.contains.ensures ∙ c.if-contains.false);
+        current = same ∙ k.by_view.current_view;
+        first = (no_nullify c.args.self.now.votes before k.by_view.votes c.args.round).0 (sym c.contains.ensures ∙ c.if-contains.false);
         not_finalized = never.0 (sym c.contains-2.ensures ∙ (true_not c.contains-2.result).0 none);
       },
       λ may. (true_not c.contains-2.result).1 (c.contains-2.ensures ∙ never.1 may.not_finalized),

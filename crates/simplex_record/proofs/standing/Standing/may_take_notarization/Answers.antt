@@ -8,7 +8,7 @@ returns-then-not-can_be_certified-clause-lawful g c = λ before k. unlike (λ ma
 pub returns-clause-lawful : goal.returns-clause-lawful
 returns-clause-lawful g c = λ before k.
     let can = c.can_be_certified.ensures.0 c.if-not-can_be_certified.false in
-    let never = no_notarization c.args.length c.args.self.now.certificates before k.certificates c.args.proposal.now in (
+    let never = no_notarization c.args.length c.args.self.now.certificates before k.by_view.certificates c.args.proposal.now in (
       λ none. record {
         from_one = omega (arith, can);
         room = can.0;

@@ -5,7 +5,7 @@ use Rattle.simplex_record.proofs.standing.Standing.may_take_nullification.Goals 
 pub returns-clause-lawful : goal.returns-clause-lawful
 returns-clause-lawful g c = λ before k.
     let some : c.args.round.view ≢ 0 = λ zero. true-false (sym (c.is_zero.ensures.1 zero) ∙ c.if-is_zero.false) in
-    let never = no_nullification c.args.length c.args.self.now.certificates before k.certificates c.args.round in (
+    let never = no_nullification c.args.length c.args.self.now.certificates before k.by_view.certificates c.args.round in (
       λ none. record {
         from_one = grind (arith, some);
         room = c.has_room.ensures.0 c.if-not-has_room.false;

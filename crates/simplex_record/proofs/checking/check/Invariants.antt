@@ -1,6 +1,6 @@
 use Rattle.std.proofs.Common.{length}
 use Rattle.simplex_record.proofs.Checks.{IsChecked}
-use Rattle.simplex_record.proofs.checking.first_refused.Given as goal
+use Rattle.simplex_record.proofs.checking.check.Given as goal
 
 -- what was checked so far is lawful
 abbrev pub invariant-loop-artifact : goal.invariant-loop-artifact
