@@ -2,11 +2,11 @@
 use Rattle.std.proofs.Common.{◌^◌, ◌≡◌, ◌≢◌, ◌⊎◌, inl, inr, ⊎_elim, ℕ, true, false, List, [], ◌∷◌, ◌++◌, map, refl, sym, ◌∙◌, ap, subst, append_assoc, arith, take_at, length}
 use Rattle.std.specs.Prelude.{All, Contains, Option, None, Some, MatchOption, Result, unwrap_or}
 use Rattle.std.proofs.lemmas.List.{append-nil, map-append}
-use Rattle.std.proofs.lemmas.List.Elements.{All-nil, All-cons, All-head, All-tail, All-push, All-take, All-contains, All-weaker, Contains-append_left, Contains-push}
+use Rattle.std.proofs.lemmas.List.Elements.{All-nil, All-cons, All-push, All-take, All-contains, All-weaker, Contains-append_left, Contains-push}
 use Rattle.std.specs.declared.alloc.Global.{Global}
 use Rattle.std.specs.declared.vec.Vec.{Vec}
 use Rattle.simplex_codec.specs.declared.codec.CodecError.{CodecError}
-use Rattle.simplex_codec.specs.Codec.{IsCodec, spelling-one}
+use Rattle.simplex_codec.specs.Codec.{IsCodec}
 use Rattle.simplex_journal.specs.declared.fault.JournalFault.{JournalFault}
 use Rattle.simplex_journal.specs.declared.fault.JournalFault.TheVariants.{Device, Memory, Foreign, TooLong, Failed}
 use Rattle.simplex_journal.specs.declared.history.Event.{Event}
@@ -17,26 +17,13 @@ use Rattle.simplex_journal.specs.Disk.{Call, MayLeave, LeavesOnly}
 use Rattle.simplex_journal.specs.Journal.{Standing, IsRecord, IsTooLong}
 use Rattle.simplex_journal.specs.Record.{Reads, IsWithOrWithout, IsReopened, IsForeign, end_of}
 use Rattle.simplex_journal.specs.History.{Begun, message_of, IsUnacknowledged, last_found, begun, IsFollowed, MayFind, MayRead, AtEachEvent, IsPastTheEnd, IsTrueOf, Finds, Leaves, Recalls, Remembers, IsAnswer, is_open, all_begun, disk_of, Stands}
-use Rattle.simplex_journal.proofs.Moments.{started, weaker, at_last}
+use Rattle.simplex_journal.specs.Moments.{started, weaker, at_last}
 use Rattle.simplex_journal.proofs.Images.{end_short, only_synced, reads_front}
 use Rattle.simplex_journal.proofs.Reopened.{reopened_here}
-use Rattle.simplex_journal.proofs.Total.{unique}
+use Rattle.simplex_journal.specs.OneReading.{unique, spellings-one}
 use Rattle.simplex_journal.proofs.Refusals.{entries_long, foreign_again, never_foreign}
 
 -- ---- lists
-
--- messages of the same spellings are the same
-pub spellings-one : {M : Type 0} {Fits : M → Type 0} {spelling : M → List ℕ} {reading : List ℕ → Result (M × List ℕ) CodecError} → IsCodec Fits spelling reading
-    → (xs ys : List M) → All Fits xs → All Fits ys → map spelling xs ≡ map spelling ys → xs ≡ ys
-spellings-one codec [] [] fits_xs fits_ys same = refl
-spellings-one codec [] (y ∷ ys) fits_xs fits_ys same = absurd cc
-spellings-one codec (x ∷ xs) [] fits_xs fits_ys same = absurd cc
-spellings-one {M} {Fits} {spelling} codec (x ∷ xs) (y ∷ ys) fits_xs fits_ys same =
-    let heads : spelling x ≡ spelling y = cc in
-    let tails : map spelling xs ≡ map spelling ys = cc in
-    let head : x ≡ y = spelling-one codec x y (All-head Fits x xs fits_xs) (All-head Fits y ys fits_ys) heads in
-    let tail : xs ≡ ys = spellings-one codec xs ys (All-tail Fits x xs fits_xs) (All-tail Fits y ys fits_ys) tails in
-    cc
 
 -- what holds of all holds of all in front
 pub all_in_front : {X : Type 0} (P : X → Type 0) (xs ys : List X) → All P (xs ++ ys) → All P xs

@@ -1,6 +1,5 @@
 pub mod Lists
 pub mod Images
-pub mod Moments
 pub mod Stages
 pub mod Repairing
 pub mod Finding

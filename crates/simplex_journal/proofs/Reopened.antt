@@ -2,10 +2,11 @@
 use Rattle.std.proofs.Common.{◌≡◌, inl, inr, ⊎_elim, ℕ, ◌+◌, ◌<◌, List, [], ◌∷◌, ◌++◌, length, sym, ◌∙◌, ap, subst, arith, length-append}
 use Rattle.simplex_journal.specs.Disk.{Call, Synced, MayLeave, LeavesOnly}
 use Rattle.simplex_journal.specs.Record.{AreEntries, Reads, IsWithOrWithout, IsFound, IsFixed, IsReopened}
-use Rattle.simplex_journal.proofs.Moments.{started, goes_on, weaker, and_then}
+use Rattle.simplex_journal.specs.Moments.{started, goes_on, weaker, and_then}
 use Rattle.simplex_journal.proofs.Images.{only_synced, end_short}
 use Rattle.simplex_journal.proofs.Repairing.{reads_found}
-use Rattle.simplex_journal.proofs.Total.{reads_any, reads_end, unique}
+use Rattle.simplex_journal.specs.OneReading.{unique}
+use Rattle.simplex_journal.proofs.Total.{reads_any, reads_end}
 
 -- a sync that succeeded fixes one of what a crash might have left
 pub fixes : (calls0 calls1 : List Call) (seen0 : List ℕ) → MayLeave calls0 seen0 → calls1 ≡ Synced seen0 ∷ calls0 → LeavesOnly calls0 calls1 (MayLeave calls0)

@@ -3,7 +3,7 @@ use Rattle.std.proofs.Common.{◌≡◌, inl, ℕ, ◌+◌, ◌<◌, ◌≤◌, 
 use Rattle.simplex_journal.specs.Disk.{Call, Wrote, CutTo, Synced, MayLeave, LeavesOnly, IsOverwritten}
 use Rattle.simplex_journal.specs.Record.{Reads, IsAtRest, IsFound, IsFixed}
 use Rattle.simplex_journal.proofs.Lists.{take_past}
-use Rattle.simplex_journal.proofs.Moments.{started, goes_on}
+use Rattle.simplex_journal.specs.Moments.{started, goes_on}
 use Rattle.simplex_journal.proofs.Images.{end_short, reads_front, cut_behind, gate_closes, first_gate, only_synced}
 use Rattle.simplex_journal.proofs.Stages.{held_byte, reads_rest}
 

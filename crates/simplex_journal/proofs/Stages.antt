@@ -3,7 +3,7 @@ use Rattle.std.proofs.Common.{◌≡◌, inl, inr, ℕ, ◌+◌, ◌≤◌, List
 use Rattle.std.proofs.lemmas.List.{append-nil, take_all, drop_all}
 use Rattle.simplex_journal.specs.Disk.{Call, Wrote, Synced, MayLeave, LeavesOnly, IsOverwritten}
 use Rattle.simplex_journal.specs.Record.{AreEntries, Reads, IsWithOrWithout, Spells, IsAtRest}
-use Rattle.simplex_journal.proofs.Moments.{started, goes_on, weaker}
+use Rattle.simplex_journal.specs.Moments.{started, goes_on, weaker}
 use Rattle.simplex_journal.proofs.Images.{end_shut, reads_front, entries_push, behind_gate, gate_opens, only_synced}
 
 -- a write behind the end

@@ -4,3 +4,5 @@ pub mod FileDisk
 pub mod Record
 pub mod Journal
 pub mod History
+pub mod Moments
+pub mod OneReading

@@ -7,6 +7,7 @@ mod fault;
 mod file_disk;
 mod history;
 mod journal;
+mod laws;
 mod memory_disk;
 mod opening;
 
@@ -16,4 +17,5 @@ pub use fault::JournalFault;
 pub use file_disk::FileDisk;
 pub use history::{Crash, Event, History, Request, run};
 pub use journal::Journal;
+pub use laws::a_disk_reads_as_one_record;
 pub use memory_disk::MemoryDisk;

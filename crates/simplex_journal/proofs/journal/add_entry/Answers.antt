@@ -1,6 +1,6 @@
 use Rattle.std.proofs.Common.{◌≤◌, length, [], ◌∷◌, subst, sym}
 use Rattle.simplex_journal.specs.Disk.{IsOverwritten}
-use Rattle.simplex_journal.proofs.Moments.{stays, tried}
+use Rattle.simplex_journal.specs.Moments.{stays, tried}
 use Rattle.simplex_journal.proofs.Stages.{wrote, begun_either, synced, opening, within, rests, ended}
 use Rattle.simplex_journal.proofs.journal.add_entry.Goals as goal
 

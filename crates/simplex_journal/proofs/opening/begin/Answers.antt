@@ -1,4 +1,4 @@
-use Rattle.simplex_journal.proofs.Moments.{stays, tried}
+use Rattle.simplex_journal.specs.Moments.{stays, tried}
 use Rattle.simplex_journal.proofs.Repairing.{first_begun, first_rests, first_writing, first_written}
 use Rattle.simplex_journal.proofs.opening.begin.Goals as goal
 

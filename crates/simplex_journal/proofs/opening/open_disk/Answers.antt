@@ -2,7 +2,7 @@ use Rattle.std.proofs.Common.{[], ◌≡◌, ◌∙◌, ℕ, List, map, subst, s
 use Rattle.simplex_journal.specs.declared.fault.JournalFault.TheVariants.{Device, Foreign, Memory}
 use Rattle.simplex_journal.specs.Disk.{MayLeave}
 use Rattle.simplex_journal.specs.Record.{IsFound}
-use Rattle.simplex_journal.proofs.Moments.{started, stays}
+use Rattle.simplex_journal.specs.Moments.{started, stays}
 use Rattle.simplex_journal.proofs.Repairing.{reads_found}
 use Rattle.simplex_journal.proofs.Reopened.{fixes, reopened_first, reopened_fixed}
 use Rattle.simplex_journal.proofs.opening.open_disk.Goals as goal

@@ -1,6 +1,6 @@
 use Rattle.std.proofs.Common.{◌≤◌, length, [], ◌∷◌, subst, sym}
 use Rattle.simplex_journal.specs.Disk.{IsOverwritten}
-use Rattle.simplex_journal.proofs.Moments.{stays, tried}
+use Rattle.simplex_journal.specs.Moments.{stays, tried}
 use Rattle.simplex_journal.proofs.Repairing.{begun, synced, gate_within, cutting, closing, closed, rests}
 use Rattle.simplex_journal.proofs.opening.repair.Goals as goal
 

@@ -1,7 +1,8 @@
--- How a run of calls of a disk goes on.
+-- Lemmas: how a stretch of calls of a disk goes on, at each of whose moments a crash leaves only what has P.
 use Rattle.std.proofs.Common.{◌≡◌, ◌⊎◌, ⊎_elim, ℕ, List, [], ◌∷◌, ◌++◌, refl, sym, ◌∙◌, ap, subst, append_assoc}
 use Rattle.simplex_journal.specs.Disk.{Call, MayLeave, AtEach, LeavesOnly}
 
+-- no call
 pub started : (old : List Call) (P : List ℕ → Type 0) → ((image : List ℕ) → MayLeave old image → P image) → LeavesOnly old old P
 started old P here = record { made = []; is = refl; each = here }
 
@@ -21,6 +22,7 @@ weaker_each : (made old : List Call) (P Q : List ℕ → Type 0) → ((image : L
 weaker_each [] old P Q step each = λ image left. step image (each image left)
 weaker_each (call ∷ made) old P Q step each = (weaker_each made old P Q step each.0, λ image left. step image (each.1 image left))
 
+-- what has P has Q too
 pub weaker : {old new : List Call} {P : List ℕ → Type 0} (Q : List ℕ → Type 0) → LeavesOnly old new P → ((image : List ℕ) → P image → Q image) → LeavesOnly old new Q
 weaker {old} {new} {P} Q so_far step = record { made = so_far.made; is = so_far.is; each = weaker_each so_far.made old P Q step so_far.each }
 
@@ -29,6 +31,7 @@ last_each : (made old : List Call) (P : List ℕ → Type 0) → AtEach made old
 last_each [] old P each = each
 last_each (call ∷ made) old P each = each.1
 
+-- a crash behind the last call leaves what has P
 pub at_last : {old new : List Call} {P : List ℕ → Type 0} → LeavesOnly old new P → (image : List ℕ) → MayLeave new image → P image
 at_last {old} {new} {P} so_far image left = last_each so_far.made old P so_far.each image (subst (λ (l : List Call). MayLeave l image) so_far.is left)
 
@@ -37,6 +40,7 @@ then_each : (made2 made1 old : List Call) (P : List ℕ → Type 0) → AtEach m
 then_each [] made1 old P first second = first
 then_each (call ∷ made2) made1 old P first second = (then_each made2 made1 old P first second.0, λ image left. second.1 image (subst (λ (l : List Call). MayLeave (call ∷ l) image) (append_assoc made2 made1 old) left))
 
+-- one stretch behind another
 pub and_then : {old mid new : List Call} {P : List ℕ → Type 0} → LeavesOnly old mid P → LeavesOnly mid new P → LeavesOnly old new P
 and_then {old} {mid} {new} {P} first second = record {
   made = second.made ++ first.made;
