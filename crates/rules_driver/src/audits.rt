@@ -3,7 +3,7 @@
 use crate::bytes::bytes_of;
 use script_messages::SayMessages;
 use script_words::{Committee, Say, Trouble, Words};
-use simplex_audit::{Audit, audit, names_rest_on_the_reports};
+use simplex_audit::{Audit, a_contradicted_round_names_enough, audit, names_rest_on_the_reports};
 use simplex_messages::Activity;
 use simplex_rules::SaltedScheme;
 use simplex_types::{PlainScheme, Read, Sha256Digest, Write};
@@ -169,4 +169,5 @@ fn say_sum<S: Committee>(
 /// The laws of the audit.
 pub(crate) fn laws() {
     names_rest_on_the_reports::<PlainScheme, Sha256Digest>();
+    a_contradicted_round_names_enough::<PlainScheme, Sha256Digest>();
 }

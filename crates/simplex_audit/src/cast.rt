@@ -49,7 +49,7 @@ impl<D: Digest, G: Signature> Cast<D, G> {
 
     /// Whether the two are one vote, to the last byte.
     pub(crate) fn is_same(&self, other: &Self) -> bool
-        ensures { IsTrue result → self.now ≡ other.now }
+        ensures { IsTrue result ↔ (self.now ≡ other.now) }
     {
         self.signature == other.signature && self.choice == other.choice
     }

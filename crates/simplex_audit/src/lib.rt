@@ -13,5 +13,5 @@ mod tally;
 mod verdict;
 
 pub use auditing::audit;
-pub use laws::names_rest_on_the_reports;
+pub use laws::{a_contradicted_round_names_enough, names_rest_on_the_reports};
 pub use verdict::Audit;

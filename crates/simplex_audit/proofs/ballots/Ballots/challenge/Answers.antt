@@ -5,7 +5,7 @@ use Rattle.simplex_audit.proofs.ballots.Ballots.challenge.Goals as goal
 
 pub returns-then-is_same : goal.returns-then-is_same
 returns-then-is_same g c = λ casts s.
-    claim_again (CastIsAttested g.K.ProposalKind.states (g.S.Scheme.attests c.args.scheme.now) c.args.suspect.now) casts c.in-Claim.claim c.args.cast.now (rw c.in-Claim.is at s) (c.is_same.ensures c.if-is_same.true)
+    claim_again (CastIsAttested g.K.ProposalKind.states (g.S.Scheme.attests c.args.scheme.now) c.args.suspect.now) casts c.in-Claim.claim c.args.cast.now (rw c.in-Claim.is at s) (c.is_same.ensures.0 c.if-is_same.true)
 
 pub returns-then-not-verifies : goal.returns-then-not-verifies
 returns-then-not-verifies g c = λ casts s.
