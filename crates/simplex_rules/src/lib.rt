@@ -4,6 +4,7 @@
 pub mod elector;
 mod kind;
 mod lookahead;
+mod plan;
 mod salted;
 mod terms;
 mod viewport;
@@ -17,6 +18,7 @@ pub use lookahead::{
     Lookahead, admission_limit_is_the_last_view_listened_to, few_views_ahead_are_listened_to,
     issuance_floor_leaves_the_optimistic_views_between, what_is_spoken_of_is_listened_to,
 };
+pub use plan::Plan;
 pub use salted::{SaltedScheme, SaltedSignature, signatures_of_two_counters_differ};
 pub use terms::Terms;
 pub use viewport::Viewport;
