@@ -664,6 +664,7 @@ def tags_by_hand(script):
     for own, tag in [(0, 0), (1, 3), (2, 5)]:
         one_value(script, "vote", retagged(tag, own))
         script.worked(f"becomes vote {retagged(tag, own)}", REPORTS[tag])
+        script.worked(f"reports vote {retagged(tag, own)}", REPORTS[tag])
     refused(script, "vote", "", "End")
     for tag in (3, 9, 255):
         refused(script, "vote", retagged(0, tag), "Invalid")
@@ -673,6 +674,7 @@ def tags_by_hand(script):
         one_value(script, "certificate", retagged(tag, own))
         script.worked(f"verify certificate 4 {retagged(tag, own)}", "true")
         script.worked(f"becomes certificate {retagged(tag, own)}", REPORTS[tag])
+        script.worked(f"reports certificate {retagged(tag, own)}", REPORTS[tag])
     refused(script, "certificate", retagged(1, 3), "Invalid")
     refused(script, "certificate", "03", "Invalid")
     refused(script, "certificate", "", "End")

@@ -1,7 +1,7 @@
 //! The calls by their names.
 
 use crate::evidence::{beside, conflict, contradict, nullify_finalize};
-use crate::kinds::{becomes, certification, is_within, most, signer, value};
+use crate::kinds::{becomes, certification, is_within, most, reports, signer, value};
 use crate::making::{assemble, can_assemble, sign};
 use crate::verdicts::{certificates, verified, verify};
 use script_words::{Say, Trouble, Words};
@@ -40,6 +40,7 @@ fn of_any_type(name: &str, words: &mut Words<'_>, say: &mut Say) -> Result<(), T
         "most" => most(words, say),
         "within" => is_within(words, say),
         "becomes" => becomes(words, say),
+        "reports" => reports(words, say),
         "certification" => certification(words, say),
         _ => value(name, words, say),
     }

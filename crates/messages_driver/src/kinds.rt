@@ -114,6 +114,16 @@ pub fn becomes(words: &mut Words<'_>, say: &mut Say) -> Result<(), Trouble> {
     say.value(&artifact)
 }
 
+/// `reports vote BYTES`, `reports certificate BYTES`: the report of it.
+pub fn reports(words: &mut Words<'_>, say: &mut Say) -> Result<(), Trouble> {
+    let report = match words.word() {
+        "vote" => Report::from(words.value::<Vote>(say.alloc, u32::MAX)?),
+        "certificate" => Report::from(words.value::<Certificate>(say.alloc, u32::MAX)?),
+        _ => return Err(Trouble::Unreadable),
+    };
+    say.value(&report)
+}
+
 /// `certification EPOCH VIEW TRUTH`: the artifact.
 pub fn certification(words: &mut Words<'_>, say: &mut Say) -> Result<(), Trouble> {
     let round = words.round()?;

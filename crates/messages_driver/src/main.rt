@@ -5,8 +5,8 @@
 //! `certificate`, `artifact`, `report`.
 //!
 //! - `read TYPE BOUND BYTES`, `cuts TYPE BOUND BYTES`, `changes TYPE BOUND BITS BYTES`, `belongs TYPE BYTES`, `distinct
-//!   TYPE BYTES..`, `equal TYPE BYTES BYTES`: what `script_values` asks; `signer`, `most`, `within`, `becomes` and
-//!   `certification` in `kinds.rt`
+//!   TYPE BYTES..`, `equal TYPE BYTES BYTES`: what `script_values` asks; `signer`, `most`, `within`, `becomes`,
+//!   `reports` and `certification` in `kinds.rt`
 //! - `sign KIND MEMBERS ME PROPOSAL` (a round for a nullify), `can_assemble CERTIFICATE MEMBERS VOTE..`, `assemble
 //!   CERTIFICATE OWNED MEMBERS VOTE..`
 //! - `verify TYPE MEMBERS BYTES`, `verified REPORT`, `certificates MEMBERS CERTIFICATE..`

@@ -6,6 +6,10 @@ use Rattle.simplex_codec.specs.Codec.{IsCodec, IsChoice, Readable, TakesBehind, 
 use Rattle.simplex_types.specs.Subject.{Statement, notarize, nullify, finalize}
 use Rattle.simplex_messages.specs.declared.activity.Activity.{Activity}
 use Rattle.simplex_messages.specs.declared.activity.Activity.TheVariants as activity
+use Rattle.simplex_messages.specs.declared.vote.Vote.{Vote}
+use Rattle.simplex_messages.specs.declared.vote.Vote.TheVariants as vote
+use Rattle.simplex_certificates.specs.declared.certificate.Certificate.{Certificate}
+use Rattle.simplex_certificates.specs.declared.certificate.Certificate.TheVariants as certificate
 use Rattle.simplex_certificates.specs.declared.nullify.Nullify.{Nullify}
 use Rattle.simplex_certificates.specs.declared.nullification.Nullification.{Nullification}
 use Rattle.simplex_certificates.specs.ProposalVote.{Notarize, Finalize, IsAttested, vote_spelling, vote_fits, vote_at, vote-IsCodec}
@@ -29,6 +33,18 @@ module _ {S D P G C : Type 0} where
   activity_round (activity.ConflictingNotarize x) = x.0.proposal.round
   activity_round (activity.ConflictingFinalize x) = x.0.proposal.round
   activity_round (activity.NullifyFinalize x) = x.0.round
+
+  -- the report of a vote
+  abbrev pub vote_activity : Vote S D P G C → Activity S D P G C
+  vote_activity (vote.Notarize v) = activity.Notarize v
+  vote_activity (vote.Nullify v) = activity.Nullify v
+  vote_activity (vote.Finalize v) = activity.Finalize v
+
+  -- the report of a certificate that was seen
+  abbrev pub certificate_activity : Certificate S D P G C → Activity S D P G C
+  certificate_activity (certificate.Notarization c) = activity.Notarization c
+  certificate_activity (certificate.Nullification c) = activity.Nullification c
+  certificate_activity (certificate.Finalization c) = activity.Finalization c
 
   -- what the report holds is right: a vote or both votes of evidence are attested, a certificate certifies
   abbrev pub IsRight : (ℕ → Statement D → G → Type 0) → (Statement D → C → Type 0) → Activity S D P G C → Type 0

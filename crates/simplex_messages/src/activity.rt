@@ -7,8 +7,9 @@ ghost use Rattle.simplex_messages.specs.Activity.{activity_behind};
 
 use crate::conflicting_votes::{ConflictingFinalize, ConflictingNotarize};
 use crate::nullify_finalize::NullifyFinalize;
+use crate::vote::Vote;
 use simplex_certificates::{
-    Finalization, Finalize, Notarization, Notarize, Nullification, Nullify,
+    Certificate, Finalization, Finalize, Notarization, Notarize, Nullification, Nullify,
 };
 use simplex_types::{
     CodecError, Digest, Duplicate, EncodeSize, Epoch, Epochable, Read, Round, Scheme, View,
@@ -134,6 +135,45 @@ impl<S: Scheme<D>, D: Digest> Activity<S, D> {
             Activity::ConflictingNotarize(evidence) => evidence.append(out),
             Activity::ConflictingFinalize(evidence) => evidence.append(out),
             Activity::NullifyFinalize(evidence) => evidence.append(out),
+        }
+    }
+}
+
+/// A vote is reported as it is.
+impl<S: Scheme<D>, D: Digest> From<Vote<S, D>> for Activity<S, D> {
+    ghost use Rattle.std.specs.Prelude.{◌≡◌};
+    ghost use Rattle.simplex_messages.specs.Activity.{vote_activity};
+
+    ghost from_gives = { λ vote activity. activity ≡ vote_activity vote };
+
+    fn from(vote: Vote<S, D>) -> Self {
+        match &vote {
+            Vote::Notarize(vote) => {
+                Activity::Notarize(Notarize::new(vote.proposal, vote.attestation))
+            }
+            Vote::Nullify(vote) => Activity::Nullify(Nullify {
+                round: vote.round,
+                attestation: vote.attestation,
+            }),
+            Vote::Finalize(vote) => {
+                Activity::Finalize(Finalize::new(vote.proposal, vote.attestation))
+            }
+        }
+    }
+}
+
+/// A certificate is reported as one that was seen, never as one of a proposal that was found good.
+impl<S: Scheme<D>, D: Digest> From<Certificate<S, D>> for Activity<S, D> {
+    ghost use Rattle.std.specs.Prelude.{◌≡◌};
+    ghost use Rattle.simplex_messages.specs.Activity.{certificate_activity};
+
+    ghost from_gives = { λ certificate activity. activity ≡ certificate_activity certificate };
+
+    fn from(certificate: Certificate<S, D>) -> Self {
+        match certificate {
+            Certificate::Notarization(certificate) => Activity::Notarization(certificate),
+            Certificate::Nullification(certificate) => Activity::Nullification(certificate),
+            Certificate::Finalization(certificate) => Activity::Finalization(certificate),
         }
     }
 }
