@@ -55,7 +55,9 @@ pub fn assemble_enough<S: Scheme<D>, D: Digest>(
     needed: usize,
     given: &[Attestation<S::Signature>],
 ) -> Result<Option<S::Certificate>, AllocError>
-    ensures { IfOk result (λ made. AreDistinct given.now → All (λ a. S.attests scheme.now a.signer (statement subject.now) a.signature) given.now → MatchOption made (length given.now < needed) (λ c. (needed ≤ length given.now) × IsWhole (S.certifies scheme.now (statement subject.now)) S.lists S.enumerates given.now c)) }
+    ensures made { IfOk result (λ made. AreDistinct given.now → All (λ a. S.attests scheme.now a.signer (statement subject.now) a.signature) given.now → MatchOption made (length given.now < needed) (λ c. (needed ≤ length given.now) × IsWhole (S.certifies scheme.now (statement subject.now)) S.lists S.enumerates given.now c)) }
+    ensures readable { IfOk result (λ made. IfSome made (λ c. S.Certificate.within (S.size scheme.now) c)) }
+    ensures within { IfOk result (λ made. IfSome made (λ c. S.Certificate.within 65535 c)) }
 {
     if given.len() < needed {
         return Ok(None);
@@ -78,7 +80,9 @@ fn judge_each<S: Scheme<D>, D: Digest>(
     verified: &[Attestation<S::Signature>],
     waiting: &[Attestation<S::Signature>],
 ) -> Result<Judged<S::Certificate>, AllocError>
-    ensures { IfOk result (λ judged. AreDistinct (verified.now ++ waiting.now) → All (λ a. S.attests scheme.now a.signer (statement subject.now) a.signature) verified.now → IsOneByOne (S.certifies scheme.now (statement subject.now)) S.lists (S.batchable scheme.now) (λ i a. S.attests scheme.now i (statement subject.now) a) S.enumerates needed verified.now waiting.now judged) }
+    ensures verdict { IfOk result (λ judged. AreDistinct (verified.now ++ waiting.now) → All (λ a. S.attests scheme.now a.signer (statement subject.now) a.signature) verified.now → IsOneByOne (S.certifies scheme.now (statement subject.now)) S.lists (S.batchable scheme.now) (λ i a. S.attests scheme.now i (statement subject.now) a) S.enumerates needed verified.now waiting.now judged) }
+    ensures readable { IfOk result (λ judged. IfSome judged.certificate (λ c. S.Certificate.within (S.size scheme.now) c)) }
+    ensures within { IfOk result (λ judged. IfSome judged.certificate (λ c. S.Certificate.within 65535 c)) }
 {
     let invalid = scheme.verify_attestations(alloc, subject, waiting)?;
     let given = backers(alloc, verified, waiting, &invalid)?;
@@ -100,7 +104,9 @@ pub fn judge<S: Scheme<D>, D: Digest>(
     verified: &[Attestation<S::Signature>],
     waiting: &[Attestation<S::Signature>],
 ) -> Result<Judged<S::Certificate>, AllocError>
-    ensures { IfOk result (λ judged. AreDistinct (verified.now ++ waiting.now) → All (λ a. S.attests scheme.now a.signer (statement subject.now) a.signature) verified.now → IsJudged (S.certifies scheme.now (statement subject.now)) S.lists (S.batchable scheme.now) (λ i a. S.attests scheme.now i (statement subject.now) a) S.enumerates needed verified.now waiting.now judged) }
+    ensures verdict { IfOk result (λ judged. AreDistinct (verified.now ++ waiting.now) → All (λ a. S.attests scheme.now a.signer (statement subject.now) a.signature) verified.now → IsJudged (S.certifies scheme.now (statement subject.now)) S.lists (S.batchable scheme.now) (λ i a. S.attests scheme.now i (statement subject.now) a) S.enumerates needed verified.now waiting.now judged) }
+    ensures readable { IfOk result (λ judged. IfSome judged.certificate (λ c. S.Certificate.within (S.size scheme.now) c)) }
+    ensures within { IfOk result (λ judged. IfSome judged.certificate (λ c. S.Certificate.within 65535 c)) }
 {
     if scheme.is_batchable() {
         let mut all = Vec::from_slice(alloc, verified)?;

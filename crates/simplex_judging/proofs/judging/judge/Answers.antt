@@ -1,8 +1,8 @@
 use Rattle.std.proofs.Common.{◌≡◌, ◌++◌, ◌∙◌, inl, inr, refl, sym}
 use Rattle.simplex_judging.proofs.judging.judge.Goals as goal
 
-pub returns-in-Some : goal.returns-in-Some
-returns-in-Some g c = λ distinct attesting.
+pub returns-in-Some-clause-verdict : goal.returns-in-Some-clause-verdict
+returns-in-Some-clause-verdict g c = λ distinct attesting.
     let given : c.deref.result.now ≡ c.args.verified.now ++ c.args.waiting.now = rw c.deref.ensures.value (rw c.in_ok-extend_from_slice.ensures.items (rw c.in_ok-all.ensures.items refl)) in
     inl (record {
       batchable_is = sym c.is_batchable.ensures ∙ c.if-is_batchable.true;
@@ -16,5 +16,5 @@ returns-in-Some g c = λ distinct attesting.
       };
     })
 
-pub returns : goal.returns
-returns g c = λ distinct attesting. inr (c.in_ok-judged.ensures distinct attesting)
+pub returns-clause-verdict : goal.returns-clause-verdict
+returns-clause-verdict g c = λ distinct attesting. inr (c.in_ok-judged.ensures.verdict distinct attesting)
