@@ -33,7 +33,7 @@ kind-self Nullification = refl
 kind-self Finalization = refl
 
 -- nothing is due where none wait and too few are known to attest
-not-due : (needed sure wait : ℕ) (known one batchable : Bool) → sure < needed → wait ≡ 0 → ((nat_le needed sure && (known || one)) || (known && (nat_lt 0 wait && (not batchable || nat_le needed (sure + wait))))) ≡ false
+pub not-due : (needed sure wait : ℕ) (known one batchable : Bool) → sure < needed → wait ≡ 0 → ((nat_le needed sure && (known || one)) || (known && (nat_lt 0 wait && (not batchable || nat_le needed (sure + wait))))) ≡ false
 not-due needed sure wait known one batchable few none = grind (arith, few, none)
 
 -- a selection stays where nothing is fixed and the leader's proposal isn't known

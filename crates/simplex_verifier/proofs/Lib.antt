@@ -8,3 +8,4 @@ pub mod Rightly
 pub mod Constructing
 pub mod Finishing
 pub mod Spending
+pub mod Tracing

@@ -33,7 +33,7 @@ module _ {X Y : Type 0} (f : X → Y) where
   map-there (y ∷ ys) x (zero, l, e) = (zero, omega arith, ap f e)
   map-there (y ∷ ys) x (suc k, l, e) = Contains-append_right (f y ∷ []) (map f ys) (f x) (map-there ys x (k, omega arith, e))
 
-  map-from : (xs : List X) (y : Y) → Contains (map f xs) y → (x : X) × Contains xs x × (f x ≡ y)
+  pub map-from : (xs : List X) (y : Y) → Contains (map f xs) y → (x : X) × Contains xs x × (f x ≡ y)
   map-from [] y (k, l, e) = absurd (omega arith)
   map-from (x ∷ xs) y (zero, l, e) = (x, (zero, omega arith, refl), e)
   map-from (x ∷ xs) y (suc k, l, e) = let rest = map-from xs y (k, omega arith, e) in (rest.0, Contains-append_right (x ∷ []) xs rest.0 rest.1, rest.2)

@@ -1,6 +1,6 @@
 -- What the votes state that count.
 use Rattle.std.proofs.Common.{◌≡◌, ℕ, Bool, true, false, not, ◌&&◌, ◌||◌, ◌==◌, List, [], ◌∷◌, refl, ap, sym, ◌∙◌, arith, map, length, slice_index_or}
-use Rattle.std.specs.Prelude.{Option, None, Some, filter, find, is_some, is_none, nat_le, if◌then◌else◌, IsTrue, ◌↔◌}
+use Rattle.std.specs.Prelude.{Option, None, Some, IfSome, filter, find, is_some, is_none, nat_le, if◌then◌else◌, IsTrue, ◌↔◌}
 use Rattle.std.specs.List.{All, Contains}
 use Rattle.std.specs.Option.{option_and_then}
 use Rattle.std.specs.Prelude.{⊤}
@@ -160,6 +160,13 @@ module _ {D : Type 0} (same : D → D → Bool) (law : (x y : D) → IsTrue (sam
       pub selected-ours : (h : History S D P G C) → IsLawful same attests s h → IsOurs s.round (selected h)
       selected-ours [] lawful = tt
       selected-ours (e ∷ h) lawful = select-ours s.round (selection h) (fixed_by e) (led (e ∷ h)) (selected-ours h lawful.1) (fixed-ours h e lawful) (led-ours (e ∷ h) (leader_of (e ∷ h)) lawful)
+
+      pub selected-if : (h : History S D P G C) → IsLawful same attests s h → IfSome (selected h) (λ p. p.round ≡ s.round)
+      selected-if h lawful = go (selected h) (selected-ours h lawful)
+        where
+          go : (o : Option (Proposal D)) → IsOurs s.round o → IfSome o (λ p. p.round ≡ s.round)
+          go None ours = tt
+          go (Some p) ours = ours
 
       module _ (kind : Kind) (h : History S D P G C) (lawful : IsLawful same attests s h) where
         -- of this kind, and of the round

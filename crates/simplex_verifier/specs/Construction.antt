@@ -1,9 +1,11 @@
 -- What comes of a construction.
-use Rattle.std.specs.Prelude.{◌≡◌, ℕ, Bool, false, List, [], ◌∷◌, length, map, All, Option, None, Some, IfSome, MatchOption, MatchBool}
+use Rattle.std.specs.Prelude.{◌≡◌, ℕ, Bool, true, false, List, [], ◌∷◌, length, map, All, Contains, Option, None, Some, IfSome, MatchOption, MatchBool}
 use Rattle.std.specs.Option.{option_map}
+use Rattle.simplex_types.specs.declared.attestation.Attestation.{Attestation}
 use Rattle.simplex_types.specs.Subject.{Statement}
 use Rattle.simplex_types.specs.declared.scheme.Scheme.{Ghosts}
 use Rattle.simplex_messages.specs.declared.vote.Vote.{Vote}
+use Rattle.simplex_messages.specs.VoteParts.{vote_signer}
 use Rattle.simplex_certificates.specs.declared.certificate.Certificate.{Certificate}
 use Rattle.simplex_certificates.specs.Certificate.{certificate_round, certificate_statement, certified_by}
 use Rattle.simplex_judging.specs.declared.kind.Kind.{Kind}
@@ -11,8 +13,9 @@ use Rattle.simplex_judging.specs.declared.kind.Kind.TheVariants.{Notarization, N
 use Rattle.simplex_verifier.specs.declared.batch.Batch.{Batch}
 use Rattle.simplex_judging.specs.declared.judging.Judged.{Judged}
 use Rattle.simplex_judging.specs.Judging.{IsJudged, IsWhole}
-use Rattle.simplex_verifier.specs.Votes.{vote_statement, vote_attestation, certificate_kind}
-use Rattle.simplex_verifier.specs.History.{History, Certified, Setup, context, waiting, verified, is_ready, next_kind}
+use Rattle.simplex_verifier.specs.Votes.{is_kind, vote_kind, vote_statement, vote_attestation, certificate_kind}
+use Rattle.simplex_verifier.specs.History.{History, Certified, Setup, accepted, context, waiting, verified, is_ready, next_kind}
+use Rattle.simplex_verifier.specs.Lawful.{VoteAttests}
 use Rattle.simplex_verifier.specs.History as history
 
 -- how many kinds there are from the first of which a construction is due on
@@ -47,7 +50,35 @@ module _ {S D P G C : Type 0} where
     pub round_is : certificate_round c ≡ s.round
     pub states : certificate_statement c ≡ x
 
+  -- the certificate is within the bound of a committee of so many, and within 65,535: it can be sent, kept and read again
+  abbrev pub IsReadable : (ℕ → C → Type 0) → ℕ → Certificate S D P G C → Type 0
+  IsReadable within members c = within members (certified_by c) × within 65535 (certified_by c)
+
+  -- the attestation is that of an accepted vote of this kind, which states this
+  pub record IsVoted (kind : Kind) (h : History S D P G C) (x : Statement D) (a : Attestation G) : Type 0 where
+    pub vote : Vote S D P G C
+    pub accepted_is : Contains (accepted h) vote
+    pub kind_is : is_kind kind (vote_kind vote) ≡ true
+    pub states : vote_statement vote ≡ x
+    pub attestation_is : vote_attestation vote ≡ a
+
+  -- a vote of this kind and this member was accepted that does not attest what it states
+  pub record HasFailed (attests : S → ℕ → Statement D → G → Type 0) (s : Setup S) (kind : Kind) (h : History S D P G C) (signer : ℕ) : Type 0 where
+    pub vote : Vote S D P G C
+    pub accepted_is : Contains (accepted h) vote
+    pub kind_is : is_kind kind (vote_kind vote) ≡ true
+    pub signer_is : vote_signer vote ≡ signer
+    pub fails : VoteAttests attests s vote → ⊥
+
   module _ (g : Ghosts S D P G C) where
+    -- a certificate of this kind and of the round that certifies what it states, and lists attestations of accepted votes
+    -- alone that state the same
+    pub record IsFounded (s : Setup S) (kind : Kind) (h : History S D P G C) (c : Certificate S D P G C) : Type 0 where
+      pub kind_is : certificate_kind c ≡ kind
+      pub round_is : certificate_round c ≡ s.round
+      pub does_certify : g.certifies s.scheme (certificate_statement c) (certified_by c)
+      pub listed : (a : Attestation G) → Contains (g.lists (certified_by c)) a → IsVoted kind h (certificate_statement c) a
+
     -- a certificate of this kind and of the round, of all these votes, each of which states what it states
     pub record IsCertificateOf (s : Setup S) (kind : Kind) (votes : List (Vote S D P G C)) (c : Certificate S D P G C) : Type 0 where
       pub kind_is : certificate_kind c ≡ kind

@@ -4,7 +4,7 @@ ghost use Rattle.std.specs.Prelude.{◌≡◌, ◌∷◌, Bool, Option, Some, No
 ghost use Rattle.std.specs.Option.{option_map};
 ghost use Rattle.simplex_types.specs.Subject.{statement};
 ghost use Rattle.simplex_verifier.specs.History.{context, statement_for, waiting, verified, is_ready, is_worth_judging, is_due};
-ghost use Rattle.simplex_verifier.specs.Construction.{after, IsCertificateOf, IsOfVerified, IsOfWaiting, IsBatch};
+ghost use Rattle.simplex_verifier.specs.Construction.{after, IsReadable, IsCertificateOf, IsOfVerified, IsOfWaiting, IsBatch};
 ghost use Rattle.simplex_judging.specs.declared.kind.Kind.TheVariants.{Notarization, Nullification, Finalization};
 ghost use Rattle.simplex_verifier.specs.Keeping.{VerifierKeeps, AtEachOf, selection_of};
 ghost use Rattle.simplex_verifier.specs.History.{proposal_of};
@@ -48,6 +48,7 @@ impl<S: Scheme<D>, D: Digest> Verifier<S, D> {
     ) -> Result<Option<Batch<Certificate<S, D>>>, AllocError>
         ensures due { IfOk result (λ made. AtEachOf D.PartialEq.eq S.Scheme S.batchable self.old (λ s h. is_some made ≡ is_due D.PartialEq.eq s Notarization h)) }
         ensures batch { IfOk result (λ made. IfSome made (λ batch. AtEachOf D.PartialEq.eq S.Scheme S.batchable self.old (λ s h. IsBatch S.Scheme D.PartialEq.eq s Notarization h batch))) }
+        ensures readable { IfOk result (λ made. IfSome made (λ batch. AtEachOf D.PartialEq.eq S.Scheme S.batchable self.old (λ s h. IfSome batch.certificate (IsReadable S.Certificate.within s.members)))) }
         ensures keeps { IfOk result (λ made. AtEachOf D.PartialEq.eq S.Scheme S.batchable self.old (λ s h. VerifierKeeps D.PartialEq.eq S.Scheme S.batchable s self.new (after Notarization made h))) }
         ensures err { OnErr result (AtEachOf D.PartialEq.eq S.Scheme S.batchable self.old (λ s h. VerifierKeeps D.PartialEq.eq S.Scheme S.batchable s self.new h)) }
     {
@@ -62,6 +63,7 @@ impl<S: Scheme<D>, D: Digest> Verifier<S, D> {
     ) -> Result<Option<Batch<Certificate<S, D>>>, AllocError>
         ensures due { IfOk result (λ made. AtEachOf D.PartialEq.eq S.Scheme S.batchable self.old (λ s h. is_some made ≡ is_due D.PartialEq.eq s Nullification h)) }
         ensures batch { IfOk result (λ made. IfSome made (λ batch. AtEachOf D.PartialEq.eq S.Scheme S.batchable self.old (λ s h. IsBatch S.Scheme D.PartialEq.eq s Nullification h batch))) }
+        ensures readable { IfOk result (λ made. IfSome made (λ batch. AtEachOf D.PartialEq.eq S.Scheme S.batchable self.old (λ s h. IfSome batch.certificate (IsReadable S.Certificate.within s.members)))) }
         ensures keeps { IfOk result (λ made. AtEachOf D.PartialEq.eq S.Scheme S.batchable self.old (λ s h. VerifierKeeps D.PartialEq.eq S.Scheme S.batchable s self.new (after Nullification made h))) }
         ensures err { OnErr result (AtEachOf D.PartialEq.eq S.Scheme S.batchable self.old (λ s h. VerifierKeeps D.PartialEq.eq S.Scheme S.batchable s self.new h)) }
     {
@@ -76,6 +78,7 @@ impl<S: Scheme<D>, D: Digest> Verifier<S, D> {
     ) -> Result<Option<Batch<Certificate<S, D>>>, AllocError>
         ensures due { IfOk result (λ made. AtEachOf D.PartialEq.eq S.Scheme S.batchable self.old (λ s h. is_some made ≡ is_due D.PartialEq.eq s Finalization h)) }
         ensures batch { IfOk result (λ made. IfSome made (λ batch. AtEachOf D.PartialEq.eq S.Scheme S.batchable self.old (λ s h. IsBatch S.Scheme D.PartialEq.eq s Finalization h batch))) }
+        ensures readable { IfOk result (λ made. IfSome made (λ batch. AtEachOf D.PartialEq.eq S.Scheme S.batchable self.old (λ s h. IfSome batch.certificate (IsReadable S.Certificate.within s.members)))) }
         ensures keeps { IfOk result (λ made. AtEachOf D.PartialEq.eq S.Scheme S.batchable self.old (λ s h. VerifierKeeps D.PartialEq.eq S.Scheme S.batchable s self.new (after Finalization made h))) }
         ensures err { OnErr result (AtEachOf D.PartialEq.eq S.Scheme S.batchable self.old (λ s h. VerifierKeeps D.PartialEq.eq S.Scheme S.batchable s self.new h)) }
     {
@@ -90,6 +93,7 @@ impl<S: Scheme<D>, D: Digest> Verifier<S, D> {
     ) -> Result<Option<Batch<Certificate<S, D>>>, AllocError>
         ensures due { IfOk result (λ made. AtEachOf D.PartialEq.eq S.Scheme S.batchable self.old (λ s h. is_some made ≡ is_due D.PartialEq.eq s kind h)) }
         ensures batch { IfOk result (λ made. IfSome made (λ batch. AtEachOf D.PartialEq.eq S.Scheme S.batchable self.old (λ s h. IsBatch S.Scheme D.PartialEq.eq s kind h batch))) }
+        ensures readable { IfOk result (λ made. IfSome made (λ batch. AtEachOf D.PartialEq.eq S.Scheme S.batchable self.old (λ s h. IfSome batch.certificate (IsReadable S.Certificate.within s.members)))) }
         ensures keeps { IfOk result (λ made. AtEachOf D.PartialEq.eq S.Scheme S.batchable self.old (λ s h. VerifierKeeps D.PartialEq.eq S.Scheme S.batchable s self.new (after kind made h))) }
         ensures err { OnErr result (AtEachOf D.PartialEq.eq S.Scheme S.batchable self.old (λ s h. VerifierKeeps D.PartialEq.eq S.Scheme S.batchable s self.new h)) }
     {
@@ -143,6 +147,7 @@ impl<S: Scheme<D>, D: Digest> Verifier<S, D> {
         kind: Kind,
     ) -> Result<Option<Batch<Certificate<S, D>>>, AllocError>
         ensures batch { IfOk result (λ made. AtEachOf D.PartialEq.eq S.Scheme S.batchable self.old (λ s h. is_ready D.PartialEq.eq s kind h ≡ true → MatchOption made ⊥ (λ batch. IsOfVerified S.Scheme D.PartialEq.eq s kind h batch))) }
+        ensures readable { IfOk result (λ made. IfSome made (λ batch. AtEachOf D.PartialEq.eq S.Scheme S.batchable self.old (λ s h. IfSome batch.certificate (IsReadable S.Certificate.within s.members)))) }
         ensures keeps { IfOk result (λ made. AtEachOf D.PartialEq.eq S.Scheme S.batchable self.old (λ s h. is_ready D.PartialEq.eq s kind h ≡ true → VerifierKeeps D.PartialEq.eq S.Scheme S.batchable s self.new (after kind made h))) }
         ensures err { OnErr result (AtEachOf D.PartialEq.eq S.Scheme S.batchable self.old (λ s h. VerifierKeeps D.PartialEq.eq S.Scheme S.batchable s self.new h)) }
     {
@@ -164,7 +169,8 @@ impl<S: Scheme<D>, D: Digest> Verifier<S, D> {
         alloc: Global,
         kind: Kind,
     ) -> Result<Option<Certificate<S, D>>, AllocError>
-        ensures { IfOk result (λ made. AtEachOf D.PartialEq.eq S.Scheme S.batchable self.now (λ s h. is_ready D.PartialEq.eq s kind h ≡ true → MatchOption made ⊥ (λ c. IsCertificateOf S.Scheme s kind (verified D.PartialEq.eq s kind h) c))) }
+        ensures made { IfOk result (λ made. AtEachOf D.PartialEq.eq S.Scheme S.batchable self.now (λ s h. is_ready D.PartialEq.eq s kind h ≡ true → MatchOption made ⊥ (λ c. IsCertificateOf S.Scheme s kind (verified D.PartialEq.eq s kind h) c))) }
+        ensures readable { IfOk result (λ made. IfSome made (λ c. AtEachOf D.PartialEq.eq S.Scheme S.batchable self.now (λ s h. IsReadable S.Certificate.within s.members c))) }
     {
         let votes = self.pools.of(kind).verified.as_slice();
         let [first, ..] = votes else {
@@ -191,6 +197,7 @@ impl<S: Scheme<D>, D: Digest> Verifier<S, D> {
         kind: Kind,
     ) -> Result<Option<Batch<Certificate<S, D>>>, AllocError>
         ensures batch { IfOk result (λ made. AtEachOf D.PartialEq.eq S.Scheme S.batchable self.old (λ s h. is_some (context s kind h) ≡ true → MatchOption made ⊥ (λ batch. IsOfWaiting S.Scheme D.PartialEq.eq s kind h batch))) }
+        ensures readable { IfOk result (λ made. IfSome made (λ batch. AtEachOf D.PartialEq.eq S.Scheme S.batchable self.old (λ s h. IfSome batch.certificate (IsReadable S.Certificate.within s.members)))) }
         ensures keeps { IfOk result (λ made. AtEachOf D.PartialEq.eq S.Scheme S.batchable self.old (λ s h. VerifierKeeps D.PartialEq.eq S.Scheme S.batchable s self.new (after kind made h))) }
         ensures err { OnErr result (AtEachOf D.PartialEq.eq S.Scheme S.batchable self.old (λ s h. VerifierKeeps D.PartialEq.eq S.Scheme S.batchable s self.new h)) }
     {
@@ -213,6 +220,7 @@ impl<S: Scheme<D>, D: Digest> Verifier<S, D> {
         subject: &Subject<'_, D>,
     ) -> Result<Batch<Certificate<S, D>>, AllocError>
         ensures batch { IfOk result (λ batch. AtEachOf D.PartialEq.eq S.Scheme S.batchable self.old (λ s h. context s kind h ≡ Some (statement subject.now) → IsOfWaiting S.Scheme D.PartialEq.eq s kind h batch)) }
+        ensures readable { IfOk result (λ batch. AtEachOf D.PartialEq.eq S.Scheme S.batchable self.old (λ s h. IfSome batch.certificate (IsReadable S.Certificate.within s.members))) }
         ensures keeps { IfOk result (λ batch. AtEachOf D.PartialEq.eq S.Scheme S.batchable self.old (λ s h. context s kind h ≡ Some (statement subject.now) → VerifierKeeps D.PartialEq.eq S.Scheme S.batchable s self.new (after kind (Some batch) h))) }
         ensures err { OnErr result (AtEachOf D.PartialEq.eq S.Scheme S.batchable self.old (λ s h. VerifierKeeps D.PartialEq.eq S.Scheme S.batchable s self.new h)) }
     {

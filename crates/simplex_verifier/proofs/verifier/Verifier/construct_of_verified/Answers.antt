@@ -10,5 +10,5 @@ returns-clause-batch g c = λ s h k ready. record {
   no_fallback = refl;
   certificate = c.in-Some.certificate;
   made = refl;
-  certificate_is = (rw c.in-Some.is at c.in_ok-certificate.ensures) s h k ready;
+  certificate_is = (rw c.in-Some.is at c.in_ok-certificate.ensures.made) s h k ready;
 }
