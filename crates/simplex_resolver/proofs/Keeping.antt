@@ -72,13 +72,15 @@ module _ (views : ℕ) (held : Held) (h : List Item) (k : Holds views held h) wh
     ]
 
     held-with : (nulls : BTreeMap ℕ (Vec ℕ Global)) (spans : List (ℕ × ℕ)) → ((w : ℕ) → option_map items (get nat_cmp nulls w) ≡ kept_nullification views (Nullified u bytes ∷ h) w)
+        → ((v : ℕ) → IsCovered held.covered v → IsCovered spans v)
         → ((v : ℕ) → finalized h < v → IsCovered spans v ↔ (covered views (Nullified u bytes ∷ h) v ≡ true)) → Holds views (record held { nullifications = nulls; covered = spans }) (Nullified u bytes ∷ h)
-    held-with nulls spans kept are = record {
+    held-with nulls spans kept stays are = record {
       some = k.some;
       length_is = k.length_is;
       finalized_is = k.finalized_is ∙ sym same;
       finalization_is = k.finalization_is;
       nullifications = kept;
+      cut = λ v some low. stays v (k.cut v some (omega (arith, low, same)));
       covered_is = λ v above. are v (omega (arith, above, same));
       known = λ v. k.known v ∙ ap (λ (f : ℕ). nat_lt f v && is_known h v) (sym same);
       certified_is = λ v. k.certified_is v ∙ ap (λ (f : ℕ). if nat_lt f v then certified h v else None) (sym same);
@@ -98,6 +100,7 @@ module _ (views : ℕ) (held : Held) (h : List Item) (k : Holds views held h) wh
               k.nullifications w ∙ (kept-early views h w early ∙ sym (kept-early views (Nullified u bytes ∷ h) w (omega (arith, early, same))))
           | inr ne ↦ k.nullifications w ∙ sym (kept-same w (nullification-other w ne))
         ])
+        (λ v is. is)
         (λ v above. covered-same v above (ap (λ (b : Bool). b || covered views h v) (covers-no v (omega (arith, low, above)))))
 
     -- nor does a second one of a view
@@ -109,6 +112,7 @@ module _ (views : ℕ) (held : Held) (h : List Item) (k : Holds views held h) wh
               k.nullifications w ∙ sym (kept-same w (option_or-first (nullification h w) _ some))
           | inr ne ↦ k.nullifications w ∙ sym (kept-same w (nullification-other w ne))
         ])
+        (λ v is. is)
         (λ v above. covered-same v above (elim (bool_cases (covers views v (Nullified u bytes))) [
           | inl is ↦
               let lies = covers-from v is in
@@ -135,6 +139,7 @@ module _ (views : ℕ) (held : Held) (h : List Item) (k : Holds views held h) wh
           | inl e ↦ subst (λ (q : ℕ). option_map items (get nat_cmp nulls q) ≡ kept_nullification views (Nullified u bytes ∷ h) q) e (ap (λ (o : Option (Vec ℕ Global)). option_map items o) put ∙ (ap Some bytes_are ∙ sym here))
           | inr ne ↦ ap (λ (o : Option (Vec ℕ Global)). option_map items o) (others w (apart u w ne)) ∙ (k.nullifications w ∙ sym (kept-same w (nullification-other w ne)))
         ])
+        (λ v is. (cover v).1 (inl is))
         (λ v above. (
           λ c. ⊎_elim (λ old. or_right _ _ ((k.covered_is v above).0 old)) (λ lies. ap (λ (b : Bool). b || covered views h v) (covers-yes v lies.0 (rw end_is at lies.1))) ((cover v).0 c),
           λ e. (cover v).1 (⊎_elim (λ is. let lies = covers-from v is in inr (lies.0, rw end_is lies.1)) (λ old. inl ((k.covered_is v above).1 old)) (or_cases (covers views v (Nullified u bytes)) (covered views h v) e)),
@@ -157,17 +162,18 @@ module _ (views : ℕ) (held : Held) (h : List Item) (k : Holds views held h) wh
       | inr low ↦ rw (nat_le-no (v + 1) q (omega (arith, low)), nat_lt-no v q low) refl
     ]
 
-    pub finalized-first : (spelled : Vec ℕ Global) (nulls served : BTreeMap ℕ (Vec ℕ Global)) (seen bad : BTreeSet ℕ) (spans : List (ℕ × ℕ)) (start first bottom : ℕ) → spelled.items ≡ bytes → first ≡ v + 1 → start ≡ term_start views first
+    pub finalized-first : (spelled : Vec ℕ Global) (nulls served : BTreeMap ℕ (Vec ℕ Global)) (seen bad : BTreeSet ℕ) (spans : List (ℕ × ℕ)) (start first bottom : ℕ) → spelled.items ≡ bytes → bottom ≡ 0 → first ≡ v + 1 → start ≡ term_start views first
         → ((q : ℕ) → get nat_cmp nulls q ≡ (if nat_lt q start then None else get nat_cmp held.nullifications q)) → ((q : ℕ) → get nat_cmp served q ≡ (if nat_lt q first then None else get nat_cmp held.certified q))
         → ((q : ℕ) → contains nat_cmp seen q ≡ (nat_le first q && contains nat_cmp held.known q)) → ((q : ℕ) → contains nat_cmp bad q ≡ (nat_le first q && contains nat_cmp held.failed q))
         → ((q : ℕ) → IsCovered spans q ↔ (IsCovered held.covered q ⊎ LiesIn (bottom, v) q))
         → Holds views (record held { last_finalized = v; finalization = Some spelled; nullifications = nulls; covered = spans; known = seen; certified = served; failed = bad }) (Finalized v bytes ∷ h)
-    finalized-first spelled nulls served seen bad spans start first bottom bytes_are first_is start_is nulls_are served_are seen_are bad_are spans_are = record {
+    finalized-first spelled nulls served seen bad spans start first bottom bytes_are bottom_is first_is start_is nulls_are served_are seen_are bad_are spans_are = record {
       some = k.some;
       length_is = k.length_is;
       finalized_is = sym now;
       finalization_is = ap Some bytes_are ∙ sym (ap (λ (b : Bool). if b then Some bytes else finalization h) (nat_lt-yes (finalized h) v above));
       nullifications = λ w. ap (λ (o : Option (Vec ℕ Global)). option_map items o) (nulls_are w) ∙ kept w;
+      cut = λ q some low. (spans_are q).1 (inr (omega (arith, bottom_is), omega (arith, low, now)));
       covered_is = λ q past.
           let behind : v < q = omega (arith, past, now) in
           let was = k.covered_is q (omega (arith, behind, above)) in
@@ -208,6 +214,7 @@ held-replayed views held h k = record {
   finalized_is = k.finalized_is ∙ same;
   finalization_is = k.finalization_is;
   nullifications = λ w. k.nullifications w ∙ ap (λ (f : ℕ). if nat_lt f (term_end views w) then nullification h w else None) same;
+  cut = λ v some low. k.cut v some (omega (arith, low, same));
   covered_is = λ v above. k.covered_is v (omega (arith, above, same));
   known = λ v. k.known v ∙ ap (λ (f : ℕ). nat_lt f v && is_known h v) same;
   certified_is = λ v. k.certified_is v ∙ ap (λ (f : ℕ). if nat_lt f v then certified h v else None) same;

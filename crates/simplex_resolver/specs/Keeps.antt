@@ -1,5 +1,5 @@
 -- How the state stands to the list of all that came.
-use Rattle.std.specs.Prelude.{◌≡◌, ◌↔◌, ◌<◌, ◌&&◌, ℕ, true, nat_lt, List, Option, None, if◌then◌else◌}
+use Rattle.std.specs.Prelude.{◌≡◌, ◌↔◌, ◌≤◌, ◌<◌, ◌&&◌, ℕ, true, nat_lt, List, Option, None, if◌then◌else◌}
 use Rattle.std.specs.Ordering.{nat_cmp}
 use Rattle.std.specs.Option.{option_map}
 use Rattle.std.specs.BTreeMap.{get}
@@ -19,13 +19,15 @@ length_of state = state.held.length
 abbrev pub kept_nullification : ℕ → List Item → ℕ → Option (List ℕ)
 kept_nullification views h u = if nat_lt (finalized h) (term_end views u) then nullification h u else None
 
--- what is held is what these items lead to
+-- What is held is what these items lead to. Up to the last finalized view what is covered is one span: each view there
+-- counts as covered, so no more is kept of it as the history grows.
 pub record Holds (views : ℕ) (held : Held) (h : List Item) : Type 0 where
   pub some : 0 < views
   pub length_is : held.length ≡ views
   pub finalized_is : held.last_finalized ≡ finalized h
   pub finalization_is : option_map (λ bytes. bytes.items) held.finalization ≡ finalization h
   pub nullifications : (u : ℕ) → option_map (λ bytes. bytes.items) (get nat_cmp held.nullifications u) ≡ kept_nullification views h u
+  pub cut : (v : ℕ) → 0 < v → v ≤ finalized h → IsCovered held.covered v
   pub covered_is : (v : ℕ) → finalized h < v → IsCovered held.covered v ↔ (covered views h v ≡ true)
   pub known : (v : ℕ) → contains nat_cmp held.known v ≡ (nat_lt (finalized h) v && is_known h v)
   pub certified_is : (v : ℕ) → option_map (λ bytes. bytes.items) (get nat_cmp held.certified v) ≡ servable h v

@@ -25,7 +25,7 @@ pub(crate) struct Held {
     pub(crate) last_finalized: View,
     finalization: Option<Vec<u8>>,
     nullifications: BTreeMap<View, Vec<u8>>,
-    /// The views that nullifications cover. Up to the last finalized view it may tell of any that they are.
+    /// The views that nullifications cover, and all up to the last finalized one, which are one span so.
     covered: Coverage,
     /// The views with a notarization or a verdict.
     known: BTreeSet<View>,
@@ -115,7 +115,7 @@ impl Held {
         drop_entries_below(&mut self.certified, first);
         drop_views_below(&mut self.known, first);
         drop_views_below(&mut self.failed, first);
-        // The spans of what is dropped go into one.
+        // The spans of what is finalized go into one.
         self.covered.cover(View::zero(), view)?;
         Ok(())
     }

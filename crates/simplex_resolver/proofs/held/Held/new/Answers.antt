@@ -16,6 +16,7 @@ returns c =
       finalized_is = c.zero.ensures;
       finalization_is = refl;
       nullifications = λ u. rw (nullifications, if_either (nat_lt 0 (term_end c.args.length u))) refl;
+      cut = λ v some low. absurd (omega (arith, some, low));
       covered_is = λ v above. (λ is. absurd (c.new-2.ensures v is), λ e. absurd (grind (arith, e)));
       known = λ v. rw known (grind arith);
       certified_is = λ v. rw (certified, if_either (nat_lt 0 v)) refl;
