@@ -4,4 +4,5 @@ pub mod Covers
 pub mod Items
 pub mod Keeping
 pub mod Leaving
+pub mod Serving
 pub mod TermStarts

@@ -1,10 +1,10 @@
 -- What is settled, and what is served.
-use Rattle.std.specs.Prelude.{ℕ, zero, suc, ◌&&◌, ◌||◌, Bool, nat_lt, nat_le, List, Option, None, if◌then◌else◌}
+use Rattle.std.specs.Prelude.{◌≡◌, ℕ, zero, suc, ◌&&◌, ◌||◌, Bool, true, false, nat_lt, nat_le, List, Contains, Option, None, Some, if◌then◌else◌}
 use Rattle.std.specs.Option.{option_or}
 use Rattle.simplex_types.specs.Positions.{term_start}
 use Rattle.simplex_resolver.specs.declared.ask.Kind.{Kind}
 use Rattle.simplex_resolver.specs.declared.ask.Kind.TheVariants as kind
-use Rattle.simplex_resolver.specs.History.{Item, finalized, floor, nullification, certified, finalization, covered, has_failed, is_known}
+use Rattle.simplex_resolver.specs.History.{Item, Nullified, Notarized, Finalized, Judged, Replayed, finalized, floor, nullification, certified, finalization, covered, has_failed, is_known}
 
 -- nothing is left to be asked of the kind at the view
 abbrev pub is_settled : ℕ → List Item → ℕ → Kind → Bool
@@ -38,3 +38,20 @@ servable h v = if nat_lt (finalized h) v then certified h v else None
 abbrev pub produced : ℕ → List Item → ℕ → Option (List ℕ)
 produced views h v = option_or (if nat_le v (finalized h) then finalization h else None)
     (option_or (servable h v) (option_or (covering views h v) (if nat_le v (floor h) then servable h (floor h) else None)))
+
+-- the bytes of the certificate that an item brings to be served: none of a false verdict
+abbrev pub brings : Item → Option (List ℕ)
+brings (Nullified u bytes) = Some bytes
+brings (Notarized v) = None
+brings (Finalized v bytes) = Some bytes
+brings (Judged v bytes true) = Some bytes
+brings (Judged v bytes false) = None
+brings Replayed = None
+
+-- an item came that brought these bytes
+abbrev pub Came : List Item → List ℕ → Type 0
+Came h bytes = (x : Item) × Contains h x × (brings x ≡ Some bytes)
+
+-- what is served came, as it was spelled
+abbrev pub WhatIsProducedCame : Type 0
+WhatIsProducedCame = (views : ℕ) (h : List Item) (v : ℕ) (bytes : List ℕ) → produced views h v ≡ Some bytes → Came h bytes

@@ -10,5 +10,5 @@ mod terms;
 
 pub use ask::{Ask, Kind, Until};
 pub use effect::{Effect, FetchReason};
-pub use laws::effects_leave_the_outstanding;
+pub use laws::{effects_leave_the_outstanding, what_is_produced_came};
 pub use state::State;
