@@ -6,7 +6,7 @@ use script_certificates::CertificateWords;
 use script_words::{Say, Trouble, Words};
 use simplex_certificates::{Certificate, Notarization};
 use simplex_resolver::State;
-use simplex_types::{PlainScheme, Sha256Digest, Viewable};
+use simplex_types::{PlainScheme, Sha256Digest};
 use std::alloc::Global;
 
 /// A state, and the size of the committee whose certificates it takes.
@@ -48,9 +48,6 @@ impl Repair {
             say.alloc, self.n,
         )?;
         words.end()?;
-        if !certificate.view().has_room(self.state.term_length()) {
-            return Err(Trouble::Condition);
-        }
         say_effects(&self.state.updated(say.alloc, &certificate)?, say)
     }
 
@@ -63,9 +60,6 @@ impl Repair {
         )?;
         let is_success = words.truth()?;
         words.end()?;
-        if !notarization.view().has_room(self.state.term_length()) {
-            return Err(Trouble::Condition);
-        }
         let effects = self.state.certified(say.alloc, notarization, is_success)?;
         say_effects(&effects, say)
     }
@@ -78,6 +72,7 @@ impl Repair {
     /// The calls that change nothing.
     fn ask(&self, name: &str, words: &mut Words<'_>, say: &mut Say) -> Result<(), Trouble> {
         match name {
+            "outstanding" => self.outstanding(words, say),
             "settled" => self.settled(words, say),
             "key_settled" => self.key_settled(words, say),
             "uncertifiable" => self.uncertifiable(words, say),
@@ -85,6 +80,21 @@ impl Repair {
             "term_length" => self.term_length(words, say),
             _ => Err(Trouble::Unreadable),
         }
+    }
+
+    /// The outstanding views, ascending, with `,` between two, or `-`.
+    fn outstanding(&self, words: &mut Words<'_>, say: &mut Say) -> Result<(), Trouble> {
+        words.end()?;
+        let mut views = self.state.outstanding();
+        let Some(first) = views.next() else {
+            return say.none();
+        };
+        say.view(first)?;
+        for view in views {
+            say.text(",")?;
+            say.view(view)?;
+        }
+        Ok(())
     }
 
     fn settled(&self, words: &mut Words<'_>, say: &mut Say) -> Result<(), Trouble> {

@@ -82,6 +82,17 @@ module _ (views : ℕ) (h : List Item) (cause : ℕ) where
       pub Asked-start : Asked views h cause start old old start
       Asked-start = record { anchors = []; asked_is = sym (append-nil old); on = λ more a. a }
 
+      pub Asked-pass : (now : List Effect) (anchor u : ℕ) → Asked views h cause start old now anchor → anchor ≤ u → ((v : ℕ) → anchor ≤ v → v < u → covered views h v ≡ true) → covered views h u ≡ false → u < current h
+          → Asked views h cause start old now u
+      Asked-pass now anchor u a le all bare below =
+          let p = pass anchor u le all bare below in
+          let none : fetches views h cause (a.anchors ++ p.anchors) ≡ fetches views h cause a.anchors = fetches-append a.anchors p.anchors ∙ (ap (λ (es : List Effect). fetches views h cause a.anchors ++ es) p.none ∙ append-nil _) in
+          record {
+            anchors = a.anchors ++ p.anchors;
+            asked_is = a.asked_is ∙ ap (λ (es : List Effect). old ++ es) (sym none);
+            on = λ more rest. rw (append_assoc a.anchors p.anchors more) (a.on (p.anchors ++ more) (p.on more rest));
+          }
+
       pub Asked-step : (now : List Effect) (anchor u : ℕ) → Asked views h cause start old now anchor → anchor ≤ u → ((v : ℕ) → anchor ≤ v → v < u → covered views h v ≡ true) → covered views h u ≡ false → u < current h
           → Asked views h cause start old (now ++ fetch cause u ∷ []) (next_term_start views u)
       Asked-step now anchor u a le all bare below =

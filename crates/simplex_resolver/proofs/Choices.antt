@@ -4,8 +4,12 @@ use Rattle.std.specs.Ordering.{nat_cmp, is_gt, is_eq, ord_max}
 use Rattle.std.specs.declared.cmp.Ordering.TheVariants.{Less}
 use Rattle.std.specs.Cmp.{nat_cmp_is}
 use Rattle.std.specs.Option.{option_map, option_or}
-use Rattle.std.proofs.Common.{◌≡◌, ◌⊎◌, inl, inr, ◌≤◌, ◌<◌, ◌==◌, ℕ, Bool, true, false, Option, Some, None, refl, sym, arith, if◌then◌else◌}
+use Rattle.std.specs.List.{Contains, list_any}
+use Rattle.std.proofs.Common.{◌≡◌, ◌⊎◌, inl, inr, ◌≤◌, ◌<◌, ◌==◌, ℕ, Bool, true, false, List, Option, Some, None, refl, sym, ◌∙◌, ap, arith, if◌then◌else◌}
+use Rattle.std.proofs.lemmas.Bool.{cases_eq}
 use Rattle.std.proofs.lemmas.Bool.Decides.{nat_tests}
+use Rattle.std.proofs.lemmas.List.Folds.{list_any_at}
+use Rattle.std.proofs.lemmas.Map.Views.{Contains-from_any}
 
 pub bool_cases : (b : Bool) → (b ≡ true) ⊎ (b ≡ false)
 bool_cases true = inl refl
@@ -120,3 +124,19 @@ on_ok-map (Err e) f p = p
 pub if_ok-map : {T E : Type 0} {P Q : T → Type 0} (r : Result T E) → ((x : T) → P x → Q x) → IfOk r P → IfOk r Q
 if_ok-map (Ok x) f p = f x p
 if_ok-map (Err e) f p = p
+
+-- a set of numbers has a number where its list does
+same_key : (v : ℕ) → is_eq (nat_cmp v v) ≡ true
+same_key v = grind (arith, nat_tests)
+
+equal_keys : (a b : ℕ) → is_eq (nat_cmp a b) ≡ true → a ≡ b
+equal_keys a b is = elim (cases_eq a b) [
+  | inl same ↦ same
+  | inr ne ↦ absurd (let never = apart a b ne in grind (arith, is, never))
+]
+
+pub found_key : (keys : List ℕ) (v : ℕ) → Contains keys v → list_any (λ k. is_eq (nat_cmp v k)) keys ≡ true
+found_key keys v is = list_any_at (λ k. is_eq (nat_cmp v k)) keys is.0 v is.1 (ap (λ (k : ℕ). is_eq (nat_cmp v k)) is.2 ∙ same_key v)
+
+pub key_found : (keys : List ℕ) (v : ℕ) → list_any (λ k. is_eq (nat_cmp v k)) keys ≡ true → Contains keys v
+key_found keys v is = Contains-from_any equal_keys v keys is

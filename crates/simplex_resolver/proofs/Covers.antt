@@ -15,7 +15,7 @@ use Rattle.simplex_resolver.specs.History.{Item, Nullified, Notarized, Finalized
 use Rattle.simplex_resolver.specs.Answers.{highest_nullification, covering}
 use Rattle.simplex_resolver.specs.Keeps.{Holds, kept_nullification}
 use Rattle.simplex_resolver.proofs.Choices.{bool_cases, or_cases, or_right, option_cases, option_or-some, option_or-later, option_or-none, option_or-cases, if_same, if_other, nat_lt-yes, nat_le-yes, nat_le-no, not_gt_from_le}
-use Rattle.simplex_resolver.proofs.TermStarts.{start-end, same_end}
+use Rattle.simplex_resolver.proofs.TermStarts.{start-end, same_end, term_start-ge}
 
 -- what covers a view: a nullification of its term, not behind it
 pub record IsCover (views : ℕ) (h : List Item) (v u : ℕ) : Type 0 where
@@ -173,6 +173,32 @@ module _ (views : ℕ) (held : Held) (h : List Item) (k : Holds views held h) (v
       let in_time : nat_lt (finalized h) (term_end views u) ≡ true = nat_lt-yes _ _ (omega (arith, above, reaches)) in
       let is : kept_nullification views h u ≡ nullification h u = rw in_time refl in
       k.nullifications u ∙ is
+
+  -- no view is covered behind one that isn't, where no nullification lies between
+  pub bare-on : (first : ℕ) → first ≤ v → covered views h first ≡ false → ((u : ℕ) → first < u → u ≤ v → get nat_cmp held.nullifications u ≡ None) → covered views h v ≡ false
+  bare-on first le bare none = elim (bool_cases (covered views h v)) [
+    | inl is ↦
+        let c = covered-cover views h v is in
+        let u = c.0 in
+        let there = c.1.there in
+        absurd (elim (cases_lt first u) [
+          | inl behind ↦
+              let gone : nullification h u ≡ None = sym (kept u c.1.from) ∙ ap (option_map (λ (bytes : Vec ℕ Global). bytes.items)) (none u behind c.1.to) in
+              grind (arith, gone, there)
+          | inr before ↦
+              let reach : v ≤ term_end views u = (start-end views k.some v u).0 c.1.from in
+              let never = cover-covered views h first u (record { from = (start-end views k.some first u).1 (omega (arith, le, reach)); to = before; there = there }) in
+              grind (arith, never, bare)
+        ])
+    | inr is ↦ is
+  ]
+
+  -- a view of which there is a nullification is covered
+  pub entry-covered : (bytes : Vec ℕ Global) → get nat_cmp held.nullifications v ≡ Some bytes → covered views h v ≡ true
+  entry-covered bytes is =
+      let from = term_start-ge views k.some v in
+      let here : nullification h v ≡ Some bytes.items = sym (kept v from) ∙ ap (option_map (λ (b : Vec ℕ Global). b.items)) is in
+      cover-covered views h v v (record { from = from; to = omega arith; there = rw here refl })
 
   module _ (r : List (ℕ × Vec ℕ Global)) (range : IsRangeOf nat_cmp (Included (term_start views v)) (Included v) held.nullifications r) where
     pub covering-none : r ≡ [] → covering views h v ≡ None

@@ -10,10 +10,10 @@ use Rattle.std.proofs.lemmas.Bool.Decides.{nat_tests}
 use Rattle.simplex_types.specs.Positions.{term_start, term_end}
 use Rattle.simplex_record.specs.Coverage.{IsCovered, LiesIn}
 use Rattle.simplex_resolver.specs.declared.held.Held.{Held}
-use Rattle.simplex_resolver.specs.declared.state.State.{State}
+use Rattle.simplex_resolver.specs.declared.scanner.Scanner.{Scanner}
 use Rattle.simplex_resolver.specs.History.{Item, Nullified, Finalized, Replayed, covered, covers, current, floor, finalized, finalization, nullification, certified, has_failed, is_known}
 use Rattle.simplex_resolver.specs.Answers.{servable}
-use Rattle.simplex_resolver.specs.Keeps.{Holds, Keeps, kept_nullification}
+use Rattle.simplex_resolver.specs.Keeps.{Holds, Stands, kept_nullification}
 use Rattle.simplex_resolver.proofs.Choices.{bool_cases, or_cases, or_right, is_some-map, is_some-none, option_or-none, if_same, if_other, apart, nat_lt-yes, nat_lt-no, nat_le-yes, nat_le-no, max_zero}
 use Rattle.simplex_resolver.proofs.Covers.{cover-covered}
 use Rattle.simplex_resolver.proofs.TermStarts.{start-end}
@@ -224,9 +224,9 @@ held-replayed views held h k = record {
     same : finalized h ≡ finalized (Replayed ∷ h)
     same = sym (max_zero (finalized h))
 
--- and the state is live from then on
-pub keeps-replayed : (views : ℕ) (old new : State) (h : List Item) → Keeps views old h → new.held ≡ old.held → new.current ≡ old.current → new.floor ≡ old.floor → new.live ≡ true → Keeps views new (Replayed ∷ h)
-keeps-replayed views old new h k held_is current_is floor_is live_is = record {
+-- and scans go on from then on
+pub stands-replayed : (views : ℕ) (old new : Scanner) (h : List Item) → Stands views old h → new.held ≡ old.held → new.current ≡ old.current → new.floor ≡ old.floor → new.live ≡ true → Stands views new (Replayed ∷ h)
+stands-replayed views old new h k held_is current_is floor_is live_is = record {
   holds = subst (λ (held : Held). Holds views held (Replayed ∷ h)) (sym held_is) (held-replayed views old.held h k.holds);
   current_is = current_is ∙ (k.current_is ∙ sym (max_zero (current h)));
   floor_is = floor_is ∙ (k.floor_is ∙ sym (max_zero (floor h)));

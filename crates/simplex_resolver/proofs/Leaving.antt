@@ -6,6 +6,7 @@ use Rattle.std.proofs.lemmas.Bool.Decides.{nat_tests}
 use Rattle.simplex_types.specs.Positions.{term_start, term_end, next_term_start, IsTermStart}
 use Rattle.simplex_resolver.specs.declared.effect.Effect.{Effect}
 use Rattle.simplex_resolver.specs.declared.effect.Effect.TheVariants as effect
+use Rattle.simplex_resolver.specs.declared.ask.Kind.TheVariants as kind
 use Rattle.simplex_resolver.specs.History.{Item, Nullified, Notarized, Finalized, Judged, Replayed, finalized, floor, current, live, covered, covers, has_failed}
 use Rattle.simplex_resolver.specs.Outstanding.{IsOutstanding, AreAnchors, AreMissing, Scans, ScansBehind, Gives, Apply, ApplyAll, EffectsLeaveTheOutstanding, fetch, fetches, fetch_failed, is_missing, scanned, scan_start, settled_notarization, settled_nullifications, start_behind, term_start_from, when}
 use Rattle.simplex_resolver.proofs.Anchors.{passed-one}
@@ -417,3 +418,26 @@ module _ (views : ℕ) (some : 0 < views) (h : List Item) where
 
 pub effects-leave : EffectsLeaveTheOutstanding
 effects-leave views h x given some gives = leaves views some h x given gives
+
+-- an effect, where the same views are outstanding
+Apply-same : (e : Effect) (P Q : ℕ → Type 0) → ((v : ℕ) → P v ↔ Q v) → (v : ℕ) → Apply e P v ↔ Apply e Q v
+Apply-same (effect.Fetch _ _ _) P Q same v = (⊎_elim (λ p. inl ((same v).0 p)) inr, ⊎_elim (λ q. inl ((same v).1 q)) inr)
+Apply-same (effect.Settled kind.Nullification _ _) P Q same v = (λ a. ((same v).0 a.0, a.1), λ a. ((same v).1 a.0, a.1))
+Apply-same (effect.Settled kind.Notarization _ _) P Q same v = same v
+Apply-same (effect.Finalized _) P Q same v = (λ a. ((same v).0 a.0, a.1), λ a. ((same v).1 a.0, a.1))
+Apply-same (effect.Raised _) P Q same v = (λ a. ((same v).0 a.0, a.1), λ a. ((same v).1 a.0, a.1))
+
+-- and effects in order
+pub ApplyAll-same : (es : List Effect) (P Q : ℕ → Type 0) → ((v : ℕ) → P v ↔ Q v) → (v : ℕ) → ApplyAll es P v ↔ ApplyAll es Q v
+ApplyAll-same [] P Q same v = same v
+ApplyAll-same (e ∷ es) P Q same v = ApplyAll-same es (Apply e P) (Apply e Q) (Apply-same e P Q same) v
+
+-- a set of the outstanding views, to which the effects of an item were applied, is that of those outstanding then
+pub gaps-follow : (views : ℕ) (h : List Item) (x : Item) (given applied : List Effect) (old new : ℕ → Type 0) → 0 < views → applied ≡ given → Gives views h x given → ((v : ℕ) → old v ↔ IsOutstanding views h v) → ((v : ℕ) → new v ↔ ApplyAll applied old v)
+    → (v : ℕ) → new v ↔ IsOutstanding views (x ∷ h) v
+gaps-follow views h x given applied old new some same gives was now v =
+    let outstanding = ApplyAll-same given old (IsOutstanding views h) was v in
+    let law = effects-leave views h x given some gives v in (
+      λ gap. law.0 (outstanding.0 (subst (λ (es : List Effect). ApplyAll es old v) same ((now v).0 gap))),
+      λ due. (now v).1 (subst (λ (es : List Effect). ApplyAll es old v) (sym same) (outstanding.1 (law.1 due))),
+    )

@@ -1,7 +1,7 @@
 -- What is served came.
-use Rattle.std.specs.Prelude.{Contains, nat_lt, nat_le}
+use Rattle.std.specs.Prelude.{nat_lt, nat_le}
 use Rattle.std.specs.Option.{option_or}
-use Rattle.std.proofs.Common.{◌≡◌, ◌⊎◌, inl, inr, ⊎_elim, ◌==◌, ℕ, zero, suc, Bool, true, false, List, [], ◌∷◌, Option, Some, None, refl, sym, ◌∙◌, ap, arith, if◌then◌else◌}
+use Rattle.std.proofs.Common.{◌≡◌, ◌⊎◌, inl, inr, ⊎_elim, ◌==◌, ℕ, zero, suc, Bool, true, false, List, [], ◌∷◌, Option, Some, None, refl, arith, if◌then◌else◌}
 use Rattle.simplex_types.specs.Positions.{term_start}
 use Rattle.simplex_resolver.specs.History.{Item, Nullified, Notarized, Finalized, Judged, Replayed, finalized, finalization, floor, nullification, certified}
 use Rattle.simplex_resolver.specs.Answers.{Came, WhatIsProducedCame, brings, covering, highest_nullification, produced, servable}
@@ -64,11 +64,11 @@ module _ (bytes : List ℕ) where
   came views h v e = ⊎_elim
       (λ high. finalization-came h (tested (nat_le v (finalized h)) (finalization h) bytes high))
       (λ rest. ⊎_elim (servable-came h v)
-          (λ more. ⊎_elim
-              (λ covers. highest-came h (term_start views v) v (tested (nat_lt (finalized h) v) _ bytes covers))
-              (λ low. servable-came h (floor h) (tested (nat_le v (floor h)) (servable h (floor h)) bytes low))
-              (either (covering views h v) _ bytes more))
-          (either (servable h v) _ bytes rest))
+      (λ more. ⊎_elim
+      (λ covers. highest-came h (term_start views v) v (tested (nat_lt (finalized h) v) _ bytes covers))
+      (λ low. servable-came h (floor h) (tested (nat_le v (floor h)) (servable h (floor h)) bytes low))
+      (either (covering views h v) _ bytes more))
+      (either (servable h v) _ bytes rest))
       (either _ _ bytes e)
 
 pub what-is-produced-came : WhatIsProducedCame

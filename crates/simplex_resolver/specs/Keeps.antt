@@ -7,13 +7,20 @@ use Rattle.std.specs.BTreeSet.{contains}
 use Rattle.simplex_types.specs.Positions.{term_end}
 use Rattle.simplex_record.specs.Coverage.{IsCovered}
 use Rattle.simplex_resolver.specs.declared.held.Held.{Held}
+use Rattle.simplex_resolver.specs.declared.scanner.Scanner.{Scanner}
+use Rattle.simplex_resolver.specs.declared.gaps.Gaps.{Gaps}
 use Rattle.simplex_resolver.specs.declared.state.State.{State}
 use Rattle.simplex_resolver.specs.History.{Item, finalized, floor, current, live, nullification, finalization, covered, has_failed, is_known}
+use Rattle.simplex_resolver.specs.Outstanding.{IsOutstanding}
 use Rattle.simplex_resolver.specs.Answers.{servable}
 
 -- how many views a term has
+abbrev pub scan_length : Scanner → ℕ
+scan_length scanner = scanner.held.length
+
+-- the same of the state
 abbrev pub length_of : State → ℕ
-length_of state = state.held.length
+length_of state = state.scanner.held.length
 
 -- what is kept of a view's nullification: the first, until its term is finalized
 abbrev pub kept_nullification : ℕ → List Item → ℕ → Option (List ℕ)
@@ -33,16 +40,29 @@ pub record Holds (views : ℕ) (held : Held) (h : List Item) : Type 0 where
   pub certified_is : (v : ℕ) → option_map (λ bytes. bytes.items) (get nat_cmp held.certified v) ≡ servable h v
   pub failed : (v : ℕ) → contains nat_cmp held.failed v ≡ (nat_lt (finalized h) v && has_failed h v)
 
--- the state stands where these items lead
+-- what came stands where these items lead
+pub record Stands (views : ℕ) (scanner : Scanner) (h : List Item) : Type 0 where
+  pub holds : Holds views scanner.held h
+  pub current_is : scanner.current ≡ current h
+  pub floor_is : scanner.floor ≡ floor h
+  pub live_is : scanner.live ≡ live h
+
+-- the view is one of the set
+abbrev pub HasGap : Gaps → ℕ → Type 0
+HasGap gaps v = contains nat_cmp gaps.views v ≡ true
+
+-- the state stands where these items lead, and its gaps are the outstanding views
 pub record Keeps (views : ℕ) (state : State) (h : List Item) : Type 0 where
-  pub holds : Holds views state.held h
-  pub current_is : state.current ≡ current h
-  pub floor_is : state.floor ≡ floor h
-  pub live_is : state.live ≡ live h
+  pub stands : Stands views state.scanner h
+  pub gaps_are : (v : ℕ) → HasGap state.gaps v ↔ IsOutstanding views h v
 
 -- what holds of each length of terms and each list of items that the state stands at
 abbrev pub AtEach : State → (ℕ → List Item → Type 0) → Type 0
 AtEach state P = (views : ℕ) (h : List Item) → Keeps views state h → P views h
+
+-- the same of what came
+abbrev pub AtEachScan : Scanner → (ℕ → List Item → Type 0) → Type 0
+AtEachScan scanner P = (views : ℕ) (h : List Item) → Stands views scanner h → P views h
 
 -- the same of what is held
 abbrev pub AtEachHeld : Held → (ℕ → List Item → Type 0) → Type 0

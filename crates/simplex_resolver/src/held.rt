@@ -190,6 +190,21 @@ impl Held {
         self.covered.first_uncovered(before, end)
     }
 
+    /// The last view below `end` up to which, from `first` on, no nullification covers any, where none covers `first`.
+    pub(crate) fn last_missing(&self, first: View, end: View) -> View
+        requires { first < end }
+        ensures from { first ≤ result }
+        ensures below { result < end }
+        ensures bare { AtEachHeld self.now (λ views h. (v : ℕ) → finalized h < first → covered views h first ≡ false → first ≤ v → v ≤ result → covered views h v ≡ false) }
+        ensures most { AtEachHeld self.now (λ views h. finalized h < first → result + 1 < end → covered views h (result + 1) ≡ true) }
+    {
+        let between = (Bound::Excluded(first), Bound::Excluded(end));
+        let Some((&next, _)) = self.nullifications.range(between).next() else {
+            return View::new(end.get() - 1);
+        };
+        View::new(next.get() - 1)
+    }
+
     /// The first view above this one with a false verdict.
     pub(crate) fn next_failed(&self, above: View) -> Option<View>
         ensures above { IfSome result (λ failed. above < failed) }

@@ -1,41 +1,35 @@
 //! The state of a member's repair.
 
-ghost use Rattle.std.specs.Prelude.{◌<◌};
 ghost use Rattle.simplex_types.specs.Positions.{HasRoom};
 
 use crate::ask::Kind;
-use crate::effect::{Effect, push_if};
-use crate::held::Held;
-use crate::terms::{scan_start, terms_between};
+use crate::effect::Effect;
+use crate::gaps::{Gaps, Outstanding};
+use crate::scanner::Scanner;
 use simplex_certificates::{Certificate, Notarization};
-use simplex_types::{Digest, Scheme, TermLength, View, Viewable, Write};
+use simplex_types::{Digest, Scheme, TermLength, View, Viewable};
 use std::alloc::{AllocError, Global};
 
 /// The certificates and verdicts that came to a member, what it has to ask for by them, and what it answers to those
 /// who ask it. It asks for nothing before the end of the replay of its record.
 ///
-/// A call costs a logarithm in what is held, for itself and for each of its effects. What is finalized is dropped, once.
+/// A call costs a logarithm in what is held, for itself and for each of its effects. What is finalized is dropped, once,
+/// and so is each view that is outstanding no more.
 #[derive(Drop)]
 pub struct State {
-    held: Held,
-    /// The highest view of a certificate, or 0.
-    current: View,
-    /// The highest view that was finalized or certified, or 0.
-    floor: View,
-    /// Whether the replay has ended.
-    live: bool,
-    ghost some: { 0 < held.length },
-    ghost current_room: { HasRoom held.length current },
-    ghost floor_room: { HasRoom held.length floor },
+    scanner: Scanner,
+    /// The outstanding views.
+    gaps: Gaps,
 }
 
 impl State {
-    ghost use Rattle.std.specs.Prelude.{◌≡◌, ◌+◌, ◌++◌, ◌∷◌, [], ℕ, List, not, nat_lt, ◌&&◌, OnOk, IfOk, true, false, map};
+    ghost use Rattle.std.specs.Prelude.{◌≡◌, ◌↔◌, ◌∷◌, [], ℕ, Contains, OnOk, OnErr, IfOk};
+    ghost use Rattle.std.specs.Ordering.{nat_cmp};
+    ghost use Rattle.std.specs.List.Sorted.{IsStrictlySortedBy};
     ghost use Rattle.std.specs.Option.{option_map};
     ghost use Rattle.simplex_certificates.specs.Certificate.{any_certificate_spelling, certificate_round, as_notarization};
-    ghost use Rattle.simplex_resolver.specs.declared.effect.Effect.{Effect};
-    ghost use Rattle.simplex_resolver.specs.History.{Item, Nullified, Notarized, Finalized, Judged, Replayed, item_of, covered, floor, live};
-    ghost use Rattle.simplex_resolver.specs.Outstanding.{Gives, Scans, ScansBehind, AreMissing, fetch_failed, scanned};
+    ghost use Rattle.simplex_resolver.specs.History.{Judged, Replayed, item_of};
+    ghost use Rattle.simplex_resolver.specs.Outstanding.{Gives, IsOutstanding};
     ghost use Rattle.simplex_resolver.specs.Answers.{is_settled, is_key_settled, is_uncertifiable, produced};
     ghost use Rattle.simplex_resolver.specs.Keeps.{Keeps, AtEach, length_of};
 
@@ -44,13 +38,9 @@ impl State {
         ensures keeps { Keeps term_length result [] }
         ensures length { length_of result ≡ term_length }
     {
-        // The proof takes from the number how large it can be.
-        let _views = term_length.get();
         State {
-            held: Held::new(alloc, term_length),
-            current: View::zero(),
-            floor: View::zero(),
-            live: false,
+            scanner: Scanner::new(alloc, term_length),
+            gaps: Gaps::new(alloc),
         }
     }
 
@@ -59,11 +49,11 @@ impl State {
         ensures length { result ≡ length_of self.now }
         ensures each { AtEach self.now (λ views h. result ≡ views) }
     {
-        self.held.length
+        self.scanner.held.length
     }
 
-    /// Takes a certificate, and tells what follows, in order. Its view must have room: `View::has_room` tells. After an
-    /// `Err` the state may be used no more.
+    /// Takes a certificate, and tells what follows, in order. One of a view without room is not taken, and nothing follows
+    /// from it. After an `Err` the state may be used no more.
     ///
     /// # Errors
     ///
@@ -73,21 +63,24 @@ impl State {
         alloc: Global,
         certificate: &Certificate<S, D>,
     ) -> Result<Vec<Effect>, AllocError>
-        requires { HasRoom (length_of self.old) (certificate_round certificate.now).view }
-        ensures keeps { OnOk result (AtEach self.old (λ views h. Keeps views self.new (item_of (any_certificate_spelling D.spelling S.Certificate.spelling) certificate.now ∷ h))) }
-        ensures gives { IfOk result (λ given. AtEach self.old (λ views h. Gives views h (item_of (any_certificate_spelling D.spelling S.Certificate.spelling) certificate.now) given.items)) }
+        ensures keeps { HasRoom (length_of self.old) (certificate_round certificate.now).view → OnOk result (AtEach self.old (λ views h. Keeps views self.new (item_of (any_certificate_spelling D.spelling S.Certificate.spelling) certificate.now ∷ h))) }
+        ensures gives { HasRoom (length_of self.old) (certificate_round certificate.now).view → IfOk result (λ given. AtEach self.old (λ views h. Gives views h (item_of (any_certificate_spelling D.spelling S.Certificate.spelling) certificate.now) given.items)) }
+        ensures no_room { ¬ HasRoom (length_of self.old) (certificate_round certificate.now).view → self.new ≡ self.old }
+        ensures nothing { ¬ HasRoom (length_of self.old) (certificate_round certificate.now).view → IfOk result (λ given. given.items ≡ []) }
+        ensures err { OnErr result (HasRoom (length_of self.old) (certificate_round certificate.now).view) }
         ensures length { length_of self.new ≡ length_of self.old }
     {
-        let view = certificate.view();
-        match certificate {
-            Certificate::Notarization(_) => self.notarized(alloc, view),
-            Certificate::Nullification(_) => self.nullified(alloc, view, certificate),
-            Certificate::Finalization(_) => self.finalized(alloc, view, certificate),
+        if !certificate.view().has_room(self.scanner.held.length) {
+            return Ok(Vec::new(alloc));
         }
+        let effects = self.scanner.updated(alloc, certificate)?;
+        self.gaps.apply_all(&effects)?;
+        Ok(effects)
     }
 
     /// Takes a verdict on a notarization, which may come before the notarization itself, and tells what follows, in
-    /// order. Its view must have room: `View::has_room` tells. After an `Err` the state may be used no more.
+    /// order. One on a view without room is not taken, and nothing follows from it. After an `Err` the state may be used no
+    /// more.
     ///
     /// # Errors
     ///
@@ -98,18 +91,19 @@ impl State {
         notarization: Notarization<S, D>,
         success: bool,
     ) -> Result<Vec<Effect>, AllocError>
-        requires { HasRoom (length_of self.old) notarization.proposal.round.view }
-        ensures keeps { OnOk result (AtEach self.old (λ views h. Keeps views self.new (Judged notarization.proposal.round.view (any_certificate_spelling D.spelling S.Certificate.spelling (as_notarization notarization)) success ∷ h))) }
-        ensures gives { IfOk result (λ given. AtEach self.old (λ views h. Gives views h (Judged notarization.proposal.round.view (any_certificate_spelling D.spelling S.Certificate.spelling (as_notarization notarization)) success) given.items)) }
+        ensures keeps { HasRoom (length_of self.old) notarization.proposal.round.view → OnOk result (AtEach self.old (λ views h. Keeps views self.new (Judged notarization.proposal.round.view (any_certificate_spelling D.spelling S.Certificate.spelling (as_notarization notarization)) success ∷ h))) }
+        ensures gives { HasRoom (length_of self.old) notarization.proposal.round.view → IfOk result (λ given. AtEach self.old (λ views h. Gives views h (Judged notarization.proposal.round.view (any_certificate_spelling D.spelling S.Certificate.spelling (as_notarization notarization)) success) given.items)) }
+        ensures no_room { ¬ HasRoom (length_of self.old) notarization.proposal.round.view → self.new ≡ self.old }
+        ensures nothing { ¬ HasRoom (length_of self.old) notarization.proposal.round.view → IfOk result (λ given. given.items ≡ []) }
+        ensures err { OnErr result (HasRoom (length_of self.old) notarization.proposal.round.view) }
         ensures length { length_of self.new ≡ length_of self.old }
     {
-        let view = notarization.view();
-        if success {
-            let certificate = Certificate::Notarization(notarization);
-            self.succeeded(alloc, view, &certificate)
-        } else {
-            self.failed(alloc, view)
+        if !notarization.view().has_room(self.scanner.held.length) {
+            return Ok(Vec::new(alloc));
         }
+        let effects = self.scanner.certified(alloc, notarization, success)?;
+        self.gaps.apply_all(&effects)?;
+        Ok(effects)
     }
 
     /// Takes the end of the replay, and tells what is to be fetched. It looks at each false verdict above the floor. After
@@ -123,24 +117,29 @@ impl State {
         ensures gives { IfOk result (λ given. AtEach self.old (λ views h. Gives views h Replayed given.items)) }
         ensures length { length_of self.new ≡ length_of self.old }
     {
-        let mut effects = Vec::new(alloc);
-        let went = self.scanned();
-        self.live = true;
-        self.scan(&mut effects, self.current, went, false)?;
-        self.ask_for_failed(&mut effects)?;
+        let effects = self.scanner.replayed(alloc)?;
+        self.gaps.apply_all(&effects)?;
         Ok(effects)
+    }
+
+    /// The views that the member has to repair, ascending: none before the end of the replay. It takes no memory.
+    pub fn outstanding(&self) -> Outstanding<'_>
+        ensures exact { AtEach self.now (λ views h. (v : ℕ) → Contains result v ↔ IsOutstanding views h v) }
+        ensures ascending { IsStrictlySortedBy nat_cmp result }
+    {
+        self.gaps.iter()
     }
 
     /// Whether nothing is left to be asked of this kind at the view: it is there, or never will be.
     pub fn settled(&self, view: View, kind: Kind) -> bool
         ensures { AtEach self.now (λ views h. result ≡ is_settled views h view kind) }
     {
-        if view <= self.held.last_finalized {
+        if view <= self.scanner.held.last_finalized {
             return true;
         }
         match kind {
-            Kind::Nullification => self.held.is_covered(view),
-            Kind::Notarization => self.held.is_known(view),
+            Kind::Nullification => self.scanner.held.is_covered(view),
+            Kind::Notarization => self.scanner.held.is_known(view),
         }
     }
 
@@ -155,212 +154,25 @@ impl State {
     pub fn uncertifiable(&self, view: View) -> bool
         ensures { AtEach self.now (λ views h. result ≡ is_uncertifiable h view) }
     {
-        self.held.has_failed(view)
+        self.scanner.held.has_failed(view)
     }
 
     /// The best certificate for who asks for the view, as it was spelled.
     pub fn produce(&self, view: View) -> Option<&[u8]>
         ensures { AtEach self.now (λ views h. option_map (λ bytes. bytes.now) result ≡ produced views h view) }
     {
-        if let Some(bytes) = self.held.finalization_from(view) {
+        if let Some(bytes) = self.scanner.held.finalization_from(view) {
             return Some(bytes);
         }
-        if let Some(bytes) = self.held.certified(view) {
+        if let Some(bytes) = self.scanner.held.certified(view) {
             return Some(bytes);
         }
-        if let Some(bytes) = self.held.covering(view) {
+        if let Some(bytes) = self.scanner.held.covering(view) {
             return Some(bytes);
         }
-        if view > self.floor {
+        if view > self.scanner.floor {
             return None;
         }
-        self.held.certified(self.floor)
-    }
-
-    /// Takes a nullification.
-    #[tactic(auto, using(crate::proofs::TermStarts::room_kept, crate::proofs::TermStarts::room_of_max))]
-    fn nullified<W: Write>(
-        &mut self,
-        alloc: Global,
-        view: View,
-        nullification: &W,
-    ) -> Result<Vec<Effect>, AllocError>
-        requires { HasRoom (length_of self.old) view }
-        ensures keeps { OnOk result (AtEach self.old (λ views h. Keeps views self.new (Nullified view (W.spelling nullification.now) ∷ h))) }
-        ensures gives { IfOk result (λ given. AtEach self.old (λ views h. Gives views h (Nullified view (W.spelling nullification.now)) given.items)) }
-        ensures length { length_of self.new ≡ length_of self.old }
-    {
-        let mut effects = Vec::new(alloc);
-        let went = self.scanned();
-        let end = view.term_end(self.held.length);
-        self.current = self.current.max(view);
-        let reaches = self.held.take_nullification(alloc, view, nullification)?;
-        push_if(
-            reaches,
-            &mut effects,
-            Effect::settled_nullifications(view, end),
-        )?;
-        self.scan(&mut effects, view, went, false)?;
-        Ok(effects)
-    }
-
-    /// Takes a notarization.
-    #[tactic(auto, using(crate::proofs::TermStarts::room_kept, crate::proofs::TermStarts::room_of_max))]
-    fn notarized(&mut self, alloc: Global, view: View) -> Result<Vec<Effect>, AllocError>
-        requires { HasRoom (length_of self.old) view }
-        ensures keeps { OnOk result (AtEach self.old (λ views h. Keeps views self.new (Notarized view ∷ h))) }
-        ensures gives { IfOk result (λ given. AtEach self.old (λ views h. Gives views h (Notarized view) given.items)) }
-        ensures length { length_of self.new ≡ length_of self.old }
-    {
-        let mut effects = Vec::new(alloc);
-        let went = self.scanned();
-        self.current = self.current.max(view);
-        let settles = self.held.take_notarization(view)?;
-        push_if(settles, &mut effects, Effect::settled_notarization(view))?;
-        self.scan(&mut effects, view, went, false)?;
-        Ok(effects)
-    }
-
-    /// Takes a finalization.
-    #[tactic(auto, using(crate::proofs::TermStarts::room_kept, crate::proofs::TermStarts::room_of_max))]
-    fn finalized<W: Write>(
-        &mut self,
-        alloc: Global,
-        view: View,
-        finalization: &W,
-    ) -> Result<Vec<Effect>, AllocError>
-        requires { HasRoom (length_of self.old) view }
-        ensures keeps { OnOk result (AtEach self.old (λ views h. Keeps views self.new (Finalized view (W.spelling finalization.now) ∷ h))) }
-        ensures gives { IfOk result (λ given. AtEach self.old (λ views h. Gives views h (Finalized view (W.spelling finalization.now)) given.items)) }
-        ensures length { length_of self.new ≡ length_of self.old }
-    {
-        let mut effects = Vec::new(alloc);
-        let went = self.scanned();
-        self.current = self.current.max(view);
-        self.held.take_finalization(alloc, view, finalization)?;
-        effects.push(Effect::Finalized(self.held.last_finalized))?;
-        let raised = self.floor < view;
-        self.floor = self.floor.max(view);
-        push_if(raised, &mut effects, Effect::Raised(view))?;
-        self.scan(&mut effects, view, went, raised)?;
-        Ok(effects)
-    }
-
-    /// Takes a true verdict.
-    #[tactic(auto, using(crate::proofs::TermStarts::room_kept, crate::proofs::TermStarts::room_of_max))]
-    fn succeeded<W: Write>(
-        &mut self,
-        alloc: Global,
-        view: View,
-        notarization: &W,
-    ) -> Result<Vec<Effect>, AllocError>
-        requires { HasRoom (length_of self.old) view }
-        ensures keeps { OnOk result (AtEach self.old (λ views h. Keeps views self.new (Judged view (W.spelling notarization.now) true ∷ h))) }
-        ensures gives { IfOk result (λ given. AtEach self.old (λ views h. Gives views h (Judged view (W.spelling notarization.now) true) given.items)) }
-        ensures length { length_of self.new ≡ length_of self.old }
-    {
-        let mut effects = Vec::new(alloc);
-        let went = self.scanned();
-        self.held.take_success(alloc, view, notarization)?;
-        effects.push(Effect::settled_notarization(view))?;
-        let raised = self.floor < view;
-        self.floor = self.floor.max(view);
-        push_if(raised, &mut effects, Effect::Raised(view))?;
-        self.scan(&mut effects, view, went, raised)?;
-        Ok(effects)
-    }
-
-    /// Takes a false verdict.
-    #[tactic(auto, using(crate::proofs::TermStarts::room_kept, crate::proofs::TermStarts::room_of_max))]
-    fn failed(&mut self, alloc: Global, view: View) -> Result<Vec<Effect>, AllocError>
-        ensures keeps { OnOk result ((bytes : List ℕ) → AtEach self.old (λ views h. Keeps views self.new (Judged view bytes false ∷ h))) }
-        ensures gives { IfOk result (λ given. (bytes : List ℕ) → AtEach self.old (λ views h. Gives views h (Judged view bytes false) given.items)) }
-        ensures length { length_of self.new ≡ length_of self.old }
-    {
-        let mut effects = Vec::new(alloc);
-        let missing = self.is_missing(view);
-        self.held.take_failure(view)?;
-        effects.push(Effect::settled_notarization(view))?;
-        push_if(missing, &mut effects, Effect::fetch_failed(view))?;
-        Ok(effects)
-    }
-
-    /// Whether the replay has ended, the view is above the floor and no nullification covers it.
-    fn is_missing(&self, view: View) -> bool
-        ensures { AtEach self.now (λ views h. result ≡ (live h && (nat_lt (floor h) view && not (covered views h view)))) }
-    {
-        if !self.live {
-            return false;
-        }
-        if view <= self.floor {
-            return false;
-        }
-        !self.held.is_covered(view)
-    }
-
-    /// How far scans went: to the highest certificate's view, and nowhere before the replay has ended.
-    fn scanned(&self) -> View
-        ensures answer { AtEach self.now (λ views h. result ≡ scanned h) }
-        ensures room { HasRoom (length_of self.now) result }
-    {
-        if self.live {
-            self.current
-        } else {
-            View::zero()
-        }
-    }
-
-    /// The scan behind what was taken, once the replay has ended: asks for what is missing from where it begins.
-    fn scan(
-        &self,
-        effects: &mut Vec<Effect>,
-        cause: View,
-        went: View,
-        raised: bool,
-    ) -> Result<(), AllocError>
-        requires { HasRoom (length_of self.now) went }
-        ensures { OnOk result ((views : ℕ) (h : List Item) (x : Item) → Keeps views self.now (x ∷ h) → went ≡ scanned h → raised ≡ nat_lt (floor h) (floor (x ∷ h)) → (asked : List Effect) × ScansBehind views h x cause asked × (effects.new.items ≡ effects.old.items ++ asked)) }
-    {
-        if self.live {
-            let start = scan_start(went, self.floor, raised, self.held.length);
-            self.ask_from(effects, cause, start)?;
-        }
-        Ok(())
-    }
-
-    /// Asks for what is missing from the view on, term by term, below the highest certificate's view.
-    fn ask_from(
-        &self,
-        effects: &mut Vec<Effect>,
-        cause: View,
-        start: View,
-    ) -> Result<(), AllocError>
-        requires { self.now.floor < start }
-        ensures { OnOk result (AtEach self.now (λ views h. (asked : List Effect) × Scans views h cause start asked × (effects.new.items ≡ effects.old.items ++ asked))) }
-    {
-        if start >= self.current {
-            return Ok(());
-        }
-        // So much may be missing that only a refusal ends this: it is to come before the work.
-        effects.reserve(terms_between(start, self.current, self.held.length))?;
-        let mut anchor = start;
-        while let Some(view) = self.held.first_missing(anchor, self.current) {
-            effects.push(Effect::fetch(view, cause))?;
-            anchor = view.next_term_start(self.held.length);
-        }
-        Ok(())
-    }
-
-    /// Asks for each view with a false verdict that is above the floor and that no nullification covers.
-    fn ask_for_failed(&self, effects: &mut Vec<Effect>) -> Result<(), AllocError>
-        ensures { OnOk result (AtEach self.now (λ views h. (missing : List ℕ) × AreMissing views h (floor h) missing × (effects.new.items ≡ effects.old.items ++ map fetch_failed missing))) }
-    {
-        let mut last = self.floor;
-        while let Some(view) = self.held.next_failed(last) {
-            let missing = !self.held.is_covered(view);
-            push_if(missing, effects, Effect::fetch_failed(view))?;
-            last = view;
-        }
-        Ok(())
+        self.scanner.held.certified(self.scanner.floor)
     }
 }

@@ -1,21 +1,63 @@
 use Rattle.std.specs.Prelude.{nat_le}
 use Rattle.std.specs.Option.{option_map, option_or}
-use Rattle.std.proofs.Common.{◌≡◌, ◌≤◌, sym, ◌∙◌, ap, arith, ℕ, Bool, Option, None, if◌then◌else◌}
+use Rattle.std.proofs.Common.{◌≡◌, ◌≤◌, ◌<◌, sym, ◌∙◌, ap, arith, ℕ, Bool, Option, Some, None, if◌then◌else◌}
 use Rattle.std.proofs.lemmas.Bool.Decides.{nat_tests}
-use Rattle.simplex_resolver.specs.History.{finalized, finalization, floor}
-use Rattle.simplex_resolver.specs.Answers.{servable, covering}
-use Rattle.simplex_resolver.proofs.Choices.{nat_le-yes}
+use Rattle.simplex_resolver.specs.History.{floor}
+use Rattle.simplex_resolver.specs.Answers.{servable}
+use Rattle.simplex_resolver.proofs.Choices.{nat_le-yes, nat_le-no}
 use Rattle.simplex_resolver.proofs.state.State.produce.Goals as goal
 
 -- the first that is there, where the ones before it are not
-first_of : {T : Type 0} (a b c d : Option T) → a ≡ None → b ≡ None → c ≡ None → option_or a (option_or b (option_or c d)) ≡ d
-first_of {T} a b c d no_a no_b no_c = ap (λ (o : Option T). option_or o (option_or b (option_or c d))) no_a ∙ (ap (λ (o : Option T). option_or o (option_or c d)) no_b ∙ ap (λ (o : Option T). option_or o d) no_c)
+behind_one : {T : Type 0} (a b : Option T) → a ≡ None → option_or a b ≡ b
+behind_one {T} a b no_a = ap (λ (o : Option T). option_or o b) no_a
+
+behind_two : {T : Type 0} (a b c : Option T) → a ≡ None → b ≡ None → option_or a (option_or b c) ≡ c
+behind_two a b c no_a no_b = behind_one a (option_or b c) no_a ∙ behind_one b c no_b
+
+behind_three : {T : Type 0} (a b c d : Option T) → a ≡ None → b ≡ None → c ≡ None → option_or a (option_or b (option_or c d)) ≡ d
+behind_three a b c d no_a no_b no_c = behind_two a b (option_or c d) no_a no_b ∙ behind_one c d no_c
+
+is_first : {T : Type 0} (a b : Option T) (x : T) → a ≡ Some x → option_or a b ≡ Some x
+is_first {T} a b x is = ap (λ (o : Option T). option_or o b) is
+
+pub returns-in-Some : goal.returns-in-Some
+returns-in-Some c = λ views h k.
+    let is = sym (c.finalization_from.ensures views h k.stands.holds) ∙ ap (option_map (λ bytes. bytes.now)) c.in-Some.is in
+    sym (is_first _ _ _ is)
+
+pub returns-in-Some-certified : goal.returns-in-Some-certified
+returns-in-Some-certified c = λ views h k.
+    let no_finalization = sym (c.finalization_from.ensures views h k.stands.holds) ∙ ap (option_map (λ bytes. bytes.now)) c.in_default.is in
+    let is = sym (c.certified.ensures views h k.stands.holds) ∙ ap (option_map (λ bytes. bytes.now)) c.in-Some-certified.is in
+    sym (behind_one _ _ no_finalization ∙ is_first _ _ _ is)
+
+pub returns-in-Some-covering : goal.returns-in-Some-covering
+returns-in-Some-covering c = λ views h k.
+    let no_finalization = sym (c.finalization_from.ensures views h k.stands.holds) ∙ ap (option_map (λ bytes. bytes.now)) c.in_default.is in
+    let no_notarization = sym (c.certified.ensures views h k.stands.holds) ∙ ap (option_map (λ bytes. bytes.now)) c.in_default-certified.is in
+    let is = sym (c.covering.ensures views h k.stands.holds) ∙ ap (option_map (λ bytes. bytes.now)) c.in-Some-covering.is in
+    sym (behind_two _ _ _ no_finalization no_notarization ∙ is_first _ _ _ is)
+
+pub returns-then-gt : goal.returns-then-gt
+returns-then-gt c =
+    let past : c.args.self.now.scanner.floor < c.args.view = grind (arith, nat_tests) in
+    λ views h k.
+    let no_finalization = sym (c.finalization_from.ensures views h k.stands.holds) ∙ ap (option_map (λ bytes. bytes.now)) c.in_default.is in
+    let no_notarization = sym (c.certified.ensures views h k.stands.holds) ∙ ap (option_map (λ bytes. bytes.now)) c.in_default-certified.is in
+    let no_nullification = sym (c.covering.ensures views h k.stands.holds) ∙ ap (option_map (λ bytes. bytes.now)) c.in_default-covering.is in
+    let floor_is = k.stands.floor_is in
+    let high : floor h < c.args.view = omega (arith, past, floor_is) in
+    let none : (if nat_le c.args.view (floor h) then servable h (floor h) else None) ≡ None = ap (λ (b : Bool). if b then servable h (floor h) else None) (nat_le-no c.args.view (floor h) high) in
+    sym (behind_three _ _ _ _ no_finalization no_notarization no_nullification ∙ none)
 
 pub returns : goal.returns
-returns c = λ views h k.
-    let no_finalization : (if nat_le c.args.view (finalized h) then finalization h else None) ≡ None = sym (c.finalization_from.ensures views h k.holds) ∙ ap (option_map (λ bytes. bytes.now)) c.in_default.is in
-    let no_notarization : servable h c.args.view ≡ None = sym (c.certified.ensures views h k.holds) ∙ ap (option_map (λ bytes. bytes.now)) c.in_default-certified.is in
-    let no_nullification : covering views h c.args.view ≡ None = sym (c.covering.ensures views h k.holds) ∙ ap (option_map (λ bytes. bytes.now)) c.in_default-covering.is in
-    let low : c.args.view ≤ floor h = let is = k.floor_is in grind (arith, nat_tests, is) in
+returns c =
+    let before : c.args.view ≤ c.args.self.now.scanner.floor = grind (arith, nat_tests) in
+    λ views h k.
+    let no_finalization = sym (c.finalization_from.ensures views h k.stands.holds) ∙ ap (option_map (λ bytes. bytes.now)) c.in_default.is in
+    let no_notarization = sym (c.certified.ensures views h k.stands.holds) ∙ ap (option_map (λ bytes. bytes.now)) c.in_default-certified.is in
+    let no_nullification = sym (c.covering.ensures views h k.stands.holds) ∙ ap (option_map (λ bytes. bytes.now)) c.in_default-covering.is in
+    let floor_is = k.stands.floor_is in
+    let low : c.args.view ≤ floor h = omega (arith, before, floor_is) in
     let last : (if nat_le c.args.view (floor h) then servable h (floor h) else None) ≡ servable h (floor h) = ap (λ (b : Bool). if b then servable h (floor h) else None) (nat_le-yes c.args.view (floor h) low) in
-    c.certified-2.ensures views h k.holds ∙ (ap (λ (v : ℕ). servable h v) k.floor_is ∙ sym (first_of _ _ _ _ no_finalization no_notarization no_nullification ∙ last))
+    c.certified-2.ensures views h k.stands.holds ∙ (ap (λ (v : ℕ). servable h v) floor_is ∙ sym (behind_three _ _ _ _ no_finalization no_notarization no_nullification ∙ last))

@@ -1,14 +1,13 @@
-use Rattle.std.proofs.Common.{◌∷◌, ◌++◌, ◌∙◌, ap, subst, refl, ℕ, List}
-use Rattle.simplex_resolver.specs.declared.effect.Effect.{Effect}
-use Rattle.simplex_resolver.specs.History.{Replayed, floor}
-use Rattle.simplex_resolver.specs.Outstanding.{ScansBehind, fetch_failed}
-use Rattle.simplex_resolver.proofs.Choices.{same_level}
-use Rattle.std.specs.Prelude.{map}
-use Rattle.simplex_resolver.proofs.Keeping.{keeps-replayed}
+use Rattle.simplex_resolver.specs.History.{Replayed}
+use Rattle.simplex_resolver.specs.Keeps.{HasGap}
+use Rattle.simplex_resolver.proofs.Leaving.{gaps-follow}
 use Rattle.simplex_resolver.proofs.state.State.replayed.Goals as goal
 
+pub returns-clause-keeps : goal.returns-clause-keeps
+returns-clause-keeps c = λ views h k. record {
+  stands = c.in_ok-effects.ensures.keeps views h k.stands;
+  gaps_are = gaps-follow views h Replayed _ _ (HasGap c.args.self.now.gaps) (HasGap c.apply_all.new.self) k.stands.holds.some c.deref.ensures.value (c.in_ok-effects.ensures.gives views h k.stands) k.gaps_are c.in_ok-apply_all.ensures;
+}
+
 pub returns-clause-gives : goal.returns-clause-gives
-returns-clause-gives c = λ views h k.
-    let a = c.in_ok-scan.ensures views h Replayed (keeps-replayed views c.args.self.now _ h k refl refl refl refl) (c.scanned-went.ensures.answer views h k) (same_level (floor h)) in
-    let f = c.in_ok-ask_for_failed.ensures views (Replayed ∷ h) (keeps-replayed views c.args.self.now _ h k refl refl refl refl) in
-    (a.0, f.0, subst (λ (n : ℕ). ScansBehind views h Replayed n a.0) k.current_is a.1, f.1, f.2 ∙ ap (λ (es : List Effect). es ++ map fetch_failed f.0) (a.2 ∙ ap (λ (es : List Effect). es ++ a.0) c.new-effects.ensures.items))
+returns-clause-gives c = λ views h k. c.in_ok-effects.ensures.gives views h k.stands

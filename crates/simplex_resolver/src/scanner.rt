@@ -1,0 +1,295 @@
+//! What came to a member, and what a scan over it asks for.
+
+ghost use Rattle.std.specs.Prelude.{◌<◌};
+ghost use Rattle.simplex_types.specs.Positions.{HasRoom};
+
+use crate::effect::{Effect, push_if};
+use crate::held::Held;
+use crate::terms::{scan_start, terms_between};
+use simplex_certificates::{Certificate, Notarization};
+use simplex_types::{Digest, Scheme, TermLength, View, Viewable, Write};
+use std::alloc::{AllocError, Global};
+
+/// The certificates and verdicts that came to a member, and the effects that follow from each. After an `Err` of one of its
+/// calls it may be used no more.
+#[derive(Drop)]
+pub(crate) struct Scanner {
+    pub(crate) held: Held,
+    /// The highest view of a certificate, or 0.
+    current: View,
+    /// The highest view that was finalized or certified, or 0.
+    pub(crate) floor: View,
+    /// Whether the replay has ended.
+    live: bool,
+    ghost some: { 0 < held.length },
+    ghost current_room: { HasRoom held.length current },
+    ghost floor_room: { HasRoom held.length floor },
+}
+
+impl Scanner {
+    ghost use Rattle.std.specs.Prelude.{◌≡◌, ◌+◌, ◌++◌, ◌∷◌, [], ℕ, List, not, nat_lt, ◌&&◌, OnOk, IfOk, true, false, map};
+    ghost use Rattle.simplex_certificates.specs.Certificate.{any_certificate_spelling, certificate_round, as_notarization};
+    ghost use Rattle.simplex_resolver.specs.declared.effect.Effect.{Effect};
+    ghost use Rattle.simplex_resolver.specs.History.{Item, Nullified, Notarized, Finalized, Judged, Replayed, item_of, covered, floor, live};
+    ghost use Rattle.simplex_resolver.specs.Outstanding.{Gives, Scans, ScansBehind, AreMissing, fetch_failed, scanned};
+    ghost use Rattle.simplex_resolver.specs.Keeps.{Stands, AtEachScan, scan_length};
+
+    /// Nothing has come, and the replay has not ended.
+    pub(crate) fn new(alloc: Global, term_length: TermLength) -> Self
+        ensures keeps { Stands term_length result [] }
+        ensures length { scan_length result ≡ term_length }
+    {
+        // The proof takes from the number how large it can be.
+        let _views = term_length.get();
+        Scanner {
+            held: Held::new(alloc, term_length),
+            current: View::zero(),
+            floor: View::zero(),
+            live: false,
+        }
+    }
+
+    /// Takes a certificate, and tells what follows, in order.
+    pub(crate) fn updated<S: Scheme<D>, D: Digest>(
+        &mut self,
+        alloc: Global,
+        certificate: &Certificate<S, D>,
+    ) -> Result<Vec<Effect>, AllocError>
+        requires { HasRoom (scan_length self.old) (certificate_round certificate.now).view }
+        ensures keeps { OnOk result (AtEachScan self.old (λ views h. Stands views self.new (item_of (any_certificate_spelling D.spelling S.Certificate.spelling) certificate.now ∷ h))) }
+        ensures gives { IfOk result (λ given. AtEachScan self.old (λ views h. Gives views h (item_of (any_certificate_spelling D.spelling S.Certificate.spelling) certificate.now) given.items)) }
+        ensures length { scan_length self.new ≡ scan_length self.old }
+    {
+        let view = certificate.view();
+        match certificate {
+            Certificate::Notarization(_) => self.notarized(alloc, view),
+            Certificate::Nullification(_) => self.nullified(alloc, view, certificate),
+            Certificate::Finalization(_) => self.finalized(alloc, view, certificate),
+        }
+    }
+
+    /// Takes a verdict on a notarization, which may come before the notarization itself, and tells what follows, in
+    /// order.
+    pub(crate) fn certified<S: Scheme<D>, D: Digest>(
+        &mut self,
+        alloc: Global,
+        notarization: Notarization<S, D>,
+        success: bool,
+    ) -> Result<Vec<Effect>, AllocError>
+        requires { HasRoom (scan_length self.old) notarization.proposal.round.view }
+        ensures keeps { OnOk result (AtEachScan self.old (λ views h. Stands views self.new (Judged notarization.proposal.round.view (any_certificate_spelling D.spelling S.Certificate.spelling (as_notarization notarization)) success ∷ h))) }
+        ensures gives { IfOk result (λ given. AtEachScan self.old (λ views h. Gives views h (Judged notarization.proposal.round.view (any_certificate_spelling D.spelling S.Certificate.spelling (as_notarization notarization)) success) given.items)) }
+        ensures length { scan_length self.new ≡ scan_length self.old }
+    {
+        let view = notarization.view();
+        if success {
+            let certificate = Certificate::Notarization(notarization);
+            self.succeeded(alloc, view, &certificate)
+        } else {
+            self.failed(alloc, view)
+        }
+    }
+
+    /// Takes the end of the replay, and tells what is to be fetched. It looks at each false verdict above the floor.
+    pub(crate) fn replayed(&mut self, alloc: Global) -> Result<Vec<Effect>, AllocError>
+        ensures keeps { OnOk result (AtEachScan self.old (λ views h. Stands views self.new (Replayed ∷ h))) }
+        ensures gives { IfOk result (λ given. AtEachScan self.old (λ views h. Gives views h Replayed given.items)) }
+        ensures length { scan_length self.new ≡ scan_length self.old }
+    {
+        let mut effects = Vec::new(alloc);
+        let went = self.scanned();
+        self.live = true;
+        self.scan(&mut effects, self.current, went, false)?;
+        self.ask_for_failed(&mut effects)?;
+        Ok(effects)
+    }
+
+    /// Takes a nullification.
+    #[tactic(auto, using(crate::proofs::TermStarts::room_kept, crate::proofs::TermStarts::room_of_max))]
+    fn nullified<W: Write>(
+        &mut self,
+        alloc: Global,
+        view: View,
+        nullification: &W,
+    ) -> Result<Vec<Effect>, AllocError>
+        requires { HasRoom (scan_length self.old) view }
+        ensures keeps { OnOk result (AtEachScan self.old (λ views h. Stands views self.new (Nullified view (W.spelling nullification.now) ∷ h))) }
+        ensures gives { IfOk result (λ given. AtEachScan self.old (λ views h. Gives views h (Nullified view (W.spelling nullification.now)) given.items)) }
+        ensures length { scan_length self.new ≡ scan_length self.old }
+    {
+        let mut effects = Vec::new(alloc);
+        let went = self.scanned();
+        let end = view.term_end(self.held.length);
+        self.current = self.current.max(view);
+        let reaches = self.held.take_nullification(alloc, view, nullification)?;
+        push_if(
+            reaches,
+            &mut effects,
+            Effect::settled_nullifications(view, end),
+        )?;
+        self.scan(&mut effects, view, went, false)?;
+        Ok(effects)
+    }
+
+    /// Takes a notarization.
+    #[tactic(auto, using(crate::proofs::TermStarts::room_kept, crate::proofs::TermStarts::room_of_max))]
+    fn notarized(&mut self, alloc: Global, view: View) -> Result<Vec<Effect>, AllocError>
+        requires { HasRoom (scan_length self.old) view }
+        ensures keeps { OnOk result (AtEachScan self.old (λ views h. Stands views self.new (Notarized view ∷ h))) }
+        ensures gives { IfOk result (λ given. AtEachScan self.old (λ views h. Gives views h (Notarized view) given.items)) }
+        ensures length { scan_length self.new ≡ scan_length self.old }
+    {
+        let mut effects = Vec::new(alloc);
+        let went = self.scanned();
+        self.current = self.current.max(view);
+        let settles = self.held.take_notarization(view)?;
+        push_if(settles, &mut effects, Effect::settled_notarization(view))?;
+        self.scan(&mut effects, view, went, false)?;
+        Ok(effects)
+    }
+
+    /// Takes a finalization.
+    #[tactic(auto, using(crate::proofs::TermStarts::room_kept, crate::proofs::TermStarts::room_of_max))]
+    fn finalized<W: Write>(
+        &mut self,
+        alloc: Global,
+        view: View,
+        finalization: &W,
+    ) -> Result<Vec<Effect>, AllocError>
+        requires { HasRoom (scan_length self.old) view }
+        ensures keeps { OnOk result (AtEachScan self.old (λ views h. Stands views self.new (Finalized view (W.spelling finalization.now) ∷ h))) }
+        ensures gives { IfOk result (λ given. AtEachScan self.old (λ views h. Gives views h (Finalized view (W.spelling finalization.now)) given.items)) }
+        ensures length { scan_length self.new ≡ scan_length self.old }
+    {
+        let mut effects = Vec::new(alloc);
+        let went = self.scanned();
+        self.current = self.current.max(view);
+        self.held.take_finalization(alloc, view, finalization)?;
+        effects.push(Effect::Finalized(self.held.last_finalized))?;
+        let raised = self.floor < view;
+        self.floor = self.floor.max(view);
+        push_if(raised, &mut effects, Effect::Raised(view))?;
+        self.scan(&mut effects, view, went, raised)?;
+        Ok(effects)
+    }
+
+    /// Takes a true verdict.
+    #[tactic(auto, using(crate::proofs::TermStarts::room_kept, crate::proofs::TermStarts::room_of_max))]
+    fn succeeded<W: Write>(
+        &mut self,
+        alloc: Global,
+        view: View,
+        notarization: &W,
+    ) -> Result<Vec<Effect>, AllocError>
+        requires { HasRoom (scan_length self.old) view }
+        ensures keeps { OnOk result (AtEachScan self.old (λ views h. Stands views self.new (Judged view (W.spelling notarization.now) true ∷ h))) }
+        ensures gives { IfOk result (λ given. AtEachScan self.old (λ views h. Gives views h (Judged view (W.spelling notarization.now) true) given.items)) }
+        ensures length { scan_length self.new ≡ scan_length self.old }
+    {
+        let mut effects = Vec::new(alloc);
+        let went = self.scanned();
+        self.held.take_success(alloc, view, notarization)?;
+        effects.push(Effect::settled_notarization(view))?;
+        let raised = self.floor < view;
+        self.floor = self.floor.max(view);
+        push_if(raised, &mut effects, Effect::Raised(view))?;
+        self.scan(&mut effects, view, went, raised)?;
+        Ok(effects)
+    }
+
+    /// Takes a false verdict.
+    #[tactic(auto, using(crate::proofs::TermStarts::room_kept, crate::proofs::TermStarts::room_of_max))]
+    fn failed(&mut self, alloc: Global, view: View) -> Result<Vec<Effect>, AllocError>
+        ensures keeps { OnOk result ((bytes : List ℕ) → AtEachScan self.old (λ views h. Stands views self.new (Judged view bytes false ∷ h))) }
+        ensures gives { IfOk result (λ given. (bytes : List ℕ) → AtEachScan self.old (λ views h. Gives views h (Judged view bytes false) given.items)) }
+        ensures length { scan_length self.new ≡ scan_length self.old }
+    {
+        let mut effects = Vec::new(alloc);
+        let missing = self.is_missing(view);
+        self.held.take_failure(view)?;
+        effects.push(Effect::settled_notarization(view))?;
+        push_if(missing, &mut effects, Effect::fetch_failed(view))?;
+        Ok(effects)
+    }
+
+    /// Whether the replay has ended, the view is above the floor and no nullification covers it.
+    fn is_missing(&self, view: View) -> bool
+        ensures { AtEachScan self.now (λ views h. result ≡ (live h && (nat_lt (floor h) view && not (covered views h view)))) }
+    {
+        if !self.live {
+            return false;
+        }
+        if view <= self.floor {
+            return false;
+        }
+        !self.held.is_covered(view)
+    }
+
+    /// How far scans went: to the highest certificate's view, and nowhere before the replay has ended.
+    fn scanned(&self) -> View
+        ensures answer { AtEachScan self.now (λ views h. result ≡ scanned h) }
+        ensures room { HasRoom (scan_length self.now) result }
+    {
+        if self.live {
+            self.current
+        } else {
+            View::zero()
+        }
+    }
+
+    /// The scan behind what was taken, once the replay has ended: asks for what is missing from where it begins.
+    fn scan(
+        &self,
+        effects: &mut Vec<Effect>,
+        cause: View,
+        went: View,
+        raised: bool,
+    ) -> Result<(), AllocError>
+        requires { HasRoom (scan_length self.now) went }
+        ensures { OnOk result ((views : ℕ) (h : List Item) (x : Item) → Stands views self.now (x ∷ h) → went ≡ scanned h → raised ≡ nat_lt (floor h) (floor (x ∷ h)) → (asked : List Effect) × ScansBehind views h x cause asked × (effects.new.items ≡ effects.old.items ++ asked)) }
+    {
+        if self.live {
+            let start = scan_start(went, self.floor, raised, self.held.length);
+            self.ask_from(effects, cause, start)?;
+        }
+        Ok(())
+    }
+
+    /// Asks for what is missing from the view on, below the highest certificate's view: gap by gap, and term by term in
+    /// each, which has room at once.
+    fn ask_from(
+        &self,
+        effects: &mut Vec<Effect>,
+        cause: View,
+        start: View,
+    ) -> Result<(), AllocError>
+        requires { self.now.floor < start }
+        ensures { OnOk result (AtEachScan self.now (λ views h. (asked : List Effect) × Scans views h cause start asked × (effects.new.items ≡ effects.old.items ++ asked))) }
+    {
+        let mut anchor = start;
+        'gaps: while let Some(first) = self.held.first_missing(anchor, self.current) {
+            let last = self.held.last_missing(first, self.current);
+            // So much may be missing that only a refusal ends this: it is to come before the work.
+            effects.reserve(terms_between(first, last, self.held.length))?;
+            anchor = first;
+            'terms: while anchor <= last {
+                effects.push(Effect::fetch(anchor, cause))?;
+                anchor = anchor.next_term_start(self.held.length);
+            }
+        }
+        Ok(())
+    }
+
+    /// Asks for each view with a false verdict that is above the floor and that no nullification covers.
+    fn ask_for_failed(&self, effects: &mut Vec<Effect>) -> Result<(), AllocError>
+        ensures { OnOk result (AtEachScan self.now (λ views h. (missing : List ℕ) × AreMissing views h (floor h) missing × (effects.new.items ≡ effects.old.items ++ map fetch_failed missing))) }
+    {
+        let mut last = self.floor;
+        while let Some(view) = self.held.next_failed(last) {
+            let missing = !self.held.is_covered(view);
+            push_if(missing, effects, Effect::fetch_failed(view))?;
+            last = view;
+        }
+        Ok(())
+    }
+}
