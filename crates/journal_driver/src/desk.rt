@@ -2,7 +2,7 @@
 
 use crate::session::Session;
 use crate::torn_disk::TornDisk;
-use crate::{files, memory, torn};
+use crate::{files, laws, memory, torn};
 use script_words::{Layer, Say, Trouble, Words};
 use simplex_journal::{FileDisk, MemoryDisk};
 use std::alloc::Global;
@@ -64,6 +64,7 @@ impl Layer for Desk<'_> {
         match name {
             "file" => files::answer(self.files, words, say),
             "finds" => memory::finds(words, say),
+            "laws" => laws::answer(words, say),
             _ => self.ask(name, words, say),
         }
     }

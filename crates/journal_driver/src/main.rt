@@ -11,7 +11,7 @@
 //! - torn `stop CALLS BYTES`: lets so many calls through, the next leaves the bytes; `crash BYTES`; `calls`: the calls
 //!   of the disk since they were told last
 //! - at any time `finds BYTES`: what an opening of these bytes finds and leaves; `file open`, `file read`, `file remove`,
-//!   `file make_folder`, `file remove_folder`, each with a path, and `file write PATH BYTES`
+//!   `file make_folder`, `file remove_folder`, each with a path, and `file write PATH BYTES`; `laws`
 #![tactic(auto)]
 
 mod desk;
@@ -19,6 +19,7 @@ mod device;
 mod files;
 mod history;
 mod item;
+mod laws;
 mod medium;
 mod memory;
 mod session;
