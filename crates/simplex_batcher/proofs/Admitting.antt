@@ -55,7 +55,7 @@ module _ {S D P G C : Type 0} where
   free-new s h v free ours = record { ours = ours; free = free }
 
 -- what is found is there, and passes
-found-there : {X : Type 0} (p : X → Bool) (xs : List X) (x : X) → find p xs ≡ Some x → Contains xs x × (p x ≡ true)
+pub found-there : {X : Type 0} (p : X → Bool) (xs : List X) (x : X) → find p xs ≡ Some x → Contains xs x × (p x ≡ true)
 found-there p [] x e = absurd (cc e)
 found-there p (y ∷ ys) x e = go (p y) refl e (found-there p ys x)
   where

@@ -5,3 +5,4 @@ pub mod Reaching
 pub mod Summing
 pub mod Ending
 pub mod Turning
+pub mod Founding

@@ -1,10 +1,11 @@
 //! The votes of one round.
 
-ghost use Rattle.std.specs.Prelude.{◌≡◌, ◌≢◌, ◌↔◌, ◌<◌, ◌∷◌, [], ◌&&◌, ℕ, List, Bool, true, false, Err, Option, Some, None, find, IsTrue, IfOk, IfErr, IfSome, MatchOption, OnOk, OnErr, is_none, is_some, if◌then◌else◌};
+ghost use Rattle.std.specs.Prelude.{◌≡◌, ◌≢◌, ◌↔◌, ◌<◌, ◌∷◌, [], ◌&&◌, ℕ, List, All, Contains, Bool, true, false, Err, Option, Some, None, find, IsTrue, IfOk, IfErr, IfSome, MatchOption, OnOk, OnErr, is_none, is_some, if◌then◌else◌};
 ghost use Rattle.std.specs.Option.{option_copied};
 ghost use Rattle.simplex_committee.specs.Committee.{quorum};
+ghost use Rattle.simplex_types.specs.declared.attestation.Attestation.{Attestation};
 ghost use Rattle.simplex_messages.specs.VoteParts.{vote_round, vote_signer};
-ghost use Rattle.simplex_certificates.specs.Certificate.{certificate_round};
+ghost use Rattle.simplex_certificates.specs.Certificate.{certificate_round, certificate_statement, certified_by};
 ghost use Rattle.simplex_verifier.specs.declared.fault.BatcherFault.TheVariants.{WrongRound, OtherLeader, Contradicts, Memory};
 ghost use Rattle.simplex_judging.specs.declared.kind.Kind.TheVariants.{Notarization};
 ghost use Rattle.simplex_verifier.specs.Votes.{vote_kind, certificate_kind};
@@ -13,7 +14,7 @@ ghost use Rattle.simplex_verifier.specs.Lawful.{IsNew, VoteAttests, Allowed};
 ghost use Rattle.simplex_verifier.specs.Quorums.{AllCertified};
 ghost use Rattle.simplex_admission.specs.Evidence.{as_report, evidence};
 ghost use Rattle.simplex_batcher.specs.Admission.{contradicts, IsBlocked, report_of, AgreesWithOwn, IsAdmissionFault, IsCastFault};
-ghost use Rattle.simplex_verifier.specs.Construction.{after, after_construction, kinds_left, IsBatch};
+ghost use Rattle.simplex_verifier.specs.Construction.{after, after_construction, kinds_left, HasFailed, IsBatch, IsReadable, IsVoted};
 ghost use Rattle.simplex_batcher.specs.Rounds.{RoundKeeps, AtEach};
 
 use crate::tracker::VoteTracker;
@@ -23,8 +24,9 @@ use simplex_judging::in_turn;
 use simplex_messages::{Activity, Certificate, Vote};
 use simplex_types::{Attributable, Digest, Participant, Proposal, Round as Rnd, Scheme};
 use simplex_verifier::{
-    Batch, BatcherFault, Kind, Verifier, constructions_end, forwarding_changes_no_votes, kind_of,
-    kind_of_certificate, no_quorum_is_lost,
+    Batch, BatcherFault, Kind, Verifier, batches_rest_on_accepted_votes, constructions_end,
+    forwarding_changes_no_votes, kind_of, kind_of_certificate, no_quorum_is_lost,
+    what_is_due_has_no_certificate,
 };
 use std::alloc::{AllocError, Global};
 use std::rc::Rc;
@@ -170,7 +172,7 @@ impl<S: Scheme<D>, D: Digest> Round<S, D> {
     }
 
     /// Takes an own vote, which attests: its report where it is new, and nothing where one of its kind, or of nullify and
-    /// finalize the other, was given before. An own vote of a member that never contradicts itself is refused for want of
+    /// finalize the other, was given before; then nothing is changed, also where it does not attest. An own vote of a member that never contradicts itself is refused for want of
     /// memory alone.
     ///
     /// # Errors
@@ -186,6 +188,7 @@ impl<S: Scheme<D>, D: Digest> Round<S, D> {
         ensures agrees { IfOk result (λ report. AtEach D.PartialEq.eq S.Scheme S.batchable self.old (λ s h. contradicts D.PartialEq.eq h vote ≡ false)) }
         ensures report { IfOk result (λ report. AtEach D.PartialEq.eq S.Scheme S.batchable self.old (λ s h. report ≡ (if is_none (recorded h vote) then Some (as_report vote) else None))) }
         ensures ok { OnOk result (AtEach D.PartialEq.eq S.Scheme S.batchable self.old (λ s h. VoteAttests S.attests s vote → RoundKeeps D.PartialEq.eq S.Scheme S.batchable s self.new (if is_none (recorded h vote) then Cast vote ∷ h else h))) }
+        ensures again { OnOk result (AtEach D.PartialEq.eq S.Scheme S.batchable self.old (λ s h. is_none (recorded h vote) ≡ false → RoundKeeps D.PartialEq.eq S.Scheme S.batchable s self.new h)) }
         ensures err { OnErr result (AtEach D.PartialEq.eq S.Scheme S.batchable self.old (λ s h. RoundKeeps D.PartialEq.eq S.Scheme S.batchable s self.new h)) }
     {
         if !self.belongs(&vote) {
@@ -244,7 +247,9 @@ impl<S: Scheme<D>, D: Digest> Round<S, D> {
     }
 
     /// Makes a certificate, or judges the votes that wait, of the first kind of which one of the two is due: notarization,
-    /// nullification, finalization. Where nothing is due, each kind with a valid quorum has its certificate. Where something
+    /// nullification, finalization. A certificate is the first of its kind, is of the round, certifies what it states, can
+    /// be read again in the committee, and lists attestations alone of accepted votes that state the same. Of each signer
+    /// that is called invalid a vote was accepted that does not attest what it states. Where nothing is due, each kind with a valid quorum has its certificate. Where something
     /// was, a later kind is due, or none: three calls one after the other are enough. After an `Err` the call counts as not
     /// made.
     pub fn try_construct(
@@ -253,6 +258,13 @@ impl<S: Scheme<D>, D: Digest> Round<S, D> {
     ) -> Result<Option<Batch<Certificate<S, D>>>, AllocError>
         ensures none { IfOk result (λ made. AtEach D.PartialEq.eq S.Scheme S.batchable self.old (λ s h. is_none made ≡ is_none (next_kind D.PartialEq.eq s h))) }
         ensures batch { IfOk result (λ made. IfSome made (λ batch. AtEach D.PartialEq.eq S.Scheme S.batchable self.old (λ s h. MatchOption (next_kind D.PartialEq.eq s h) ⊥ (λ kind. IsBatch S.Scheme D.PartialEq.eq s kind h batch)))) }
+        ensures kind { IfOk result (λ made. IfSome made (λ batch. AtEach D.PartialEq.eq S.Scheme S.batchable self.old (λ s h. IfSome batch.certificate (λ c. next_kind D.PartialEq.eq s h ≡ Some (certificate_kind c))))) }
+        ensures round { IfOk result (λ made. IfSome made (λ batch. AtEach D.PartialEq.eq S.Scheme S.batchable self.old (λ s h. IfSome batch.certificate (λ c. certificate_round c ≡ s.round)))) }
+        ensures certifies { IfOk result (λ made. IfSome made (λ batch. AtEach D.PartialEq.eq S.Scheme S.batchable self.old (λ s h. IfSome batch.certificate (λ c. S.certifies s.scheme (certificate_statement c) (certified_by c))))) }
+        ensures readable { IfOk result (λ made. IfSome made (λ batch. AtEach D.PartialEq.eq S.Scheme S.batchable self.old (λ s h. IfSome batch.certificate (IsReadable S.Certificate.within s.members)))) }
+        ensures listed { IfOk result (λ made. IfSome made (λ batch. AtEach D.PartialEq.eq S.Scheme S.batchable self.old (λ s h. IfSome batch.certificate (λ c. (a : Attestation S.Signature) → Contains (S.lists (certified_by c)) a → IsVoted (certificate_kind c) h (certificate_statement c) a)))) }
+        ensures invalid { IfOk result (λ made. IfSome made (λ batch. AtEach D.PartialEq.eq S.Scheme S.batchable self.old (λ s h. MatchOption (next_kind D.PartialEq.eq s h) ⊥ (λ kind. All (HasFailed S.attests s kind h) batch.invalid.items)))) }
+        ensures fresh { IfOk result (λ made. IfSome made (λ batch. AtEach D.PartialEq.eq S.Scheme S.batchable self.old (λ s h. MatchOption (next_kind D.PartialEq.eq s h) ⊥ (λ kind. is_complete kind h ≡ false)))) }
         ensures certified { IfOk result (λ made. made ≡ None → AtEach D.PartialEq.eq S.Scheme S.batchable self.old (λ s h. s.is_skipped ≡ false → AllCertified S.attests s h)) }
         ensures last { IfOk result (λ made. AtEach D.PartialEq.eq S.Scheme S.batchable self.old (λ s h. let later = after_construction (next_kind D.PartialEq.eq s h) made h in s.is_skipped ≡ false → next_kind D.PartialEq.eq s later ≡ None → AllCertified S.attests s later)) }
         ensures fewer { IfOk result (λ made. AtEach D.PartialEq.eq S.Scheme S.batchable self.old (λ s h. is_some made ≡ true → kinds_left (next_kind D.PartialEq.eq s (after_construction (next_kind D.PartialEq.eq s h) made h)) < kinds_left (next_kind D.PartialEq.eq s h))) }
@@ -261,6 +273,8 @@ impl<S: Scheme<D>, D: Digest> Round<S, D> {
     {
         no_quorum_is_lost::<S, D>();
         constructions_end::<S, D>();
+        batches_rest_on_accepted_votes::<S, D>();
+        what_is_due_has_no_certificate::<S, D>();
         let made = self.construct_first(alloc)?;
         Ok(made)
     }
@@ -272,6 +286,7 @@ impl<S: Scheme<D>, D: Digest> Round<S, D> {
     ) -> Result<Option<Batch<Certificate<S, D>>>, AllocError>
         ensures none { IfOk result (λ made. AtEach D.PartialEq.eq S.Scheme S.batchable self.old (λ s h. is_none made ≡ is_none (next_kind D.PartialEq.eq s h))) }
         ensures batch { IfOk result (λ made. IfSome made (λ batch. AtEach D.PartialEq.eq S.Scheme S.batchable self.old (λ s h. MatchOption (next_kind D.PartialEq.eq s h) ⊥ (λ kind. IsBatch S.Scheme D.PartialEq.eq s kind h batch)))) }
+        ensures readable { IfOk result (λ made. IfSome made (λ batch. AtEach D.PartialEq.eq S.Scheme S.batchable self.old (λ s h. IfSome batch.certificate (IsReadable S.Certificate.within s.members)))) }
         ensures ok { IfOk result (λ made. AtEach D.PartialEq.eq S.Scheme S.batchable self.old (λ s h. MatchOption (next_kind D.PartialEq.eq s h) (RoundKeeps D.PartialEq.eq S.Scheme S.batchable s self.new h) (λ kind. RoundKeeps D.PartialEq.eq S.Scheme S.batchable s self.new (after kind made h)))) }
         ensures err { OnErr result (AtEach D.PartialEq.eq S.Scheme S.batchable self.old (λ s h. RoundKeeps D.PartialEq.eq S.Scheme S.batchable s self.new h)) }
     {

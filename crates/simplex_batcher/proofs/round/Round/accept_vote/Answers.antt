@@ -24,3 +24,9 @@ returns-clause-ok g c = λ s h k attests.
     let free = sym (rw c.in_default.is at (c.recorded.ensures (accepted h) k.tracker)) in
     let member : vote_signer v < s.members = rw (kept-members g.D.PartialEq.eq g.S.Scheme g.S.Scheme.batchable s c.args.self.now.verifier h k.verifier) at (g.met.S.Scheme.attests_member s.scheme _ _ _ attests) in
     rw free (c.in_ok-put.ensures.cast s h k refl member (free-new s h v free ((c.belongs.ensures s h k).0 c.if-not-belongs.false)) attests)
+
+pub returns-clause-again : goal.returns-clause-again
+unfolding RoundKeeps
+returns-clause-again g c = λ s h k old.
+    let free = sym (rw c.in_default.is at (c.recorded.ensures (accepted h) k.tracker)) in
+    absurd (cc (rw free at old))

@@ -25,6 +25,10 @@ returns-in-Some-clause-batch g c = λ s h k.
     let next : next_kind g.D.PartialEq.eq s h ≡ Some kind = now.1 ∙ turn-here (λ kind. is_due g.D.PartialEq.eq s kind h) c.in_turn-kind-items.result c.loop-kind.kind-index Notarization c.in_turn-kind-items.ensures c.loop-kind-test.true due in
     match-at ⊥ (λ kind. IsBatch g.S.Scheme g.D.PartialEq.eq s kind h c.in-Some.batch) (next_kind g.D.PartialEq.eq s h) kind next ((rw c.in-Some.is at c.in_ok-batch.ensures.batch) s h now.0.verifier)
 
+pub returns-in-Some-clause-readable : goal.returns-in-Some-clause-readable
+unfolding RoundKeeps
+returns-in-Some-clause-readable g c = λ s h k. (rw c.in-Some.is at c.in_ok-batch.ensures.readable) s h (c.loop-kind.invariant s h k).0.verifier
+
 pub returns-in-Some-clause-ok : goal.returns-in-Some-clause-ok
 unfolding RoundKeeps
 returns-in-Some-clause-ok g c = λ s h k.
