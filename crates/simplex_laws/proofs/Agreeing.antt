@@ -31,7 +31,7 @@ module _ {D : Type 0} (m : Member) (k j : Known D) (a : AgreeAbove m k j) where
   same_held : (view : ℕ) → k.last_finalized ≤ view → held_at m k view ≡ held_at m j view
   same_held view from = rw (a.offers view from) refl
 
-  same_explicit : (view : ℕ) → k.last_finalized ≤ view → explicit m k view ≡ explicit m j view
+  pub same_explicit : (view : ℕ) → k.last_finalized ≤ view → explicit m k view ≡ explicit m j view
   same_explicit view from = rw (a.genesis, a.finalized view from, a.verdict view from, a.offers view from) refl
 
   same_support : (view : ℕ) → k.last_finalized ≤ view → certificate_payload m k view ≡ certificate_payload m j view
@@ -77,7 +77,7 @@ module _ {D : Type 0} (m : Member) (k j : Known D) (a : AgreeAbove m k j) where
   span : (view parent : ℕ) → IsSpan m k view parent → IsSpan m j view parent
   span view parent s = record { below = s.below; above = omega (arith, s.above, a.last_finalized); next = s.next; covered = between parent view s.above s.covered }
 
-  required : (view parent u : ℕ) → k.last_finalized < view → IsRequired m k view parent u → IsRequired m j view parent u
+  pub required : (view parent u : ℕ) → k.last_finalized < view → IsRequired m k view parent u → IsRequired m j view parent u
   required view parent u above r = record {
     next = r.next;
     early = λ start. let e = r.early start in (e.0, e.1, sym (a.has_notarized view (omega (arith, above))) ∙ e.2);
@@ -153,7 +153,7 @@ module _ {D : Type 0} (m : Member) (k j : Known D) (a : AgreeAbove m k j) where
     outside = λ out. sym (same_explicit m k j a parent from) ∙ s.outside (λ w. out (window m k j a view above w));
   }
 
-  parent_rule : (view parent : ℕ) (payload : D) → k.last_finalized < view → IsParent m k view parent payload → IsParent m j view parent payload
+  pub parent_rule : (view parent : ℕ) (payload : D) → k.last_finalized < view → IsParent m k view parent payload → IsParent m j view parent payload
   parent_rule view parent payload above r = record { span = span m k j a view parent r.span; supports = supports view parent payload above r.span.above r.supports }
 
   -- the highest explicit view below doesn't lie below the last finalized one
@@ -220,7 +220,7 @@ module _ {D : Type 0} (m : Member) (k j : Known D) (a : AgreeAbove m k j) where
   predecessor view parent payload above p = record { inside = p.inside; next = p.next; supports = supports m k j a view parent payload above (omega (arith, above, p.next)) p.supports }
 
   -- the same is to be built on, and doesn't lie below the last finalized view
-  preferred : (view parent : ℕ) (payload : D) → k.last_finalized < view → IsPreferred m k view parent payload → IsPreferred m j view parent payload
+  pub preferred : (view parent : ℕ) (payload : D) → k.last_finalized < view → IsPreferred m k view parent payload → IsPreferred m j view parent payload
   preferred view parent payload above (inl before) = inl (predecessor view parent payload above before)
   preferred view parent payload above (inr (inl last)) = inr (inl (last_certified m k j a view parent payload above last))
   preferred view parent payload above (inr (inr over)) = inr (inr (handed_over view parent payload above over))
@@ -240,7 +240,7 @@ module _ {D : Type 0} (m : Member) (k j : Known D) (a : AgreeAbove m k j) where
       still (inl rule) = inl (parent_rule m k j a view b.0.parent b.1 above rule)
       still (inr (own, built)) = inr (leads view above own, preferred view b.0.parent b.1 above built)
 
-  steady : (view : ℕ) → k.last_finalized < view → IsSteady m k view → IsSteady m j view
+  pub steady : (view : ℕ) → k.last_finalized < view → IsSteady m k view → IsSteady m j view
   steady view above s = λ b bound. stands view b above (s b (a.binding view (omega (arith, above)) ∙ bound))
 
   -- the same votes are due
@@ -313,7 +313,7 @@ module _ {D : Type 0} (m : Member) (k j : Known D) (a : AgreeAbove m k j) where
         not_backed = sym (a.is_backed view from) ∙ w.not_backed;
       }
 
-  verdict_is_open : (view : ℕ) (p : Proposal D) → VerdictIsOpen m k view p → VerdictIsOpen m j view p
+  pub verdict_is_open : (view : ℕ) (p : Proposal D) → VerdictIsOpen m k view p → VerdictIsOpen m j view p
   verdict_is_open view p o =
       let from : k.last_finalized ≤ view = omega (arith, o.above) in
       record {

@@ -4,11 +4,13 @@ use Rattle.std.proofs.lemmas.Bool.Decides.{nat_tests}
 use Rattle.std.proofs.lemmas.Option.{none-some}
 use Rattle.std.specs.Prelude.{◌||◌, ◌==◌, Bool, Option, Some, None, is_some, IsSome, if◌then◌else◌}
 use Rattle.simplex_types.specs.Positions.{IsTermStart}
+use Rattle.simplex_types.specs.declared.proposal.Proposal.{Proposal}
 use Rattle.simplex_record.specs.Record.{Entry}
 use Rattle.simplex_record.specs.Chain.{IsGround}
 use Rattle.simplex_history.specs.Past.{verdict_is_true}
 use Rattle.simplex_history.specs.Known.{Known}
 use Rattle.simplex_decisions.specs.Ancestry.{Member, explicit, Leads, IsParent, IsPreferred, IsRequired}
+use Rattle.simplex_decisions.specs.Requests.{CertifyIsDue}
 use Rattle.simplex_laws.specs.Matching.{Matches, DueNotarizeIsOnGround, DueVerdictIsOnGround}
 use Rattle.simplex_laws.proofs.Recordable.{some_of}
 
@@ -24,7 +26,7 @@ why_explicit false None None genesis held x e = absurd (none-some x e)
 
 module _ {D : Type 0} (m : Member) (k : Known D) (r : List (Entry D)) (matches : Matches m k r) where
   -- what is explicit is ground
-  ground_of : (u : ℕ) (x : D) → explicit m k u ≡ Some x → IsGround r u
+  pub ground_of : (u : ℕ) (x : D) → explicit m k u ≡ Some x → IsGround r u
   ground_of u x e = because (why_explicit (u == 0) (k.finalized u) (k.verdict u) _ _ x e)
     where
       because : ((u == 0) ≡ true) ⊎ (IsSome (k.finalized u) ⊎ (k.verdict u ≡ Some true)) → IsGround r u
@@ -44,6 +46,17 @@ module _ {D : Type 0} (m : Member) (k : Known D) (r : List (Entry D)) (matches :
   ground_parent view parent i payload me start (inr (leads, inr (inr over))) =
       inr (subst (λ (v : ℕ). m.scheduled v ≡ Some i) (sym over.next) (over.handoff.leads.named ∙ me))
 
+  -- inside a term the parent that a verdict waits for is
+  pub ground_inside : (view : ℕ) (p : Proposal D) → CertifyIsDue m k view p → ¬ IsTermStart m.length view → IsGround r p.parent
+  ground_inside view p due within =
+      let required : IsRequired m k view p.parent (view - 1) = record { next = omega (arith, due.opens.above); early = λ start. absurd (within start) } in
+      let some = some_of (explicit m k (view - 1)) (due.explicit (view - 1) required) in
+      subst (λ (u : ℕ). IsGround r u) (before (due.opens.span (view - 1) required).next) (ground_of (view - 1) some.0 some.1)
+    where
+      before : IsTermStart m.length view ⊎ (view ≡ p.parent + 1) → view - 1 ≡ p.parent
+      before (inl start) = absurd (within start)
+      before (inr next) = omega (arith, next)
+
 pub due_notarize_is_on_ground : {D : Type 0} → DueNotarizeIsOnGround D
 due_notarize_is_on_ground m k r view i p me matches b due =
     let stands = due.steady (p, b.payload) b.bound in
@@ -55,16 +68,6 @@ due_verdict_is_on_ground {D} m k r view size p many matches due =
     let one = matches.notarized view p due.opens.notarized in
     (p, refl, one.1, ground one.0)
   where
-    inside : ¬ IsTermStart m.length view → IsGround r p.parent
-    inside within =
-        let required : IsRequired m k view p.parent (view - 1) = record { next = omega (arith, due.opens.above); early = λ start. absurd (within start) } in
-        let some = some_of (explicit m k (view - 1)) (due.explicit (view - 1) required) in
-        subst (λ (u : ℕ). IsGround r u) (before (due.opens.span (view - 1) required).next) (ground_of m k r matches (view - 1) some.0 some.1)
-      where
-        before : IsTermStart m.length view ⊎ (view ≡ p.parent + 1) → view - 1 ≡ p.parent
-        before (inl start) = absurd (within start)
-        before (inr next) = omega (arith, next)
-
     ground : p.round.view ≡ view → ¬ IsTermStart m.length p.round.view ⊎ (size ≡ 1) → IsGround r p.parent
-    ground at (inl within) = inside (subst (λ (v : ℕ). ¬ IsTermStart m.length v) at within)
+    ground at (inl within) = ground_inside m k r matches view p due (subst (λ (v : ℕ). ¬ IsTermStart m.length v) at within)
     ground at (inr alone) = absurd (many alone)

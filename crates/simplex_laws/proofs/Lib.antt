@@ -1,10 +1,15 @@
 mod Agreeing
+mod Alone
+mod Bound
 mod Closed
 mod Grounding
 mod Growing
+mod Lasting
 mod Matched
+mod Placed
 mod Pruning
 mod Quiet
 mod Recordable
 mod Steady
+mod Timeouts
 mod Windowing

@@ -2,11 +2,11 @@
 use Rattle.std.proofs.Common.{◌≡◌, ◌≢◌, ◌⊎◌, inl, inr, true, false, ℕ, List, [], ◌∷◌, ◌++◌, sym, ◌∙◌, ap, subst, refl, ◌+◌, ◌≤◌, max, arith, if◌then◌else◌}
 use mathlib.Core.Bool.{true≢false}
 use mathlib.Core.List.{reverse, reverse-cons}
-use Rattle.std.proofs.lemmas.Bool.{cases_eq}
+use Rattle.std.proofs.lemmas.Bool.{cases_eq, or_left, or_right}
 use Rattle.std.proofs.lemmas.Bool.Decides.{Decides-eqb}
 use Rattle.std.proofs.lemmas.List.Sorted.{Contains-permutation, IsPermutation-reverse, IsPermutation-sym}
 use Rattle.std.proofs.lemmas.Option.{none-some, same_Some}
-use Rattle.std.specs.Prelude.{◌==◌, nat_lt, Bool, Option, Some, None, ◌||◌, Contains, option_map, ⊤}
+use Rattle.std.specs.Prelude.{◌==◌, nat_lt, nat_le, Bool, Option, Some, None, IsSome, ◌||◌, Contains, option_map, ⊤}
 use Rattle.std.specs.List.{cons_option}
 use Rattle.std.specs.Option.{option_or}
 use Rattle.simplex_committee.specs.Counting.{Contains-cases, Contains-head, Contains-rest}
@@ -24,6 +24,8 @@ use Rattle.simplex_history.specs.Past.{Item, offers}
 use Rattle.simplex_history.specs.Pasts.{put, bind}
 use Rattle.simplex_history.specs.History.{Setup, Point, started, notarized, nullified, finalized, judged, voted_notarize, voted_nullify, voted_finalize, recalled_notarize, recalled_nullify, recalled_finalize, recalled_verdict, pruned, enter, undecided_payload, was_nullified, current, last_finalized, min_active, seen}
 use Rattle.simplex_laws.specs.Matching.{round_of, told, record_of, OwnWereTaken, EachHistoryMatches}
+use Rattle.simplex_laws.specs.Recording.{EachRecordIsKnown}
+use Rattle.simplex_laws.specs.Stepping.{choose_holds, put_holds, enter_holds}
 use Rattle.simplex_laws.proofs.Growing.{told_still, IsRecordedWell, IsFounded, founded_still, Grows, still, more, stays_kept, grows, finalized_rises, grown}
 
 -- the greatest number that a list gives is that of the list turned round
@@ -47,6 +49,11 @@ from_reverse xs x here = Contains-permutation (reverse xs) xs x (IsPermutation-s
 given_first : {A : Type 0} {Q : A → Type 0} (o : Option A) (d c : A) → ((x : A) → o ≡ Some x → Q x) → Q d → option_or o (Some d) ≡ Some c → Q c
 given_first {Q = Q} None d c before own is = subst Q (same_Some d c is) own
 given_first {Q = Q} (Some x) d c before own is = subst Q (same_Some x c is) (before x refl)
+
+-- with one more to give something is given
+some_with : {A : Type 0} (o : Option A) (x : A) → IsSome (option_or o (Some x))
+some_with None x = refl
+some_with (Some y) x = refl
 
 -- of which view an entry is
 abbrev entry_view : {D : Type 0} → Entry D → ℕ
@@ -131,10 +138,10 @@ module _ {S D P G C : Type 0} where
   Shows (recorded.voted (notarize p)) l = past.has_notarized l ≡ true
   Shows (recorded.voted (nullify r)) l = past.has_nullified l ≡ true
   Shows (recorded.voted (finalize p)) l = past.has_finalized l ≡ true
-  Shows (recorded.taken (notarize p)) l = Contains (offers l) (offer.certified p)
+  Shows (recorded.taken (notarize p)) l = Contains (offers l) (offer.certified p) × IsSome (past.notarization l)
   Shows (recorded.taken (nullify r)) l = ⊤
-  Shows (recorded.taken (finalize p)) l = Contains (offers l) (offer.certified p)
-  Shows (recorded.judged r ok) l = ⊤
+  Shows (recorded.taken (finalize p)) l = Contains (offers l) (offer.certified p) × IsSome (past.finalization l)
+  Shows (recorded.judged r ok) l = IsSome (past.verdict l)
 
   notarized_more : (x : Item S D P G C) (l : List (Item S D P G C)) → past.has_notarized l ≡ true → past.has_notarized (x ∷ l) ≡ true
   notarized_more past.voted_notarize l is = refl
@@ -155,14 +162,26 @@ module _ {S D P G C : Type 0} where
       by None = here
       by (Some y) = Contains-rest y (offers l) o here
 
+  notarization_more : (x : Item S D P G C) (l : List (Item S D P G C)) → IsSome (past.notarization l) → IsSome (past.notarization (x ∷ l))
+  notarization_more (past.notarized c) l some = some_with (past.notarization l) c
+  notarization_more x l some = some
+
+  finalization_more : (x : Item S D P G C) (l : List (Item S D P G C)) → IsSome (past.finalization l) → IsSome (past.finalization (x ∷ l))
+  finalization_more (past.finalized c) l some = some_with (past.finalization l) c
+  finalization_more x l some = some
+
+  verdict_more : (x : Item S D P G C) (l : List (Item S D P G C)) → IsSome (past.verdict l) → IsSome (past.verdict (x ∷ l))
+  verdict_more (past.judged ok) l some = some_with (past.verdict l) ok
+  verdict_more x l some = some
+
   shows_more : (e : Entry D) (x : Item S D P G C) (l : List (Item S D P G C)) → Shows e l → Shows e (x ∷ l)
   shows_more (recorded.voted (notarize p)) x l shows = notarized_more x l shows
   shows_more (recorded.voted (nullify r)) x l shows = nullified_more x l shows
   shows_more (recorded.voted (finalize p)) x l shows = finalized_more x l shows
-  shows_more (recorded.taken (notarize p)) x l shows = offered_more (offer.certified p) x l shows
+  shows_more (recorded.taken (notarize p)) x l shows = (offered_more (offer.certified p) x l shows.0, notarization_more x l shows.1)
   shows_more (recorded.taken (nullify r)) x l shows = tt
-  shows_more (recorded.taken (finalize p)) x l shows = offered_more (offer.certified p) x l shows
-  shows_more (recorded.judged r ok) x l shows = tt
+  shows_more (recorded.taken (finalize p)) x l shows = (offered_more (offer.certified p) x l shows.0, finalization_more x l shows.1)
+  shows_more (recorded.judged r ok) x l shows = verdict_more x l shows
 
   -- what a point says is seen
   put_at : (at : ℕ) (x : Item S D P G C) (t : ℕ → List (Item S D P G C)) → put at x t at ≡ x ∷ t at
@@ -191,12 +210,25 @@ module _ {S D P G C : Type 0} where
     finalizes = λ view p here. views.finalizes view p (Contains-rest x h (voted_finalize view p) here);
   }
 
+  judged_here : (s : Setup S C) (h : List (Point S D P G C)) (now view : ℕ) (ok : Bool) → IsSome (past.verdict (seen s (judged now view ok ∷ h) view))
+  judged_here s h now view true =
+      enter_holds (λ l. IsSome (past.verdict l)) view s (current s h) now (view + 1) (put view (past.judged true) (seen s h)) (λ moment leader certification stall l some. some)
+      (subst (λ (l : List (Item S D P G C)). IsSome (past.verdict l)) (sym (put_at view (past.judged true) (seen s h))) (some_with (past.verdict (seen s h view)) true))
+  judged_here s h now view false =
+      choose_holds (λ l. IsSome (past.verdict l)) view (nat_le (current s h) view) (put view (past.latched now _) (put view (past.judged false) (seen s h))) (put view (past.judged false) (seen s h))
+      (put_holds (λ l. IsSome (past.verdict l)) view view (past.latched now _) (put view (past.judged false) (seen s h)) (λ here some. some) (once view)) (once view)
+    where
+      once : (u : ℕ) → IsSome (past.verdict (put u (past.judged false) (seen s h) u))
+      once u = subst (λ (l : List (Item S D P G C)). IsSome (past.verdict l)) (sym (put_at u (past.judged false) (seen s h))) (some_with (past.verdict (seen s h u)) false)
+
   -- what a point says was said before, or is seen now
   said : (s : Setup S C) (x : Point S D P G C) (h : List (Point S D P G C)) (e : Entry D) → AreOfTheirViews (x ∷ h) → Contains (told s (x ∷ h)) e
       → Contains (told s h) e ⊎ Shows e (seen s (x ∷ h) (entry_view e))
   said s (notarized c) h e views here = elim (Contains-cases (recorded.taken (notarize c.proposal)) (told s h) e here) [
-    | inl is ↦ inr (subst (λ (y : Entry D). Shows y (seen s (notarized c ∷ h) (entry_view y))) is
-        (certified_here c.proposal.round.view (past.notarized c) c.proposal (seen s h) refl))
+    | inl is ↦ inr (subst (λ (y : Entry D). Shows y (seen s (notarized c ∷ h) (entry_view y))) is (
+      certified_here c.proposal.round.view (past.notarized c) c.proposal (seen s h) refl,
+      subst (λ (l : List (Item S D P G C)). IsSome (past.notarization l)) (sym (put_at c.proposal.round.view (past.notarized c) (seen s h))) (some_with (past.notarization (seen s h c.proposal.round.view)) c),
+    ))
     | inr there ↦ inl there
   ]
   said s (nullified now c) h e views here = elim (Contains-cases (recorded.taken (nullify c.round)) (told s h) e here) [
@@ -204,12 +236,15 @@ module _ {S D P G C : Type 0} where
     | inr there ↦ inl there
   ]
   said s (finalized now c) h e views here = elim (Contains-cases (recorded.taken (finalize c.proposal)) (told s h) e here) [
-    | inl is ↦ inr (subst (λ (y : Entry D). Shows y (seen s (finalized now c ∷ h) (entry_view y))) is
-        (certified_here c.proposal.round.view (past.finalized c) c.proposal (enter s (current s h) now (c.proposal.round.view + 1) (seen s h)) refl))
+    | inl is ↦ inr (subst (λ (y : Entry D). Shows y (seen s (finalized now c ∷ h) (entry_view y))) is (
+      certified_here c.proposal.round.view (past.finalized c) c.proposal (enter s (current s h) now (c.proposal.round.view + 1) (seen s h)) refl,
+      subst (λ (l : List (Item S D P G C)). IsSome (past.finalization l)) (sym (put_at c.proposal.round.view (past.finalized c) (enter s (current s h) now (c.proposal.round.view + 1) (seen s h))))
+          (some_with (past.finalization (enter s (current s h) now (c.proposal.round.view + 1) (seen s h) c.proposal.round.view)) c),
+    ))
     | inr there ↦ inl there
   ]
   said s (judged now view ok) h e views here = elim (Contains-cases (recorded.judged (round_of s view) ok) (told s h) e here) [
-    | inl is ↦ inr (subst (λ (y : Entry D). Shows y (seen s (judged now view ok ∷ h) (entry_view y))) is tt)
+    | inl is ↦ inr (subst (λ (y : Entry D). Shows y (seen s (judged now view ok ∷ h) (entry_view y))) is (judged_here s h now view ok))
     | inr there ↦ inl there
   ]
   said s (voted_notarize view p) h e views here = elim (Contains-cases (recorded.voted (notarize p)) (told s h) e here) [
@@ -316,7 +351,7 @@ module _ {S D P G C : Type 0} where
 
 module _ {D : Type 0} (same : (x y : D) → (x ≡ y) ⊎ (x ≢ y)) where
   -- two proposals are one or differ, where payloads do
-  same_proposal : (p q : Proposal D) → (p ≡ q) ⊎ (p ≢ q)
+  pub same_proposal : (p q : Proposal D) → (p ≡ q) ⊎ (p ≢ q)
   same_proposal p q = by (cases_eq p.round.epoch q.round.epoch) (cases_eq p.round.view q.round.view) (cases_eq p.parent q.parent) (same p.payload q.payload)
     where
       by : (p.round.epoch ≡ q.round.epoch) ⊎ (p.round.epoch ≢ q.round.epoch) → (p.round.view ≡ q.round.view) ⊎ (p.round.view ≢ q.round.view)
@@ -395,5 +430,67 @@ each_history_matches {S} {D} {P} {G} {C} same s h orderly = record {
 
     certificate : (p : Proposal D) → HasTaken (record_of s h) (notarize p) ⊎ HasTaken (record_of s h) (finalize p) → recorded.IsKept s.retention (record_of s h) p.round.view
         → Contains (offers (seen s h p.round.view)) (offer.certified p)
-    certificate p (inl taken) kept = seen_of (recorded.taken (notarize p)) taken kept
-    certificate p (inr taken) kept = seen_of (recorded.taken (finalize p)) taken kept
+    certificate p (inl taken) kept = (seen_of (recorded.taken (notarize p)) taken kept).0
+    certificate p (inr taken) kept = (seen_of (recorded.taken (finalize p)) taken kept).0
+
+some_mapped : {A B : Type 0} (f : A → B) (o : Option A) → IsSome o → IsSome (option_map f o)
+some_mapped f None some = some
+some_mapped f (Some x) some = refl
+
+module _ {S D P G C : Type 0} where
+  -- an entry that tells a nullification tells one that was learnt
+  abbrev IsLearnt : List (Point S D P G C) → Entry D → Type 0
+  IsLearnt h (recorded.taken (nullify r)) = was_nullified h r.view ≡ true
+  IsLearnt h e = ⊤
+
+  learnt_still : (x : Point S D P G C) (h : List (Point S D P G C)) (e : Entry D) → IsLearnt h e → IsLearnt (x ∷ h) e
+  learnt_still (nullified now c) h (recorded.taken (nullify r)) is = or_right (c.round.view == r.view) (was_nullified h r.view) is
+  learnt_still x h (recorded.taken (nullify r)) is = is
+  learnt_still x h (recorded.taken (notarize p)) is = tt
+  learnt_still x h (recorded.taken (finalize p)) is = tt
+  learnt_still x h (recorded.voted v) is = tt
+  learnt_still x h (recorded.judged r ok) is = tt
+
+  -- each entry is the last point's, or an earlier one's
+  learnt_or : (x : Point S D P G C) (h : List (Point S D P G C)) (d e : Entry D) (t : List (Entry D)) → IsLearnt (x ∷ h) d → (Contains t e → IsLearnt h e) → Contains (d ∷ t) e → IsLearnt (x ∷ h) e
+  learnt_or x h d e t now before here = elim (Contains-cases d t e here) [
+    | inl is ↦ subst (λ (y : Entry D). IsLearnt (x ∷ h) y) is now
+    | inr there ↦ learnt_still x h e (before there)
+  ]
+
+  learnt : (s : Setup S C) (h : List (Point S D P G C)) (e : Entry D) → Contains (told s h) e → IsLearnt h e
+  learnt s [] e here = absurd (omega (arith, here.1))
+  learnt s (notarized c ∷ h) e here = learnt_or (notarized c) h (recorded.taken (notarize c.proposal)) e (told s h) tt (learnt s h e) here
+  learnt s (nullified now c ∷ h) e here =
+      learnt_or (nullified now c) h (recorded.taken (nullify c.round)) e (told s h) (or_left (c.round.view == c.round.view) (was_nullified h c.round.view) ((Decides-eqb c.round.view c.round.view).1 refl)) (learnt s h e) here
+  learnt s (finalized now c ∷ h) e here = learnt_or (finalized now c) h (recorded.taken (finalize c.proposal)) e (told s h) tt (learnt s h e) here
+  learnt s (judged now view ok ∷ h) e here = learnt_or (judged now view ok) h (recorded.judged (round_of s view) ok) e (told s h) tt (learnt s h e) here
+  learnt s (voted_notarize view p ∷ h) e here = learnt_or (voted_notarize view p) h (recorded.voted (notarize p)) e (told s h) tt (learnt s h e) here
+  learnt s (voted_nullify view ∷ h) e here = by (past.has_nullified (seen s h view)) here (learnt s h e)
+    where
+      by : (b : Bool) → Contains (if b then told s h else recorded.voted (nullify (round_of s view)) ∷ told s h) e → (Contains (told s h) e → IsLearnt h e) → IsLearnt (voted_nullify view ∷ h) e
+      by true there before = learnt_still (voted_nullify view) h e (before there)
+      by false there before = learnt_or (voted_nullify view) h (recorded.voted (nullify (round_of s view))) e (told s h) tt before there
+  learnt s (voted_finalize view p ∷ h) e here = learnt_or (voted_finalize view p) h (recorded.voted (finalize p)) e (told s h) tt (learnt s h e) here
+  learnt s (recalled_notarize p taken ∷ h) e here = learnt_or (recalled_notarize p taken) h (recorded.voted (notarize p)) e (told s h) tt (learnt s h e) here
+  learnt s (recalled_nullify view ∷ h) e here = learnt_or (recalled_nullify view) h (recorded.voted (nullify (round_of s view))) e (told s h) tt (learnt s h e) here
+  learnt s (recalled_finalize p ∷ h) e here = learnt_or (recalled_finalize p) h (recorded.voted (finalize p)) e (told s h) tt (learnt s h e) here
+  learnt s (x ∷ h) e here = learnt_still x h e (learnt s h e here)
+
+  -- what the record says is known, while it is kept
+  pub each_record_is_known : EachRecordIsKnown S D P G C
+  each_record_is_known s h orderly = record {
+    nullified = λ view. (
+      λ is. let r = nullified_told s h view is in (r.0, r.1, in_reverse (told s h) (recorded.taken (nullify r.0)) r.2),
+      λ taken. subst (λ (v : ℕ). was_nullified h v ≡ true) taken.1 (learnt s h (recorded.taken (nullify taken.0)) (from_reverse (told s h) (recorded.taken (nullify taken.0)) taken.2)),
+    );
+    notarized = λ p taken kept. some_mapped (λ (c : Notarization S D P G C). c.proposal) (past.notarization (seen s h p.round.view)) (shown_of (recorded.taken (notarize p)) taken kept).1;
+    finalized = λ p taken kept. some_mapped (λ (c : Finalization S D P G C). c.proposal) (past.finalization (seen s h p.round.view)) (shown_of (recorded.taken (finalize p)) taken kept).1;
+    judged = λ x ok given kept. shown_of (recorded.judged x ok) given kept;
+  }
+    where
+      last_is : recorded.last_finalized (record_of s h) ≡ last_finalized h
+      last_is = greatest_reverse 0 finalizes (told s h) ∙ finalized_told s h
+
+      shown_of : (e : Entry D) → Contains (record_of s h) e → recorded.IsKept s.retention (record_of s h) (entry_view e) → Shows e (seen s h (entry_view e))
+      shown_of e here kept = shown s h e (record { notarizes = orderly.notarizes; finalizes = orderly.finalizes }) (from_reverse (told s h) e here) (omega (arith, kept, last_is))

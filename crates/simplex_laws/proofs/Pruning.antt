@@ -39,7 +39,7 @@ unless true gone x stays = absurd (true≢false stays)
 unless false gone x stays = refl
 
 module _ {D : Type 0} where
-  held_more : (o : Offer D) (l : List (Offer D)) → IsSome (held l) → IsSome (held (o ∷ l))
+  pub held_more : (o : Offer D) (l : List (Offer D)) → IsSome (held l) → IsSome (held (o ∷ l))
   held_more (offer.forwarded p) l some = some_or (held l) p
   held_more (offer.certified p) l some = refl
   held_more (offer.recorded p) l some = refl
@@ -93,7 +93,7 @@ module _ {S D P G C : Type 0} where
           subst (λ (v : ℕ). (v ≡ 0) ⊎ IsAnchor (seen s (finalized now c ∷ h) v)) is before
   anchored s (x ∷ h) = anchor_still s x h (anchored s h)
 
-  pruned_agrees : (s : Setup S C) (h : List (Point S D P G C)) → AgreeAbove (member s) (known s h) (known s (pruned ∷ h))
+  pub pruned_agrees : (s : Setup S C) (h : List (Point S D P G C)) → AgreeAbove (member s) (known s h) (known s (pruned ∷ h))
   pruned_agrees s h = record {
     current = refl;
     last_finalized = refl;
@@ -141,19 +141,19 @@ first_above test low (suc n) u is = by (test low) is (first_above test (low + 1)
     by true now later = omega (arith, same_Some low u now)
     by false now later = omega (arith, later now)
 
-first_same : (test other : ℕ → Bool) (low n : ℕ) → ((u : ℕ) → low ≤ u → test u ≡ other u) → first_from test low n ≡ first_from other low n
+pub first_same : (test other : ℕ → Bool) (low n : ℕ) → ((u : ℕ) → low ≤ u → test u ≡ other u) → first_from test low n ≡ first_from other low n
 first_same test other low zero same = refl
 first_same test other low (suc n) same =
     rw (same low (omega arith), first_same test other (low + 1) n (λ u above. same u (omega (arith, above)))) refl
 
 -- what two functions give alike of what is there
-then_same : {A : Type 0} (f g : ℕ → Option A) (o : Option ℕ) → ((u : ℕ) → o ≡ Some u → f u ≡ g u) → option_and_then f o ≡ option_and_then g o
+pub then_same : {A : Type 0} (f g : ℕ → Option A) (o : Option ℕ) → ((u : ℕ) → o ≡ Some u → f u ≡ g u) → option_and_then f o ≡ option_and_then g o
 then_same f g None same = refl
 then_same f g (Some u) same = same u refl
 
 module _ {S D P G C : Type 0} (s : Setup S C) (h : List (Point S D P G C)) where
   -- the current view lies above the last finalized one, unless that is the start
-  behind : (l : List (Point S D P G C)) → last_finalized l ≤ current s l - 1
+  pub behind : (l : List (Point S D P G C)) → last_finalized l ≤ current s l - 1
   behind [] = omega arith
   behind (started now payload ∷ l) = omega (arith, behind l)
   behind (nullified now c ∷ l) = omega (arith, behind l)

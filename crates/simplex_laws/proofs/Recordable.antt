@@ -34,7 +34,7 @@ module _ {D : Type 0} (m : Member) (k : Known D) where
 
 module _ {D : Type 0} (m : Member) (k : Known D) (r : List (Entry D)) (matches : Matches m k r) where
   -- what is kept by what is known is kept by the record
-  kept_in : (view : ℕ) → retention_floor k.last_finalized m.retention ≤ view → recorded.IsKept m.retention r view
+  pub kept_in : (view : ℕ) → retention_floor k.last_finalized m.retention ≤ view → recorded.IsKept m.retention r view
   kept_in view above = subst (λ (last : ℕ). retention_floor last m.retention ≤ view) matches.last_finalized above
 
   -- no vote of a kept view is recorded where none is known

@@ -1,1 +1,7 @@
+pub mod Alone
+pub mod Lasting
 pub mod Matching
+pub mod Placing
+pub mod Recording
+pub mod Stepping
+pub mod Timeouts

@@ -1,6 +1,11 @@
 //! What follows from the definitions of what a voter knows, and of what is due by it.
 
 ghost use Rattle.simplex_laws.specs.Matching.{DueMayBeNotarized, DueMayBeFinalized, DueMayBeNullified, DueNotarizeIsOnGround, DueVerdictIsOnGround, LatchChangesNothing, ScanChangesNothing, ScanLeavesNothing, LeadersAreClosed, EachHistoryMatches, WhatAgreesIsDueAlike, PruneChangesNothing, PruneKeepsTimeouts, WindowsAgree, PollChangesNothing, SendChangesNothing, RepetitionChangesNothing, ScanGivesUp, WholeScanLeavesNothing};
+ghost use Rattle.simplex_laws.specs.Alone.{DueNotarizeIsOnGroundOrNext, DueVerdictOfOneIsOnGround, GroundStays};
+ghost use Rattle.simplex_laws.specs.Lasting.{PruneKeepsUses, ViewsNeverFall, WhatIsKnownStays};
+ghost use Rattle.simplex_laws.specs.Timeouts.{CurrentHasTimeout, PolledOnceIsPolled, TimeoutIsEarliest};
+ghost use Rattle.simplex_laws.specs.Recording.{EachRecordIsKnown};
+ghost use Rattle.simplex_laws.specs.Placing.{DueNotarizeIsBound, HeldLiesInItsView};
 
 use simplex_types::{Digest, Scheme};
 
@@ -48,6 +53,12 @@ pub fn what_is_known_is_recorded<S: Scheme<D>, D: Digest>()
     ensures { EachHistoryMatches S D S.PublicKey S.Signature S.Certificate }
 {}
 
+/// And what the record says is known: of exactly the views of its nullifications one is known, and of each view that is kept
+/// there is a notarization, a finalization or a verdict, where the record has one.
+pub fn what_is_recorded_is_known<S: Scheme<D>, D: Digest>()
+    ensures { EachRecordIsKnown S D S.PublicKey S.Signature S.Certificate }
+{}
+
 /// Where the same is known from the last finalized view on, the same votes and requests are due above it. So
 /// a prune, which drops only views below, changes nothing that is due there; nor when the current view is
 /// given up.
@@ -60,4 +71,42 @@ pub fn a_prune_changes_nothing_due<S: Scheme<D>, D: Digest>()
 /// The issuance window in which leaders are handed on is the one in which votes and requests are due.
 pub fn windows_are_one<S: Scheme<D>, D: Digest>()
     ensures { WindowsAgree S D S.PublicKey S.Signature S.Certificate }
+{}
+
+/// Where each proposal that came was of the epoch, and of the view for which it came, the held one of each view is.
+pub fn held_lies_in_its_view<S: Scheme<D>, D: Digest>()
+    ensures { HeldLiesInItsView S D S.PublicKey S.Signature S.Certificate }
+{}
+
+/// Where that is so, and the held proposal was bound to its parent's payload whenever one was found good, a notarize is due
+/// only of a proposal that is bound.
+pub fn what_is_found_good_is_bound<S: Scheme<D>, D: Digest>()
+    ensures { DueNotarizeIsBound S D S.PublicKey S.Signature S.Certificate }
+{}
+
+/// Behind a look at its timeout the current view has one, while it is not finalized, no finalize of it was voted and its verdict
+/// isn't true. What the timeout names is the earliest moment: from now on a nullify is due just from there on. And a second look
+/// changes nothing of it.
+pub fn the_timeout_is_the_earliest<S: Scheme<D>, D: Digest>()
+    ensures there { CurrentHasTimeout S D S.PublicKey S.Signature S.Certificate }
+    ensures earliest { TimeoutIsEarliest S D S.PublicKey S.Signature S.Certificate }
+    ensures once { PolledOnceIsPolled S D S.PublicKey S.Signature S.Certificate }
+{}
+
+/// Whatever happens, the current view, the last finalized one and the least that is kept never fall; and unless a view is dropped,
+/// what is known of it stays known. Where views are dropped that need not be kept, above the last finalized one the same parents may
+/// be used, the same bindings stand, and the same verdicts are put off.
+pub fn what_is_known_stays<S: Scheme<D>, D: Digest>()
+    ensures known { WhatIsKnownStays S D S.PublicKey S.Signature S.Certificate }
+    ensures views { ViewsNeverFall S D S.PublicKey S.Signature S.Certificate }
+    ensures pruned { PruneKeepsUses S D S.PublicKey S.Signature S.Certificate }
+{}
+
+/// The same for a committee of one: a notarize that is due stands on ground, or is on the view before, of which a schedule hands over
+/// to this member; and where the only member voted for a proposal so, a true verdict on it stands on ground, if one is to be asked
+/// for. Ground stays ground, whatever is recorded behind it.
+pub fn a_lone_member_stands_on_ground<D: Digest>()
+    ensures notarize { DueNotarizeIsOnGroundOrNext D }
+    ensures verdict { DueVerdictOfOneIsOnGround D }
+    ensures stays { GroundStays D }
 {}
