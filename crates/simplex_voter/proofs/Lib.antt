@@ -1,11 +1,14 @@
 pub mod Casting
 pub mod Entering
 pub mod Entries
+pub mod Firsts
 pub mod Keeping
 pub mod Looking
 pub mod Lowest
 pub mod Members
+pub mod Owing
 pub mod Sorting
 pub mod Stalling
+pub mod Unknown
 pub mod Waking
 pub mod Wanting

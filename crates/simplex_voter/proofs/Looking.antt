@@ -14,11 +14,12 @@ use Rattle.simplex_history.specs.History.{Setup, Point, current, latched, seen}
 use Rattle.simplex_history.specs.Known.{Known, known}
 use Rattle.simplex_history.specs.Leaders.{leader}
 use Rattle.simplex_decisions.specs.Ancestry.{Member, member}
-use Rattle.simplex_decisions.specs.Requests.{IsPassed, Scanned, WaitsForParent, begun, passed, given_up}
-use Rattle.simplex_laws.specs.Matching.{WholeScanLeavesNothing}
+use Rattle.simplex_decisions.specs.Requests.{AsksNothing, IsOpen, IsPassed, Scanned, WaitsForParent, begun, passed, given_up}
+use Rattle.simplex_laws.specs.Matching.{ScanLeavesNothing}
 use Rattle.simplex_voter.specs.declared.state.State.{State}
 use Rattle.simplex_voter.specs.State.{Keeps}
-use Rattle.simplex_voter.specs.Verifying.{BehindLook, Passes, PassesAll}
+use Rattle.simplex_voter.specs.Resuming.{BehindLookFrom, PassesFrom, first_looked}
+use Rattle.simplex_voter.specs.Verifying.{Passes}
 use Rattle.simplex_voter.proofs.Lowest.{outbound_below}
 
 -- a view is passed where no proposal waits in it
@@ -40,10 +41,10 @@ module _ {S D P G C : Type 0} (s : Setup S C) where
       let end = term_end-above s.length view some in
       absurd (omega (arith, room, end, far)))
 
-  module _ (now : ℕ) (h : List (Point S D P G C)) where
+  module _ (now : ℕ) (h : List (Point S D P G C)) (start : ℕ) where
     -- a look came so far
     abbrev pub Looked : ℕ → List (Point S D P G C) → Type 0
-    Looked view end = Scanned s now (current s h) h view end
+    Looked view end = Scanned s now start h view end
 
     -- it changes no current view
     pub looked_from : {view : ℕ} {end : List (Point S D P G C)} → Looked view end → current s end ≡ current s h
@@ -89,42 +90,62 @@ module _ {S D P G C : Type 0} (s : Setup S C) where
           λ u out. ⊎_elim (λ at. omega (arith, at)) (λ ahead. ⊎_elim (λ near. omega (arith, near)) (λ start. let e = start.0 in omega (arith, e)) ahead) out,
         )
 
-module _ {S L D P G C : Type 0} (g : Ghosts S D P G C) (e : elector.Ghosts L S D P G C) (s : Setup S C) (state : State S L D P G C) (now : ℕ) (h : List (Point S D P G C)) where
+-- nothing is asked for a view that isn't open
+closed_asks : {D : Type 0} (m : Member) (k : Known D) (view : ℕ) → ¬ IsOpen m k view → AsksNothing m k view
+closed_asks m k view closed = record {
+  no_verify = λ p x due. closed due.waits.opens;
+  no_nullification = λ p u wanted. closed wanted.waits.opens;
+  no_notarization = λ p wanted. closed wanted.waits.opens;
+}
+
+module _ {S L D P G C : Type 0} (g : Ghosts S D P G C) (e : elector.Ghosts L S D P G C) (s : Setup S C) (state : State S L D P G C) (now : ℕ) (h : List (Point S D P G C)) (from : ℕ) where
   -- a look that passed all leaves nothing to ask
-  pub passes_all : WholeScanLeavesNothing S D P G C → (end : List (Point S D P G C)) → IsWhole s now h end → Keeps g e s state end → (last : ℕ) × BehindLook s now h last (PassesAll g e s state last)
+  pub passes_all : ScanLeavesNothing S D P G C → (end : List (Point S D P G C)) → IsWhole s now h (first_looked s h from) end → Keeps g e s state end → (last : ℕ) × BehindLookFrom s h now from last (PassesFrom g e s state from last)
   passes_all law end (last, looked, whole) k = (
     last,
     record {
       end = end;
       looked = looked;
       holds = record {
-        whole = λ u out. whole u (subst (λ (c : ℕ). AdmitsOutbound s.length s.optimistic_views c u) (looked_from s now h looked) out);
-        idle = law s now h last end looked whole;
+        whole = all;
+        idle = λ u at. ⊎_elim
+            (λ behind. closed_asks (member s) (known s end) u (λ opens. let le = opens.from in absurd (omega (arith, le, behind))))
+            (λ ahead. ⊎_elim
+            (λ below. law s now (first_looked s h from) h last end looked u (omega (arith, at, ahead, same)) below)
+            (λ past. closed_asks (member s) (known s end) u (λ opens. let under = all u opens.outbound in absurd (omega (arith, under, past))))
+            (cases_lt u last))
+            (cases_lt u (current s end));
         keeps = k;
       };
     },
   )
+    where
+      same : current s end ≡ current s h
+      same = looked_from s now h (first_looked s h from) looked
+
+      all : (u : ℕ) → AdmitsOutbound s.length s.optimistic_views (current s end) u → u < last
+      all u out = whole u (subst (λ (c : ℕ). AdmitsOutbound s.length s.optimistic_views c u) same out)
 
   -- a look goes on over a view that is passed
-  pub looks_on : (end : List (Point S D P G C)) (next view after : ℕ) → current s h ≤ next → next ≤ view → after ≡ view + 1 → Looked s now h view end → Passes g e s state now end view
-      → (end : List (Point S D P G C)) × (current s h ≤ after) × Looked s now h after end × Keeps g e s state end
-  looks_on end next view after from behind is to (inl (passes, k)) = (end, omega (arith, from, behind, is), rw is (passed to passes), k)
-  looks_on end next view after from behind is to (inr (bad, k)) = (latched now view reason.InvalidProposal ∷ end, omega (arith, from, behind, is), rw is (given_up to bad), k)
+  pub looks_on : (end : List (Point S D P G C)) (next view after : ℕ) → current s h ≤ next → next ≤ view → after ≡ view + 1 → Looked s now h (first_looked s h from) view end → Passes g e s state now end view
+      → (end : List (Point S D P G C)) × (current s h ≤ after) × Looked s now h (first_looked s h from) after end × Keeps g e s state end
+  looks_on end next view after at behind is to (inl (passes, k)) = (end, omega (arith, at, behind, is), rw is (passed to passes), k)
+  looks_on end next view after at behind is to (inr (bad, k)) = (latched now view reason.InvalidProposal ∷ end, omega (arith, at, behind, is), rw is (given_up to bad), k)
 
   -- it passed all behind the last view with a number
-  pub passes_last : WholeScanLeavesNothing S D P G C → (end : List (Point S D P G C)) (view : ℕ) → 0 < s.length → view + 1 ≡ 2 ^ 64 → Looked s now h view end → Passes g e s state now end view
-      → (last : ℕ) × BehindLook s now h last (PassesAll g e s state last)
-  passes_last law end view some last to (inl (passes, k)) = passes_all law end (whole_past s now h end (view + 1) some (omega (arith, last)) (passed to passes)) k
+  pub passes_last : ScanLeavesNothing S D P G C → (end : List (Point S D P G C)) (view : ℕ) → 0 < s.length → view + 1 ≡ 2 ^ 64 → Looked s now h (first_looked s h from) view end → Passes g e s state now end view
+      → (last : ℕ) × BehindLookFrom s h now from last (PassesFrom g e s state from last)
+  passes_last law end view some last to (inl (passes, k)) = passes_all law end (whole_past s now h (first_looked s h from) end (view + 1) some (omega (arith, last)) (passed to passes)) k
   passes_last law end view some last to (inr (bad, k)) =
       let after : List (Point S D P G C) = latched now view reason.InvalidProposal ∷ end in
-      passes_all law after (whole_past s now h after (view + 1) some (omega (arith, last)) (given_up to bad)) k
+      passes_all law after (whole_past s now h (first_looked s h from) after (view + 1) some (omega (arith, last)) (given_up to bad)) k
 
   -- and where none behind is tracked
-  pub passes_rest : WholeScanLeavesNothing S D P G C → (end : List (Point S D P G C)) (next : ℕ) → 0 < s.length → Looked s now h next end → AreUntracked (leader s end) (seen s end) next (2 ^ 64) → Keeps g e s state end
-      → (last : ℕ) × BehindLook s now h last (PassesAll g e s state last)
+  pub passes_rest : ScanLeavesNothing S D P G C → (end : List (Point S D P G C)) (next : ℕ) → 0 < s.length → Looked s now h (first_looked s h from) next end → AreUntracked (leader s end) (seen s end) next (2 ^ 64) → Keeps g e s state end
+      → (last : ℕ) × BehindLookFrom s h now from last (PassesFrom g e s state from last)
   passes_rest law end next some looked untracked k = passes_all law end
       (⊎_elim
-      (λ below. whole_past s now h end (2 ^ 64) some (omega arith) (looked_to s now h end next (2 ^ 64) (omega (arith, below)) looked untracked))
-      (λ past. whole_past s now h end next some past looked)
+      (λ below. whole_past s now h (first_looked s h from) end (2 ^ 64) some (omega arith) (looked_to s now h (first_looked s h from) end next (2 ^ 64) (omega (arith, below)) looked untracked))
+      (λ past. whole_past s now h (first_looked s h from) end next some past looked)
       (cases_lt next (2 ^ 64)))
       k

@@ -338,7 +338,7 @@ module _ {S D P G C : Type 0} where
 
   -- what is known where verdicts were put off
   module _ (s : Setup S C) where
-    put_off_seen : (views : List ℕ) (h : List (Point S D P G C)) → seen s (put_off views h) ≡ seen s h
+    pub put_off_seen : (views : List ℕ) (h : List (Point S D P G C)) → seen s (put_off views h) ≡ seen s h
     put_off_seen [] h = refl
     put_off_seen (v ∷ views) h = put_off_seen views (certify_waited v ∷ h)
 

@@ -1,6 +1,10 @@
 pub mod Building
 pub mod Candidates
 pub mod Floor
+pub mod Known
+pub mod Owed
+pub mod Owing
+pub mod Resuming
 pub mod State
 pub mod Timing
 pub mod Verifying

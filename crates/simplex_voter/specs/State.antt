@@ -1,10 +1,11 @@
 -- At which history a voter stands.
-use Rattle.std.specs.Prelude.{◌≡◌, List}
+use Rattle.std.specs.Prelude.{◌≡◌, false, true, List}
 use Rattle.simplex_types.specs.declared.scheme.Scheme.{Ghosts}
 use Rattle.simplex_rules.specs.declared.elector.Elector as elector
-use Rattle.simplex_history.specs.History.{Setup, Point}
+use Rattle.simplex_history.specs.History.{Setup, Point, seen}
 use Rattle.simplex_views.specs.Views as views
 use Rattle.simplex_voter.specs.Candidates.{AreAmong}
+use Rattle.simplex_voter.specs.Owing.{AreOwed}
 use Rattle.simplex_voter.specs.declared.state.State.{State}
 
 module _ {S L D P G C : Type 0} where
@@ -15,6 +16,8 @@ module _ {S L D P G C : Type 0} where
     pub skip_budget : state.skip_budget ≡ s.skip_budget
     pub views : views.Keeps g e s state.views h
     pub candidates : AreAmong s h state.candidates
+    pub notarizes : AreOwed false (seen s h) state.notarizes
+    pub finalizes : AreOwed true (seen s h) state.finalizes
 
   -- the voter stands where this history leads, closed for those who stand above
   unfoldable pub Keeps : Ghosts S D P G C → elector.Ghosts L S D P G C → Setup S C → State S L D P G C → List (Point S D P G C) → Type 0

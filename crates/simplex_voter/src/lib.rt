@@ -1,6 +1,7 @@
 //! The voter: a member without network, clock or disk, which says what is due.
 #![tactic(auto)]
 
+mod owed;
 mod state;
 mod verify;
 mod wanted;

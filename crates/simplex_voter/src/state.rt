@@ -8,6 +8,7 @@ mod entry;
 mod keeping;
 mod knowing;
 mod learning;
+mod owing;
 mod proposing;
 mod sending;
 mod starting;
@@ -20,6 +21,7 @@ ghost use Rattle.simplex_views.specs.Views as above;
 ghost use Rattle.simplex_views.specs.Views.{built};
 ghost use Rattle.simplex_voter.specs.State.{AtEach, Keeps};
 
+use crate::owed::Owed;
 use simplex_decisions::config::Config;
 use simplex_rules::Elector;
 use simplex_types::{Digest, Scheme, View};
@@ -39,6 +41,9 @@ pub struct State<S: Scheme<D>, L: Elector<S, D>, D: Digest> {
     skip_budget: u64,
     // The views for whose verdicts something may be to ask.
     candidates: BTreeSet<View>,
+    // The views that may owe a notarize, and those that may owe a finalize.
+    notarizes: Owed,
+    finalizes: Owed,
 }
 
 impl<S: Scheme<D> + Drop, L: Elector<S, D>, D: Digest> State<S, L, D> {
@@ -66,6 +71,8 @@ impl<S: Scheme<D> + Drop, L: Elector<S, D>, D: Digest> State<S, L, D> {
             timeout_retry: config.timeout_retry,
             skip_budget,
             candidates: BTreeSet::new(alloc),
+            notarizes: Owed::new(alloc),
+            finalizes: Owed::new(alloc),
         })
     }
 

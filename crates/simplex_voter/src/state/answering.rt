@@ -7,6 +7,7 @@ ghost use Rattle.simplex_history.specs.History.{certify_asked, confirmed, latche
 ghost use Rattle.simplex_history.specs.Known.{known};
 ghost use Rattle.simplex_decisions.specs.Ancestry.{IsSteady, member};
 ghost use Rattle.simplex_decisions.specs.Due.{MayLatch};
+ghost use Rattle.simplex_voter.specs.Known.{AddsIfTracked};
 ghost use Rattle.simplex_voter.specs.State.{AtEach, Keeps};
 
 use crate::state::State;
@@ -18,19 +19,24 @@ use std::alloc::AllocError;
 
 impl<S: Scheme<D> + Drop, L: Elector<S, D>, D: Digest> State<S, L, D> {
     /// Takes it that the held proposal of the view was found good: whether it became verified. Behind an own nullify it doesn't. Where
-    /// what it was bound to has fallen, that is dropped, and nothing else changes.
+    /// what it was bound to has fallen, that is dropped, and nothing else changes; nor does anything where nothing is known of the
+    /// view.
     ///
     /// # Errors
     ///
     /// `AllocError` where memory ran out.
     pub fn verified(&mut self, view: View) -> Result<bool, AllocError>
-        ensures keeps { OnOk result (AtEach S.Scheme L.Elector self.old (λ s h. (IsSteady (member s) (known s h) view × Keeps S.Scheme L.Elector s self.new (confirmed view ∷ h)) ⊎ ((¬ IsSteady (member s) (known s h) view) × Keeps S.Scheme L.Elector s self.new (unbound view ∷ h)))) }
+        ensures keeps { OnOk result (AtEach S.Scheme L.Elector self.old (λ s h. (IsSteady (member s) (known s h) view × AddsIfTracked S.Scheme L.Elector s self.new h view (confirmed view)) ⊎ ((¬ IsSteady (member s) (known s h) view) × Keeps S.Scheme L.Elector s self.new (unbound view ∷ h)))) }
         ensures answer { IfOk result (λ became. AtEach S.Scheme L.Elector self.old (λ s h. IsTrue became ↔ (IsSteady (member s) (known s h) view × (has_nullified (seen s h view) ≡ false) × IsUnverified (offers (seen s h view))))) }
     {
+        if !self.views.is_tracked(view) {
+            return Ok(false);
+        }
         if !self.is_steady(view) {
             self.views.clear_verifying(view)?;
             return Ok(false);
         }
+        self.notarizes.add(view)?;
         self.views.verified(view)
     }
 
@@ -63,14 +69,17 @@ impl<S: Scheme<D> + Drop, L: Elector<S, D>, D: Digest> State<S, L, D> {
         is_steady(&self.views, view)
     }
 
-    /// Takes it that a verdict on the view was asked for, under this name.
+    /// Takes it that a verdict on the view was asked for, under this name. Where nothing is known of the view, nothing changes.
     ///
     /// # Errors
     ///
     /// `AllocError` where memory ran out.
     pub fn set_certify_handle(&mut self, view: View, handle: Token) -> Result<(), AllocError>
-        ensures { OnOk result (AtEach S.Scheme L.Elector self.old (λ s h. Keeps S.Scheme L.Elector s self.new (certify_asked view handle ∷ h))) }
+        ensures { OnOk result (AtEach S.Scheme L.Elector self.old (λ s h. AddsIfTracked S.Scheme L.Elector s self.new h view (certify_asked view handle))) }
     {
+        if !self.views.is_tracked(view) {
+            return Ok(());
+        }
         self.views.set_certify_handle(view, handle)
     }
 }

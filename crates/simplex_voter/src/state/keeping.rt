@@ -1,9 +1,10 @@
 //! What a voter takes in from the record of its member, and what it drops.
 
-ghost use Rattle.std.specs.Prelude.{◌≡◌, Bool, ◌∷◌, IfOk, OnOk};
+ghost use Rattle.std.specs.Prelude.{◌≡◌, ◌↔◌, Bool, ◌∷◌, IfOk, IsTrue, OnOk};
 ghost use Rattle.simplex_tracking.specs.Rounds.{Takes};
 ghost use Rattle.simplex_history.specs.History.{pruned, seen};
 ghost use Rattle.simplex_views.specs.Views.{AreDropped, recalls};
+ghost use Rattle.simplex_voter.specs.Owing.{IsTrueVerdict};
 ghost use Rattle.simplex_voter.specs.State.{AtEach, Keeps};
 
 use crate::state::State;
@@ -26,6 +27,8 @@ impl<S: Scheme<D> + Drop, L: Elector<S, D>, D: Digest> State<S, L, D> {
         ensures { OnOk result (AtEach S.Scheme L.Elector self.old (λ s h. (taken : Bool) × Takes (seen s h) artifact.now taken × Keeps S.Scheme L.Elector s self.new (recalls taken artifact.now ∷ h))) }
     {
         wake(&mut self.candidates, artifact.view())?;
+        self.finalizes
+            .add_if(artifact.view(), is_true_verdict(artifact))?;
         self.views.replay(artifact)
     }
 
@@ -40,6 +43,19 @@ impl<S: Scheme<D> + Drop, L: Elector<S, D>, D: Digest> State<S, L, D> {
         ensures keeps { OnOk result (AtEach S.Scheme L.Elector self.old (λ s h. Keeps S.Scheme L.Elector s self.new (pruned ∷ h))) }
         ensures dropped { IfOk result (λ views. AtEach S.Scheme L.Elector self.old (λ s h. AreDropped s h views.items)) }
     {
+        let floor = self.views.min_active();
+        self.notarizes.forget_below(floor);
+        self.finalizes.forget_below(floor);
         self.views.prune(alloc)
+    }
+}
+
+/// Whether the artifact is a true verdict.
+fn is_true_verdict<S: Scheme<D>, D: Digest>(artifact: &Artifact<S, D>) -> bool
+    ensures { IsTrue result ↔ IsTrueVerdict artifact.now }
+{
+    match artifact {
+        Artifact::Certification(_, is_success) => *is_success,
+        _ => false,
     }
 }

@@ -108,6 +108,7 @@ impl<S: Scheme<D> + Drop, L: Elector<S, D>, D: Digest> State<S, L, D> {
         ensures no_room { IfOk result (λ answer. AtEach S.Scheme L.Elector self.old (λ s h. (HasRoom s.length view → ⊥) → answer ≡ None)) }
     {
         wake(&mut self.candidates, view)?;
+        self.finalizes.add_if(view, is_success)?;
         self.views.certified(alloc, now, view, is_success)
     }
 

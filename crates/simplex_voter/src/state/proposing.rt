@@ -8,6 +8,7 @@ ghost use Rattle.simplex_history.specs.Known.{known};
 ghost use Rattle.simplex_decisions.specs.Ancestry.{member};
 ghost use Rattle.simplex_decisions.specs.Requests.{IsCaptured, IsSuperseded, StopsHandoff};
 ghost use Rattle.simplex_voter.specs.Building.{proposal_on};
+ghost use Rattle.simplex_voter.specs.Known.{AddsIfTracked, AddsWhere};
 ghost use Rattle.simplex_voter.specs.State.{AtEach, Keeps};
 
 use crate::state::State;
@@ -40,6 +41,7 @@ impl<S: Scheme<D> + Drop, L: Elector<S, D>, D: Digest> State<S, L, D> {
         }
         let proposal = Proposal::new(context.round, parent, payload);
         wake(&mut self.candidates, context.round.view)?;
+        self.notarizes.add(context.round.view)?;
         self.views.proposed(now, proposal, parent_payload)
     }
 
@@ -53,19 +55,22 @@ impl<S: Scheme<D> + Drop, L: Elector<S, D>, D: Digest> State<S, L, D> {
         allows_parent(&self.views, view, parent, payload)
     }
 
-    /// Gives the build back that was asked for in the view.
+    /// Gives the build back that was asked for in the view. Where nothing is known of the view, nothing changes.
     ///
     /// # Errors
     ///
     /// `AllocError` where memory ran out.
     pub fn release_proposal_request(&mut self, view: View) -> Result<(), AllocError>
-        ensures { OnOk result (AtEach S.Scheme L.Elector self.old (λ s h. Keeps S.Scheme L.Elector s self.new (build_released view ∷ h))) }
+        ensures { OnOk result (AtEach S.Scheme L.Elector self.old (λ s h. AddsIfTracked S.Scheme L.Elector s self.new h view (build_released view))) }
     {
+        if !self.views.is_tracked(view) {
+            return Ok(());
+        }
         self.views.clear_proposal_request(view)
     }
 
     /// Gives the build back that was asked for in this context, where its parent may no longer be used and there is another to build on:
-    /// whether that is so. Else nothing changes.
+    /// whether that is so. Else nothing changes; nor does anything where nothing is known of the view.
     ///
     /// # Errors
     ///
@@ -74,7 +79,7 @@ impl<S: Scheme<D> + Drop, L: Elector<S, D>, D: Digest> State<S, L, D> {
         &mut self,
         context: &Context<D, S::PublicKey>,
     ) -> Result<bool, AllocError>
-        ensures keeps { IfOk result (λ superseded. AtEach S.Scheme L.Elector self.old (λ s h. Keeps S.Scheme L.Elector s self.new (if superseded then build_released context.now.round.view ∷ h else h))) }
+        ensures keeps { IfOk result (λ superseded. AtEach S.Scheme L.Elector self.old (λ s h. AddsWhere S.Scheme L.Elector s self.new h context.now.round.view (build_released context.now.round.view) superseded)) }
         ensures answer { IfOk result (λ superseded. AtEach S.Scheme L.Elector self.old (λ s h. IsTrue superseded ↔ IsSuperseded (member s) (known s h) context.now.round.view context.now.parent.0 context.now.parent.1)) }
     {
         let (parent, parent_payload) = context.parent;
@@ -82,7 +87,7 @@ impl<S: Scheme<D> + Drop, L: Elector<S, D>, D: Digest> State<S, L, D> {
         if !self.is_superseded(view, parent, parent_payload) {
             return Ok(false);
         }
-        self.views.clear_proposal_request(view)?;
+        self.release_proposal_request(view)?;
         Ok(true)
     }
 

@@ -1,7 +1,8 @@
 //! When a voter gives a view up.
 
-ghost use Rattle.std.specs.Prelude.{◌≡◌, ◌↔◌, ◌+◌, ◌-◌, ◌^◌, ◌<◌, if◌then◌else◌, nat_lt, ℕ, ◌∷◌, None, is_some, IsTrue, IfOk, OnOk};
+ghost use Rattle.std.specs.Prelude.{◌≡◌, ◌↔◌, ◌+◌, ◌-◌, ◌^◌, ◌<◌, if◌then◌else◌, nat_lt, ℕ, true, ◌∷◌, None, is_some, IsTrue, IfOk, OnOk};
 ghost use Rattle.std.specs.Option.{option_or};
+ghost use Rattle.simplex_history.specs.declared.timeout_reason.TimeoutReason.TheVariants as reason;
 ghost use Rattle.simplex_history.specs.Past as past;
 ghost use Rattle.simplex_history.specs.History.{current, latched, polled, seen};
 ghost use Rattle.simplex_decisions.specs.Due.{MayLatch, first_from, has_budget, oldest_entered, term_deadline, timeout};
@@ -36,7 +37,7 @@ impl<S: Scheme<D> + Drop, L: Elector<S, D>, D: Digest> State<S, L, D> {
     }
 
     /// Whether fewer terms than may be were skipped since the last finalized view.
-    fn has_skip_budget(&self) -> bool
+    pub fn has_skip_budget(&self) -> bool
         ensures { AtEach S.Scheme L.Elector self.now (λ s h. result ≡ has_budget s h) }
     {
         let finalized = self.views.last_finalized();
@@ -146,8 +147,20 @@ impl<S: Scheme<D> + Drop, L: Elector<S, D>, D: Digest> State<S, L, D> {
         Ok(true)
     }
 
-    /// Whether a reason to give the view up counts.
-    fn may_latch(&self, view: View, reason: TimeoutReason) -> bool
+    /// Whether it would count now that the leader of the current view is silent: as a reason to give the view up, and within the
+    /// budget of terms that may be skipped for such a reason.
+    pub fn counts_silence(&self) -> bool
+        ensures { AtEach S.Scheme L.Elector self.now (λ s h. IsTrue result ↔ ((has_budget s h ≡ true) × MayLatch s h (current s h) reason.Inactivity)) }
+    {
+        if !self.has_skip_budget() {
+            return false;
+        }
+        self.may_latch(self.views.current_view(), TimeoutReason::Inactivity)
+    }
+
+    /// Whether a reason to give the view up counts: it doesn't where the view is behind or nothing is known of it, and that its leader
+    /// is silent doesn't where a proposal is held that nothing contradicts.
+    pub fn may_latch(&self, view: View, reason: TimeoutReason) -> bool
         ensures { AtEach S.Scheme L.Elector self.now (λ s h. IsTrue result ↔ MayLatch s h view reason) }
     {
         if view < self.views.current_view() {

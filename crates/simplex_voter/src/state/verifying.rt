@@ -1,12 +1,13 @@
 //! What a voter asks for, to judge the proposals of others.
 
-ghost use Rattle.std.specs.Prelude.{◌≡◌, ℕ, IfOk, MatchOption, None};
+ghost use Rattle.std.specs.Prelude.{◌≡◌, ◌≤◌, ℕ, IfOk, IfSome, MatchOption, None};
 ghost use Rattle.simplex_history.specs.Known.{known};
 ghost use Rattle.simplex_history.specs.Leaders.{leader};
 ghost use Rattle.simplex_decisions.specs.Ancestry.{member};
 ghost use Rattle.simplex_decisions.specs.Asking.{Finds};
+ghost use Rattle.simplex_voter.specs.Resuming.{AnswersFrom, BehindLookFrom, IsFrom, PassesFrom, first_looked};
 ghost use Rattle.simplex_voter.specs.State.{AtEach, Keeps};
-ghost use Rattle.simplex_voter.specs.Verifying.{Answers, Asks, BehindLook, IsKeyOfLeader, IsWanted, Passes, PassesAll};
+ghost use Rattle.simplex_voter.specs.Verifying.{Answers, Asks, IsKeyOfLeader, IsWanted, Passes};
 
 use crate::state::State;
 use crate::verify::Verify;
@@ -30,7 +31,24 @@ impl<S: Scheme<D> + Drop, L: Elector<S, D>, D: Digest> State<S, L, D> {
     pub fn try_verify(&mut self, now: u64) -> Result<Verify<D, S::PublicKey>, AllocError>
         ensures { IfOk result (λ answer. AtEach S.Scheme L.Elector self.old (λ s h. Answers S.Scheme L.Elector s self.new now h answer)) }
     {
-        let found = self.first_wanted(now)?;
+        self.try_verify_from(now, View::zero())
+    }
+
+    /// The same for the proposals from a view on alone. So whoever goes on behind the view of the last answer comes to an end, also
+    /// where an answer asks for nothing new of its peers.
+    ///
+    /// # Errors
+    ///
+    /// `AllocError` where memory ran out.
+    pub fn try_verify_from(
+        &mut self,
+        now: u64,
+        from: View,
+    ) -> Result<Verify<D, S::PublicKey>, AllocError>
+        ensures answer { IfOk result (λ answer. AtEach S.Scheme L.Elector self.old (λ s h. AnswersFrom S.Scheme L.Elector s self.new now h from answer)) }
+        ensures rises { IfOk result (λ answer. IsFrom from answer) }
+    {
+        let found = self.first_wanted(now, from)?;
         let Some(waiting) = found else {
             return Ok(Verify::Wait);
         };
@@ -38,15 +56,20 @@ impl<S: Scheme<D> + Drop, L: Elector<S, D>, D: Digest> State<S, L, D> {
         self.ask(view, wanted)
     }
 
-    /// The lowest view for whose proposal something is to be asked, with that. The views below with a proposal that can never stand
-    /// are given up.
-    fn first_wanted(&mut self, now: u64) -> Result<Option<(View, Wanted<D>)>, AllocError>
-        ensures { IfOk result (λ found. AtEach S.Scheme L.Elector self.old (λ s h. MatchOption found ((last : ℕ) × BehindLook s now h last (PassesAll S.Scheme L.Elector s self.new last)) (λ x. BehindLook s now h x.0 (λ end. IsWanted (member s) (known s end) x.0 x.1 × Keeps S.Scheme L.Elector s self.new end)))) }
+    /// The lowest view from this one on for whose proposal something is to be asked, with that. The views below with a proposal that
+    /// can never stand are given up.
+    fn first_wanted(
+        &mut self,
+        now: u64,
+        from: View,
+    ) -> Result<Option<(View, Wanted<D>)>, AllocError>
+        ensures found { IfOk result (λ found. AtEach S.Scheme L.Elector self.old (λ s h. MatchOption found ((last : ℕ) × BehindLookFrom s h now from last (PassesFrom S.Scheme L.Elector s self.new from last)) (λ x. BehindLookFrom s h now from x.0 (λ end. IsWanted (member s) (known s end) x.0 x.1 × Keeps S.Scheme L.Elector s self.new end)))) }
+        ensures rises { IfOk result (λ found. IfSome found (λ x. from ≤ x.0)) }
     {
         a_look_leaves_nothing_to_ask::<S, D>();
         // The proof takes from the number that a term has at least one view.
         let _views = self.views.lookahead().length.get();
-        let mut next = self.views.current_view();
+        let mut next = self.first_looked(from);
         'views: while let Some(view) = self.views.first_tracked(next) {
             if !self.is_outbound(view) {
                 return Ok(None);
@@ -61,6 +84,15 @@ impl<S: Scheme<D> + Drop, L: Elector<S, D>, D: Digest> State<S, L, D> {
             next = view.next();
         }
         Ok(None)
+    }
+
+    /// Where a look from this view on begins.
+    fn first_looked(&self, from: View) -> View
+        ensures from { from ≤ result }
+        ensures value { AtEach S.Scheme L.Elector self.now (λ s h. result ≡ first_looked s h from) }
+    {
+        let current = self.views.current_view();
+        if from < current { current } else { from }
     }
 
     /// What is to be asked for the view's proposal. Where it can never stand, the view is given up.
@@ -95,7 +127,8 @@ impl<S: Scheme<D> + Drop, L: Elector<S, D>, D: Digest> State<S, L, D> {
 
     /// Asks for what is wanted for the view's proposal, and puts that down.
     fn ask(&mut self, view: View, wanted: Wanted<D>) -> Result<Verify<D, S::PublicKey>, AllocError>
-        ensures { IfOk result (λ answer. AtEach S.Scheme L.Elector self.old (λ s h. IsWanted (member s) (known s h) view wanted → Asks S.Scheme L.Elector s self.new h view answer)) }
+        ensures of_view { IfOk result (λ answer. IsFrom view answer) }
+        ensures asks { IfOk result (λ answer. AtEach S.Scheme L.Elector self.old (λ s h. IsWanted (member s) (known s h) view wanted → Asks S.Scheme L.Elector s self.new h view answer)) }
     {
         let Some(leader) = self.leader_key(view) else {
             return Ok(Verify::Wait);

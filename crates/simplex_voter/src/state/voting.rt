@@ -1,6 +1,6 @@
 //! What a voter votes.
 
-ghost use Rattle.std.specs.Prelude.{◌≡◌, ◌↔◌, ◌<◌, ◌∷◌, if◌then◌else◌, is_some, IsSome, IsTrue, IfOk, MatchOption};
+ghost use Rattle.std.specs.Prelude.{◌≡◌, ◌↔◌, ◌<◌, ◌∷◌, if◌then◌else◌, is_some, IsSome, IsTrue, IfOk, IfSome, MatchOption};
 ghost use Rattle.simplex_types.specs.Positions.{HasRoom};
 ghost use Rattle.simplex_types.specs.Subject.{notarize, finalize};
 ghost use Rattle.simplex_history.specs.Past.{has_nullified};
@@ -8,6 +8,8 @@ ghost use Rattle.simplex_history.specs.History.{current, seen, voted_finalize, v
 ghost use Rattle.simplex_history.specs.Known.{known};
 ghost use Rattle.simplex_decisions.specs.Ancestry.{held_at, member};
 ghost use Rattle.simplex_decisions.specs.Due.{FinalizeIsDue, MayGiveUp, NotarizeIsDue};
+ghost use Rattle.simplex_laws.specs.Matching.{round_of};
+ghost use Rattle.simplex_laws.specs.Placing.{AreOfTheirViews};
 ghost use Rattle.simplex_voter.specs.State.{AtEach, Keeps};
 ghost use Rattle.simplex_voter.specs.Votes.{IsOwn, IsOwnNullify};
 
@@ -15,12 +17,14 @@ use crate::state::State;
 use simplex_certificates::{Finalize, Notarize, Nullify};
 use simplex_decisions::votes::{finalize_is_due, notarize_is_due};
 use simplex_history::TimeoutReason;
+use simplex_laws::held_lies_in_its_view;
 use simplex_rules::Elector;
 use simplex_types::{Digest, Round, Scheme, View};
 use std::alloc::AllocError;
 
 impl<S: Scheme<D> + Drop, L: Elector<S, D>, D: Digest> State<S, L, D> {
-    /// Votes to notarize the held proposal of the view, where that is due. Else nothing changes. Without a key nothing is voted.
+    /// Votes to notarize the held proposal of the view, where that is due. Else nothing changes. Without a key nothing is voted. Where
+    /// each proposal that came was of its view and the epoch, the vote is of this view and the epoch.
     ///
     /// # Errors
     ///
@@ -28,7 +32,9 @@ impl<S: Scheme<D> + Drop, L: Elector<S, D>, D: Digest> State<S, L, D> {
     pub fn construct_notarize(&mut self, view: View) -> Result<Option<Notarize<S, D>>, AllocError>
         ensures keeps { IfOk result (λ vote. AtEach S.Scheme L.Elector self.old (λ s h. MatchOption vote (Keeps S.Scheme L.Elector s self.new h) (λ v. Keeps S.Scheme L.Elector s self.new (voted_notarize view v.proposal ∷ h)))) }
         ensures answer { IfOk result (λ vote. AtEach S.Scheme L.Elector self.old (λ s h. MatchOption vote (IsSome s.me → ¬ NotarizeIsDue (member s) (known s h) view) (λ v. NotarizeIsDue (member s) (known s h) view × (held_at (member s) (known s h) view ≡ Some v.proposal) × IsOwn S.Scheme s notarize v))) }
+        ensures of_view { IfOk result (λ vote. AtEach S.Scheme L.Elector self.old (λ s h. AreOfTheirViews s h → IfSome vote (λ v. v.proposal.round ≡ round_of s view))) }
     {
+        held_lies_in_its_view::<S, D>();
         if self.scheme.me().is_none() {
             return Ok(None);
         }
@@ -38,21 +44,25 @@ impl<S: Scheme<D> + Drop, L: Elector<S, D>, D: Digest> State<S, L, D> {
         let Some(proposal) = self.views.construct_notarize(view)? else {
             return Ok(None);
         };
+        self.notarizes.remove(view);
         Ok(Notarize::sign(&*self.scheme, proposal))
     }
 
     /// Whether a notarize of the view is due.
-    fn notarize_is_due(&self, view: View) -> bool
+    pub(super) fn notarize_is_due(&self, view: View) -> bool
         ensures { AtEach S.Scheme L.Elector self.now (λ s h. IsTrue result ↔ NotarizeIsDue (member s) (known s h) view) }
     {
         notarize_is_due(&self.views, view)
     }
 
-    /// Votes to finalize the held proposal of the view, where that is due. Else nothing changes. Without a key nothing is voted.
+    /// Votes to finalize the held proposal of the view, where that is due. Else nothing changes. Without a key nothing is voted. Where
+    /// each proposal that came was of its view and the epoch, the vote is of this view and the epoch.
     pub fn construct_finalize(&mut self, view: View) -> Option<Finalize<S, D>>
         ensures keeps { AtEach S.Scheme L.Elector self.old (λ s h. MatchOption result (Keeps S.Scheme L.Elector s self.new h) (λ v. Keeps S.Scheme L.Elector s self.new (voted_finalize view v.proposal ∷ h))) }
         ensures answer { AtEach S.Scheme L.Elector self.old (λ s h. MatchOption result (IsSome s.me → ¬ FinalizeIsDue (member s) (known s h) view) (λ v. FinalizeIsDue (member s) (known s h) view × (held_at (member s) (known s h) view ≡ Some v.proposal) × IsOwn S.Scheme s finalize v)) }
+        ensures of_view { AtEach S.Scheme L.Elector self.old (λ s h. AreOfTheirViews s h → IfSome result (λ v. v.proposal.round ≡ round_of s view)) }
     {
+        held_lies_in_its_view::<S, D>();
         if self.scheme.me().is_none() {
             return None;
         }
@@ -62,11 +72,12 @@ impl<S: Scheme<D> + Drop, L: Elector<S, D>, D: Digest> State<S, L, D> {
         let Some(proposal) = self.views.construct_finalize(view) else {
             return None;
         };
+        self.finalizes.remove(view);
         Finalize::sign(&*self.scheme, proposal)
     }
 
     /// Whether a finalize of the view is due.
-    fn finalize_is_due(&self, view: View) -> bool
+    pub(super) fn finalize_is_due(&self, view: View) -> bool
         ensures { AtEach S.Scheme L.Elector self.now (λ s h. IsTrue result ↔ FinalizeIsDue (member s) (known s h) view) }
     {
         finalize_is_due(&self.views, view)
@@ -93,7 +104,11 @@ impl<S: Scheme<D> + Drop, L: Elector<S, D>, D: Digest> State<S, L, D> {
             return Ok(None);
         };
         match self.views.construct_nullify(view)? {
-            Some(is_repetition) => Ok(Some((is_repetition, vote))),
+            Some(is_repetition) => {
+                self.notarizes.remove(view);
+                self.finalizes.remove(view);
+                Ok(Some((is_repetition, vote)))
+            }
             None => Ok(None),
         }
     }

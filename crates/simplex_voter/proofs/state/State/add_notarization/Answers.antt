@@ -9,7 +9,7 @@ use Rattle.simplex_voter.proofs.state.State.add_notarization.Goals as goal
 pub returns-clause-keeps : goal.returns-clause-keeps
 unfolding Keeps
 returns-clause-keeps g c = IfOk-weaker c.add_notarization.result _ _
-    (λ r moved s h k. keeps_woken_if g.S.Scheme g.L.Elector s h _ _ k r.0 (notarized c.args.certificate) c.wake.new.candidates c.view.result (ap Some (sym c.view.ensures)) c.in_ok-wake.ensures (moved s h k.views))
+    (λ r moved s h k. keeps_woken_if g.S.Scheme g.L.Elector s h _ _ k r.0 (notarized c.args.certificate) tt tt c.wake.new.candidates c.view.result (ap Some (sym c.view.ensures)) c.in_ok-wake.ensures (moved s h k.views))
     c.add_notarization.ensures.keeps
 
 pub returns-clause-first : goal.returns-clause-first

@@ -6,20 +6,20 @@ use Rattle.simplex_history.specs.Leaders.{leader}
 use Rattle.simplex_decisions.specs.Ancestry.{member}
 use Rattle.simplex_decisions.specs.Requests.{VerifyIsDue}
 use Rattle.simplex_voter.specs.State.{Keeps}
-use Rattle.simplex_voter.proofs.Waking.{stays}
+use Rattle.simplex_voter.proofs.Keeping.{keeps_still}
 use Rattle.simplex_voter.proofs.Wanting.{may_verify, wanted_led}
 use Rattle.simplex_voter.proofs.state.State.ask.Goals as goal
 
-pub returns-in_default : goal.returns-in_default
+pub returns-in_default-clause-asks : goal.returns-in_default-clause-asks
 unfolding Keeps
-returns-in_default g c = λ s h k wants.
+returns-in_default-clause-asks g c = λ s h k wants.
     let led = wanted_led (member s) (known s h) c.args.view c.args.wanted wants in
     let none : leader s h c.args.view ≡ None = c.in_default.ensures s h k in
     absurd (cc (rw none at led))
 
-pub returns-in-Verification : goal.returns-in-Verification
+pub returns-in-Verification-clause-asks : goal.returns-in-Verification-clause-asks
 unfolding Keeps
-returns-in-Verification g c = λ s h k wants.
+returns-in-Verification-clause-asks g c = λ s h k wants.
     let p = c.in-Verification.proposal in
     let payload = c.in-Verification.payload in
     let due : VerifyIsDue (member s) (known s h) c.args.view p payload = rw c.in-Verification.is at wants in
@@ -30,17 +30,17 @@ returns-in-Verification g c = λ s h k wants.
         parent = refl;
         epoch = c.new.ensures.epoch ∙ c.epoch.ensures s h k.views;
         leader = rw c.new.ensures.view (c.in-Some.ensures s h k);
-        keeps = rw c.new.ensures.view (record { scheme = k.scheme; me = k.me; timeout_retry = k.timeout_retry; skip_budget = k.skip_budget; views = rw asked at (c.request_verify-asked.ensures.keeps s h k.views); candidates = stays s h (verify_asked c.args.view p payload) c.args.self.now.candidates refl k.candidates });
+        keeps = rw c.new.ensures.view (keeps_still g.S.Scheme g.L.Elector s h c.args.self.now _ k (verify_asked c.args.view p payload) refl tt tt (rw asked at (c.request_verify-asked.ensures.keeps s h k.views)));
       },
     )
 
-pub returns-in_ok-request-in-Certificate : goal.returns-in_ok-request-in-Certificate
+pub returns-in_ok-request-in-Certificate-clause-asks : goal.returns-in_ok-request-in-Certificate-clause-asks
 unfolding Keeps
-returns-in_ok-request-in-Certificate g c = λ s h k wants. (
+returns-in_ok-request-in-Certificate-clause-asks g c = λ s h k wants. (
   refl,
   record {
     missing = rw c.in-Certificate.is at wants;
     leader = c.in-Some.ensures s h k;
-    keeps = record { scheme = k.scheme; me = k.me; timeout_retry = k.timeout_retry; skip_budget = k.skip_budget; views = c.in_ok-request-in-Certificate.ensures s h k.views; candidates = stays s h (ancestry_asked c.args.view c.in-Certificate.missing) c.args.self.now.candidates refl k.candidates };
+    keeps = keeps_still g.S.Scheme g.L.Elector s h c.args.self.now _ k (ancestry_asked c.args.view c.in-Certificate.missing) refl tt tt (c.in_ok-request-in-Certificate.ensures s h k.views);
   },
 )

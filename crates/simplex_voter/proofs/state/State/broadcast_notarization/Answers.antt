@@ -10,7 +10,7 @@ use Rattle.simplex_voter.proofs.state.State.broadcast_notarization.Goals as goal
 pub returns-clause-keeps : goal.returns-clause-keeps
 unfolding Keeps
 returns-clause-keeps g c = IfOk-weaker c.broadcast_notarization.result _ _
-    (λ r moved s h k. keeps_still_if g.S.Scheme g.L.Elector s h _ _ k (is_some r) (sent kind.Notarization c.args.view) refl (moved s h k.views))
+    (λ r moved s h k. keeps_still_if g.S.Scheme g.L.Elector s h _ _ k (is_some r) (sent kind.Notarization c.args.view) refl tt tt (moved s h k.views))
     c.broadcast_notarization.ensures.keeps
 
 pub returns-clause-answer : goal.returns-clause-answer

@@ -1,9 +1,10 @@
-use Rattle.std.proofs.Common.{sym, subst}
+use Rattle.std.proofs.Common.{false, true, sym, subst}
 use Rattle.std.specs.Prelude.{Contains}
 use Rattle.std.proofs.lemmas.Result.{IfOk-from_err}
 use Rattle.simplex_views.specs.Views as above
 use Rattle.simplex_voter.specs.Candidates.{AreAmong, put_off}
 use Rattle.simplex_voter.specs.State.{Keeps}
+use Rattle.simplex_voter.proofs.Owing.{put_off_owed}
 use Rattle.simplex_voter.proofs.Waking.{kept_among}
 use Rattle.simplex_voter.proofs.state.State.certify_candidates.Goals as goal
 
@@ -20,6 +21,8 @@ returns-clause-keeps g c = λ s h k.
         skip_budget = k.skip_budget;
         views = subst (λ xs. above.Keeps g.S.Scheme g.L.Elector s c.put_off_verdicts.new.views (put_off xs h)) c.deref.ensures.value (c.in_ok-put_off_verdicts.ensures s h k.views);
         candidates = kept_among s h c.in_ok-ready.field-0 c.keep.new.candidates all (λ p there. c.in_ok-keep.ensures p (subst (λ ps. Contains ps p) (sym c.deref-2.ensures.value) there));
+        notarizes = put_off_owed s h false c.in_ok-ready.field-0.put_off.items c.args.self.now.notarizes k.notarizes;
+        finalizes = put_off_owed s h true c.in_ok-ready.field-0.put_off.items c.args.self.now.finalizes k.finalizes;
       },
     )
 

@@ -1,4 +1,4 @@
-use Rattle.std.proofs.Common.{◌≡◌, ◌∙◌, refl, sym, ap}
+use Rattle.std.proofs.Common.{◌≡◌, ◌∙◌, ◌∷◌, false, true, refl, sym, ap}
 use Rattle.std.specs.Prelude.{Some}
 use Rattle.std.proofs.lemmas.Bool.{both_ways}
 use Rattle.std.proofs.lemmas.Option.{IfSome_then}
@@ -8,7 +8,9 @@ use Rattle.simplex_history.specs.Past.{offers}
 use Rattle.simplex_history.specs.History.{seen, voted_finalize}
 use Rattle.simplex_voter.specs.State.{Keeps}
 use Rattle.simplex_voter.proofs.Casting.{casts, keyless, may_finalize, signs}
-use Rattle.simplex_voter.proofs.Keeping.{keeps_still}
+use Rattle.simplex_voter.proofs.Keeping.{keeps_by}
+use Rattle.simplex_voter.proofs.Owing.{finalized_once, owed_still, owed_without}
+use Rattle.simplex_voter.proofs.Waking.{stays}
 use Rattle.simplex_voter.proofs.state.State.construct_finalize.Goals as goal
 
 pub returns-then-is_none-clause-keeps : goal.returns-then-is_none-clause-keeps
@@ -36,6 +38,8 @@ returns-in_default-clause-keeps g c = λ s h k. record {
   skip_budget = k.skip_budget;
   views = c.in_default.ensures.keeps s h k.views;
   candidates = k.candidates;
+  notarizes = k.notarizes;
+  finalizes = k.finalizes;
 }
 
 pub returns-in_default-clause-answer : goal.returns-in_default-clause-answer
@@ -46,7 +50,13 @@ pub returns-clause-keeps : goal.returns-clause-keeps
 unfolding Keeps
 returns-clause-keeps g c = λ s h k.
     signs c.sign.result _ c.me.result c.is_none.result _ _ c.sign.ensures.without_key (ap g.S.Scheme.own (c.deref-2.ensures ∙ sym c.deref.ensures) ∙ sym c.me.ensures.own) c.is_none.ensures c.if-is_none.false
-    (IfSome_then c.sign.result c.sign.ensures.proposal (λ v is. rw is (keeps_still g.S.Scheme g.L.Elector s h _ _ k (voted_finalize c.args.view c.in-Some.proposal) refl (c.in-Some.ensures.keeps s h k.views))))
+    (IfSome_then c.sign.result c.sign.ensures.proposal (λ v is. rw is (
+    keeps_by g.S.Scheme g.L.Elector s h c.args.self.now _ k (voted_finalize c.args.view c.in-Some.proposal ∷ h) c.args.self.now.candidates c.args.self.now.notarizes c.remove.new.self
+    (stays s h (voted_finalize c.args.view c.in-Some.proposal) c.args.self.now.candidates refl k.candidates)
+    (owed_still s h false (voted_finalize c.args.view c.in-Some.proposal) c.args.self.now.notarizes tt k.notarizes)
+    (owed_without s h true (seen s (voted_finalize c.args.view c.in-Some.proposal ∷ h)) c.args.view c.args.self.now.finalizes c.remove.new.self (finalized_once s h c.in-Some.proposal c.args.view) c.remove.ensures.kept
+    (owed_still s h true (voted_finalize c.args.view c.in-Some.proposal) c.args.self.now.finalizes tt k.finalizes))
+    (c.in-Some.ensures.keeps s h k.views))))
 
 pub returns-clause-answer : goal.returns-clause-answer
 unfolding Keeps
@@ -54,3 +64,9 @@ returns-clause-answer g c = λ s h k.
     signs c.sign.result _ c.me.result c.is_none.result _ _ c.sign.ensures.without_key (ap g.S.Scheme.own (c.deref-2.ensures ∙ sym c.deref.ensures) ∙ sym c.me.ensures.own) c.is_none.ensures c.if-is_none.false
     (casts g.S.Scheme s c.deref-2.result.now (c.deref-2.ensures ∙ k.scheme) k.me finalize c.sign.result c.in-Some.proposal _ (λ p. held (offers (seen s h c.args.view)) ≡ Some p) c.sign.ensures.in_own_name c.sign.ensures.proposal c.sign.ensures.attests
     ((c.finalize_is_due.ensures s h k).0 c.if-not-finalize_is_due.false) (c.in-Some.ensures.answer s h k.views).1)
+
+pub returns-clause-of_view : goal.returns-clause-of_view
+unfolding Keeps
+returns-clause-of_view g c = λ s h k are.
+    IfSome_then c.sign.result c.sign.ensures.proposal
+    (λ v is. rw is (c.held_lies_in_its_view.ensures s h c.args.view c.in-Some.proposal are (c.in-Some.ensures.answer s h k.views).1))

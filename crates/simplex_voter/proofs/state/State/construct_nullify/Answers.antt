@@ -1,9 +1,11 @@
-use Rattle.std.proofs.Common.{◌∙◌, refl}
+use Rattle.std.proofs.Common.{◌∙◌, ◌∷◌, false, true, refl}
 use Rattle.std.proofs.lemmas.Result.{IfOk-from_err}
-use Rattle.simplex_history.specs.History.{voted_nullify}
+use Rattle.simplex_history.specs.History.{seen, voted_nullify}
 use Rattle.simplex_voter.specs.State.{Keeps}
 use Rattle.simplex_voter.proofs.Casting.{casts_nullify, gives_up, is_decided, stays_up, unsigned}
-use Rattle.simplex_voter.proofs.Keeping.{keeps_still}
+use Rattle.simplex_voter.proofs.Keeping.{keeps_by}
+use Rattle.simplex_voter.proofs.Owing.{given_up_once, owed_still, owed_without}
+use Rattle.simplex_voter.proofs.Waking.{stays}
 use Rattle.simplex_voter.proofs.state.State.construct_nullify.Goals as goal
 
 pub returns-then-not-is_current-clause-keeps : goal.returns-then-not-is_current-clause-keeps
@@ -27,7 +29,14 @@ returns-in_err-is_repetition-clause-answer g c = IfOk-from_err c.from_residual.r
 
 pub returns-in-Some-2-clause-keeps : goal.returns-in-Some-2-clause-keeps
 unfolding Keeps
-returns-in-Some-2-clause-keeps g c = λ s h k. keeps_still g.S.Scheme g.L.Elector s h _ _ k (voted_nullify c.args.view) refl (rw c.in-Some-2.is at (c.in_ok-is_repetition.ensures.keeps s h k.views))
+returns-in-Some-2-clause-keeps g c = λ s h k.
+    keeps_by g.S.Scheme g.L.Elector s h c.args.self.now _ k (voted_nullify c.args.view ∷ h) c.args.self.now.candidates c.remove.new.self c.remove-in-Some-2.new.self
+    (stays s h (voted_nullify c.args.view) c.args.self.now.candidates refl k.candidates)
+    (owed_without s h false (seen s (voted_nullify c.args.view ∷ h)) c.args.view c.args.self.now.notarizes c.remove.new.self (given_up_once s h false c.args.view) c.remove.ensures.kept
+    (owed_still s h false (voted_nullify c.args.view) c.args.self.now.notarizes tt k.notarizes))
+    (owed_without s h true (seen s (voted_nullify c.args.view ∷ h)) c.args.view c.args.self.now.finalizes c.remove-in-Some-2.new.self (given_up_once s h true c.args.view) c.remove-in-Some-2.ensures.kept
+    (owed_still s h true (voted_nullify c.args.view) c.args.self.now.finalizes tt k.finalizes))
+    (rw c.in-Some-2.is at (c.in_ok-is_repetition.ensures.keeps s h k.views))
 
 pub returns-in-Some-2-clause-answer : goal.returns-in-Some-2-clause-answer
 unfolding Keeps
@@ -48,6 +57,8 @@ returns-in-None-clause-keeps g c = λ s h k. record {
   skip_budget = k.skip_budget;
   views = rw c.in-None.is at (c.in_ok-is_repetition.ensures.keeps s h k.views);
   candidates = k.candidates;
+  notarizes = k.notarizes;
+  finalizes = k.finalizes;
 }
 
 pub returns-in-None-clause-answer : goal.returns-in-None-clause-answer

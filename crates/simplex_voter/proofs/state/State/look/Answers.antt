@@ -2,7 +2,7 @@ use Rattle.std.proofs.Common.{inl, inr, refl}
 use Rattle.simplex_history.specs.declared.timeout_reason.TimeoutReason.TheVariants as reason
 use Rattle.simplex_history.specs.History.{latched}
 use Rattle.simplex_voter.specs.State.{Keeps}
-use Rattle.simplex_voter.proofs.Waking.{stays}
+use Rattle.simplex_voter.proofs.Keeping.{keeps_still}
 use Rattle.simplex_voter.proofs.state.State.look.Goals as goal
 
 pub returns-in-Ready : goal.returns-in-Ready
@@ -22,7 +22,7 @@ unfolding Keeps
 returns-in_ok-latch_timeout-in-Invalid g c = λ s h k.
     inr (
       rw c.in-Invalid.is at (c.request_for.ensures s h k),
-      record { scheme = k.scheme; me = k.me; timeout_retry = k.timeout_retry; skip_budget = k.skip_budget; views = c.in_ok-latch_timeout-in-Invalid.ensures s h k.views; candidates = stays s h (latched c.args.now c.args.view reason.InvalidProposal) c.args.self.now.candidates refl k.candidates },
+      keeps_still g.S.Scheme g.L.Elector s h c.args.self.now _ k (latched c.args.now c.args.view reason.InvalidProposal) refl tt tt (c.in_ok-latch_timeout-in-Invalid.ensures s h k.views),
     )
 
 pub returns-in-Wait : goal.returns-in-Wait

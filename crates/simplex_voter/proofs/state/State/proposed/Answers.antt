@@ -1,4 +1,4 @@
-use Rattle.std.proofs.Common.{◌≡◌, ◌∷◌, false, refl, subst, if◌then◌else◌}
+use Rattle.std.proofs.Common.{◌≡◌, ◌∷◌, false, true, refl, subst, if◌then◌else◌}
 use Rattle.std.specs.Prelude.{◌↔◌, IsTrue}
 use Rattle.std.proofs.lemmas.Bool.{both_ways}
 use Rattle.std.proofs.lemmas.Result.{IfOk-weaker}
@@ -10,7 +10,8 @@ use Rattle.simplex_history.specs.History.{built, seen}
 use Rattle.simplex_views.specs.Views as above
 use Rattle.simplex_voter.specs.Building.{proposal_on}
 use Rattle.simplex_voter.specs.State.{Keeps}
-use Rattle.simplex_voter.proofs.Keeping.{keeps_woken_if}
+use Rattle.simplex_voter.proofs.Keeping.{keeps_owed_if}
+use Rattle.simplex_voter.proofs.Owing.{owed_more, owed_still, owed_there}
 use Rattle.simplex_voter.proofs.state.State.proposed.Goals as goal
 
 made : {D P : Type 0} (p : Proposal D) (context : Context D P) (payload : D) → p.round ≡ context.round → p.parent ≡ context.parent.0 → p.payload ≡ payload → p ≡ proposal_on context payload
@@ -27,7 +28,10 @@ unfolding Keeps
 returns-clause-keeps g c = IfOk-weaker c.proposed.result _ _
     (λ taken moved s h k.
     let same = made c.new-proposal.result c.args.context.now c.args.payload c.new-proposal.ensures.round c.new-proposal.ensures.parent c.new-proposal.ensures.payload in
-    keeps_woken_if g.S.Scheme g.L.Elector s h _ _ k taken (built c.args.now (proposal_on c.args.context.now c.args.payload) c.args.context.now.parent.1) c.wake.new.candidates c.args.context.now.round.view refl c.in_ok-wake.ensures
+    let point = built c.args.now (proposal_on c.args.context.now c.args.payload) c.args.context.now.parent.1 in
+    let owed = owed_more s h false c.args.self.now.notarizes c.add.new.self c.in_ok-add.ensures.kept k.notarizes in
+    keeps_owed_if g.S.Scheme g.L.Elector s h c.args.self.now _ k taken point c.wake.new.candidates c.add.new.self c.args.self.now.finalizes c.args.context.now.round.view refl c.in_ok-wake.ensures
+    owed k.finalizes (owed_there s h false point c.args.context.now.round.view c.add.new.self refl c.in_ok-add.ensures.own owed) (owed_still s h true point c.args.self.now.finalizes refl k.finalizes)
     (subst (λ p. above.Keeps g.S.Scheme g.L.Elector s c.proposed.new.self (if taken then built c.args.now p c.args.context.now.parent.1 ∷ h else h)) same (moved s h k.views)))
     c.proposed.ensures.keeps
 

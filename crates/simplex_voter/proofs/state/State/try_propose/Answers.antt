@@ -1,21 +1,14 @@
 use Rattle.std.proofs.Common.{◌∙◌, ◌∷◌, refl}
 use Rattle.simplex_history.specs.History.{build_asked}
 use Rattle.simplex_voter.specs.State.{Keeps}
-use Rattle.simplex_voter.proofs.Waking.{stays}
+use Rattle.simplex_voter.proofs.Keeping.{keeps_still}
 use Rattle.simplex_voter.proofs.Wanting.{may_propose}
 use Rattle.simplex_voter.proofs.state.State.try_propose.Goals as goal
 
 pub returns-clause-keeps : goal.returns-clause-keeps
 unfolding Keeps
 returns-clause-keeps g c = λ s h k.
-    rw (c.new-2.ensures.context, c.new.ensures.view) (record {
-      scheme = k.scheme;
-      me = k.me;
-      timeout_retry = k.timeout_retry;
-      skip_budget = k.skip_budget;
-      views = c.in-Some-try_propose.ensures.keeps s h k.views;
-      candidates = stays s h (build_asked c.in-Some.first.0) c.args.self.now.candidates refl k.candidates;
-    })
+    rw (c.new-2.ensures.context, c.new.ensures.view) (keeps_still g.S.Scheme g.L.Elector s h c.args.self.now _ k (build_asked c.in-Some.first.0) refl tt tt (c.in-Some-try_propose.ensures.keeps s h k.views))
 
 pub returns-clause-answer : goal.returns-clause-answer
 unfolding Keeps

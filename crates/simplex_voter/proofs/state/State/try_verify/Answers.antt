@@ -1,10 +1,8 @@
 use Rattle.std.proofs.lemmas.Result.{IfOk-weaker}
-use Rattle.simplex_voter.proofs.Wanting.{answers_of}
+use Rattle.simplex_voter.proofs.Wanting.{answers_whole}
 use Rattle.simplex_voter.proofs.state.State.try_verify.Goals as goal
 
 pub returns : goal.returns
-returns g c = IfOk-weaker c.ask.result _ _
-    (λ answer asks s h k.
-    let found = rw c.in-Some.is at (c.in_ok-found.ensures s h k) in
-    answers_of g.S.Scheme g.L.Elector s c.ask.new.self c.args.now h c.in-Some.waiting.0 found.end answer found.looked (asks s found.end found.holds.1 found.holds.0))
-    c.ask.ensures
+returns g c = IfOk-weaker c.try_verify_from.result _ _
+    (λ answer is s h k. answers_whole g.S.Scheme g.L.Elector s c.try_verify_from.new.self c.args.now h answer (rw c.zero.ensures at (is s h k)))
+    c.try_verify_from.ensures.answer

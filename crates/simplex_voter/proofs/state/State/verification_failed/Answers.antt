@@ -11,7 +11,7 @@ unfolding Keeps
 returns-then-not-is_steady-clause-keeps g c = λ s h k.
     inr (
       λ steady. both_ways c.is_steady.result c.if-not-is_steady.true ((c.is_steady.ensures s h k).1 steady),
-      keeps_still g.S.Scheme g.L.Elector s h _ _ k (unbound c.args.view) refl (c.in_ok-clear_verifying.ensures s h k.views),
+      keeps_still g.S.Scheme g.L.Elector s h _ _ k (unbound c.args.view) refl tt tt (c.in_ok-clear_verifying.ensures s h k.views),
     )
 
 pub returns-then-not-is_steady-clause-answer : goal.returns-then-not-is_steady-clause-answer

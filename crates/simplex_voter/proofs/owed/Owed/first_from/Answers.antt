@@ -1,0 +1,8 @@
+use Rattle.simplex_voter.proofs.Firsts.{first_there, none_there}
+use Rattle.simplex_voter.proofs.owed.Owed.first_from.Goals as goal
+
+pub returns-in-Some-clause-first : goal.returns-in-Some-clause-first
+returns-in-Some-clause-first c = first_there c.args.self.now c.args.from c.range.result (c.range.ensures.in_range tt) c.in-Some.view.now _ c.in-Some.ensures.steps
+
+pub returns-in-None-clause-first : goal.returns-in-None-clause-first
+returns-in-None-clause-first c = none_there c.args.self.now c.args.from c.range.result (c.range.ensures.in_range tt) c.in-None.ensures.steps.0
