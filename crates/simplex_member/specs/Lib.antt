@@ -1,0 +1,13 @@
+pub mod First
+pub mod Packet
+pub mod Setup
+pub mod Point
+pub mod Recorded
+pub mod Layers
+pub mod Asked
+pub mod Deeds
+pub mod Refusals
+pub mod Allowed
+pub mod Member
+pub mod Lives
+pub mod Spelled

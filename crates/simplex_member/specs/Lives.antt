@@ -1,0 +1,159 @@
+-- A member's life: openings one after another, each with the events that came, until a crash or a fault. And worlds of such members.
+use Rattle.std.specs.Prelude.{◌≡◌, ◌<◌, ◌≤◌, ◌++◌, ℕ, List, [], ◌∷◌, length, Contains, Option, Some, None, option_map, option_to_list, unwrap_or, ⊤}
+use Rattle.simplex_types.specs.declared.scheme.Scheme.{Ghosts}
+use Rattle.simplex_committee.specs.Committee.{faults}
+use Rattle.simplex_certificates.specs.declared.artifact.Artifact.{Artifact}
+use Rattle.simplex_messages.specs.declared.vote.Vote.{Vote}
+use Rattle.simplex_messages.specs.VoteParts.{vote_signer}
+use Rattle.simplex_record.specs.Record.{entries, HasVoted}
+use Rattle.simplex_record.specs.World.{World, IsCorrect, IsHonest, IsAlike}
+use Rattle.simplex_verifier.specs.Votes.{vote_statement, vote_attestation}
+use Rattle.simplex_member.specs.declared.event.Channel.{Channel}
+use Rattle.simplex_member.specs.declared.event.Channel.TheVariants as channel
+use Rattle.simplex_member.specs.declared.event.Event.{Event}
+use Rattle.simplex_member.specs.declared.event.Event.TheVariants as event
+use Rattle.simplex_member.specs.declared.refusal.Refusal.{Refusal}
+use Rattle.simplex_member.specs.Deeds.{Deed, Sends, Serves, all_deeds}
+use Rattle.simplex_member.specs.First.{IsFirst}
+use Rattle.simplex_member.specs.Member.{AreOpening, AreStep, Goes, Rests, after}
+use Rattle.simplex_member.specs.Packet.{Formats, Packet, of_vote, of_certificate, of_ask, packet_channel}
+use Rattle.simplex_member.specs.Point.{Point, History}
+use Rattle.simplex_member.specs.Recorded.{record_of}
+use Rattle.simplex_member.specs.Refusals.{tests, refused_deeds}
+use Rattle.simplex_member.specs.Setup.{Setup, owner_of}
+
+-- an event that was refused, or taken, with what it led to
+pub data Turn (S D P G C : Type 0) : Type 0 where
+  Refuses : Event D → Refusal → Turn S D P G C
+  Went : Event D → List (Point S D P G C) → Turn S D P G C
+
+-- one opening at a moment and what came of it: how it went through the record, then what it did. It was cut off; or it rested, and turns followed,
+-- of which the last may have been cut off behind an event
+pub data Life (S D P G C : Type 0) : Type 0 where
+  Broken : ℕ → List (Point S D P G C) → Life S D P G C
+  Lasting : ℕ → List (Point S D P G C) → List (Turn S D P G C) → Option (Event D × List (Point S D P G C)) → Life S D P G C
+
+module _ {S D P G C : Type 0} where
+  -- the event of a turn
+  abbrev pub event_of : Turn S D P G C → Event D
+  event_of (Refuses e r) = e
+  event_of (Went e points) = e
+
+  -- what a turn led to
+  abbrev pub turn_points : List (Turn S D P G C) → List (Point S D P G C)
+  turn_points [] = []
+  turn_points (Refuses e r ∷ turns) = turn_points turns
+  turn_points (Went e points ∷ turns) = points ++ turn_points turns
+
+  -- all points of a life
+  abbrev pub points_of : Life S D P G C → List (Point S D P G C)
+  points_of (Broken now points) = points
+  points_of (Lasting now points turns cut) = points ++ turn_points turns ++ unwrap_or (option_map (λ c. c.1) cut) []
+
+  abbrev pub turn_events : List (Turn S D P G C) → List (Event D)
+  turn_events [] = []
+  turn_events (t ∷ turns) = event_of t ∷ turn_events turns
+
+  -- all events that were handed in
+  abbrev pub events_of : Life S D P G C → List (Event D)
+  events_of (Broken now points) = []
+  events_of (Lasting now points turns cut) = turn_events turns ++ option_to_list (option_map (λ c. c.0) cut)
+
+module _ {S D P G C : Type 0} (g : Ghosts S D P G C) (f : Formats S D P G C) (s : Setup S D C) where
+  -- turns, one after the other
+  abbrev pub Turns : History S D P G C → List (Turn S D P G C) → History S D P G C → Type 0
+  Turns h [] end = end ≡ h
+  Turns h (Refuses e r ∷ turns) end = IsFirst (tests g f s h e) (Some r) × Turns h turns end
+  Turns h (Went e points ∷ turns) end = (mid : History S D P G C) × AreStep g f s h e points × Rests g f s h points mid × Turns mid turns end
+
+  -- the last turn was cut off, if one was
+  abbrev pub IsCut : History S D P G C → Option (Event D × List (Point S D P G C)) → History S D P G C → Type 0
+  IsCut h None end = end ≡ h
+  IsCut h (Some c) end = AreStep g f s h c.0 c.1 × Goes g f s h c.1 end
+
+  -- a life that found these leads here
+  abbrev pub Lived : List (Artifact S D P G C) → Life S D P G C → History S D P G C → Type 0
+  Lived found (Broken now points) end = AreOpening g f s now found points × Goes g f s [] points end
+  Lived found (Lasting now points turns cut) end = (mid : History S D P G C) × (last : History S D P G C)
+      × AreOpening g f s now found points × Rests g f s [] points mid × Turns mid turns last × IsCut last cut end
+
+  -- lives, one after the other: each finds what the one before has left, which is the record at its end, also where that was cut off
+  abbrev pub Lives : List (Artifact S D P G C) → List (Life S D P G C) → List (Artifact S D P G C) → Type 0
+  Lives found [] left = left ≡ found
+  Lives found (life ∷ lives) left = (end : History S D P G C) × Lived found life end × Lives (record_of end) lives left
+
+  -- what turns handed out
+  abbrev pub turn_deeds : History S D P G C → List (Turn S D P G C) → List (Deed S D P G C)
+  turn_deeds h [] = []
+  turn_deeds h (Refuses e r ∷ turns) = refused_deeds g f s h e r ++ turn_deeds h turns
+  turn_deeds h (Went e points ∷ turns) = all_deeds g f s h points ++ turn_deeds (after h points) turns
+
+  -- what a life handed out: nothing of what was cut off
+  abbrev pub handed_out : Life S D P G C → List (Deed S D P G C)
+  handed_out (Broken now points) = []
+  handed_out (Lasting now points turns cut) = all_deeds g f s [] points ++ turn_deeds (after [] points) turns
+
+-- members: how each is set up, and its lives
+pub record Members (S D P G C : Type 0) : Type 0 where
+  pub setup : ℕ → Setup S D C
+  pub lives : ℕ → List (Life S D P G C)
+
+module _ {S D P G C : Type 0} (g : Ghosts S D P G C) (f : Formats S D P G C) (scheme : S) (m : Members S D P G C) (world : World S D P G C) where
+  -- an event was handed to a member
+  abbrev pub WasHanded : ℕ → Event D → Type 0
+  WasHanded i e = (life : Life S D P G C) × Contains (m.lives i) life × Contains (events_of life) e
+
+  -- an event is a packet of this sender that holds this
+  abbrev pub Holds : Event D → ℕ → Packet S D P G C → Type 0
+  Holds (event.Packet from by bytes) sender x = (from ≡ sender) × (f.packet_in by bytes.items ≡ Some x)
+  Holds e sender x = ⊥
+
+  -- it is one of these bytes
+  abbrev pub Carries : Event D → ℕ → Channel → List ℕ → Type 0
+  Carries (event.Packet from by bytes) sender channel carried = (from ≡ sender) × (by ≡ channel) × (bytes.items ≡ carried)
+  Carries e sender channel carried = ⊥
+
+  -- a packet that holds this was handed to a member, by a sender
+  abbrev pub CameIn : ℕ → ℕ → Packet S D P G C → Type 0
+  CameIn i sender x = (e : Event D) × WasHanded i e × Holds e sender x
+
+  -- a member handed this out
+  abbrev pub HandedOut : ℕ → Deed S D P G C → Type 0
+  HandedOut i d = (life : Life S D P G C) × Contains (m.lives i) life × Contains (handed_out g f (m.setup i) life) d
+
+  -- a vote in a correct member's name that verifies is on a statement for which that member recorded a vote
+  abbrev pub IsHonestVote : Vote S D P G C → Type 0
+  IsHonestVote v = IsCorrect world (vote_signer v) → g.attests scheme (vote_signer v) (vote_statement v) (vote_attestation v).signature
+      → HasVoted (entries (world.recorded (vote_signer v))) (vote_statement v)
+
+  -- what a packet holds is honest: a vote, or each vote that a certificate lists
+  abbrev pub IsHonestPacket : Packet S D P G C → Type 0
+  IsHonestPacket (of_vote v) = IsHonestVote v
+  IsHonestPacket (of_certificate c) = IsHonest (g.attests scheme) g.lists world c
+  IsHonestPacket (of_ask view) = ⊤
+
+  -- Members that live by their nodes, each on a disk that was empty at first. Of each that isn't excused, the scheme is like the
+  -- committee's; its record is what its lives have left; and all that comes in is honest
+  pub record AreMembers : Type 0 where
+    pub alike : (i : ℕ) → IsCorrect world i → IsAlike world.size (g.attests scheme) (g.size (m.setup i).voter.scheme) (g.attests (m.setup i).voter.scheme)
+    pub owner : (i : ℕ) → IsCorrect world i → owner_of (m.setup i) ≡ record { epoch = world.epoch; term_length = world.term_length; signer = i }
+    pub me : (i : ℕ) → IsCorrect world i → (m.setup i).voter.me ≡ Some i
+    pub lived : (i : ℕ) → IsCorrect world i → Lives g f (m.setup i) [] (m.lives i) (world.recorded i)
+    pub honest : (i sender : ℕ) → IsCorrect world i → (x : Packet S D P G C) → CameIn i sender x → IsHonestPacket x
+
+  -- a world of them: at most as many are excused as may be faulty
+  pub record IsWorldOfLives : Type 0 where
+    pub some : 0 < world.size
+    pub few : length world.excused ≤ faults world.size
+    pub members : AreMembers
+
+  -- a deed hands out these bytes by this channel
+  abbrev pub HandsOutBytes : Channel → List ℕ → Deed S D P G C → Type 0
+  HandsOutBytes by bytes (Sends to x) = (by ≡ packet_channel x) × (bytes ≡ f.packet x)
+  HandsOutBytes by bytes (Serves member served) = (by ≡ channel.Certificates) × (bytes ≡ served)
+  HandsOutBytes by bytes d = ⊥
+
+  -- a packet in a correct member's name was handed out by one of its nodes
+  abbrev pub AreFaithful : Type 0
+  AreFaithful = (i j : ℕ) (e : Event D) (by : Channel) (bytes : List ℕ) → IsCorrect world i → IsCorrect world j → WasHanded i e → Carries e j by bytes
+      → (d : Deed S D P G C) × HandedOut j d × HandsOutBytes by bytes d

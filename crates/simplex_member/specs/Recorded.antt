@@ -1,0 +1,53 @@
+-- What a node has recorded.
+use Rattle.std.specs.Prelude.{◌==◌, ◌++◌, ℕ, true, false, List, [], ◌∷◌, Option, Some, None, option_map, option_to_list, if◌then◌else◌}
+use Rattle.simplex_messages.specs.declared.activity.Activity.{Activity}
+use Rattle.simplex_messages.specs.declared.activity.Activity.TheVariants as activity
+use Rattle.simplex_certificates.specs.declared.artifact.Artifact.{Artifact}
+use Rattle.simplex_certificates.specs.declared.artifact.Artifact.TheVariants as artifact
+use Rattle.simplex_certificates.specs.Artifact.{certificate_artifact}
+use Rattle.simplex_messages.specs.VoteParts.{vote_artifact}
+use Rattle.simplex_certificates.specs.ProposalCertificate.{Notarization, Finalization}
+use Rattle.simplex_member.specs.Point.{Point, Found, Came, Judged, Constructs, Votes, History}
+
+-- a list, and behind it one more, if there is one
+abbrev pub put_behind : {X : Type 0} → List X → Option X → List X
+put_behind xs None = xs
+put_behind xs (Some x) = xs ++ x ∷ []
+
+module _ {S D P G C : Type 0} where
+  -- the notarization of a view that a record has
+  abbrev pub notarization_in : List (Artifact S D P G C) → ℕ → Option (Notarization S D P G C)
+  notarization_in [] view = None
+  notarization_in (artifact.Notarization c ∷ xs) view = if c.proposal.round.view == view then Some c else notarization_in xs view
+  notarization_in (x ∷ xs) view = notarization_in xs view
+
+  -- the finalization of a view that a record has
+  abbrev pub finalization_in : List (Artifact S D P G C) → ℕ → Option (Finalization S D P G C)
+  finalization_in [] view = None
+  finalization_in (artifact.Finalization c ∷ xs) view = if c.proposal.round.view == view then Some c else finalization_in xs view
+  finalization_in (x ∷ xs) view = finalization_in xs view
+
+  -- what a certificate, a vote, or a verdict is reported as behind a record: a true verdict with its notarization, a false one not
+  abbrev pub reported : List (Artifact S D P G C) → Artifact S D P G C → List (Activity S D P G C)
+  reported before (artifact.Notarize v) = activity.Notarize v ∷ []
+  reported before (artifact.Notarization c) = activity.Notarization c ∷ []
+  reported before (artifact.Certification round true) = option_to_list (option_map activity.Certification (notarization_in before round.view))
+  reported before (artifact.Certification round false) = []
+  reported before (artifact.Nullify v) = activity.Nullify v ∷ []
+  reported before (artifact.Nullification c) = activity.Nullification c ∷ []
+  reported before (artifact.Finalize v) = activity.Finalize v ∷ []
+  reported before (artifact.Finalization c) = activity.Finalization c ∷ []
+
+  -- what a point records, if anything
+  abbrev pub recorded_by : Point S D P G C → Option (Artifact S D P G C)
+  recorded_by (Found x taken) = Some x
+  recorded_by (Came c) = Some (certificate_artifact c)
+  recorded_by (Judged r ok) = Some (artifact.Certification r ok)
+  recorded_by (Constructs view kind batch) = option_map certificate_artifact batch.certificate
+  recorded_by (Votes v) = Some (vote_artifact v)
+  recorded_by p = None
+
+  -- the record: the oldest first
+  abbrev pub record_of : History S D P G C → List (Artifact S D P G C)
+  record_of [] = []
+  record_of (p ∷ h) = put_behind (record_of h) (recorded_by p)

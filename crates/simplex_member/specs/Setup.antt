@@ -1,0 +1,62 @@
+-- What stays the same through an opening of a member's node.
+use Rattle.std.specs.Prelude.{◌<◌, ◌+◌, ◌^◌, ℕ, Bool, max, unwrap_or, Option, Some, None}
+use Rattle.simplex_types.specs.declared.scheme.Scheme.{Ghosts}
+use Rattle.simplex_rules.specs.declared.elector.Elector as elector
+use Rattle.simplex_record.specs.declared.owner.Owner.{Owner}
+use Rattle.simplex_decisions.specs.declared.config.Config.{Config}
+use Rattle.simplex_decisions.specs.declared.config.ForwardPolicy.{ForwardPolicy}
+use Rattle.simplex_decisions.specs.declared.config.SkipPolicy.{SkipPolicy}
+use Rattle.simplex_decisions.specs.declared.config.SkipPolicy.TheVariants as skip
+use Rattle.simplex_history.specs.History as views
+use Rattle.simplex_views.specs.Views.{built}
+use Rattle.simplex_decisions.specs.Ancestry.{Member, member}
+
+pub record Setup (S D C : Type 0) : Type 0 where
+  -- what stays the same of its voter: the scheme, the epoch, the terms, whom the elector names, times
+  pub voter : views.Setup S C
+  -- the member's own index
+  pub me : ℕ
+  -- the payload that view 0 stands for
+  pub genesis : D
+  -- for how long a leader may be silent, where views are given up for that
+  pub silence : Option ℕ
+  -- to whom the payload of the view before is forwarded when a view is entered
+  pub forward : ForwardPolicy
+  -- votes are kept in full for good
+  pub tracks : Bool
+
+-- for how long a leader may be silent
+abbrev pub silence_of : SkipPolicy → Option ℕ
+silence_of skip.Disabled = None
+silence_of (skip.Enabled timeout budget) = Some timeout
+
+module _ {S D C : Type 0} where
+  -- whose record it is
+  abbrev pub owner_of : Setup S D C → Owner
+  owner_of s = record { epoch = s.voter.epoch; term_length = s.voter.length; signer = s.me }
+
+  -- what stays the same of the member, as far as what is due rests on it
+  abbrev pub member_of : Setup S D C → Member
+  member_of s = member s.voter
+
+  -- the longest of all times
+  abbrev pub longest_timeout : Setup S D C → ℕ
+  longest_timeout s =
+      max s.voter.leader_timeout (max s.voter.certification_timeout (max s.voter.timeout_retry
+      (max (unwrap_or s.voter.stall_timeout 0) (unwrap_or s.silence 0))))
+
+  -- a moment lies so early that each deadline counted from it has 64 bits
+  abbrev pub IsInTime : Setup S D C → ℕ → Type 0
+  IsInTime s now = now + longest_timeout s < 2 ^ 64
+
+module _ {S L D P G C : Type 0} where
+  -- the setup of a node that is opened so, by the member of this index
+  abbrev pub setup_of : Ghosts S D P G C → elector.Ghosts L S D P G C → Config D → S → L → ℕ → Setup S D C
+  setup_of g e config scheme l index = record {
+    voter = built g e scheme l config;
+    me = index;
+    genesis = config.genesis;
+    silence = silence_of config.skip;
+    forward = config.forward;
+    tracks = config.track_historical_votes;
+  }

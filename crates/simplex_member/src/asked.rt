@@ -1,0 +1,15 @@
+//! What a node asked other members for.
+
+use simplex_resolver::Ask;
+use simplex_types::{Participant, View};
+
+/// An ask that was sent.
+#[derive(Clone, Copy, PartialEq, Eq)]
+pub struct Asked {
+    /// The view that was asked for.
+    pub view: View,
+    /// What was asked for, and until when.
+    pub ask: Ask,
+    /// Of whom: of all, where of none.
+    pub to: Option<Participant>,
+}
