@@ -11,3 +11,4 @@ pub mod Allowed
 pub mod Member
 pub mod Lives
 pub mod Spelled
+pub mod Laws

@@ -1,14 +1,24 @@
-//! What a member does: the events that come to its node, what it answers, and what it may do next.
+//! What a member does: the events that come to its node, what it answers, what it may do next, and what follows from that.
 #![tactic(auto)]
 
 mod action;
 mod asked;
 mod event;
 mod fault;
+mod laws;
 mod refusal;
 
 pub use action::{Action, Reply};
 pub use asked::Asked;
 pub use event::{Channel, Event};
 pub use fault::{IoFault, NodeFault, OpenFault};
+pub use laws::{
+    agreement_of_lives, blocked_by_refusal_alone, correct_votes_are_sound, due_is_bound,
+    due_may_be_recorded, early_moments_are_in_time, empty_records_are_opened,
+    finalized_views_lie_on_one_chain, lives_leave_lawful, made_certificates_list_votes,
+    never_contradicts, no_quorum_is_lost, one_record_is_read, records_grow,
+    records_stand_on_ground, records_stay_lawful, runs_are_stretches, steps_raise_little,
+    views_never_fall, voters_are_orderly, voters_tell_the_record, votes_are_lawful,
+    votes_are_recorded,
+};
 pub use refusal::Refusal;

@@ -1,0 +1,47 @@
+-- A verdict that was asked for may be recorded, by the voter's laws.
+use Rattle.std.proofs.Common.{◌≡◌, ⊎_elim, [], ◌∷◌, sym, ◌∙◌, subst, arith}
+use Rattle.std.specs.Prelude.{Contains}
+use Rattle.simplex_committee.specs.Counting.{Contains-cases}
+use Rattle.simplex_types.specs.declared.position.Round.{Round}
+use Rattle.simplex_types.specs.declared.proposal.Proposal.{Proposal}
+use Rattle.simplex_types.specs.declared.scheme.Scheme.{Ghosts}
+use Rattle.simplex_types.specs.Subject.{notarize}
+use Rattle.simplex_record.specs.Record as recorded
+use Rattle.simplex_record.specs.Record.{Entry, entry, entries, HasTaken}
+use Rattle.simplex_record.specs.Rules.{MayJudge}
+use Rattle.simplex_laws.specs.Matching.{EachHistoryMatches}
+use Rattle.simplex_member.specs.Allowed.{Allowed, AreAllowed}
+use Rattle.simplex_member.specs.Asked.{IsAwaited}
+use Rattle.simplex_member.specs.Packet.{Formats}
+use Rattle.simplex_member.specs.Point.{Point, AsksCertify, History}
+use Rattle.simplex_member.specs.Recorded.{record_of, recorded_by}
+use Rattle.simplex_member.specs.Setup.{Setup}
+use Rattle.simplex_member.proofs.Recordable.{matches}
+use Rattle.simplex_member.proofs.Telling.{apart, notarized-epoch}
+use Rattle.simplex_member.proofs.Lists.{mapped-before}
+
+module _ {S D P G C : Type 0} (g : Ghosts S D P G C) (f : Formats S D P G C) (s : Setup S D C) where
+  -- what the record says it says behind one more point
+  pub says-on : (p : Point S D P G C) (h : History S D P G C) (e : Entry D) → Contains (entries (record_of h)) e → Contains (entries (record_of (p ∷ h))) e
+  says-on p h e here = mapped-before entry (record_of h) (recorded_by p) e here
+
+  -- a verdict that is due is on what was notarized
+  due-taken : EachHistoryMatches S D P G C → (h : History S D P G C) → AreAllowed g f s h → (p : Proposal D) → Allowed g f s h (AsksCertify p) → HasTaken (entries (record_of h)) (notarize p)
+  due-taken law [] all p a = absurd (apart a.order)
+  due-taken law (q ∷ h) all p a = ((matches g f s law q h all).notarized p.round.view p a.due.opens.notarized).1
+
+  -- so is one that was asked for
+  asked-taken : EachHistoryMatches S D P G C → (h : History S D P G C) → AreAllowed g f s h → (p : Proposal D) → Contains h (AsksCertify p) → HasTaken (entries (record_of h)) (notarize p)
+  asked-taken law [] all p here = absurd (omega (arith, here.1))
+  asked-taken law (q ∷ h) all p here = ⊎_elim
+      (λ is. says-on q h (recorded.taken (notarize p)) (due-taken law h all.1 p (subst (λ (x : Point S D P G C). Allowed g f s h x) is all.0)))
+      (λ later. says-on q h (recorded.taken (notarize p)) (asked-taken law h all.1 p later))
+      (Contains-cases q h (AsksCertify p) here)
+
+  -- and may be recorded, once
+  pub verdict-may : EachHistoryMatches S D P G C → (h : History S D P G C) → AreAllowed g f s h → (r : Round) → r.epoch ≡ s.voter.epoch → IsAwaited s h r.view → MayJudge (entries (record_of h)) r
+  verdict-may law h all r epoch awaited =
+      let taken = asked-taken law h all awaited.proposal awaited.asked in
+      let of_epoch : awaited.proposal.round.epoch ≡ r.epoch = notarized-epoch g f s h all awaited.proposal taken ∙ sym epoch in
+      let same : awaited.proposal.round ≡ r = (λ i. record { epoch = of_epoch i; view = awaited.at i }) in
+      record { notarized = (awaited.proposal, same, taken); first = λ t verdict at judged. awaited.first (t, verdict, at, judged) }

@@ -1,0 +1,313 @@
+-- What follows from the member model, as statements. Each is proved where a function without a body has it as a clause (`laws.rt`): what
+-- stands in no clause there is not proved.
+use Rattle.std.specs.Prelude.{◌≡◌, ◌≢◌, ◌↔◌, IsTrue, ◌⊎◌, ◌≤◌, ◌<◌, ◌+◌, ◌^◌, ◌++◌, ℕ, true, false, List, [], ◌∷◌, Contains, IsSome, Option, Some, nat_lt, if◌then◌else◌, Bool, None, IfSome, map, All}
+use Rattle.simplex_types.specs.declared.attestation.Attestation.{Attestation}
+use Rattle.simplex_types.specs.declared.position.Round.{Round}
+use Rattle.simplex_types.specs.declared.proposal.Proposal.{Proposal}
+use Rattle.simplex_types.specs.declared.scheme.Scheme.{Ghosts}
+use Rattle.simplex_types.specs.Subject.{Statement}
+use Rattle.simplex_certificates.specs.declared.artifact.Artifact.{Artifact}
+use Rattle.simplex_certificates.specs.declared.certificate.Certificate.{Certificate}
+use Rattle.simplex_certificates.specs.declared.nullify.Nullify.{Nullify}
+use Rattle.simplex_certificates.specs.ProposalVote.{Finalize}
+use Rattle.simplex_messages.specs.declared.vote.Vote.{Vote}
+use Rattle.simplex_messages.specs.declared.vote.Vote.TheVariants as vote
+use Rattle.simplex_certificates.specs.Artifact.{certificate_artifact}
+use Rattle.simplex_messages.specs.VoteParts.{vote_artifact}
+use Rattle.simplex_certificates.specs.Certificate.{certificate_statement, certified_by}
+use Rattle.simplex_messages.specs.VoteParts.{vote_round, vote_signer}
+use Rattle.simplex_judging.specs.declared.kind.Kind.{Kind}
+use Rattle.simplex_rules.specs.Windows.{HasExactly}
+use Rattle.simplex_record.specs.Record.{entries, entry}
+use Rattle.simplex_record.specs.Rules.{HasParentBelow, MayFollow, MayJudge}
+use Rattle.simplex_record.specs.Lawful.{IsLawful, IsRefusedAt}
+use Rattle.simplex_record.specs.Chain.{MayFollowOnGround, OneChain}
+use Rattle.simplex_record.specs.World.{World, IsCorrect, IsHonest, IsSound}
+use Rattle.simplex_record.specs.Agreement.{OneProposalAView, NoFinalizedViewNullified, NoFinalizedViewSkipped}
+use Rattle.simplex_batcher.specs.Admission.{IsBlocked}
+use Rattle.simplex_verifier.specs.declared.batch.Batch.{Batch}
+use Rattle.simplex_verifier.specs.Votes.{vote_attestation, vote_statement}
+use Rattle.simplex_verifier.specs.Construction.{HasFailed, IsBatch, IsFounded}
+use Rattle.simplex_verifier.specs.History as votes
+use Rattle.simplex_verifier.specs.Lawful as lawful
+use Rattle.simplex_types.specs.Batching.{AreFailing}
+use Rattle.simplex_verifier.specs.Quorums.{AllCertified}
+use Rattle.simplex_history.specs.History.{scheduled_leader}
+use Rattle.simplex_views.specs.Progress.{InTime}
+use Rattle.simplex_decisions.specs.Ancestry.{held_at}
+use Rattle.simplex_decisions.specs.Due.{NotarizeIsDue}
+use Rattle.simplex_laws.specs.Matching as voter
+use Rattle.simplex_laws.specs.Matching.{IsOrderly, IsBound}
+use Rattle.simplex_journal.specs.Record.{Reads}
+use Rattle.simplex_member.specs.declared.action.Reply.{Reply}
+use Rattle.simplex_member.specs.declared.event.Channel.{Channel}
+use Rattle.simplex_member.specs.declared.event.Event.{Event}
+use Rattle.simplex_member.specs.declared.event.Event.TheVariants as event
+use Rattle.simplex_member.specs.Allowed.{Allowed, RepeatIsDue, VoteIsDue}
+use Rattle.simplex_member.specs.Asked.{IsAwaited}
+use Rattle.simplex_member.specs.declared.refusal.Refusal.{Refusal}
+use Rattle.simplex_member.specs.First.{IsFirst}
+use Rattle.simplex_member.specs.Refusals.{refused_deeds, tests}
+use Rattle.simplex_member.specs.Deeds.{Sends, Blocks, all_deeds}
+use Rattle.simplex_member.specs.Layers.{current_of, finalized_of, is_begun, known_of, stage, voter_of, votes_of, votes_setup}
+use Rattle.simplex_member.specs.Lives.{Life, Lives, Members, AreMembers, IsWorldOfLives, AreFaithful, HandedOut, CameIn, WasHanded}
+use Rattle.simplex_member.specs.Member.{AreOpening, Goes, NoneDue, Run, AreStep, ReadsAs}
+use Rattle.simplex_member.specs.Packet.{Formats, Packet, of_vote, of_certificate, packet_channel}
+use Rattle.simplex_member.specs.Point.{Point, Opened, Began, Constructs, Heard, History}
+use Rattle.simplex_member.specs.Recorded.{record_of, recorded_by}
+use Rattle.simplex_member.specs.Setup.{Setup, IsInTime, owner_of, member_of}
+
+-- payloads that are compared as one are one
+abbrev pub IsExact : {S D P G C : Type 0} → Formats S D P G C → Type 0
+IsExact {D = D} f = (x y : D) → IsTrue (f.same x y) ↔ (x ≡ y)
+
+-- what the model's laws take from those of the votes of a round
+pub record RoundLaws {S D P G C : Type 0} (g : Ghosts S D P G C) (same : D → D → Bool) : Type 0 where
+  pub verdicts : (s : votes.Setup S) (h : votes.History S D P G C) (kind : Kind) (x : Statement D) (failing : List ℕ) → lawful.IsLawful same g.attests s h → votes.context s kind h ≡ Some x
+      → AreFailing (λ i a. g.attests s.scheme i x a) (map vote_attestation (votes.waiting same s kind h)) failing → lawful.IsRight same g.attests s h kind failing
+  pub founded : (s : votes.Setup S) (h : votes.History S D P G C) (kind : Kind) (batch : Batch (Certificate S D P G C)) → lawful.IsLawful same g.attests s h → IsBatch g same s kind h batch → IfSome batch.certificate (IsFounded g s kind h)
+  pub failed : (s : votes.Setup S) (h : votes.History S D P G C) (kind : Kind) (batch : Batch (Certificate S D P G C)) → lawful.IsLawful same g.attests s h → IsBatch g same s kind h batch → All (HasFailed g.attests s kind h) batch.invalid.items
+  pub selected : (s : votes.Setup S) (h : votes.History S D P G C) → lawful.IsLawful same g.attests s h → IfSome (votes.selected h) (λ p. p.round ≡ s.round)
+  pub no_quorum_lost : (s : votes.Setup S) (h : votes.History S D P G C) → s.is_skipped ≡ false → lawful.IsLawful same g.attests s h → votes.next_kind same s h ≡ None → AllCertified g.attests s h
+
+-- each deadline that is counted from a moment early enough has 64 bits
+abbrev pub EarlyIsInTime : {S D C : Type 0} → Setup S D C → Type 0
+EarlyIsInTime s = (now : ℕ) → IsInTime s now → InTime s.voter now × (now + s.voter.timeout_retry < 2 ^ 64)
+
+module _ {S D P G C : Type 0} (g : Ghosts S D P G C) (f : Formats S D P G C) (s : Setup S D C) where
+  -- ---- of one opening
+
+  -- points that are allowed keep a record lawful
+  abbrev pub RecordsStayLawful : Type 0
+  RecordsStayLawful = (h end : History S D P G C) (points : List (Point S D P G C)) → Goes g f s h points end
+      → IsLawful (g.attests s.voter.scheme) (g.certifies s.voter.scheme) (owner_of s) (record_of h)
+      → IsLawful (g.attests s.voter.scheme) (g.certifies s.voter.scheme) (owner_of s) (record_of end)
+
+  -- the record only grows
+  abbrev pub RecordsGrow : Type 0
+  RecordsGrow = (h end : History S D P G C) (points : List (Point S D P G C)) → Goes g f s h points end
+      → (more : List (Artifact S D P G C)) × (record_of end ≡ record_of h ++ more)
+
+  -- a vote that is handed out stands in the record; so a nullify that is sent again has the recorded bytes
+  abbrev pub VotesAreRecorded : Type 0
+  VotesAreRecorded = (h end : History S D P G C) (points : List (Point S D P G C)) (to : Option ℕ) (v : Vote S D P G C) → Goes g f s h points end
+      → Contains (all_deeds g f s h points) (Sends to (of_vote v)) → Contains (record_of end) (vote_artifact v)
+
+  -- a vote was due: it is made now, or the recorded nullify is due once more
+  abbrev pub SendIsDue : History S D P G C → Vote S D P G C → Type 0
+  SendIsDue h v = VoteIsDue g f s h v ⊎ ((w : Nullify S D P G C) × (best : Option (Certificate S D P G C)) × (v ≡ vote.Nullify w) × RepeatIsDue g f s h w best)
+
+  -- at one of these points it was
+  pub record WasDue (h : History S D P G C) (points : List (Point S D P G C)) (v : Vote S D P G C) : Type 0 where
+    pub before : List (Point S D P G C)
+    pub p : Point S D P G C
+    pub behind : List (Point S D P G C)
+    pub split : points ≡ before ++ p ∷ behind
+    pub at : History S D P G C
+    pub reached : Goes g f s h before at
+    pub due : SendIsDue at v
+
+  -- each vote that is handed out was due at the point at which it was made
+  abbrev pub VotesWereDue : Type 0
+  VotesWereDue = (h end : History S D P G C) (points : List (Point S D P G C)) (to : Option ℕ) (v : Vote S D P G C) → Goes g f s h points end
+      → Contains (all_deeds g f s h points) (Sends to (of_vote v)) → WasDue h points v
+
+  -- the current view and the last finalized one never fall
+  abbrev pub ViewsNeverFall : Type 0
+  ViewsNeverFall = (h end : History S D P G C) (points : List (Point S D P G C)) → Goes g f s h points end
+      → (current_of s h ≤ current_of s end) × (finalized_of s h ≤ finalized_of s end)
+
+  -- an empty record is gone through at once
+  abbrev pub EmptyIsOpened : Type 0
+  EmptyIsOpened = (now : ℕ) → IsInTime s now → AreOpening g f s now [] (Opened now ∷ Began ∷ []) × Goes g f s [] (Opened now ∷ Began ∷ []) (Began ∷ Opened now ∷ [])
+
+  -- a run is a stretch of a life
+  abbrev pub RunsAreStretches : Type 0
+  RunsAreStretches = (h end : History S D P G C) (events : List (Event D)) (replies : List (Reply S D P G C)) → Run g f s h events replies end
+      → (points : List (Point S D P G C)) × Goes g f s h points end
+
+  -- how often points raise the current view
+  abbrev pub raises : History S D P G C → List (Point S D P G C) → ℕ
+  raises h [] = 0
+  raises h (p ∷ points) = (if nat_lt (current_of s h) (current_of s (p ∷ h)) then 1 else 0) + raises (p ∷ h) points
+
+  -- a step raises the current view at most as often as there were views whose votes were kept when it began, plus two, in a committee
+  -- of more than one
+  abbrev pub StepsRaiseLittle : Type 0
+  StepsRaiseLittle = (h end : History S D P G C) (points more : List (Point S D P G C)) (e : Event D) (rounds : ℕ) → 1 < g.size s.voter.scheme → Goes g f s [] points h
+      → AreStep g f s h e more → Goes g f s h more end → HasExactly (λ view. IsSome (stage s h view)) rounds → raises h more ≤ rounds + 2
+
+  -- no quorum is lost: where nothing is due, each kind with a valid quorum has its certificate, in each view whose votes are kept
+  abbrev pub NoQuorumIsLost : Type 0
+  NoQuorumIsLost = (h : History S D P G C) (points : List (Point S D P G C)) → Goes g f s [] points h → NoneDue g f s h
+      → (view : ℕ) → stage s h view ≡ Some false → AllCertified g.attests (votes_setup s g h view) (votes_of s h view)
+
+  -- ---- of certificates that are made
+
+  -- a vote that was heard, or an own one that is recorded
+  abbrev pub IsKnownVote : History S D P G C → Vote S D P G C → Type 0
+  IsKnownVote h v = Contains h (Heard v) ⊎ ((vote_signer v ≡ s.me) × Contains (record_of h) (vote_artifact v))
+
+  -- an attestation is that of a known vote that states this
+  pub record IsOfVote (h : History S D P G C) (x : Statement D) (a : Attestation G) : Type 0 where
+    pub vote : Vote S D P G C
+    pub known : IsKnownVote h vote
+    pub attestation_is : vote_attestation vote ≡ a
+    pub states : vote_statement vote ≡ x
+
+  -- each attestation that a made certificate lists is that of a known vote that states what the certificate states
+  abbrev pub MadeListVotes : Type 0
+  MadeListVotes = (h : History S D P G C) (points : List (Point S D P G C)) (view : ℕ) (kind : Kind) (batch : Batch (Certificate S D P G C)) (c : Certificate S D P G C) → Goes g f s [] points h
+      → Allowed g f s h (Constructs view kind batch) → batch.certificate ≡ Some c → (a : Attestation G) → Contains (g.lists (certified_by c)) a → IsOfVote h (certificate_statement c) a
+
+  -- ---- how the layers' words meet, of a history that points led to
+
+  -- the voter's history is orderly once the record was gone through, and says what is recorded
+  abbrev pub VotersAreOrderly : Type 0
+  VotersAreOrderly = (h : History S D P G C) (points : List (Point S D P G C)) → Goes g f s [] points h → h ≢ [] → IsOrderly s.voter (voter_of s h)
+
+  abbrev pub VotersTellTheRecord : Type 0
+  VotersTellTheRecord = (h : History S D P G C) (points : List (Point S D P G C)) → Goes g f s [] points h → voter.record_of s.voter (voter_of s h) ≡ entries (record_of h)
+
+  -- the votes of each view are lawful
+  abbrev pub VotesAreLawful : Type 0
+  VotesAreLawful = (h : History S D P G C) (points : List (Point S D P G C)) (view : ℕ) → Goes g f s [] points h
+      → IsSome (stage s h view) → lawful.IsLawful f.same g.attests (votes_setup s g h view) (votes_of s h view)
+
+  -- a proposal on which a notarize is due was bound to its parent's payload
+  abbrev pub DueIsBound : Type 0
+  DueIsBound = (h : History S D P G C) (points : List (Point S D P G C)) (view : ℕ) (p : Proposal D) → Goes g f s [] points h
+      → NotarizeIsDue (member_of s) (known_of s h) view → held_at (member_of s) (known_of s h) view ≡ Some p → IsBound (member_of s) (known_of s h) view p
+
+  -- what is due may be recorded: so that it may is no condition of its own
+  abbrev pub DueMayBeRecorded : Type 0
+  DueMayBeRecorded = (h : History S D P G C) (points : List (Point S D P G C)) (v : Vote S D P G C) → Goes g f s [] points h
+      → VoteIsDue g f s h v → MayFollow s.voter.length (entries (record_of h)) (entry (vote_artifact v))
+
+  -- of a finalize and of a nullify it is so however payloads are compared; and so it is of a verdict that was asked for
+  abbrev pub DueFinalizeMayBeRecorded : Type 0
+  DueFinalizeMayBeRecorded = (h : History S D P G C) (points : List (Point S D P G C)) (v : Finalize S D P G C) → Goes g f s [] points h
+      → VoteIsDue g f s h (vote.Finalize v) → MayFollow s.voter.length (entries (record_of h)) (entry (vote_artifact (vote.Finalize v)))
+
+  abbrev pub DueNullifyMayBeRecorded : Type 0
+  DueNullifyMayBeRecorded = (h : History S D P G C) (points : List (Point S D P G C)) (v : Nullify S D P G C) → Goes g f s [] points h
+      → VoteIsDue g f s h (vote.Nullify v) → MayFollow s.voter.length (entries (record_of h)) (entry (vote_artifact (vote.Nullify v)))
+
+  abbrev pub AwaitedMayBeRecorded : Type 0
+  AwaitedMayBeRecorded = (h : History S D P G C) (points : List (Point S D P G C)) (r : Round) → Goes g f s [] points h → r.epoch ≡ s.voter.epoch
+      → IsAwaited s h r.view → MayJudge (entries (record_of h)) r
+
+  -- what is recorded, once the record was gone through, stands on ground, in a committee of more than one
+  abbrev pub RecordsStandOnGround : Type 0
+  RecordsStandOnGround = (h : History S D P G C) (points : List (Point S D P G C)) (p : Point S D P G C) (x : Artifact S D P G C) → Goes g f s [] points h
+      → g.size s.voter.scheme ≢ 1 → s.voter.me ≡ Some s.me → Allowed g f s h p → is_begun h ≡ true → recorded_by p ≡ Some x
+      → MayFollowOnGround (g.size s.voter.scheme) s.voter.length (scheduled_leader s.voter) s.me (entries (record_of h)) (entry x)
+
+  -- ---- of disks and lives
+
+  -- an image reads as one record alone: so what an opening finds is what was left, and lives follow one another as `Lives` says
+  abbrev pub OneIsRead : (Artifact S D P G C → Type 0) → Type 0
+  OneIsRead Fits = (h : History S D P G C) (image : List ℕ) (found : List (Artifact S D P G C)) → All Fits (record_of h) → All Fits found
+      → ReadsAs g f s image h → Reads image (map f.artifact found) → found ≡ record_of h
+
+  -- what a life leaves is lawful: an opening never answers that it contradicts
+  abbrev pub LivesLeaveLawful : Type 0
+  LivesLeaveLawful = (lives : List (Life S D P G C)) (left : List (Artifact S D P G C)) → Lives g f s [] lives left
+      → IsLawful (g.attests s.voter.scheme) (g.certifies s.voter.scheme) (owner_of s) left
+
+  abbrev pub NeverContradicts : Type 0
+  NeverContradicts = (lives : List (Life S D P G C)) (left : List (Artifact S D P G C)) (position : ℕ) → Lives g f s [] lives left
+      → ¬ IsRefusedAt (g.attests s.voter.scheme) (g.certifies s.voter.scheme) (owner_of s) left position
+
+-- ---- of worlds
+
+-- what a packet is read as goes by its channel, and of a packet's own bytes nothing else is read than the packet
+pub record AreReadBack {S D P G C : Type 0} (f : Formats S D P G C) : Type 0 where
+  pub by_channel : (by : Channel) (bytes : List ℕ) (x : Packet S D P G C) → f.packet_in by bytes ≡ Some x → packet_channel x ≡ by
+  pub same : (x y : Packet S D P G C) → f.packet_in (packet_channel x) (f.packet x) ≡ Some y → y ≡ x
+
+-- an event is a packet of this sender that holds no vote
+abbrev pub HoldsNoVote : {S D P G C : Type 0} → Formats S D P G C → Event D → ℕ → Type 0
+HoldsNoVote {S} {D} {P} {G} {C} f (event.Packet sender by bytes) j = (sender ≡ j) × ((v : Vote S D P G C) → f.packet_in by bytes.items ≢ Some (of_vote v))
+HoldsNoVote f e j = ⊥
+
+-- a vote is recorded by this member, in its name, and names a parent below, if it names one
+pub record IsOwnAndSound {S D P G C : Type 0} (world : World S D P G C) (j : ℕ) (v : Vote S D P G C) : Type 0 where
+  pub recorded : Contains (world.recorded j) (vote_artifact v)
+  pub signer : vote_signer v ≡ j
+  pub parent_below : HasParentBelow (vote_statement v)
+
+module _ {S D P G C : Type 0} (g : Ghosts S D P G C) (f : Formats S D P G C) where
+  -- the certificates that members recorded are honest
+  abbrev pub RecordedAreHonest : S → Members S D P G C → World S D P G C → Type 0
+  RecordedAreHonest scheme m world = (i : ℕ) → IsCorrect world i → (c : Certificate S D P G C) → Contains (world.recorded i) (certificate_artifact c) → IsHonest (g.attests scheme) g.lists world c
+
+  -- a certificate that was made lists only what came in, or own votes: it is honest as they are
+  abbrev pub MadeAreHonest : Type 0
+  MadeAreHonest = (scheme : S) (m : Members S D P G C) (world : World S D P G C) → IsWorldOfLives g f scheme m world → RecordedAreHonest scheme m world
+
+  -- one proposal a view, no finalized view nullified, none skipped
+  pub record DoAgree (scheme : S) (world : World S D P G C) : Type 0 where
+    pub one_proposal_a_view : OneProposalAView (g.attests scheme) g.lists world
+    pub no_finalized_view_nullified : NoFinalizedViewNullified (g.attests scheme) g.lists world
+    pub no_finalized_view_skipped : NoFinalizedViewSkipped (g.attests scheme) g.lists world
+
+  abbrev pub AgreeIfHonest : Type 0
+  AgreeIfHonest = (scheme : S) (m : Members S D P G C) (world : World S D P G C) → IsWorldOfLives g f scheme m world → RecordedAreHonest scheme m world → DoAgree scheme world
+
+  abbrev pub Agree : Type 0
+  Agree = (scheme : S) (m : Members S D P G C) (world : World S D P G C) → IsWorldOfLives g f scheme m world → DoAgree scheme world
+
+  -- what that speaks of, beside what is recorded: each certificate that came in to a correct member and certifies by its scheme
+  abbrev pub HandedCertificatesAreSound : Type 0
+  HandedCertificatesAreSound = (scheme : S) (m : Members S D P G C) (world : World S D P G C) → IsWorldOfLives g f scheme m world
+      → (i sender : ℕ) → IsCorrect world i → (c : Certificate S D P G C) → CameIn g f scheme m world i sender (of_certificate c)
+      → g.certifies (m.setup i).voter.scheme (certificate_statement c) (certified_by c) → IsSound (g.attests scheme) g.lists world c
+
+  -- finalized views lie on one chain, where all go by one schedule, in a committee of more than one
+  abbrev pub LieOnOneChain : Type 0
+  LieOnOneChain = (scheme : S) (m : Members S D P G C) (world : World S D P G C) (leader : ℕ → Option ℕ) → IsWorldOfLives g f scheme m world → world.size ≢ 1
+      → ((i : ℕ) → IsCorrect world i → (view : ℕ) → scheduled_leader (m.setup i).voter view ≡ leader view) → OneChain (g.attests scheme) g.lists world
+
+  -- each vote that comes in to a correct member by a correct one is its own and sound: it names its signer, is recorded, has its parent below
+  abbrev pub CorrectVotesAreSound : Type 0
+  CorrectVotesAreSound = (scheme : S) (m : Members S D P G C) (world : World S D P G C) → AreMembers g f scheme m world → AreFaithful g f scheme m world
+      → (i j : ℕ) → IsCorrect world i → IsCorrect world j → (v : Vote S D P G C) → CameIn g f scheme m world i j (of_vote v) → IsOwnAndSound world j v
+
+  -- a member's history: each vote that was heard came in by its signer, and what it records the member recorded
+  pub record HasHeard (scheme : S) (m : Members S D P G C) (world : World S D P G C) (i : ℕ) (h : History S D P G C) : Type 0 where
+    pub came : (v : Vote S D P G C) → Contains h (Heard v) → CameIn g f scheme m world i (vote_signer v) (of_vote v)
+    pub recorded : (x : Artifact S D P G C) → Contains (record_of h) x → Contains (world.recorded i) x
+
+  -- no vote that comes in to a correct member by a correct one contradicts what that heard
+  abbrev pub CorrectVotesContradictNone : Type 0
+  CorrectVotesContradictNone = (scheme : S) (m : Members S D P G C) (world : World S D P G C) → AreMembers g f scheme m world → AreFaithful g f scheme m world
+      → (i j : ℕ) → IsCorrect world i → IsCorrect world j → (h : History S D P G C) (points : List (Point S D P G C)) → Goes g f (m.setup i) [] points h → HasHeard scheme m world i h
+      → (v : Vote S D P G C) → CameIn g f scheme m world i j (of_vote v)
+      → ¬ IsBlocked (votes_setup (m.setup i) g h (vote_round v).view) (votes_of (m.setup i) h (vote_round v).view) j v
+
+  -- what attests by one correct member's scheme does by the other's
+  abbrev pub DoAttestAlike : S → Members S D P G C → World S D P G C → Type 0
+  DoAttestAlike scheme m world = (i j : ℕ) → IsCorrect world i → IsCorrect world j → (signer : ℕ) (x : Statement D) (a : G)
+      → g.attests (m.setup j).voter.scheme signer x a → g.attests (m.setup i).voter.scheme signer x a
+
+  -- no construction of a correct member blocks a correct one
+  abbrev pub ConstructionsBlockNone : Type 0
+  ConstructionsBlockNone = (scheme : S) (m : Members S D P G C) (world : World S D P G C) → AreMembers g f scheme m world → AreFaithful g f scheme m world → DoAttestAlike scheme m world
+      → (i j : ℕ) → IsCorrect world i → IsCorrect world j → (h : History S D P G C) (points : List (Point S D P G C)) → Goes g f (m.setup i) [] points h → HasHeard scheme m world i h
+      → (view : ℕ) (kind : Kind) (batch : Batch (Certificate S D P G C)) → Allowed g f (m.setup i) h (Constructs view kind batch) → ¬ Contains batch.invalid.items j
+
+  -- a member refused an event at a history, for which it blocked another
+  pub record IsRefusedFor (scheme : S) (m : Members S D P G C) (world : World S D P G C) (i j : ℕ) : Type 0 where
+    pub e : Event D
+    pub handed : WasHanded g f scheme m world i e
+    pub h : History S D P G C
+    pub heard : HasHeard scheme m world i h
+    pub r : Refusal
+    pub first : IsFirst (tests g f (m.setup i) h e) (Some r)
+    pub blocks : Contains (refused_deeds g f (m.setup i) h e r) (Blocks j)
+
+  -- by a refusal alone a correct member blocks a correct one, of a packet that holds no vote
+  abbrev pub BlockedByRefusalAlone : Type 0
+  BlockedByRefusalAlone = (scheme : S) (m : Members S D P G C) (world : World S D P G C) → AreMembers g f scheme m world → AreFaithful g f scheme m world → DoAttestAlike scheme m world
+      → (i j : ℕ) → IsCorrect world i → IsCorrect world j → HandedOut g f scheme m world i (Blocks j) → (x : IsRefusedFor scheme m world i j) × HoldsNoVote f x.e j

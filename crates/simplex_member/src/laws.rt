@@ -1,0 +1,205 @@
+//! What follows from the member model.
+
+ghost use Rattle.std.specs.Prelude.{◌≡◌};
+ghost use Rattle.simplex_codec.specs.Codec.{Readable};
+ghost use Rattle.simplex_certificates.specs.Artifact.{artifact_fits, artifact_spelling, artifact_within};
+ghost use Rattle.simplex_member.specs.Laws.{Agree, AgreeIfHonest, AreReadBack, AwaitedMayBeRecorded, BlockedByRefusalAlone, ConstructionsBlockNone, CorrectVotesAreSound, CorrectVotesContradictNone, DueFinalizeMayBeRecorded, DueIsBound, DueMayBeRecorded, DueNullifyMayBeRecorded, EarlyIsInTime, EmptyIsOpened, HandedCertificatesAreSound, IsExact, LieOnOneChain, LivesLeaveLawful, MadeAreHonest, MadeListVotes, NeverContradicts, NoQuorumIsLost, OneIsRead, RecordsGrow, RecordsStandOnGround, RecordsStayLawful, RoundLaws, RunsAreStretches, StepsRaiseLittle, ViewsNeverFall, VotersAreOrderly, VotersTellTheRecord, VotesAreLawful, VotesAreRecorded, VotesWereDue};
+ghost use Rattle.simplex_member.specs.Packet.{Formats};
+ghost use Rattle.simplex_member.specs.Setup.{Setup};
+
+use simplex_certificates::Artifact;
+use simplex_journal::a_disk_reads_as_one_record;
+use simplex_laws::{
+    what_is_due_may_be_recorded, what_is_due_stands_on_ground, what_is_known_is_recorded,
+};
+use simplex_record::{
+    agreement, chain, ever_lawful_members_vote_lawfully, records_stand_on_ground as ground,
+    whole_records_are_ever_lawful,
+};
+use simplex_types::{Digest, Listing, Scheme};
+use simplex_verifier::{
+    batches_rest_on_accepted_votes, no_quorum_is_lost as no_quorum_of_a_round_is_lost,
+    verdicts_on_attestations_are_right, votes_are_of_the_round,
+};
+
+/// What the laws below take from those of the votes of a round.
+pub(crate) fn rounds_obey<S: Scheme<D>, D: Digest>()
+    ensures { (f : Formats S D S.PublicKey S.Signature S.Certificate) → IsExact f → RoundLaws S.Scheme f.same }
+{
+    verdicts_on_attestations_are_right::<S, D>();
+    batches_rest_on_accepted_votes::<S, D>();
+    votes_are_of_the_round::<S, D>();
+    no_quorum_of_a_round_is_lost::<S, D>();
+}
+
+/// Points that are allowed keep a record lawful.
+pub fn records_stay_lawful<S: Scheme<D>, D: Digest>()
+    ensures { (f : Formats S D S.PublicKey S.Signature S.Certificate) (s : Setup S D S.Certificate) → RecordsStayLawful S.Scheme f s }
+{}
+
+/// A record only grows.
+pub fn records_grow<S: Scheme<D>, D: Digest>()
+    ensures { (f : Formats S D S.PublicKey S.Signature S.Certificate) (s : Setup S D S.Certificate) → RecordsGrow S.Scheme f s }
+{}
+
+/// What a member's lives leave is lawful.
+pub fn lives_leave_lawful<S: Scheme<D>, D: Digest>()
+    ensures { (f : Formats S D S.PublicKey S.Signature S.Certificate) (s : Setup S D S.Certificate) → LivesLeaveLawful S.Scheme f s }
+{}
+
+/// No opening of what a member's lives left finds that it contradicts.
+pub fn never_contradicts<S: Scheme<D>, D: Digest>()
+    ensures { (f : Formats S D S.PublicKey S.Signature S.Certificate) (s : Setup S D S.Certificate) → NeverContradicts S.Scheme f s }
+{}
+
+/// An empty record is opened at any moment that lies early enough.
+pub fn empty_records_are_opened<S: Scheme<D>, D: Digest>()
+    ensures { (f : Formats S D S.PublicKey S.Signature S.Certificate) (s : Setup S D S.Certificate) → EmptyIsOpened S.Scheme f s }
+{}
+
+/// Each deadline that is counted from a moment early enough has a number of 64 bits.
+pub fn early_moments_are_in_time<S: Scheme<D>, D: Digest>()
+    ensures { (s : Setup S D S.Certificate) → EarlyIsInTime s }
+{}
+
+/// An image of a disk reads as one record alone: so what an opening finds is what was left.
+pub fn one_record_is_read<S: Scheme<D>, D: Digest>()
+    ensures { (f : Formats S D S.PublicKey S.Signature S.Certificate) (s : Setup S D S.Certificate) → f.artifact ≡ artifact_spelling D.spelling S.Signature.spelling S.Certificate.spelling → OneIsRead S.Scheme f s (Readable (artifact_fits D.fits S.Signature.fits S.Certificate.fits) (artifact_within (S.Certificate.within 65535))) }
+{
+    a_disk_reads_as_one_record::<Artifact<S, D>>();
+}
+
+/// A vote that is handed out stands in the record, and was due when it was made.
+pub fn votes_are_recorded<S: Scheme<D>, D: Digest>()
+    ensures due { (f : Formats S D S.PublicKey S.Signature S.Certificate) (s : Setup S D S.Certificate) → VotesWereDue S.Scheme f s }
+    ensures recorded { (f : Formats S D S.PublicKey S.Signature S.Certificate) (s : Setup S D S.Certificate) → VotesAreRecorded S.Scheme f s }
+{}
+
+/// A step raises the current view at most as often as there were views whose votes were kept when it began,
+/// plus two: once by the event, and once by each view of which votes were heard. In a committee of more than
+/// one; a member alone makes certificates of its own votes.
+pub fn steps_raise_little<S: Listing<D>, D: Digest>()
+    ensures { (f : Formats S D S.PublicKey S.Signature S.Certificate) (s : Setup S D S.Certificate) → IsExact f → StepsRaiseLittle S.Scheme f s }
+{
+    rounds_obey::<S, D>();
+}
+
+/// The current view and the last finalized one never fall.
+pub fn views_never_fall<S: Scheme<D>, D: Digest>()
+    ensures { (f : Formats S D S.PublicKey S.Signature S.Certificate) (s : Setup S D S.Certificate) → ViewsNeverFall S.Scheme f s }
+{}
+
+/// A run is a stretch of a life.
+pub fn runs_are_stretches<S: Scheme<D>, D: Digest>()
+    ensures { (f : Formats S D S.PublicKey S.Signature S.Certificate) (s : Setup S D S.Certificate) → RunsAreStretches S.Scheme f s }
+{}
+
+/// The voter's part of a history is orderly, so that the voter's laws hold of it.
+pub fn voters_are_orderly<S: Scheme<D>, D: Digest>()
+    ensures { (f : Formats S D S.PublicKey S.Signature S.Certificate) (s : Setup S D S.Certificate) → VotersAreOrderly S.Scheme f s }
+{}
+
+/// The voter's part of a history says what the node records.
+pub fn voters_tell_the_record<S: Scheme<D>, D: Digest>()
+    ensures { (f : Formats S D S.PublicKey S.Signature S.Certificate) (s : Setup S D S.Certificate) → VotersTellTheRecord S.Scheme f s }
+{}
+
+/// A proposal on which a notarize is due was bound to its parent's payload.
+pub fn due_is_bound<S: Scheme<D>, D: Digest>()
+    ensures { (f : Formats S D S.PublicKey S.Signature S.Certificate) (s : Setup S D S.Certificate) → IsExact f → DueIsBound S.Scheme f s }
+{
+    rounds_obey::<S, D>();
+}
+
+/// Each vote that is due may be recorded, whatever else is asked of what is recorded; and so may a verdict
+/// that was asked for.
+pub fn due_may_be_recorded<S: Scheme<D>, D: Digest>()
+    ensures finalize { (f : Formats S D S.PublicKey S.Signature S.Certificate) (s : Setup S D S.Certificate) → DueFinalizeMayBeRecorded S.Scheme f s }
+    ensures nullify { (f : Formats S D S.PublicKey S.Signature S.Certificate) (s : Setup S D S.Certificate) → DueNullifyMayBeRecorded S.Scheme f s }
+    ensures verdict { (f : Formats S D S.PublicKey S.Signature S.Certificate) (s : Setup S D S.Certificate) → AwaitedMayBeRecorded S.Scheme f s }
+    ensures votes { (f : Formats S D S.PublicKey S.Signature S.Certificate) (s : Setup S D S.Certificate) → IsExact f → DueMayBeRecorded S.Scheme f s }
+{
+    rounds_obey::<S, D>();
+    what_is_known_is_recorded::<S, D>();
+    what_is_due_may_be_recorded::<S, D>();
+}
+
+/// What a member of a committee of more than one records stands on ground: a notarize for a term's start on
+/// an explicit parent, unless a schedule names this member for it, and a true verdict inside a term too.
+pub fn records_stand_on_ground<S: Scheme<D>, D: Digest>()
+    ensures { (f : Formats S D S.PublicKey S.Signature S.Certificate) (s : Setup S D S.Certificate) → IsExact f → RecordsStandOnGround S.Scheme f s }
+{
+    rounds_obey::<S, D>();
+    what_is_known_is_recorded::<S, D>();
+    what_is_due_stands_on_ground::<D>();
+}
+
+/// The votes of each view that is kept are lawful.
+pub fn votes_are_lawful<S: Scheme<D>, D: Digest>()
+    ensures { (f : Formats S D S.PublicKey S.Signature S.Certificate) (s : Setup S D S.Certificate) → IsExact f → VotesAreLawful S.Scheme f s }
+{
+    rounds_obey::<S, D>();
+}
+
+/// No quorum is lost: where nothing is due, each kind with a valid quorum has its certificate.
+pub fn no_quorum_is_lost<S: Scheme<D>, D: Digest>()
+    ensures { (f : Formats S D S.PublicKey S.Signature S.Certificate) (s : Setup S D S.Certificate) → IsExact f → NoQuorumIsLost S.Scheme f s }
+{
+    rounds_obey::<S, D>();
+}
+
+/// Each attestation that a made certificate lists is that of a vote that was heard, or of an own one that is
+/// recorded, which states what the certificate states.
+pub fn made_certificates_list_votes<S: Scheme<D>, D: Digest>()
+    ensures { (f : Formats S D S.PublicKey S.Signature S.Certificate) (s : Setup S D S.Certificate) → IsExact f → MadeListVotes S.Scheme f s }
+{
+    rounds_obey::<S, D>();
+}
+
+/// The law of agreement for members that live by their nodes, over openings, events and crashes of any kind.
+/// It speaks of each certificate that one of them recorded, and of each that came in to one of them and
+/// certifies: those that are made are honest, as what came in is.
+pub fn agreement_of_lives<S: Listing<D>, D: Digest>()
+    ensures agree { (f : Formats S D S.PublicKey S.Signature S.Certificate) → AgreeIfHonest S.Scheme f }
+    ensures handed { (f : Formats S D S.PublicKey S.Signature S.Certificate) → HandedCertificatesAreSound S.Scheme f }
+    ensures made { (f : Formats S D S.PublicKey S.Signature S.Certificate) → IsExact f → MadeAreHonest S.Scheme f }
+    ensures all_agree { (f : Formats S D S.PublicKey S.Signature S.Certificate) → IsExact f → Agree S.Scheme f }
+{
+    rounds_obey::<S, D>();
+    whole_records_are_ever_lawful::<S, D>();
+    ever_lawful_members_vote_lawfully::<S, D>();
+    agreement::<S, D>();
+}
+
+/// From each finalized proposal the parents lead down to each that is finalized of a view no higher, in a
+/// committee of more than one whose members live by their nodes and go by one schedule of leaders.
+pub fn finalized_views_lie_on_one_chain<S: Listing<D>, D: Digest>()
+    ensures { (f : Formats S D S.PublicKey S.Signature S.Certificate) → IsExact f → LieOnOneChain S.Scheme f }
+{
+    rounds_obey::<S, D>();
+    whole_records_are_ever_lawful::<S, D>();
+    ever_lawful_members_vote_lawfully::<S, D>();
+    chain::<S, D>();
+    ground::<D>();
+    what_is_known_is_recorded::<S, D>();
+    what_is_due_stands_on_ground::<D>();
+}
+
+/// A vote that comes in to a correct member by a correct one is one that this recorded: it names its signer,
+/// and has its parent below. So it is refused for neither; nor does it contradict what was heard, nor fail
+/// where it is judged by a scheme that attests alike.
+pub fn correct_votes_are_sound<S: Scheme<D>, D: Digest>()
+    ensures sound { (f : Formats S D S.PublicKey S.Signature S.Certificate) → AreReadBack f → CorrectVotesAreSound S.Scheme f }
+    ensures no_contradiction { (f : Formats S D S.PublicKey S.Signature S.Certificate) → AreReadBack f → CorrectVotesContradictNone S.Scheme f }
+    ensures none_invalid { (f : Formats S D S.PublicKey S.Signature S.Certificate) → IsExact f → AreReadBack f → ConstructionsBlockNone S.Scheme f }
+{
+    rounds_obey::<S, D>();
+}
+
+/// A correct member blocks a correct one by a refusal alone, of a packet that holds no vote, and never by a
+/// construction.
+pub fn blocked_by_refusal_alone<S: Scheme<D>, D: Digest>()
+    ensures { (f : Formats S D S.PublicKey S.Signature S.Certificate) → IsExact f → AreReadBack f → BlockedByRefusalAlone S.Scheme f }
+{
+    rounds_obey::<S, D>();
+}
