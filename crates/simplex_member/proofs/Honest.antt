@@ -17,7 +17,7 @@ use Rattle.simplex_certificates.specs.Artifact.{certificate_artifact}
 use Rattle.simplex_messages.specs.VoteParts.{vote_artifact}
 use Rattle.simplex_certificates.specs.Certificate.{certificate_statement, certified_by}
 use Rattle.simplex_record.specs.declared.owner.Owner.{Owner}
-use Rattle.simplex_record.specs.Record.{Entry, entry, entries, voted, HasVoted}
+use Rattle.simplex_record.specs.Record.{Entry, entry, entries, HasVoted}
 use Rattle.simplex_record.specs.World.{World, IsCorrect, IsHonest}
 use Rattle.simplex_verifier.specs.Votes.{vote_attestation, vote_statement}
 use Rattle.simplex_member.specs.declared.event.Event.{Event}

@@ -1,38 +1,34 @@
 -- A certificate that is made lists attestations of votes that were heard, or are recorded, that state what it states.
-use Rattle.std.proofs.Common.{◌≡◌, ◌⊎◌, inl, inr, ⊎_elim, ℕ, ◌≤◌, ◌==◌, ◌||◌, Bool, true, false, not, List, [], ◌∷◌, ◌++◌, map, length, slice_index_or, Option, Some, None, refl, sym, ◌∙◌, ap, subst, arith}
-use Rattle.std.specs.Prelude.{All, Contains, IsTrue, ◌↔◌, ◌<◌, IfSome, MatchBool, MatchOption, filter, if◌then◌else◌, nat_lt, option_map}
+use Rattle.std.proofs.Common.{◌≡◌, ◌⊎◌, inl, inr, ⊎_elim, ℕ, ◌==◌, Bool, true, false, List, [], ◌∷◌, Option, Some, None, refl, sym, ◌∙◌, ap, subst, arith}
+use Rattle.std.specs.Prelude.{Contains, IfSome, if◌then◌else◌}
 use Rattle.std.proofs.lemmas.Bool.{eqb-true}
 use Rattle.std.proofs.lemmas.Option.{none-some}
-use Rattle.std.proofs.lemmas.List.Elements.{All-contains, All-contains_itself, All-filter, All-nil, All-same, Contains-append_cases, filter_passes}
 use Rattle.simplex_committee.specs.Counting.{Contains-cases, Contains-head, Contains-rest}
-use Rattle.simplex_types.specs.declared.attestation.Attestation.{Attestation}
 use Rattle.simplex_types.specs.declared.position.Round.{Round}
 use Rattle.simplex_types.specs.declared.scheme.Scheme.{Ghosts}
-use Rattle.simplex_types.specs.Subject.{Statement}
 use Rattle.simplex_certificates.specs.declared.artifact.Artifact.TheVariants as artifact
 use Rattle.simplex_certificates.specs.declared.certificate.Certificate.{Certificate}
 use Rattle.simplex_certificates.specs.declared.certificate.Certificate.TheVariants as certificate
 use Rattle.simplex_messages.specs.declared.vote.Vote.{Vote}
 use Rattle.simplex_messages.specs.declared.vote.Vote.TheVariants as vote
 use Rattle.simplex_messages.specs.VoteParts.{vote_artifact}
-use Rattle.simplex_certificates.specs.Certificate.{certificate_round, certificate_statement, certified_by}
+use Rattle.simplex_certificates.specs.Certificate.{certificate_round}
 use Rattle.simplex_messages.specs.VoteParts.{vote_round, vote_signer}
 use Rattle.simplex_record.specs.Record.{entry, voted}
 use Rattle.simplex_judging.specs.declared.kind.Kind.{Kind}
-use Rattle.simplex_judging.specs.Judging.{IsWhole, is_among, without}
 use Rattle.simplex_verifier.specs.declared.batch.Batch.{Batch}
-use Rattle.simplex_verifier.specs.Votes.{is_kind, vote_attestation, vote_kind, vote_statement}
+use Rattle.simplex_verifier.specs.Votes.{vote_attestation, vote_statement}
 use Rattle.simplex_verifier.specs.History as votes
 use Rattle.simplex_verifier.specs.History.{Taken, Cast, Certified, Led, Judged, Forwarded, accepted, context, is_candidate, is_complete, is_ready, selected, verified, vote_in, waiting}
-use Rattle.simplex_verifier.specs.Construction.{IsBatch, IsCertificateOn, IsOfVerified, IsOfWaiting, after}
+use Rattle.simplex_verifier.specs.Construction.{after}
 use Rattle.simplex_member.specs.Allowed.{Allowed, AreAllowed, MayRecord}
-use Rattle.simplex_member.specs.Laws.{IsOfVote, IsKnownVote}
-use Rattle.simplex_member.specs.Layers.{all_votes, floor_of, votes_of, votes_setup}
+use Rattle.simplex_member.specs.Laws.{IsKnownVote}
+use Rattle.simplex_member.specs.Layers.{all_votes}
 use Rattle.simplex_member.specs.Packet.{Formats}
 use Rattle.simplex_member.specs.Point.{Point, Found, Heard, Came, Constructs, Leads, Forwards, Votes, History}
 use Rattle.simplex_member.specs.Recorded.{record_of, recorded_by}
 use Rattle.simplex_member.specs.Setup.{Setup}
-use Rattle.simplex_member.proofs.Lists.{Contains-mapped, if-some, put-before, put-here, some-is}
+use Rattle.simplex_member.proofs.Lists.{if-some, put-before, put-here, some-is}
 
 -- a round is its epoch and its view
 pub round-of : (r : Round) (epoch view : ℕ) → r.epoch ≡ epoch → r.view ≡ view → r ≡ record { epoch = epoch; view = view }

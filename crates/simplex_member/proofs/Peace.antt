@@ -1,12 +1,9 @@
 -- No correct member contradicts itself to another.
-use Rattle.std.proofs.Common.{◌≡◌, ◌⊎◌, inl, inr, ⊎_elim, ℕ, Bool, true, false, List, [], ◌∷◌, ◌++◌, map, Option, Some, None, refl, sym, ◌∙◌, ap, subst, arith}
-use Rattle.std.specs.Prelude.{◌||◌, Contains, MatchBool, MatchOption, find, if◌then◌else◌, nat_lt}
+use Rattle.std.proofs.Common.{◌≡◌, ◌⊎◌, inl, inr, ⊎_elim, ℕ, Bool, true, false, List, [], ◌∷◌, ◌++◌, Option, Some, None, refl, sym, ◌∙◌, ap, subst, arith}
+use Rattle.std.specs.Prelude.{Contains, MatchOption, find, if◌then◌else◌, nat_lt}
 use Rattle.std.proofs.lemmas.Option.{none-some}
 use Rattle.std.proofs.lemmas.List.Elements.{All-contains}
 use Rattle.simplex_committee.specs.Counting.{Contains-cases, Contains-head, Contains-rest}
-use Rattle.simplex_types.specs.Batching.{FailsIn}
-use Rattle.simplex_types.specs.Subject.{Statement}
-use Rattle.simplex_types.specs.declared.attestation.Attestation.{Attestation}
 use Rattle.simplex_types.specs.declared.position.Round.{Round}
 use Rattle.simplex_types.specs.declared.scheme.Scheme.{Ghosts}
 use Rattle.simplex_certificates.specs.declared.artifact.Artifact.{Artifact}
@@ -27,7 +24,7 @@ use Rattle.simplex_verifier.specs.declared.batch.Batch.{Batch}
 use Rattle.simplex_verifier.specs.Construction.{HasFailed}
 use Rattle.simplex_record.specs.World.{World, IsCorrect}
 use Rattle.simplex_verifier.specs.Votes.{is_in_way, vote_attestation, vote_kind, vote_statement}
-use Rattle.simplex_verifier.specs.History.{accepted, is_complete, is_kept_in_full, is_ready, recorded, waiting}
+use Rattle.simplex_verifier.specs.History.{accepted, is_kept_in_full, recorded}
 use Rattle.simplex_member.specs.Allowed.{Allowed, AreAllowed}
 use Rattle.simplex_member.specs.Laws.{AreReadBack, DoAttestAlike, HasHeard, IsKnownVote, IsOwnAndSound, RoundLaws}
 use Rattle.simplex_member.specs.Layers.{all_votes, floor_of, stage, votes_of, votes_setup}
@@ -40,7 +37,7 @@ use Rattle.simplex_member.proofs.Blame.{came-sound, splits}
 use Rattle.simplex_member.proofs.Going.{Lawful}
 use Rattle.simplex_member.proofs.Listed.{accepted-known, kept-only, signer-of, vote-entry}
 use Rattle.simplex_member.proofs.Living.{all-lives-lawful}
-use Rattle.simplex_member.proofs.Lists.{Contains-map, Contains-mapped, some-is}
+use Rattle.simplex_member.proofs.Lists.{Contains-map, some-is}
 
 -- what is found stands there, and passes
 find-there : {X : Type 0} (p : X → Bool) (xs : List X) (x : X) → find p xs ≡ Some x → Contains xs x × (p x ≡ true)
