@@ -1,6 +1,7 @@
 pub mod Alone
 pub mod Lasting
 pub mod Matching
+pub mod Missing
 pub mod Placing
 pub mod Recording
 pub mod Stepping

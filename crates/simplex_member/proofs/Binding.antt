@@ -20,7 +20,7 @@ use Rattle.simplex_history.specs.Leaders.{leader}
 use Rattle.simplex_decisions.specs.Ancestry.{held_at}
 use Rattle.simplex_decisions.specs.Due.{NotarizeIsDue}
 use Rattle.simplex_laws.specs.Matching.{IsBound}
-use Rattle.simplex_voter.specs.Building.{proposal_on}
+use Rattle.simplex_decisions.specs.Building.{proposal_on}
 use Rattle.simplex_verifier.specs.History as votes
 use Rattle.simplex_verifier.specs.History.{forwardable, has_forwarded, is_another, leader_of, selected}
 use Rattle.simplex_member.specs.Allowed.{Allowed, AreAllowed}

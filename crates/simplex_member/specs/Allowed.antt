@@ -27,8 +27,8 @@ use Rattle.simplex_decisions.specs.Answers.{best_certificate}
 use Rattle.simplex_decisions.specs.Due.{NotarizeIsDue, FinalizeIsDue, NullifyIsDue, MayLatch}
 use Rattle.simplex_decisions.specs.Requests.{BuildIsDue, IsHandoff, IsCaptured, IsSuperseded, StopsHandoff, VerifyIsDue, IsInvalid, CertifyIsDue, IsPutOff, CertificateIsWanted}
 use Rattle.simplex_history.specs.declared.handoff_abandoned_reason.HandoffAbandonedReason.{HandoffAbandonedReason}
-use Rattle.simplex_voter.specs.Building.{IsContextOf, proposal_on}
-use Rattle.simplex_voter.specs.Verifying.{IsMissing, IsKeyOfLeader}
+use Rattle.simplex_decisions.specs.Building.{IsContextOf, IsKeyOfLeader, proposal_on}
+use Rattle.simplex_laws.specs.Missing.{IsMissing}
 use Rattle.simplex_verifier.specs.Votes.{vote_statement}
 use Rattle.simplex_verifier.specs.History.{forwardable, leader_of, next_kind, takes}
 use Rattle.simplex_verifier.specs.Construction.{IsBatch}

@@ -19,7 +19,7 @@ use Rattle.simplex_history.specs.History as views
 use Rattle.simplex_history.specs.History.{started, notarized, nullified, finalized, judged, forwarded, built, confirmed, unbound, latched, build_asked, build_released, verify_asked, ancestry_asked, certify_asked, certify_waited, voted_notarize, voted_nullify, voted_finalize, polled, pruned, current, last_finalized, min_active}
 use Rattle.simplex_history.specs.Known.{Known, known}
 use Rattle.simplex_views.specs.Views.{recalls}
-use Rattle.simplex_voter.specs.Building.{proposal_on}
+use Rattle.simplex_decisions.specs.Building.{proposal_on}
 use Rattle.simplex_verifier.specs.History as votes
 use Rattle.simplex_verifier.specs.History.{Taken, Cast, Certified, Led, Forwarded}
 use Rattle.simplex_verifier.specs.Construction.{after}

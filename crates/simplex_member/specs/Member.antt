@@ -12,7 +12,7 @@ use Rattle.simplex_history.specs.History.{latched, seen}
 use Rattle.simplex_history.specs.Leaders.{leader}
 use Rattle.simplex_decisions.specs.Due.{NotarizeIsDue, FinalizeIsDue, NullifyIsDue, MayLatch}
 use Rattle.simplex_decisions.specs.Requests.{NoBuildIsDue, VerifyIsDue, CertifyIsDue, IsPutOff}
-use Rattle.simplex_voter.specs.Verifying.{IsMissing}
+use Rattle.simplex_laws.specs.Missing.{IsMissing}
 use Rattle.simplex_verifier.specs.History.{forwardable, leader_of, next_kind}
 use Rattle.simplex_resolver.specs.declared.ask.Ask.{Ask}
 use Rattle.simplex_resolver.specs.declared.ask.Kind as repair

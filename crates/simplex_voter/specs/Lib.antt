@@ -1,4 +1,3 @@
-pub mod Building
 pub mod Candidates
 pub mod Floor
 pub mod Known

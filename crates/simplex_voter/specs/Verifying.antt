@@ -1,18 +1,18 @@
 -- What a voter asks for, to judge the proposals of others.
-use Rattle.std.specs.Prelude.{◌≡◌, ◌⊎◌, ◌<◌, ◌∷◌, ℕ, List, Some}
+use Rattle.std.specs.Prelude.{◌≡◌, ◌⊎◌, ◌<◌, ◌∷◌, ℕ, List}
 use Rattle.simplex_types.specs.declared.context.Context.{Context}
 use Rattle.simplex_types.specs.declared.proposal.Proposal.{Proposal}
 use Rattle.simplex_types.specs.declared.scheme.Scheme.{Ghosts}
 use Rattle.simplex_rules.specs.declared.elector.Elector as elector
 use Rattle.simplex_rules.specs.Windows.{AdmitsOutbound}
 use Rattle.simplex_resolver.specs.declared.ask.Kind.{Kind}
-use Rattle.simplex_resolver.specs.declared.ask.Kind.TheVariants as kind
 use Rattle.simplex_history.specs.declared.timeout_reason.TimeoutReason.TheVariants as reason
 use Rattle.simplex_history.specs.History.{Setup, Point, ancestry_asked, current, latched, verify_asked}
 use Rattle.simplex_history.specs.Known.{Known, known}
-use Rattle.simplex_history.specs.Leaders.{leader}
 use Rattle.simplex_decisions.specs.Ancestry.{Member, member}
-use Rattle.simplex_decisions.specs.Requests.{AsksNothing, IsInvalid, IsPassed, NotarizationIsWanted, NullificationIsWanted, Scanned, VerifyIsDue}
+use Rattle.simplex_decisions.specs.Building.{IsKeyOfLeader}
+use Rattle.simplex_decisions.specs.Requests.{AsksNothing, IsInvalid, IsPassed, Scanned, VerifyIsDue}
+use Rattle.simplex_laws.specs.Missing.{IsMissing}
 use Rattle.simplex_voter.specs.declared.state.State.{State}
 use Rattle.simplex_voter.specs.declared.verify.Verify.{Verify}
 use Rattle.simplex_voter.specs.declared.verify.Verify.TheVariants as verify
@@ -21,23 +21,12 @@ use Rattle.simplex_voter.specs.declared.wanted.Wanted.TheVariants as wanted
 use Rattle.simplex_voter.specs.State.{Keeps}
 
 module _ {D : Type 0} (m : Member) (k : Known D) (view : ℕ) where
-  -- the certificate of this kind and view is to be asked for, without which the view's proposal can't be verified
-  abbrev pub IsMissing : Kind → ℕ → Type 0
-  IsMissing kind.Nullification u = (p : Proposal D) × NullificationIsWanted m k view p u
-  IsMissing kind.Notarization u = (p : Proposal D) × NotarizationIsWanted m k view p × (p.parent ≡ u)
-
   -- this is to be asked for the view's proposal
   abbrev pub IsWanted : Wanted D → Type 0
   IsWanted (wanted.Verification p payload) = VerifyIsDue m k view p payload
   IsWanted (wanted.Certificate what u) = IsMissing what u
 
 module _ {S D P G C : Type 0} where
-  -- the key of the member that leads the view
-  pub record IsKeyOfLeader (g : Ghosts S D P G C) (s : Setup S C) (h : List (Point S D P G C)) (view : ℕ) (key : P) : Type 0 where
-    pub index : ℕ
-    pub known : leader s h view ≡ Some index
-    pub names : key ≡ g.key_of s.scheme index
-
   -- behind a look at the views from the current one on, which came to this view, this holds of where it led
   pub record BehindLook (s : Setup S C) (now : ℕ) (h : List (Point S D P G C)) (view : ℕ) (Q : List (Point S D P G C) → Type 0) : Type 0 where
     pub end : List (Point S D P G C)

@@ -5,9 +5,8 @@ ghost use Rattle.simplex_rules.specs.Windows.{AdmitsOutbound};
 ghost use Rattle.simplex_history.specs.History.{build_asked, current};
 ghost use Rattle.simplex_history.specs.Known.{known};
 ghost use Rattle.simplex_decisions.specs.Ancestry.{member};
-ghost use Rattle.simplex_decisions.specs.Building.{IsPrepared, context_of};
+ghost use Rattle.simplex_decisions.specs.Building.{IsContextOf, IsPrepared, context_of};
 ghost use Rattle.simplex_decisions.specs.Requests.{BuildIsDue, IsFirstBuild, IsHandoff, NoBuildIsDue};
-ghost use Rattle.simplex_voter.specs.Building.{IsContextOf};
 ghost use Rattle.simplex_voter.specs.State.{AtEach, Keeps};
 
 use crate::state::State;

@@ -7,7 +7,8 @@ ghost use Rattle.simplex_decisions.specs.Ancestry.{member};
 ghost use Rattle.simplex_decisions.specs.Asking.{Finds};
 ghost use Rattle.simplex_voter.specs.Resuming.{AnswersFrom, BehindLookFrom, IsFrom, PassesFrom, first_looked};
 ghost use Rattle.simplex_voter.specs.State.{AtEach, Keeps};
-ghost use Rattle.simplex_voter.specs.Verifying.{Answers, Asks, IsKeyOfLeader, IsWanted, Passes};
+ghost use Rattle.simplex_decisions.specs.Building.{IsKeyOfLeader};
+ghost use Rattle.simplex_voter.specs.Verifying.{Answers, Asks, IsWanted, Passes};
 
 use crate::state::State;
 use crate::verify::Verify;

@@ -8,7 +8,7 @@ use Rattle.simplex_history.specs.Held.{Agrees, held}
 use Rattle.simplex_history.specs.Past.{has_nullified, offers}
 use Rattle.simplex_history.specs.History.{built, seen}
 use Rattle.simplex_views.specs.Views as above
-use Rattle.simplex_voter.specs.Building.{proposal_on}
+use Rattle.simplex_decisions.specs.Building.{proposal_on}
 use Rattle.simplex_voter.specs.State.{Keeps}
 use Rattle.simplex_voter.proofs.Keeping.{keeps_owed_if}
 use Rattle.simplex_voter.proofs.Owing.{owed_more, owed_still, owed_there}
