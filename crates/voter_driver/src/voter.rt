@@ -7,6 +7,7 @@ mod asking;
 mod knowing;
 mod learning;
 mod looking;
+mod owing;
 mod voting;
 
 use crate::setup::Setup;

@@ -9,7 +9,10 @@ use simplex_types::{PlainKey, Proposal, Scheme, Sha256Digest};
 use simplex_voter::{CertificateFetch, Verify};
 
 /// Says what is asked for, to judge the proposals of others.
-fn wanted(say: &mut Say, wanted: &Verify<Sha256Digest, PlainKey>) -> Result<(), Trouble> {
+pub(super) fn wanted(
+    say: &mut Say,
+    wanted: &Verify<Sha256Digest, PlainKey>,
+) -> Result<(), Trouble> {
     match wanted {
         Verify::Ready(context, proposal) => {
             say.text("Ready ")?;

@@ -81,7 +81,7 @@ impl<S: Committee + Scheme<Sha256Digest, PublicKey = PlainKey>, L: Elector<S, Sh
             }
             "next_timeout" => timeout(say, self.state.next_timeout(last_number(words)?)?),
             "trigger_timeout" => self.latched(words, say),
-            _ => Err(Trouble::Unreadable),
+            _ => self.owed(name, words, say),
         }
     }
 
