@@ -18,7 +18,7 @@ use Rattle.simplex_journal.specs.Journal.{Standing, IsRecord, IsTooLong}
 use Rattle.simplex_journal.specs.Record.{Reads, IsWithOrWithout, IsReopened, IsForeign, end_of}
 use Rattle.simplex_journal.specs.History.{Begun, message_of, IsUnacknowledged, last_found, begun, IsFollowed, MayFind, MayRead, AtEachEvent, IsPastTheEnd, IsTrueOf, Finds, Leaves, Recalls, Remembers, IsAnswer, is_open, all_begun, disk_of, Stands}
 use Rattle.simplex_journal.specs.Moments.{started, weaker, at_last}
-use Rattle.simplex_journal.proofs.Images.{end_short, only_synced, reads_front}
+use Rattle.simplex_journal.specs.Images.{end_short, only_synced, reads_front}
 use Rattle.simplex_journal.proofs.Reopened.{reopened_here}
 use Rattle.simplex_journal.specs.OneReading.{unique, spellings-one}
 use Rattle.simplex_journal.proofs.Refusals.{entries_long, foreign_again, never_foreign}

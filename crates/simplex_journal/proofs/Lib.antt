@@ -1,9 +1,5 @@
-pub mod Lists
-pub mod Images
 pub mod Stages
 pub mod Repairing
-pub mod Finding
-pub mod Total
 pub mod Reopened
 pub mod Held
 pub mod Refusals

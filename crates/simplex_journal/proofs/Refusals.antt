@@ -4,9 +4,9 @@ use Rattle.std.specs.Prelude.{All}
 use Rattle.std.proofs.lemmas.List.Elements.{All-head, All-tail}
 use Rattle.simplex_codec.specs.Codec.{SpellsNone}
 use Rattle.simplex_journal.specs.Record.{HasEntry, AreEntries, Reads, IsLeft, IsForeign, end_of}
-use Rattle.simplex_journal.proofs.Finding.{left_first}
+use Rattle.simplex_journal.specs.Finding.{left_first}
 use Rattle.simplex_journal.specs.OneReading.{next_of, unique}
-use Rattle.simplex_journal.proofs.Total.{reads_any, reads_next}
+use Rattle.simplex_journal.specs.Total.{reads_any, reads_next}
 
 -- entries are as long as their end says
 pub entries_long : (front : List ℕ) (bodies : List (List ℕ)) → AreEntries front bodies → length front ≡ end_of bodies

@@ -2,16 +2,11 @@
 use Rattle.std.proofs.Common.{◌≡◌, inl, inr, ⊎_elim, ℕ, ◌+◌, ◌<◌, List, [], ◌∷◌, ◌++◌, length, sym, ◌∙◌, ap, subst, arith, length-append}
 use Rattle.simplex_journal.specs.Disk.{Call, Synced, MayLeave, LeavesOnly}
 use Rattle.simplex_journal.specs.Record.{AreEntries, Reads, IsWithOrWithout, IsFound, IsFixed, IsReopened}
-use Rattle.simplex_journal.specs.Moments.{started, goes_on, weaker, and_then}
-use Rattle.simplex_journal.proofs.Images.{only_synced, end_short}
+use Rattle.simplex_journal.specs.Moments.{weaker, and_then}
+use Rattle.simplex_journal.specs.Images.{end_short, fixes}
 use Rattle.simplex_journal.proofs.Repairing.{reads_found}
 use Rattle.simplex_journal.specs.OneReading.{unique}
-use Rattle.simplex_journal.proofs.Total.{reads_any, reads_end}
-
--- a sync that succeeded fixes one of what a crash might have left
-pub fixes : (calls0 calls1 : List Call) (seen0 : List ℕ) → MayLeave calls0 seen0 → calls1 ≡ Synced seen0 ∷ calls0 → LeavesOnly calls0 calls1 (MayLeave calls0)
-fixes calls0 calls1 seen0 here is = goes_on (started calls0 (MayLeave calls0) (λ image left. left)) (Synced seen0) is
-    (λ image left. subst (MayLeave calls0) (sym (only_synced seen0 calls0 image left)) here)
+use Rattle.simplex_journal.specs.Total.{reads_any, reads_end}
 
 no_front : (front : List ℕ) (bodies : List (List ℕ)) → AreEntries front bodies → bodies ≡ [] → front ≡ []
 no_front front bodies entries none = subst (λ (l : List (List ℕ)). AreEntries front l) none entries

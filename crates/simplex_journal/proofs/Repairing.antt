@@ -2,16 +2,12 @@
 use Rattle.std.proofs.Common.{◌≡◌, inl, ℕ, ◌+◌, ◌<◌, ◌≤◌, List, [], ◌∷◌, ◌++◌, length, get_or, take, refl, sym, ◌∙◌, ap, subst, arith, length-append}
 use Rattle.simplex_journal.specs.Disk.{Call, Wrote, CutTo, Synced, MayLeave, LeavesOnly, IsOverwritten}
 use Rattle.simplex_journal.specs.Record.{Reads, IsAtRest, IsFound, IsFixed}
-use Rattle.simplex_journal.proofs.Lists.{take_past}
+use Rattle.simplex_journal.specs.Lists.{take_past, held_byte}
 use Rattle.simplex_journal.specs.Moments.{started, goes_on}
-use Rattle.simplex_journal.proofs.Images.{end_short, reads_front, cut_behind, gate_closes, first_gate, only_synced}
-use Rattle.simplex_journal.proofs.Stages.{held_byte, reads_rest}
+use Rattle.simplex_journal.specs.Images.{end_short, reads_front, reads_rest, cut_behind, gate_closes, first_gate, only_synced, fixed_only}
 
 pub reads_found : {bytes : List ℕ} {gate : ℕ} {bodies : List (List ℕ)} → IsFound [] bytes gate bodies → Reads bytes bodies
 reads_found f = record { front = f.left.front; end = f.rest; split = f.left.split; entries = f.left.entries; ended = f.ended; gate = f.left.gate }
-
-pub fixed_only : {seen : List ℕ} {calls : List Call} → IsFixed seen calls → (image : List ℕ) → MayLeave calls image → image ≡ seen
-fixed_only {seen} {calls} x image left = only_synced seen x.earlier image (subst (λ (l : List Call). MayLeave l image) x.is left)
 
 first_byte : (xs : List ℕ) → 0 < length xs → take 1 xs ≡ get_or xs 0 0 ∷ []
 first_byte [] some = absurd (omega (arith, some))

@@ -1,31 +1,10 @@
 -- The stages of an append, each from what its calls have ensured.
-use Rattle.std.proofs.Common.{◌≡◌, inl, inr, ℕ, ◌+◌, ◌≤◌, List, [], ◌∷◌, ◌++◌, length, drop, sym, ◌∙◌, ap, subst, arith, append_assoc, length-append, take_at, drop_at}
-use Rattle.std.proofs.lemmas.List.{append-nil, take_all, drop_all}
+use Rattle.std.proofs.Common.{◌≡◌, inl, inr, ℕ, ◌+◌, ◌≤◌, List, [], ◌∷◌, ◌++◌, length, sym, ◌∙◌, ap, subst, arith, append_assoc, length-append}
 use Rattle.simplex_journal.specs.Disk.{Call, Wrote, Synced, MayLeave, LeavesOnly, IsOverwritten}
 use Rattle.simplex_journal.specs.Record.{AreEntries, Reads, IsWithOrWithout, Spells, IsAtRest}
 use Rattle.simplex_journal.specs.Moments.{started, goes_on, weaker}
-use Rattle.simplex_journal.proofs.Images.{end_shut, reads_front, entries_push, behind_gate, gate_opens, only_synced}
-
--- a write behind the end
-pub held_behind : (old bytes new : List ℕ) (at : ℕ) → at ≡ length old → IsOverwritten old at bytes new → new ≡ old ++ bytes
-held_behind old bytes new at is holds =
-    holds
-    ∙ ap (λ (l : List ℕ). l ++ bytes ++ drop (at + length bytes) old) (take_all at old (omega (arith, is)))
-    ∙ ap (λ (l : List ℕ). old ++ bytes ++ l) (drop_all (at + length bytes) old (omega (arith, is)))
-    ∙ append-nil (old ++ bytes)
-
--- a write of one byte
-pub held_byte : (front : List ℕ) (g byte : ℕ) (tail new : List ℕ) (at : ℕ) → at ≡ length front → IsOverwritten (front ++ g ∷ tail) at (byte ∷ []) new → new ≡ front ++ byte ∷ tail
-held_byte front g byte tail new at is holds =
-    let back : drop (at + 1) (front ++ g ∷ tail) ≡ tail =
-    ap (λ (l : List ℕ). drop (at + 1) l) (sym (append_assoc front (g ∷ []) tail)) ∙ drop_at (front ++ g ∷ []) tail (at + 1) (omega (arith, is, length-append front (g ∷ []))) in
-    holds
-    ∙ ap (λ (l : List ℕ). l ++ (byte ∷ []) ++ drop (at + 1) (front ++ g ∷ tail)) (take_at front (g ∷ tail) at (sym is))
-    ∙ append_assoc front (byte ∷ []) (drop (at + 1) (front ++ g ∷ tail))
-    ∙ ap (λ (l : List ℕ). front ++ byte ∷ l) back
-
-pub reads_rest : (front tail : List ℕ) (bodies : List (List ℕ)) → AreEntries front bodies → Reads (front ++ 0 ∷ tail) bodies
-reads_rest front tail bodies entries = reads_front front (0 ∷ tail) bodies entries (end_shut 0 tail (λ e. absurd (omega (arith, e)))) (omega arith)
+use Rattle.simplex_journal.specs.Lists.{held_behind, held_byte}
+use Rattle.simplex_journal.specs.Images.{reads_rest, entries_push, behind_gate, gate_opens, only_synced}
 
 -- the closed gate is still within, whatever was written behind it
 pub within : {seen0 : List ℕ} (seen1 entry : List ℕ) {calls0 : List Call} {gate : ℕ} {bodies : List (List ℕ)} (r : IsAtRest [] seen0 calls0 gate bodies) → IsOverwritten seen0 (gate + 1) entry seen1 → gate ≤ length seen1

@@ -6,3 +6,7 @@ pub mod Journal
 pub mod History
 pub mod Moments
 pub mod OneReading
+pub mod Lists
+pub mod Images
+pub mod Finding
+pub mod Total

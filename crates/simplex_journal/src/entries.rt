@@ -14,9 +14,11 @@ pub const BOUND: u32 = 65_535;
 
 /// The messages of a record, and the place of the gate behind the last.
 #[derive(Drop)]
-pub(crate) struct Entries<M> {
-    pub(crate) messages: Vec<M>,
-    pub(crate) gate: usize,
+pub struct Entries<M> {
+    /// The messages, the first one first.
+    pub messages: Vec<M>,
+    /// The place of the gate behind the last, counted from where the record begins.
+    pub gate: usize,
 }
 
 /// Whether a gate is open: an entry counts only then.
@@ -48,11 +50,13 @@ fn first_entry(bytes: &[u8]) -> Option<usize>
     Some(size)
 }
 
-/// Reads the entries up to where no whole open one begins.
-pub(crate) fn read_entries<M: Read + Drop>(
-    alloc: Global,
-    bytes: &[u8],
-) -> Result<Entries<M>, JournalFault>
+/// Reads the entries up to where no whole open one begins. A record may stand behind a head of other
+/// bytes: these are its bytes alone.
+///
+/// # Errors
+///
+/// [`JournalFault::Memory`], and [`JournalFault::Foreign`] with a place among these bytes.
+pub fn read_entries<M: Read + Drop>(alloc: Global, bytes: &[u8]) -> Result<Entries<M>, JournalFault>
     ensures found { IfOk result (λ entries. IsFound [] bytes.now entries.gate (map M.spelling entries.messages.items)) }
     ensures fitting { IfOk result (λ entries. All (Readable M.fits (M.within BOUND)) entries.messages.items) }
     ensures faults { IfErr result (λ fault. (fault ≡ Memory) ⊎ ((place : ℕ) × (fault ≡ Foreign place) × IsForeign [] (Readable M.fits (M.within BOUND)) M.spelling bytes.now place)) }

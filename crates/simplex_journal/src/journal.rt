@@ -159,8 +159,9 @@ impl<M: Read + EncodeSize + Drop, K: Disk> Journal<M, K> {
     }
 }
 
-/// An entry without its gate: the length of the body, the body, and a closed gate.
-fn spelled<M: Write>(alloc: Global, message: &M, size: usize) -> Result<Vec<u8>, AllocError>
+/// An entry without its gate: the length of the body, the body, and a closed gate. Refused only where
+/// memory is.
+pub fn spelled<M: Write>(alloc: Global, message: &M, size: usize) -> Result<Vec<u8>, AllocError>
     requires size { size ≡ length (M.spelling message.now) }
     requires short { size < 2 ^ 32 }
     ensures { IfOk result (λ bytes. Spells bytes.items (M.spelling message.now)) }

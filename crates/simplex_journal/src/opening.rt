@@ -43,8 +43,12 @@ pub(crate) fn begin<K: Disk>(disk: &mut K) -> Result<(), DiskFault>
     Ok(())
 }
 
-/// Reads all that a disk holds.
-fn read_disk<K: Disk>(alloc: Global, disk: &mut K) -> Result<Vec<u8>, JournalFault>
+/// Reads all that a disk holds, and asks no more of it.
+///
+/// # Errors
+///
+/// [`JournalFault::Device`] and [`JournalFault::Memory`].
+pub fn read_disk<K: Disk>(alloc: Global, disk: &mut K) -> Result<Vec<u8>, JournalFault>
     ensures bytes { IfOk result (λ bytes. K.keeps → bytes.items ≡ K.seen disk.old) }
     ensures seen { OnOk result (K.keeps → K.seen disk.new ≡ K.seen disk.old) }
     ensures seen_of_others { IfErr result (λ fault. fault ≢ Device → K.keeps → K.seen disk.new ≡ K.seen disk.old) }

@@ -1,5 +1,5 @@
 use Rattle.std.proofs.Common.{arith}
-use Rattle.simplex_journal.proofs.Finding.{entry_here}
+use Rattle.simplex_journal.specs.Finding.{entry_here}
 use Rattle.simplex_journal.proofs.entries.first_entry.Goals as goal
 
 pub returns-clause-some : goal.returns-clause-some

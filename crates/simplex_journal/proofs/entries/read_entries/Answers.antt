@@ -3,7 +3,7 @@ use Rattle.std.specs.List.{All}
 use Rattle.std.proofs.lemmas.List.Elements.{All-nil, All-cons, All-append}
 use Rattle.simplex_codec.specs.Codec.{Readable, SpellsNone}
 use Rattle.simplex_journal.specs.Record.{IsLeft}
-use Rattle.simplex_journal.proofs.Finding.{left_next, found_at, foreign_at}
+use Rattle.simplex_journal.specs.Finding.{left_next, found_at, foreign_at}
 use Rattle.simplex_journal.proofs.entries.read_entries.Goals as goal
 
 pub returns-in_default-2-clause-faults : goal.returns-in_default-2-clause-faults

@@ -1,6 +1,6 @@
 use Rattle.std.proofs.Common.{arith}
 use Rattle.simplex_journal.specs.OneReading.{unique, messages-one}
-use Rattle.simplex_journal.proofs.Total.{reads_any}
+use Rattle.simplex_journal.specs.Total.{reads_any}
 use Rattle.simplex_journal.proofs.laws.a_disk_reads_as_one_record.Goals as goal
 
 pub returns-clause-some : goal.returns-clause-some

@@ -4,7 +4,8 @@ use Rattle.simplex_journal.specs.Disk.{MayLeave}
 use Rattle.simplex_journal.specs.Record.{IsFound}
 use Rattle.simplex_journal.specs.Moments.{started, stays}
 use Rattle.simplex_journal.proofs.Repairing.{reads_found}
-use Rattle.simplex_journal.proofs.Reopened.{fixes, reopened_first, reopened_fixed}
+use Rattle.simplex_journal.specs.Images.{fixes}
+use Rattle.simplex_journal.proofs.Reopened.{reopened_first, reopened_fixed}
 use Rattle.simplex_journal.proofs.opening.open_disk.Goals as goal
 
 pub returns-in-Err-clause-any_moment : goal.returns-in-Err-clause-any_moment

@@ -2,8 +2,8 @@
 use Rattle.std.proofs.Common.{◌≡◌, ◌⊎◌, inl, inr, ⊎_elim, ℕ, zero, suc, ◌+◌, ◌<◌, ◌≤◌, List, [], ◌∷◌, ◌++◌, length, get_or, take, drop, refl, sym, ◌∙◌, ap, subst, arith, append_assoc, length-append, length-drop}
 use Rattle.std.proofs.lemmas.Bool.{cases_eq}
 use Rattle.simplex_journal.specs.Record.{size, HasEntry, IsEnd, AreEntries, Reads}
-use Rattle.simplex_journal.proofs.Images.{end_short}
-use Rattle.simplex_journal.proofs.Finding.{end_first, end_long, entry_here}
+use Rattle.simplex_journal.specs.Images.{end_short}
+use Rattle.simplex_journal.specs.Finding.{end_first, end_long, entry_here}
 
 pub reads_end : (bytes : List ℕ) → IsEnd bytes → Reads bytes []
 reads_end bytes ended = record { front = []; end = bytes; split = refl; entries = refl; ended = ended; gate = inl refl }

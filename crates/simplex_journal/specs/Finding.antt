@@ -4,7 +4,7 @@ use Rattle.std.specs.List.{All}
 use Rattle.std.proofs.lemmas.List.{map-append}
 use Rattle.simplex_codec.specs.Codec.{SpellsNone}
 use Rattle.simplex_journal.specs.Record.{size, HasEntry, IsEnd, IsLeft, IsFound, IsForeign}
-use Rattle.simplex_journal.proofs.Images.{entries_push}
+use Rattle.simplex_journal.specs.Images.{entries_push}
 
 pub end_first : (bytes : List ℕ) → get_or bytes 0 0 ≢ 1 → IsEnd bytes
 end_first bytes shut body after entry = shut (ap (λ (l : List ℕ). get_or l 0 0) entry.split)

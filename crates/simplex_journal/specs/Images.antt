@@ -2,9 +2,10 @@
 use Rattle.std.proofs.Common.{◌≡◌, ◌≢◌, ◌⊎◌, inl, inr, ℕ, ◌+◌, ◌-◌, ◌<◌, ◌≤◌, List, [], ◌∷◌, ◌++◌, length, get_or, take, drop, refl, sym, ◌∙◌, ap, subst, arith, append_assoc, length-append, take-append-drop}
 use Rattle.std.proofs.lemmas.Bool.{cases_eq}
 use Rattle.std.proofs.lemmas.List.{append-nil}
-use Rattle.simplex_journal.specs.Disk.{Call, Wrote, CutTo, Synced, MayLeave}
-use Rattle.simplex_journal.specs.Record.{size, IsEnd, AreEntries, Reads, IsWithOrWithout}
-use Rattle.simplex_journal.proofs.Lists.{kept_front, kept_take, one_byte, take_past}
+use Rattle.simplex_journal.specs.Disk.{Call, Wrote, CutTo, Synced, MayLeave, LeavesOnly}
+use Rattle.simplex_journal.specs.Record.{size, IsEnd, AreEntries, Reads, IsWithOrWithout, IsFixed}
+use Rattle.simplex_journal.specs.Moments.{started, goes_on}
+use Rattle.simplex_journal.specs.Lists.{kept_front, kept_take, one_byte, take_past}
 
 -- the front of an end is an end
 pub end_take : (n : ℕ) (end : List ℕ) → IsEnd end → IsEnd (take n end)
@@ -107,3 +108,16 @@ only_synced bytes calls image left =
     all : (xs : List ℕ) → take (length xs) xs ≡ xs
     all [] = refl
     all (x ∷ xs) = ap (λ (l : List ℕ). x ∷ l) (all xs)
+
+-- a record whose last gate is closed, whatever stands behind it
+pub reads_rest : (front tail : List ℕ) (bodies : List (List ℕ)) → AreEntries front bodies → Reads (front ++ 0 ∷ tail) bodies
+reads_rest front tail bodies entries = reads_front front (0 ∷ tail) bodies entries (end_shut 0 tail (λ e. absurd (omega (arith, e)))) (omega arith)
+
+-- of a disk that is fixed nothing else is left
+pub fixed_only : {seen : List ℕ} {calls : List Call} → IsFixed seen calls → (image : List ℕ) → MayLeave calls image → image ≡ seen
+fixed_only {seen} {calls} x image left = only_synced seen x.earlier image (subst (λ (l : List Call). MayLeave l image) x.is left)
+
+-- a sync that succeeded fixes one of what a crash might have left
+pub fixes : (calls0 calls1 : List Call) (seen0 : List ℕ) → MayLeave calls0 seen0 → calls1 ≡ Synced seen0 ∷ calls0 → LeavesOnly calls0 calls1 (MayLeave calls0)
+fixes calls0 calls1 seen0 here is = goes_on (started calls0 (MayLeave calls0) (λ image left. left)) (Synced seen0) is
+    (λ image left. subst (MayLeave calls0) (sym (only_synced seen0 calls0 image left)) here)
