@@ -1,0 +1,6 @@
+pub mod Readings
+pub mod Finishing
+pub mod Reopening
+pub mod Entering
+pub mod Rewriting
+pub mod Spelled
