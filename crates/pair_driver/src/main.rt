@@ -1,0 +1,26 @@
+//! Plays scripts of calls on journals over two disks: reads calls from standard input, one a line, makes them, and
+//! prints one line for each. An artifact stands as the bytes that spell it.
+//!
+//! - `reset memory BYTES BYTES`: two disks in memory that hold these bytes; `reset files PATH PATH`: two disks in files;
+//!   `reset nothing`: no disks, which lets files go
+//! - `open`: what was found, `opened ARTIFACTS`, or the fault; `append ARTIFACT`, `rewrite ARTIFACT ..`: `ok` or the
+//!   fault; `close`, `is_failed`, `generation`; `failures` of the first disk and of the second
+//! - in memory, while no journal is open, `bytes` of both disks; `fuse DISK CALLS`, `fail_at DISK CALLS`: DISK is 1 or 2
+//! - at any time `file read PATH`, `file write PATH BYTES` and `file remove PATH`
+#![tactic(auto)]
+
+mod desk;
+mod files;
+mod item;
+mod memory;
+mod session;
+
+use crate::desk::Desk;
+use script_words::play;
+use std::io;
+use std::process::ExitCode;
+
+fn main(rt: HostRuntime) -> ExitCode {
+    let mut desk = Desk::new(&rt);
+    ExitCode::from(play(rt.alloc(), &mut desk, rt.reader(), &mut io::writer(&rt)))
+}

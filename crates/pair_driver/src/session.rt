@@ -1,0 +1,145 @@
+//! Two disks, and the journal that is open on them.
+
+ghost use Rattle.std.specs.Prelude.{All, IfOk};
+
+use crate::item::{Item, message, say_fault, say_items};
+use script_words::{Say, Trouble, Words};
+use simplex_journal::Disk;
+use simplex_pair::Pair;
+use simplex_types::Read;
+use std::alloc::Global;
+
+/// Two disks with no journal open on them, or the journal that is open.
+#[derive(Drop)]
+pub(crate) struct Session<K: Disk> {
+    disks: Option<(K, K)>,
+    journal: Option<Pair<Item, K>>,
+}
+
+/// The messages that all words left spell, each of which can be read again.
+fn messages<M: Read + Drop>(words: &mut Words<'_>, alloc: Global) -> Result<Vec<M>, Trouble>
+    ensures { IfOk result (λ list. All (M.within 65535) list.items) }
+{
+    let mut list = Vec::new(alloc);
+    for _ in 0..u64::MAX {
+        if !words.more() {
+            break;
+        }
+        let one: M = message(words, alloc)?;
+        list.push(one)?;
+    }
+    Ok(list)
+}
+
+impl<K: Disk> Session<K> {
+    /// Two disks with no journal open on them.
+    pub(crate) fn new(first: K, second: K) -> Self {
+        Session {
+            disks: Some((first, second)),
+            journal: None,
+        }
+    }
+
+    /// Closes the journal that is open.
+    fn close(&mut self) {
+        if let Some(journal) = self.journal.take() {
+            self.disks = Some(journal.close());
+        }
+    }
+
+    /// The disks, where no journal is open on them.
+    pub(crate) fn disks(&mut self) -> Result<&mut (K, K), Trouble> {
+        match &mut self.disks {
+            Some(disks) => Ok(disks),
+            None => Err(Trouble::Condition),
+        }
+    }
+
+    /// `open`: closes the journal that is open, opens the disks, and tells what was found.
+    fn open(&mut self, say: &mut Say) -> Result<(), Trouble> {
+        self.close();
+        let Some((first, second)) = self.disks.take() else {
+            return Err(Trouble::Condition);
+        };
+        match Pair::open(say.alloc, first, second) {
+            Ok((journal, found)) => {
+                self.journal = Some(journal);
+                say.text("opened ")?;
+                say_items(say, &found)
+            }
+            Err((fault, first, second)) => {
+                self.disks = Some((first, second));
+                say_fault(say, fault)
+            }
+        }
+    }
+
+    /// `append ARTIFACT`.
+    fn append(&mut self, words: &mut Words<'_>, say: &mut Say) -> Result<(), Trouble> {
+        let item: Item = message(words, say.alloc)?;
+        words.end()?;
+        let Some(journal) = &mut self.journal else {
+            return Err(Trouble::Condition);
+        };
+        match journal.append(&item) {
+            Ok(()) => say.ok(),
+            Err(fault) => say_fault(say, fault),
+        }
+    }
+
+    /// `rewrite ARTIFACT ..`.
+    fn rewrite(&mut self, words: &mut Words<'_>, say: &mut Say) -> Result<(), Trouble> {
+        let list: Vec<Item> = messages(words, say.alloc)?;
+        let Some(journal) = &mut self.journal else {
+            return Err(Trouble::Condition);
+        };
+        match journal.rewrite(&list) {
+            Ok(()) => say.ok(),
+            Err(fault) => say_fault(say, fault),
+        }
+    }
+
+    /// What the journal that is open tells of itself.
+    fn ask_journal(&self, name: &str, say: &mut Say) -> Result<(), Trouble> {
+        let Some(journal) = &self.journal else {
+            return Err(Trouble::Condition);
+        };
+        if name == "is_failed" {
+            return say.truth(journal.is_failed());
+        }
+        if name == "generation" {
+            return say.number(journal.generation() as u64);
+        }
+        let (first, second) = journal.failures();
+        say.number(first)?;
+        say.gap()?;
+        say.number(second)
+    }
+
+    /// The calls of a journal.
+    pub(crate) fn answer(
+        &mut self,
+        name: &str,
+        words: &mut Words<'_>,
+        say: &mut Say,
+    ) -> Result<(), Trouble> {
+        match name {
+            "append" => self.append(words, say),
+            "rewrite" => self.rewrite(words, say),
+            "open" => {
+                words.end()?;
+                self.open(say)
+            }
+            "close" => {
+                words.end()?;
+                self.close();
+                say.ok()
+            }
+            "is_failed" | "generation" | "failures" => {
+                words.end()?;
+                self.ask_journal(name, say)
+            }
+            _ => Err(Trouble::Unreadable),
+        }
+    }
+}
