@@ -24,7 +24,7 @@ module _ {D : Type 0} (m : Member) (k : Known D) (view : ℕ) where
   -- this is to be asked for the view's proposal
   abbrev pub IsWanted : Wanted D → Type 0
   IsWanted (wanted.Verification p payload) = VerifyIsDue m k view p payload
-  IsWanted (wanted.Certificate what u) = IsMissing what u
+  IsWanted (wanted.Certificate what u) = IsMissing m k view what u
 
 module _ {S D P G C : Type 0} where
   -- behind a look at the views from the current one on, which came to this view, this holds of where it led
