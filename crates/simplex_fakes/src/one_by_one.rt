@@ -41,6 +41,8 @@ impl Scheme<Sha256Digest> for OneByOne {
 
     ghost batchable = { λ _. false };
 
+    ghost may_decline = { λ s x given. ⊤ };
+
     fn participants(&self) -> u32 {
         Scheme::<Sha256Digest>::participants(&self.plain)
     }

@@ -1,10 +1,10 @@
 //! Judging the attestations of one statement.
 
-ghost use Rattle.std.specs.Prelude.{◌≡◌, ◌↔◌, ◌≤◌, ◌<◌, ◌++◌, ℕ, List, length, All, Contains, IsTrue, IfOk, IfSome, MatchOption};
+ghost use Rattle.std.specs.Prelude.{◌≡◌, ◌↔◌, ◌≤◌, ◌<◌, ◌++◌, ℕ, List, None, true, length, All, Contains, IsTrue, IfOk, IfSome, MatchOption};
 ghost use Rattle.std.specs.List.Sorted.{IsStrictlyIncreasing};
 ghost use Rattle.simplex_types.specs.Quorum.{AreDistinct};
 ghost use Rattle.simplex_types.specs.Subject.{statement};
-ghost use Rattle.simplex_judging.specs.Judging.{is_among, without, IsJudged, IsOneByOne, IsWhole};
+ghost use Rattle.simplex_judging.specs.Judging.{is_among, without, IsJudged, IsOneByOne, IsSound, IsWhole};
 
 use simplex_types::{
     Attestation, Digest, Participant, Scheme, Signature, Subject, are_of_distinct_members,
@@ -71,7 +71,30 @@ pub fn assemble_enough<S: Scheme<D>, D: Digest>(
     }
 }
 
-/// Judges each of the waiting.
+/// The certificate that a scheme makes of all at once, where it judges many at once.
+fn assemble_at_once<S: Scheme<D>, D: Digest>(
+    alloc: Global,
+    scheme: &S,
+    subject: &Subject<'_, D>,
+    verified: &[Attestation<S::Signature>],
+    waiting: &[Attestation<S::Signature>],
+) -> Result<Option<S::Certificate>, AllocError>
+    ensures batchable { IfOk result (λ made. IfSome made (λ c. S.batchable scheme.now ≡ true)) }
+    ensures sound { IfOk result (λ made. IfSome made (λ c. IsSound (S.certifies scheme.now (statement subject.now)) S.lists (verified.now ++ waiting.now) c)) }
+    ensures readable { IfOk result (λ made. IfSome made (λ c. S.Certificate.within (S.size scheme.now) c)) }
+    ensures within { IfOk result (λ made. IfSome made (λ c. S.Certificate.within 65535 c)) }
+    ensures declined { IfOk result (λ made. made ≡ None → S.batchable scheme.now ≡ true → S.may_decline scheme.now (statement subject.now) (verified.now ++ waiting.now)) }
+{
+    if !scheme.is_batchable() {
+        return Ok(None);
+    }
+    let mut all = Vec::from_slice(alloc, verified)?;
+    all.extend_from_slice(waiting)?;
+    let made = scheme.optimistic_assemble(alloc, subject, &all)?;
+    Ok(made)
+}
+
+/// Judges each of the waiting, where the scheme was asked for a certificate of all at once, if it judges many at once.
 fn judge_each<S: Scheme<D>, D: Digest>(
     alloc: Global,
     scheme: &S,
@@ -80,7 +103,8 @@ fn judge_each<S: Scheme<D>, D: Digest>(
     verified: &[Attestation<S::Signature>],
     waiting: &[Attestation<S::Signature>],
 ) -> Result<Judged<S::Certificate>, AllocError>
-    ensures verdict { IfOk result (λ judged. AreDistinct (verified.now ++ waiting.now) → All (λ a. S.attests scheme.now a.signer (statement subject.now) a.signature) verified.now → IsOneByOne (S.certifies scheme.now (statement subject.now)) S.lists (S.batchable scheme.now) (λ i a. S.attests scheme.now i (statement subject.now) a) S.enumerates needed verified.now waiting.now judged) }
+    requires declined { S.batchable scheme.now ≡ true → S.may_decline scheme.now (statement subject.now) (verified.now ++ waiting.now) }
+    ensures verdict { IfOk result (λ judged. AreDistinct (verified.now ++ waiting.now) → All (λ a. S.attests scheme.now a.signer (statement subject.now) a.signature) verified.now → IsOneByOne (S.certifies scheme.now (statement subject.now)) S.lists (S.batchable scheme.now) (S.may_decline scheme.now (statement subject.now)) (λ i a. S.attests scheme.now i (statement subject.now) a) S.enumerates needed verified.now waiting.now judged) }
     ensures readable { IfOk result (λ judged. IfSome judged.certificate (λ c. S.Certificate.within (S.size scheme.now) c)) }
     ensures within { IfOk result (λ judged. IfSome judged.certificate (λ c. S.Certificate.within 65535 c)) }
 {
@@ -95,7 +119,8 @@ fn judge_each<S: Scheme<D>, D: Digest>(
     })
 }
 
-/// Judges attestations of one statement that wait, beside those that are verified.
+/// Judges attestations of one statement that wait, beside those that are verified. A scheme that judges many at once is
+/// asked for a certificate of all at once before each is judged.
 pub fn judge<S: Scheme<D>, D: Digest>(
     alloc: Global,
     scheme: &S,
@@ -104,23 +129,16 @@ pub fn judge<S: Scheme<D>, D: Digest>(
     verified: &[Attestation<S::Signature>],
     waiting: &[Attestation<S::Signature>],
 ) -> Result<Judged<S::Certificate>, AllocError>
-    ensures verdict { IfOk result (λ judged. AreDistinct (verified.now ++ waiting.now) → All (λ a. S.attests scheme.now a.signer (statement subject.now) a.signature) verified.now → IsJudged (S.certifies scheme.now (statement subject.now)) S.lists (S.batchable scheme.now) (λ i a. S.attests scheme.now i (statement subject.now) a) S.enumerates needed verified.now waiting.now judged) }
+    ensures verdict { IfOk result (λ judged. AreDistinct (verified.now ++ waiting.now) → All (λ a. S.attests scheme.now a.signer (statement subject.now) a.signature) verified.now → IsJudged (S.certifies scheme.now (statement subject.now)) S.lists (S.batchable scheme.now) (S.may_decline scheme.now (statement subject.now)) (λ i a. S.attests scheme.now i (statement subject.now) a) S.enumerates needed verified.now waiting.now judged) }
     ensures readable { IfOk result (λ judged. IfSome judged.certificate (λ c. S.Certificate.within (S.size scheme.now) c)) }
     ensures within { IfOk result (λ judged. IfSome judged.certificate (λ c. S.Certificate.within 65535 c)) }
 {
-    if scheme.is_batchable() {
-        let mut all = Vec::from_slice(alloc, verified)?;
-        all.extend_from_slice(waiting)?;
-        match scheme.optimistic_assemble(alloc, subject, &all)? {
-            Some(certificate) => {
-                return Ok(Judged {
-                    certificate: Some(certificate),
-                    invalid: Vec::new(alloc),
-                    fallback: false,
-                });
-            }
-            None => {}
-        }
+    if let Some(certificate) = assemble_at_once(alloc, scheme, subject, verified, waiting)? {
+        return Ok(Judged {
+            certificate: Some(certificate),
+            invalid: Vec::new(alloc),
+            fallback: false,
+        });
     }
     let judged = judge_each(alloc, scheme, subject, needed, verified, waiting)?;
     Ok(judged)

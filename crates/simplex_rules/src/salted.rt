@@ -259,6 +259,8 @@ impl<D: Digest> Scheme<D> for SaltedScheme {
 
     ghost batchable = { λ _. true };
 
+    ghost may_decline = { λ s x given. IsQuorum s.participants (λ i a. Attests D.spelling s.base s.participants i x a) given → ⊥ };
+
     fn participants(&self) -> u32 {
         Scheme::<D>::participants(&self.plain)
     }
@@ -311,6 +313,7 @@ impl<D: Digest> Scheme<D> for SaltedScheme {
         ensures all_given { IfOk result (λ made. IfSome made (λ c. (a : Attestation (List ℕ)) → Contains attestations.now a → Contains c a)) }
         ensures readable { IfOk result (λ made. IfSome made (λ c. list_within self.now.participants c)) }
         ensures within { IfOk result (λ made. IfSome made (λ c. list_within 65535 c)) }
+        ensures declined { IfOk result (λ made. made ≡ None → IsQuorum self.now.participants (λ i a. Attests D.spelling self.now.base self.now.participants i (statement subject.now) a) attestations.now → ⊥) }
     {
         list_of_quorum(alloc, self, subject, attestations)
     }

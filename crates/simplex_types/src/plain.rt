@@ -1,6 +1,6 @@
 //! A scheme with no secret, for tests and tools: a signature is a hash of what is signed.
 
-ghost use Rattle.std.specs.Prelude.{◌≡◌, ◌↔◌, ◌<◌, ◌≤◌, ◌^◌, ◌++◌, ℕ, List, Option, length, Contains, IsSome, IfOk, IfSome, true, ⊤};
+ghost use Rattle.std.specs.Prelude.{◌≡◌, ◌↔◌, ◌<◌, ◌≤◌, ◌^◌, ◌++◌, ℕ, List, Option, None, length, Contains, IsSome, IfOk, IfSome, true, ⊤};
 ghost use Rattle.std.specs.Option.{ForSome};
 ghost use Rattle.std.specs.Int.{w32, to_be_bytes};
 ghost use Rattle.std.proofs.Common.{rules, arith};
@@ -300,6 +300,8 @@ impl<D: Digest> Scheme<D> for PlainScheme {
 
     ghost batchable = { λ _. true };
 
+    ghost may_decline = { λ s x given. IsQuorum s.participants (λ i a. Attests D.spelling s.base s.participants i x a) given → ⊥ };
+
     fn participants(&self) -> u32 {
         self.participants
     }
@@ -355,6 +357,7 @@ impl<D: Digest> Scheme<D> for PlainScheme {
         ensures all_given { IfOk result (λ made. IfSome made (λ c. (a : Attestation (List ℕ)) → Contains attestations.now a → Contains c a)) }
         ensures readable { IfOk result (λ made. IfSome made (λ c. list_within self.now.participants c)) }
         ensures within { IfOk result (λ made. IfSome made (λ c. list_within 65535 c)) }
+        ensures declined { IfOk result (λ made. made ≡ None → IsQuorum self.now.participants (λ i a. Attests D.spelling self.now.base self.now.participants i (statement subject.now) a) attestations.now → ⊥) }
     {
         list_of_quorum(alloc, self, subject, attestations)
     }

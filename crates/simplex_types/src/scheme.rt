@@ -104,6 +104,9 @@ pub trait Scheme<D: Digest> {
     /// Many attestations are judged faster together than one by one.
     ghost batchable: { Self → Bool };
 
+    /// An assembly at once of these attestations of the statement may give no certificate.
+    ghost may_decline: { Self → Statement D → List (Attestation Self.Signature) → Type 0 };
+
     /// How many members the committee has: at least one.
     fn participants(&self) -> u32
         ensures value { result ≡ size self.now }
@@ -158,7 +161,8 @@ pub trait Scheme<D: Digest> {
         ensures certifies { IfOk result (λ made. IfSome made (λ c. certifies self.now (statement subject.now) c)) }
         ensures only_given { IfOk result (λ made. IfSome made (λ c. (a : Attestation Self.Signature) → Contains (lists c) a → Contains attestations.now a)) }
         ensures readable { IfOk result (λ made. IfSome made (λ c. Self.Certificate.within (size self.now) c)) }
-        ensures within { IfOk result (λ made. IfSome made (λ c. Self.Certificate.within 65535 c)) };
+        ensures within { IfOk result (λ made. IfSome made (λ c. Self.Certificate.within 65535 c)) }
+        ensures declined { IfOk result (λ made. made ≡ None → may_decline self.now (statement subject.now) attestations.now) };
 
     /// Whether the certificate certifies the subject.
     fn verify_certificate(&self, subject: &Subject<'_, D>, certificate: &Self::Certificate) -> bool

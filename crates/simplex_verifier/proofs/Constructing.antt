@@ -38,10 +38,10 @@ use Rattle.simplex_verifier.proofs.Lawfully.{counted-distinct, verified-attest}
 use Rattle.simplex_verifier.proofs.Stating.{attest-it, verified-state, ready-state, mine, IsMine, IsOurs, states-own, certificate-kind, certificate-ours, selected-ours, waiting-state}
 
 -- where no certificate was made, each was judged
-pub judged-failing : {G C : Type 0} (certifies : C → Type 0) (lists : C → List (Attestation G)) (batchable : Bool) (attests : ℕ → G → Type 0) (Enumerates : Type 0) (needed : ℕ) (sure wait : List (Attestation G)) (judged : Judged C)
-    → IsJudged certifies lists batchable attests Enumerates needed sure wait judged → judged.certificate ≡ None → AreFailing attests wait judged.invalid.items
-judged-failing certifies lists batchable attests Enumerates needed sure wait judged (inl a) none = absurd (cc (a.made, none))
-judged-failing certifies lists batchable attests Enumerates needed sure wait judged (inr b) none = b.invalid_are
+pub judged-failing : {G C : Type 0} (certifies : C → Type 0) (lists : C → List (Attestation G)) (batchable : Bool) (may_decline : List (Attestation G) → Type 0) (attests : ℕ → G → Type 0) (Enumerates : Type 0) (needed : ℕ) (sure wait : List (Attestation G)) (judged : Judged C)
+    → IsJudged certifies lists batchable may_decline attests Enumerates needed sure wait judged → judged.certificate ≡ None → AreFailing attests wait judged.invalid.items
+judged-failing certifies lists batchable may_decline attests Enumerates needed sure wait judged (inl a) none = absurd (cc (a.made, none))
+judged-failing certifies lists batchable may_decline attests Enumerates needed sure wait judged (inr b) none = b.invalid_are
 
 first-part : {X : Type 0} (R : X → X → Type 0) (xs ys : List X) → AllPairs R (xs ++ ys) → AllPairs R xs
 first-part R [] ys pairs = λ i j d l m. absurd (omega arith)
@@ -80,8 +80,8 @@ module _ {S D P G C : Type 0} (same : D → D → Bool) (g : Ghosts S D P G C) (
   pub judged-of : (s : Setup S) (h : History S D P G C) (kind : Kind) (v : Verifier S D P G C) (pool : Pool S D P G C) (x : Statement D) (judged : Judged C)
       → IsVerifierKept same g batchable s v h → pool ≡ pool_at kind v.pools → context s kind h ≡ Some x
       → (AreDistinct (map vote_attestation pool.verified.items ++ map vote_attestation pool.waiting.items) → All (λ a. g.attests v.scheme.value a.signer x a.signature) (map vote_attestation pool.verified.items)
-      → IsJudged (g.certifies v.scheme.value x) g.lists (batchable v.scheme.value) (λ i a. g.attests v.scheme.value i x a) g.enumerates v.needed (map vote_attestation pool.verified.items) (map vote_attestation pool.waiting.items) judged)
-      → IsJudged (g.certifies s.scheme x) g.lists s.batchable (λ i a. g.attests s.scheme i x a) g.enumerates s.needed (map vote_attestation (verified same s kind h)) (map vote_attestation (waiting same s kind h)) judged
+      → IsJudged (g.certifies v.scheme.value x) g.lists (batchable v.scheme.value) (g.may_decline v.scheme.value x) (λ i a. g.attests v.scheme.value i x a) g.enumerates v.needed (map vote_attestation pool.verified.items) (map vote_attestation pool.waiting.items) judged)
+      → IsJudged (g.certifies s.scheme x) g.lists s.batchable (g.may_decline s.scheme x) (λ i a. g.attests s.scheme i x a) g.enumerates s.needed (map vote_attestation (verified same s kind h)) (map vote_attestation (waiting same s kind h)) judged
   judged-of s h kind v pool x judged k one e f =
       let p = pool-keeps same g batchable s v h kind k in
       let f' = rw (one, p.verified_are, p.waiting_are, k.scheme_is, k.batchable_is, k.needed_is) at f in
@@ -158,7 +158,7 @@ module _ {S D P G C : Type 0} (same : D → D → Bool) (g : Ghosts S D P G C) (
   pub of-waiting : (s : Setup S) (h : History S D P G C) (kind : Kind) (v : Verifier S D P G C) (pool : Pool S D P G C) (x : Statement D) (judged : Judged C) (batch : Batch (Certificate S D P G C))
       → IsVerifierKept same g batchable s v h → pool ≡ pool_at kind v.pools → context s kind h ≡ Some x
       → (AreDistinct (map vote_attestation pool.verified.items ++ map vote_attestation pool.waiting.items) → All (λ a. g.attests v.scheme.value a.signer x a.signature) (map vote_attestation pool.verified.items)
-      → IsJudged (g.certifies v.scheme.value x) g.lists (batchable v.scheme.value) (λ i a. g.attests v.scheme.value i x a) g.enumerates v.needed (map vote_attestation pool.verified.items) (map vote_attestation pool.waiting.items) judged)
+      → IsJudged (g.certifies v.scheme.value x) g.lists (batchable v.scheme.value) (g.may_decline v.scheme.value x) (λ i a. g.attests v.scheme.value i x a) g.enumerates v.needed (map vote_attestation pool.verified.items) (map vote_attestation pool.waiting.items) judged)
       → batch.processed ≡ length pool.waiting.items → judged_of batch ≡ judged → IfSome batch.certificate (λ c. certificate_statement c ≡ x)
       → IsOfWaiting g same s kind h batch
   of-waiting s h kind v pool x judged batch k one on f processed is states =

@@ -88,7 +88,7 @@ impl<S: Scheme<D>, D: Digest> Pool<S, D> {
         subject: &Subject<'_, D>,
         needed: usize,
     ) -> Result<Judged<S::Certificate>, AllocError>
-        ensures verdict { IfOk result (λ judged. AreDistinct (map vote_attestation self.now.verified.items ++ map vote_attestation self.now.waiting.items) → All (λ a. S.attests scheme.now a.signer (statement subject.now) a.signature) (map vote_attestation self.now.verified.items) → IsJudged (S.certifies scheme.now (statement subject.now)) S.lists (S.batchable scheme.now) (λ i a. S.attests scheme.now i (statement subject.now) a) S.enumerates needed (map vote_attestation self.now.verified.items) (map vote_attestation self.now.waiting.items) judged) }
+        ensures verdict { IfOk result (λ judged. AreDistinct (map vote_attestation self.now.verified.items ++ map vote_attestation self.now.waiting.items) → All (λ a. S.attests scheme.now a.signer (statement subject.now) a.signature) (map vote_attestation self.now.verified.items) → IsJudged (S.certifies scheme.now (statement subject.now)) S.lists (S.batchable scheme.now) (S.may_decline scheme.now (statement subject.now)) (λ i a. S.attests scheme.now i (statement subject.now) a) S.enumerates needed (map vote_attestation self.now.verified.items) (map vote_attestation self.now.waiting.items) judged) }
         ensures readable { IfOk result (λ judged. IfSome judged.certificate (λ c. S.Certificate.within (S.size scheme.now) c)) }
         ensures within { IfOk result (λ judged. IfSome judged.certificate (λ c. S.Certificate.within 65535 c)) }
     {

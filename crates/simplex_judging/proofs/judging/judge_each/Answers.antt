@@ -10,6 +10,7 @@ returns-clause-verdict g c = λ distinct attesting.
     let given : c.deref-2.result.now ≡ c.args.verified.now ++ without c.in_ok-invalid.invalid.items c.args.waiting.now = rw c.deref-2.ensures.value ((rw c.deref.ensures.value at c.in_ok-given.ensures c.in_ok-invalid.ensures.ascending)) in
     record {
       fallback_is = c.is_batchable-fallback.ensures;
+      declined = c.requires.declined;
       invalid_are = c.in_ok-invalid.ensures;
       made = rw given at c.in_ok-certificate.ensures.made
           (left-distinct attests c.args.verified.now c.args.waiting.now c.in_ok-invalid.invalid.items distinct)

@@ -37,7 +37,7 @@ returns-in_ok-settle-in-None-clause-keeps g c = λ s h k on.
     let x = statement c.args.subject.now in
     let f = rw c.deref.ensures at c.in_ok-certificate.ensures.verdict in
     let verdict = judged-of same g.S.Scheme batchable law s h c.args.kind c.args.self.now c.of-pool.result.now x c.in_ok-certificate.field-0 k c.of-pool.ensures on f in
-    let failing = judged-failing _ _ _ _ _ _ _ _ c.in_ok-certificate.field-0 verdict c.in-None.is in
+    let failing = judged-failing _ _ _ _ _ _ _ _ _ c.in_ok-certificate.field-0 verdict c.in-None.is in
     settled-keeps same g.S.Scheme batchable law s h c.args.kind c.in_ok-certificate.field-0.invalid.items x c.args.self.now _ k refl refl refl refl refl refl
     (rw c.deref-in-None.ensures.value at c.in_ok-settle-in-None.ensures.notarizes failing.ascending) (rw c.deref-in-None.ensures.value at c.in_ok-settle-in-None.ensures.nullifies failing.ascending) (rw c.deref-in-None.ensures.value at c.in_ok-settle-in-None.ensures.finalizes failing.ascending) on failing
 
