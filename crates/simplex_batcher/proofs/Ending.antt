@@ -11,7 +11,7 @@ use Rattle.simplex_batcher.specs.declared.call.Call.TheVariants.{TryConstruct}
 use Rattle.simplex_batcher.specs.declared.call.Answer.{Answer}
 use Rattle.simplex_batcher.specs.declared.call.Answer.TheVariants as answer
 use Rattle.simplex_verifier.specs.History.{History, Setup, next_kind}
-use Rattle.simplex_verifier.specs.Lawful.{IsLawful}
+use Rattle.simplex_verifier.specs.Lawful.{IsConsistent}
 use Rattle.simplex_verifier.specs.Quorums.{AllCertified}
 use Rattle.simplex_verifier.specs.Construction.{after, after_construction, kinds_left, IsBatch, IsConstruction}
 use Rattle.simplex_batcher.specs.Run.{AnswersAre, after_call, after_all, EndsInConstructions}
@@ -31,12 +31,12 @@ three-at-most (Some Finalization) = omega arith
 
 module _ {S D P G C : Type 0} (g : Ghosts S D P G C) (same : D → D → Bool) (s : Setup S) where
   -- a history is lawful where it is so after a construction
-  lawful-before : (h : History S D P G C) (next : Option Kind) (made : Option (Batch (Certificate S D P G C))) → IsLawful same g.attests s (after_construction next made h) → IsLawful same g.attests s h
+  lawful-before : (h : History S D P G C) (next : Option Kind) (made : Option (Batch (Certificate S D P G C))) → IsConsistent same g.attests s (after_construction next made h) → IsConsistent same g.attests s h
   lawful-before h None made lawful = lawful
   lawful-before h (Some kind) None lawful = lawful
   lawful-before h (Some kind) (Some batch) lawful = go batch.certificate refl
     where
-      go : (o : Option (Certificate S D P G C)) → batch.certificate ≡ o → IsLawful same g.attests s h
+      go : (o : Option (Certificate S D P G C)) → batch.certificate ≡ o → IsConsistent same g.attests s h
       go (Some c) e = (rw e at lawful).1
       go None e = (rw e at lawful).1
 
@@ -57,12 +57,12 @@ module _ {S D P G C : Type 0} (g : Ghosts S D P G C) (same : D → D → Bool) (
 
   -- after a construction that was due a later one is due, or none
   abbrev pub IsEnding : Type 0
-  IsEnding = (h : History S D P G C) (kind : Kind) (batch : Batch (Certificate S D P G C)) → 0 < s.needed → IsLawful same g.attests s h → next_kind same s h ≡ Some kind → IsBatch g same s kind h batch
+  IsEnding = (h : History S D P G C) (kind : Kind) (batch : Batch (Certificate S D P G C)) → 0 < s.needed → IsConsistent same g.attests s h → next_kind same s h ≡ Some kind → IsBatch g same s kind h batch
       → kinds_left (next_kind same s (after kind (Some batch) h)) < kinds_left (Some kind)
 
   module _ (ends : IsEnding) (some : 0 < s.needed) where
     -- the same, of what a call answered
-    pub made-fewer : (h : History S D P G C) → IsLawful same g.attests s h → (made : Option (Batch (Certificate S D P G C))) (next : Option Kind) → next_kind same s h ≡ next → is_some made ≡ true → is_none made ≡ is_none next
+    pub made-fewer : (h : History S D P G C) → IsConsistent same g.attests s h → (made : Option (Batch (Certificate S D P G C))) (next : Option Kind) → next_kind same s h ≡ next → is_some made ≡ true → is_none made ≡ is_none next
         → ((batch : Batch (Certificate S D P G C)) → made ≡ Some batch → MatchOption next ⊥ (λ kind. IsBatch g same s kind h batch))
         → kinds_left (next_kind same s (after_construction next made h)) < kinds_left next
     made-fewer h lawful None next e some_made none batch = absurd (cc some_made)
@@ -70,7 +70,7 @@ module _ {S D P G C : Type 0} (g : Ghosts S D P G C) (same : D → D → Bool) (
     made-fewer h lawful (Some b) (Some kind) e some_made none batch = ends h kind b some lawful e (batch b refl)
 
     -- each construction leaves one kind less
-    one-less : (h : History S D P G C) (made : Option (Batch (Certificate S D P G C))) (m : ℕ) → IsLawful same g.attests s h → IsConstruction g same s h made → kinds_left (next_kind same s h) ≤ suc m → kinds_left (next_kind same s (after_construction (next_kind same s h) made h)) ≤ m
+    one-less : (h : History S D P G C) (made : Option (Batch (Certificate S D P G C))) (m : ℕ) → IsConsistent same g.attests s h → IsConstruction g same s h made → kinds_left (next_kind same s h) ≤ suc m → kinds_left (next_kind same s (after_construction (next_kind same s h) made h)) ≤ m
     one-less h made m lawful is few = go (next_kind same s h) refl made is few
       where
         go : (next : Option Kind) → next_kind same s h ≡ next → (made : Option (Batch (Certificate S D P G C))) → MatchOption next (made ≡ None) (λ kind. MatchOption made ⊥ (λ batch. IsBatch g same s kind h batch)) → kinds_left next ≤ suc m
@@ -80,7 +80,7 @@ module _ {S D P G C : Type 0} (g : Ghosts S D P G C) (same : D → D → Bool) (
         go (Some kind) e (Some batch) is few = omega (arith, few, ends h kind batch some lawful e is)
 
     -- after three none is left
-    pub three-enough : ((h : History S D P G C) → s.is_skipped ≡ false → IsLawful same g.attests s h → next_kind same s h ≡ None → AllCertified g.attests s h) → (h : History S D P G C) (calls : List (Call S D P G C)) (answers : List (Answer S D P G C)) → s.is_skipped ≡ false → AnswersAre g same s h calls answers → EndsInConstructions calls answers → IsLawful same g.attests s (after_all same s h calls answers)
+    pub three-enough : ((h : History S D P G C) → s.is_skipped ≡ false → IsConsistent same g.attests s h → next_kind same s h ≡ None → AllCertified g.attests s h) → (h : History S D P G C) (calls : List (Call S D P G C)) (answers : List (Answer S D P G C)) → s.is_skipped ≡ false → AnswersAre g same s h calls answers → EndsInConstructions calls answers → IsConsistent same g.attests s (after_all same s h calls answers)
         → AllCertified g.attests s (after_all same s h calls answers)
     three-enough lost h calls answers live are last_calls lawful =
         let three = TryConstruct ∷ TryConstruct ∷ TryConstruct ∷ [] in

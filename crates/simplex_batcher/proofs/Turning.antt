@@ -7,6 +7,7 @@ use Rattle.simplex_judging.specs.Turn.{in_turn}
 use Rattle.simplex_verifier.specs.declared.batch.Batch.{Batch}
 use Rattle.simplex_verifier.specs.History.{History, accepted, has_forwarded}
 use Rattle.simplex_verifier.specs.Construction.{after}
+use Rattle.simplex_batcher.specs.Rounds.{AreNew}
 
 -- the kind whose turn it is, where it passes, and where it doesn't
 pub turn-here : (p : Kind → Bool) (kinds : List Kind) (i : ℕ) (d : Kind) → kinds ≡ in_turn → i < 3 → p (get_or kinds i d) ≡ true → find p (drop i in_turn) ≡ Some (get_or kinds i d)
@@ -36,6 +37,17 @@ module _ {S D P G C : Type 0} (kind : Kind) (made : Option (Batch (Certificate S
           come : (o : Option (Certificate S D P G C)) → batch.certificate ≡ o → accepted h ≡ accepted (after kind (Some batch) h)
           come None e = rw e refl
           come (Some c) e = rw e refl
+
+  pub after-new : AreNew h → AreNew (after kind made h)
+  after-new = go made
+    where
+      go : (made : Option (Batch (Certificate S D P G C))) → AreNew h → AreNew (after kind made h)
+      go None new = new
+      go (Some batch) new = come batch.certificate refl
+        where
+          come : (o : Option (Certificate S D P G C)) → batch.certificate ≡ o → AreNew (after kind (Some batch) h)
+          come None e = rw e new
+          come (Some c) e = rw e new
 
   pub after-forwarded : has_forwarded h ≡ has_forwarded (after kind made h)
   after-forwarded = go made

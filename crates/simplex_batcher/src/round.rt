@@ -26,7 +26,7 @@ use simplex_types::{Attributable, Digest, Participant, Proposal, Round as Rnd, S
 use simplex_verifier::{
     Batch, BatcherFault, Kind, Verifier, batches_rest_on_accepted_votes, constructions_end,
     forwarding_changes_no_votes, kind_of, kind_of_certificate, no_quorum_is_lost,
-    what_is_due_has_no_certificate,
+    what_is_due_has_no_certificate, what_is_new_may_be_added,
 };
 use std::alloc::{AllocError, Global};
 use std::rc::Rc;
@@ -165,6 +165,7 @@ impl<S: Scheme<D>, D: Digest> Round<S, D> {
         ensures cast { OnOk result (AtEach D.PartialEq.eq S.Scheme S.batchable self.old (λ s h. own ≡ true → vote_signer vote.now < s.members → IsNew s h vote.now → VoteAttests S.attests s vote.now → RoundKeeps D.PartialEq.eq S.Scheme S.batchable s self.new (Cast vote.now ∷ h))) }
         ensures err { OnErr result (AtEach D.PartialEq.eq S.Scheme S.batchable self.old (λ s h. RoundKeeps D.PartialEq.eq S.Scheme S.batchable s self.new h)) }
     {
+        what_is_new_may_be_added::<S, D>();
         self.tracker.reach()?;
         self.verifier.add(copied(vote), own)?;
         self.tracker.put(vote);

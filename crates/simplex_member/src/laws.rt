@@ -18,14 +18,16 @@ use simplex_record::{
 };
 use simplex_types::{Digest, Listing, Scheme};
 use simplex_verifier::{
-    batches_rest_on_accepted_votes, no_quorum_is_lost as no_quorum_of_a_round_is_lost,
-    verdicts_on_attestations_are_right, votes_are_of_the_round,
+    batches_rest_on_accepted_votes, lawful_histories_are_consistent,
+    no_quorum_is_lost as no_quorum_of_a_round_is_lost, verdicts_on_attestations_are_right,
+    votes_are_of_the_round,
 };
 
 /// What the laws below take from those of the votes of a round.
 pub(crate) fn rounds_obey<S: Scheme<D>, D: Digest>()
     ensures { (f : Formats S D S.PublicKey S.Signature S.Certificate) → IsExact f → RoundLaws S.Scheme f.same }
 {
+    lawful_histories_are_consistent::<S, D>();
     verdicts_on_attestations_are_right::<S, D>();
     batches_rest_on_accepted_votes::<S, D>();
     votes_are_of_the_round::<S, D>();

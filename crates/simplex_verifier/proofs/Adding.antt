@@ -12,7 +12,7 @@ use Rattle.simplex_verifier.specs.declared.verifier.Verifier.{Verifier}
 use Rattle.simplex_verifier.specs.Votes.{is_kind, vote_kind, fixed_proposal}
 use Rattle.simplex_verifier.specs.History.{History, Event, Taken, Cast, Setup, select, proposal_of, selection, selected, leader_of, is_complete, is_candidate}
 use Rattle.simplex_verifier.specs.Pools.{pool_at, PoolIs, pushed}
-use Rattle.simplex_verifier.specs.Lawful.{Allowed}
+use Rattle.simplex_verifier.specs.Lawful.{MayHappen}
 use Rattle.simplex_verifier.specs.Keeping.{selection_of, led_by, PoolKeeps, KeepsFor, IsVerifierKept, IsChosen}
 use Rattle.simplex_verifier.proofs.Folding.{selection-taken, selection-cast}
 use Rattle.simplex_verifier.proofs.Choosing.{pool-keeps, chosen-keeps, counts-mine, counts-good, keeps-taken, keeps-cast}
@@ -51,7 +51,7 @@ module _ {S D P G C : Type 0} (same : D → D → Bool) (g : Ghosts S D P G C) (
       → PoolIs mid.pools.finalizes old.pools.finalizes.complete (pushed Finalization v (counts && not own) old.pools.finalizes.waiting.items) (pushed Finalization v (counts && own) old.pools.finalizes.verified.items)
       → IsChosen same next mid new → selection_of next ≡ selection (came own v ∷ h)
       → counts ≡ (not (old.skipped || (pool_at (vote_kind v) old.pools).complete) && is_candidate same (proposal_of (selection_of next)) v)
-      → Allowed same g.attests s h (came own v)
+      → MayHappen same g.attests s h (came own v)
       → IsVerifierKept same g batchable s new (came own v ∷ h)
   added-keeps own s h v counts next old mid new k a b c d e f notarizes nullifies finalizes is one held allowed =
       let holds = rw (k.skipped_is, (pool-keeps same g batchable s old h (vote_kind v) k).complete_is, one) at held in

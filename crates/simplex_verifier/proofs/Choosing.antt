@@ -2,7 +2,9 @@
 use Rattle.std.proofs.Common.{◌≡◌, ℕ, Bool, true, false, not, ◌&&◌, ◌||◌, List, [], ◌∷◌, ◌++◌, refl, ap, sym, ◌∙◌, append-nil}
 use Rattle.std.specs.Prelude.{Option, None, Some, filter, find, is_some, if◌then◌else◌}
 use Rattle.std.specs.List.{filter_map}
+use Rattle.std.specs.Option.{option_or}
 use Rattle.std.proofs.lemmas.List.Elements.{filter-append}
+use Rattle.simplex_types.specs.declared.proposal.Proposal.{Proposal}
 use Rattle.simplex_messages.specs.declared.vote.Vote.{Vote}
 use Rattle.simplex_certificates.specs.declared.certificate.Certificate.{Certificate}
 use Rattle.simplex_judging.specs.declared.kind.Kind.{Kind}
@@ -14,7 +16,7 @@ use Rattle.simplex_verifier.specs.History.{History, leader_of, has_forwarded, Ev
 use Rattle.simplex_verifier.specs.Pools.{pool_at, PoolIs, pushed, settled_waiting, settled_verified}
 use Rattle.simplex_types.specs.declared.scheme.Scheme.{Ghosts}
 use Rattle.simplex_verifier.specs.declared.verifier.Verifier.{Verifier}
-use Rattle.simplex_verifier.specs.Lawful.{Allowed}
+use Rattle.simplex_verifier.specs.Lawful.{MayHappen}
 use Rattle.simplex_verifier.specs.Keeping.{selection_of, PoolKeeps, KeepsFor, Counts, IsVerifierKept, IsChosen}
 use Rattle.simplex_verifier.proofs.Folding.{waiting-count, verified-count, selection-stays, counting-stays}
 
@@ -232,6 +234,19 @@ select-nothing Unknown = refl
 select-nothing (Leads p) = refl
 select-nothing (Fixed p) = refl
 
+-- a leader's proposal is selected where nothing else is
+pub select-or : {D : Type 0} (old : Selection D) (led : Option (Proposal D)) → proposal_of (select old None led) ≡ option_or (proposal_of old) led
+select-or Unknown None = refl
+select-or Unknown (Some p) = refl
+select-or (Leads p) led = refl
+select-or (Fixed p) led = refl
+
+-- a leader's proposal is looked at where nothing is selected
+pub select-led : {D : Type 0} (old : Selection D) (l m : Option (Proposal D)) → (proposal_of old ≡ None → l ≡ m) → select old None l ≡ select old None m
+select-led Unknown l m e = ap (λ o. select Unknown None o) (e refl)
+select-led (Leads p) l m e = refl
+select-led (Fixed p) l m e = refl
+
 -- what is not there on the right, and on the left
 pub none-right : {X : Type 0} (a : Bool) (o : Option X) → a || is_some o ≡ false → o ≡ None
 none-right true o e = absurd (cc e)
@@ -280,7 +295,7 @@ module _ {S D P G C : Type 0} (same : D → D → Bool) where
     -- the verifier after an event that selects
     pub chosen-keeps : (s : Setup S) (h : History S D P G C) (e : Event (Vote S D P G C) (Certificate S D P G C)) (next : ProposalState D) (old mid new : Verifier S D P G C)
         → IsVerifierKept same g batchable s old h → mid.round ≡ old.round → mid.scheme ≡ old.scheme → mid.needed ≡ old.needed → mid.skipped ≡ old.skipped → mid.leader ≡ leader_of (e ∷ h)
-        → IsChosen same next mid new → selection_of next ≡ selection (e ∷ h) → Allowed same g.attests s h e
+        → IsChosen same next mid new → selection_of next ≡ selection (e ∷ h) → MayHappen same g.attests s h e
         → PoolKeeps same s Notarization new.pools.notarizes (e ∷ h) → PoolKeeps same s Nullification new.pools.nullifies (e ∷ h) → PoolKeeps same s Finalization new.pools.finalizes (e ∷ h)
         → IsVerifierKept same g batchable s new (e ∷ h)
     chosen-keeps s h e next old mid new k a b c d leader is one allowed n u f = record {

@@ -25,7 +25,7 @@ use Rattle.simplex_verifier.specs.declared.verifier.Verifier.{Verifier}
 use Rattle.simplex_judging.specs.Judging.{IsJudged, IsWhole}
 use Rattle.simplex_verifier.specs.Votes.{vote_proposal, vote_statement, vote_attestation}
 use Rattle.simplex_verifier.specs.History.{History, Setup, selected, context, verified, waiting, is_ready, are_one}
-use Rattle.simplex_verifier.specs.Lawful.{IsLawful}
+use Rattle.simplex_verifier.specs.Lawful.{IsConsistent}
 use Rattle.simplex_verifier.specs.Pools.{pool_at, PoolIs, settled_waiting, settled_verified}
 use Rattle.simplex_verifier.specs.Keeping.{IsVerifierKept}
 use Rattle.simplex_verifier.specs.Construction.{judged_of, IsCertificateOf, IsCertificateOn, IsOfWaiting}
@@ -146,7 +146,7 @@ module _ {S D P G C : Type 0} (same : D → D → Bool) (g : Ghosts S D P G C) (
       (made-of s h kind v first e.0 made k e.1 ready f')
 
   -- the certificate of the votes that waited is of the kind and of the round
-  pub judged-on : (s : Setup S) (h : History S D P G C) (kind : Kind) (c : Certificate S D P G C) (x : Statement D) → IsLawful same g.attests s h → context s kind h ≡ Some x → certificate_statement c ≡ x → IsCertificateOn s kind x c
+  pub judged-on : (s : Setup S) (h : History S D P G C) (kind : Kind) (c : Certificate S D P G C) (x : Statement D) → IsConsistent same g.attests s h → context s kind h ≡ Some x → certificate_statement c ≡ x → IsCertificateOn s kind x c
   judged-on s h kind c x lawful e states =
       let says = e ∙ ap Some (sym states) in record {
         kind_is = certificate-kind same law kind s.round (selected h) c says;

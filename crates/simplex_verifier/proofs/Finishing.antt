@@ -21,7 +21,7 @@ use Rattle.simplex_verifier.specs.declared.batch.Batch.{Batch}
 use Rattle.simplex_judging.specs.Judging.{is_among, without}
 use Rattle.simplex_verifier.specs.Votes.{is_kind, vote_kind, vote_attestation, vote_statement, certificate_kind, certificate_proposal, fixed_proposal}
 use Rattle.simplex_verifier.specs.History.{History, Taken, Cast, Certified, Led, Judged, Forwarded, Setup, Selection, Unknown, Leads, Fixed, select, proposal_of, selection, selected, led, is_complete, counting, waiting, verified, context, is_ready, is_due, are_one, next_kind}
-use Rattle.simplex_verifier.specs.Lawful.{IsLawful}
+use Rattle.simplex_verifier.specs.Lawful.{IsConsistent}
 use Rattle.simplex_verifier.specs.Construction.{after, kinds_left, IsOfWaiting, IsBatch}
 use Rattle.simplex_verifier.proofs.Folding.{selection-stays, selection-certified, select-fixes, waiting-count, verified-count, counting-stays, counting-complete}
 use Rattle.simplex_verifier.proofs.Stating.{verified-state}
@@ -104,7 +104,7 @@ module _ {S D P G C : Type 0} (same : D → D → Bool) (s : Setup S) where
 
   module _ (attests : S → ℕ → Statement D → G → Type 0) where
     -- no finalize is known to attest while no proposal is selected
-    unknown-final : (h : History S D P G C) → IsLawful same attests s h → selected h ≡ None → verified same s Finalization h ≡ []
+    unknown-final : (h : History S D P G C) → IsConsistent same attests s h → selected h ≡ None → verified same s Finalization h ≡ []
     unknown-final [] lawful none = refl
     unknown-final (Taken v ∷ h) lawful none =
         counting-nil Finalization (Taken v ∷ h) (verified same s Finalization h) (unknown-final h lawful.1 (select-none (selection h) None (led (Taken v ∷ h)) none).0)
@@ -168,7 +168,7 @@ module _ {S D P G C : Type 0} (g : Ghosts S D P G C) (same : D → D → Bool) (
     | inr w ↦ (rw e at w.certificate_is).kind_is
   ]
 
-module _ {S D P G C : Type 0} (g : Ghosts S D P G C) (same : D → D → Bool) (law : (x y : D) → IsTrue (same x y) ↔ (x ≡ y)) (s : Setup S) (some : 0 < s.needed) (h : History S D P G C) (lawful : IsLawful same g.attests s h) where
+module _ {S D P G C : Type 0} (g : Ghosts S D P G C) (same : D → D → Bool) (law : (x y : D) → IsTrue (same x y) ↔ (x ≡ y)) (s : Setup S) (some : 0 < s.needed) (h : History S D P G C) (lawful : IsConsistent same g.attests s h) where
   -- what comes of a batch leaves its kind not due
   batch-done : (kind : Kind) (batch : Batch (Certificate S D P G C)) → IsBatch g same s kind h batch → is_due same s kind (after kind (Some batch) h) ≡ false
   batch-done kind batch is = go batch.certificate refl

@@ -17,7 +17,7 @@ use Rattle.simplex_judging.specs.declared.kind.Kind.TheVariants.{Notarization, N
 use Rattle.simplex_judging.specs.Judging.{is_among}
 use Rattle.simplex_verifier.specs.Votes.{is_kind, is_proposal, vote_kind, vote_statement, certificate_kind}
 use Rattle.simplex_verifier.specs.History.{History, accepted, Event, Taken, Cast, Certified, Led, Judged, Forwarded, Setup, certificate_in, selected, is_complete, is_candidate, counting, waiting, verified, context, is_due, next_kind, are_one}
-use Rattle.simplex_verifier.specs.Lawful.{VoteAttests, IsLawful}
+use Rattle.simplex_verifier.specs.Lawful.{VoteAttests, IsConsistent}
 use Rattle.simplex_verifier.specs.Quorums.{NeverOther, IsUnreplaced, Backs, HasQuorum, AllCertified}
 use Rattle.simplex_verifier.proofs.Choosing.{kind-same}
 
@@ -80,7 +80,7 @@ module _ {S D P G C : Type 0} where
 
     module _ (attests : S → ℕ → Statement D → G → Type 0) (s : Setup S) (kind : Kind) (v : Vote S D P G C) (made : s.is_skipped ≡ false) (is : is_kind kind (vote_kind v) ≡ true) (good : VoteAttests attests s v) where
       -- an accepted vote of a kind that is not complete, that attests and counted all along, is verified or waits
-      pub vote-kept : (h : History S D P G C) → IsLawful same attests s h → is_complete kind h ≡ false → Contains (accepted h) v → CountsAllAlong v h → Contains (verified same s kind h) v ⊎ Contains (waiting same s kind h) v
+      pub vote-kept : (h : History S D P G C) → IsConsistent same attests s h → is_complete kind h ≡ false → Contains (accepted h) v → CountsAllAlong v h → Contains (verified same s kind h) v ⊎ Contains (waiting same s kind h) v
       vote-kept [] lawful open_ (k, l, e) along = absurd (omega arith)
       vote-kept (Taken u ∷ h) lawful open_ (zero, l, e) along =
           inr (keep s kind (Taken u ∷ h) (if is_kind kind (vote_kind u) then waiting same s kind h ++ u ∷ [] else waiting same s kind h) v made open_ along.0
@@ -150,7 +150,7 @@ module _ {S D P G C : Type 0} where
           go None e alone = absurd (cc e)
           go (Some p) e alone = along-for h p v Finalization alone (inr (says ∙ sym (cc e)))
 
-      module _ (attests : S → ℕ → Statement D → G → Type 0) (s : Setup S) (h : History S D P G C) (made : s.is_skipped ≡ false) (lawful : IsLawful same attests s h) where
+      module _ (attests : S → ℕ → Statement D → G → Type 0) (s : Setup S) (h : History S D P G C) (made : s.is_skipped ≡ false) (lawful : IsConsistent same attests s h) where
         -- a quorum's votes are all there
         quorum-kept : (kind : Kind) → HasQuorum attests s kind h → IsUnreplaced kind h → is_complete kind h ≡ false → s.needed ≤ length (verified same s kind h) + length (waiting same s kind h)
         quorum-kept kind q alone open_ =

@@ -2,21 +2,22 @@
 use Rattle.std.proofs.Common.{◌≡◌, ◌≢◌, ℕ, zero, suc, Bool, true, false, not, ◌||◌, List, [], ◌∷◌, ◌++◌, refl, sym, arith, append-nil, append_assoc, slice_index_or}
 use Rattle.std.specs.Prelude.{None, Some, filter, find, map, if◌then◌else◌}
 use Rattle.std.specs.List.{All, AllPairs, Contains}
-use Rattle.std.proofs.lemmas.List.Elements.{All-nil, All-cons, All-head, All-tail, All-push, All-append, All-filter, Contains-append_right, filter-append}
+use Rattle.std.proofs.lemmas.List.Elements.{All-nil, All-cons, All-head, All-tail, All-push, All-append, All-filter, Contains-append_right, Contains-get_or, filter-append}
 use Rattle.std.proofs.lemmas.List.{map-append}
 use Rattle.std.proofs.lemmas.List.Kept.{AllPairs-cons, AllPairs-filter}
 use Rattle.simplex_types.specs.Subject.{Statement}
 use Rattle.simplex_types.specs.declared.attestation.Attestation.{Attestation}
 use Rattle.simplex_types.specs.Quorum.{AreDistinct}
 use Rattle.simplex_messages.specs.declared.vote.Vote.{Vote}
+use Rattle.simplex_certificates.specs.declared.certificate.Certificate.{Certificate}
 use Rattle.simplex_messages.specs.declared.vote.Vote.TheVariants as vote
 use Rattle.simplex_messages.specs.VoteParts.{vote_signer}
 use Rattle.simplex_judging.specs.declared.kind.Kind.{Kind}
 use Rattle.simplex_judging.specs.declared.kind.Kind.TheVariants.{Notarization, Nullification, Finalization}
 use Rattle.simplex_judging.specs.Judging.{is_among}
 use Rattle.simplex_verifier.specs.Votes.{is_kind, vote_kind, vote_attestation, is_in_way}
-use Rattle.simplex_verifier.specs.History.{History, accepted, Taken, Cast, Certified, Led, Judged, Forwarded, Setup, selected, is_complete, is_candidate, waiting, verified}
-use Rattle.simplex_verifier.specs.Lawful.{IsNew, VoteAttests, IsLawful}
+use Rattle.simplex_verifier.specs.History.{Event, History, accepted, Taken, Cast, Certified, Led, Judged, Forwarded, Setup, selected, is_complete, is_candidate, waiting, verified}
+use Rattle.simplex_verifier.specs.Lawful.{IsNew, MayBeAdded, VoteAttests, Allowed, IsLawful, MayHappen, IsConsistent}
 use Rattle.simplex_judging.specs.Fewer.{AllPairs-fewer, not-true, filter-holds}
 use Rattle.simplex_verifier.proofs.Choosing.{kind-same}
 
@@ -79,6 +80,11 @@ module _ {X : Type 0} where
       rest : (b : Bool) → (if b then Some y else find p ys) ≡ None → find p ys ≡ None
       rest true n = absurd (cc n)
       rest false n = n
+
+-- what passes no test is not found
+none-found : {X : Type 0} (p : X → Bool) (xs : List X) → All (λ x. p x ≡ false) xs → find p xs ≡ None
+none-found p [] all = refl
+none-found p (x ∷ xs) all = rw (All-head (λ y. p y ≡ false) x xs all) (none-found p xs (All-tail (λ y. p y ≡ false) x xs all))
 
 module _ {S D P G C : Type 0} (same : D → D → Bool) (s : Setup S) (kind : Kind) where
   -- What holds of each accepted vote of the kind holds of each that waits, and of each that is known to attest.
@@ -146,18 +152,19 @@ module _ {S D P G C : Type 0} where
   in-way (vote.Notarize u) v Finalization a b e = absurd (cc a)
   in-way (vote.Nullify u) v Finalization a b e = absurd (cc a)
 
-  -- a new vote is of another signer than each accepted one of its kind
-  new-apart : (s : Setup S) (h : History S D P G C) (v u : Vote S D P G C) (kind : Kind) → IsNew s h v → is_kind kind (vote_kind v) ≡ true → Contains (accepted h) u → is_kind kind (vote_kind u) ≡ true → AreApart v u
-  new-apart s h v u kind new mine there its e =
-      let out = not-found (is_in_way v) (accepted h) u new.free there in
-      let in_ = in-way u v kind its mine (sym e) in
-      absurd (cc (out, in_))
+  -- a vote that does not stand in the way of another one of its kind is of another signer
+  apart-from : (v u : Vote S D P G C) (kind : Kind) → is_kind kind (vote_kind v) ≡ true → is_kind kind (vote_kind u) ≡ true → is_in_way v u ≡ false → AreApart v u
+  apart-from v u kind mine its out e = let in_ = in-way u v kind its mine (sym e) in absurd (cc (out, in_))
+
+  -- and so it is of another signer than each in whose way none of these stands
+  apart-each : (v : Vote S D P G C) (kind : Kind) (votes : List (Vote S D P G C)) → is_kind kind (vote_kind v) ≡ true → All (λ u. is_kind kind (vote_kind u) ≡ true) votes → find (is_in_way v) votes ≡ None → All (AreApart v) votes
+  apart-each v kind votes mine its none = λ k d l. apart-from v (slice_index_or votes k d) kind mine (its k d l) (not-found (is_in_way v) votes (slice_index_or votes k d) none (Contains-get_or votes k d l))
 
   module _ (same : D → D → Bool) (attests : S → ℕ → Statement D → G → Type 0) (s : Setup S) (kind : Kind) where
-    new-apart-each : (h : History S D P G C) (v : Vote S D P G C) → IsNew s h v → is_kind kind (vote_kind v) ≡ true → All (AreApart v) (verified same s kind h ++ waiting same s kind h)
+    new-apart-each : (h : History S D P G C) (v : Vote S D P G C) → MayBeAdded same s h v → is_kind kind (vote_kind v) ≡ true → All (AreApart v) (verified same s kind h ++ waiting same s kind h)
     new-apart-each h v new mine =
-        let both = each-counted same s kind (AreApart v) h (λ u there its. new-apart s h v u kind new mine there its) in
-        All-append (AreApart v) (verified same s kind h) (waiting same s kind h) both.1 both.0
+        let both = each-counted same s kind (λ u. is_kind kind (vote_kind u) ≡ true) h (λ u there its. its) in
+        All-append (AreApart v) (verified same s kind h) (waiting same s kind h) (apart-each v kind (verified same s kind h) mine both.1 (new.none_verified kind)) (apart-each v kind (waiting same s kind h) mine both.0 (new.none_waits kind))
 
     -- one more that waits
     apart-waiting : (b : Bool) (sure wait : List (Vote S D P G C)) (v : Vote S D P G C) → AllPairs AreApart (sure ++ wait) → (b ≡ true → All (AreApart v) (sure ++ wait)) → AllPairs AreApart (sure ++ (if b then wait ++ v ∷ [] else wait))
@@ -174,7 +181,7 @@ module _ {S D P G C : Type 0} where
     apart-judged true q sure wait pairs = rw (append-nil (sure ++ filter q wait)) (AllPairs-fewer AreApart q sure wait pairs)
 
     -- the votes of a kind that count are of distinct signers
-    pub counted-apart : (h : History S D P G C) → IsLawful same attests s h → AllPairs AreApart (verified same s kind h ++ waiting same s kind h)
+    pub counted-apart : (h : History S D P G C) → IsConsistent same attests s h → AllPairs AreApart (verified same s kind h ++ waiting same s kind h)
     counted-apart [] lawful = λ i j d l m. absurd (omega arith)
     counted-apart (Taken v ∷ h) lawful =
         AllPairs-counted AreApart (s.is_skipped || is_complete kind h) (is_candidate same (selected (Taken v ∷ h))) (verified same s kind h) (if is_kind kind (vote_kind v) then waiting same s kind h ++ v ∷ [] else waiting same s kind h)
@@ -188,7 +195,7 @@ module _ {S D P G C : Type 0} where
     counted-apart (Judged k failing ∷ h) lawful = apart-judged (is_kind kind k) (λ v. not (is_among failing (vote_signer v))) (verified same s kind h) (waiting same s kind h) (counted-apart h lawful.1)
 
     -- and so their attestations are
-    pub counted-distinct : (h : History S D P G C) → IsLawful same attests s h → AreDistinct (map vote_attestation (verified same s kind h) ++ map vote_attestation (waiting same s kind h))
+    pub counted-distinct : (h : History S D P G C) → IsConsistent same attests s h → AreDistinct (map vote_attestation (verified same s kind h) ++ map vote_attestation (waiting same s kind h))
     counted-distinct h lawful = rw (← map-append vote_attestation (verified same s kind h) (waiting same s kind h)) (AllPairs-map (λ (a b : Attestation G). a.signer ≢ b.signer) vote_attestation (verified same s kind h ++ waiting same s kind h) (signers (verified same s kind h ++ waiting same s kind h) (counted-apart h lawful)))
       where
         at : (u v : Vote S D P G C) → AreApart u v → (vote_attestation u).signer ≢ (vote_attestation v).signer
@@ -206,7 +213,7 @@ module _ {S D P G C : Type 0} where
         signers votes pairs = λ i j d l m. at (slice_index_or votes i d) (slice_index_or votes j d) (pairs i j d l m)
 
     -- the votes that are verified attest
-    pub verified-attest : (h : History S D P G C) → IsLawful same attests s h → All (VoteAttests attests s) (verified same s kind h)
+    pub verified-attest : (h : History S D P G C) → IsConsistent same attests s h → All (VoteAttests attests s) (verified same s kind h)
     verified-attest [] lawful = All-nil (VoteAttests attests s)
     verified-attest (Taken v ∷ h) lawful = All-counted (VoteAttests attests s) (s.is_skipped || is_complete kind h) (is_candidate same (selected (Taken v ∷ h))) (verified same s kind h) (verified-attest h lawful.1)
     verified-attest (Cast v ∷ h) lawful = All-counted (VoteAttests attests s) (s.is_skipped || is_complete kind h) (is_candidate same (selected (Cast v ∷ h))) (if is_kind kind (vote_kind v) then verified same s kind h ++ v ∷ [] else verified same s kind h)
@@ -217,3 +224,28 @@ module _ {S D P G C : Type 0} where
     verified-attest (Judged k failing ∷ h) lawful = All-if_more (VoteAttests attests s) (is_kind kind k) (verified same s kind h) (filter (λ v. not (is_among failing (vote_signer v))) (waiting same s kind h)) (verified-attest h lawful.1)
         (λ one. filter-holds (VoteAttests attests s) (λ v. not (is_among failing (vote_signer v))) (waiting same s kind h)
         (λ v there out. lawful.0.others_attest v (rw (kind-same kind k one) there) (not-true (is_among failing (vote_signer v)) out)))
+
+module _ {S D P G C : Type 0} (same : D → D → Bool) where
+  -- a vote that no accepted one stands in the way of may be added
+  pub new-added : (s : Setup S) (h : History S D P G C) (v : Vote S D P G C) → IsNew s h v → MayBeAdded same s h v
+  new-added s h v new =
+      let out : (u : Vote S D P G C) → Contains (accepted h) u → is_in_way v u ≡ false = λ u there. not-found (is_in_way v) (accepted h) u new.free there in record {
+        ours = new.ours;
+        none_waits = λ kind. none-found (is_in_way v) (waiting same s kind h) (each-counted same s kind (λ u. is_in_way v u ≡ false) h (λ u there its. out u there)).0;
+        none_verified = λ kind. none-found (is_in_way v) (verified same s kind h) (each-counted same s kind (λ u. is_in_way v u ≡ false) h (λ u there its. out u there)).1;
+      }
+
+  module _ (attests : S → ℕ → Statement D → G → Type 0) (s : Setup S) where
+    -- what is allowed may happen
+    allowed-happens : (h : History S D P G C) (e : Event (Vote S D P G C) (Certificate S D P G C)) → Allowed same attests s h e → MayHappen same attests s h e
+    allowed-happens h (Taken v) new = new-added s h v new
+    allowed-happens h (Cast v) new = (new-added s h v new.0, new.1)
+    allowed-happens h (Certified c) allowed = allowed
+    allowed-happens h (Led i) allowed = allowed
+    allowed-happens h (Judged k failing) allowed = allowed
+    allowed-happens h Forwarded allowed = allowed
+
+    -- what is lawful is consistent
+    pub lawful-consistent : (h : History S D P G C) → IsLawful same attests s h → IsConsistent same attests s h
+    lawful-consistent [] lawful = tt
+    lawful-consistent (e ∷ h) lawful = (allowed-happens h e lawful.0, lawful-consistent h lawful.1)

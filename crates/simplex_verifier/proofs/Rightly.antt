@@ -14,7 +14,7 @@ use Rattle.simplex_judging.specs.declared.kind.Kind.{Kind}
 use Rattle.simplex_judging.specs.Judging.{is_among}
 use Rattle.simplex_verifier.specs.Votes.{vote_statement, vote_attestation}
 use Rattle.simplex_verifier.specs.History.{History, Setup, context, waiting, verified}
-use Rattle.simplex_verifier.specs.Lawful.{VoteAttests, IsRight, IsLawful}
+use Rattle.simplex_verifier.specs.Lawful.{VoteAttests, IsRight, IsConsistent}
 use Rattle.simplex_judging.specs.Fewer.{among-not}
 use Rattle.simplex_verifier.proofs.Lawfully.{AreApart, counted-apart}
 
@@ -57,7 +57,7 @@ module _ {S D P G C : Type 0} where
   signer-of (vote.Nullify v) = refl
   signer-of (vote.Finalize v) = refl
 
-  module _ (same : D → D → Bool) (attests : S → ℕ → Statement D → G → Type 0) (s : Setup S) (kind : Kind) (h : History S D P G C) (lawful : IsLawful same attests s h) where
+  module _ (same : D → D → Bool) (attests : S → ℕ → Statement D → G → Type 0) (s : Setup S) (kind : Kind) (h : History S D P G C) (lawful : IsConsistent same attests s h) where
     apart-waiting : AllPairs AreApart (waiting same s kind h)
     apart-waiting = tail (verified same s kind h) (waiting same s kind h) (counted-apart same attests s kind h lawful)
       where

@@ -21,7 +21,7 @@ use Rattle.simplex_judging.specs.declared.kind.Kind.{Kind}
 use Rattle.simplex_judging.specs.declared.kind.Kind.TheVariants.{Notarization, Nullification, Finalization}
 use Rattle.simplex_verifier.specs.Votes.{is_kind, is_proposal, vote_kind, vote_proposal, notarized_proposal, vote_statement, vote_attestation, certificate_kind, is_notarize_of}
 use Rattle.simplex_verifier.specs.History.{History, accepted, Event, Taken, Cast, Certified, Led, Judged, Forwarded, Setup, Selection, Unknown, Leads, Fixed, select, proposal_of, selection, selected, led, leader_of, notarized_by, fixed_by, is_complete, is_candidate, waiting, verified, are_one, statement_for, context, is_ready}
-use Rattle.simplex_verifier.specs.Lawful.{VoteAttests, IsLawful}
+use Rattle.simplex_verifier.specs.Lawful.{VoteAttests, IsConsistent}
 use Rattle.simplex_verifier.proofs.Folding.{waiting-count, verified-count}
 use Rattle.simplex_verifier.proofs.Lawfully.{each-counted, not-found}
 
@@ -118,7 +118,7 @@ module _ {D : Type 0} (same : D → D → Bool) (law : (x y : D) → IsTrue (sam
 
     module _ (attests : S → ℕ → Statement D → G → Type 0) (s : Setup S) where
       -- each accepted vote is of the round
-      pub accepted-ours : (h : History S D P G C) → IsLawful same attests s h → (v : Vote S D P G C) → Contains (accepted h) v → vote_round v ≡ s.round
+      pub accepted-ours : (h : History S D P G C) → IsConsistent same attests s h → (v : Vote S D P G C) → Contains (accepted h) v → vote_round v ≡ s.round
       accepted-ours [] lawful v (k, l, e) = absurd (omega arith)
       accepted-ours (Taken u ∷ h) lawful v (zero, l, e) = rw (← e) lawful.0.ours
       accepted-ours (Taken u ∷ h) lawful v (suc k, l, e) = accepted-ours h lawful.1 v (k, omega arith, e)
@@ -140,11 +140,11 @@ module _ {D : Type 0} (same : D → D → Bool) (law : (x y : D) → IsTrue (sam
           here true (vote.Finalize u) rest ours more = tt
           here false u rest ours more = more
 
-      led-ours : (h : History S D P G C) (leader : Option ℕ) → IsLawful same attests s h → IsOurs s.round (option_and_then (notarized_by h) leader)
+      led-ours : (h : History S D P G C) (leader : Option ℕ) → IsConsistent same attests s h → IsOurs s.round (option_and_then (notarized_by h) leader)
       led-ours h None lawful = tt
       led-ours h (Some i) lawful = found-ours (is_notarize_of i) (accepted h) (accepted-ours h lawful)
 
-      fixed-ours : (h : History S D P G C) (e : Event (Vote S D P G C) (Certificate S D P G C)) → IsLawful same attests s (e ∷ h) → IsOurs s.round (fixed_by e)
+      fixed-ours : (h : History S D P G C) (e : Event (Vote S D P G C) (Certificate S D P G C)) → IsConsistent same attests s (e ∷ h) → IsOurs s.round (fixed_by e)
       fixed-ours h (Taken v) lawful = tt
       fixed-ours h (Cast (vote.Notarize v)) lawful = tt
       fixed-ours h (Cast (vote.Nullify v)) lawful = tt
@@ -157,18 +157,18 @@ module _ {D : Type 0} (same : D → D → Bool) (law : (x y : D) → IsTrue (sam
       fixed-ours h Forwarded lawful = tt
 
       -- the selected proposal is of the round
-      pub selected-ours : (h : History S D P G C) → IsLawful same attests s h → IsOurs s.round (selected h)
+      pub selected-ours : (h : History S D P G C) → IsConsistent same attests s h → IsOurs s.round (selected h)
       selected-ours [] lawful = tt
       selected-ours (e ∷ h) lawful = select-ours s.round (selection h) (fixed_by e) (led (e ∷ h)) (selected-ours h lawful.1) (fixed-ours h e lawful) (led-ours (e ∷ h) (leader_of (e ∷ h)) lawful)
 
-      pub selected-if : (h : History S D P G C) → IsLawful same attests s h → IfSome (selected h) (λ p. p.round ≡ s.round)
+      pub selected-if : (h : History S D P G C) → IsConsistent same attests s h → IfSome (selected h) (λ p. p.round ≡ s.round)
       selected-if h lawful = go (selected h) (selected-ours h lawful)
         where
           go : (o : Option (Proposal D)) → IsOurs s.round o → IfSome o (λ p. p.round ≡ s.round)
           go None ours = tt
           go (Some p) ours = ours
 
-      module _ (kind : Kind) (h : History S D P G C) (lawful : IsLawful same attests s h) where
+      module _ (kind : Kind) (h : History S D P G C) (lawful : IsConsistent same attests s h) where
         -- of this kind, and of the round
         abbrev pub IsMine : Vote S D P G C → Type 0
         IsMine v = (is_kind kind (vote_kind v) ≡ true) × (vote_round v ≡ s.round)

@@ -16,7 +16,7 @@ use Rattle.simplex_judging.specs.Fewer.{filter-holds}
 use Rattle.simplex_verifier.specs.declared.batch.Batch.{Batch}
 use Rattle.simplex_verifier.specs.Votes.{is_kind, vote_kind, vote_statement, vote_attestation}
 use Rattle.simplex_verifier.specs.History.{History, Setup, accepted, is_complete, waiting, verified, context, is_ready, is_due, are_one}
-use Rattle.simplex_verifier.specs.Lawful.{IsLawful}
+use Rattle.simplex_verifier.specs.Lawful.{IsConsistent}
 use Rattle.simplex_verifier.specs.Construction.{IsVoted, HasFailed, IsFounded, IsOfVerified, IsOfWaiting, IsBatch}
 use Rattle.simplex_verifier.proofs.Folding.{waiting-count, verified-count, counting-complete}
 use Rattle.simplex_verifier.proofs.Lawfully.{each-counted}
@@ -63,7 +63,7 @@ module _ {S D P G C : Type 0} (g : Ghosts S D P G C) (same : D → D → Bool) (
     | inr at ↦ Contains-append_right sure wait a (left-there failing wait a at)
   ]
 
-  module _ (lawful : IsLawful same g.attests s h) where
+  module _ (lawful : IsConsistent same g.attests s h) where
     founded-verified : (batch : Batch (Certificate S D P G C)) (c : Certificate S D P G C) → IsOfVerified g same s kind h batch → batch.certificate ≡ Some c → IsFounded g s kind h c
     founded-verified batch c v e =
         let one : v.certificate ≡ c = cc (v.made, e) in

@@ -13,7 +13,7 @@ use Rattle.simplex_verifier.specs.declared.proposal_state.ProposalState.TheVaria
 use Rattle.simplex_verifier.specs.declared.pool.Pool.{Pool}
 use Rattle.simplex_verifier.specs.declared.verifier.Verifier.{Verifier}
 use Rattle.simplex_verifier.specs.History.{History, Setup, Selection, Unknown, Leads, Fixed, proposal_of, selection, leader_of, is_complete, is_candidate, waiting, verified}
-use Rattle.simplex_verifier.specs.Lawful.{IsLawful}
+use Rattle.simplex_verifier.specs.Lawful.{IsConsistent}
 use Rattle.simplex_verifier.specs.Pools.{PoolIs}
 
 -- the selection that a state stands for
@@ -43,7 +43,7 @@ module _ {S D P G C : Type 0} (same : D → D → Bool) where
       pub notarizes : PoolKeeps s Notarization v.pools.notarizes h
       pub nullifies : PoolKeeps s Nullification v.pools.nullifies h
       pub finalizes : PoolKeeps s Finalization v.pools.finalizes h
-      pub lawful : IsLawful same g.attests s h
+      pub lawful : IsConsistent same g.attests s h
 
     -- the same, closed for those who stand above
     unfoldable pub VerifierKeeps : Setup S → Verifier S D P G C → History S D P G C → Type 0
@@ -53,10 +53,10 @@ module _ {S D P G C : Type 0} (same : D → D → Bool) where
     abbrev pub AtEachOf : Verifier S D P G C → (Setup S → History S D P G C → Type 0) → Type 0
     AtEachOf v Holds = (s : Setup S) (h : History S D P G C) → VerifierKeeps s v h → Holds s h
 
-    -- a history that leads to a verifier is lawful
-    pub kept-lawful : (s : Setup S) (v : Verifier S D P G C) (h : History S D P G C) → VerifierKeeps s v h → IsLawful same g.attests s h
+    -- a history that leads to a verifier is consistent
+    pub kept-consistent : (s : Setup S) (v : Verifier S D P G C) (h : History S D P G C) → VerifierKeeps s v h → IsConsistent same g.attests s h
     unfolding VerifierKeeps
-    kept-lawful s v h k = k.lawful
+    kept-consistent s v h k = k.lawful
 
     -- the members are those of the scheme
     pub kept-members : (s : Setup S) (v : Verifier S D P G C) (h : History S D P G C) → VerifierKeeps s v h → g.size s.scheme ≡ s.members
@@ -69,6 +69,10 @@ module _ {S D P G C : Type 0} (same : D → D → Bool) where
     kept-needed s v h k = k.some_needed
 
 module _ {S D P G C : Type 0} where
+  -- the proposal that a verifier holds for the round's, whatever was given for the leader's
+  unfoldable pub held_by : Verifier S D P G C → Option (Proposal D)
+  held_by v = proposal_of (selection_of v.proposal)
+
   -- the leader's proposal, where the vote is this leader's notarize
   abbrev pub led_by : Option ℕ → Vote S D P G C → Option (Proposal D)
   led_by leader (vote.Notarize v) = option_and_then (λ i. if v.attestation.signer == i then Some v.proposal else None) leader

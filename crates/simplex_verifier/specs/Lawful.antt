@@ -1,5 +1,5 @@
 -- Which histories a round can have.
-use Rattle.std.specs.Prelude.{◌≡◌, ℕ, Bool, true, false, List, [], ◌∷◌, Contains, None, is_some, ⊤}
+use Rattle.std.specs.Prelude.{◌≡◌, ℕ, Bool, true, false, List, [], ◌∷◌, Contains, None, find, is_some, ⊤}
 use Rattle.simplex_types.specs.Subject.{Statement}
 use Rattle.simplex_messages.specs.declared.vote.Vote.{Vote}
 use Rattle.simplex_certificates.specs.declared.certificate.Certificate.{Certificate}
@@ -7,8 +7,8 @@ use Rattle.simplex_messages.specs.VoteParts.{vote_round, vote_signer}
 use Rattle.simplex_certificates.specs.Certificate.{certificate_round}
 use Rattle.simplex_judging.specs.declared.kind.Kind.{Kind}
 use Rattle.simplex_judging.specs.Judging.{is_among}
-use Rattle.simplex_verifier.specs.Votes.{vote_statement, vote_attestation}
-use Rattle.simplex_verifier.specs.History.{Event, Taken, Cast, Certified, Led, Judged, Forwarded, History, Setup, recorded, leader_of, has_forwarded, context, waiting}
+use Rattle.simplex_verifier.specs.Votes.{vote_statement, vote_attestation, is_in_way}
+use Rattle.simplex_verifier.specs.History.{Event, Taken, Cast, Certified, Led, Judged, Forwarded, History, Setup, recorded, leader_of, has_forwarded, context, waiting, verified}
 
 module _ {S D P G C : Type 0} where
   -- the vote is of this round, and no accepted vote stands in its way
@@ -19,6 +19,14 @@ module _ {S D P G C : Type 0} where
   -- the vote's attestation attests what the vote states
   abbrev pub VoteAttests : (S → ℕ → Statement D → G → Type 0) → Setup S → Vote S D P G C → Type 0
   VoteAttests attests s v = attests s.scheme (vote_signer v) (vote_statement v) (vote_attestation v).signature
+
+  module _ (same : D → D → Bool) where
+    -- the vote is of this round, and no vote that waits or is known to attest stands in its way: none of its signer of its
+    -- kind or, of nullify and finalize, of either
+    pub record MayBeAdded (s : Setup S) (h : History S D P G C) (v : Vote S D P G C) : Type 0 where
+      pub ours : vote_round v ≡ s.round
+      pub none_waits : (kind : Kind) → find (is_in_way v) (waiting same s kind h) ≡ None
+      pub none_verified : (kind : Kind) → find (is_in_way v) (verified same s kind h) ≡ None
 
   module _ (same : D → D → Bool) (attests : S → ℕ → Statement D → G → Type 0) where
     -- the votes of a kind that wait were judged rightly: it was known what they have to state, and just those that fail are
@@ -41,3 +49,18 @@ module _ {S D P G C : Type 0} where
     abbrev pub IsLawful : Setup S → History S D P G C → Type 0
     IsLawful s [] = ⊤
     IsLawful s (e ∷ h) = Allowed s h e × IsLawful s h
+
+    -- What may happen where votes are told by those alone that wait or are known to attest: as what is allowed, but that a
+    -- vote which came before and counts no more stands in no vote's way.
+    abbrev pub MayHappen : Setup S → History S D P G C → Event (Vote S D P G C) (Certificate S D P G C) → Type 0
+    MayHappen s h (Taken v) = MayBeAdded same s h v
+    MayHappen s h (Cast v) = MayBeAdded same s h v × VoteAttests attests s v
+    MayHappen s h (Certified c) = certificate_round c ≡ s.round
+    MayHappen s h (Led i) = leader_of h ≡ None
+    MayHappen s h (Judged kind failing) = IsRight s h kind failing
+    MayHappen s h Forwarded = has_forwarded h ≡ false
+
+    -- each event could happen so after those before it
+    abbrev pub IsConsistent : Setup S → History S D P G C → Type 0
+    IsConsistent s [] = ⊤
+    IsConsistent s (e ∷ h) = MayHappen s h e × IsConsistent s h

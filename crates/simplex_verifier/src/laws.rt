@@ -13,7 +13,7 @@ ghost use Rattle.simplex_verifier.specs.declared.batch.Batch.{Batch};
 ghost use Rattle.simplex_verifier.specs.declared.verifier.Verifier.{Verifier};
 ghost use Rattle.simplex_verifier.specs.Votes.{is_kind, vote_kind, vote_statement, vote_attestation};
 ghost use Rattle.simplex_verifier.specs.History.{Event, Forwarded, History, Setup, accepted, context, counting, has_forwarded, is_candidate, is_complete, is_due, next_kind, selected, statement_for, taken, verified, waiting};
-ghost use Rattle.simplex_verifier.specs.Lawful.{IsLawful, IsRight};
+ghost use Rattle.simplex_verifier.specs.Lawful.{IsConsistent, IsLawful, IsNew, IsRight, MayBeAdded};
 ghost use Rattle.simplex_verifier.specs.Keeping.{VerifierKeeps};
 ghost use Rattle.simplex_verifier.specs.Construction.{after, kinds_left, HasFailed, IsBatch, IsFounded};
 ghost use Rattle.simplex_verifier.specs.Quorums.{AllCertified};
@@ -24,12 +24,12 @@ use simplex_types::{Digest, Scheme};
 /// No quorum is lost: where no construction is due, each kind with a valid quorum has its certificate, of notarizes and
 /// finalizes where the selected proposal replaced no other.
 pub fn no_quorum_is_lost<S: Scheme<D>, D: Digest>()
-    ensures { (s : Setup S) (h : History S D S.PublicKey S.Signature S.Certificate) → s.is_skipped ≡ false → IsLawful D.PartialEq.eq S.attests s h → next_kind D.PartialEq.eq s h ≡ None → AllCertified S.attests s h }
+    ensures { (s : Setup S) (h : History S D S.PublicKey S.Signature S.Certificate) → s.is_skipped ≡ false → IsConsistent D.PartialEq.eq S.attests s h → next_kind D.PartialEq.eq s h ≡ None → AllCertified S.attests s h }
 {}
 
 /// After a construction of the first kind of which one was due a later one is due, or none.
 pub fn constructions_end<S: Scheme<D>, D: Digest>()
-    ensures { (s : Setup S) (h : History S D S.PublicKey S.Signature S.Certificate) (kind : Kind) (batch : Batch (Certificate S D S.PublicKey S.Signature S.Certificate)) → 0 < s.needed → IsLawful D.PartialEq.eq S.attests s h → next_kind D.PartialEq.eq s h ≡ Some kind → IsBatch S.Scheme D.PartialEq.eq s kind h batch → kinds_left (next_kind D.PartialEq.eq s (after kind (Some batch) h)) < kinds_left (Some kind) }
+    ensures { (s : Setup S) (h : History S D S.PublicKey S.Signature S.Certificate) (kind : Kind) (batch : Batch (Certificate S D S.PublicKey S.Signature S.Certificate)) → 0 < s.needed → IsConsistent D.PartialEq.eq S.attests s h → next_kind D.PartialEq.eq s h ≡ Some kind → IsBatch S.Scheme D.PartialEq.eq s kind h batch → kinds_left (next_kind D.PartialEq.eq s (after kind (Some batch) h)) < kinds_left (Some kind) }
 {}
 
 /// No more votes are judged than came from the network: no event lets more wait than waited and came with it, and what a
@@ -49,8 +49,8 @@ pub fn forwarding_changes_no_votes<S: Scheme<D>, D: Digest>()
 /// states, and lists attestations alone of accepted votes of the kind that state the same. Of each signer that is called
 /// invalid a vote of the kind was accepted that does not attest what it states.
 pub fn batches_rest_on_accepted_votes<S: Scheme<D>, D: Digest>()
-    ensures certificates { (s : Setup S) (h : History S D S.PublicKey S.Signature S.Certificate) (kind : Kind) (batch : Batch (Certificate S D S.PublicKey S.Signature S.Certificate)) → IsLawful D.PartialEq.eq S.attests s h → IsBatch S.Scheme D.PartialEq.eq s kind h batch → IfSome batch.certificate (IsFounded S.Scheme s kind h) }
-    ensures invalid { (s : Setup S) (h : History S D S.PublicKey S.Signature S.Certificate) (kind : Kind) (batch : Batch (Certificate S D S.PublicKey S.Signature S.Certificate)) → IsLawful D.PartialEq.eq S.attests s h → IsBatch S.Scheme D.PartialEq.eq s kind h batch → All (HasFailed S.attests s kind h) batch.invalid.items }
+    ensures certificates { (s : Setup S) (h : History S D S.PublicKey S.Signature S.Certificate) (kind : Kind) (batch : Batch (Certificate S D S.PublicKey S.Signature S.Certificate)) → IsConsistent D.PartialEq.eq S.attests s h → IsBatch S.Scheme D.PartialEq.eq s kind h batch → IfSome batch.certificate (IsFounded S.Scheme s kind h) }
+    ensures invalid { (s : Setup S) (h : History S D S.PublicKey S.Signature S.Certificate) (kind : Kind) (batch : Batch (Certificate S D S.PublicKey S.Signature S.Certificate)) → IsConsistent D.PartialEq.eq S.attests s h → IsBatch S.Scheme D.PartialEq.eq s kind h batch → All (HasFailed S.attests s kind h) batch.invalid.items }
 {}
 
 /// A construction is due of a kind alone that has no certificate.
@@ -75,19 +75,30 @@ pub fn votes_count_once_more<S: Scheme<D>, D: Digest>()
 
 /// Accepted votes and the selected proposal are of the round.
 pub fn votes_are_of_the_round<S: Scheme<D>, D: Digest>()
-    ensures accepted { (s : Setup S) (h : History S D S.PublicKey S.Signature S.Certificate) (v : Vote S D S.PublicKey S.Signature S.Certificate) → IsLawful D.PartialEq.eq S.attests s h → Contains (accepted h) v → vote_round v ≡ s.round }
-    ensures selected { (s : Setup S) (h : History S D S.PublicKey S.Signature S.Certificate) → IsLawful D.PartialEq.eq S.attests s h → IfSome (selected h) (λ p. p.round ≡ s.round) }
+    ensures accepted { (s : Setup S) (h : History S D S.PublicKey S.Signature S.Certificate) (v : Vote S D S.PublicKey S.Signature S.Certificate) → IsConsistent D.PartialEq.eq S.attests s h → Contains (accepted h) v → vote_round v ≡ s.round }
+    ensures selected { (s : Setup S) (h : History S D S.PublicKey S.Signature S.Certificate) → IsConsistent D.PartialEq.eq S.attests s h → IfSome (selected h) (λ p. p.round ≡ s.round) }
 {}
 
 /// Where it is known what votes of a kind have to state, each that waits or is known to attest states it; and so does each
 /// vote of the kind and of the round that is for the selected proposal.
 pub fn votes_that_count_state_it<S: Scheme<D>, D: Digest>()
     ensures candidates { (kind : Kind) (round : Round) (p : Option (Proposal D)) (x : Statement D) (v : Vote S D S.PublicKey S.Signature S.Certificate) → statement_for kind round p ≡ Some x → is_kind kind (vote_kind v) ≡ true → vote_round v ≡ round → is_candidate D.PartialEq.eq p v ≡ true → vote_statement v ≡ x }
-    ensures waiting { (s : Setup S) (h : History S D S.PublicKey S.Signature S.Certificate) (kind : Kind) (x : Statement D) → IsLawful D.PartialEq.eq S.attests s h → context s kind h ≡ Some x → All (λ v. vote_statement v ≡ x) (waiting D.PartialEq.eq s kind h) }
-    ensures verified { (s : Setup S) (h : History S D S.PublicKey S.Signature S.Certificate) (kind : Kind) (x : Statement D) → IsLawful D.PartialEq.eq S.attests s h → context s kind h ≡ Some x → All (λ v. vote_statement v ≡ x) (verified D.PartialEq.eq s kind h) }
+    ensures waiting { (s : Setup S) (h : History S D S.PublicKey S.Signature S.Certificate) (kind : Kind) (x : Statement D) → IsConsistent D.PartialEq.eq S.attests s h → context s kind h ≡ Some x → All (λ v. vote_statement v ≡ x) (waiting D.PartialEq.eq s kind h) }
+    ensures verified { (s : Setup S) (h : History S D S.PublicKey S.Signature S.Certificate) (kind : Kind) (x : Statement D) → IsConsistent D.PartialEq.eq S.attests s h → context s kind h ≡ Some x → All (λ v. vote_statement v ≡ x) (verified D.PartialEq.eq s kind h) }
 {}
 
 /// A verdict on the attestations of the votes that wait is right of the votes.
 pub fn verdicts_on_attestations_are_right<S: Scheme<D>, D: Digest>()
-    ensures { (s : Setup S) (h : History S D S.PublicKey S.Signature S.Certificate) (kind : Kind) (x : Statement D) (failing : List ℕ) → IsLawful D.PartialEq.eq S.attests s h → context s kind h ≡ Some x → AreFailing (λ i a. S.attests s.scheme i x a) (map vote_attestation (waiting D.PartialEq.eq s kind h)) failing → IsRight D.PartialEq.eq S.attests s h kind failing }
+    ensures { (s : Setup S) (h : History S D S.PublicKey S.Signature S.Certificate) (kind : Kind) (x : Statement D) (failing : List ℕ) → IsConsistent D.PartialEq.eq S.attests s h → context s kind h ≡ Some x → AreFailing (λ i a. S.attests s.scheme i x a) (map vote_attestation (waiting D.PartialEq.eq s kind h)) failing → IsRight D.PartialEq.eq S.attests s h kind failing }
+{}
+
+/// A lawful history is consistent: what stands in the way of no accepted vote stands in the way of none that waits or
+/// counts.
+pub fn lawful_histories_are_consistent<S: Scheme<D>, D: Digest>()
+    ensures { (s : Setup S) (h : History S D S.PublicKey S.Signature S.Certificate) → IsLawful D.PartialEq.eq S.attests s h → IsConsistent D.PartialEq.eq S.attests s h }
+{}
+
+/// A vote that no accepted one stands in the way of may be added.
+pub fn what_is_new_may_be_added<S: Scheme<D>, D: Digest>()
+    ensures { (s : Setup S) (h : History S D S.PublicKey S.Signature S.Certificate) (v : Vote S D S.PublicKey S.Signature S.Certificate) → IsNew s h v → MayBeAdded D.PartialEq.eq s h v }
 {}

@@ -1,15 +1,15 @@
 //! The votes of one round that count for certificates.
 
 ghost use Rattle.std.specs.Prelude.{◌≡◌, ◌↔◌, ◌++◌, ◌∷◌, ◌≤◌, [], ◌&&◌, ◌||◌, ℕ, List, Bool, not, filter, length, Option, Some, None, IsTrue, IfOk, IfErr, IfSome, Err, ◌≢◌, OnOk, OnErr, MatchOption, if◌then◌else◌, is_some, nat_le, max, true, false};
-ghost use Rattle.std.specs.Option.{option_copied, option_map};
+ghost use Rattle.std.specs.Option.{option_copied, option_map, option_or};
 ghost use Rattle.simplex_verifier.specs.declared.fault.BatcherFault.TheVariants.{OtherLeader};
 ghost use Rattle.simplex_committee.specs.Committee.{quorum};
 ghost use Rattle.simplex_certificates.specs.Certificate.{certificate_round};
 ghost use Rattle.simplex_verifier.specs.Votes.{vote_kind, fixed_proposal};
 ghost use Rattle.simplex_verifier.specs.History.{Taken, Cast, Certified, Led, History, Setup, select, proposal_of, selected, selection, leader_of, led, notarized_by, context, waiting, verified, is_candidate, is_complete, is_ready, is_due, next_kind};
-ghost use Rattle.simplex_verifier.specs.Lawful.{Allowed};
+ghost use Rattle.simplex_verifier.specs.Lawful.{MayHappen};
 ghost use Rattle.simplex_verifier.specs.Pools.{PoolIs, PoolStays, pool_at};
-ghost use Rattle.simplex_verifier.specs.Keeping.{VerifierKeeps, AtEachOf, selection_of, IsChosen, led_by};
+ghost use Rattle.simplex_verifier.specs.Keeping.{VerifierKeeps, AtEachOf, selection_of, IsChosen, held_by, led_by};
 
 use crate::fault::BatcherFault;
 use crate::pools::Pools;
@@ -89,7 +89,8 @@ impl<S: Scheme<D>, D: Digest> Verifier<S, D> {
 
     /// The selected proposal.
     pub fn proposal(&self) -> Option<&Proposal<D>>
-        ensures { AtEachOf D.PartialEq.eq S.Scheme S.batchable self.now (λ s h. option_copied result ≡ selected h) }
+        ensures selected { AtEachOf D.PartialEq.eq S.Scheme S.batchable self.now (λ s h. option_copied result ≡ selected h) }
+        ensures held { option_copied result ≡ held_by self.now }
     {
         self.proposal.proposal()
     }
@@ -152,10 +153,12 @@ impl<S: Scheme<D>, D: Digest> Verifier<S, D> {
         }
     }
 
-    /// Adds a vote: one that is known to attest, or one that waits to be judged. After an `Err` it counts as not made.
+    /// Adds a vote: one that is known to attest, or one that waits to be judged. No vote of its signer may wait or be known
+    /// to attest that stands in its way: of its kind or, of nullify and finalize, of either. After an `Err` it counts as not
+    /// made.
     pub fn add(&mut self, vote: Vote<S, D>, verified: bool) -> Result<(), AllocError>
-        ensures waits { OnOk result (AtEachOf D.PartialEq.eq S.Scheme S.batchable self.old (λ s h. verified ≡ false → Allowed D.PartialEq.eq S.attests s h (Taken vote) → VerifierKeeps D.PartialEq.eq S.Scheme S.batchable s self.new (Taken vote ∷ h))) }
-        ensures verified { OnOk result (AtEachOf D.PartialEq.eq S.Scheme S.batchable self.old (λ s h. verified ≡ true → Allowed D.PartialEq.eq S.attests s h (Cast vote) → VerifierKeeps D.PartialEq.eq S.Scheme S.batchable s self.new (Cast vote ∷ h))) }
+        ensures waits { OnOk result (AtEachOf D.PartialEq.eq S.Scheme S.batchable self.old (λ s h. verified ≡ false → MayHappen D.PartialEq.eq S.attests s h (Taken vote) → VerifierKeeps D.PartialEq.eq S.Scheme S.batchable s self.new (Taken vote ∷ h))) }
+        ensures verified { OnOk result (AtEachOf D.PartialEq.eq S.Scheme S.batchable self.old (λ s h. verified ≡ true → MayHappen D.PartialEq.eq S.attests s h (Cast vote) → VerifierKeeps D.PartialEq.eq S.Scheme S.batchable s self.new (Cast vote ∷ h))) }
         ensures err { OnErr result (AtEachOf D.PartialEq.eq S.Scheme S.batchable self.old (λ s h. VerifierKeeps D.PartialEq.eq S.Scheme S.batchable s self.new h)) }
     {
         if !self.may_select(&vote, verified) {
@@ -180,8 +183,8 @@ impl<S: Scheme<D>, D: Digest> Verifier<S, D> {
 
     /// Adds a vote that fixes no proposal, and isn't the leader's notarize.
     fn hold(&mut self, vote: Vote<S, D>, verified: bool) -> Result<(), AllocError>
-        ensures waits { OnOk result (AtEachOf D.PartialEq.eq S.Scheme S.batchable self.old (λ s h. verified ≡ false → led_by self.old.leader vote ≡ None → Allowed D.PartialEq.eq S.attests s h (Taken vote) → VerifierKeeps D.PartialEq.eq S.Scheme S.batchable s self.new (Taken vote ∷ h))) }
-        ensures verified { OnOk result (AtEachOf D.PartialEq.eq S.Scheme S.batchable self.old (λ s h. verified ≡ true → fixed_proposal vote ≡ None → led_by self.old.leader vote ≡ None → Allowed D.PartialEq.eq S.attests s h (Cast vote) → VerifierKeeps D.PartialEq.eq S.Scheme S.batchable s self.new (Cast vote ∷ h))) }
+        ensures waits { OnOk result (AtEachOf D.PartialEq.eq S.Scheme S.batchable self.old (λ s h. verified ≡ false → led_by self.old.leader vote ≡ None → MayHappen D.PartialEq.eq S.attests s h (Taken vote) → VerifierKeeps D.PartialEq.eq S.Scheme S.batchable s self.new (Taken vote ∷ h))) }
+        ensures verified { OnOk result (AtEachOf D.PartialEq.eq S.Scheme S.batchable self.old (λ s h. verified ≡ true → fixed_proposal vote ≡ None → led_by self.old.leader vote ≡ None → MayHappen D.PartialEq.eq S.attests s h (Cast vote) → VerifierKeeps D.PartialEq.eq S.Scheme S.batchable s self.new (Cast vote ∷ h))) }
         ensures err { OnErr result (AtEachOf D.PartialEq.eq S.Scheme S.batchable self.old (λ s h. VerifierKeeps D.PartialEq.eq S.Scheme S.batchable s self.new h)) }
     {
         let held = self.counts(&self.proposal, &vote);
@@ -201,7 +204,8 @@ impl<S: Scheme<D>, D: Digest> Verifier<S, D> {
         self.choose(next)
     }
 
-    /// Names the leader, with its notarize where one was added. The same leader again changes nothing.
+    /// Names the leader, with its notarize where one was added, of two the later. Where a proposal is selected already the
+    /// notarize is not looked at; else its proposal is selected, whatever was added. The same leader again changes nothing.
     ///
     /// # Errors
     ///
@@ -214,7 +218,8 @@ impl<S: Scheme<D>, D: Digest> Verifier<S, D> {
         ensures other { AtEachOf D.PartialEq.eq S.Scheme S.batchable self.old (λ s h. IfSome (leader_of h) (λ known. known ≢ leader → result ≡ Err OtherLeader)) }
         ensures refused { IfErr result (λ e. AtEachOf D.PartialEq.eq S.Scheme S.batchable self.old (λ s h. (e ≡ OtherLeader) × MatchOption (leader_of h) ⊥ (λ known. known ≢ leader))) }
         ensures same { OnOk result (AtEachOf D.PartialEq.eq S.Scheme S.batchable self.old (λ s h. leader_of h ≡ Some leader → VerifierKeeps D.PartialEq.eq S.Scheme S.batchable s self.new h)) }
-        ensures first { OnOk result (AtEachOf D.PartialEq.eq S.Scheme S.batchable self.old (λ s h. leader_of h ≡ None → option_map (λ n. n.proposal) (option_copied notarize.entry) ≡ notarized_by h leader → VerifierKeeps D.PartialEq.eq S.Scheme S.batchable s self.new (Led leader ∷ h))) }
+        ensures first { OnOk result (AtEachOf D.PartialEq.eq S.Scheme S.batchable self.old (λ s h. leader_of h ≡ None → (selected h ≡ None → option_map (λ n. n.proposal) (option_copied notarize.entry) ≡ notarized_by h leader) → VerifierKeeps D.PartialEq.eq S.Scheme S.batchable s self.new (Led leader ∷ h))) }
+        ensures holds { OnOk result (AtEachOf D.PartialEq.eq S.Scheme S.batchable self.old (λ s h. leader_of h ≡ None → held_by self.new ≡ option_or (selected h) (option_map (λ n. n.proposal) (option_copied notarize.entry)))) }
         ensures err { OnErr result (AtEachOf D.PartialEq.eq S.Scheme S.batchable self.old (λ s h. VerifierKeeps D.PartialEq.eq S.Scheme S.batchable s self.new h)) }
     {
         match self.lead(leader, proposal_in(notarize)) {
@@ -232,7 +237,8 @@ impl<S: Scheme<D>, D: Digest> Verifier<S, D> {
         ensures other { AtEachOf D.PartialEq.eq S.Scheme S.batchable self.old (λ s h. IfSome (leader_of h) (λ known. known ≢ leader → result ≡ Err OtherLeader)) }
         ensures refused { IfErr result (λ e. AtEachOf D.PartialEq.eq S.Scheme S.batchable self.old (λ s h. (e ≡ OtherLeader) × MatchOption (leader_of h) ⊥ (λ known. known ≢ leader))) }
         ensures same { OnOk result (AtEachOf D.PartialEq.eq S.Scheme S.batchable self.old (λ s h. leader_of h ≡ Some leader → VerifierKeeps D.PartialEq.eq S.Scheme S.batchable s self.new h)) }
-        ensures first { OnOk result (AtEachOf D.PartialEq.eq S.Scheme S.batchable self.old (λ s h. leader_of h ≡ None → led ≡ notarized_by h leader → VerifierKeeps D.PartialEq.eq S.Scheme S.batchable s self.new (Led leader ∷ h))) }
+        ensures first { OnOk result (AtEachOf D.PartialEq.eq S.Scheme S.batchable self.old (λ s h. leader_of h ≡ None → (selected h ≡ None → led ≡ notarized_by h leader) → VerifierKeeps D.PartialEq.eq S.Scheme S.batchable s self.new (Led leader ∷ h))) }
+        ensures holds { OnOk result (AtEachOf D.PartialEq.eq S.Scheme S.batchable self.old (λ s h. leader_of h ≡ None → held_by self.new ≡ option_or (selected h) led)) }
         ensures err { OnErr result (AtEachOf D.PartialEq.eq S.Scheme S.batchable self.old (λ s h. VerifierKeeps D.PartialEq.eq S.Scheme S.batchable s self.new h)) }
     {
         match self.leader {

@@ -4,7 +4,7 @@ use Rattle.simplex_batcher.specs.Run.{after_call}
 use Rattle.simplex_batcher.proofs.Reaching.{Reached-start, Reached-asked, Reached-step, Reached-end}
 use Rattle.simplex_batcher.proofs.Summing.{processed-taken}
 use Rattle.simplex_batcher.proofs.Ending.{three-enough}
-use Rattle.simplex_verifier.specs.Keeping.{kept-lawful, kept-needed}
+use Rattle.simplex_verifier.specs.Keeping.{kept-consistent, kept-needed}
 use Rattle.simplex_batcher.specs.Rounds.{RoundKeeps}
 use Rattle.simplex_batcher.proofs.running.run.Goals as goal
 
@@ -52,4 +52,4 @@ returns-clause-certified g c = λ s first k all live ends.
     let none = nil_from_length _ (sym c.loop-call.call-iterator.rest.ok.0 ∙ c.in-None.ensures.steps.0) in
     let reached = Reached-end _ _ _ _ _ _ _ _ i.2 none in
     let kept = i.1.verifier in
-    three-enough g.S.Scheme g.D.PartialEq.eq s (λ h kind batch. c.constructions_end.ensures s h kind batch) (kept-needed g.D.PartialEq.eq g.S.Scheme g.S.Scheme.batchable s _ _ kept) (λ h. c.no_quorum_is_lost.ensures s h) first _ _ live reached.0 ends (rw reached.1 (kept-lawful g.D.PartialEq.eq g.S.Scheme g.S.Scheme.batchable s _ _ kept))
+    three-enough g.S.Scheme g.D.PartialEq.eq s (λ h kind batch. c.constructions_end.ensures s h kind batch) (kept-needed g.D.PartialEq.eq g.S.Scheme g.S.Scheme.batchable s _ _ kept) (λ h. c.no_quorum_is_lost.ensures s h) first _ _ live reached.0 ends (rw reached.1 (kept-consistent g.D.PartialEq.eq g.S.Scheme g.S.Scheme.batchable s _ _ kept))

@@ -4,7 +4,7 @@ use Rattle.simplex_judging.specs.declared.kind.Kind.TheVariants.{Notarization}
 use Rattle.simplex_verifier.specs.History.{is_due, next_kind}
 use Rattle.simplex_verifier.specs.Construction.{after, IsBatch}
 use Rattle.simplex_batcher.specs.Rounds.{RoundKeeps}
-use Rattle.simplex_batcher.proofs.Turning.{turn-here, turn-past, match-at, after-accepted, after-forwarded}
+use Rattle.simplex_batcher.proofs.Turning.{turn-here, turn-past, match-at, after-accepted, after-new, after-forwarded}
 use Rattle.simplex_batcher.proofs.round.Round.construct_first.Goals as goal
 
 pub returns-in-Some-clause-none : goal.returns-in-Some-clause-none
@@ -40,6 +40,7 @@ returns-in-Some-clause-ok g c = λ s h k.
     match-at _ (λ kind. RoundKeeps g.D.PartialEq.eq g.S.Scheme g.S.Scheme.batchable s _ (after kind made h)) (next_kind g.D.PartialEq.eq s h) kind next (record {
       verifier = (rw c.in-Some.is at c.in_ok-batch.ensures.keeps) s h now.0.verifier;
       tracker = rw (← after-accepted kind made h) now.0.tracker;
+      are_new = after-new kind made h now.0.are_new;
       members_are = now.0.members_are;
       tracks_is = now.0.tracks_is;
       forwarded_is = rw (← after-forwarded kind made h) now.0.forwarded_is;
@@ -53,6 +54,7 @@ loop-kind-preserved g c = λ s h k.
       record {
         verifier = (rw c.in_default.is at c.in_ok-batch.ensures.keeps) s h now.0.verifier;
         tracker = now.0.tracker;
+        are_new = now.0.are_new;
         members_are = now.0.members_are;
         tracks_is = now.0.tracks_is;
         forwarded_is = now.0.forwarded_is;

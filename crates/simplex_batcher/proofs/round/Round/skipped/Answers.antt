@@ -9,6 +9,7 @@ returns g c =
     let e : max 0 (quorum (g.S.Scheme.size c.args.scheme.value)) ≡ quorum (g.S.Scheme.size c.args.scheme.value) = grind arith in record {
       verifier = rw e at (c.open.ensures false);
       tracker = c.new.ensures.keeps;
+      are_new = tt;
       members_are = rw c.deref.ensures at (c.new.ensures.members ∙ c.participants.ensures.value);
       tracks_is = refl;
       forwarded_is = refl;

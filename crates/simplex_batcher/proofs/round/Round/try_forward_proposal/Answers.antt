@@ -12,6 +12,7 @@ returns-in-Some-clause-keeps g c = λ s h k.
     rw e (record {
       verifier = c.forwarding_changes_no_votes.ensures s c.args.self.now.verifier h k.verifier (not-yet h c.args.me c.in-Some.proposal e);
       tracker = k.tracker;
+      are_new = k.are_new;
       members_are = k.members_are;
       tracks_is = k.tracks_is;
       forwarded_is = refl;
