@@ -34,7 +34,7 @@ use Rattle.simplex_member.specs.Refusals.{blocks_sender, evidence_deeds, refused
 use Rattle.simplex_member.specs.Setup.{Setup, owner_of}
 use Rattle.simplex_member.proofs.Going.{Lawful}
 use Rattle.simplex_member.proofs.Keeping.{cut-keeps, lives-keep, turns-keep}
-use Rattle.simplex_member.proofs.Lists.{Contains-mapped, Lacks, lacks-absurd, lacks-append, lacks-if, lacks-map, lacks-nil, lacks-one}
+use Rattle.simplex_member.proofs.Lists.{Contains-mapped, Lacks, lacks-absurd, lacks-append, lacks-if, lacks-map, lacks-nil, lacks-one, some-is}
 use Rattle.simplex_member.proofs.Living.{all-lives-lawful}
 use Rattle.simplex_member.proofs.Sending.{sent-recorded, vote_in}
 use Rattle.simplex_member.proofs.Telling.{apart}
@@ -106,7 +106,7 @@ module _ {S D P G C : Type 0} (g : Ghosts S D P G C) (f : Formats S D P G C) (s 
   placed : (r : List (Artifact S D P G C)) → Lawful g f s r → (x : Artifact S D P G C) → Contains r x → (before : List (Artifact S D P G C)) × (behind : List (Artifact S D P G C)) × (r ≡ before ++ x ∷ behind) × Fits (g.attests s.voter.scheme) (g.certifies s.voter.scheme) (owner_of s) before x
   placed r lawful x here = let at = splits r x here in (at.before, at.behind, at.is, lawful at.before at.behind x at.is)
 
-  own-signed : (before : List (Artifact S D P G C)) (v : Vote S D P G C) → Fits (g.attests s.voter.scheme) (g.certifies s.voter.scheme) (owner_of s) before (vote_artifact v) → vote_signer v ≡ s.me
+  pub own-signed : (before : List (Artifact S D P G C)) (v : Vote S D P G C) → Fits (g.attests s.voter.scheme) (g.certifies s.voter.scheme) (owner_of s) before (vote_artifact v) → vote_signer v ≡ s.me
   own-signed before (vote.Notarize v) fits = fits.verifies.own
   own-signed before (vote.Nullify v) fits = fits.verifies.own
   own-signed before (vote.Finalize v) fits = fits.verifies.own
@@ -144,13 +144,14 @@ module _ {S D P G C : Type 0} (g : Ghosts S D P G C) (f : Formats S D P G C) (sc
     where
       by-deed : (by : Channel) (bytes : List ℕ) → f.packet_in by bytes ≡ Some (of_vote v) → (d : Deed S D P G C) → HandedOut g f scheme m world j d → HandsOutBytes g f scheme m world by bytes d → IsOwnAndSound world j v
       by-deed by bytes read (Sends to x) sent is =
-          let one : of_vote v ≡ x = back.same x (of_vote v) (subst (λ (b : List ℕ). f.packet_in (packet_channel x) b ≡ Some (of_vote v)) is.1 (subst (λ (c : Channel). f.packet_in c bytes ≡ Some (of_vote v)) is.0 read)) in
+          let read_so : f.packet_in (packet_channel x) (f.packet x) ≡ Some (of_vote v) = subst (λ (b : List ℕ). f.packet_in (packet_channel x) b ≡ Some (of_vote v)) is.1 (subst (λ (c : Channel). f.packet_in c bytes ≡ Some (of_vote v)) is.0 read) in
+          let one : of_vote v ≡ x = some-is (of_vote v) x (sym read_so ∙ back.again x (faithful.sent j cj to x sent)) in
           own-sound w j cj to v (subst (λ (y : Packet S D P G C). HandedOut g f scheme m world j (Sends to y)) (sym one) sent)
       by-deed by bytes read (Serves member served) sent is = absurd (apart (sym (ap is_votes (back.by_channel by bytes (of_vote v) read ∙ is.0))))
       by-deed by bytes read d sent is = absurd is
 
       go : (e : Event D) → WasHanded g f scheme m world i e → Holds g f scheme m world e j (of_vote v) → IsOwnAndSound world j v
       go (event.Packet from by bytes) handed holds =
-          let d = faithful i j (event.Packet from by bytes) by bytes.items ci cj handed (holds.0, refl, refl) in
+          let d = faithful.handed i j (event.Packet from by bytes) by bytes.items ci cj handed (holds.0, refl, refl) in
           by-deed by bytes.items holds.1 d.0 d.1 d.2
       go e handed holds = absurd holds

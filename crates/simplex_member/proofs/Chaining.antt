@@ -5,7 +5,7 @@ use Rattle.std.proofs.lemmas.List.{append-nil, map-append}
 use Rattle.simplex_types.specs.declared.scheme.Scheme.{Ghosts}
 use Rattle.simplex_certificates.specs.declared.artifact.Artifact.{Artifact}
 use Rattle.simplex_record.specs.declared.owner.Owner.{Owner}
-use Rattle.simplex_record.specs.Chain.{AllStandOnGround, MayFollowOnGround, StandsOnGround}
+use Rattle.simplex_record.specs.Chain.{MayFollowOnGround, StandsOnGround}
 use Rattle.simplex_record.specs.Record.{Entry, entry, entries}
 use Rattle.simplex_record.specs.World.{World, IsCorrect}
 use Rattle.simplex_history.specs.History.{scheduled_leader}
@@ -27,7 +27,7 @@ abbrev pub GroundGrows : Type 0 → Type 0
 GroundGrows D = (size views : ℕ) (leader : ℕ → Option ℕ) (member : ℕ) (before : List (Entry D)) (e : Entry D) → StandsOnGround size views leader member before → MayFollowOnGround size views leader member before e → StandsOnGround size views leader member (before ++ e ∷ [])
 
 module _ {S D P G C : Type 0} (g : Ghosts S D P G C) (f : Formats S D P G C) (s : Setup S D C) where
-  begun-stays : (p : Point S D P G C) (h : History S D P G C) → is_begun h ≡ true → is_begun (p ∷ h) ≡ true
+  pub begun-stays : (p : Point S D P G C) (h : History S D P G C) → is_begun h ≡ true → is_begun (p ∷ h) ≡ true
   begun-stays Began h begun = refl
   begun-stays p h begun = begun
 
@@ -93,17 +93,25 @@ module _ {S D P G C : Type 0} (g : Ghosts S D P G C) (f : Formats S D P G C) (s 
     lives-ground found [] left is ground = subst Ground (sym is) ground
     lives-ground found (life ∷ lives) left all ground = lives-ground (record_of all.0) lives left all.2 (life-ground found life all.0 all.1 ground).ground
 
-module _ {S D P G C : Type 0} (g : Ghosts S D P G C) (f : Formats S D P G C) (scheme : S) (m : Members S D P G C) (world : World S D P G C) (leader : ℕ → Option ℕ) where
-  -- the record of each correct member of a world of lives stands on ground
-  pub all-grounded : EachHistoryMatches S D P G C → DueVerdictIsOnGround D → DueNotarizeIsOnGround D → GroundGrows D → ((size views : ℕ) (leader : ℕ → Option ℕ) (member : ℕ) → StandsOnGround {D = D} size views leader member [])
-      → RoundLaws g f.same → world.size ≢ 1 → ((i : ℕ) → IsCorrect world i → (view : ℕ) → scheduled_leader (m.setup i).voter view ≡ leader view) → AreMembers g f scheme m world → AllStandOnGround leader world
-  all-grounded law verdict notarize_law grows first laws more schedule w i correct =
-      let size = (w.alike i correct).size_is in
-      let mine : (m.setup i).me ≡ i = ap (λ (o : Owner). o.signer) (w.owner i correct) in
-      let many : g.size (m.setup i).voter.scheme ≢ 1 = λ one. more (sym size ∙ one) in
-      let left = lives-ground g f (m.setup i) law verdict notarize_law grows many laws (w.me i correct ∙ ap (λ (n : ℕ). Some n) (sym mine)) [] (m.lives i) (world.recorded i) (w.lived i correct)
-      (first (g.size (m.setup i).voter.scheme) (m.setup i).voter.length (scheduled_leader (m.setup i).voter) (m.setup i).me) in
-      let by_size = subst (λ (n : ℕ). StandsOnGround n (m.setup i).voter.length (scheduled_leader (m.setup i).voter) (m.setup i).me (entries (world.recorded i))) size left in
+module _ {S D P G C : Type 0} (g : Ghosts S D P G C) (f : Formats S D P G C) (scheme : S) (m : Members S D P G C) (world : World S D P G C) (leader : ℕ → Option ℕ)
+    (schedule : (i : ℕ) → IsCorrect world i → (view : ℕ) → scheduled_leader (m.setup i).voter view ≡ leader view) (w : AreMembers g f scheme m world) (i : ℕ) (correct : IsCorrect world i) where
+  pub mine : (m.setup i).me ≡ i
+  mine = ap (λ (o : Owner). o.signer) (w.owner i correct)
+
+  pub by-index : (m.setup i).voter.me ≡ Some (m.setup i).me
+  by-index = w.me i correct ∙ ap (λ (n : ℕ). Some n) (sym mine)
+
+  -- a record that stands on ground by the member's own setup does so by the world's
+  pub by-world : Ground g f (m.setup i) (world.recorded i) → StandsOnGround world.size world.term_length leader i (entries (world.recorded i))
+  by-world left =
+      let by_size = subst (λ (n : ℕ). StandsOnGround n (m.setup i).voter.length (scheduled_leader (m.setup i).voter) (m.setup i).me (entries (world.recorded i))) (w.alike i correct).size_is left in
       let by_length = subst (λ (n : ℕ). StandsOnGround world.size n (scheduled_leader (m.setup i).voter) (m.setup i).me (entries (world.recorded i))) (ap (λ (o : Owner). o.term_length) (w.owner i correct)) by_size in
       let by_leader = subst (λ (l : ℕ → Option ℕ). StandsOnGround world.size world.term_length l (m.setup i).me (entries (world.recorded i))) (λ j view. schedule i correct view j) by_length in
       subst (λ (n : ℕ). StandsOnGround world.size world.term_length leader n (entries (world.recorded i))) mine by_leader
+
+  -- the record of a correct member of a committee of more than one stands on ground
+  pub many-grounded : EachHistoryMatches S D P G C → DueVerdictIsOnGround D → DueNotarizeIsOnGround D → GroundGrows D → ((size views : ℕ) (leader : ℕ → Option ℕ) (member : ℕ) → StandsOnGround {D = D} size views leader member [])
+      → RoundLaws g f.same → world.size ≢ 1 → StandsOnGround world.size world.term_length leader i (entries (world.recorded i))
+  many-grounded law verdict notarize_law grows first laws more =
+      by-world (lives-ground g f (m.setup i) law verdict notarize_law grows (λ one. more (sym (w.alike i correct).size_is ∙ one)) laws by-index [] (m.lives i) (world.recorded i) (w.lived i correct)
+      (first (g.size (m.setup i).voter.scheme) (m.setup i).voter.length (scheduled_leader (m.setup i).voter) (m.setup i).me))

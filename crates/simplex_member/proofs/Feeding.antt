@@ -34,7 +34,7 @@ module _ {S D P G C : Type 0} where
     Each [] = ⊤
     Each (p ∷ points) = Q p × Each points
 
-    each-append : (xs ys : List (Point S D P G C)) → Each xs → Each ys → Each (xs ++ ys)
+    pub each-append : (xs ys : List (Point S D P G C)) → Each xs → Each ys → Each (xs ++ ys)
     each-append [] ys a b = b
     each-append (p ∷ xs) ys a b = (a.0, each-append xs ys a.1 b)
 
@@ -51,7 +51,7 @@ module _ {S D P G C : Type 0} where
 
 module _ {S D P G C : Type 0} (g : Ghosts S D P G C) (f : Formats S D P G C) (scheme : S) (m : Members S D P G C) (world : World S D P G C) (i : ℕ)
     (Q : Point S D P G C → Type 0) (quiet : (p : Point S D P G C) → takes_in p ≡ false → Q p) where
-  acts-each : (points : List (Point S D P G C)) → AreActs points → Each Q points
+  pub acts-each : (points : List (Point S D P G C)) → AreActs points → Each Q points
   acts-each [] acts = tt
   acts-each (p ∷ points) acts = (quiet p (act-takes-none p (acts 0 p (omega arith))), acts-each points (λ k d l. acts (suc k) d (omega (arith, l))))
 

@@ -33,7 +33,7 @@ module _ {S D P G C : Type 0} (g : Ghosts S D P G C) (f : Formats S D P G C) (s 
   Judges h r = JudgesOnGround (g.size s.voter.scheme) s.voter.length (entries (record_of h)) r
 
   -- ground stays ground, and what stands on it stands
-  ground-on : (p : Point S D P G C) (h : History S D P G C) (view : ℕ) → IsGround (entries (record_of h)) view → IsGround (entries (record_of (p ∷ h))) view
+  pub ground-on : (p : Point S D P G C) (h : History S D P G C) (view : ℕ) → IsGround (entries (record_of h)) view → IsGround (entries (record_of (p ∷ h))) view
   ground-on p h view is = ⊎_elim
       (λ zero. inl zero)
       (λ explicit. inr (⊎_elim

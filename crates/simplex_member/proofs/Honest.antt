@@ -23,7 +23,7 @@ use Rattle.simplex_verifier.specs.Votes.{vote_attestation, vote_statement}
 use Rattle.simplex_member.specs.declared.event.Event.{Event}
 use Rattle.simplex_member.specs.Allowed.{Allowed, AreAllowed}
 use Rattle.simplex_member.specs.Laws.{IsKnownVote, IsOfVote, RecordedAreHonest, RoundLaws}
-use Rattle.simplex_member.specs.Lives.{Life, Broken, Lasting, Turn, Refuses, Went, IsCut, IsHonestVote, IsWorldOfLives, CameIn, Lived, Lives, Members, Turns, WasHanded, events_of, turn_events}
+use Rattle.simplex_member.specs.Lives.{Life, Broken, Lasting, Turn, Refuses, Went, IsCut, IsHonestVote, AreMembers, CameIn, Lived, Lives, Members, Turns, WasHanded, events_of, turn_events}
 use Rattle.simplex_member.specs.Member.{AreOpening, AreStep, Goes, IsPacketPoint}
 use Rattle.simplex_member.specs.Packet.{Formats, Packet, of_vote, of_certificate, of_ask}
 use Rattle.simplex_member.specs.Point.{Point, Found, Heard, Came, Wanted, Judged, Constructs, Votes, History}
@@ -145,10 +145,10 @@ module _ {S D P G C : Type 0} (g : Ghosts S D P G C) (f : Formats S D P G C) (sc
 
     -- ---- what a life takes in is honest
 
-    module _ (w : IsWorldOfLives g f scheme m world) (correct : IsCorrect world i) where
+    module _ (w : AreMembers g f scheme m world) (correct : IsCorrect world i) where
       came-fed : (sender : ℕ) (x : Packet S D P G C) → CameIn g f scheme m world i sender x → (p : Point S D P G C) → IsPacketPoint sender (Some x) p → IsFed p
-      came-fed sender (of_vote v) came (Heard u) is = subst (λ (x : Vote S D P G C). IsHonestVote g f scheme m world x) is.0 (w.members.honest i sender correct (of_vote v) came)
-      came-fed sender (of_certificate c) came (Came d) is = subst (λ (x : Certificate S D P G C). Honest x) is (w.members.honest i sender correct (of_certificate c) came)
+      came-fed sender (of_vote v) came (Heard u) is = subst (λ (x : Vote S D P G C). IsHonestVote g f scheme m world x) is.0 (w.honest i sender correct (of_vote v) came)
+      came-fed sender (of_certificate c) came (Came d) is = subst (λ (x : Certificate S D P G C). Honest x) is (w.honest i sender correct (of_certificate c) came)
       came-fed sender (of_ask view) came (Wanted member asked) is = tt
       came-fed sender (of_vote v) came p is = absurd is
       came-fed sender (of_certificate c) came p is = absurd is
@@ -195,7 +195,7 @@ module _ {S D P G C : Type 0} (g : Ghosts S D P G C) (f : Formats S D P G C) (sc
           (record-honest all.0 allowed fed (λ x there. part x (lives-keep g f (m.setup i) (record_of all.0) lives left all.2 x there)))
           (λ l there. among l (Contains-rest life lives l there)) part
 
-  pub recorded-honest : RoundLaws g f.same → IsWorldOfLives g f scheme m world → RecordedAreHonest g f scheme m world
+  pub recorded-honest : RoundLaws g f.same → AreMembers g f scheme m world → RecordedAreHonest g f scheme m world
   recorded-honest laws w i correct c here =
-      lives-honest laws i (ap (λ (o : Owner). o.signer) (w.members.owner i correct)) w correct [] (m.lives i) (world.recorded i) (w.members.lived i correct)
+      lives-honest laws i (ap (λ (o : Owner). o.signer) (w.owner i correct)) w correct [] (m.lives i) (world.recorded i) (w.lived i correct)
       (λ x d there is. absurd (omega (arith, there.1))) (λ life there. there) (λ x there. there) (certificate_artifact c) c here (as-is c)

@@ -26,7 +26,7 @@ module _ {S D P G C : Type 0} (g : Ghosts S D P G C) (f : Formats S D P G C) (s 
   says-on p h e here = mapped-before entry (record_of h) (recorded_by p) e here
 
   -- a verdict that is due is on what was notarized
-  due-taken : EachHistoryMatches S D P G C → (h : History S D P G C) → AreAllowed g f s h → (p : Proposal D) → Allowed g f s h (AsksCertify p) → HasTaken (entries (record_of h)) (notarize p)
+  pub due-taken : EachHistoryMatches S D P G C → (h : History S D P G C) → AreAllowed g f s h → (p : Proposal D) → Allowed g f s h (AsksCertify p) → HasTaken (entries (record_of h)) (notarize p)
   due-taken law [] all p a = absurd (apart a.order)
   due-taken law (q ∷ h) all p a = ((matches g f s law q h all).notarized p.round.view p a.due.opens.notarized).1
 

@@ -29,3 +29,12 @@ mod Blocking
 mod Walk
 mod Spared
 mod Raising
+mod Walking
+mod Doing
+mod Alone
+mod Making
+mod Reporting
+mod Entering
+mod Spellings
+mod Serving
+mod Blameless

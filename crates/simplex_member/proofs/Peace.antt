@@ -40,7 +40,7 @@ use Rattle.simplex_member.proofs.Living.{all-lives-lawful}
 use Rattle.simplex_member.proofs.Lists.{Contains-map, some-is}
 
 -- what is found stands there, and passes
-find-there : {X : Type 0} (p : X → Bool) (xs : List X) (x : X) → find p xs ≡ Some x → Contains xs x × (p x ≡ true)
+pub find-there : {X : Type 0} (p : X → Bool) (xs : List X) (x : X) → find p xs ≡ Some x → Contains xs x × (p x ≡ true)
 find-there p [] x e = absurd (none-some x e)
 find-there {X} p (y ∷ xs) x e = go (p y) refl e (λ rest. find-there p xs x rest)
   where
@@ -49,7 +49,7 @@ find-there {X} p (y ∷ xs) x e = go (p y) refl e (λ rest. find-there p xs x re
     go false is e rest = let later = rest e in (Contains-rest y xs x later.0, later.1)
 
 -- of two that stand in a list one stands before the other, or they are one
-record Before {X : Type 0} (xs : List X) (x y : X) : Type 0 where
+pub record Before {X : Type 0} (xs : List X) (x y : X) : Type 0 where
   pub before : List X
   pub behind : List X
   pub is : xs ≡ before ++ y ∷ behind
@@ -63,7 +63,7 @@ front {X} xs z x y is here =
     let at = splits xs y here in
     record { before = z ∷ at.before; behind = at.behind; is = ap (λ (l : List X). z ∷ l) at.is; there = subst (λ (w : X). Contains (z ∷ at.before) w) is (Contains-head z at.before) }
 
-ordered : {X : Type 0} (xs : List X) (x y : X) → Contains xs x → Contains xs y → (x ≡ y) ⊎ (Before xs x y ⊎ Before xs y x)
+pub ordered : {X : Type 0} (xs : List X) (x y : X) → Contains xs x → Contains xs y → (x ≡ y) ⊎ (Before xs x y ⊎ Before xs y x)
 ordered [] x y a b = absurd (omega (arith, a.1))
 ordered (z ∷ xs) x y a b = ⊎_elim
     (λ first. ⊎_elim

@@ -27,11 +27,11 @@ use Rattle.simplex_member.proofs.Peace.{none-contradicts}
 use Rattle.simplex_member.proofs.Telling.{apart}
 
 -- a refusal that blocks none isn't one that blocks
-spares : (r other : Refusal) → Some r ≡ Some other → blocks_sender other ≡ false → blocks_sender r ≡ true → ⊥
+pub spares : (r other : Refusal) → Some r ≡ Some other → blocks_sender other ≡ false → blocks_sender r ≡ true → ⊥
 spares r other e spared blocks = apart (sym spared ∙ (ap blocks_sender (sym (some-is r other e)) ∙ blocks))
 
 module _ {S D P G C : Type 0} where
-  sender-alone : (b : Bool) (sender j : ℕ) → Contains {X = Deed S D P G C} (if b then Blocks sender ∷ [] else []) (Blocks j) → (b ≡ true) × (sender ≡ j)
+  pub sender-alone : (b : Bool) (sender j : ℕ) → Contains {X = Deed S D P G C} (if b then Blocks sender ∷ [] else []) (Blocks j) → (b ≡ true) × (sender ≡ j)
   sender-alone true sender j here = (refl, only here)
     where
       only : Contains {X = Deed S D P G C} (Blocks sender ∷ []) (Blocks j) → sender ≡ j
@@ -39,11 +39,11 @@ module _ {S D P G C : Type 0} where
   sender-alone false sender j here = absurd (omega (arith, here.1))
 
 module _ {S D P G C : Type 0} (g : Ghosts S D P G C) (f : Formats S D P G C) (s : Setup S D C) where
-  evidence-spares : (h : History S D P G C) (sender : ℕ) (o : Option (Packet S D P G C)) (j : ℕ) → Contains (evidence_deeds g f s h sender o) (Blocks j) → ⊥
+  pub evidence-spares : (h : History S D P G C) (sender : ℕ) (o : Option (Packet S D P G C)) (j : ℕ) → Contains (evidence_deeds g f s h sender o) (Blocks j) → ⊥
   evidence-spares h sender (Some (of_vote v)) j here = lacks-absurd block_in _ (Blocks j) j (lacks-map block_in Reports _ (λ a. refl)) refl here
   evidence-spares h sender o j here = absurd (omega (arith, here.1))
 
-  report-spares : (r : Refusal) (deeds : List (Deed S D P G C)) (j : ℕ) → (Contains deeds (Blocks j) → ⊥) → Contains (refusal_report g f s r deeds) (Blocks j) → ⊥
+  pub report-spares : (r : Refusal) (deeds : List (Deed S D P G C)) (j : ℕ) → (Contains deeds (Blocks j) → ⊥) → Contains (refusal_report g f s r deeds) (Blocks j) → ⊥
   report-spares refusal.Contradiction deeds j none here = none here
   report-spares r deeds j none here = absurd (omega (arith, here.1))
 

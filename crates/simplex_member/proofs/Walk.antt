@@ -31,14 +31,14 @@ use Rattle.simplex_member.proofs.Peace.{none-invalid}
 use Rattle.simplex_member.proofs.Lists.{put-before}
 
 module _ {S D P G C : Type 0} (g : Ghosts S D P G C) (f : Formats S D P G C) (scheme : S) (m : Members S D P G C) (world : World S D P G C) (i : ℕ) where
-  abbrev IsTaken : Point S D P G C → Type 0
+  abbrev pub IsTaken : Point S D P G C → Type 0
   IsTaken (Heard v) = CameIn g f scheme m world i (vote_signer v) (of_vote v)
   IsTaken p = ⊤
 
-  abbrev AreTaken : List (Point S D P G C) → Type 0
+  abbrev pub AreTaken : List (Point S D P G C) → Type 0
   AreTaken points = Each IsTaken points
 
-  quiet-taken : (p : Point S D P G C) → takes_in p ≡ false → IsTaken p
+  pub quiet-taken : (p : Point S D P G C) → takes_in p ≡ false → IsTaken p
   quiet-taken (Heard v) none = absurd (apart (sym none))
   quiet-taken p none = tt
 
@@ -51,10 +51,10 @@ module _ {S D P G C : Type 0} (g : Ghosts S D P G C) (f : Formats S D P G C) (sc
   found-taken : (x : Artifact S D P G C) (taken : Bool) → IsTaken (Found x taken)
   found-taken x taken = tt
 
-  opening-taken : (now : ℕ) (found : List (Artifact S D P G C)) (points : List (Point S D P G C)) → AreOpening g f (m.setup i) now found points → AreTaken points
+  pub opening-taken : (now : ℕ) (found : List (Artifact S D P G C)) (points : List (Point S D P G C)) → AreOpening g f (m.setup i) now found points → AreTaken points
   opening-taken now found points o = opening-each g f scheme m world i IsTaken quiet-taken now found points o (λ x taken there. found-taken x taken)
 
-  came-taken : (sender : ℕ) (x : Packet S D P G C) → CameIn g f scheme m world i sender x → (p : Point S D P G C) → IsPacketPoint sender (Some x) p → IsTaken p
+  pub came-taken : (sender : ℕ) (x : Packet S D P G C) → CameIn g f scheme m world i sender x → (p : Point S D P G C) → IsPacketPoint sender (Some x) p → IsTaken p
   came-taken sender (of_vote v) came (Heard u) is = subst (λ (x : Vote S D P G C). CameIn g f scheme m world i (vote_signer x) (of_vote x)) is.0
       (subst (λ (k : ℕ). CameIn g f scheme m world i k (of_vote v)) (sym is.1) came)
   came-taken sender (of_certificate c) came (Came d) is = tt

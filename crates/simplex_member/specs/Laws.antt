@@ -1,6 +1,6 @@
 -- What follows from the member model, as statements. Each is proved where a function without a body has it as a clause (`laws.rt`): what
 -- stands in no clause there is not proved.
-use Rattle.std.specs.Prelude.{◌≡◌, ◌≢◌, ◌↔◌, IsTrue, ◌⊎◌, ◌≤◌, ◌<◌, ◌+◌, ◌^◌, ◌++◌, ℕ, true, false, List, [], ◌∷◌, Contains, IsSome, Option, Some, nat_lt, if◌then◌else◌, Bool, None, IfSome, map, All}
+use Rattle.std.specs.Prelude.{◌≡◌, ◌≢◌, ◌↔◌, IsTrue, ◌⊎◌, ◌≤◌, ◌<◌, ◌+◌, ◌^◌, ◌++◌, ℕ, true, false, List, [], ◌∷◌, Contains, IsSome, Option, Some, nat_lt, if◌then◌else◌, Bool, None, IfSome, map, All, ⊤}
 use Rattle.simplex_types.specs.declared.attestation.Attestation.{Attestation}
 use Rattle.simplex_types.specs.declared.position.Round.{Round}
 use Rattle.simplex_types.specs.declared.proposal.Proposal.{Proposal}
@@ -9,7 +9,9 @@ use Rattle.simplex_types.specs.Subject.{Statement}
 use Rattle.simplex_certificates.specs.declared.artifact.Artifact.{Artifact}
 use Rattle.simplex_certificates.specs.declared.certificate.Certificate.{Certificate}
 use Rattle.simplex_certificates.specs.declared.nullify.Nullify.{Nullify}
-use Rattle.simplex_certificates.specs.ProposalVote.{Finalize}
+use Rattle.simplex_certificates.specs.ProposalVote.{Finalize, Notarize}
+use Rattle.simplex_messages.specs.declared.activity.Activity.{Activity}
+use Rattle.simplex_messages.specs.Guilt.{finalizes_in, notarizes_in, nullifies_in}
 use Rattle.simplex_messages.specs.declared.vote.Vote.{Vote}
 use Rattle.simplex_messages.specs.declared.vote.Vote.TheVariants as vote
 use Rattle.simplex_certificates.specs.Artifact.{certificate_artifact}
@@ -18,8 +20,8 @@ use Rattle.simplex_certificates.specs.Certificate.{certificate_statement, certif
 use Rattle.simplex_messages.specs.VoteParts.{vote_round, vote_signer}
 use Rattle.simplex_judging.specs.declared.kind.Kind.{Kind}
 use Rattle.simplex_rules.specs.Windows.{HasExactly}
-use Rattle.simplex_record.specs.Record.{entries, entry}
-use Rattle.simplex_record.specs.Rules.{HasParentBelow, MayFollow, MayJudge}
+use Rattle.simplex_record.specs.Record.{entries, entry, HasVoted}
+use Rattle.simplex_record.specs.Rules.{HasParentBelow, MayFollow, MayJudge, StandsInTheWay}
 use Rattle.simplex_record.specs.Lawful.{IsLawful, IsRefusedAt}
 use Rattle.simplex_record.specs.Chain.{MayFollowOnGround, OneChain}
 use Rattle.simplex_record.specs.World.{World, IsCorrect, IsHonest, IsSound}
@@ -48,13 +50,16 @@ use Rattle.simplex_member.specs.Asked.{IsAwaited}
 use Rattle.simplex_member.specs.declared.refusal.Refusal.{Refusal}
 use Rattle.simplex_member.specs.First.{IsFirst}
 use Rattle.simplex_member.specs.Refusals.{refused_deeds, tests}
-use Rattle.simplex_member.specs.Deeds.{Sends, Blocks, all_deeds}
-use Rattle.simplex_member.specs.Layers.{current_of, finalized_of, is_begun, known_of, stage, voter_of, votes_of, votes_setup}
-use Rattle.simplex_member.specs.Lives.{Life, Lives, Members, AreMembers, IsWorldOfLives, AreFaithful, HandedOut, CameIn, WasHanded}
-use Rattle.simplex_member.specs.Member.{AreOpening, Goes, NoneDue, Run, AreStep, ReadsAs}
-use Rattle.simplex_member.specs.Packet.{Formats, Packet, of_vote, of_certificate, packet_channel}
-use Rattle.simplex_member.specs.Point.{Point, Opened, Began, Constructs, Heard, History}
-use Rattle.simplex_member.specs.Recorded.{record_of, recorded_by}
+use Rattle.simplex_admission.specs.Evidence.{as_report}
+use Rattle.simplex_resolver.specs.declared.ask.Ask.{Ask}
+use Rattle.simplex_resolver.specs.Answers.{produced}
+use Rattle.simplex_member.specs.Deeds.{Deed, Sends, Serves, Blocks, Reports, all_deeds, deeds_of}
+use Rattle.simplex_member.specs.Layers.{current_of, finalized_of, is_begun, known_of, repair_of, stage, voter_of, votes_of, votes_setup}
+use Rattle.simplex_member.specs.Lives.{Life, Lives, Members, AreMembers, IsWorldOfLives, AreFaithful, HandedOut, CameIn, IsHonestVote, WasHanded, points_of}
+use Rattle.simplex_member.specs.Member.{AreOpening, Goes, NoneDue, Run, AreStep, ReadsAs, after}
+use Rattle.simplex_member.specs.Packet.{Formats, IsReadable, Packet, of_vote, of_certificate, of_ask, packet_channel}
+use Rattle.simplex_member.specs.Point.{Point, Opened, Began, Constructs, Heard, Wanted, Asks, Repeats, History}
+use Rattle.simplex_member.specs.Recorded.{record_of, recorded_by, reported}
 use Rattle.simplex_member.specs.Setup.{Setup, IsInTime, owner_of, member_of}
 
 -- payloads that are compared as one are one
@@ -112,6 +117,20 @@ module _ {S D P G C : Type 0} (g : Ghosts S D P G C) (f : Formats S D P G C) (s 
   VotesWereDue = (h end : History S D P G C) (points : List (Point S D P G C)) (to : Option ℕ) (v : Vote S D P G C) → Goes g f s h points end
       → Contains (all_deeds g f s h points) (Sends to (of_vote v)) → WasDue h points v
 
+  -- why a point hands this out: a vote and a certificate since it records it, or a nullify is repeated, with the best certificate; an ask
+  -- since it asks; bytes since they are what the repair has of the view; a report since it records what is reported so, or heard the vote
+  abbrev pub IsDeedOf : History S D P G C → Point S D P G C → Deed S D P G C → Type 0
+  IsDeedOf h p (Sends to (of_vote v)) = (recorded_by p ≡ Some (vote_artifact v)) ⊎ ((w : Nullify S D P G C) × (best : Option (Certificate S D P G C)) × (p ≡ Repeats w best) × (v ≡ vote.Nullify w))
+  IsDeedOf h p (Sends to (of_certificate c)) = (recorded_by p ≡ Some (certificate_artifact c)) ⊎ ((w : Nullify S D P G C) × (p ≡ Repeats w (Some c)))
+  IsDeedOf h p (Sends to (of_ask view)) = (ask : Ask) × (p ≡ Asks view ask to)
+  IsDeedOf h p (Serves member bytes) = (view : ℕ) × (p ≡ Wanted member view) × (produced s.voter.length (repair_of f h) view ≡ Some bytes)
+  IsDeedOf h p (Reports a) = ((x : Artifact S D P G C) × (recorded_by p ≡ Some x) × Contains (reported (record_of h) x) a) ⊎ ((v : Vote S D P G C) × (p ≡ Heard v) × (a ≡ as_report v))
+  IsDeedOf h p d = ⊤
+
+  -- each deed of a point is handed out for that
+  abbrev pub DeedsAreOfPoints : Type 0
+  DeedsAreOfPoints = (h : History S D P G C) (p : Point S D P G C) (d : Deed S D P G C) → Contains (deeds_of g f s h p) d → IsDeedOf h p d
+
   -- the current view and the last finalized one never fall
   abbrev pub ViewsNeverFall : Type 0
   ViewsNeverFall = (h end : History S D P G C) (points : List (Point S D P G C)) → Goes g f s h points end
@@ -147,6 +166,11 @@ module _ {S D P G C : Type 0} (g : Ghosts S D P G C) (f : Formats S D P G C) (s 
   -- a vote that was heard, or an own one that is recorded
   abbrev pub IsKnownVote : History S D P G C → Vote S D P G C → Type 0
   IsKnownVote h v = Contains h (Heard v) ⊎ ((vote_signer v ≡ s.me) × Contains (record_of h) (vote_artifact v))
+
+  -- each vote that counts in a view, of those that were accepted, is known
+  abbrev pub AcceptedAreKnown : Type 0
+  AcceptedAreKnown = (h : History S D P G C) (points : List (Point S D P G C)) (view : ℕ) (v : Vote S D P G C) → Goes g f s [] points h
+      → Contains (votes.accepted (votes_of s h view)) v → IsKnownVote h v
 
   -- an attestation is that of a known vote that states this
   pub record IsOfVote (h : History S D P G C) (x : Statement D) (a : Attestation G) : Type 0 where
@@ -221,10 +245,12 @@ module _ {S D P G C : Type 0} (g : Ghosts S D P G C) (f : Formats S D P G C) (s 
 
 -- ---- of worlds
 
--- what a packet is read as goes by its channel, and of a packet's own bytes nothing else is read than the packet
+-- what bytes are read as goes by their channel; what can be read is read back from its own bytes; and a certificate that is served is
+-- spelled as one that is sent
 pub record AreReadBack {S D P G C : Type 0} (f : Formats S D P G C) : Type 0 where
   pub by_channel : (by : Channel) (bytes : List ℕ) (x : Packet S D P G C) → f.packet_in by bytes ≡ Some x → packet_channel x ≡ by
-  pub same : (x y : Packet S D P G C) → f.packet_in (packet_channel x) (f.packet x) ≡ Some y → y ≡ x
+  pub again : (x : Packet S D P G C) → IsReadable f x → f.packet_in (packet_channel x) (f.packet x) ≡ Some x
+  pub certificates : (c : Certificate S D P G C) → f.certificate c ≡ f.packet (of_certificate c)
 
 -- an event is a packet of this sender that holds no vote
 abbrev pub HoldsNoVote : {S D P G C : Type 0} → Formats S D P G C → Event D → ℕ → Type 0
@@ -237,6 +263,15 @@ pub record IsOwnAndSound {S D P G C : Type 0} (world : World S D P G C) (j : ℕ
   pub signer : vote_signer v ≡ j
   pub parent_below : HasParentBelow (vote_statement v)
 
+-- a life of a member's led to this history on its way
+pub record HasReached {S D P G C : Type 0} (m : Members S D P G C) (i : ℕ) (h : History S D P G C) : Type 0 where
+  pub life : Life S D P G C
+  pub among : Contains (m.lives i) life
+  pub before : List (Point S D P G C)
+  pub behind : List (Point S D P G C)
+  pub split : points_of life ≡ before ++ behind
+  pub is : h ≡ after [] before
+
 module _ {S D P G C : Type 0} (g : Ghosts S D P G C) (f : Formats S D P G C) where
   -- the certificates that members recorded are honest
   abbrev pub RecordedAreHonest : S → Members S D P G C → World S D P G C → Type 0
@@ -244,7 +279,7 @@ module _ {S D P G C : Type 0} (g : Ghosts S D P G C) (f : Formats S D P G C) whe
 
   -- a certificate that was made lists only what came in, or own votes: it is honest as they are
   abbrev pub MadeAreHonest : Type 0
-  MadeAreHonest = (scheme : S) (m : Members S D P G C) (world : World S D P G C) → IsWorldOfLives g f scheme m world → RecordedAreHonest scheme m world
+  MadeAreHonest = (scheme : S) (m : Members S D P G C) (world : World S D P G C) → AreMembers g f scheme m world → RecordedAreHonest scheme m world
 
   -- one proposal a view, no finalized view nullified, none skipped
   pub record DoAgree (scheme : S) (world : World S D P G C) : Type 0 where
@@ -264,9 +299,9 @@ module _ {S D P G C : Type 0} (g : Ghosts S D P G C) (f : Formats S D P G C) whe
       → (i sender : ℕ) → IsCorrect world i → (c : Certificate S D P G C) → CameIn g f scheme m world i sender (of_certificate c)
       → g.certifies (m.setup i).voter.scheme (certificate_statement c) (certified_by c) → IsSound (g.attests scheme) g.lists world c
 
-  -- finalized views lie on one chain, where all go by one schedule, in a committee of more than one
+  -- finalized views lie on one chain, where all go by one schedule
   abbrev pub LieOnOneChain : Type 0
-  LieOnOneChain = (scheme : S) (m : Members S D P G C) (world : World S D P G C) (leader : ℕ → Option ℕ) → IsWorldOfLives g f scheme m world → world.size ≢ 1
+  LieOnOneChain = (scheme : S) (m : Members S D P G C) (world : World S D P G C) (leader : ℕ → Option ℕ) → IsWorldOfLives g f scheme m world
       → ((i : ℕ) → IsCorrect world i → (view : ℕ) → scheduled_leader (m.setup i).voter view ≡ leader view) → OneChain (g.attests scheme) g.lists world
 
   -- each vote that comes in to a correct member by a correct one is its own and sound: it names its signer, is recorded, has its parent below
@@ -297,6 +332,57 @@ module _ {S D P G C : Type 0} (g : Ghosts S D P G C) (f : Formats S D P G C) whe
       → (i j : ℕ) → IsCorrect world i → IsCorrect world j → (h : History S D P G C) (points : List (Point S D P G C)) → Goes g f (m.setup i) [] points h → HasHeard scheme m world i h
       → (view : ℕ) (kind : Kind) (batch : Batch (Certificate S D P G C)) → Allowed g f (m.setup i) h (Constructs view kind batch) → ¬ Contains batch.invalid.items j
 
+  -- a member did this at a point of one of its lives
+  pub record IsDoneAt (m : Members S D P G C) (i : ℕ) (d : Deed S D P G C) : Type 0 where
+    pub h : History S D P G C
+    pub p : Point S D P G C
+    pub reached : HasReached m i h
+    pub next : HasReached m i (p ∷ h)
+    pub allowed : Allowed g f (m.setup i) h p
+    pub done : Contains (deeds_of g f (m.setup i) h p) d
+
+  -- or it did this when it refused an event that it was handed
+  pub record IsDoneRefusing (scheme : S) (m : Members S D P G C) (world : World S D P G C) (i : ℕ) (d : Deed S D P G C) : Type 0 where
+    pub h : History S D P G C
+    pub reached : HasReached m i h
+    pub e : Event D
+    pub handed : WasHanded g f scheme m world i e
+    pub r : Refusal
+    pub first : IsFirst (tests g f (m.setup i) h e) (Some r)
+    pub done : Contains (refused_deeds g f (m.setup i) h e r) d
+
+  -- what a correct member hands out it did at a point, or when it refused an event
+  abbrev pub DeedsAreDone : Type 0
+  DeedsAreDone = (scheme : S) (m : Members S D P G C) (world : World S D P G C) → AreMembers g f scheme m world → (i : ℕ) → IsCorrect world i
+      → (d : Deed S D P G C) → HandedOut g f scheme m world i d → IsDoneAt m i d ⊎ IsDoneRefusing scheme m world i d
+
+  -- a history that a correct member's life led to was gone to point by point, heard what came in, and recorded what the member did
+  abbrev pub ReachedAreGoneTo : Type 0
+  ReachedAreGoneTo = (scheme : S) (m : Members S D P G C) (world : World S D P G C) → AreMembers g f scheme m world → (i : ℕ) → IsCorrect world i
+      → (h : History S D P G C) → HasReached m i h → ((points : List (Point S D P G C)) × Goes g f (m.setup i) [] points h) × HasHeard scheme m world i h
+
+  -- a certificate that a correct member makes is sound, whether or not it comes to record it
+  abbrev pub MadeAreSound : Type 0
+  MadeAreSound = (scheme : S) (m : Members S D P G C) (world : World S D P G C) → AreMembers g f scheme m world → (i : ℕ) → IsCorrect world i → (h : History S D P G C) → HasReached m i h
+      → (view : ℕ) (kind : Kind) (batch : Batch (Certificate S D P G C)) → Allowed g f (m.setup i) h (Constructs view kind batch) → (c : Certificate S D P G C) → batch.certificate ≡ Some c
+      → IsSound (g.attests scheme) g.lists world c
+
+  -- a report is honest: each vote that it holds, loose, in a certificate or as evidence, is
+  pub record IsHonestReport (scheme : S) (m : Members S D P G C) (world : World S D P G C) (a : Activity S D P G C) : Type 0 where
+    pub notarizes : (v : Notarize S D P G C) → Contains (notarizes_in g.lists a) v → IsHonestVote g f scheme m world (vote.Notarize v)
+    pub nullifies : (v : Nullify S D P G C) → Contains (nullifies_in g.lists a) v → IsHonestVote g f scheme m world (vote.Nullify v)
+    pub finalizes : (v : Finalize S D P G C) → Contains (finalizes_in g.lists a) v → IsHonestVote g f scheme m world (vote.Finalize v)
+
+  -- what correct members report is honest
+  abbrev pub ReportsAreHonest : Type 0
+  ReportsAreHonest = (scheme : S) (m : Members S D P G C) (world : World S D P G C) → AreMembers g f scheme m world → (i : ℕ) → IsCorrect world i
+      → (a : Activity S D P G C) → HandedOut g f scheme m world i (Reports a) → IsHonestReport scheme m world a
+
+  -- of the votes that a correct member recorded, two of which one stands in the other's way are for one statement
+  abbrev pub OwnVotesAgree : Type 0
+  OwnVotesAgree = (scheme : S) (m : Members S D P G C) (world : World S D P G C) → AreMembers g f scheme m world → (i : ℕ) → IsCorrect world i
+      → (x y : Statement D) → HasVoted (entries (world.recorded i)) x → HasVoted (entries (world.recorded i)) y → StandsInTheWay x y → x ≡ y
+
   -- a member refused an event at a history, for which it blocked another
   pub record IsRefusedFor (scheme : S) (m : Members S D P G C) (world : World S D P G C) (i j : ℕ) : Type 0 where
     pub e : Event D
@@ -311,3 +397,8 @@ module _ {S D P G C : Type 0} (g : Ghosts S D P G C) (f : Formats S D P G C) whe
   abbrev pub BlockedByRefusalAlone : Type 0
   BlockedByRefusalAlone = (scheme : S) (m : Members S D P G C) (world : World S D P G C) → AreMembers g f scheme m world → AreFaithful g f scheme m world → DoAttestAlike scheme m world
       → (i j : ℕ) → IsCorrect world i → IsCorrect world j → HandedOut g f scheme m world i (Blocks j) → (x : IsRefusedFor scheme m world i j) × HoldsNoVote f x.e j
+
+  -- no correct member blocks a correct one, neither by a refusal nor by a construction
+  abbrev pub NoneIsBlamed : Type 0
+  NoneIsBlamed = (scheme : S) (m : Members S D P G C) (world : World S D P G C) → AreMembers g f scheme m world → AreFaithful g f scheme m world → DoAttestAlike scheme m world
+      → (i j : ℕ) → IsCorrect world i → IsCorrect world j → HandedOut g f scheme m world i (Blocks j) → ⊥

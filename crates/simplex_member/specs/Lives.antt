@@ -3,6 +3,8 @@ use Rattle.std.specs.Prelude.{◌≡◌, ◌<◌, ◌≤◌, ◌++◌, ℕ, List
 use Rattle.simplex_types.specs.declared.scheme.Scheme.{Ghosts}
 use Rattle.simplex_committee.specs.Committee.{faults}
 use Rattle.simplex_certificates.specs.declared.artifact.Artifact.{Artifact}
+use Rattle.simplex_certificates.specs.declared.certificate.Certificate.{Certificate}
+use Rattle.simplex_certificates.specs.Artifact.{certificate_artifact}
 use Rattle.simplex_messages.specs.declared.vote.Vote.{Vote}
 use Rattle.simplex_messages.specs.VoteParts.{vote_signer}
 use Rattle.simplex_record.specs.Record.{entries, HasVoted}
@@ -16,7 +18,7 @@ use Rattle.simplex_member.specs.declared.refusal.Refusal.{Refusal}
 use Rattle.simplex_member.specs.Deeds.{Deed, Sends, Serves, all_deeds}
 use Rattle.simplex_member.specs.First.{IsFirst}
 use Rattle.simplex_member.specs.Member.{AreOpening, AreStep, Goes, Rests, after}
-use Rattle.simplex_member.specs.Packet.{Formats, Packet, of_vote, of_certificate, of_ask, packet_channel}
+use Rattle.simplex_member.specs.Packet.{Formats, IsReadable, Packet, of_vote, of_certificate, of_ask, packet_channel}
 use Rattle.simplex_member.specs.Point.{Point, History}
 use Rattle.simplex_member.specs.Recorded.{record_of}
 use Rattle.simplex_member.specs.Refusals.{tests, refused_deeds}
@@ -153,7 +155,10 @@ module _ {S D P G C : Type 0} (g : Ghosts S D P G C) (f : Formats S D P G C) (sc
   HandsOutBytes by bytes (Serves member served) = (by ≡ channel.Certificates) × (bytes ≡ served)
   HandsOutBytes by bytes d = ⊥
 
-  -- a packet in a correct member's name was handed out by one of its nodes
-  abbrev pub AreFaithful : Type 0
-  AreFaithful = (i j : ℕ) (e : Event D) (by : Channel) (bytes : List ℕ) → IsCorrect world i → IsCorrect world j → WasHanded i e → Carries e j by bytes
-      → (d : Deed S D P G C) × HandedOut j d × HandsOutBytes by bytes d
+  -- a packet in a correct member's name was handed out by one of its nodes; and what these send, and each certificate that they recorded,
+  -- can be read: nothing is written that has no spelling
+  pub record AreFaithful : Type 0 where
+    pub handed : (i j : ℕ) (e : Event D) (by : Channel) (bytes : List ℕ) → IsCorrect world i → IsCorrect world j → WasHanded i e → Carries e j by bytes
+        → (d : Deed S D P G C) × HandedOut j d × HandsOutBytes by bytes d
+    pub sent : (i : ℕ) → IsCorrect world i → (to : Option ℕ) (x : Packet S D P G C) → HandedOut i (Sends to x) → IsReadable f x
+    pub kept : (i : ℕ) → IsCorrect world i → (c : Certificate S D P G C) → Contains (world.recorded i) (certificate_artifact c) → IsReadable f (of_certificate c)

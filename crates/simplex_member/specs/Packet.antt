@@ -1,5 +1,5 @@
 -- What members send one another: votes, certificates, and asks for the certificates of a view.
-use Rattle.std.specs.Prelude.{ℕ, ◌^◌, ◌-◌, Bool, List, [], ◌∷◌, Option, Some, None, Result, Ok, Err, option_map}
+use Rattle.std.specs.Prelude.{◌≡◌, ℕ, ◌^◌, ◌-◌, Bool, List, [], ◌∷◌, Option, Some, None, Result, Ok, Err, option_map}
 use Rattle.simplex_codec.specs.declared.codec.CodecError.{CodecError}
 use Rattle.simplex_codec.specs.Varint.{varint, varint_at}
 use Rattle.simplex_messages.specs.declared.activity.Activity.{Activity}
@@ -40,6 +40,10 @@ module _ {S D P G C : Type 0} where
   packet_channel (of_vote v) = channel.Votes
   packet_channel (of_certificate c) = channel.Certificates
   packet_channel (of_ask view) = channel.Fetches
+
+  -- a packet can be read: some bytes are exactly it
+  abbrev pub IsReadable : Formats S D P G C → Packet S D P G C → Type 0
+  IsReadable f x = (bytes : List ℕ) × (f.packet_in (packet_channel x) bytes ≡ Some x)
 
   -- a packet's bytes, by the spellings of payloads, signatures and certificates
   abbrev pub packet_spelling : (D → List ℕ) → (G → List ℕ) → (C → List ℕ) → Packet S D P G C → List ℕ

@@ -1,21 +1,23 @@
 //! What follows from the member model.
 
-ghost use Rattle.std.specs.Prelude.{◌≡◌};
+ghost use Rattle.std.specs.Prelude.{◌≡◌, ◌<◌, ◌^◌, ℕ};
 ghost use Rattle.simplex_codec.specs.Codec.{Readable};
 ghost use Rattle.simplex_certificates.specs.Artifact.{artifact_fits, artifact_spelling, artifact_within};
-ghost use Rattle.simplex_member.specs.Laws.{Agree, AgreeIfHonest, AreReadBack, AwaitedMayBeRecorded, BlockedByRefusalAlone, ConstructionsBlockNone, CorrectVotesAreSound, CorrectVotesContradictNone, DueFinalizeMayBeRecorded, DueIsBound, DueMayBeRecorded, DueNullifyMayBeRecorded, EarlyIsInTime, EmptyIsOpened, HandedCertificatesAreSound, IsExact, LieOnOneChain, LivesLeaveLawful, MadeAreHonest, MadeListVotes, NeverContradicts, NoQuorumIsLost, OneIsRead, RecordsGrow, RecordsStandOnGround, RecordsStayLawful, RoundLaws, RunsAreStretches, StepsRaiseLittle, ViewsNeverFall, VotersAreOrderly, VotersTellTheRecord, VotesAreLawful, VotesAreRecorded, VotesWereDue};
-ghost use Rattle.simplex_member.specs.Packet.{Formats};
+ghost use Rattle.simplex_member.specs.Laws.{AcceptedAreKnown, Agree, AgreeIfHonest, AreReadBack, AwaitedMayBeRecorded, BlockedByRefusalAlone, ConstructionsBlockNone, CorrectVotesAreSound, CorrectVotesContradictNone, DeedsAreDone, DeedsAreOfPoints, DueFinalizeMayBeRecorded, DueIsBound, DueMayBeRecorded, DueNullifyMayBeRecorded, EarlyIsInTime, EmptyIsOpened, HandedCertificatesAreSound, IsExact, LieOnOneChain, LivesLeaveLawful, MadeAreHonest, MadeAreSound, MadeListVotes, NeverContradicts, NoneIsBlamed, NoQuorumIsLost, OneIsRead, OwnVotesAgree, ReachedAreGoneTo, RecordsGrow, RecordsStandOnGround, RecordsStayLawful, ReportsAreHonest, RoundLaws, RunsAreStretches, StepsRaiseLittle, ViewsNeverFall, VotersAreOrderly, VotersTellTheRecord, VotesAreLawful, VotesAreRecorded, VotesWereDue};
+ghost use Rattle.simplex_member.specs.Packet.{Formats, formats};
 ghost use Rattle.simplex_member.specs.Setup.{Setup};
 
 use simplex_certificates::Artifact;
 use simplex_journal::a_disk_reads_as_one_record;
 use simplex_laws::{
-    what_is_due_may_be_recorded, what_is_due_stands_on_ground, what_is_known_is_recorded,
+    a_lone_member_stands_on_ground, what_is_due_may_be_recorded, what_is_due_stands_on_ground,
+    what_is_known_is_recorded,
 };
 use simplex_record::{
-    agreement, chain, ever_lawful_members_vote_lawfully, records_stand_on_ground as ground,
-    whole_records_are_ever_lawful,
+    agreement, chain, ever_lawful_members_vote_lawfully, no_own_vote_stands_in_the_way,
+    records_stand_on_ground as ground, whole_records_are_ever_lawful,
 };
+use simplex_resolver::what_is_produced_came;
 use simplex_types::{Digest, Listing, Scheme};
 use simplex_verifier::{
     batches_rest_on_accepted_votes, lawful_histories_are_consistent,
@@ -150,6 +152,11 @@ pub fn no_quorum_is_lost<S: Scheme<D>, D: Digest>()
     rounds_obey::<S, D>();
 }
 
+/// Each accepted vote of a view was heard, or is an own one that is recorded.
+pub fn accepted_votes_are_known<S: Scheme<D>, D: Digest>()
+    ensures { (f : Formats S D S.PublicKey S.Signature S.Certificate) (s : Setup S D S.Certificate) → AcceptedAreKnown S.Scheme f s }
+{}
+
 /// Each attestation that a made certificate lists is that of a vote that was heard, or of an own one that is
 /// recorded, which states what the certificate states.
 pub fn made_certificates_list_votes<S: Scheme<D>, D: Digest>()
@@ -174,7 +181,8 @@ pub fn agreement_of_lives<S: Listing<D>, D: Digest>()
 }
 
 /// From each finalized proposal the parents lead down to each that is finalized of a view no higher, in a
-/// committee of more than one whose members live by their nodes and go by one schedule of leaders.
+/// committee whose members live by their nodes and go by one schedule of leaders. (A member that is alone takes no
+/// packet of anybody, so each notarization that it has is of a proposal that it voted for.)
 pub fn finalized_views_lie_on_one_chain<S: Listing<D>, D: Digest>()
     ensures { (f : Formats S D S.PublicKey S.Signature S.Certificate) → IsExact f → LieOnOneChain S.Scheme f }
 {
@@ -185,6 +193,46 @@ pub fn finalized_views_lie_on_one_chain<S: Listing<D>, D: Digest>()
     ground::<D>();
     what_is_known_is_recorded::<S, D>();
     what_is_due_stands_on_ground::<D>();
+    a_lone_member_stands_on_ground::<D>();
+}
+
+/// Why a point hands something out: it records a vote or a certificate that it sends, or what it reports, or heard the vote that it
+/// reports; or a nullify is repeated, with the best certificate; a view is asked for, or served from what the repair has.
+pub fn deeds_are_of_their_points<S: Scheme<D>, D: Digest>()
+    ensures { (f : Formats S D S.PublicKey S.Signature S.Certificate) (s : Setup S D S.Certificate) → DeedsAreOfPoints S.Scheme f s }
+{}
+
+/// Each history that a correct member's lives led to was gone to point by point, each vote that it heard came in by its
+/// signer, and what it recorded the member recorded.
+pub fn histories_of_lives_are_gone_to<S: Scheme<D>, D: Digest>()
+    ensures { (f : Formats S D S.PublicKey S.Signature S.Certificate) → ReachedAreGoneTo S.Scheme f }
+{}
+
+/// What a correct member handed out it did at a point of one of its lives, or when it refused an event.
+pub fn deeds_are_done<S: Scheme<D>, D: Digest>()
+    ensures { (f : Formats S D S.PublicKey S.Signature S.Certificate) → DeedsAreDone S.Scheme f }
+{}
+
+/// A certificate that a correct member makes is sound, whether or not it comes to record it.
+pub fn made_certificates_are_sound<S: Listing<D>, D: Digest>()
+    ensures { (f : Formats S D S.PublicKey S.Signature S.Certificate) → IsExact f → MadeAreSound S.Scheme f }
+{
+    rounds_obey::<S, D>();
+}
+
+/// What correct members report holds no verifying vote in a correct member's name but on what that member recorded a vote
+/// for: in no loose vote, certificate or evidence.
+pub fn reports_are_honest<S: Scheme<D>, D: Digest>()
+    ensures { (f : Formats S D S.PublicKey S.Signature S.Certificate) → IsExact f → ReportsAreHonest S.Scheme f }
+{
+    rounds_obey::<S, D>();
+}
+
+/// A correct member recorded votes for no two statements of which one stands in the other's way.
+pub fn own_votes_agree<S: Scheme<D>, D: Digest>()
+    ensures { (f : Formats S D S.PublicKey S.Signature S.Certificate) → OwnVotesAgree S.Scheme f }
+{
+    no_own_vote_stands_in_the_way::<D>();
 }
 
 /// A vote that comes in to a correct member by a correct one is one that this recorded: it names its signer,
@@ -205,3 +253,19 @@ pub fn blocked_by_refusal_alone<S: Scheme<D>, D: Digest>()
 {
     rounds_obey::<S, D>();
 }
+
+/// No correct member blocks a correct one, where what attests by one's scheme does by the other's: neither by a refusal nor
+/// by a construction, whatever the members do that are excused.
+pub fn none_is_blamed<S: Listing<D>, D: Digest>()
+    ensures { (f : Formats S D S.PublicKey S.Signature S.Certificate) → IsExact f → AreReadBack f → NoneIsBlamed S.Scheme f }
+{
+    rounds_obey::<S, D>();
+    what_is_produced_came();
+}
+
+/// Packets as the messages spell them: payloads that are compared as one are one; and in a committee of each size that
+/// 32 bits can tell, what can be read is read back from its own bytes.
+pub fn packets_are_read_back<S: Scheme<D>, D: Digest>()
+    ensures exact { (n : ℕ) → IsExact (formats {S = S} {P = S.PublicKey} D.PartialEq.eq D.spelling S.Signature.spelling S.Certificate.spelling D.reading S.Signature.reading S.Certificate.reading n) }
+    ensures read_back { (n : ℕ) → n < 2 ^ 32 → AreReadBack (formats {S = S} {P = S.PublicKey} D.PartialEq.eq D.spelling S.Signature.spelling S.Certificate.spelling D.reading S.Signature.reading S.Certificate.reading n) }
+{}

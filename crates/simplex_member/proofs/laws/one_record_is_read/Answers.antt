@@ -1,4 +1,4 @@
-use Rattle.std.proofs.Common.{List, map, subst}
+use Rattle.std.proofs.Common.{map, subst}
 use Rattle.simplex_journal.specs.Record.{Reads}
 use Rattle.simplex_member.specs.Recorded.{record_of}
 use Rattle.simplex_member.proofs.laws.one_record_is_read.Goals as goal

@@ -1,0 +1,347 @@
+-- Each certificate that the voter has of a view came to it: so the best one to enter a view by is recorded.
+use Rattle.std.proofs.Common.{◌≡◌, ◌⊎◌, inl, inr, ⊎_elim, ℕ, zero, suc, ◌==◌, Bool, true, false, List, [], ◌∷◌, ◌++◌, Option, Some, None, refl, sym, ◌∙◌, ap, subst}
+use Rattle.std.specs.Prelude.{Contains, ◌+◌, ◌-◌, ◌&&◌, if◌then◌else◌, nat_le, nat_lt, option_map, unwrap_or}
+use Rattle.std.specs.Option.{option_or}
+use Rattle.std.proofs.lemmas.Option.{none-some}
+use Rattle.std.proofs.lemmas.List.Elements.{Contains-append_cases}
+use Rattle.simplex_committee.specs.Counting.{Contains-cases, Contains-head, Contains-nil, Contains-rest}
+use Rattle.simplex_types.specs.declared.proposal.Proposal.{Proposal}
+use Rattle.simplex_types.specs.Positions.{next_term_start, term_end, term_start}
+use Rattle.simplex_certificates.specs.declared.artifact.Artifact.{Artifact}
+use Rattle.simplex_certificates.specs.declared.artifact.Artifact.TheVariants as artifact
+use Rattle.simplex_certificates.specs.declared.certificate.Certificate.{Certificate}
+use Rattle.simplex_certificates.specs.declared.certificate.Certificate.TheVariants as certificate
+use Rattle.simplex_certificates.specs.declared.nullification.Nullification.{Nullification}
+use Rattle.simplex_certificates.specs.Artifact.{certificate_artifact}
+use Rattle.simplex_certificates.specs.ProposalCertificate.{Notarization, Finalization}
+use Rattle.simplex_messages.specs.declared.vote.Vote.{Vote}
+use Rattle.simplex_messages.specs.declared.vote.Vote.TheVariants as vote
+use Rattle.simplex_rules.specs.declared.kind.Kind.TheVariants as kind
+use Rattle.simplex_history.specs.declared.timeout_reason.TimeoutReason.TheVariants as reason
+use Rattle.simplex_history.specs.Held as offer
+use Rattle.simplex_history.specs.History as views
+use Rattle.simplex_history.specs.History.{current, enter, later, last_finalized, min_active, seen, undecided_payload}
+use Rattle.simplex_history.specs.Past as past
+use Rattle.simplex_history.specs.Pasts.{bind, put}
+use Rattle.simplex_decisions.specs.Answers.{best_certificate, covering_nullification, entry_certificate, last_of}
+use Rattle.simplex_decisions.specs.Building.{proposal_on}
+use Rattle.simplex_member.specs.Layers.{casts, finalizes_above, finds, latest, reason_of, takes_certificate, takes_outcome, voter_of, voter_points}
+use Rattle.simplex_member.specs.Point.{Outcome, Counts, Falls, Passes, Point, Opened, Found, Began, Came, Built, Checked, Judged, Forwards, Constructs, Latches, Looks, AsksBuild, AsksVerify, AsksCertify, GivesBack, PutsOff, Resolves, Votes, Repeats, History}
+use Rattle.simplex_member.specs.Recorded.{record_of, recorded_by}
+use Rattle.simplex_member.specs.Setup.{Setup}
+use Rattle.simplex_member.proofs.Lists.{put-before, put-here, some-is}
+
+or-cases : {X : Type 0} (a b : Option X) (x : X) → option_or a b ≡ Some x → (a ≡ Some x) ⊎ (b ≡ Some x)
+or-cases None b x is = inr is
+or-cases (Some y) b x is = inl is
+
+pub record IsMapped {X Y : Type 0} (k : X → Y) (o : Option X) (y : Y) : Type 0 where
+  pub x : X
+  pub is : o ≡ Some x
+  pub gives : k x ≡ y
+
+pub mapped : {X Y : Type 0} (k : X → Y) (o : Option X) (y : Y) → option_map k o ≡ Some y → IsMapped k o y
+mapped k None y is = absurd (none-some y is)
+mapped k (Some x) y is = record { x = x; is = refl; gives = some-is (k x) y is }
+
+module _ {S D P G C : Type 0} where
+  -- the certificate that an item of a view is, and the one that a point of the voter's is
+  abbrev item_certificate : past.Item S D P G C → Option (Certificate S D P G C)
+  item_certificate (past.notarized c) = Some (certificate.Notarization c)
+  item_certificate (past.nullified c) = Some (certificate.Nullification c)
+  item_certificate (past.finalized c) = Some (certificate.Finalization c)
+  item_certificate x = None
+
+  abbrev point_certificate : views.Point S D P G C → Option (Certificate S D P G C)
+  point_certificate (views.notarized c) = Some (certificate.Notarization c)
+  point_certificate (views.nullified now c) = Some (certificate.Nullification c)
+  point_certificate (views.finalized now c) = Some (certificate.Finalization c)
+  point_certificate p = None
+
+  -- it came to the voter
+  abbrev Brought : List (views.Point S D P G C) → Certificate S D P G C → Type 0
+  Brought h c = (p : views.Point S D P G C) × Contains h p × (point_certificate p ≡ Some c)
+
+  -- each certificate among items did
+  abbrev Only : List (views.Point S D P G C) → List (past.Item S D P G C) → Type 0
+  Only h items = (x : past.Item S D P G C) → Contains items x → (c : Certificate S D P G C) → item_certificate x ≡ Some c → Brought h c
+
+  further : (p : views.Point S D P G C) (h : List (views.Point S D P G C)) (c : Certificate S D P G C) → Brought h c → Brought (p ∷ h) c
+  further p h c by = (by.0, Contains-rest p h by.0 by.1, by.2)
+
+  only-further : (p : views.Point S D P G C) (h : List (views.Point S D P G C)) (items : List (past.Item S D P G C)) → Only h items → Only (p ∷ h) items
+  only-further p h items only x here c is = further p h c (only x here c is)
+
+  only-nil : (h : List (views.Point S D P G C)) → Only h []
+  only-nil h x here c is = absurd (Contains-nil x here)
+
+  only-put : (h : List (views.Point S D P G C)) (at : ℕ) (y : past.Item S D P G C) (t : ℕ → List (past.Item S D P G C)) (view : ℕ)
+      → ((c : Certificate S D P G C) → item_certificate y ≡ Some c → Brought h c) → Only h (t view) → Only h (put at y t view)
+  only-put h at y t view new only = go (at == view)
+    where
+      go : (b : Bool) → Only h (if b then y ∷ t view else t view)
+      go true x here c is = ⊎_elim
+          (λ e. new c (ap item_certificate e ∙ is))
+          (λ later. only x later c is)
+          (Contains-cases y (t view) x here)
+      go false x here c is = only x here c is
+
+  only-if : (h : List (views.Point S D P G C)) (b : Bool) (xs ys : List (past.Item S D P G C)) → Only h xs → Only h ys → Only h (if b then xs else ys)
+  only-if h true xs ys first second = first
+  only-if h false xs ys first second = second
+
+  none-new : (h : List (views.Point S D P G C)) (y : past.Item S D P G C) → item_certificate y ≡ None → (c : Certificate S D P G C) → item_certificate y ≡ Some c → Brought h c
+  none-new h y none c is = absurd (none-some c (sym none ∙ is))
+
+module _ {S D P G C : Type 0} (s : views.Setup S C) where
+  only-enter : (h : List (views.Point S D P G C)) (now_at now at : ℕ) (t : ℕ → List (past.Item S D P G C)) (view : ℕ) → Only h (t view) → Only h (enter s now_at now at t view)
+  only-enter h now_at now at t view only = go (nat_lt now_at at)
+    where
+      armed : past.Item S D P G C
+      armed = past.armed (now + s.leader_timeout) (now + s.certification_timeout) (later now s.stall_timeout)
+
+      go : (b : Bool) → Only h ((if b then put at armed (put at (past.entered now) t) else t) view)
+      go true = only-put h at armed (put at (past.entered now) t) view (none-new h armed refl) (only-put h at (past.entered now) t view (none-new h (past.entered now) refl) only)
+      go false = only
+
+  only-bind : (h : List (views.Point S D P G C)) (o : Option D) (p : Proposal D) (t : ℕ → List (past.Item S D P G C)) (view : ℕ) → Only h (t view) → Only h (bind o p t view)
+  only-bind h None p t view only = only
+  only-bind h (Some payload) p t view only = only-put h p.round.view (past.bound p payload) t view (none-new h (past.bound p payload) refl) only
+
+  -- a plain item
+  only-plain : (h : List (views.Point S D P G C)) (at : ℕ) (y : past.Item S D P G C) (t : ℕ → List (past.Item S D P G C)) (view : ℕ) → item_certificate y ≡ None → Only h (t view) → Only h (put at y t view)
+  only-plain h at y t view none only = only-put h at y t view (none-new h y none) only
+
+  -- each certificate that is seen of a view came
+  seen-only : (h : List (views.Point S D P G C)) (view : ℕ) → Only h (seen s h view)
+  seen-only [] view = only-nil []
+  seen-only (p ∷ h) view = step p (only-further p h (seen s h view) (seen-only h view))
+    where
+      step : (q : views.Point S D P G C) → Only (q ∷ h) (seen s h view) → Only (q ∷ h) (seen s (q ∷ h) view)
+      step (views.started now payload) only = only-enter (views.started now payload ∷ h) (current s h) now 1 (seen s h) view only
+      step (views.notarized c) only = only-put (views.notarized c ∷ h) c.proposal.round.view (past.notarized c) (seen s h) view (λ d is. (views.notarized c, Contains-head (views.notarized c) h, is)) only
+      step (views.nullified now c) only = only-put (views.nullified now c ∷ h) c.round.view (past.nullified c) (enter s (current s h) now (next_term_start s.length c.round.view) (seen s h)) view
+          (λ d is. (views.nullified now c, Contains-head (views.nullified now c) h, is)) (only-enter (views.nullified now c ∷ h) (current s h) now (next_term_start s.length c.round.view) (seen s h) view only)
+      step (views.finalized now c) only = only-put (views.finalized now c ∷ h) c.proposal.round.view (past.finalized c) (enter s (current s h) now (c.proposal.round.view + 1) (seen s h)) view
+          (λ d is. (views.finalized now c, Contains-head (views.finalized now c) h, is)) (only-enter (views.finalized now c ∷ h) (current s h) now (c.proposal.round.view + 1) (seen s h) view only)
+      step (views.judged now at true) only = only-enter (views.judged now at true ∷ h) (current s h) now (at + 1) (put at (past.judged true) (seen s h)) view (only-plain (views.judged now at true ∷ h) at (past.judged true) (seen s h) view refl only)
+      step (views.judged now at false) only = failed (nat_le (current s h) at)
+        where
+          failed : (b : Bool) → Only (views.judged now at false ∷ h) ((if b then put at (past.latched now reason.FailedCertification) (put at (past.judged false) (seen s h)) else put at (past.judged false) (seen s h)) view)
+          failed true = only-plain (views.judged now at false ∷ h) at (past.latched now reason.FailedCertification) (put at (past.judged false) (seen s h)) view refl (only-plain (views.judged now at false ∷ h) at (past.judged false) (seen s h) view refl only)
+          failed false = only-plain (views.judged now at false ∷ h) at (past.judged false) (seen s h) view refl only
+      step (views.forwarded at p) only = taken (past.has_nullified (seen s h at))
+        where
+          taken : (b : Bool) → Only (views.forwarded at p ∷ h) ((if b then seen s h else put at (past.offered (offer.forwarded p)) (seen s h)) view)
+          taken true = only
+          taken false = only-plain (views.forwarded at p ∷ h) at (past.offered (offer.forwarded p)) (seen s h) view refl only
+      step (views.built now p payload) only = only-plain (views.built now p payload ∷ h) p.round.view (past.bound p payload) (put p.round.view (past.built now p) (seen s h)) view refl
+          (only-plain (views.built now p payload ∷ h) p.round.view (past.built now p) (seen s h) view refl only)
+      step (views.confirmed at) only = taken (past.has_nullified (seen s h at))
+        where
+          taken : (b : Bool) → Only (views.confirmed at ∷ h) ((if b then seen s h else put at (past.offered offer.confirmed) (seen s h)) view)
+          taken true = only
+          taken false = only-plain (views.confirmed at ∷ h) at (past.offered offer.confirmed) (seen s h) view refl only
+      step (views.unbound at) only = only-plain (views.unbound at ∷ h) at past.unbound (seen s h) view refl only
+      step (views.latched now at why) only = only-plain (views.latched now at why ∷ h) at (past.latched now why) (seen s h) view refl only
+      step (views.build_asked at) only = only-plain (views.build_asked at ∷ h) at (past.offered offer.building) (seen s h) view refl only
+      step (views.build_released at) only = only-plain (views.build_released at ∷ h) at (past.offered offer.released) (seen s h) view refl only
+      step (views.verify_asked at p payload) only = only-plain (views.verify_asked at p payload ∷ h) at (past.bound p payload) (put at (past.offered offer.verifying) (seen s h)) view refl
+          (only-plain (views.verify_asked at p payload ∷ h) at (past.offered offer.verifying) (seen s h) view refl only)
+      step (views.ancestry_asked at missing) only = only-plain (views.ancestry_asked at missing ∷ h) at (past.asked missing) (seen s h) view refl only
+      step (views.certify_asked at handle) only = only-plain (views.certify_asked at handle ∷ h) at (past.certifying handle) (seen s h) view refl only
+      step (views.certify_waited at) only = only
+      step (views.voted_notarize at p) only = only-plain (views.voted_notarize at p ∷ h) at past.voted_notarize (seen s h) view refl only
+      step (views.voted_nullify at) only = only-plain (views.voted_nullify at ∷ h) at past.voted_nullify (seen s h) view refl only
+      step (views.voted_finalize at p) only = only-plain (views.voted_finalize at p ∷ h) at past.voted_finalize (seen s h) view refl only
+      step (views.recalled_notarize p true) only = only-bind (views.recalled_notarize p true ∷ h) (undecided_payload (seen s h p.parent)) p (put p.round.view past.voted_notarize (put p.round.view (past.offered (offer.recorded p)) (seen s h))) view
+          (only-plain (views.recalled_notarize p true ∷ h) p.round.view past.voted_notarize (put p.round.view (past.offered (offer.recorded p)) (seen s h)) view refl
+          (only-plain (views.recalled_notarize p true ∷ h) p.round.view (past.offered (offer.recorded p)) (seen s h) view refl only))
+      step (views.recalled_notarize p false) only = only-bind (views.recalled_notarize p false ∷ h) (undecided_payload (seen s h p.parent)) p (put p.round.view past.voted_notarize (seen s h)) view
+          (only-plain (views.recalled_notarize p false ∷ h) p.round.view past.voted_notarize (seen s h) view refl only)
+      step (views.recalled_nullify at) only = only-plain (views.recalled_nullify at ∷ h) at past.voted_nullify (seen s h) view refl only
+      step (views.recalled_finalize p) only = only-plain (views.recalled_finalize p ∷ h) p.round.view past.voted_finalize (seen s h) view refl only
+      step (views.recalled_verdict at ok) only = only-plain (views.recalled_verdict at ok ∷ h) at (past.judged ok) (seen s h) view refl only
+      step (views.sent kind.Notarization at) only = only-plain (views.sent kind.Notarization at ∷ h) at past.sent_notarization (seen s h) view refl only
+      step (views.sent kind.Nullification at) only = only-plain (views.sent kind.Nullification at ∷ h) at past.sent_nullification (seen s h) view refl only
+      step (views.sent kind.Finalization at) only = only-plain (views.sent kind.Finalization at ∷ h) at past.sent_finalization (seen s h) view refl only
+      step (views.polled now) only = looked (nat_lt 0 (current s h))
+        where
+          looked : (b : Bool) → Only (views.polled now ∷ h) ((if b then put (current s h) (past.polled (now + s.timeout_retry)) (seen s h) else seen s h) view)
+          looked true = only-plain (views.polled now ∷ h) (current s h) (past.polled (now + s.timeout_retry)) (seen s h) view refl only
+          looked false = only
+      step views.pruned only = only-if (views.pruned ∷ h) (nat_lt view (min_active s (views.pruned ∷ h))) [] (seen s h view) (only-nil (views.pruned ∷ h)) only
+
+  -- ---- so each that is found did
+
+  item-notarization : (items : List (past.Item S D P G C)) (c : Notarization S D P G C) → past.notarization items ≡ Some c → Contains items (past.notarized c)
+  item-notarization [] c is = absurd (none-some c is)
+  item-notarization (past.notarized d ∷ items) c is = ⊎_elim
+      (λ before. Contains-rest (past.notarized d) items (past.notarized c) (item-notarization items c before))
+      (λ now. subst (λ (x : Notarization S D P G C). Contains (past.notarized d ∷ items) (past.notarized x)) (some-is d c now) (Contains-head (past.notarized d) items))
+      (or-cases (past.notarization items) (Some d) c is)
+  item-notarization (x ∷ items) c is = Contains-rest x items (past.notarized c) (item-notarization items c is)
+
+  item-finalization : (items : List (past.Item S D P G C)) (c : Finalization S D P G C) → past.finalization items ≡ Some c → Contains items (past.finalized c)
+  item-finalization [] c is = absurd (none-some c is)
+  item-finalization (past.finalized d ∷ items) c is = ⊎_elim
+      (λ before. Contains-rest (past.finalized d) items (past.finalized c) (item-finalization items c before))
+      (λ now. subst (λ (x : Finalization S D P G C). Contains (past.finalized d ∷ items) (past.finalized x)) (some-is d c now) (Contains-head (past.finalized d) items))
+      (or-cases (past.finalization items) (Some d) c is)
+  item-finalization (x ∷ items) c is = Contains-rest x items (past.finalized c) (item-finalization items c is)
+
+  kept-nullification : (h : List (views.Point S D P G C)) (view : ℕ) (c : Nullification S D P G C) → views.nullification s h view ≡ Some c → Brought h (certificate.Nullification c)
+  kept-nullification [] view c is = absurd (none-some c is)
+  kept-nullification (views.nullified now d ∷ h) view c is = go (d.round.view == view) is (λ found. kept-nullification h view c found)
+    where
+      go : (b : Bool) → (if b then option_or (views.nullification s h view) (Some d) else views.nullification s h view) ≡ Some c → (views.nullification s h view ≡ Some c → Brought h (certificate.Nullification c))
+          → Brought (views.nullified now d ∷ h) (certificate.Nullification c)
+      go true found kept = ⊎_elim
+          (λ before. further (views.nullified now d) h (certificate.Nullification c) (kept before))
+          (λ new. (views.nullified now d, Contains-head (views.nullified now d) h, ap (λ (o : Option (Nullification S D P G C)). option_map certificate.Nullification o) new))
+          (or-cases (views.nullification s h view) (Some d) c found)
+      go false found kept = further (views.nullified now d) h (certificate.Nullification c) (kept found)
+  kept-nullification (views.pruned ∷ h) view c is = go (nat_lt view (min_active s h) && nat_le (term_end s.length view) (last_finalized h)) is (λ found. kept-nullification h view c found)
+    where
+      go : (b : Bool) → (if b then None else views.nullification s h view) ≡ Some c → (views.nullification s h view ≡ Some c → Brought h (certificate.Nullification c)) → Brought (views.pruned ∷ h) (certificate.Nullification c)
+      go true found kept = absurd (none-some c found)
+      go false found kept = further views.pruned h (certificate.Nullification c) (kept found)
+  kept-nullification (p ∷ h) view c is = further p h (certificate.Nullification c) (kept-nullification h view c is)
+
+  last-brought : (h : List (views.Point S D P G C)) (high n : ℕ) (c : Nullification S D P G C) → last_of (views.nullification s h) high n ≡ Some c → Brought h (certificate.Nullification c)
+  last-brought h high zero c is = absurd (none-some c is)
+  last-brought h high (suc n) c is = ⊎_elim
+      (λ here. kept-nullification h high c here)
+      (λ lower. last-brought h (high - 1) n c lower)
+      (or-cases (views.nullification s h high) (last_of (views.nullification s h) (high - 1) n) c is)
+
+  -- the best certificate to enter a view by came
+  best-brought : (h : List (views.Point S D P G C)) (c : Certificate S D P G C) → best_certificate s h ≡ Some c → Brought h c
+  best-brought h c is = go (current s h) (current s h - 1) is
+    where
+      final : (before : ℕ) → option_map certificate.Finalization (past.finalization (seen s h before)) ≡ Some c → Brought h c
+      final before e =
+          let of = mapped certificate.Finalization (past.finalization (seen s h before)) c e in
+          subst (λ (x : Certificate S D P G C). Brought h x) of.gives
+          (seen-only h before (past.finalized of.x) (item-finalization (seen s h before) of.x of.is) (certificate.Finalization of.x) refl)
+
+      direct : (before : ℕ) → option_map certificate.Notarization (past.notarization (seen s h before)) ≡ Some c → Brought h c
+      direct before e =
+          let of = mapped certificate.Notarization (past.notarization (seen s h before)) c e in
+          subst (λ (x : Certificate S D P G C). Brought h x) of.gives
+          (seen-only h before (past.notarized of.x) (item-notarization (seen s h before) of.x of.is) (certificate.Notarization of.x) refl)
+
+      null : (before : ℕ) (b : Bool) → (if b then option_map certificate.Nullification (covering_nullification s h before) else None) ≡ Some c → Brought h c
+      null before true e =
+          let of = mapped certificate.Nullification (covering_nullification s h before) c e in
+          subst (λ (x : Certificate S D P G C). Brought h x) of.gives (last-brought h before (before + 1 - term_start s.length before) of.x of.is)
+      null before false e = absurd (none-some c e)
+
+      go : (view before : ℕ) → entry_certificate s h view before ≡ Some c → Brought h c
+      go view before e = start (before == 0) e
+        where
+          start : (b : Bool) → (if b then None else option_or (option_map certificate.Finalization (past.finalization (seen s h before)))
+              (option_or (if view == term_start s.length view then option_map certificate.Nullification (covering_nullification s h before) else None)
+              (option_map certificate.Notarization (past.notarization (seen s h before))))) ≡ Some c → Brought h c
+          start true none = absurd (none-some c none)
+          start false some = ⊎_elim
+              (λ first. final before first)
+              (λ rest. ⊎_elim
+              (λ second. null before (view == term_start s.length view) second)
+              (λ third. direct before third)
+              (or-cases (if view == term_start s.length view then option_map certificate.Nullification (covering_nullification s h before) else None) (option_map certificate.Notarization (past.notarization (seen s h before))) c rest))
+              (or-cases (option_map certificate.Finalization (past.finalization (seen s h before)))
+              (option_or (if view == term_start s.length view then option_map certificate.Nullification (covering_nullification s h before) else None)
+              (option_map certificate.Notarization (past.notarization (seen s h before)))) c some)
+
+module _ {S D P G C : Type 0} (p : Point S D P G C) where
+  -- what a point brings to the voter it records
+  abbrev Records : List (views.Point S D P G C) → Type 0
+  Records points = (q : views.Point S D P G C) → Contains points q → (c : Certificate S D P G C) → point_certificate q ≡ Some c → recorded_by p ≡ Some (certificate_artifact c)
+
+  records-nil : Records []
+  records-nil q here c is = absurd (Contains-nil q here)
+
+  records-plain : (q : views.Point S D P G C) (points : List (views.Point S D P G C)) → point_certificate q ≡ None → Records points → Records (q ∷ points)
+  records-plain q points none rest x here c is = ⊎_elim
+      (λ e. absurd (none-some c (sym none ∙ (ap point_certificate e ∙ is))))
+      (λ later. rest x later c is)
+      (Contains-cases q points x here)
+
+  records-new : (q : views.Point S D P G C) (points : List (views.Point S D P G C)) (d : Certificate S D P G C) → point_certificate q ≡ Some d → recorded_by p ≡ Some (certificate_artifact d) → Records points → Records (q ∷ points)
+  records-new q points d brings recorded rest x here c is = ⊎_elim
+      (λ e. recorded ∙ ap (λ (o : Certificate S D P G C). Some (certificate_artifact o)) (some-is d c (sym brings ∙ (ap point_certificate e ∙ is))))
+      (λ later. rest x later c is)
+      (Contains-cases q points x here)
+
+  records-pruned : (b : Bool) (points : List (views.Point S D P G C)) → Records points → Records ((if b then views.pruned ∷ [] else []) ++ points)
+  records-pruned true points rest = records-plain views.pruned points refl rest
+  records-pruned false points rest = rest
+
+  takes-records : (now low : ℕ) (c : Certificate S D P G C) → recorded_by p ≡ Some (certificate_artifact c) → Records (takes_certificate now low c)
+  takes-records now low (certificate.Notarization c) is = records-plain (views.sent kind.Notarization c.proposal.round.view) (views.notarized c ∷ []) refl (records-new (views.notarized c) [] (certificate.Notarization c) refl is records-nil)
+  takes-records now low (certificate.Nullification c) is = records-plain (views.sent kind.Nullification c.round.view) (views.nullified now c ∷ []) refl (records-new (views.nullified now c) [] (certificate.Nullification c) refl is records-nil)
+  takes-records now low (certificate.Finalization c) is = records-pruned (finalizes_above low (certificate.Finalization c)) (views.sent kind.Finalization c.proposal.round.view ∷ views.finalized now c ∷ [])
+      (records-plain (views.sent kind.Finalization c.proposal.round.view) (views.finalized now c ∷ []) refl (records-new (views.finalized now c) [] (certificate.Finalization c) refl is records-nil))
+
+  made-records : (now low : ℕ) (o : Option (Certificate S D P G C)) → recorded_by p ≡ option_map certificate_artifact o → Records (unwrap_or (option_map (takes_certificate now low) o) [])
+  made-records now low None is = records-nil
+  made-records now low (Some c) is = takes-records now low c is
+
+  found-records : (now : ℕ) (x : Artifact S D P G C) (taken : Bool) → recorded_by p ≡ Some x → Records (finds now x taken)
+  found-records now (artifact.Notarize v) taken is = records-plain (views.recalled_notarize v.proposal taken) [] refl records-nil
+  found-records now (artifact.Notarization c) taken is = records-new (views.notarized c) (views.sent kind.Notarization c.proposal.round.view ∷ []) (certificate.Notarization c) refl is (records-plain (views.sent kind.Notarization c.proposal.round.view) [] refl records-nil)
+  found-records now (artifact.Certification r ok) taken is = records-plain (views.judged now r.view ok) (views.recalled_verdict r.view ok ∷ []) refl (records-plain (views.recalled_verdict r.view ok) [] refl records-nil)
+  found-records now (artifact.Nullify v) taken is = records-plain (views.recalled_nullify v.round.view) [] refl records-nil
+  found-records now (artifact.Nullification c) taken is = records-new (views.nullified now c) (views.sent kind.Nullification c.round.view ∷ []) (certificate.Nullification c) refl is (records-plain (views.sent kind.Nullification c.round.view) [] refl records-nil)
+  found-records now (artifact.Finalize v) taken is = records-plain (views.recalled_finalize v.proposal) [] refl records-nil
+  found-records now (artifact.Finalization c) taken is = records-new (views.finalized now c) (views.sent kind.Finalization c.proposal.round.view ∷ []) (certificate.Finalization c) refl is (records-plain (views.sent kind.Finalization c.proposal.round.view) [] refl records-nil)
+
+  answer-records : (now view : ℕ) (answer : Option Bool) (outcome : Outcome) → Records (takes_outcome now view answer outcome)
+  answer-records now view (Some true) Counts = records-plain (views.confirmed view) [] refl records-nil
+  answer-records now view (Some false) Counts = records-plain (views.latched now view (reason_of (Some false))) [] refl records-nil
+  answer-records now view None Counts = records-plain (views.latched now view (reason_of None)) [] refl records-nil
+  answer-records now view answer Falls = records-plain (views.unbound view) [] refl records-nil
+  answer-records now view answer Passes = records-nil
+
+  casts-records : (v : Vote S D P G C) → Records (casts v ∷ [])
+  casts-records (vote.Notarize v) = records-plain (views.voted_notarize v.proposal.round.view v.proposal) [] refl records-nil
+  casts-records (vote.Nullify v) = records-plain (views.voted_nullify v.round.view) [] refl records-nil
+  casts-records (vote.Finalize v) = records-plain (views.voted_finalize v.proposal.round.view v.proposal) [] refl records-nil
+
+module _ {S D P G C : Type 0} (s : Setup S D C) where
+  point-records : (now low : ℕ) (p : Point S D P G C) → Records p (voter_points s now low p)
+  point-records now low (Opened t) = records-plain (Opened t) (views.started t s.genesis) [] refl (records-nil (Opened t))
+  point-records now low (Found x taken) = found-records (Found x taken) now x taken refl
+  point-records now low Began = records-plain Began views.pruned [] refl (records-nil Began)
+  point-records now low (Came c) = takes-records (Came c) now low c refl
+  point-records now low (Built number handoff context (Some payload) true) = records-plain (Built number handoff context (Some payload) true) (views.built now (proposal_on context payload) context.parent.1) [] refl (records-nil (Built number handoff context (Some payload) true))
+  point-records now low (Built number handoff context None true) = records-plain (Built number handoff context None true) (views.latched now context.round.view reason.MissingProposal) [] refl (records-nil (Built number handoff context None true))
+  point-records now low (Built number handoff context payload false) = records-nil (Built number handoff context payload false)
+  point-records now low (Checked number view answer outcome) = answer-records (Checked number view answer outcome) now view answer outcome
+  point-records now low (Judged r ok) = records-plain (Judged r ok) (views.judged now r.view ok) [] refl (records-nil (Judged r ok))
+  point-records now low (Forwards view q) = records-plain (Forwards view q) (views.forwarded view q) [] refl (records-nil (Forwards view q))
+  point-records now low (Constructs view kind_ batch) = made-records (Constructs view kind_ batch) now low batch.certificate refl
+  point-records now low (Latches view why) = records-plain (Latches view why) (views.latched now view why) [] refl (records-nil (Latches view why))
+  point-records now low Looks = records-plain Looks (views.polled now) [] refl (records-nil Looks)
+  point-records now low (AsksBuild number handoff context) = records-plain (AsksBuild number handoff context) (views.build_asked context.round.view) [] refl (records-nil (AsksBuild number handoff context))
+  point-records now low (AsksVerify number context q) = records-plain (AsksVerify number context q) (views.verify_asked context.round.view q context.parent.1) [] refl (records-nil (AsksVerify number context q))
+  point-records now low (AsksCertify q) = records-plain (AsksCertify q) (views.certify_asked q.round.view (record { 0 = q.round.view })) [] refl (records-nil (AsksCertify q))
+  point-records now low (GivesBack number view) = records-plain (GivesBack number view) (views.build_released view) [] refl (records-nil (GivesBack number view))
+  point-records now low (PutsOff view) = records-plain (PutsOff view) (views.certify_waited view) [] refl (records-nil (PutsOff view))
+  point-records now low (Resolves view kind_ u) = records-plain (Resolves view kind_ u) (views.ancestry_asked view u) [] refl (records-nil (Resolves view kind_ u))
+  point-records now low (Votes v) = casts-records (Votes v) v
+  point-records now low (Repeats v best) = records-plain (Repeats v best) (views.voted_nullify v.round.view) [] refl (records-nil (Repeats v best))
+  point-records now low p = records-nil p
+
+  -- what came to the voter is recorded
+  brought-recorded : (h : History S D P G C) (c : Certificate S D P G C) → Brought (voter_of s h) c → Contains (record_of h) (certificate_artifact c)
+  brought-recorded [] c by = absurd (Contains-nil by.0 by.1)
+  brought-recorded (p ∷ h) c by = ⊎_elim
+      (λ now. put-here (record_of h) (recorded_by p) (certificate_artifact c) (point-records (latest (p ∷ h)) (last_finalized (voter_of s h)) p by.0 now c by.2))
+      (λ before. put-before (record_of h) (recorded_by p) (certificate_artifact c) (brought-recorded h c (by.0, before, by.2)))
+      (Contains-append_cases (voter_points s (latest (p ∷ h)) (last_finalized (voter_of s h)) p) (voter_of s h) by.0 by.1)
+
+  -- so is the best certificate to enter a view by
+  pub best-recorded : (h : History S D P G C) (c : Certificate S D P G C) → best_certificate s.voter (voter_of s h) ≡ Some c → Contains (record_of h) (certificate_artifact c)
+  best-recorded h c is = brought-recorded h c (best-brought s.voter (voter_of s h) c is)

@@ -1,0 +1,81 @@
+-- Packets that can be read are read back from their own bytes.
+use Rattle.std.proofs.Common.{◌≡◌, ℕ, Bool, List, [], ◌∷◌, Some, Result, Ok, Err, refl, sym, ◌∙◌, ap, subst}
+use Rattle.std.specs.Prelude.{◌-◌, ◌^◌, option_map}
+use Rattle.std.proofs.lemmas.List.{append-nil}
+use Rattle.std.proofs.lemmas.Option.{none-some}
+use Rattle.simplex_codec.specs.declared.codec.CodecError.{CodecError}
+use Rattle.simplex_codec.specs.Codec.{IsCodec, Readable}
+use Rattle.simplex_codec.specs.Varint.{varint_at, varint-IsCodec}
+use Rattle.simplex_certificates.specs.declared.certificate.Certificate.{Certificate}
+use Rattle.simplex_certificates.specs.Certificate.{any_certificate_at, any_certificate-IsCodec}
+use Rattle.simplex_messages.specs.declared.vote.Vote.{Vote}
+use Rattle.simplex_messages.specs.Vote.{any_vote_at, any_vote-IsCodec}
+use Rattle.simplex_member.specs.declared.event.Channel.{Channel}
+use Rattle.simplex_member.specs.declared.event.Channel.TheVariants as channel
+use Rattle.simplex_member.specs.Laws.{AreReadBack}
+use Rattle.simplex_member.specs.Packet.{Formats, IsReadable, Packet, formats, of_ask, of_certificate, of_vote, packet_channel, whole}
+use Rattle.simplex_member.proofs.Entering.{mapped}
+use Rattle.simplex_member.proofs.Lists.{some-is}
+
+whole-is : {A : Type 0} (r : Result (A × List ℕ) CodecError) (x : A) → whole r ≡ Some x → r ≡ Ok (x, [])
+whole-is {A} (Ok (y, [])) x is = ap (λ (z : A). Ok (z, [])) (some-is y x is)
+whole-is (Ok (y, b ∷ rest)) x is = absurd (none-some x is)
+whole-is (Err e) x is = absurd (none-some x is)
+
+-- what is read of all the bytes is read of its own spelling
+read-again : {A : Type 0} {Fits : A → Type 0} {spelling : A → List ℕ} {reading : List ℕ → Result (A × List ℕ) CodecError} → IsCodec Fits spelling reading → (bytes : List ℕ) (x : A) → whole (reading bytes) ≡ Some x → whole (reading (spelling x)) ≡ Some x
+read-again {A} {Fits} {spelling} {reading} codec bytes x is =
+    let took = codec.takes bytes x [] (whole-is (reading bytes) x is) in
+    ap whole (subst (λ (l : List ℕ). reading l ≡ Ok (x, [])) (append-nil (spelling x)) (codec.again x [] took.1))
+
+-- under another form
+mapped-again : {A B : Type 0} {Fits : A → Type 0} {spelling : A → List ℕ} {reading : List ℕ → Result (A × List ℕ) CodecError} (made : A → B) → IsCodec Fits spelling reading → ((x y : A) → made x ≡ made y → x ≡ y)
+    → (bytes : List ℕ) (x : A) → option_map made (whole (reading bytes)) ≡ Some (made x) → option_map made (whole (reading (spelling x))) ≡ Some (made x)
+mapped-again {A} {B} {Fits} {spelling} {reading} made codec one bytes x is =
+    let of = mapped made (whole (reading bytes)) (made x) is in
+    let same : of.x ≡ x = one of.x x of.gives in
+    ap (option_map made) (read-again codec bytes x (of.is ∙ ap (λ (y : A). Some y) same))
+
+module _ {S D P G C : Type 0} where
+  vote-is : (v u : Vote S D P G C) → of_vote v ≡ of_vote u → v ≡ u
+  vote-is v u e = ap inside e
+    where
+      inside : Packet S D P G C → Vote S D P G C
+      inside (of_vote x) = x
+      inside (of_certificate c) = v
+      inside (of_ask view) = v
+
+  certificate-is : (c d : Certificate S D P G C) → of_certificate c ≡ of_certificate d → c ≡ d
+  certificate-is c d e = ap inside e
+    where
+      inside : Packet S D P G C → Certificate S D P G C
+      inside (of_vote x) = c
+      inside (of_certificate x) = x
+      inside (of_ask view) = c
+
+  ask-is : (a b : ℕ) → ◌≡◌ {A = Packet S D P G C} (of_ask a) (of_ask b) → a ≡ b
+  ask-is a b e = ap inside e
+    where
+      inside : Packet S D P G C → ℕ
+      inside (of_vote x) = a
+      inside (of_certificate x) = a
+      inside (of_ask view) = view
+
+  module _ (same : D → D → Bool) (p : D → List ℕ) (q : G → List ℕ) (r : C → List ℕ)
+      (p_at : ℕ → List ℕ → Result (D × List ℕ) CodecError) (q_at : ℕ → List ℕ → Result (G × List ℕ) CodecError) (r_at : ℕ → List ℕ → Result (C × List ℕ) CodecError) (n : ℕ)
+      (Q : D → Type 0) (F : G → Type 0) (R W : C → Type 0) (payloads : IsCodec Q p (p_at n)) (signatures : IsCodec F q (q_at n)) (certificates : IsCodec (Readable R W) r (r_at n)) where
+    abbrev These : Formats S D P G C
+    These = formats same p q r p_at q_at r_at n
+
+    read-so : (x : Packet S D P G C) → IsReadable These x → These.packet_in (packet_channel x) (These.packet x) ≡ Some x
+    read-so (of_vote v) readable = mapped-again {reading = any_vote_at (p_at n) (q_at n)} of_vote (any_vote-IsCodec payloads signatures) vote-is readable.0 v readable.1
+    read-so (of_certificate c) readable = mapped-again {reading = any_certificate_at (p_at n) (r_at n)} of_certificate (any_certificate-IsCodec payloads certificates) certificate-is readable.0 c readable.1
+    read-so (of_ask view) readable = mapped-again {reading = varint_at (2 ^ 64 - 1)} of_ask (varint-IsCodec (2 ^ 64 - 1)) ask-is readable.0 view readable.1
+
+    by-channel : (by : Channel) (bytes : List ℕ) (x : Packet S D P G C) → These.packet_in by bytes ≡ Some x → packet_channel x ≡ by
+    by-channel channel.Votes bytes x is = let of = mapped of_vote (whole (any_vote_at (p_at n) (q_at n) bytes)) x is in sym (ap packet_channel of.gives)
+    by-channel channel.Certificates bytes x is = let of = mapped of_certificate (whole (any_certificate_at (p_at n) (r_at n) bytes)) x is in sym (ap packet_channel of.gives)
+    by-channel channel.Fetches bytes x is = let of = mapped of_ask (whole (varint_at (2 ^ 64 - 1) bytes)) x is in sym (ap packet_channel of.gives)
+
+    pub read-back : AreReadBack These
+    read-back = record { by_channel = by-channel; again = read-so; certificates = λ c. refl }

@@ -1,0 +1,16 @@
+use Rattle.simplex_network.proofs.Naming.{none-named}
+use Rattle.simplex_network.proofs.laws.accountability.Goals as goal
+
+pub returns : goal.returns
+returns g c = record {
+  none_blocked = λ f exact back. c.none_is_blamed.ensures f exact back;
+  none_named = λ f exact scheme m world w reports evidence told verdict x by correct.
+      none-named g.S.Scheme f scheme m world w (c.reports_are_honest.ensures f exact) (c.own_votes_agree.ensures f) reports told g.D.Ord.cmp evidence verdict x by correct;
+  enough_named = λ f exact scheme m world w some reports evidence told verdict round contradicted.
+      let named = c.a_contradicted_round_names_enough.ensures scheme reports evidence round some verdict contradicted in (
+        named,
+        λ i here correct.
+            let by = named.accused i here in
+            none-named g.S.Scheme f scheme m world w (c.reports_are_honest.ensures f exact) (c.own_votes_agree.ensures f) reports told g.D.Ord.cmp evidence verdict (record { round = round; signer = i; offence = by.0 }) by.1 correct,
+      );
+}

@@ -1,0 +1,32 @@
+-- Who is ever blamed, however many members are excused: statements.
+use Rattle.std.specs.Prelude.{◌<◌, ◌+◌, ℕ, List, Contains}
+use Rattle.std.specs.declared.cmp.Ordering.{Ordering}
+use Rattle.simplex_types.specs.declared.position.Round.{Round}
+use Rattle.simplex_types.specs.declared.scheme.Scheme.{Ghosts}
+use Rattle.simplex_committee.specs.Committee.{faults}
+use Rattle.simplex_messages.specs.declared.activity.Activity.{Activity}
+use Rattle.simplex_audit.specs.Accountability.{IsContradicted, NamesAtLeast}
+use Rattle.simplex_audit.specs.Audit.{Accusation, IsAccused, IsVerdict}
+use Rattle.simplex_record.specs.World.{World, IsCorrect}
+use Rattle.simplex_member.specs.Deeds.{Reports}
+use Rattle.simplex_member.specs.Lives.{AreMembers, HandedOut, Members}
+use Rattle.simplex_member.specs.Packet.{Formats}
+
+module _ {S D P G C : Type 0} (g : Ghosts S D P G C) (f : Formats S D P G C) where
+  -- each of these reports was handed out by a member that isn't excused
+  abbrev pub AreReported : S → Members S D P G C → World S D P G C → List (Activity S D P G C) → Type 0
+  AreReported scheme m world reports = (a : Activity S D P G C) → Contains reports a → (i : ℕ) × IsCorrect world i × HandedOut g f scheme m world i (Reports a)
+
+  -- an audit over reports of such members names none of them
+  abbrev pub NoneIsNamed : (D → D → Ordering) → Type 0
+  NoneIsNamed cmp = (scheme : S) (m : Members S D P G C) (world : World S D P G C) → AreMembers g f scheme m world
+      → (reports evidence : List (Activity S D P G C)) → AreReported scheme m world reports → IsVerdict g.lists (g.attests scheme) cmp reports evidence
+      → (x : Accusation) → IsAccused evidence x → IsCorrect world x.signer → ⊥
+
+  -- where certificates among their reports contradict each other on a round, it names at least one member more of that round than may be
+  -- faulty, and none of them is one of these
+  abbrev pub ContradictionsNameEnough : (D → D → Ordering) → Type 0
+  ContradictionsNameEnough cmp = (scheme : S) (m : Members S D P G C) (world : World S D P G C) → AreMembers g f scheme m world → 0 < g.size scheme
+      → (reports evidence : List (Activity S D P G C)) → AreReported scheme m world reports → IsVerdict g.lists (g.attests scheme) cmp reports evidence
+      → (round : Round) → IsContradicted (g.certifies scheme) reports round
+      → (named : NamesAtLeast (faults (g.size scheme) + 1) (g.size scheme) evidence round) × ((i : ℕ) → Contains named.names i → IsCorrect world i → ⊥)

@@ -1,0 +1,52 @@
+//! What correct members agree on, and whom nobody ever blames.
+
+ghost use Rattle.simplex_member.specs.Laws.{AreReadBack, IsExact, NoneIsBlamed};
+ghost use Rattle.simplex_member.specs.Packet.{Formats};
+ghost use Rattle.simplex_network.specs.Accountability.{ContradictionsNameEnough, NoneIsNamed};
+ghost use Rattle.simplex_network.specs.Agreement.{AllAreSound, FinalizedViewsLieOnOneChain, NoFinalizedViewIsNullified, NoFinalizedViewIsSkipped, NoViewHasTwoProposals};
+
+use simplex_audit::a_contradicted_round_names_enough;
+use simplex_member::{
+    agreement_of_lives, finalized_views_lie_on_one_chain, made_certificates_are_sound,
+    none_is_blamed, own_votes_agree, reports_are_honest,
+};
+use simplex_types::{Digest, Listing};
+
+/// The law of agreement for networks. In a committee of any size, with terms of any length, let no more members
+/// be excused from all rules than may be faulty. Let each other member run one node after another, through any
+/// number of openings, events, losses and crashes inside any write, on a disk that was empty at first; let all of
+/// them have one elector, and schemes of the committee's size, each its own, by which nothing attests that does
+/// not by the committee's; and let no verifying vote that they are handed in a member's name be on what that
+/// member recorded no vote for. Then over all verifying certificates in bytes that they were handed, or that they
+/// made: no view is certified for two proposals, no finalized view is nullified, no notarized proposal skips a
+/// finalized view, and finalized views lie on one chain.
+///
+/// It holds however packets are spelled and read, where payloads that are compared as one are one.
+pub fn agreement<S: Listing<D>, D: Digest>()
+    ensures sound { (f : Formats S D S.PublicKey S.Signature S.Certificate) → IsExact f → AllAreSound S.Scheme f }
+    ensures one_proposal_a_view { (f : Formats S D S.PublicKey S.Signature S.Certificate) → IsExact f → NoViewHasTwoProposals S.Scheme f }
+    ensures no_finalized_view_nullified { (f : Formats S D S.PublicKey S.Signature S.Certificate) → IsExact f → NoFinalizedViewIsNullified S.Scheme f }
+    ensures no_finalized_view_skipped { (f : Formats S D S.PublicKey S.Signature S.Certificate) → IsExact f → NoFinalizedViewIsSkipped S.Scheme f }
+    ensures one_chain { (f : Formats S D S.PublicKey S.Signature S.Certificate) → IsExact f → FinalizedViewsLieOnOneChain S.Scheme f }
+{
+    agreement_of_lives::<S, D>();
+    finalized_views_lie_on_one_chain::<S, D>();
+    made_certificates_are_sound::<S, D>();
+}
+
+/// The law of accountability, however many members are excused. Of each member that isn't, let all be as for
+/// agreement; and a scheme may sign one statement differently each time. Then none of these members blocks another,
+/// neither by a refusal nor by a construction, where each packet in the name of one of them was handed out by it,
+/// what is sent can be read, and what attests by one's scheme does by another's. Over reports that such members
+/// handed out an audit names none of them; and where certificates among these contradict each other on a round, it
+/// names at least one member more of that round than may be faulty.
+pub fn accountability<S: Listing<D>, D: Digest>()
+    ensures none_blocked { (f : Formats S D S.PublicKey S.Signature S.Certificate) → IsExact f → AreReadBack f → NoneIsBlamed S.Scheme f }
+    ensures none_named { (f : Formats S D S.PublicKey S.Signature S.Certificate) → IsExact f → NoneIsNamed S.Scheme f D.cmp }
+    ensures enough_named { (f : Formats S D S.PublicKey S.Signature S.Certificate) → IsExact f → ContradictionsNameEnough S.Scheme f D.cmp }
+{
+    none_is_blamed::<S, D>();
+    reports_are_honest::<S, D>();
+    own_votes_agree::<S, D>();
+    a_contradicted_round_names_enough::<S, D>();
+}

@@ -1,0 +1,6 @@
+//! A network of members: what they agree on, and whom nobody blames, whatever the others do.
+#![tactic(auto)]
+
+mod laws;
+
+pub use laws::{accountability, agreement};
