@@ -95,3 +95,18 @@ module _ {A : Type 0} {Fits : A → Type 0} {spelling : A → List ℕ} {reading
   -- the reports that bytes hold are these alone
   pub IsRead-unique : (bytes : List ℕ) (xs ys : List A) (f g : Option ℕ) → IsRead Fits spelling reading bytes xs f → IsRead Fits spelling reading bytes ys g → xs ≡ ys
   IsRead-unique bytes xs ys f g a b = same_read xs ys a.rest b.rest a.fitting b.fitting (sym a.whole ∙ b.whole) (read_ends f bytes a.rest a.ends) (read_ends g bytes b.rest b.ends)
+
+  -- joined spellings are read to their end, and as these
+  pub joined-read : (xs ys : List A) (f : Option ℕ) → All Fits xs → IsRead Fits spelling reading (flat_map spelling xs) ys f → (ys ≡ xs) × (f ≡ None)
+  joined-read xs ys f fits read =
+      let same = IsRead-unique (flat_map spelling xs) ys xs f None read (record { fitting = fits; rest = []; whole = sym (append-nil (flat_map spelling xs)); ends = refl }) in
+      let whole : flat_map spelling xs ≡ flat_map spelling xs ++ read.rest = read.whole ∙ ap (λ (zs : List A). flat_map spelling zs ++ read.rest) same in
+      (same, ended f (none_behind (flat_map spelling xs) read.rest whole) read.ends)
+    where
+      none_behind : (bytes rest : List ℕ) → bytes ≡ bytes ++ rest → rest ≡ []
+      none_behind bytes [] is = refl
+      none_behind bytes (b ∷ rest) is = absurd (omega (arith, ap length is, length-append bytes (b ∷ rest)))
+
+      ended : (fault : Option ℕ) → read.rest ≡ [] → MatchOption fault (read.rest ≡ []) (λ place. (place + length read.rest ≡ length (flat_map spelling xs)) × (read.rest ≢ []) × IsErr (reading read.rest)) → fault ≡ None
+      ended None none ends = refl
+      ended (Some place) none ends = absurd (ends.1 none)

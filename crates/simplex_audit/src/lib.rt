@@ -13,5 +13,7 @@ mod tally;
 mod verdict;
 
 pub use auditing::audit;
-pub use laws::{a_contradicted_round_names_enough, names_rest_on_the_reports};
+pub use laws::{
+    a_contradicted_round_names_enough, joined_reports_are_read, names_rest_on_the_reports,
+};
 pub use verdict::Audit;

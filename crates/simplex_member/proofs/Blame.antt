@@ -24,7 +24,7 @@ use Rattle.simplex_member.specs.declared.event.Event.TheVariants as event
 use Rattle.simplex_member.specs.declared.refusal.Refusal.{Refusal}
 use Rattle.simplex_member.specs.declared.refusal.Refusal.TheVariants as refusal
 use Rattle.simplex_member.specs.Deeds.{Deed, Sends, Serves, Blocks, Reports, all_deeds}
-use Rattle.simplex_member.specs.Laws.{AreReadBack, IsOwnAndSound}
+use Rattle.simplex_member.specs.Laws.{AreReadBack, IsOwnAndSound, RecordLaws}
 use Rattle.simplex_member.specs.Lives.{Life, Broken, Lasting, Turn, Refuses, Went, AreFaithful, AreMembers, CameIn, HandedOut, HandsOutBytes, Holds, Lived, Lives, Members, Turns, WasHanded, handed_out, turn_deeds}
 use Rattle.simplex_member.specs.Member.{Goes, after}
 use Rattle.simplex_member.specs.Packet.{Formats, Packet, of_vote, packet_channel}
@@ -126,11 +126,11 @@ module _ {S D P G C : Type 0} (g : Ghosts S D P G C) (f : Formats S D P G C) (s 
 
 module _ {S D P G C : Type 0} (g : Ghosts S D P G C) (f : Formats S D P G C) (scheme : S) (m : Members S D P G C) (world : World S D P G C) where
   -- a vote that a correct member handed out is its own, recorded, with its parent below
-  own-sound : AreMembers g f scheme m world → (j : ℕ) → IsCorrect world j → (to : Option ℕ) (v : Vote S D P G C) → HandedOut g f scheme m world j (Sends to (of_vote v)) → IsOwnAndSound world j v
-  own-sound w j correct to v sent =
+  own-sound : RecordLaws g → AreMembers g f scheme m world → (j : ℕ) → IsCorrect world j → (to : Option ℕ) (v : Vote S D P G C) → HandedOut g f scheme m world j (Sends to (of_vote v)) → IsOwnAndSound world j v
+  own-sound grows w j correct to v sent =
       let lived = w.lived j correct in
       let here = lives-sent g f (m.setup j) [] (m.lives j) (world.recorded j) sent.0 to v lived sent.1 sent.2 in
-      let lawful = all-lives-lawful g f (m.setup j) (m.lives j) (world.recorded j) lived in
+      let lawful = all-lives-lawful g f (m.setup j) grows (m.lives j) (world.recorded j) lived in
       let at = placed g f (m.setup j) (world.recorded j) lawful (vote_artifact v) here in
       record {
         recorded = here;
@@ -139,14 +139,14 @@ module _ {S D P G C : Type 0} (g : Ghosts S D P G C) (f : Formats S D P G C) (sc
       }
 
   -- so is each vote that came in to a correct member by a packet of it
-  pub came-sound : AreReadBack f → AreMembers g f scheme m world → AreFaithful g f scheme m world → (i j : ℕ) → IsCorrect world i → IsCorrect world j → (v : Vote S D P G C) → CameIn g f scheme m world i j (of_vote v) → IsOwnAndSound world j v
-  came-sound back w faithful i j ci cj v came = go came.0 came.1 came.2
+  pub came-sound : RecordLaws g → AreReadBack f → AreMembers g f scheme m world → AreFaithful g f scheme m world → (i j : ℕ) → IsCorrect world i → IsCorrect world j → (v : Vote S D P G C) → CameIn g f scheme m world i j (of_vote v) → IsOwnAndSound world j v
+  came-sound grows back w faithful i j ci cj v came = go came.0 came.1 came.2
     where
       by-deed : (by : Channel) (bytes : List ℕ) → f.packet_in by bytes ≡ Some (of_vote v) → (d : Deed S D P G C) → HandedOut g f scheme m world j d → HandsOutBytes g f scheme m world by bytes d → IsOwnAndSound world j v
       by-deed by bytes read (Sends to x) sent is =
           let read_so : f.packet_in (packet_channel x) (f.packet x) ≡ Some (of_vote v) = subst (λ (b : List ℕ). f.packet_in (packet_channel x) b ≡ Some (of_vote v)) is.1 (subst (λ (c : Channel). f.packet_in c bytes ≡ Some (of_vote v)) is.0 read) in
           let one : of_vote v ≡ x = some-is (of_vote v) x (sym read_so ∙ back.again x (faithful.sent j cj to x sent)) in
-          own-sound w j cj to v (subst (λ (y : Packet S D P G C). HandedOut g f scheme m world j (Sends to y)) (sym one) sent)
+          own-sound grows w j cj to v (subst (λ (y : Packet S D P G C). HandedOut g f scheme m world j (Sends to y)) (sym one) sent)
       by-deed by bytes read (Serves member served) sent is = absurd (apart (sym (ap is_votes (back.by_channel by bytes (of_vote v) read ∙ is.0))))
       by-deed by bytes read d sent is = absurd is
 

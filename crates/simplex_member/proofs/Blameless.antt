@@ -24,7 +24,7 @@ use Rattle.simplex_member.specs.declared.refusal.Refusal.TheVariants as refusal
 use Rattle.simplex_member.specs.Allowed.{Allowed}
 use Rattle.simplex_member.specs.Deeds.{Deed, Sends, Serves, Blocks, Reports}
 use Rattle.simplex_member.specs.First.{IsFirst}
-use Rattle.simplex_member.specs.Laws.{AreReadBack, DoAttestAlike, HoldsNoVote, IsRefusedFor, RoundLaws}
+use Rattle.simplex_member.specs.Laws.{AreReadBack, DoAttestAlike, HoldsNoVote, IsRefusedFor, RecordLaws, RoundLaws}
 use Rattle.simplex_member.specs.Lives.{AreFaithful, AreMembers, Carries, HandedOut, HandsOutBytes, Members}
 use Rattle.simplex_member.specs.Packet.{Formats, Packet, of_vote, of_certificate, of_ask, packet_channel}
 use Rattle.simplex_member.specs.Point.{Point, History}
@@ -71,9 +71,9 @@ module _ {S D P G C : Type 0} (g : Ghosts S D P G C) (f : Formats S D P G C) (sc
       (Contains-append_cases (if blocks_sender r then Blocks sender ∷ [] else []) (refusal_report g f (m.setup i) r (evidence_deeds g f (m.setup i) h sender (f.packet_in by bytes.items))) d here)
   refused-none i h e r d out here = Contains-nil d here
 
-  module _ (w : AreMembers g f scheme m world) (j : ℕ) (cj : IsCorrect world j) where
+  module _ (grows : RecordLaws g) (w : AreMembers g f scheme m world) (j : ℕ) (cj : IsCorrect world j) where
     lawful : Lawful g f (m.setup j) (world.recorded j)
-    lawful = all-lives-lawful g f (m.setup j) (m.lives j) (world.recorded j) (w.lived j cj)
+    lawful = all-lives-lawful g f (m.setup j) grows (m.lives j) (world.recorded j) (w.lived j cj)
 
     -- of a certificate that a correct member recorded: the parent is below, and it certifies
     parent-below : (c : Certificate S D P G C) → Contains (world.recorded j) (certificate_artifact c) → HasParentBelow (certificate_statement c)
@@ -151,7 +151,7 @@ module _ {S D P G C : Type 0} (g : Ghosts S D P G C) (f : Formats S D P G C) (sc
           }
       handed-read by bytes d out is = absurd is
 
-  module _ (laws : RoundLaws g f.same) (law : WhatIsProducedCame) (back : AreReadBack f) (w : AreMembers g f scheme m world) (faithful : AreFaithful g f scheme m world) (alike : DoAttestAlike g f scheme m world)
+  module _ (grows : RecordLaws g) (laws : RoundLaws g f.same) (law : WhatIsProducedCame) (back : AreReadBack f) (w : AreMembers g f scheme m world) (faithful : AreFaithful g f scheme m world) (alike : DoAttestAlike g f scheme m world)
       (backed : (own : S) (x : Statement D) (c : C) → g.certifies own x c → IsQuorum (g.size own) (λ k a. g.attests own k x a) (g.lists c))
       (sufficient : (own : S) (x : Statement D) (c : C) → IsQuorum (g.size own) (λ k a. g.attests own k x a) (g.lists c) → g.certifies own x c)
       (i j : ℕ) (ci : IsCorrect world i) (cj : IsCorrect world j) where
@@ -164,7 +164,7 @@ module _ {S D P G C : Type 0} (g : Ghosts S D P G C) (f : Formats S D P G C) (sc
         sufficient (m.setup i).voter.scheme x c (record { distinct = p.distinct; members = p.members; enough = p.enough; attesting = λ k d l. alike i j ci cj _ x _ (p.attesting k d l) })
 
     -- no test that blocks applies to it
-    none-first : (h : History S D P G C) (x : Packet S D P G C) → IsFine w j cj law back faithful x → ((v : Vote S D P G C) → x ≡ of_vote v → ⊥) → (r : Refusal)
+    none-first : (h : History S D P G C) (x : Packet S D P G C) → IsFine grows w j cj law back faithful x → ((v : Vote S D P G C) → x ≡ of_vote v → ⊥) → (r : Refusal)
         → IsFirst (sender_tests g f (m.setup i) j ++ packet_tests g f (m.setup i) h j (Some x)) (Some r) → blocks_sender r ≡ true → ⊥
     none-first h (of_vote v) known unvoted r first blocks = unvoted v refl
     none-first h (of_certificate c) known unvoted r first blocks =
@@ -174,9 +174,9 @@ module _ {S D P G C : Type 0} (g : Ghosts S D P G C) (f : Formats S D P G C) (sc
         ⊎_elim (λ t. spares r refusal.ViewZero t.1 refl blocks) (λ n.
         ⊎_elim (λ t. spares r refusal.OutsideWindow t.1 refl blocks) (λ n.
         ⊎_elim (λ t. spares r refusal.NoRoom t.1 refl blocks) (λ n.
-        ⊎_elim (λ t. t.0 (parent-below w j cj c known)) (λ n.
+        ⊎_elim (λ t. t.0 (parent-below grows w j cj c known)) (λ n.
         ⊎_elim (λ t. spares r refusal.Repeated t.1 refl blocks) (λ n.
-        ⊎_elim (λ t. t.0 (certifies-alike (certificate_statement c) (certified_by c) (own-certifies w j cj c known))) (λ n. none-some r (sym n.1)) n.1) n.1) n.1) n.1) n.1) n.1) n.1) n.1) first
+        ⊎_elim (λ t. t.0 (certifies-alike (certificate_statement c) (certified_by c) (own-certifies grows w j cj c known))) (λ n. none-some r (sym n.1)) n.1) n.1) n.1) n.1) n.1) n.1) n.1) n.1) first
     none-first h (of_ask view) known unvoted r first blocks =
         ⊎_elim (λ t. spares r refusal.UnknownSender t.1 refl blocks) (λ n.
         ⊎_elim (λ t. spares r refusal.OwnName t.1 refl blocks) (λ n.
@@ -192,11 +192,11 @@ module _ {S D P G C : Type 0} (g : Ghosts S D P G C) (f : Formats S D P G C) (sc
         (λ report. absurd (report-spares g f (m.setup i) is.r (evidence_deeds g f (m.setup i) h sender o) j (evidence-spares g f (m.setup i) h sender o j) report))
         (Contains-append_cases (if blocks_sender is.r then Blocks sender ∷ [] else []) (refusal_report g f (m.setup i) is.r (evidence_deeds g f (m.setup i) h sender o)) (Blocks j) blocks) in
         let by_deed = faithful.handed i j is.e by bytes.items ci cj is.handed (subst (λ (x : Event D). Carries g f scheme m world x j by bytes.items) (sym same) (holds.0, refl, refl)) in
-        let of = handed-read w j cj law back faithful by bytes.items by_deed.0 by_deed.1 by_deed.2 in
+        let of = handed-read grows w j cj law back faithful by bytes.items by_deed.0 by_deed.1 by_deed.2 in
         none-first h of.x of.fine (λ v e. holds.1 v (of.is ∙ ap (λ (x : Packet S D P G C). Some x) e)) is.r
         (subst (λ (x : Option (Packet S D P G C)). IsFirst (sender_tests g f (m.setup i) j ++ packet_tests g f (m.setup i) h j x) (Some is.r)) of.is
         (subst (λ (k : ℕ). IsFirst (sender_tests g f (m.setup i) k ++ packet_tests g f (m.setup i) h k o) (Some is.r)) holds.0 first)) who.0
     none-refused e is same holds = absurd holds
 
     pub none-blamed : HandedOut g f scheme m world i (Blocks j) → ⊥
-    none-blamed out = let by = refused-alone g f scheme m world i laws back w faithful alike j ci cj out in none-refused by.0.e by.0 refl by.1
+    none-blamed out = let by = refused-alone g f scheme m world i grows laws back w faithful alike j ci cj out in none-refused by.0.e by.0 refl by.1

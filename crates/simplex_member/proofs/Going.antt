@@ -11,13 +11,14 @@ use Rattle.simplex_member.specs.declared.action.Reply.{Reply}
 use Rattle.simplex_member.specs.declared.refusal.Refusal.{Refusal}
 use Rattle.simplex_member.specs.Allowed.{AreAllowed}
 use Rattle.simplex_member.specs.Deeds.{AreActions}
+use Rattle.simplex_member.specs.Laws.{RecordLaws}
 use Rattle.simplex_member.specs.Member.{Goes, Run, Takes}
 use Rattle.simplex_member.specs.Packet.{Formats}
 use Rattle.simplex_member.specs.Point.{Point, History}
 use Rattle.simplex_member.specs.Recorded.{record_of, recorded_by}
 use Rattle.simplex_member.specs.Refusals.{refused_deeds}
 use Rattle.simplex_member.specs.Setup.{Setup, owner_of}
-use Rattle.simplex_member.proofs.Growing.{lawful-nil, lawful-put}
+use Rattle.simplex_member.proofs.Growing.{lawful-put}
 use Rattle.simplex_member.proofs.Lists.{put-list}
 
 module _ {S D P G C : Type 0} (g : Ghosts S D P G C) (f : Formats S D P G C) (s : Setup S D C) where
@@ -25,18 +26,18 @@ module _ {S D P G C : Type 0} (g : Ghosts S D P G C) (f : Formats S D P G C) (s 
   Lawful r = IsLawful (g.attests s.voter.scheme) (g.certifies s.voter.scheme) (owner_of s) r
 
   -- allowed points keep a record lawful
-  pub goes-lawful : (h : History S D P G C) (points : List (Point S D P G C)) (end : History S D P G C) → Goes g f s h points end → Lawful (record_of h) → Lawful (record_of end)
-  goes-lawful h [] end goes lawful = subst (λ (e : History S D P G C). Lawful (record_of e)) (sym goes) lawful
-  goes-lawful h (p ∷ points) end goes lawful =
-      goes-lawful (p ∷ h) points end goes.1 (lawful-put (g.attests s.voter.scheme) (g.certifies s.voter.scheme) (owner_of s) (record_of h) (recorded_by p) lawful goes.0.fits)
+  pub goes-lawful : RecordLaws g → (h : History S D P G C) (points : List (Point S D P G C)) (end : History S D P G C) → Goes g f s h points end → Lawful (record_of h) → Lawful (record_of end)
+  goes-lawful grows h [] end goes lawful = subst (λ (e : History S D P G C). Lawful (record_of e)) (sym goes) lawful
+  goes-lawful grows h (p ∷ points) end goes lawful =
+      goes-lawful grows (p ∷ h) points end goes.1 (lawful-put g grows s.voter.scheme (owner_of s) (record_of h) (recorded_by p) lawful goes.0.fits)
 
-  pub allowed-lawful : (h : History S D P G C) → AreAllowed g f s h → Lawful (record_of h)
-  allowed-lawful [] all = lawful-nil (g.attests s.voter.scheme) (g.certifies s.voter.scheme) (owner_of s)
-  allowed-lawful (p ∷ h) all = lawful-put (g.attests s.voter.scheme) (g.certifies s.voter.scheme) (owner_of s) (record_of h) (recorded_by p) (allowed-lawful h all.1) all.0.fits
+  pub allowed-lawful : RecordLaws g → (h : History S D P G C) → AreAllowed g f s h → Lawful (record_of h)
+  allowed-lawful grows [] all = grows.first s.voter.scheme (owner_of s)
+  allowed-lawful grows (p ∷ h) all = lawful-put g grows s.voter.scheme (owner_of s) (record_of h) (recorded_by p) (allowed-lawful grows h all.1) all.0.fits
 
   -- from nothing on it is lawful
-  pub begun-lawful : (points : List (Point S D P G C)) (end : History S D P G C) → Goes g f s [] points end → Lawful (record_of end)
-  begun-lawful points end goes = goes-lawful [] points end goes (lawful-nil (g.attests s.voter.scheme) (g.certifies s.voter.scheme) (owner_of s))
+  pub begun-lawful : RecordLaws g → (points : List (Point S D P G C)) (end : History S D P G C) → Goes g f s [] points end → Lawful (record_of end)
+  begun-lawful grows points end goes = goes-lawful grows [] points end goes (grows.first s.voter.scheme (owner_of s))
 
   -- the record only grows
   pub goes-grow : (h : History S D P G C) (points : List (Point S D P G C)) (end : History S D P G C) → Goes g f s h points end → (more : List (Artifact S D P G C)) × (record_of end ≡ record_of h ++ more)

@@ -26,7 +26,7 @@ use Rattle.simplex_record.specs.World.{World, IsCorrect}
 use Rattle.simplex_verifier.specs.Votes.{is_in_way, vote_attestation, vote_kind, vote_statement}
 use Rattle.simplex_verifier.specs.History.{accepted, is_kept_in_full, recorded}
 use Rattle.simplex_member.specs.Allowed.{Allowed, AreAllowed}
-use Rattle.simplex_member.specs.Laws.{AreReadBack, DoAttestAlike, HasHeard, IsKnownVote, IsOwnAndSound, RoundLaws}
+use Rattle.simplex_member.specs.Laws.{AreReadBack, DoAttestAlike, HasHeard, IsKnownVote, IsOwnAndSound, RecordLaws, RoundLaws}
 use Rattle.simplex_member.specs.Layers.{all_votes, floor_of, stage, votes_of, votes_setup}
 use Rattle.simplex_member.specs.Lives.{AreFaithful, AreMembers, CameIn, Members}
 use Rattle.simplex_member.specs.Packet.{Formats, of_vote}
@@ -132,19 +132,19 @@ module _ {S D P G C : Type 0} (g : Ghosts S D P G C) (f : Formats S D P G C) (s 
 
 module _ {S D P G C : Type 0} (g : Ghosts S D P G C) (f : Formats S D P G C) (scheme : S) (m : Members S D P G C) (world : World S D P G C) where
   -- no vote of a correct member contradicts what a correct one heard
-  pub none-contradicts : AreReadBack f → AreMembers g f scheme m world → AreFaithful g f scheme m world → (i j : ℕ) → IsCorrect world i → IsCorrect world j → (h : History S D P G C) → AreAllowed g f (m.setup i) h
+  pub none-contradicts : RecordLaws g → AreReadBack f → AreMembers g f scheme m world → AreFaithful g f scheme m world → (i j : ℕ) → IsCorrect world i → IsCorrect world j → (h : History S D P G C) → AreAllowed g f (m.setup i) h
       → HasHeard g f scheme m world i h → (v : Vote S D P G C) → CameIn g f scheme m world i j (of_vote v)
       → IsBlocked (votes_setup (m.setup i) g h (vote_round v).view) (votes_of (m.setup i) h (vote_round v).view) j v → ⊥
-  none-contradicts back w faithful i j ci cj h all heard v came blocked = ⊎_elim
+  none-contradicts grows back w faithful i j ci cj h all heard v came blocked = ⊎_elim
       (λ named. named (sym sound.signer))
       (λ offends. go (recorded (votes_of (m.setup i) h (vote_round v).view) v) refl offends.2)
       blocked
     where
       sound : IsOwnAndSound world j v
-      sound = came-sound g f scheme m world back w faithful i j ci cj v came
+      sound = came-sound g f scheme m world grows back w faithful i j ci cj v came
 
       lawful : Lawful g f (m.setup j) (world.recorded j)
-      lawful = all-lives-lawful g f (m.setup j) (m.lives j) (world.recorded j) (w.lived j cj)
+      lawful = all-lives-lawful g f (m.setup j) grows (m.lives j) (world.recorded j) (w.lived j cj)
 
       mine : (m.setup i).me ≡ i
       mine = ap (λ (o : Owner). o.signer) (w.owner i ci)
@@ -155,7 +155,7 @@ module _ {S D P G C : Type 0} (g : Ghosts S D P G C) (f : Formats S D P G C) (sc
           let from = accepted-known g f (m.setup i) h all (vote_round v).view u (kept-only (nat_lt (vote_round v).view (floor_of (m.setup i) h)) (all_votes (vote_round v).view h) u found.0) in
           let signer : vote_signer u ≡ j = way-signer v u found.1 ∙ sound.signer in
           let stands : Contains (world.recorded j) (vote_artifact u) = ⊎_elim
-          (λ there. (came-sound g f scheme m world back w faithful i j ci cj u (subst (λ (k : ℕ). CameIn g f scheme m world i k (of_vote u)) signer (heard.came u there))).recorded)
+          (λ there. (came-sound g f scheme m world grows back w faithful i j ci cj u (subst (λ (k : ℕ). CameIn g f scheme m world i k (of_vote u)) signer (heard.came u there))).recorded)
           (λ own. subst (λ (k : ℕ). Contains (world.recorded k) (vote_artifact u)) (sym mine ∙ (sym own.0 ∙ signer)) (heard.recorded (vote_artifact u) own.1))
           from.known in
           one-a-way g f (m.setup j) (world.recorded j) lawful v u sound.recorded stands (ap (λ (r : Round). r.view) from.ours) found.1
@@ -174,18 +174,18 @@ module _ {S D P G C : Type 0} (g : Ghosts S D P G C) (f : Formats S D P G C) (sc
   fits-attests s before (vote.Finalize v) fits = fits.verifies.verifies
 
   -- what a correct member recorded attests by its scheme
-  recorded-attests : AreMembers g f scheme m world → (j : ℕ) → IsCorrect world j → (v : Vote S D P G C) → Contains (world.recorded j) (vote_artifact v)
+  recorded-attests : RecordLaws g → AreMembers g f scheme m world → (j : ℕ) → IsCorrect world j → (v : Vote S D P G C) → Contains (world.recorded j) (vote_artifact v)
       → g.attests (m.setup j).voter.scheme (vote_attestation v).signer (vote_statement v) (vote_attestation v).signature
-  recorded-attests w j correct v here =
-      let lawful = all-lives-lawful g f (m.setup j) (m.lives j) (world.recorded j) (w.lived j correct) in
+  recorded-attests grows w j correct v here =
+      let lawful = all-lives-lawful g f (m.setup j) grows (m.lives j) (world.recorded j) (w.lived j correct) in
       let at = splits (world.recorded j) (vote_artifact v) here in
       fits-attests (m.setup j) at.before v (lawful at.before at.behind (vote_artifact v) at.is)
 
   -- a construction blocks no correct member, where what attests by one's scheme does by the other's
-  pub none-invalid : RoundLaws g f.same → AreReadBack f → AreMembers g f scheme m world → AreFaithful g f scheme m world → DoAttestAlike g f scheme m world → (i j : ℕ) → IsCorrect world i → IsCorrect world j
+  pub none-invalid : RecordLaws g → RoundLaws g f.same → AreReadBack f → AreMembers g f scheme m world → AreFaithful g f scheme m world → DoAttestAlike g f scheme m world → (i j : ℕ) → IsCorrect world i → IsCorrect world j
       → (h : History S D P G C) → AreAllowed g f (m.setup i) h → HasHeard g f scheme m world i h → (view : ℕ) (kind : Kind) (batch : Batch (Certificate S D P G C))
       → Allowed g f (m.setup i) h (Constructs view kind batch) → Contains batch.invalid.items j → ⊥
-  none-invalid laws back w faithful alike i j ci cj h all heard view kind batch allowed here =
+  none-invalid grows laws back w faithful alike i j ci cj h all heard view kind batch allowed here =
       let r = votes_of (m.setup i) h view in
       let sound = votes-lawful g f (m.setup i) laws h all view (some-from g f (m.setup i) (stage (m.setup i) h view) false allowed.due.0) in
       let bad = All-contains (HasFailed g.attests (votes_setup (m.setup i) g h view) kind r) batch.invalid.items j (laws.failed (votes_setup (m.setup i) g h view) r kind batch sound allowed.due.2) here in
@@ -195,7 +195,7 @@ module _ {S D P G C : Type 0} (g : Ghosts S D P G C) (f : Formats S D P G C) (sc
       attests-here : (v : Vote S D P G C) → IsKnownVote g f (m.setup i) h v → vote_signer v ≡ j → g.attests (m.setup i).voter.scheme (vote_attestation v).signer (vote_statement v) (vote_attestation v).signature
       attests-here v known signer = ⊎_elim
           (λ there.
-          let sound = came-sound g f scheme m world back w faithful i j ci cj v (subst (λ (k : ℕ). CameIn g f scheme m world i k (of_vote v)) signer (heard.came v there)) in
-          alike i j ci cj (vote_attestation v).signer (vote_statement v) (vote_attestation v).signature (recorded-attests w j cj v sound.recorded))
-          (λ own. recorded-attests w i ci v (heard.recorded (vote_artifact v) own.1))
+          let sound = came-sound g f scheme m world grows back w faithful i j ci cj v (subst (λ (k : ℕ). CameIn g f scheme m world i k (of_vote v)) signer (heard.came v there)) in
+          alike i j ci cj (vote_attestation v).signer (vote_statement v) (vote_attestation v).signature (recorded-attests grows w j cj v sound.recorded))
+          (λ own. recorded-attests grows w i ci v (heard.recorded (vote_artifact v) own.1))
           known

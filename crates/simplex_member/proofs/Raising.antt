@@ -31,7 +31,7 @@ use Rattle.simplex_verifier.specs.History.{Taken, Cast, Certified, Led, Judged, 
 use Rattle.simplex_verifier.specs.Votes.{is_in_way, vote_statement}
 use Rattle.simplex_member.specs.declared.event.Event.{Event}
 use Rattle.simplex_member.specs.Allowed.{Allowed, AreAllowed, MayRecord}
-use Rattle.simplex_member.specs.Laws.{IsKnownVote, IsOfVote, raises, RoundLaws}
+use Rattle.simplex_member.specs.Laws.{IsKnownVote, IsOfVote, RecordLaws, RoundLaws, raises}
 use Rattle.simplex_member.specs.Layers.{all_votes, current_of, finalized_of, floor_of, opened, opens, passes_over, stage, votes_of, votes_setup}
 use Rattle.simplex_member.specs.Member.{AreStep, Goes}
 use Rattle.simplex_member.specs.Packet.{Formats}
@@ -227,15 +227,15 @@ module _ {S D P G C : Type 0} (g : Ghosts S D P G C) (f : Formats S D P G C) (s 
       (Contains-cases p h (Heard v) here)
 
   -- two known votes of which one stands in the other's way are one
-  known-apart : (h : History S D P G C) → AreAllowed g f s h → (v u : Vote S D P G C) → IsKnownVote g f s h v → IsKnownVote g f s h u → (vote_round u).view ≡ (vote_round v).view → vote_signer u ≡ vote_signer v → is_in_way v u ≡ true → u ≡ v
-  known-apart h all v u known too at signer way = ⊎_elim
+  known-apart : RecordLaws g → (h : History S D P G C) → AreAllowed g f s h → (v u : Vote S D P G C) → IsKnownVote g f s h v → IsKnownVote g f s h u → (vote_round u).view ≡ (vote_round v).view → vote_signer u ≡ vote_signer v → is_in_way v u ≡ true → u ≡ v
+  known-apart grows h all v u known too at signer way = ⊎_elim
       (λ heard. ⊎_elim
       (λ also. heard-apart h all v u heard also at way)
       (λ own. absurd (heard-another g f s h all v heard (sym signer ∙ own.0)))
       too)
       (λ own. ⊎_elim
       (λ heard. absurd (heard-another g f s h all u heard (signer ∙ own.0)))
-      (λ also. one-a-way g f s (record_of h) (allowed-lawful g f s h all) v u own.1 also.1 at way)
+      (λ also. one-a-way g f s (record_of h) (allowed-lawful g f s grows h all) v u own.1 also.1 at way)
       too)
       known
 
@@ -295,7 +295,7 @@ module _ {S D P G C : Type 0} (g : Ghosts S D P G C) (f : Formats S D P G C) (s 
   rise-of (Votes (vote.Finalize v)) h act up = absurd (no-less (current_of s h) up)
   rise-of p h act up = absurd (no-less (current_of s h) up)
 
-  module _ (laws : RoundLaws g f.same) (backed : (x : Statement D) (certificate : C) → g.certifies s.voter.scheme x certificate → IsQuorum (g.size s.voter.scheme) (λ i a. g.attests s.voter.scheme i x a) (g.lists certificate)) (several : 1 < g.size s.voter.scheme) where
+  module _ (grows : RecordLaws g) (laws : RoundLaws g f.same) (backed : (x : Statement D) (certificate : C) → g.certifies s.voter.scheme x certificate → IsQuorum (g.size s.voter.scheme) (λ i a. g.attests s.voter.scheme i x a) (g.lists certificate)) (several : 1 < g.size s.voter.scheme) where
     module _ (h : History S D P G C) (all : AreAllowed g f s h) (view : ℕ) (kind : Kind) (batch : Batch (Certificate S D P G C)) (a : Allowed g f s h (Constructs view kind batch)) (c : Certificate S D P G C) (made : batch.certificate ≡ Some c) (leads : leads_on c ≡ true) where
       may : MayRecord g f s h (certificate_artifact c)
       may = subst (λ (o : Option (Certificate S D P G C)). IfSome (option_map certificate_artifact o) (MayRecord g f s h)) made a.fits
@@ -355,7 +355,7 @@ module _ {S D P G C : Type 0} (g : Ghosts S D P G C) (f : Formats S D P G C) (s 
           let v_other : is_other (vote_statement v.vote) ≡ true = ap is_other v.states ∙ leads-other c leads in
           let u_other : is_other (vote_statement u.vote) ≡ true = ap is_other u.states ∙ leads-other way.c way.leads in
           let signer : vote_signer u.vote ≡ vote_signer v.vote = u_signer ∙ sym v_signer in
-          let same : u.vote ≡ v.vote = known-apart h all v.vote u.vote v.known u.known (u_at ∙ sym (of-view x.0 v)) signer (in-way v.vote u.vote v_other u_other signer) in
+          let same : u.vote ≡ v.vote = known-apart grows h all v.vote u.vote v.known u.known (u_at ∙ sym (of-view x.0 v)) signer (in-way v.vote u.vote v_other u_other signer) in
           let alike : certificate_statement c ≡ certificate_statement way.c = sym v.states ∙ (ap vote_statement (sym same) ∙ u.states) in
           (may-take h c may).first (certificate_statement way.c) (subst (λ (z : Statement D). AreAlike (certificate_statement c) z) alike (same-alike (certificate_statement c))) way.taken
 

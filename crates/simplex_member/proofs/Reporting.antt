@@ -38,7 +38,7 @@ use Rattle.simplex_member.specs.declared.event.Event.TheVariants as event
 use Rattle.simplex_member.specs.declared.refusal.Refusal.{Refusal}
 use Rattle.simplex_member.specs.declared.refusal.Refusal.TheVariants as refusal
 use Rattle.simplex_member.specs.Deeds.{Deed, Blocks, Reports}
-use Rattle.simplex_member.specs.Laws.{HasReached, IsDoneAt, IsHonestReport, RoundLaws}
+use Rattle.simplex_member.specs.Laws.{HasReached, IsDoneAt, IsHonestReport, RecordLaws, RoundLaws}
 use Rattle.simplex_member.specs.Layers.{all_votes, floor_of, votes_of, votes_setup}
 use Rattle.simplex_member.specs.Lives.{AreMembers, CameIn, HandedOut, IsHonestVote, Members, WasHanded}
 use Rattle.simplex_member.specs.Packet.{Formats, Packet, of_vote}
@@ -200,9 +200,9 @@ module _ {S D P G C : Type 0} (g : Ghosts S D P G C) (f : Formats S D P G C) (sc
   against-report true None full v a each honest is = absurd (none-some a is)
   against-report false o full v a each honest is = absurd (none-some a is)
 
-  module _ (w : AreMembers g f scheme m world) (i : ℕ) (correct : IsCorrect world i) where
+  module _ (grows : RecordLaws g) (w : AreMembers g f scheme m world) (i : ℕ) (correct : IsCorrect world i) where
     lawful : Lawful g f (m.setup i) (world.recorded i)
-    lawful = all-lives-lawful g f (m.setup i) (m.lives i) (world.recorded i) (w.lived i correct)
+    lawful = all-lives-lawful g f (m.setup i) grows (m.lives i) (world.recorded i) (w.lived i correct)
 
     -- an own vote is honest
     own-honest : (v : Vote S D P G C) → Contains (world.recorded i) (vote_artifact v) → IsTrueOf v
@@ -233,7 +233,7 @@ module _ {S D P G C : Type 0} (g : Ghosts S D P G C) (f : Formats S D P G C) (sc
         apart)
         (ordered (world.recorded i) x.0 y.0 x.1 y.1)
 
-  module _ (laws : RoundLaws g f.same) (w : AreMembers g f scheme m world) (i : ℕ) (correct : IsCorrect world i) where
+  module _ (grows : RecordLaws g) (laws : RoundLaws g f.same) (w : AreMembers g f scheme m world) (i : ℕ) (correct : IsCorrect world i) where
     taken-honest : (c : Certificate S D P G C) → Contains (world.recorded i) (certificate_artifact c) → IsHonest (g.attests scheme) g.lists world c
     taken-honest c here = recorded-honest g f scheme m world laws w i correct c here
 
@@ -247,9 +247,9 @@ module _ {S D P G C : Type 0} (g : Ghosts S D P G C) (f : Formats S D P G C) (sc
 
     -- so is what is reported of an artifact that is recorded
     recorded-report : (r : List (Artifact S D P G C)) (x : Artifact S D P G C) → ((y : Artifact S D P G C) → Contains r y → Contains (world.recorded i) y) → Contains (world.recorded i) x → (a : Activity S D P G C) → Contains (reported r x) a → Report a
-    recorded-report r (artifact.Notarize v) part here a there = subst Report (one (activity.Notarize v) a there) (vote-report (vote.Notarize v) (own-honest w i correct (vote.Notarize v) here))
-    recorded-report r (artifact.Nullify v) part here a there = subst Report (one (activity.Nullify v) a there) (vote-report (vote.Nullify v) (own-honest w i correct (vote.Nullify v) here))
-    recorded-report r (artifact.Finalize v) part here a there = subst Report (one (activity.Finalize v) a there) (vote-report (vote.Finalize v) (own-honest w i correct (vote.Finalize v) here))
+    recorded-report r (artifact.Notarize v) part here a there = subst Report (one (activity.Notarize v) a there) (vote-report (vote.Notarize v) (own-honest grows w i correct (vote.Notarize v) here))
+    recorded-report r (artifact.Nullify v) part here a there = subst Report (one (activity.Nullify v) a there) (vote-report (vote.Nullify v) (own-honest grows w i correct (vote.Nullify v) here))
+    recorded-report r (artifact.Finalize v) part here a there = subst Report (one (activity.Finalize v) a there) (vote-report (vote.Finalize v) (own-honest grows w i correct (vote.Finalize v) here))
     recorded-report r (artifact.Notarization c) part here a there = subst Report (one (activity.Notarization c) a there) (certificate-report (certificate.Notarization c) (taken-honest (certificate.Notarization c) here))
     recorded-report r (artifact.Nullification c) part here a there = subst Report (one (activity.Nullification c) a there) (certificate-report (certificate.Nullification c) (taken-honest (certificate.Nullification c) here))
     recorded-report r (artifact.Finalization c) part here a there = subst Report (one (activity.Finalization c) a there) (certificate-report (certificate.Finalization c) (taken-honest (certificate.Finalization c) here))

@@ -9,7 +9,7 @@ use Rattle.simplex_messages.specs.declared.vote.Vote.{Vote}
 use Rattle.simplex_record.specs.World.{World, IsCorrect}
 use Rattle.simplex_member.specs.declared.event.Event.{Event}
 use Rattle.simplex_member.specs.Allowed.{Allowed, AreAllowed}
-use Rattle.simplex_member.specs.Laws.{AreReadBack, DoAttestAlike, HasHeard, IsRefusedFor, HoldsNoVote, RoundLaws}
+use Rattle.simplex_member.specs.Laws.{AreReadBack, DoAttestAlike, HasHeard, HoldsNoVote, IsRefusedFor, RecordLaws, RoundLaws}
 use Rattle.simplex_member.specs.Lives.{Life, Broken, Lasting, Turn, Refuses, Went, CameIn, Lived, Lives, Members, Turns, WasHanded, events_of, turn_events, AreFaithful, AreMembers, HandedOut, handed_out, turn_deeds}
 use Rattle.simplex_member.specs.Member.{AreOpening, AreStep, Goes, IsPacketPoint, after}
 use Rattle.simplex_member.specs.Packet.{Formats, Packet, of_vote, of_certificate, of_ask}
@@ -66,13 +66,13 @@ module _ {S D P G C : Type 0} (g : Ghosts S D P G C) (f : Formats S D P G C) (sc
   step-taken : (h : History S D P G C) (e : Event D) (points : List (Point S D P G C)) → WasHanded g f scheme m world i e → AreStep g f (m.setup i) h e points → AreTaken points
   step-taken h e points handed step = step-each g f scheme m world i IsTaken quiet-taken came-taken h e points handed step
 
-  module _ (laws : RoundLaws g f.same) (back : AreReadBack f) (w : AreMembers g f scheme m world) (faithful : AreFaithful g f scheme m world) (alike : DoAttestAlike g f scheme m world) (j : ℕ) (ci : IsCorrect world i) (cj : IsCorrect world j) where
+  module _ (grows : RecordLaws g) (laws : RoundLaws g f.same) (back : AreReadBack f) (w : AreMembers g f scheme m world) (faithful : AreFaithful g f scheme m world) (alike : DoAttestAlike g f scheme m world) (j : ℕ) (ci : IsCorrect world i) (cj : IsCorrect world j) where
     abbrev IsPart : List (Artifact S D P G C) → Type 0
     IsPart r = (x : Artifact S D P G C) → Contains r x → Contains (world.recorded i) x
 
     here-none : (p : Point S D P G C) (h : History S D P G C) → Allowed g f (m.setup i) h p → AreAllowed g f (m.setup i) h → AreTaken h → IsPart (record_of h) → Contains (deeds_of g f (m.setup i) h p) (Blocks j) → ⊥
     here-none (Constructs view kind batch) h a all taken part here =
-        none-invalid g f scheme m world laws back w faithful alike i j ci cj h all (record { came = λ v there. heard-came h taken v there; recorded = part }) view kind batch a (block-here g f (m.setup i) h (Constructs view kind batch) j here)
+        none-invalid g f scheme m world grows laws back w faithful alike i j ci cj h all (record { came = λ v there. heard-came h taken v there; recorded = part }) view kind batch a (block-here g f (m.setup i) h (Constructs view kind batch) j here)
     here-none p h a all taken part here = absurd (block-here g f (m.setup i) h p j here)
 
     points-none : (h : History S D P G C) (points : List (Point S D P G C)) (end : History S D P G C) → Goes g f (m.setup i) h points end → AreAllowed g f (m.setup i) h → AreTaken h → AreTaken points → IsPart (record_of end)
@@ -87,7 +87,7 @@ module _ {S D P G C : Type 0} (g : Ghosts S D P G C) (f : Formats S D P G C) (sc
     Blamed = (x : IsRefusedFor g f scheme m world i j) × HoldsNoVote f x.e j
 
     with_none : (h : History S D P G C) → AreAllowed g f (m.setup i) h → HasHeard g f scheme m world i h → (e : Event D) → WasHanded g f scheme m world i e → (r : Refusal) → IsFirst (tests g f (m.setup i) h e) (Some r) → Contains (refused_deeds g f (m.setup i) h e r) (Blocks j) → Blamed
-    with_none h all heard e handed r first blocks = (record { e = e; handed = handed; h = h; heard = heard; r = r; first = first; blocks = blocks }, no-vote g f scheme m world back w faithful i j ci cj h all heard e handed r first blocks)
+    with_none h all heard e handed r first blocks = (record { e = e; handed = handed; h = h; heard = heard; r = r; first = first; blocks = blocks }, no-vote g f scheme m world grows back w faithful i j ci cj h all heard e handed r first blocks)
 
     turns-refused : (h : History S D P G C) (turns : List (Turn S D P G C)) (end : History S D P G C) → Turns g f (m.setup i) h turns end → ((e : Event D) → Contains (turn_events turns) e → WasHanded g f scheme m world i e)
         → AreAllowed g f (m.setup i) h → AreTaken h → IsPart (record_of end) → Contains (turn_deeds g f (m.setup i) h turns) (Blocks j) → Blamed

@@ -22,7 +22,8 @@ use Rattle.simplex_judging.specs.declared.kind.Kind.{Kind}
 use Rattle.simplex_rules.specs.Windows.{HasExactly}
 use Rattle.simplex_record.specs.Record.{entries, entry, HasVoted}
 use Rattle.simplex_record.specs.Rules.{HasParentBelow, MayFollow, MayJudge, StandsInTheWay}
-use Rattle.simplex_record.specs.Lawful.{IsLawful, IsRefusedAt}
+use Rattle.simplex_record.specs.declared.owner.Owner.{Owner}
+use Rattle.simplex_record.specs.Lawful.{Fits, IsLawful, IsRefusedAt}
 use Rattle.simplex_record.specs.Chain.{MayFollowOnGround, OneChain}
 use Rattle.simplex_record.specs.World.{World, IsCorrect, IsHonest, IsSound}
 use Rattle.simplex_record.specs.Agreement.{OneProposalAView, NoFinalizedViewNullified, NoFinalizedViewSkipped}
@@ -74,6 +75,12 @@ pub record RoundLaws {S D P G C : Type 0} (g : Ghosts S D P G C) (same : D → D
   pub failed : (s : votes.Setup S) (h : votes.History S D P G C) (kind : Kind) (batch : Batch (Certificate S D P G C)) → lawful.IsLawful same g.attests s h → IsBatch g same s kind h batch → All (HasFailed g.attests s kind h) batch.invalid.items
   pub selected : (s : votes.Setup S) (h : votes.History S D P G C) → lawful.IsLawful same g.attests s h → IfSome (votes.selected h) (λ p. p.round ≡ s.round)
   pub no_quorum_lost : (s : votes.Setup S) (h : votes.History S D P G C) → s.is_skipped ≡ false → lawful.IsLawful same g.attests s h → votes.next_kind same s h ≡ None → AllCertified g.attests s h
+
+-- what they take from the laws of records: an empty one is lawful, and one more artifact that fits keeps a lawful one so
+pub record RecordLaws {S D P G C : Type 0} (g : Ghosts S D P G C) : Type 0 where
+  pub first : (own : S) (owner : Owner) → IsLawful {S = S} {P = P} (g.attests own) (g.certifies own) owner []
+  pub further : (own : S) (owner : Owner) (before : List (Artifact S D P G C)) (x : Artifact S D P G C) → IsLawful (g.attests own) (g.certifies own) owner before → Fits (g.attests own) (g.certifies own) owner before x
+      → IsLawful (g.attests own) (g.certifies own) owner (before ++ x ∷ [])
 
 -- each deadline that is counted from a moment early enough has 64 bits
 abbrev pub EarlyIsInTime : {S D C : Type 0} → Setup S D C → Type 0

@@ -3,7 +3,7 @@
 ghost use Rattle.std.specs.Prelude.{◌≡◌, ◌<◌, ◌^◌, ℕ};
 ghost use Rattle.simplex_codec.specs.Codec.{Readable};
 ghost use Rattle.simplex_certificates.specs.Artifact.{artifact_fits, artifact_spelling, artifact_within};
-ghost use Rattle.simplex_member.specs.Laws.{AcceptedAreKnown, Agree, AgreeIfHonest, AreReadBack, AwaitedMayBeRecorded, BlockedByRefusalAlone, ConstructionsBlockNone, CorrectVotesAreSound, CorrectVotesContradictNone, DeedsAreDone, DeedsAreOfPoints, DueFinalizeMayBeRecorded, DueIsBound, DueMayBeRecorded, DueNullifyMayBeRecorded, EarlyIsInTime, EmptyIsOpened, HandedCertificatesAreSound, IsExact, LieOnOneChain, LivesLeaveLawful, MadeAreHonest, MadeAreSound, MadeListVotes, NeverContradicts, NoneIsBlamed, NoQuorumIsLost, OneIsRead, OwnVotesAgree, ReachedAreGoneTo, RecordsGrow, RecordsStandOnGround, RecordsStayLawful, ReportsAreHonest, RoundLaws, RunsAreStretches, StepsRaiseLittle, ViewsNeverFall, VotersAreOrderly, VotersTellTheRecord, VotesAreLawful, VotesAreRecorded, VotesWereDue};
+ghost use Rattle.simplex_member.specs.Laws.{AcceptedAreKnown, Agree, AgreeIfHonest, AreReadBack, AwaitedMayBeRecorded, BlockedByRefusalAlone, ConstructionsBlockNone, CorrectVotesAreSound, CorrectVotesContradictNone, DeedsAreDone, DeedsAreOfPoints, DueFinalizeMayBeRecorded, DueIsBound, DueMayBeRecorded, DueNullifyMayBeRecorded, EarlyIsInTime, EmptyIsOpened, HandedCertificatesAreSound, IsExact, LieOnOneChain, LivesLeaveLawful, MadeAreHonest, MadeAreSound, MadeListVotes, NeverContradicts, NoneIsBlamed, NoQuorumIsLost, OneIsRead, OwnVotesAgree, ReachedAreGoneTo, RecordLaws, RecordsGrow, RecordsStandOnGround, RecordsStayLawful, ReportsAreHonest, RoundLaws, RunsAreStretches, StepsRaiseLittle, ViewsNeverFall, VotersAreOrderly, VotersTellTheRecord, VotesAreLawful, VotesAreRecorded, VotesWereDue};
 ghost use Rattle.simplex_member.specs.Packet.{Formats, formats};
 ghost use Rattle.simplex_member.specs.Setup.{Setup};
 
@@ -14,8 +14,9 @@ use simplex_laws::{
     what_is_known_is_recorded,
 };
 use simplex_record::{
-    agreement, chain, ever_lawful_members_vote_lawfully, no_own_vote_stands_in_the_way,
-    records_stand_on_ground as ground, whole_records_are_ever_lawful,
+    a_lawful_record_grows, agreement, chain, ever_lawful_members_vote_lawfully,
+    no_own_vote_stands_in_the_way, records_stand_on_ground as ground,
+    whole_records_are_ever_lawful,
 };
 use simplex_resolver::what_is_produced_came;
 use simplex_types::{Digest, Listing, Scheme};
@@ -36,10 +37,19 @@ pub(crate) fn rounds_obey<S: Scheme<D>, D: Digest>()
     no_quorum_of_a_round_is_lost::<S, D>();
 }
 
+/// What the laws below take from those of records.
+pub(crate) fn records_obey<S: Scheme<D>, D: Digest>()
+    ensures { RecordLaws S.Scheme }
+{
+    a_lawful_record_grows::<S, D>();
+}
+
 /// Points that are allowed keep a record lawful.
 pub fn records_stay_lawful<S: Scheme<D>, D: Digest>()
     ensures { (f : Formats S D S.PublicKey S.Signature S.Certificate) (s : Setup S D S.Certificate) → RecordsStayLawful S.Scheme f s }
-{}
+{
+    records_obey::<S, D>();
+}
 
 /// A record only grows.
 pub fn records_grow<S: Scheme<D>, D: Digest>()
@@ -49,12 +59,16 @@ pub fn records_grow<S: Scheme<D>, D: Digest>()
 /// What a member's lives leave is lawful.
 pub fn lives_leave_lawful<S: Scheme<D>, D: Digest>()
     ensures { (f : Formats S D S.PublicKey S.Signature S.Certificate) (s : Setup S D S.Certificate) → LivesLeaveLawful S.Scheme f s }
-{}
+{
+    records_obey::<S, D>();
+}
 
 /// No opening of what a member's lives left finds that it contradicts.
 pub fn never_contradicts<S: Scheme<D>, D: Digest>()
     ensures { (f : Formats S D S.PublicKey S.Signature S.Certificate) (s : Setup S D S.Certificate) → NeverContradicts S.Scheme f s }
-{}
+{
+    records_obey::<S, D>();
+}
 
 /// An empty record is opened at any moment that lies early enough.
 pub fn empty_records_are_opened<S: Scheme<D>, D: Digest>()
@@ -85,6 +99,7 @@ pub fn votes_are_recorded<S: Scheme<D>, D: Digest>()
 pub fn steps_raise_little<S: Listing<D>, D: Digest>()
     ensures { (f : Formats S D S.PublicKey S.Signature S.Certificate) (s : Setup S D S.Certificate) → IsExact f → StepsRaiseLittle S.Scheme f s }
 {
+    records_obey::<S, D>();
     rounds_obey::<S, D>();
 }
 
@@ -174,6 +189,7 @@ pub fn agreement_of_lives<S: Listing<D>, D: Digest>()
     ensures made { (f : Formats S D S.PublicKey S.Signature S.Certificate) → IsExact f → MadeAreHonest S.Scheme f }
     ensures all_agree { (f : Formats S D S.PublicKey S.Signature S.Certificate) → IsExact f → Agree S.Scheme f }
 {
+    records_obey::<S, D>();
     rounds_obey::<S, D>();
     whole_records_are_ever_lawful::<S, D>();
     ever_lawful_members_vote_lawfully::<S, D>();
@@ -186,6 +202,7 @@ pub fn agreement_of_lives<S: Listing<D>, D: Digest>()
 pub fn finalized_views_lie_on_one_chain<S: Listing<D>, D: Digest>()
     ensures { (f : Formats S D S.PublicKey S.Signature S.Certificate) → IsExact f → LieOnOneChain S.Scheme f }
 {
+    records_obey::<S, D>();
     rounds_obey::<S, D>();
     whole_records_are_ever_lawful::<S, D>();
     ever_lawful_members_vote_lawfully::<S, D>();
@@ -225,6 +242,7 @@ pub fn made_certificates_are_sound<S: Listing<D>, D: Digest>()
 pub fn reports_are_honest<S: Scheme<D>, D: Digest>()
     ensures { (f : Formats S D S.PublicKey S.Signature S.Certificate) → IsExact f → ReportsAreHonest S.Scheme f }
 {
+    records_obey::<S, D>();
     rounds_obey::<S, D>();
 }
 
@@ -232,6 +250,7 @@ pub fn reports_are_honest<S: Scheme<D>, D: Digest>()
 pub fn own_votes_agree<S: Scheme<D>, D: Digest>()
     ensures { (f : Formats S D S.PublicKey S.Signature S.Certificate) → OwnVotesAgree S.Scheme f }
 {
+    records_obey::<S, D>();
     no_own_vote_stands_in_the_way::<D>();
 }
 
@@ -243,6 +262,7 @@ pub fn correct_votes_are_sound<S: Scheme<D>, D: Digest>()
     ensures no_contradiction { (f : Formats S D S.PublicKey S.Signature S.Certificate) → AreReadBack f → CorrectVotesContradictNone S.Scheme f }
     ensures none_invalid { (f : Formats S D S.PublicKey S.Signature S.Certificate) → IsExact f → AreReadBack f → ConstructionsBlockNone S.Scheme f }
 {
+    records_obey::<S, D>();
     rounds_obey::<S, D>();
 }
 
@@ -251,6 +271,7 @@ pub fn correct_votes_are_sound<S: Scheme<D>, D: Digest>()
 pub fn blocked_by_refusal_alone<S: Scheme<D>, D: Digest>()
     ensures { (f : Formats S D S.PublicKey S.Signature S.Certificate) → IsExact f → AreReadBack f → BlockedByRefusalAlone S.Scheme f }
 {
+    records_obey::<S, D>();
     rounds_obey::<S, D>();
 }
 
@@ -259,6 +280,7 @@ pub fn blocked_by_refusal_alone<S: Scheme<D>, D: Digest>()
 pub fn none_is_blamed<S: Listing<D>, D: Digest>()
     ensures { (f : Formats S D S.PublicKey S.Signature S.Certificate) → IsExact f → AreReadBack f → NoneIsBlamed S.Scheme f }
 {
+    records_obey::<S, D>();
     rounds_obey::<S, D>();
     what_is_produced_came();
 }

@@ -1,12 +1,14 @@
 -- Who is ever blamed, however many members are excused: statements.
-use Rattle.std.specs.Prelude.{◌<◌, ◌+◌, ℕ, List, Contains}
+use Rattle.std.specs.Prelude.{◌<◌, ◌+◌, ℕ, List, Contains, ◌≡◌, All, Option, None, Result}
+use Rattle.std.specs.List.{flat_map}
 use Rattle.std.specs.declared.cmp.Ordering.{Ordering}
+use Rattle.simplex_codec.specs.declared.codec.CodecError.{CodecError}
 use Rattle.simplex_types.specs.declared.position.Round.{Round}
 use Rattle.simplex_types.specs.declared.scheme.Scheme.{Ghosts}
 use Rattle.simplex_committee.specs.Committee.{faults}
 use Rattle.simplex_messages.specs.declared.activity.Activity.{Activity}
 use Rattle.simplex_audit.specs.Accountability.{IsContradicted, NamesAtLeast}
-use Rattle.simplex_audit.specs.Audit.{Accusation, IsAccused, IsVerdict}
+use Rattle.simplex_audit.specs.Audit.{Accusation, IsAccused, IsAudit, IsVerdict}
 use Rattle.simplex_record.specs.World.{World, IsCorrect}
 use Rattle.simplex_member.specs.Deeds.{Reports}
 use Rattle.simplex_member.specs.Lives.{AreMembers, HandedOut, Members}
@@ -30,3 +32,10 @@ module _ {S D P G C : Type 0} (g : Ghosts S D P G C) (f : Formats S D P G C) whe
       → (reports evidence : List (Activity S D P G C)) → AreReported scheme m world reports → IsVerdict g.lists (g.attests scheme) cmp reports evidence
       → (round : Round) → IsContradicted (g.certifies scheme) reports round
       → (named : NamesAtLeast (faults (g.size scheme) + 1) (g.size scheme) evidence round) × ((i : ℕ) → Contains named.names i → IsCorrect world i → ⊥)
+
+-- reports that can be spelled, one behind the other as members spell them, are read to their end: an audit of the bytes is one of just
+-- these reports
+abbrev pub JoinedAreAudited : {S D P G C : Type 0} → Ghosts S D P G C → (D → D → Ordering) → S → Formats S D P G C
+    → (Activity S D P G C → Type 0) → (Activity S D P G C → List ℕ) → (List ℕ → Result (Activity S D P G C × List ℕ) CodecError) → Type 0
+JoinedAreAudited {S} {D} {P} {G} {C} g cmp scheme f Fits spelling reading = (reports evidence : List (Activity S D P G C)) (fault : Option ℕ) → All Fits reports
+    → IsAudit g.lists (g.attests scheme) cmp Fits spelling reading (flat_map f.report reports) evidence fault → (fault ≡ None) × IsVerdict g.lists (g.attests scheme) cmp reports evidence

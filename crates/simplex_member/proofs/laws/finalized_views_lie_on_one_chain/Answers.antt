@@ -10,7 +10,7 @@ use Rattle.simplex_member.proofs.laws.finalized_views_lie_on_one_chain.Goals as 
 
 pub returns : goal.returns
 returns g c = λ f exact scheme m world leader w schedule.
-    let is = world-of-lives g.S.Scheme f scheme m world (λ own owner r lawful. c.ever_lawful_members_vote_lawfully.ensures own owner r (c.whole_records_are_ever_lawful.ensures own owner r lawful)) w (recorded-honest g.S.Scheme f scheme m world (c.rounds_obey.ensures f exact) w.members) in
+    let is = world-of-lives g.S.Scheme f scheme m world (λ own owner r lawful. c.ever_lawful_members_vote_lawfully.ensures own owner r (c.whole_records_are_ever_lawful.ensures own owner r lawful)) c.records_obey.ensures w (recorded-honest g.S.Scheme f scheme m world (c.rounds_obey.ensures f exact) w.members) in
     c.chain.ensures scheme (λ i. (m.setup i).voter.scheme) world leader is (λ i correct. ⊎_elim
     (λ one. one-grounded g.S.Scheme f scheme m world leader schedule w.members i correct c.what_is_known_is_recorded.ensures c.a_lone_member_stands_on_ground.ensures.notarize c.a_lone_member_stands_on_ground.ensures.verdict c.a_lone_member_stands_on_ground.ensures.stays
     (c.rounds_obey.ensures f exact) (λ own x certificate certifies. g.met.S.Listing.backed own x certificate certifies) (eqb-true world.size 1 one))

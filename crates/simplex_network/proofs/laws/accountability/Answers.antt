@@ -1,3 +1,6 @@
+use Rattle.std.proofs.Common.{List, subst}
+use Rattle.simplex_messages.specs.declared.activity.Activity.{Activity}
+use Rattle.simplex_audit.specs.Audit.{IsVerdict}
 use Rattle.simplex_network.proofs.Naming.{none-named}
 use Rattle.simplex_network.proofs.laws.accountability.Goals as goal
 
@@ -6,6 +9,9 @@ returns g c = record {
   none_blocked = λ f exact back. c.none_is_blamed.ensures f exact back;
   none_named = λ f exact scheme m world w reports evidence told verdict x by correct.
       none-named g.S.Scheme f scheme m world w (c.reports_are_honest.ensures f exact) (c.own_votes_agree.ensures f) reports told g.D.Ord.cmp evidence verdict x by correct;
+  read_to_the_end = λ scheme small reports evidence fault fits audit.
+      let read = c.joined_reports_are_read.ensures (g.S.Scheme.size scheme) reports audit.reports fault small fits audit.read in
+      (read.1, subst (λ (rs : List (Activity _ _ _ _ _)). IsVerdict g.S.Scheme.lists (g.S.Scheme.attests scheme) g.D.Ord.cmp rs evidence) read.0 audit.verdict);
   enough_named = λ f exact scheme m world w some reports evidence told verdict round contradicted.
       let named = c.a_contradicted_round_names_enough.ensures scheme reports evidence round some verdict contradicted in (
         named,
