@@ -4,7 +4,7 @@ use simplex_resolver::Ask;
 use simplex_types::{Participant, View};
 
 /// An ask that was sent.
-#[derive(Clone, Copy, PartialEq, Eq)]
+#[derive(Clone, Copy, PartialEq, Eq, PartialOrd, Ord)]
 pub struct Asked {
     /// The view that was asked for.
     pub view: View,

@@ -1,0 +1,13 @@
+use Rattle.std.proofs.Common.{◌≡◌, ◌+◌, ◌∙◌, ◌++◌, ◌∷◌, [], length, take, sym, ap, subst, arith}
+use Rattle.std.proofs.lemmas.List.{length-take-le, take_more}
+use Rattle.simplex_recording.specs.Places.{KeepsPlaces}
+use Rattle.simplex_recording.proofs.places.Places.of.Goals as goal
+
+pub loop-place-preserved : goal.loop-place-preserved
+loop-place-preserved g c =
+    let xs = c.args.artifacts.now in
+    let x = c.index-artifacts-place.result in
+    let i = c.loop-place.place in
+    let more : take (i + 1) xs ≡ take i xs ++ x ∷ [] = take_more xs i x c.loop-place-test.true ∙ ap (λ y. take i xs ++ y ∷ []) (sym c.index-artifacts-place.is) in
+    let at : i ≡ length (take i xs) = sym (length-take-le i xs (omega arith)) in
+    subst (λ ys. KeepsPlaces c.add.new.self ys) (sym more) (c.in_ok-add.ensures (take i xs) at c.loop-place.invariant)

@@ -1,0 +1,16 @@
+use Rattle.std.proofs.Common.{◌∙◌, sym, ap}
+use Rattle.std.specs.Prelude.{option_map}
+use Rattle.simplex_recording.specs.Tables.{build_parts}
+use Rattle.simplex_recording.proofs.Firsts.{first_behind, first_there, none_before}
+use Rattle.simplex_recording.proofs.tables.Tables.build_from.Goals as goal
+
+pub returns-in-Some : goal.returns-in-Some
+returns-in-Some g c = λ low h k.
+    let range = c.range.ensures.in_range tt in
+    let number = c.in-Some.number.now in
+    let building = c.in-Some.building.now in
+    record {
+      there = sym (k.builds number) ∙ ap (option_map build_parts) (first_there c.args.self.now.builds c.args.from c.range.result range number building _ c.in-Some.ensures.steps);
+      behind = first_behind c.args.self.now.builds c.args.from c.range.result range number building _ c.in-Some.ensures.steps;
+      first = λ n at below. sym (k.builds n) ∙ ap (option_map build_parts) (none_before c.args.self.now.builds c.args.from c.range.result range number building _ c.in-Some.ensures.steps n at below);
+    }

@@ -1,0 +1,4 @@
+pub mod Places
+pub mod Recorded
+pub mod Ledger
+pub mod Tables
