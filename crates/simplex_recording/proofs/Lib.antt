@@ -1,5 +1,6 @@
 pub mod Placing
 pub mod Nullifies
+pub mod Lasting
 pub mod Likes
 pub mod Judging
 pub mod Resting

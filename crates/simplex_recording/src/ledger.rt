@@ -1,6 +1,6 @@
 //! The record on its disk: the one place where it grows.
 
-ghost use Rattle.std.specs.Prelude.{◌≡◌, ◌≢◌, ◌↔◌, ◌++◌, ◌∷◌, [], ℕ, List, map, false, IfOk, IfErr, OnOk, IsErrOf};
+ghost use Rattle.std.specs.Prelude.{◌≡◌, ◌≢◌, ◌↔◌, ◌⊎◌, ◌++◌, ◌∷◌, [], ℕ, List, map, false, IfOk, IfErr, OnOk, IsErrOf};
 ghost use Rattle.simplex_codec.specs.Codec.{Readable};
 ghost use Rattle.simplex_certificates.specs.Artifact.{artifact_spelling, artifact_within};
 ghost use Rattle.simplex_certificates.specs.declared.artifact.Artifact.{Artifact};
@@ -46,6 +46,7 @@ impl<S: Scheme<D>, D: Digest, K: Disk> Ledger<S, D, K> {
         ensures any_moment_of_a_fault { IfErr result (λ refused. K.keeps → LeavesOnly (K.calls disk) (K.calls refused.1) (IsReopened (K.calls disk))) }
 
         // A fault says what is on the disk.
+        ensures faults { IfErr result (λ refused. (refused.0 ≡ open_fault.Device) ⊎ ((refused.0 ≡ open_fault.Memory) ⊎ (((place : ℕ) × (refused.0 ≡ open_fault.Foreign place)) ⊎ ((position : ℕ) × (refused.0 ≡ open_fault.Contradiction position))))) }
         ensures foreign { IfErr result (λ refused. (place : ℕ) → refused.0 ≡ open_fault.Foreign place → K.keeps → IsForeign [] (Readable ⟦<Artifact<S, D> as Write>⟧.fits (⟦<Artifact<S, D> as Read>⟧.within 65535)) ⟦<Artifact<S, D> as Write>⟧.spelling (K.seen disk) place) }
         ensures contradiction { IfErr result (λ refused. (position : ℕ) → refused.0 ≡ open_fault.Contradiction position → IsContradiction K.Disk (artifact_spelling D.spelling S.Signature.spelling S.Certificate.spelling) (Readable ⟦<Artifact<S, D> as Write>⟧.fits (⟦<Artifact<S, D> as Read>⟧.within 65535)) (S.attests scheme.now) (S.certifies scheme.now) owner disk position) }
 
@@ -121,6 +122,7 @@ impl<S: Scheme<D>, D: Digest, K: Disk> Ledger<S, D, K> {
 fn not_opened(fault: JournalFault) -> OpenFault
     ensures device { (result ≡ open_fault.Device) ↔ (fault ≡ journal_fault.Device) }
     ensures foreign { (place : ℕ) → result ≡ open_fault.Foreign place → fault ≡ journal_fault.Foreign place }
+    ensures faults { (result ≡ open_fault.Device) ⊎ ((result ≡ open_fault.Memory) ⊎ ((place : ℕ) × (result ≡ open_fault.Foreign place))) }
     ensures no_contradiction { (position : ℕ) → result ≢ open_fault.Contradiction position }
 {
     match fault {

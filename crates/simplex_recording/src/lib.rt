@@ -1,11 +1,13 @@
 //! What a member has recorded, on its disk and at hand, and what it remembers of what it asked for.
 #![tactic(auto)]
 
+mod laws;
 mod ledger;
 mod places;
 mod recorded;
 mod tables;
 
+pub use laws::the_nullify_of_the_current_view_is_the_last;
 pub use ledger::Ledger;
 pub use recorded::Recorded;
 pub use tables::{Building, Tables};
