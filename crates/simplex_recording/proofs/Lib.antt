@@ -7,3 +7,4 @@ pub mod Resting
 pub mod Adding
 pub mod Firsts
 pub mod Verdicts
+pub mod Quiet

@@ -1,5 +1,5 @@
 -- What a node remembers of what it asked for, of when members were heard, and of the time.
-use Rattle.std.specs.Prelude.{◌≡◌, ◌↔◌, ◌≤◌, ◌<◌, ◌-◌, ◌^◌, ℕ, Bool, IsTrue, List, [], ◌∷◌, ◌++◌, Contains, Option, Some, None, option_map, option_to_list, unwrap_or}
+use Rattle.std.specs.Prelude.{◌≡◌, ◌↔◌, ◌≤◌, ◌<◌, ◌-◌, ◌^◌, ℕ, Bool, true, false, IsTrue, List, [], ◌∷◌, ◌++◌, Contains, Option, Some, None, option_map, option_to_list, unwrap_or}
 use Rattle.std.specs.BTreeMap.{get}
 use Rattle.std.specs.BTreeSet.{contains}
 use Rattle.std.specs.Ordering.{nat_cmp}
@@ -9,7 +9,7 @@ use Rattle.simplex_member.specs.declared.asked.Asked.{Asked}
 use Rattle.simplex_member.specs.contracts.asked.AskedOrd.TheImpl as asked_ord
 use Rattle.simplex_member.specs.Asked.{asks_of, build_at, check_at, last_heard, next_number}
 use Rattle.simplex_member.specs.Layers.{latest, opened_at}
-use Rattle.simplex_member.specs.Point.{Point, AsksCertify, History}
+use Rattle.simplex_member.specs.Point.{Point, Opened, Told, Heard, Built, Checked, AsksBuild, AsksVerify, AsksCertify, GivesBack, LeavesBehind, Asks, History}
 use Rattle.simplex_recording.specs.declared.tables.Building.{Building}
 use Rattle.simplex_recording.specs.declared.tables.Tables.{Tables}
 
@@ -42,6 +42,21 @@ module _ {S D P G C : Type 0} where
   abbrev pub verdicts_of : History S D P G C → List ℕ
   verdicts_of [] = []
   verdicts_of (p ∷ h) = option_to_list (verdict_asked p) ++ verdicts_of h
+
+  -- a point says nothing of this
+  abbrev pub is_quiet : Point S D P G C → Bool
+  is_quiet (Opened now) = false
+  is_quiet (Told now) = false
+  is_quiet (Heard v) = false
+  is_quiet (Built number handoff context payload took) = false
+  is_quiet (Checked number view answer outcome) = false
+  is_quiet (AsksBuild number handoff context) = false
+  is_quiet (AsksVerify number context p) = false
+  is_quiet (AsksCertify p) = false
+  is_quiet (GivesBack number view) = false
+  is_quiet (LeavesBehind number) = false
+  is_quiet (Asks view ask to) = false
+  is_quiet p = true
 
   -- all of this by a history
   abbrev pub remembered : History S D P G C → Remembered D P
