@@ -21,7 +21,7 @@ use Rattle.simplex_journal.specs.Moments.{started, weaker, at_last}
 use Rattle.simplex_journal.specs.Images.{end_short, only_synced, reads_front}
 use Rattle.simplex_journal.proofs.Reopened.{reopened_here}
 use Rattle.simplex_journal.specs.OneReading.{unique, spellings-one}
-use Rattle.simplex_journal.proofs.Refusals.{entries_long, foreign_again, never_foreign}
+use Rattle.simplex_journal.specs.Refusals.{entries_long, foreign_again, never_foreign}
 
 -- ---- lists
 

@@ -2,5 +2,4 @@ pub mod Stages
 pub mod Repairing
 pub mod Reopened
 pub mod Held
-pub mod Refusals
 pub mod Histories

@@ -10,3 +10,4 @@ pub mod Lists
 pub mod Images
 pub mod Finding
 pub mod Total
+pub mod Refusals

@@ -88,6 +88,10 @@ pub record IsReopened (calls : List Call) (image : List ℕ) : Type 0 where
   pub reads_before : Reads before bodies
   pub reads : Reads image bodies
 
+-- what fits, and is spelled by fewer bytes than these
+abbrev pub FitsBelow : {M : Type 0} → ℕ → (M → Type 0) → (M → List ℕ) → M → Type 0
+FitsBelow limit Fits spelling m = Fits m × (length (spelling m) < limit)
+
 -- the bytes have whole entries of messages, and at this place an open entry that is whole and of none
 pub record IsForeign (head : List ℕ) {M : Type 0} (Fits : M → Type 0) (spelling : M → List ℕ) (bytes : List ℕ) (place : ℕ) : Type 0 where
   pub messages : List M

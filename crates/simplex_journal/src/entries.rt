@@ -2,7 +2,7 @@
 
 ghost use Rattle.std.specs.Prelude.{◌≡◌, ◌⊎◌, ◌↔◌, ◌+◌, ◌<◌, [], ℕ, length, take, drop, map, All, IfOk, IfErr, IfSome, IfNone, IsTrue};
 ghost use Rattle.simplex_codec.specs.Codec.{Readable};
-ghost use Rattle.simplex_journal.specs.Record.{HasEntry, IsEnd, IsFound, IsForeign};
+ghost use Rattle.simplex_journal.specs.Record.{HasEntry, IsEnd, IsFound, FitsBelow, IsForeign};
 ghost use Rattle.simplex_journal.specs.declared.fault.JournalFault.TheVariants.{Foreign, Memory};
 
 use crate::fault::JournalFault;
@@ -61,11 +61,33 @@ pub fn read_entries<M: Read + Drop>(alloc: Global, bytes: &[u8]) -> Result<Entri
     ensures fitting { IfOk result (λ entries. All (Readable M.fits (M.within BOUND)) entries.messages.items) }
     ensures faults { IfErr result (λ fault. (fault ≡ Memory) ⊎ ((place : ℕ) × (fault ≡ Foreign place) × IsForeign [] (Readable M.fits (M.within BOUND)) M.spelling bytes.now place)) }
 {
+    // No entry's body has as many bytes as there are.
+    read_entries_below(alloc, bytes, bytes.len())
+}
+
+/// The same, where an entry is foreign too whose body has so many bytes or more.
+///
+/// # Errors
+///
+/// [`JournalFault::Memory`], and [`JournalFault::Foreign`] with a place among these bytes.
+pub fn read_entries_below<M: Read + Drop>(
+    alloc: Global,
+    bytes: &[u8],
+    limit: usize,
+) -> Result<Entries<M>, JournalFault>
+    ensures found { IfOk result (λ entries. IsFound [] bytes.now entries.gate (map M.spelling entries.messages.items)) }
+    ensures fitting { IfOk result (λ entries. All (FitsBelow limit (Readable M.fits (M.within BOUND)) M.spelling) entries.messages.items) }
+    ensures faults { IfErr result (λ fault. (fault ≡ Memory) ⊎ ((place : ℕ) × (fault ≡ Foreign place) × IsForeign [] (FitsBelow limit (Readable M.fits (M.within BOUND)) M.spelling) M.spelling bytes.now place)) }
+{
     let mut messages = Vec::new(alloc);
     let mut rest = bytes;
     while let Some(size) = first_entry(rest) {
         let (_, behind) = rest.split_at(5);
         let (body, after) = behind.split_at(size);
+        if size >= limit {
+            let place = bytes.len() - rest.len();
+            return Err(JournalFault::Foreign(place as u64));
+        }
         let Some(message) = decode_cfg(alloc, body, BOUND)? else {
             return Err(JournalFault::Foreign((bytes.len() - rest.len()) as u64));
         };

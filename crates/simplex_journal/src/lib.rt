@@ -12,7 +12,7 @@ mod memory_disk;
 mod opening;
 
 pub use disk::{Disk, DiskFault};
-pub use entries::{BOUND, Entries, read_entries};
+pub use entries::{BOUND, Entries, read_entries, read_entries_below};
 pub use fault::JournalFault;
 pub use file_disk::FileDisk;
 pub use history::{Crash, Event, History, Request, run};

@@ -4,3 +4,4 @@ pub mod Reopening
 pub mod Entering
 pub mod Rewriting
 pub mod Spelled
+pub mod Histories

@@ -27,7 +27,7 @@ as_any bytes =
 abbrev IsSettled : List Call → ℕ → List (List ℕ) → List ℕ → Type 0
 IsSettled calls generation bodies image = MayLeave calls image ⊎ ReadsAs image generation bodies
 
-here_reopened : (calls1 calls2 : List Call) (one two : List ℕ) → MayLeave calls1 one → MayLeave calls2 two → IsPairReopened calls1 calls2 one two
+pub here_reopened : (calls1 calls2 : List Call) (one two : List ℕ) → MayLeave calls1 one → MayLeave calls2 two → IsPairReopened calls1 calls2 one two
 here_reopened calls1 calls2 one two left1 left2 =
     let any = pair_any one two in
     record { before = one; before-2 = two; bodies = any.0; left = left1; left-2 = left2; reads_before = any.1; reads = any.1 }

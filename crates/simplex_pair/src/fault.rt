@@ -13,7 +13,7 @@ pub enum PairFault {
     /// Memory ran out.
     Memory,
     /// At this place of the disk that is read, counted in bytes from its start, stands the gate of a whole open entry
-    /// whose body isn't exactly one message.
+    /// whose body isn't exactly one message, or has 2^32-1 bytes.
     Foreign(u64),
     /// A body of 2^32-1 bytes or more, or one behind which the gate would stand past place 2^63-1.
     TooLong,

@@ -4,9 +4,11 @@
 
 mod disks;
 mod fault;
+mod history;
 mod opening;
 mod pair;
 mod spelling;
 
 pub use fault::PairFault;
+pub use history::{PairEvent, PairHistory, PairRequest, run};
 pub use pair::Pair;

@@ -1,16 +1,17 @@
 //! The steps of an opening.
 
-ghost use Rattle.std.specs.Prelude.{◌≡◌, ◌≢◌, ◌+◌, ◌<◌, ◌≤◌, ◌^◌, ◌⊎◌, ◌∷◌, List, ℕ, length, map, [], All, IfErr, IfOk, OnOk, OnErr, is_ok, IsErrOf, true, false};
+ghost use Rattle.std.specs.Prelude.{◌≡◌, ◌≢◌, ◌+◌, ◌-◌, ◌<◌, ◌≤◌, ◌^◌, ◌⊎◌, ◌∷◌, List, ℕ, length, map, [], All, IfErr, IfOk, OnOk, OnErr, is_ok, IsErrOf, true, false};
 ghost use Rattle.simplex_codec.specs.Codec.{Readable};
 ghost use Rattle.simplex_pair.specs.declared.fault.PairFault.TheVariants.{Device, Foreign, Memory};
 ghost use Rattle.simplex_journal.specs.Disk.{MayLeave, LeavesOnly, Synced, counted};
-ghost use Rattle.simplex_journal.specs.Record.{IsFixed};
+ghost use Rattle.simplex_journal.specs.Record.{IsFixed, FitsBelow};
 ghost use Rattle.simplex_generations.specs.Generation.{OneCounted};
 ghost use Rattle.simplex_pair.specs.Reading.{ReadsAs, ReadsPair, IsFoundOf, IsForeignOf, IsForeignPair, IsAtRestOf, IsPairAtRest, BothLeaveOnly, IsPairReopened};
 
 use crate::fault::PairFault;
+use crate::spelling::TOO_LONG;
 use simplex_generations::{begin, close_gate, is_first_read, record_in};
-use simplex_journal::{BOUND, Disk, DiskFault, JournalFault, read_disk, read_entries};
+use simplex_journal::{BOUND, Disk, DiskFault, JournalFault, read_disk, read_entries_below};
 use simplex_types::Read;
 use std::alloc::Global;
 
@@ -44,7 +45,7 @@ fn read_record<M: Read + Drop, K: Disk>(
     disk: &mut K,
 ) -> Result<(Found<M>, bool), PairFault>
     ensures found { IfOk result (λ read. K.keeps → IsFoundOf read.0.generation (K.seen disk.old) read.0.gate (map M.spelling read.0.messages.items)) }
-    ensures fitting { IfOk result (λ read. All (Readable M.fits (M.within BOUND)) read.0.messages.items) }
+    ensures fitting { IfOk result (λ read. All (FitsBelow (2 ^ 32 - 1) (Readable M.fits (M.within BOUND)) M.spelling) read.0.messages.items) }
     ensures room { IfOk result (λ read. read.0.gate < 2 ^ 63) }
     ensures some { IfOk result (λ read. K.keeps → read.1 ≡ false → read.0.gate < length (K.seen disk.old)) }
     ensures none { IfOk result (λ read. K.keeps → read.1 ≡ true → K.seen disk.old ≡ []) }
@@ -54,7 +55,7 @@ fn read_record<M: Read + Drop, K: Disk>(
     ensures device { IsErrOf result PairFault.Device → K.failed disk.new ≡ counted false (K.failed disk.old) }
     ensures no_fault { OnOk result (K.failed disk.new ≡ K.failed disk.old) }
     ensures no_fault_of_others { IfErr result (λ fault. fault ≢ Device → K.failed disk.new ≡ K.failed disk.old) }
-    ensures foreign { IfErr result (λ fault. (place : ℕ) → fault ≡ Foreign place → K.keeps → (g : ℕ) × IsForeignOf (Readable M.fits (M.within BOUND)) M.spelling (K.seen disk.old) g place) }
+    ensures foreign { IfErr result (λ fault. (place : ℕ) → fault ≡ Foreign place → K.keeps → (g : ℕ) × IsForeignOf (FitsBelow (2 ^ 32 - 1) (Readable M.fits (M.within BOUND)) M.spelling) M.spelling (K.seen disk.old) g place) }
     ensures faults { IfErr result (λ fault. (fault ≡ Device) ⊎ ((fault ≡ Memory) ⊎ ((place : ℕ) × (fault ≡ Foreign place)))) }
 {
     let bytes = match read_disk(alloc, disk) {
@@ -64,7 +65,7 @@ fn read_record<M: Read + Drop, K: Disk>(
     };
     let (generation, record) = record_in(&bytes);
     let start = (bytes.len() - record.len()) as u64;
-    match read_entries(alloc, record) {
+    match read_entries_below(alloc, record, TOO_LONG) {
         Ok(entries) => {
             let found = Found {
                 messages: entries.messages,
@@ -81,7 +82,7 @@ fn read_record<M: Read + Drop, K: Disk>(
 /// Reads the record of a disk and closes its last gate.
 fn settle<M: Read + Drop, K: Disk>(alloc: Global, disk: &mut K) -> Result<Found<M>, PairFault>
     ensures ok { IfOk result (λ found. K.keeps → IsAtRestOf found.generation (K.seen disk.new) (K.calls disk.new) found.gate (map M.spelling found.messages.items)) }
-    ensures fitting { IfOk result (λ found. All (Readable M.fits (M.within BOUND)) found.messages.items) }
+    ensures fitting { IfOk result (λ found. All (FitsBelow (2 ^ 32 - 1) (Readable M.fits (M.within BOUND)) M.spelling) found.messages.items) }
     ensures reading { IfOk result (λ found. K.keeps → ReadsAs (K.seen disk.old) found.generation (map M.spelling found.messages.items)) }
     // A crash at any moment leaves a disk of the same generation that reads the same.
     ensures any_moment { (g : ℕ) (bodies : List (List ℕ)) → K.keeps → IsFixed (K.seen disk.old) (K.calls disk.old) → ReadsAs (K.seen disk.old) g bodies
@@ -92,7 +93,7 @@ fn settle<M: Read + Drop, K: Disk>(alloc: Global, disk: &mut K) -> Result<Found<
     ensures device { IsErrOf result PairFault.Device → K.failed disk.new ≡ counted false (K.failed disk.old) }
     ensures no_fault { OnOk result (K.failed disk.new ≡ K.failed disk.old) }
     ensures no_fault_of_others { IfErr result (λ fault. fault ≢ Device → K.failed disk.new ≡ K.failed disk.old) }
-    ensures foreign { IfErr result (λ fault. (place : ℕ) → fault ≡ Foreign place → K.keeps → (g : ℕ) × IsForeignOf (Readable M.fits (M.within BOUND)) M.spelling (K.seen disk.old) g place) }
+    ensures foreign { IfErr result (λ fault. (place : ℕ) → fault ≡ Foreign place → K.keeps → (g : ℕ) × IsForeignOf (FitsBelow (2 ^ 32 - 1) (Readable M.fits (M.within BOUND)) M.spelling) M.spelling (K.seen disk.old) g place) }
     ensures faults { IfErr result (λ fault. (fault ≡ Device) ⊎ ((fault ≡ Memory) ⊎ ((place : ℕ) × (fault ≡ Foreign place)))) }
 {
     let (found, is_empty) = match read_record(alloc, disk) {
@@ -126,7 +127,7 @@ pub(crate) fn open_disks<M: Read + Drop, K: Disk>(
     second: &mut K,
 ) -> Result<(Found<M>, bool), PairFault>
     ensures ok { IfOk result (λ opened. K.keeps → IsPairAtRest opened.1 opened.0.generation (K.seen first.new) (K.calls first.new) (K.seen second.new) (K.calls second.new) opened.0.gate (map M.spelling opened.0.messages.items)) }
-    ensures fitting { IfOk result (λ opened. All (Readable M.fits (M.within BOUND)) opened.0.messages.items) }
+    ensures fitting { IfOk result (λ opened. All (FitsBelow (2 ^ 32 - 1) (Readable M.fits (M.within BOUND)) M.spelling) opened.0.messages.items) }
     ensures reading { IfOk result (λ opened. K.keeps → ReadsPair (K.seen first.old) (K.seen second.old) (map M.spelling opened.0.messages.items)) }
     // After a crash at any moment both read as something that a crash before the opening might have left of both.
     ensures any_moment { K.keeps → BothLeaveOnly (K.calls first.old) (K.calls first.new) (K.calls second.old) (K.calls second.new) (IsPairReopened (K.calls first.old) (K.calls second.old)) }
@@ -136,7 +137,7 @@ pub(crate) fn open_disks<M: Read + Drop, K: Disk>(
     ensures device { IsErrOf result PairFault.Device → OneCounted false (K.failed first.old) (K.failed first.new) (K.failed second.old) (K.failed second.new) }
     ensures no_fault { OnOk result ((K.failed first.new ≡ K.failed first.old) × (K.failed second.new ≡ K.failed second.old)) }
     ensures no_fault_of_others { IfErr result (λ fault. fault ≢ Device → (K.failed first.new ≡ K.failed first.old) × (K.failed second.new ≡ K.failed second.old)) }
-    ensures foreign { IfErr result (λ fault. (place : ℕ) → fault ≡ Foreign place → K.keeps → IsForeignPair (Readable M.fits (M.within BOUND)) M.spelling (K.seen first.old) (K.seen second.old) place) }
+    ensures foreign { IfErr result (λ fault. (place : ℕ) → fault ≡ Foreign place → K.keeps → IsForeignPair (FitsBelow (2 ^ 32 - 1) (Readable M.fits (M.within BOUND)) M.spelling) M.spelling (K.seen first.old) (K.seen second.old) place) }
     ensures faults { IfErr result (λ fault. (fault ≡ Device) ⊎ ((fault ≡ Memory) ⊎ ((place : ℕ) × (fault ≡ Foreign place)))) }
 {
     if sync_both(first, second).is_err() {

@@ -5,6 +5,7 @@ ghost use Rattle.simplex_codec.specs.Codec.{Readable};
 ghost use Rattle.simplex_pair.specs.declared.fault.PairFault.TheVariants.{Device, Exhausted, Failed, Foreign, Memory, TooLong};
 ghost use Rattle.simplex_journal.specs.Disk.{MayLeave, Synced};
 ghost use Rattle.simplex_journal.specs.Journal.{IsTooLong};
+ghost use Rattle.simplex_journal.specs.Record.{FitsBelow};
 ghost use Rattle.simplex_generations.specs.Generation.{OneCounted};
 ghost use Rattle.simplex_pair.specs.Reading.{ReadsPair, ReadsEither, BothLeaveOnly, IsPairReopened, IsForeignPair};
 ghost use Rattle.simplex_pair.specs.Standing.{IsPairRecord, IsShortList};
@@ -61,7 +62,7 @@ impl<M: Read + EncodeSize + Drop, K: Disk> Pair<M, K> {
     pub fn open(alloc: Global, first: K, second: K) -> Result<(Self, Vec<M>), (PairFault, K, K)>
         ensures record { IfOk result (λ opened. K.keeps → IsPairRecord M.spelling K.seen K.calls opened.0 opened.1.items) }
         ensures fresh { IfOk result (λ opened. opened.0.failed ≡ false) }
-        ensures readable { IfOk result (λ opened. All (Readable M.fits (M.within BOUND)) opened.1.items) }
+        ensures readable { IfOk result (λ opened. All (FitsBelow (2 ^ 32 - 1) (Readable M.fits (M.within BOUND)) M.spelling) opened.1.items) }
         ensures found { IfOk result (λ opened. K.keeps → (one : List ℕ) × (two : List ℕ) × MayLeave (K.calls first) one × MayLeave (K.calls second) two × ReadsPair one two (map M.spelling opened.1.items)) }
         ensures reading { IfOk result (λ opened. K.keeps → ReadsPair (K.seen first) (K.seen second) (map M.spelling opened.1.items)) }
 
@@ -72,7 +73,7 @@ impl<M: Read + EncodeSize + Drop, K: Disk> Pair<M, K> {
         ensures device { IfErr result (λ refused. refused.0 ≡ Device → OneCounted false (K.failed first) (K.failed refused.1) (K.failed second) (K.failed refused.2)) }
         ensures no_fault { IfOk result (λ opened. (K.failed opened.0.first ≡ K.failed first) × (K.failed opened.0.second ≡ K.failed second)) }
         ensures no_fault_of_others { IfErr result (λ refused. refused.0 ≢ Device → (K.failed refused.1 ≡ K.failed first) × (K.failed refused.2 ≡ K.failed second)) }
-        ensures foreign { IfErr result (λ refused. (place : ℕ) → refused.0 ≡ Foreign place → K.keeps → IsForeignPair (Readable M.fits (M.within BOUND)) M.spelling (K.seen first) (K.seen second) place) }
+        ensures foreign { IfErr result (λ refused. (place : ℕ) → refused.0 ≡ Foreign place → K.keeps → IsForeignPair (FitsBelow (2 ^ 32 - 1) (Readable M.fits (M.within BOUND)) M.spelling) M.spelling (K.seen first) (K.seen second) place) }
         ensures faults { IfErr result (λ refused. (refused.0 ≡ Device) ⊎ ((refused.0 ≡ Memory) ⊎ ((place : ℕ) × (refused.0 ≡ Foreign place)))) }
         ensures untouched { IfErr result (λ refused. refused.0 ≢ Device → K.keeps → (K.calls refused.1 ≡ Synced (K.seen refused.1) ∷ K.calls first) × (K.calls refused.2 ≡ Synced (K.seen refused.2) ∷ K.calls second)) }
     {
@@ -202,7 +203,11 @@ impl<M: Read + EncodeSize + Drop, K: Disk> Pair<M, K> {
             → BothLeaveOnly (K.calls self.old.first) (K.calls self.new.first) (K.calls self.old.second) (K.calls self.new.second) (ReadsEither (map M.spelling messages) (map M.spelling list.now)) }
 
         ensures next { OnOk result (self.new.generation ≡ self.old.generation + 1) }
+        ensures readable { OnOk result (All M.fits list.now) }
+        ensures readable_of_others { IfErr result (λ fault. (fault ≡ Device) ⊎ (fault ≡ Memory) → All M.fits list.now) }
         ensures stays_open { OnOk result (self.new.failed ≡ false) }
+        ensures short { OnOk result (IsShortList M.spelling list.now) }
+        ensures short_of_others { IfErr result (λ fault. (fault ≡ Device) ⊎ (fault ≡ Memory) → IsShortList M.spelling list.now) }
         ensures faults { IfErr result (λ fault. (fault ≡ Device) ⊎ ((fault ≡ Memory) ⊎ ((fault ≡ TooLong) ⊎ ((fault ≡ Failed) ⊎ (fault ≡ Exhausted))))) }
         ensures device { IsErrOf result PairFault.Device → (self.new.failed ≡ true) × OneCounted false (K.failed self.old.first) (K.failed self.new.first) (K.failed self.old.second) (K.failed self.new.second) }
         ensures no_fault { OnOk result ((K.failed self.new.first ≡ K.failed self.old.first) × (K.failed self.new.second ≡ K.failed self.old.second)) }

@@ -1,6 +1,6 @@
 //! The bytes of a generation.
 
-ghost use Rattle.std.specs.Prelude.{◌≡◌, ◌↔◌, ◌+◌, ◌<◌, ◌^◌, ◌++◌, length, map, IfOk, OnOk, IsTrue};
+ghost use Rattle.std.specs.Prelude.{◌≡◌, ◌↔◌, All, ◌+◌, ◌<◌, ◌^◌, ◌++◌, length, map, IfOk, OnOk, IsTrue};
 ghost use Rattle.simplex_pair.specs.Reading.{SpellsGeneration};
 ghost use Rattle.simplex_pair.specs.Standing.{IsShortList, four_bytes, entry_of};
 
@@ -15,7 +15,8 @@ pub(crate) const LAST_GATE: u64 = 0x7fff_ffff_ffff_ffff;
 
 /// Whether a list is short enough for a rewrite.
 pub(crate) fn is_short<M: EncodeSize>(list: &[M]) -> bool
-    ensures { IsTrue result ↔ IsShortList M.spelling list.now }
+    ensures short { IsTrue result ↔ IsShortList M.spelling list.now }
+    ensures readable { IsTrue result → All M.fits list.now }
 {
     let mut gate: u64 = 9;
     for message in list {

@@ -1,37 +1,19 @@
-use Rattle.std.proofs.Common.{◌++◌, [], ◌∷◌, take, drop, sym, ◌∙◌, ap, subst, refl, inr, map, List, ℕ}
+use Rattle.std.proofs.Common.{inl, inr, ⊎_elim, length, arith}
 use Rattle.std.specs.List.{All}
-use Rattle.std.proofs.lemmas.List.Elements.{All-nil, All-cons, All-append}
-use Rattle.simplex_codec.specs.Codec.{Readable, SpellsNone}
-use Rattle.simplex_journal.specs.Record.{IsLeft}
-use Rattle.simplex_journal.specs.Finding.{left_next, found_at, foreign_at}
+use Rattle.std.proofs.lemmas.List.Elements.{All-weaker}
+use Rattle.std.proofs.lemmas.Result.{IfOk-weaker, IfErr-weaker}
+use Rattle.simplex_codec.specs.Codec.{Readable}
+use Rattle.simplex_journal.specs.Record.{FitsBelow}
+use Rattle.simplex_journal.specs.Refusals.{foreign_wider}
 use Rattle.simplex_journal.proofs.entries.read_entries.Goals as goal
 
-pub returns-in_default-2-clause-faults : goal.returns-in_default-2-clause-faults
-returns-in_default-2-clause-faults g c =
+pub returns-clause-fitting : goal.returns-clause-fitting
+returns-clause-fitting g c =
     let Fits = Readable g.M.Write.fits (g.M.Read.within 65535) in
-    let behind_is = c.split_at.ensures.back in
-    let body_is = c.split_at-in-Some.ensures.front ∙ ap (λ (l : List ℕ). take c.in-Some.size l) behind_is in
-    let none : SpellsNone Fits g.M.Write.spelling c.split_at-in-Some.result.0.now = rw c.in_default-2.is at c.in_ok-message.ensures.none in
-    inr (
-      _,
-      refl,
-      foreign_at Fits g.M.Write.spelling c.args.bytes.now c.loop-size.rest.now _ _ _ c.loop-size.messages.items c.loop-size.invariant.1 c.loop-size.invariant.0 c.in-Some.ensures.some
-          (subst (λ (l : List ℕ). SpellsNone Fits g.M.Write.spelling l) body_is none) refl,
-    )
+    let Short = FitsBelow (length c.args.bytes.now) Fits g.M.Write.spelling in
+    IfOk-weaker c.read_entries_below.result (λ entries. All Short entries.messages.items) (λ entries. All Fits entries.messages.items) (λ entries all. All-weaker Short Fits (λ m both. both.0) entries.messages.items all)
+    c.read_entries_below.ensures.fitting
 
-pub loop-size-preserved : goal.loop-size-preserved
-loop-size-preserved g c =
-    let Fits = Readable g.M.Write.fits (g.M.Read.within 65535) in
-    let behind_is = c.split_at.ensures.back in
-    let body_is = c.split_at-in-Some.ensures.front ∙ ap (λ (l : List ℕ). take c.in-Some.size l) behind_is in
-    let after_is = c.split_at-in-Some.ensures.back ∙ ap (λ (l : List ℕ). drop c.in-Some.size l) behind_is in
-    let one = rw c.in-Some-2.is at c.in_ok-message.ensures.some in
-    let pushed = c.in_ok-push.ensures.items in
-    let left = left_next g.M.Write.spelling c.args.bytes.now c.loop-size.rest.now _ _ c.loop-size.messages.items c.in-Some-2.message c.loop-size.invariant.0 c.in-Some.ensures.some (sym body_is ∙ one.0) in (
-      subst (λ (ms : List _). IsLeft [] c.args.bytes.now c.split_at-in-Some.result.1.now (map g.M.Write.spelling ms)) (sym pushed)
-          (subst (λ (l : List ℕ). IsLeft [] c.args.bytes.now l (map g.M.Write.spelling (c.loop-size.messages.items ++ c.in-Some-2.message ∷ []))) (sym after_is) left),
-      subst (All Fits) (sym pushed) (All-append Fits c.loop-size.messages.items (c.in-Some-2.message ∷ []) c.loop-size.invariant.1 (All-cons Fits c.in-Some-2.message [] one.1 (All-nil Fits))),
-    )
-
-pub returns-clause-found : goal.returns-clause-found
-returns-clause-found g c = found_at c.args.bytes.now c.loop-size.rest.now _ _ c.loop-size.invariant.0 c.in_default.ensures.none refl
+pub returns-clause-faults : goal.returns-clause-faults
+returns-clause-faults g c =
+    IfErr-weaker _ _ _ (λ fault either. ⊎_elim (λ memory. inl memory) (λ some. inr (some.0, some.1, foreign_wider (length c.args.bytes.now) c.args.bytes.now some.0 (omega arith) some.2)) either) c.read_entries_below.ensures.faults

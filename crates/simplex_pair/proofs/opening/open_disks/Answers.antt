@@ -1,6 +1,7 @@
-use Rattle.std.proofs.Common.{◌∙◌, List, ℕ, true, false, map, sym, subst}
+use Rattle.std.proofs.Common.{◌∙◌, ◌-◌, ◌^◌, List, ℕ, true, false, map, sym, subst}
 use Rattle.simplex_codec.specs.Codec.{Readable}
 use Rattle.simplex_journal.specs.Moments.{stays}
+use Rattle.simplex_journal.specs.Record.{FitsBelow}
 use Rattle.simplex_pair.specs.Reading.{ReadsAs, IsForeignOf}
 use Rattle.simplex_pair.proofs.Reopening.{both_left, from_ok, chosen_as, fixed_then, first_opened, second_opened, first_reads, second_reads, first_rests, second_rests, first_foreign, second_foreign}
 use Rattle.simplex_pair.proofs.opening.open_disks.Goals as goal
@@ -46,7 +47,7 @@ returns-in-Err-clause-any_moment g c = λ k.
 
 pub returns-in-Err-clause-foreign : goal.returns-in-Err-clause-foreign
 returns-in-Err-clause-foreign g c = λ place is k.
-    let Fits = Readable g.M.Write.fits (g.M.Read.within 65535) in
+    let Fits = FitsBelow (2 ^ 32 - 1) (Readable g.M.Write.fits (g.M.Read.within 65535)) g.M.Write.spelling in
     let seen = from_ok c.sync_both.result c.if-is_err.ensures.value c.sync_both.ensures.seen k in
     let same = c.in-Ok.ensures.seen k in
     let f = c.in-Err.ensures.foreign place is k in
@@ -87,7 +88,7 @@ returns-in-Err-settle-clause-any_moment g c = λ k.
 
 pub returns-in-Err-settle-clause-foreign : goal.returns-in-Err-settle-clause-foreign
 returns-in-Err-settle-clause-foreign g c = λ place is k.
-    let Fits = Readable g.M.Write.fits (g.M.Read.within 65535) in
+    let Fits = FitsBelow (2 ^ 32 - 1) (Readable g.M.Write.fits (g.M.Read.within 65535)) g.M.Write.spelling in
     let seen = from_ok c.sync_both.result c.if-is_err.ensures.value c.sync_both.ensures.seen k in
     let same = c.in-Ok.ensures.seen k in
     let f = c.in-Err-settle.ensures.foreign place is k in

@@ -1,21 +1,21 @@
-use Rattle.std.proofs.Common.{◌≡◌, ◌∙◌, ◌+◌, ◌-◌, List, ℕ, [], length, map, sym, subst, arith, inl, inr}
+use Rattle.std.proofs.Common.{◌≡◌, ◌∙◌, ◌+◌, ◌-◌, ◌^◌, List, ℕ, [], length, map, sym, subst, arith, inl, inr}
 use Rattle.simplex_codec.specs.Codec.{Readable}
 use Rattle.simplex_journal.specs.declared.fault.JournalFault.TheVariants as journal
-use Rattle.simplex_journal.specs.Record.{IsForeign}
+use Rattle.simplex_journal.specs.Record.{IsForeign, FitsBelow}
 use Rattle.simplex_pair.specs.Reading.{IsFoundOf, IsForeignOf}
 use Rattle.simplex_pair.proofs.Finishing.{found_of, foreign_of}
 use Rattle.simplex_pair.proofs.opening.read_record.Goals as goal
 
-pub returns-in-Ok-read_entries-clause-found : goal.returns-in-Ok-read_entries-clause-found
-returns-in-Ok-read_entries-clause-found g c = λ k.
+pub returns-in-Ok-read_entries_below-clause-found : goal.returns-in-Ok-read_entries_below-clause-found
+returns-in-Ok-read_entries_below-clause-found g c = λ k.
     let start = c.len.result - length c.record_in-generation.result.1.now in
-    let bodies = map g.M.Write.spelling c.in-Ok-read_entries.entries.messages.items in
-    subst (λ (l : List ℕ). IsFoundOf c.record_in-generation.result.0 l (start + c.in-Ok-read_entries.entries.gate) bodies) (c.deref.ensures.value ∙ c.in-Ok.ensures.bytes k)
-    (found_of _ _ _ start _ bodies c.record_in-generation.ensures.record (omega (arith, c.len.ensures, c.deref.ensures.len)) c.in-Ok-read_entries.ensures.found)
+    let bodies = map g.M.Write.spelling c.in-Ok-read_entries_below.entries.messages.items in
+    subst (λ (l : List ℕ). IsFoundOf c.record_in-generation.result.0 l (start + c.in-Ok-read_entries_below.entries.gate) bodies) (c.deref.ensures.value ∙ c.in-Ok.ensures.bytes k)
+    (found_of _ _ _ start _ bodies c.record_in-generation.ensures.record (omega (arith, c.len.ensures, c.deref.ensures.len)) c.in-Ok-read_entries_below.ensures.found)
 
 pub returns-in-Err-Foreign-clause-foreign : goal.returns-in-Err-Foreign-clause-foreign
 returns-in-Err-Foreign-clause-foreign g c = λ place is k.
-    let Fits = Readable g.M.Write.fits (g.M.Read.within 65535) in
+    let Fits = FitsBelow (2 ^ 32 - 1) (Readable g.M.Write.fits (g.M.Read.within 65535)) g.M.Write.spelling in
     let spelling = g.M.Write.spelling in
     let start = c.len.result - length c.record_in-generation.result.1.now in
     let told = c.in-Err-Foreign.field-0-is in

@@ -4,8 +4,8 @@ use Rattle.simplex_pair.proofs.Spelled.{end_next, end_front, get_or_same, before
 use Rattle.simplex_pair.proofs.spelling.is_short.Goals as goal
 use Rattle.simplex_pair.proofs.spelling.is_short.Goals.{then-size-ge-TOO_LONG-via-then-size-ge-TOO_LONG, then-size-ge-TOO_LONG-via-else-size-ge-TOO_LONG+then-gate-size}
 
-pub returns-then-size-ge-TOO_LONG : goal.returns-then-size-ge-TOO_LONG
-returns-then-size-ge-TOO_LONG g c =
+pub returns-then-size-ge-TOO_LONG-clause-short : goal.returns-then-size-ge-TOO_LONG-clause-short
+returns-then-size-ge-TOO_LONG-clause-short g c =
     let spelling = g.M.Write.spelling in
     let list = c.args.list.now in
     let i = c.loop-message.message-index in
@@ -37,5 +37,11 @@ loop-message-preserved g c =
           let small : length (spelling m) < 2 ^ 32 - 1 = omega (arith, c.if-size-ge-TOO_LONG.false, c.encode_size-size.ensures.size) in
           let same : m ≡ get_or list k d = c.message-item.is ∙ get_or_same list i m d c.loop-message-test.true ∙ ap (λ (n : ℕ). get_or list n d) (sym here) in
           subst (λ x. length (spelling x) < 2 ^ 32 - 1) same small)
+          (before_or_at k i lt),
+      λ k d lt. ⊎_elim
+          (λ before. c.loop-message.invariant.3 k d before)
+          (λ here.
+          let same : m ≡ get_or list k d = c.message-item.is ∙ get_or_same list i m d c.loop-message-test.true ∙ ap (λ (n : ℕ). get_or list n d) (sym here) in
+          subst g.M.Write.fits same c.encode_size-size.ensures.readable)
           (before_or_at k i lt),
     )

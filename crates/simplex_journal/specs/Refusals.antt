@@ -1,9 +1,9 @@
 -- What a refusal tells of a disk.
-use Rattle.std.proofs.Common.{◌≡◌, inr, ℕ, ◌<◌, List, [], ◌∷◌, ◌++◌, length, map, refl, sym, ◌∙◌, ap, subst, arith, append_assoc, length-append}
+use Rattle.std.proofs.Common.{◌≡◌, inr, ℕ, ◌<◌, ◌≤◌, List, [], ◌∷◌, ◌++◌, length, map, refl, sym, ◌∙◌, ap, subst, arith, append_assoc, length-append}
 use Rattle.std.specs.Prelude.{All}
-use Rattle.std.proofs.lemmas.List.Elements.{All-head, All-tail}
+use Rattle.std.proofs.lemmas.List.Elements.{All-head, All-tail, All-weaker}
 use Rattle.simplex_codec.specs.Codec.{SpellsNone}
-use Rattle.simplex_journal.specs.Record.{HasEntry, AreEntries, Reads, IsLeft, IsForeign, end_of}
+use Rattle.simplex_journal.specs.Record.{HasEntry, AreEntries, Reads, IsLeft, FitsBelow, IsForeign, end_of}
 use Rattle.simplex_journal.specs.Finding.{left_first}
 use Rattle.simplex_journal.specs.OneReading.{next_of, unique}
 use Rattle.simplex_journal.specs.Total.{reads_any, reads_next}
@@ -58,7 +58,7 @@ cut_at bytes (ahead ∷ first) body more reads =
 
 module _ {M : Type 0} {Fits : M → Type 0} {spelling : M → List ℕ} where
   -- what a disk with a foreign entry reads as: messages, that entry's body, and more
-  foreign_reads : (bytes : List ℕ) (place : ℕ) (f : IsForeign [] Fits spelling bytes place) → (more : List (List ℕ)) × Reads bytes (map spelling f.messages ++ f.body ∷ more)
+  pub foreign_reads : (bytes : List ℕ) (place : ℕ) (f : IsForeign [] Fits spelling bytes place) → (more : List (List ℕ)) × Reads bytes (map spelling f.messages ++ f.body ∷ more)
   foreign_reads bytes place f =
       let behind = reads_any f.after in
       let some : 0 < length f.rest = omega (arith, ap length f.entry.split) in
@@ -82,7 +82,8 @@ module _ {M : Type 0} {Fits : M → Type 0} {spelling : M → List ℕ} where
         place_is = f.place_is ∙ entries_long f.left.front _ f.left.entries ∙ sym (entries_long cut.left.front _ cut.left.entries);
       }
 
-  none_among : (messages first : List M) (body : List ℕ) (more : List (List ℕ)) → All Fits messages → map spelling messages ≡ map spelling first ++ body ∷ more → SpellsNone Fits spelling body → ⊥
+  -- messages are spelled by no body that is none's
+  pub none_among : (messages first : List M) (body : List ℕ) (more : List (List ℕ)) → All Fits messages → map spelling messages ≡ map spelling first ++ body ∷ more → SpellsNone Fits spelling body → ⊥
   none_among [] [] body more fit same none = absurd cc
   none_among [] (m ∷ first) body more fit same none = absurd cc
   none_among (m ∷ messages) [] body more fit same none = let head : body ≡ spelling m = cc in none m (All-head Fits m messages fit) head
@@ -95,3 +96,20 @@ module _ {M : Type 0} {Fits : M → Type 0} {spelling : M → List ℕ} where
   never_foreign image messages place fit reads f =
       let told = foreign_reads image place f in
       none_among messages f.messages f.body told.0 fit (unique (map spelling messages) _ image reads told.1) f.none
+
+-- What is foreign among messages of fewer bytes than these, as many as there are or more, is foreign.
+pub foreign_wider : {M : Type 0} {Fits : M → Type 0} {spelling : M → List ℕ} (limit : ℕ) (bytes : List ℕ) (place : ℕ) → length bytes ≤ limit → IsForeign [] (FitsBelow limit Fits spelling) spelling bytes place → IsForeign [] Fits spelling bytes place
+foreign_wider {M} {Fits} {spelling} limit bytes place within f = record {
+  messages = f.messages;
+  fitting = All-weaker (FitsBelow limit Fits spelling) Fits (λ m both. both.0) f.messages f.fitting;
+  rest = f.rest;
+  left = f.left;
+  body = f.body;
+  after = f.after;
+  entry = f.entry;
+  none = λ m fits is. f.none m (
+    fits,
+    omega (arith, within, ap length is, ap length f.left.split, length-append f.left.front f.rest, ap length f.entry.split, length-append f.body f.after),
+  ) is;
+  place_is = f.place_is;
+}
