@@ -5,12 +5,14 @@
 //!   `reset nothing`: no disks, which lets files go
 //! - `open`: what was found, `opened ARTIFACTS`, or the fault; `append ARTIFACT`, `rewrite ARTIFACT ..`: `ok` or the
 //!   fault; `close`, `is_failed`, `generation`; `failures` of the first disk and of the second
-//! - in memory, while no journal is open, `bytes` of both disks; `fuse DISK CALLS`, `fail_at DISK CALLS`: DISK is 1 or 2
+//! - in memory, while no journal is open, `bytes` of both disks; `fuse DISK CALLS`, `fail_at DISK CALLS`: DISK is 1 or 2;
+//!   `run` of `open`, `append ARTIFACT`, `rewrite COUNT ARTIFACT ..` and `crash`: the event that comes of each
 //! - at any time `file read PATH`, `file write PATH BYTES` and `file remove PATH`
 #![tactic(auto)]
 
 mod desk;
 mod files;
+mod history;
 mod item;
 mod memory;
 mod session;

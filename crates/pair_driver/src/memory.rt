@@ -1,5 +1,6 @@
 //! Disks in memory.
 
+use crate::history;
 use crate::item::bytes;
 use crate::session::Session;
 use script_words::{Say, Trouble, Words};
@@ -35,6 +36,7 @@ pub(crate) fn answer(
     match name {
         "fuse" | "fail_at" => plan(session, name, words, say),
         "bytes" => held(session, words, say),
+        "run" => history::answer(session, words, say),
         _ => session.answer(name, words, say),
     }
 }

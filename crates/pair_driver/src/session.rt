@@ -16,12 +16,16 @@ pub(crate) struct Session<K: Disk> {
     journal: Option<Pair<Item, K>>,
 }
 
-/// The messages that all words left spell, each of which can be read again.
-fn messages<M: Read + Drop>(words: &mut Words<'_>, alloc: Global) -> Result<Vec<M>, Trouble>
+/// The messages that the words left spell, so many at most, each of which can be read again.
+pub(crate) fn messages<M: Read + Drop>(
+    words: &mut Words<'_>,
+    alloc: Global,
+    most: u64,
+) -> Result<Vec<M>, Trouble>
     ensures { IfOk result (λ list. All (M.within 65535) list.items) }
 {
     let mut list = Vec::new(alloc);
-    for _ in 0..u64::MAX {
+    for _ in 0..most {
         if !words.more() {
             break;
         }
@@ -55,12 +59,23 @@ impl<K: Disk> Session<K> {
         }
     }
 
+    /// Takes the disks, where no journal is open on them.
+    pub(crate) fn take(&mut self) -> Result<(K, K), Trouble> {
+        match self.disks.take() {
+            Some(disks) => Ok(disks),
+            None => Err(Trouble::Condition),
+        }
+    }
+
+    /// Gives disks back that were taken.
+    pub(crate) fn put(&mut self, first: K, second: K) {
+        self.disks = Some((first, second));
+    }
+
     /// `open`: closes the journal that is open, opens the disks, and tells what was found.
     fn open(&mut self, say: &mut Say) -> Result<(), Trouble> {
         self.close();
-        let Some((first, second)) = self.disks.take() else {
-            return Err(Trouble::Condition);
-        };
+        let (first, second) = self.take()?;
         match Pair::open(say.alloc, first, second) {
             Ok((journal, found)) => {
                 self.journal = Some(journal);
@@ -68,7 +83,7 @@ impl<K: Disk> Session<K> {
                 say_items(say, &found)
             }
             Err((fault, first, second)) => {
-                self.disks = Some((first, second));
+                self.put(first, second);
                 say_fault(say, fault)
             }
         }
@@ -89,7 +104,7 @@ impl<K: Disk> Session<K> {
 
     /// `rewrite ARTIFACT ..`.
     fn rewrite(&mut self, words: &mut Words<'_>, say: &mut Say) -> Result<(), Trouble> {
-        let list: Vec<Item> = messages(words, say.alloc)?;
+        let list: Vec<Item> = messages(words, say.alloc, u64::MAX)?;
         let Some(journal) = &mut self.journal else {
             return Err(Trouble::Condition);
         };

@@ -1,0 +1,112 @@
+//! Whole histories of two disks in memory.
+
+ghost use Rattle.std.specs.Prelude.{All, IfOk};
+ghost use Rattle.simplex_pair.specs.History.{OfMessages};
+
+use crate::item::{Item, message, say_fault, say_items};
+use crate::session::{Session, messages};
+use script_words::{Say, Trouble, Words};
+use simplex_journal::MemoryDisk;
+use simplex_pair::{PairEvent, PairRequest, run};
+use simplex_types::Read;
+use std::alloc::Global;
+
+/// `open`, `append ARTIFACT`, `rewrite COUNT ARTIFACT..` or `crash`.
+fn request<M: Read + Drop>(words: &mut Words<'_>, alloc: Global) -> Result<PairRequest<M>, Trouble>
+    ensures { IfOk result (OfMessages (M.within 65535)) }
+{
+    match words.word() {
+        "open" => Ok(PairRequest::Open),
+        "append" => Ok(PairRequest::Append(message(words, alloc)?)),
+        "rewrite" => {
+            let count = words.number()?;
+            Ok(PairRequest::Rewrite(messages(words, alloc, count)?))
+        }
+        "crash" => Ok(PairRequest::Crash),
+        _ => Err(Trouble::Unreadable),
+    }
+}
+
+/// The requests that are left of the line.
+fn requests<M: Read + Drop>(
+    words: &mut Words<'_>,
+    alloc: Global,
+) -> Result<Vec<PairRequest<M>>, Trouble>
+    ensures { IfOk result (λ requests. All (OfMessages (M.within 65535)) requests.items) }
+{
+    let mut requests = Vec::new(alloc);
+    for _ in 0..u64::MAX {
+        if !words.more() {
+            break;
+        }
+        requests.push(request(words, alloc)?)?;
+    }
+    Ok(requests)
+}
+
+/// The event's name, and what it tells.
+fn say_event(say: &mut Say, event: &PairEvent<Item>) -> Result<(), Trouble> {
+    match event {
+        PairEvent::Opened(found) => say_told(say, "Opened ", found),
+        PairEvent::OpenFailed(fault) => {
+            say.text("OpenFailed ")?;
+            say_fault(say, *fault)
+        }
+        PairEvent::Appended(_) => say.text("Appended"),
+        PairEvent::AppendFailed(_, fault) => {
+            say.text("AppendFailed ")?;
+            say_fault(say, *fault)
+        }
+        PairEvent::AppendNotOpen(_) => say.text("AppendNotOpen"),
+        PairEvent::Crashed => say.text("Crashed"),
+        _ => say_rewrite(say, event),
+    }
+}
+
+/// The same of a rewrite, which tells its list.
+fn say_rewrite(say: &mut Say, event: &PairEvent<Item>) -> Result<(), Trouble> {
+    match event {
+        PairEvent::Rewritten(list) => say_told(say, "Rewritten ", list),
+        PairEvent::RewriteFailed(list, fault) => {
+            say_told(say, "RewriteFailed ", list)?;
+            say.gap()?;
+            say_fault(say, *fault)
+        }
+        PairEvent::RewriteNotOpen(list) => say_told(say, "RewriteNotOpen ", list),
+        _ => Err(Trouble::Unreadable),
+    }
+}
+
+/// An event's name, and the artifacts that it tells of.
+fn say_told(say: &mut Say, name: &str, items: &[Item]) -> Result<(), Trouble> {
+    say.text(name)?;
+    say_items(say, items)
+}
+
+/// Events with ` , ` between two.
+fn say_events(say: &mut Say, events: &[PairEvent<Item>]) -> Result<(), Trouble> {
+    let Some((first, rest)) = events.split_first() else {
+        return say.none();
+    };
+    say_event(say, first)?;
+    for event in rest {
+        say.text(" , ")?;
+        say_event(say, event)?;
+    }
+    Ok(())
+}
+
+/// `run REQUEST..`: what comes of all requests on the disks, which come back.
+pub(crate) fn answer(
+    session: &mut Session<MemoryDisk>,
+    words: &mut Words<'_>,
+    say: &mut Say,
+) -> Result<(), Trouble> {
+    let requests = requests::<Item>(words, say.alloc)?;
+    let (first, second) = session.take()?;
+    let Ok(history) = run(say.alloc, first, second, requests) else {
+        return Err(Trouble::Memory);
+    };
+    session.put(history.first, history.second);
+    say_events(say, &history.events)
+}
