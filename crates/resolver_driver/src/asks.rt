@@ -1,5 +1,6 @@
-//! What is asked of other members, as values.
+//! What is asked of other members, and what changes of that, as values.
 
+use crate::effects::effect_of;
 use script_words::{Say, Trouble, Words};
 use simplex_resolver::{Ask, Kind, Until};
 use std::cmp::Ordering;
@@ -28,7 +29,8 @@ fn ask_of(words: &mut Words<'_>) -> Result<Ask, Trouble> {
     Ok(Ask { kind, until })
 }
 
-/// Makes the call of this name: `backfill` and `ancestry KIND` answer an ask, `order ASK ASK` how two are in order.
+/// Makes the call of this name: `backfill` and `ancestry KIND` answer an ask, `order ASK ASK` how two are in order,
+/// `same EFFECT EFFECT` whether two effects are one.
 pub(crate) fn call_on_asks(
     name: &str,
     words: &mut Words<'_>,
@@ -49,6 +51,12 @@ pub(crate) fn call_on_asks(
             let other = ask_of(words)?;
             words.end()?;
             say.text(order_name(one.cmp(&other)))
+        }
+        "same" => {
+            let one = effect_of(words)?;
+            let other = effect_of(words)?;
+            words.end()?;
+            say.truth(one == other)
         }
         _ => Err(Trouble::Unreadable),
     }

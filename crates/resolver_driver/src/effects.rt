@@ -1,7 +1,8 @@
-//! What follows from a certificate or a verdict, said.
+//! What follows from a certificate or a verdict, said and read.
 
-use script_words::{Say, Trouble};
-use simplex_resolver::Effect;
+use crate::asks::kind_of;
+use script_words::{Say, Trouble, Words};
+use simplex_resolver::{Effect, FetchReason};
 use simplex_types::View;
 
 /// Effects with ` , ` between two, or `-`.
@@ -50,4 +51,42 @@ fn say_views(front: &str, one: View, other: View, say: &mut Say) -> Result<(), T
     say.view(one)?;
     say.gap()?;
     say.view(other)
+}
+
+/// The reason of these words in a trace.
+fn reason_of(word: &str) -> Result<FetchReason, Trouble> {
+    match word {
+        "missing_nullification" => Ok(FetchReason::MissingNullification),
+        "certification_failed" => Ok(FetchReason::CertificationFailed),
+        _ => Err(Trouble::Unreadable),
+    }
+}
+
+/// An effect, by the words that it is said with.
+pub(crate) fn effect_of(words: &mut Words<'_>) -> Result<Effect, Trouble> {
+    match words.word() {
+        "fetch" => fetch_of(words),
+        "settled" => settled_of(words),
+        "finalized" => Ok(Effect::Finalized(words.view()?)),
+        "raised" => Ok(Effect::Raised(words.view()?)),
+        _ => Err(Trouble::Unreadable),
+    }
+}
+
+fn fetch_of(words: &mut Words<'_>) -> Result<Effect, Trouble> {
+    let view = words.view()?;
+    let cause = words.view()?;
+    let reason = reason_of(words.word())?;
+    Ok(Effect::Fetch {
+        view,
+        cause,
+        reason,
+    })
+}
+
+fn settled_of(words: &mut Words<'_>) -> Result<Effect, Trouble> {
+    let kind = kind_of(words.word())?;
+    let start = words.view()?;
+    let end = words.view()?;
+    Ok(Effect::Settled { kind, start, end })
 }
