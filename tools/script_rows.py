@@ -19,14 +19,22 @@ class Script:
         self.calls.append(call)
         self.answers.append(str(answer))
 
+    def put(self, rows):
+        """Calls with their answers."""
+        for call, answer in rows:
+            self.ask(call, answer)
+
     def reset(self):
         self.ask("reset", "ok")
 
     def write(self, crate):
+        self.write_to(TOP / "crates" / crate)
+
+    def write_to(self, folder):
         for name, lines in (("stdin", self.calls), ("stdout", self.answers)):
             text = "".join(line + "\n" for line in lines)
-            (TOP / "crates" / crate / name).write_text(text, encoding="utf-8")
-            print(f"{crate}/{name}: {len(lines)} lines, {len(text)} bytes")
+            (folder / name).write_text(text, encoding="utf-8")
+            print(f"{folder.name}/{name}: {len(lines)} lines, {len(text)} bytes")
 
 
 def listed(numbers):

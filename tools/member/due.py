@@ -146,7 +146,7 @@ def due_builds(h):
     asked for but those given back, there is a parent to build on. A handoff waits while the current view is given up here."""
     found = []
     for view in sorted(led(h)):
-        if h.setup.elect(view) == h.setup.me and at(h, view).is_build_open and is_open(h, view):
+        if leader(h, view) == h.setup.me and at(h, view).is_build_open and is_open(h, view):
             preferred = find_parent(h, view)
             if preferred is not None:
                 handoff = is_handoff(h, view, *preferred)

@@ -46,9 +46,13 @@ class Setup:
         """The longest of all times."""
         return max(self.leader_timeout, self.certification_timeout, self.retry, self.stall or 0, self.skip or 0)
 
-    def elect(self, view):
-        """Whom the schedule names for a view: members take turns, a term each."""
+    def elect(self, view, certificate=None):
+        """Who leads a view that this certificate leads to, if one does: members take turns, a term each, whatever certificate."""
         return (self.epoch + self.terms.index(view)) % 2**64 % self.scheme.members
+
+    def scheduled(self, view):
+        """Whom a schedule names for a view, or None where there is none."""
+        return self.elect(view)
 
     def is_in_time(self, now):
         """A moment lies so early that each deadline counted from it is a moment."""

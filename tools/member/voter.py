@@ -216,26 +216,44 @@ def is_in_window(h, view):
 # ---- who leads
 
 
-@over(frozenset())
-def led(known, here):
-    """The views whose leader is known: view 1; a view that a certificate leads to; behind a notarization or finalization the
-    optimistic views of its term; behind a view whose leader's proposal was offered or notarized here, the next one in the window;
-    a term's start that this member may build by a handoff. Members take turns, so it is always whom the schedule names."""
-    terms, found = here.setup.terms, set(known)
+@over({})
+def leaders(known, here):
+    """Who leads each view, where that is known; whoever becomes known first stays. The start names the leader of view 1, a certificate
+    that of the view it leads to, as the elector answers; and a schedule this member for a term's start that it may build by a handoff."""
+    terms, named = here.setup.terms, {}
     if isinstance(here.point, Opened):
-        found.add(1)
+        named[1] = here.setup.elect(1)
     certificate = certificate_taken(here)
-    if certificate and certificate.kind == NULLIFICATION:
-        found.add(terms.next_start(certificate.view))
-    elif certificate:
-        view, reach = certificate.view, certificate.view + terms.optimistic + 1 if terms.optimistic else 0
-        found |= {view + 1, *range(view + 1, min(reach, terms.end(view)) + 1)}
-    found |= {view + 1 for view, it in views(here).items() if it.has_notarized and starts_by_handoff(here.setup, view + 1)}
-    handed = set(found)
+    if certificate:
+        view = terms.next_start(certificate.view) if certificate.kind == NULLIFICATION else certificate.view + 1
+        named[view] = here.setup.elect(view, certificate)
+    named |= {view + 1: here.setup.me for view, it in views(here).items() if it.has_notarized and starts_by_handoff(here.setup, view + 1)}
+    found = handed_on(here, {**named, **known})
+    return {view: member for view, member in found.items() if view >= floor(here)} if prunes(here) else found
+
+
+def led(h):
+    """The views whose leader is known."""
+    return frozenset(leaders(h))
+
+
+def handed_on(h, known):
+    """The known leaders with those that are handed on from view to view."""
+    found, handed = dict(known), dict(known)
     while handed:
-        handed = {view + 1 for view in handed if is_spoken(at(here, view)) and is_in_window(here, view + 1)} - found
+        handed = {view + 1: member for view, member in handed.items() if view + 1 not in found and inherits(h, view + 1)}
         found |= handed
-    return frozenset(view for view in found if view >= floor(here)) if prunes(here) else frozenset(found)
+    return found
+
+
+def inherits(h, view):
+    """A view has the leader of the view before: where views are optimistic, behind a notarization or finalization of its term that its
+    window reaches; and in the window behind a view whose leader's proposal was offered or notarized here."""
+    terms = h.setup.terms
+    low = max(terms.start(view), view - (terms.optimistic + 1))
+    if terms.optimistic and any(low <= u < view and it.is_direct for u, it in views(h).items()):
+        return True
+    return is_spoken(at(h, view - 1)) and is_in_window(h, view)
 
 
 def is_spoken(told):
@@ -245,12 +263,12 @@ def is_spoken(told):
 
 def starts_by_handoff(setup, view):
     """The view starts a term, and a schedule names this member for it, where handoffs occur."""
-    return setup.handoffs and setup.terms.is_start(view) and setup.elect(view) == setup.me
+    return setup.handoffs and setup.terms.is_start(view) and setup.scheduled(view) == setup.me
 
 
 def leader(h, view):
     """Who leads a view, where that is known."""
-    return h.setup.elect(view) if view in led(h) else None
+    return leaders(h).get(view)
 
 
 # ---- what a proposal may stand on
@@ -321,10 +339,10 @@ def find_parent(h, view):
     """The parent that a view is built on, with its payload, or None. Inside a term the view before; at a term's start the highest
     explicit view, where each view between is covered, or else the view before, where it may be handed off."""
     if not h.setup.terms.is_start(view):
-        payload = parent_payload(h, view, view - 1)
+        payload = supported(h, view, view - 1)
         return None if payload is None else (view - 1, payload)
-    highest = max(u for u in (0, *views(h)) if u < view and explicit(h, u) is not None)
-    if first_uncovered(h, highest, view) is None:
+    highest = max((u for u in (0, *views(h)) if u < view and explicit(h, u) is not None), default=None)
+    if highest is not None and first_uncovered(h, highest, view) is None:
         return highest, explicit(h, highest)
     payload = optimistic(h, view - 1) if is_handoff_parent(h, view - 1) else None
     return None if payload is None else (view - 1, payload)
@@ -335,7 +353,8 @@ def required_parent(h, view, parent):
     before; at a term's start the view before where it is the parent, a schedule names this member and it notarized here."""
     if not h.setup.terms.is_start(view):
         return view - 1
-    early = parent == view - 1 and h.setup.elect(view) == h.setup.me and at(h, view).has_notarized
+    leads = h.setup.me is not None and h.setup.scheduled(view) == h.setup.me
+    early = parent == view - 1 and leads and at(h, view).has_notarized
     return view - 1 if early else None
 
 

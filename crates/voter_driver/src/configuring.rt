@@ -1,6 +1,6 @@
-//! Calls of what a member is set up with, starts from and asks for.
+//! Calls of what a member is set up with, starts from and asks for, and of reasons to give a handoff up.
 
-use crate::reading::last_floor;
+use crate::reading::{abandoned, last_floor};
 use script_words::{Say, Trouble, Words};
 use simplex_decisions::config::{Config, ForwardPolicy, SkipBudget, SkipPolicy, check_config};
 use simplex_resolver::{Ask, Kind, Until};
@@ -27,6 +27,12 @@ pub fn ask(name: &str, words: &mut Words<'_>, say: &mut Say) -> Result<(), Troub
             say.view(floor.view())
         }
         "ask" => tell(last_ask(words)?, say),
+        "same" => {
+            let one = abandoned(words)?;
+            let other = abandoned(words)?;
+            words.end()?;
+            say.truth(one == other)
+        }
         _ => Err(Trouble::Unreadable),
     }
 }

@@ -1,7 +1,8 @@
 //! Plays scripts of calls of a voter, and of how a member is set up, by the lines of `script_words`.
 //!
-//! Behind `reset voter` stand the words of a [`Setup`], and the lines are calls of `State`. Behind `reset config` they
-//! are calls of what a member is set up with, starts from and asks for.
+//! Behind `reset voter` stand the words of a [`Setup`], and the lines are calls of `State`, or of the views that it
+//! lends (`voter/seeing.rt`). Behind `reset config` they are calls of what a member is set up with, starts from and asks
+//! for, and `same REASON REASON` asks whether two reasons to give a handoff up are one.
 #![tactic(auto)]
 
 mod configuring;

@@ -2,7 +2,7 @@
 
 use script_certificates::CertificateWords;
 use script_words::{Committee, Trouble, Words};
-use simplex_history::TimeoutReason;
+use simplex_history::{HandoffAbandonedReason, TimeoutReason};
 use simplex_types::{Context, PlainKey, Sha256Digest, View};
 use simplex_voter::Floor;
 use std::alloc::Global;
@@ -19,6 +19,26 @@ const REASONS: [TimeoutReason; 10] = [
     TimeoutReason::IgnoredProposal,
     TimeoutReason::InvalidProposal,
     TimeoutReason::FailedCertification,
+];
+
+/// All reasons to give a handoff up.
+const ABANDONED: [(&str, HandoffAbandonedReason); 7] = [
+    ("ViewExit", HandoffAbandonedReason::ViewExit),
+    (
+        "AncestrySuperseded",
+        HandoffAbandonedReason::AncestrySuperseded,
+    ),
+    (
+        "AncestryInvalidated",
+        HandoffAbandonedReason::AncestryInvalidated,
+    ),
+    ("ParentNullify", HandoffAbandonedReason::ParentNullify),
+    ("ViewNullify", HandoffAbandonedReason::ViewNullify),
+    ("ResponseClosed", HandoffAbandonedReason::ResponseClosed),
+    (
+        "IneligibleAtRecording",
+        HandoffAbandonedReason::IneligibleAtRecording,
+    ),
 ];
 
 /// A number that ends the line.
@@ -60,6 +80,17 @@ pub fn last_reason(words: &mut Words<'_>) -> Result<TimeoutReason, Trouble> {
     words.end()?;
     for reason in REASONS {
         if reason.as_str() == word {
+            return Ok(reason);
+        }
+    }
+    Err(Trouble::Unreadable)
+}
+
+/// The variant's name of a reason to give a handoff up.
+pub fn abandoned(words: &mut Words<'_>) -> Result<HandoffAbandonedReason, Trouble> {
+    let word = words.word();
+    for (name, reason) in ABANDONED {
+        if name == word {
             return Ok(reason);
         }
     }

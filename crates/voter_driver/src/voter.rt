@@ -8,6 +8,7 @@ mod knowing;
 mod learning;
 mod looking;
 mod owing;
+mod seeing;
 mod voting;
 
 use crate::setup::Setup;

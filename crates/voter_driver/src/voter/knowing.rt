@@ -15,7 +15,7 @@ fn alone(words: &Words<'_>, say: &mut Say, number: u64) -> Result<(), Trouble> {
 }
 
 /// Says who leads a view, where that is known.
-fn leader(say: &mut Say, leader: Option<Participant>) -> Result<(), Trouble> {
+pub(super) fn leader(say: &mut Say, leader: Option<Participant>) -> Result<(), Trouble> {
     match leader {
         Some(leader) => say.member(leader),
         None => say.none(),

@@ -8,7 +8,7 @@ use simplex_rules::Elector;
 use simplex_types::{PlainKey, Scheme, Sha256Digest, View};
 
 /// Says a view, where there is one.
-fn lowest(say: &mut Say, view: Option<View>) -> Result<(), Trouble> {
+pub(super) fn lowest(say: &mut Say, view: Option<View>) -> Result<(), Trouble> {
     match view {
         Some(view) => say.view(view),
         None => say.none(),
@@ -49,7 +49,7 @@ impl<S: Committee + Scheme<Sha256Digest, PublicKey = PlainKey>, L: Elector<S, Sh
                 let from = last_view(words)?;
                 wanted(say, &self.state.try_verify_from(now, from)?)
             }
-            _ => Err(Trouble::Unreadable),
+            _ => self.seen(name, words, say),
         }
     }
 }
