@@ -381,7 +381,7 @@ def generated_claims():
         for kind in ("notarize", "finalize") for payload in (10, 11, 12) for salt in (1, 2, 100, 101)
     ]
     chance = random.Random(5)
-    for _ in range(4_000):
+    for _ in range(10_000):
         kept.audit_sum(Salted, 4, [chance.choice(pool) for _ in range(10)])
 
 
@@ -401,7 +401,7 @@ def generated_crowds():
                         pool.append(kept.report(loose))
                         pool.append(kept.report((LISTING[kind], loose[1], ("list", loose[2]))))
     chance = random.Random(6)
-    for _ in range(2_000):
+    for _ in range(10_000):
         kept.audit_sum(Salted, 4, [chance.choice(pool) for _ in range(24)])
 
 
