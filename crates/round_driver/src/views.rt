@@ -29,6 +29,18 @@ pub(crate) struct ViewRound {
     round: Round<PlainScheme, Sha256Digest>,
 }
 
+/// Says when and why the view is given up, if it is.
+fn say_timeout(next: Option<(u64, TimeoutReason)>, say: &mut Say) -> Result<(), Trouble> {
+    match next {
+        Some((moment, reason)) => {
+            say.number(moment)?;
+            say.gap()?;
+            say.text(reason.as_str())
+        }
+        None => say.none(),
+    }
+}
+
 impl ViewRound {
     /// `N ME EPOCH VIEW`.
     pub(crate) fn new(alloc: Global, words: &mut Words<'_>) -> Result<Self, Trouble> {
@@ -91,6 +103,25 @@ impl ViewRound {
             "next_timeout" => self.next_timeout(words, say),
             "elapsed_since_start" => self.elapsed_since_start(words, say),
             "elapsed_since_entry" => self.elapsed_since_entry(words, say),
+            _ => self.call_on_latches(name, words, say),
+        }
+    }
+
+    fn call_on_latches(
+        &mut self,
+        name: &str,
+        words: &mut Words<'_>,
+        say: &mut Say,
+    ) -> Result<(), Trouble> {
+        match name {
+            "is_first_latch" => {
+                let is_first = self.latched(words)?;
+                say.truth(is_first)
+            }
+            "latched_timeout" => {
+                words.end()?;
+                say_timeout(self.round.latched_timeout(), say)
+            }
             _ => self.call_on_messages(name, words, say),
         }
     }
@@ -206,11 +237,16 @@ impl ViewRound {
     }
 
     fn latch_timeout(&mut self, words: &mut Words<'_>, say: &mut Say) -> Result<(), Trouble> {
+        let _first = self.latched(words)?;
+        say.ok()
+    }
+
+    /// `NOW REASON`: whether that was the first reason.
+    fn latched(&mut self, words: &mut Words<'_>) -> Result<bool, Trouble> {
         let now = words.number()?;
         let reason = reason_of(words.word())?;
         words.end()?;
-        self.round.latch_timeout(now, reason);
-        say.ok()
+        Ok(self.round.latch_timeout(now, reason))
     }
 
     fn next_timeout(&mut self, words: &mut Words<'_>, say: &mut Say) -> Result<(), Trouble> {
@@ -218,17 +254,8 @@ impl ViewRound {
         let retry_interval = words.number()?;
         let allow_latched = words.truth()?;
         words.end()?;
-        if now.checked_add(retry_interval).is_none() {
-            return Err(Trouble::Condition);
-        }
-        match self.round.next_timeout(now, retry_interval, allow_latched) {
-            Some((moment, reason)) => {
-                say.number(moment)?;
-                say.gap()?;
-                say.text(reason.as_str())
-            }
-            None => say.none(),
-        }
+        let next = self.round.next_timeout(now, retry_interval, allow_latched);
+        say_timeout(next, say)
     }
 
     fn elapsed_since_start(&self, words: &mut Words<'_>, say: &mut Say) -> Result<(), Trouble> {

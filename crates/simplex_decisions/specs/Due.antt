@@ -104,3 +104,8 @@ module _ {S D P G C : Type 0} where
     pub from : current s h ≤ view
     pub tracked : IsTracked s h view
     pub heard : why ≡ reason.Inactivity → ¬ IsUnequivocated (past.offers (seen s h view))
+
+  -- it is the first that counts: neither nullify nor finalize of the view was voted, and no reason came before
+  pub record IsFirstLatch (s : Setup S C) (h : List (Point S D P G C)) (view : ℕ) (why : TimeoutReason) : Type 0 where
+    pub counts : MayLatch s h view why
+    pub first : past.is_unlatched (seen s h view) ≡ true

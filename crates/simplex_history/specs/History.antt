@@ -84,9 +84,9 @@ pub data Point (S D P G C : Type 0) : Type 0 where
 abbrev pub hands_off : Bool
 hands_off = false
 
--- a moment later by so much, where by something
+-- a moment later by so much, where by something, or the last one of 64 bits
 abbrev pub later : ℕ → Option ℕ → Option ℕ
-later now timeout = option_map (λ t. now + t) timeout
+later now timeout = option_map (λ t. past.deadline now t) timeout
 
 -- a leader, where there is a schedule
 abbrev pub by_schedule : Mode → ℕ → Option ℕ
@@ -133,7 +133,7 @@ module _ {S D P G C : Type 0} where
   abbrev pub enter : Setup S C → ℕ → ℕ → ℕ → (ℕ → List (Item S D P G C)) → ℕ → List (Item S D P G C)
   enter s current_view now view t =
       if nat_lt current_view view
-      then put view (past.armed (now + s.leader_timeout) (now + s.certification_timeout) (later now s.stall_timeout)) (put view (past.entered now) t)
+      then put view (past.armed (past.deadline now s.leader_timeout) (past.deadline now s.certification_timeout) (later now s.stall_timeout)) (put view (past.entered now) t)
       else t
 
   -- the payload of the held proposal, while no certificate of the view is known
@@ -179,7 +179,7 @@ module _ {S D P G C : Type 0} where
   seen s (recalled_finalize p ∷ h) = put p.round.view past.voted_finalize (seen s h)
   seen s (recalled_verdict view ok ∷ h) = put view (past.judged ok) (seen s h)
   seen s (sent k view ∷ h) = put view (sent_item k) (seen s h)
-  seen s (polled now ∷ h) = if nat_lt 0 (current s h) then put (current s h) (past.polled (now + s.timeout_retry)) (seen s h) else seen s h
+  seen s (polled now ∷ h) = if nat_lt 0 (current s h) then put (current s h) (past.polled (past.deadline now s.timeout_retry)) (seen s h) else seen s h
   seen s (pruned ∷ h) = forget (min_active s h) (seen s h)
 
   -- a mark that points set on views, until the view is dropped

@@ -1,5 +1,5 @@
 -- What is known of one view, by the list of all that happened to it, the newest first.
-use Rattle.std.specs.Prelude.{◌≡◌, ◌≢◌, ◌-◌, ℕ, Bool, true, false, not, ◌&&◌, ◌||◌, List, [], ◌∷◌, Option, Some, None, is_some, is_none, IsSome, option_map, filter_map, if◌then◌else◌}
+use Rattle.std.specs.Prelude.{◌≡◌, ◌≢◌, ◌+◌, ◌-◌, ◌^◌, min, ℕ, Bool, true, false, not, ◌&&◌, ◌||◌, List, [], ◌∷◌, Option, Some, None, is_some, is_none, IsSome, option_map, filter_map, if◌then◌else◌}
 use Rattle.std.specs.Option.{option_or}
 use Rattle.simplex_types.specs.declared.proposal.Proposal.{Proposal}
 use Rattle.simplex_certificates.specs.declared.nullification.Nullification.{Nullification}
@@ -39,6 +39,10 @@ pub data Item (S D P G C : Type 0) : Type 0 where
   certifying : Token → Item S D P G C
   aborted : Item S D P G C
   judged : Bool → Item S D P G C
+
+-- the moment that lies so much later, or the last one of 64 bits
+abbrev pub deadline : ℕ → ℕ → ℕ
+deadline now timeout = min (now + timeout) (2 ^ 64 - 1)
 
 -- how long since a moment: nothing where it lies ahead
 abbrev pub elapsed : ℕ → Option ℕ → Option ℕ
@@ -188,6 +192,10 @@ module _ {S D P G C : Type 0} where
   latch [] = None
   latch (latched moment why ∷ h) = if is_undecided h then option_or (latch h) (Some (moment, why)) else latch h
   latch (x ∷ h) = latch h
+
+  -- a reason to give the view up would be its first: neither nullify nor finalize was voted, and none came before
+  abbrev pub is_unlatched : List (Item S D P G C) → Bool
+  is_unlatched h = is_undecided h && is_none (latch h)
 
   -- when the nullify is due again: an interval after the first time that the timeout was asked for behind the last one
   abbrev pub retry : List (Item S D P G C) → Option ℕ

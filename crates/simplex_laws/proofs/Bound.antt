@@ -156,8 +156,8 @@ module _ {S D P G C : Type 0} (same : (x y : D) → (x ≡ y) ⊎ (x ≢ y)) whe
     stays (sent kind.Nullification at ∷ h) were = adds at past.sent_nullification (seen s h) tt (stays h were)
     stays (sent kind.Finalization at ∷ h) were = adds at past.sent_finalization (seen s h) tt (stays h were)
     stays (polled now ∷ h) were =
-        choose_holds Stays view (nat_lt 0 (current s h)) (put (current s h) (past.polled (now + s.timeout_retry)) (seen s h)) (seen s h)
-        (adds (current s h) (past.polled (now + s.timeout_retry)) (seen s h) tt (stays h were)) (stays h were)
+        choose_holds Stays view (nat_lt 0 (current s h)) (put (current s h) (past.polled (past.deadline now s.timeout_retry)) (seen s h)) (seen s h)
+        (adds (current s h) (past.polled (past.deadline now s.timeout_retry)) (seen s h) tt (stays h were)) (stays h were)
     stays (pruned ∷ h) were = forgets (nat_lt view (min_active s h)) (seen s h view) (stays h were)
 
 pub due_notarize_is_bound : {S D P G C : Type 0} → ((x y : D) → (x ≡ y) ⊎ (x ≢ y)) → DueNotarizeIsBound S D P G C

@@ -106,8 +106,8 @@ module _ {S D P G C : Type 0} (s : Setup S C) (view : ℕ) where
   placed (sent kind.Nullification at ∷ h) are = adds at past.sent_nullification (seen s h) (λ here. tt) (placed h are.1)
   placed (sent kind.Finalization at ∷ h) are = adds at past.sent_finalization (seen s h) (λ here. tt) (placed h are.1)
   placed (polled now ∷ h) are =
-      choose_holds ArePlaced view (nat_lt 0 (current s h)) (put (current s h) (past.polled (now + s.timeout_retry)) (seen s h)) (seen s h)
-      (adds (current s h) (past.polled (now + s.timeout_retry)) (seen s h) (λ here. tt) (placed h are.1)) (placed h are.1)
+      choose_holds ArePlaced view (nat_lt 0 (current s h)) (put (current s h) (past.polled (past.deadline now s.timeout_retry)) (seen s h)) (seen s h)
+      (adds (current s h) (past.polled (past.deadline now s.timeout_retry)) (seen s h) (λ here. tt) (placed h are.1)) (placed h are.1)
   placed (pruned ∷ h) are = forgets (nat_lt view (min_active s h)) (seen s h view) (placed h are.1)
 
   held_placed : (l : List (Item S D P G C)) (p : Proposal D) → ArePlaced l → held (offers l) ≡ Some p → p.round ≡ round_of s view

@@ -124,8 +124,8 @@ module _ {S D P G C : Type 0} where
     facts = λ v. by (nat_lt 0 (current s h)) v;
   })
     where
-      by : (b : Bool) (v : ℕ) → facts ((if b then put (current s h) (past.polled (now + s.timeout_retry)) (seen s h) else seen s h) v) ≡ facts (seen s h v)
-      by true v = quiet_put (current s h) (past.polled (now + s.timeout_retry)) (seen s h) refl v
+      by : (b : Bool) (v : ℕ) → facts ((if b then put (current s h) (past.polled (past.deadline now s.timeout_retry)) (seen s h) else seen s h) v) ≡ facts (seen s h v)
+      by true v = quiet_put (current s h) (past.polled (past.deadline now s.timeout_retry)) (seen s h) refl v
       by false v = refl
 
   pub send_changes_nothing : SendChangesNothing S D P G C

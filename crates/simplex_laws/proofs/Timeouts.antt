@@ -118,7 +118,7 @@ module _ {S D P G C : Type 0} where
           rw (final, open_, kept) (some_earlier now (past.first_timeout (past.polled moment ∷ x) counts) stall first)
 
 -- what happened to the current view behind a look
-polled_here : {S D P G C : Type 0} (s : Setup S C) (h : List (Point S D P G C)) (now : ℕ) → 0 < current s h → seen s (polled now ∷ h) (current s h) ≡ past.polled (now + s.timeout_retry) ∷ seen s h (current s h)
+polled_here : {S D P G C : Type 0} (s : Setup S C) (h : List (Point S D P G C)) (now : ℕ) → 0 < current s h → seen s (polled now ∷ h) (current s h) ≡ past.polled (past.deadline now s.timeout_retry) ∷ seen s h (current s h)
 polled_here s h now some =
     let there : nat_lt 0 (current s h) ≡ true = grind (arith, nat_tests, some) in
     let here : (current s h == current s h) ≡ true = grind (arith, common_steps) in
@@ -127,7 +127,7 @@ polled_here s h now some =
 pub current_has_timeout : {S D P G C : Type 0} → CurrentHasTimeout S D P G C
 current_has_timeout s h now some final open_ untrue =
     subst (λ x. IsSome (timeout_of now (has_budget s (polled now ∷ h)) (term_deadline s (polled now ∷ h)) x)) (sym (polled_here s h now some))
-    (has_timeout now (now + s.timeout_retry) (has_budget s (polled now ∷ h)) (term_deadline s (polled now ∷ h)) (seen s h (current s h)) final open_ (armed s h some) untrue)
+    (has_timeout now (past.deadline now s.timeout_retry) (has_budget s (polled now ∷ h)) (term_deadline s (polled now ∷ h)) (seen s h (current s h)) final open_ (armed s h some) untrue)
 
 -- there is one, and it is reached
 abbrev IsReached : Option (ℕ × TimeoutReason) → ℕ → Type 0
@@ -173,8 +173,8 @@ module _ {S D P G C : Type 0} (s : Setup S C) (h : List (Point S D P G C)) where
   polled_fact : {X : Type 0} (f : List (Item S D P G C) → X) → ((moment : ℕ) (l : List (Item S D P G C)) → f (past.polled moment ∷ l) ≡ f l) → (now u : ℕ) → f (seen s (polled now ∷ h) u) ≡ f (seen s h u)
   polled_fact f same now u = by (nat_lt 0 (current s h))
     where
-      by : (b : Bool) → f ((if b then put (current s h) (past.polled (now + s.timeout_retry)) (seen s h) else seen s h) u) ≡ f (seen s h u)
-      by true = put_holds (λ l. f l ≡ f (seen s h u)) u (current s h) (past.polled (now + s.timeout_retry)) (seen s h) (λ here before. same (now + s.timeout_retry) (seen s h u) ∙ before) refl
+      by : (b : Bool) → f ((if b then put (current s h) (past.polled (past.deadline now s.timeout_retry)) (seen s h) else seen s h) u) ≡ f (seen s h u)
+      by true = put_holds (λ l. f l ≡ f (seen s h u)) u (current s h) (past.polled (past.deadline now s.timeout_retry)) (seen s h) (λ here before. same (past.deadline now s.timeout_retry) (seen s h u) ∙ before) refl
       by false = refl
 
   polled_deadline : (now : ℕ) → term_deadline s (polled now ∷ h) ≡ term_deadline s h
@@ -207,9 +207,9 @@ polled_once_is_polled s h now after moment = ⊎_elim
     (λ some.
     let first = polled_here s h now some in
     let second = polled_here s (polled now ∷ h) after some in
-    let twice = second ∙ ap (λ l. past.polled (after + s.timeout_retry) ∷ l) first in
+    let twice = second ∙ ap (λ l. past.polled (past.deadline after s.timeout_retry) ∷ l) first in
     subst (λ x. timeout_of moment (has_budget s h) (term_deadline s (polled after ∷ polled now ∷ h)) (seen s (polled after ∷ polled now ∷ h) (current s h)) ≡ timeout_of moment (has_budget s h) (term_deadline s (polled now ∷ h)) x) (sym first)
-    (subst (λ x. timeout_of moment (has_budget s h) (term_deadline s (polled after ∷ polled now ∷ h)) x ≡ timeout_of moment (has_budget s h) (term_deadline s (polled now ∷ h)) (past.polled (now + s.timeout_retry) ∷ seen s h (current s h))) (sym twice)
-    (subst (λ (d : Option ℕ). timeout_of moment (has_budget s h) d (past.polled (after + s.timeout_retry) ∷ past.polled (now + s.timeout_retry) ∷ seen s h (current s h)) ≡ timeout_of moment (has_budget s h) (term_deadline s (polled now ∷ h)) (past.polled (now + s.timeout_retry) ∷ seen s h (current s h))) (sym (polled_deadline s (polled now ∷ h) after))
-    (timeout_twice moment (has_budget s h) (term_deadline s (polled now ∷ h)) (now + s.timeout_retry) (after + s.timeout_retry) (seen s h (current s h))))))
+    (subst (λ x. timeout_of moment (has_budget s h) (term_deadline s (polled after ∷ polled now ∷ h)) x ≡ timeout_of moment (has_budget s h) (term_deadline s (polled now ∷ h)) (past.polled (past.deadline now s.timeout_retry) ∷ seen s h (current s h))) (sym twice)
+    (subst (λ (d : Option ℕ). timeout_of moment (has_budget s h) d (past.polled (past.deadline after s.timeout_retry) ∷ past.polled (past.deadline now s.timeout_retry) ∷ seen s h (current s h)) ≡ timeout_of moment (has_budget s h) (term_deadline s (polled now ∷ h)) (past.polled (past.deadline now s.timeout_retry) ∷ seen s h (current s h))) (sym (polled_deadline s (polled now ∷ h) after))
+    (timeout_twice moment (has_budget s h) (term_deadline s (polled now ∷ h)) (past.deadline now s.timeout_retry) (past.deadline after s.timeout_retry) (seen s h (current s h))))))
     (nothing_or_more (current s h))

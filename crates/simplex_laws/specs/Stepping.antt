@@ -1,5 +1,5 @@
 -- What holds of what happened to a view, through what a point does to it.
-use Rattle.std.proofs.Common.{◌≡◌, true, false, ℕ, List, ◌∷◌, refl, ◌+◌, if◌then◌else◌}
+use Rattle.std.proofs.Common.{◌≡◌, true, false, ℕ, List, ◌∷◌, refl, if◌then◌else◌}
 use Rattle.std.proofs.lemmas.Bool.Decides.{Decides-eqb}
 use Rattle.std.specs.Prelude.{◌==◌, nat_lt, Bool, Option, Some, None}
 use Rattle.simplex_types.specs.declared.proposal.Proposal.{Proposal}
@@ -33,7 +33,7 @@ module _ {S D P G C : Type 0} (Q : List (Item S D P G C) → Type 0) (view : ℕ
       → Q (t view) → Q (enter s current now at t view)
   enter_holds s current now at t step q =
       choose_holds Q view (nat_lt current at) _ t
-      (put_both Q view at (past.entered now) (past.armed (now + s.leader_timeout) (now + s.certification_timeout) (later now s.stall_timeout)) t (λ here before. step now _ _ _ (t view) before) q) q
+      (put_both Q view at (past.entered now) (past.armed (past.deadline now s.leader_timeout) (past.deadline now s.certification_timeout) (later now s.stall_timeout)) t (λ here before. step now _ _ _ (t view) before) q) q
 
   pub bind_holds : (o : Option D) (p : Proposal D) (t : ℕ → List (Item S D P G C)) → ((payload : D) → Q (t view) → Q (past.bound p payload ∷ t view)) → Q (t view) → Q (bind o p t view)
   bind_holds None p t step q = q

@@ -108,8 +108,8 @@ module _ {S D P G C : Type 0} where
     choose-inv false t u one other = other
 
     enter-inv : (v : views.Setup S C) (now_at now at : ℕ) (t : ℕ → List (Item S D P G C)) → Inv Pending view (t view) → Inv Pending view (enter v now_at now at t view)
-    enter-inv v now_at now at t i = choose-inv (nat_lt now_at at) (put at (past.armed (now + v.leader_timeout) (now + v.certification_timeout) (later now v.stall_timeout)) (put at (past.entered now) t)) t
-        (put-inv at (past.armed (now + v.leader_timeout) (now + v.certification_timeout) (later now v.stall_timeout)) (put at (past.entered now) t) (λ e. tt) (put-inv at (past.entered now) t (λ e. tt) i)) i
+    enter-inv v now_at now at t i = choose-inv (nat_lt now_at at) (put at (past.armed (past.deadline now v.leader_timeout) (past.deadline now v.certification_timeout) (later now v.stall_timeout)) (put at (past.entered now) t)) t
+        (put-inv at (past.armed (past.deadline now v.leader_timeout) (past.deadline now v.certification_timeout) (later now v.stall_timeout)) (put at (past.entered now) t) (λ e. tt) (put-inv at (past.entered now) t (λ e. tt) i)) i
 
     bind-inv : (o : Option D) (p : Proposal D) (t : ℕ → List (Item S D P G C)) → Inv Pending view (t view) → Inv Pending view (bind o p t view)
     bind-inv None p t i = i
@@ -235,7 +235,7 @@ module _ {S D P G C : Type 0} where
     plain-inv v (sent kind.Notarization at) h fits kept i = put-inv at past.sent_notarization (seen v h) (λ e. tt) i
     plain-inv v (sent kind.Nullification at) h fits kept i = put-inv at past.sent_nullification (seen v h) (λ e. tt) i
     plain-inv v (sent kind.Finalization at) h fits kept i = put-inv at past.sent_finalization (seen v h) (λ e. tt) i
-    plain-inv v (polled now) h fits kept i = choose-inv (nat_lt 0 (current v h)) (put (current v h) (past.polled (now + v.timeout_retry)) (seen v h)) (seen v h) (put-inv (current v h) (past.polled (now + v.timeout_retry)) (seen v h) (λ e. tt) i) i
+    plain-inv v (polled now) h fits kept i = choose-inv (nat_lt 0 (current v h)) (put (current v h) (past.polled (past.deadline now v.timeout_retry)) (seen v h)) (seen v h) (put-inv (current v h) (past.polled (past.deadline now v.timeout_retry)) (seen v h) (λ e. tt) i) i
     plain-inv v pruned h fits kept i = go (nat_lt view (min_active v h)) (le-ltb view (min_active v h) kept)
       where
         go : (b : Bool) → b ≡ false → Inv Pending view (if b then [] else seen v h view)

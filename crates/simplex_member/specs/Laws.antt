@@ -1,6 +1,6 @@
 -- What follows from the member model, as statements. Each is proved where a function without a body has it as a clause (`laws.rt`): what
 -- stands in no clause there is not proved.
-use Rattle.std.specs.Prelude.{◌≡◌, ◌≢◌, ◌↔◌, IsTrue, ◌⊎◌, ◌≤◌, ◌<◌, ◌+◌, ◌^◌, ◌++◌, ℕ, true, false, List, [], ◌∷◌, Contains, IsSome, Option, Some, nat_lt, if◌then◌else◌, Bool, None, IfSome, map, All, ⊤}
+use Rattle.std.specs.Prelude.{◌≡◌, ◌≢◌, ◌↔◌, IsTrue, ◌⊎◌, ◌≤◌, ◌<◌, ◌+◌, ◌++◌, ℕ, true, false, List, [], ◌∷◌, Contains, IsSome, Option, Some, nat_lt, if◌then◌else◌, Bool, None, IfSome, map, All, ⊤}
 use Rattle.simplex_types.specs.declared.attestation.Attestation.{Attestation}
 use Rattle.simplex_types.specs.declared.position.Round.{Round}
 use Rattle.simplex_types.specs.declared.proposal.Proposal.{Proposal}
@@ -35,8 +35,8 @@ use Rattle.simplex_verifier.specs.History as votes
 use Rattle.simplex_verifier.specs.Lawful as lawful
 use Rattle.simplex_types.specs.Batching.{AreFailing}
 use Rattle.simplex_verifier.specs.Quorums.{AllCertified}
-use Rattle.simplex_history.specs.History.{scheduled_leader}
-use Rattle.simplex_views.specs.Progress.{InTime}
+use Rattle.simplex_history.specs.Past as past
+use Rattle.simplex_history.specs.History.{later, scheduled_leader}
 use Rattle.simplex_decisions.specs.Ancestry.{held_at}
 use Rattle.simplex_decisions.specs.Due.{NotarizeIsDue}
 use Rattle.simplex_laws.specs.Matching as voter
@@ -82,9 +82,16 @@ pub record RecordLaws {S D P G C : Type 0} (g : Ghosts S D P G C) : Type 0 where
   pub further : (own : S) (owner : Owner) (before : List (Artifact S D P G C)) (x : Artifact S D P G C) → IsLawful (g.attests own) (g.certifies own) owner before → Fits (g.attests own) (g.certifies own) owner before x
       → IsLawful (g.attests own) (g.certifies own) owner (before ++ x ∷ [])
 
--- each deadline that is counted from a moment early enough has 64 bits
+-- no deadline that is counted from a moment is cut at the last one of 64 bits
+pub record AreUncut {S D C : Type 0} (s : Setup S D C) (now : ℕ) : Type 0 where
+  pub leader : past.deadline now s.voter.leader_timeout ≡ now + s.voter.leader_timeout
+  pub certification : past.deadline now s.voter.certification_timeout ≡ now + s.voter.certification_timeout
+  pub stall : later now s.voter.stall_timeout ≡ option_map (λ t. now + t) s.voter.stall_timeout
+  pub retry : past.deadline now s.voter.timeout_retry ≡ now + s.voter.timeout_retry
+
+-- so it is for a moment early enough
 abbrev pub EarlyIsInTime : {S D C : Type 0} → Setup S D C → Type 0
-EarlyIsInTime s = (now : ℕ) → IsInTime s now → InTime s.voter now × (now + s.voter.timeout_retry < 2 ^ 64)
+EarlyIsInTime s = (now : ℕ) → IsInTime s now → AreUncut s now
 
 module _ {S D P G C : Type 0} (g : Ghosts S D P G C) (f : Formats S D P G C) (s : Setup S D C) where
   -- ---- of one opening

@@ -75,7 +75,7 @@ pub fn empty_records_are_opened<S: Scheme<D>, D: Digest>()
     ensures { (f : Formats S D S.PublicKey S.Signature S.Certificate) (s : Setup S D S.Certificate) → EmptyIsOpened S.Scheme f s }
 {}
 
-/// Each deadline that is counted from a moment early enough has a number of 64 bits.
+/// No deadline that is counted from a moment early enough is cut at the last moment of 64 bits.
 pub fn early_moments_are_in_time<S: Scheme<D>, D: Digest>()
     ensures { (s : Setup S D S.Certificate) → EarlyIsInTime s }
 {}

@@ -46,7 +46,6 @@ module _ {S D P G C : Type 0} where
 
   -- a notice leaves none
   pub told-plain : (n : Notice) (l : List (Item S D P G C)) → signs (told n ∷ l) ≡ signs l
-  told-plain (notice.Latched now why) l = refl
   told-plain notice.Unbound l = refl
   told-plain notice.BuildReleased l = refl
   told-plain (notice.AncestryAsked missing) l = refl

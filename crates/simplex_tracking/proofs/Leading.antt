@@ -36,6 +36,11 @@ pub known_stays : (o l : Option ℕ) {b : Bool} → b ≡ is_none o → b ≡ fa
 known_stays None l none known = absurd (cc (none, known))
 known_stays (Some x) l none known = refl
 
+-- of two of which the first comes first, the first isn't there where none is
+no_first : {A : Type 0} (o l : Option A) → option_or o l ≡ None → o ≡ None
+no_first None l is = refl
+no_first (Some x) l is = is
+
 -- the leader that a view has from the view before
 abbrev pub of_before : {S D P G C : Type 0} → Frame S → Tables S D P G C → ℕ → Option ℕ
 of_before f t view = if inherits_by f t view then t.led (view - 1) else None
@@ -122,6 +127,41 @@ module _ (here : ℕ → Option ℕ) (from_before : ℕ → Bool) (known : ℕ �
       let same = extend-above here from_before known view w (handed-on-still view (none view after) still) (λ u lt. none u (omega (arith, lt, after))) (λ u le below. closed u (omega (arith, le, behind)) below) (omega (arith, ge)) in
       handed-on-next view (none view after) w ∙ rw beyond (sym same))
       (cases_lt w (view + 1))
+
+  -- views without a leader have nothing to hand on: behind them leaders are handed on as far
+  pub handed-on-over : (view next : ℕ) → here view ≡ None → ((u : ℕ) → view < u → here u ≡ None) → view < next → ((u : ℕ) → view ≤ u → u + 1 < next → one_further view u ≡ None)
+      → (w : ℕ) → one_further view w ≡ handed_on here from_before known next w
+  handed-on-over view next none unnamed ahead bare w = handed-on-next view none w ∙ ⊎_elim {A = w < view + 1} {B = view + 1 ≤ w}
+      (λ lt.
+      let within : nat_lt w (view + 1) ≡ true = grind (arith, nat_tests, lt) in
+      let below : nat_lt w next ≡ true = grind (arith, nat_tests, lt, ahead) in
+      rw (within, below) refl)
+      (λ ge.
+      let beyond : nat_lt w (view + 1) ≡ false = grind (arith, nat_tests, ge) in
+      ⊎_elim {A = w < next} {B = next ≤ w}
+      (λ lt.
+      let below : nat_lt w next ≡ true = grind (arith, nat_tests, lt) in
+      let top : extend here from_before known view ≡ None = sym (handed-on-here view) ∙ sym (handed-on-next view none view) ∙ bare view (omega arith) (omega (arith, ge, lt)) in
+      let base : known view ≡ None = unled-before view top in
+      rw (beyond, below) (sym (extend-above here from_before known view w (top ∙ sym base) unnamed
+      (λ u from under so. rw (nothing view next none base bare u from (omega (arith, under, lt))) (or_none (known (suc u)))) (omega (arith, ge)))))
+      (λ le. let far : nat_lt w next ≡ false = grind (arith, nat_tests, le) in rw (beyond, far) refl)
+      (cases_lt w next))
+      (cases_lt w (view + 1))
+    where
+      -- a view that has no leader now had none before
+      unled-before : (u : ℕ) → extend here from_before known u ≡ None → known u ≡ None
+      unled-before zero is = is
+      unled-before (suc u) is = no_first (known (suc u)) _ is
+
+      nothing : (view next : ℕ) → here view ≡ None → known view ≡ None → ((u : ℕ) → view ≤ u → u + 1 < next → one_further view u ≡ None) → (u : ℕ) → view ≤ u → u + 1 < next → known u ≡ None
+      nothing view next none base bare u from below = ⊎_elim {A = view < u} {B = u ≤ view}
+          (λ lt.
+          let beyond : nat_lt u (view + 1) ≡ false = grind (arith, nat_tests, lt) in
+          let same : known u ≡ one_further view u = rw beyond at (sym (handed-on-next view none u)) in
+          same ∙ bare u from below)
+          (λ ge. let e : u ≡ view = omega (arith, ge, from) in rw e base)
+          (cases_lt view u)
 
 -- what is known of each view where leaders are handed on one view further
 abbrev pub further : {S D P G C : Type 0} → Frame S → Tables S D P G C → (ℕ → Option ℕ) → (ℕ → Option ℕ) → ℕ → Tables S D P G C

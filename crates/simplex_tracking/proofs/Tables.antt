@@ -12,7 +12,7 @@ use Rattle.std.proofs.lemmas.Bool.{cases_eq}
 use Rattle.simplex_round.specs.declared.round.Round.{Round}
 use Rattle.simplex_round.specs.Round as one
 use Rattle.simplex_history.specs.Held.{held, Agrees}
-use Rattle.simplex_history.specs.Past.{Item, has_finalized, has_nullified, offers}
+use Rattle.simplex_history.specs.Past.{Item, has_finalized, has_nullified, is_unlatched, offers}
 use Rattle.simplex_tracking.specs.Rounds.{Common, Stores, as_key, setup_of, stored, learn, IsTracked, IsRight, AreKept, AreOpen}
 use Rattle.simplex_tracking.specs.Tracked.{AreMembers}
 
@@ -39,6 +39,11 @@ module _ {S D P G C : Type 0} where
   pub finalized_tracked : (past : List (Item S D P G C)) (led : Option ℕ) (o : Option Bool) → o ≡ (if has_finalized past then None else Some (has_nullified past)) → is_some o ≡ false → IsTracked past led
   finalized_tracked [] led o voted none = absurd (cc (voted, none))
   finalized_tracked (x ∷ past) led o voted none = happened x past led
+
+  -- nor is one in which a reason to give the view up is none that is first
+  pub latched_tracked : (past : List (Item S D P G C)) (led : Option ℕ) (b : Bool) → b ≡ is_unlatched past → b ≡ false → IsTracked past led
+  latched_tracked [] led b is isnt = absurd (cc (is, isnt))
+  latched_tracked (x ∷ past) led b is isnt = happened x past led
 
   -- a round that is there stands where it should
   is_there : (key_of : S → ℕ → P) (s : Common S) (view : ℕ) (o : Option (Round S D P G C)) (l : Option ℕ) (h : List (Item S D P G C)) → IsSome o → IsRight key_of s view o l h

@@ -104,7 +104,6 @@ module _ {S D P G C : Type 0} where
 
   -- what a notice tells of a view
   abbrev pub told : Notice → Item S D P G C
-  told (notice.Latched now why) = past.latched now why
   told notice.Unbound = past.unbound
   told notice.BuildReleased = past.offered offer.released
   told (notice.AncestryAsked missing) = past.asked missing

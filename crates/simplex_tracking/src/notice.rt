@@ -1,13 +1,11 @@
 //! What may be told of a view.
 
-use simplex_history::{TimeoutReason, Token};
+use simplex_history::Token;
 use simplex_types::View;
 
 /// What happens to a view whatever happened to it before, and asks for no answer.
 #[derive(Drop)]
 pub enum Notice {
-    /// A reason to give it up came at this moment.
-    Latched(u64, TimeoutReason),
     /// What its proposal was bound to was dropped.
     Unbound,
     /// The build that was asked for was given back.

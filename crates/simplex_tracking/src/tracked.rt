@@ -123,7 +123,30 @@ impl<S: Scheme<D> + Drop, D: Digest> Tracked<S, D> {
         self.rounds.learn(view, leader)
     }
 
-    /// Hands leaders on from the first view, up to the last at least, and on while one becomes known.
+    /// The next view behind this one that may have the leader of the view before: the one behind the first of which something is
+    /// known. It is at most the last one, where that lies ahead.
+    fn next_heir(&self, view: View, last: View) -> View
+        requires { view + 1 < 2 ^ 64 }
+        ensures ahead { view < result }
+        ensures bare { AtEach S.Scheme self.now (λ f t. (u : ℕ) → view ≤ u → u + 1 < result → t.led u ≡ None) }
+    {
+        // The proof takes from the number that it has 64 bits.
+        let _number = last.get();
+        let next = view.next();
+        if last <= next {
+            return next;
+        }
+        let Some(first) = self.first_tracked(view) else {
+            return last;
+        };
+        if last <= first {
+            return last;
+        }
+        first.next()
+    }
+
+    /// Hands leaders on from the first view, up to the last at least, and on while one becomes known. The cost is that of the views
+    /// on the way of which something is known, however far the last one lies.
     fn hand_on(&mut self, first: View, last: View) -> Result<(), AllocError>
         ensures { OnOk result (AtEach S.Scheme self.old (λ f t. (here known : ℕ → Option ℕ) → IsBegun f t here known first last → Holds S.Scheme f self.new (record t { led = extend here (inherits_by f t) known }))) }
     {
@@ -133,7 +156,7 @@ impl<S: Scheme<D> + Drop, D: Digest> Tracked<S, D> {
             if !learnt && last <= view {
                 return Ok(());
             }
-            view = view.next();
+            view = self.next_heir(view, last);
         }
         let _last = self.inherit(view)?;
         Ok(())

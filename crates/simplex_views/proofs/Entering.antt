@@ -1,5 +1,5 @@
 -- What a point leaves as it was.
-use Rattle.std.proofs.Common.{◌≡◌, ℕ, true, false, ◌==◌, ◌+◌, ⊎_elim, List, ◌∷◌, refl, ◌∙◌, arith, if◌then◌else◌}
+use Rattle.std.proofs.Common.{◌≡◌, ℕ, true, false, ◌==◌, ⊎_elim, List, ◌∷◌, refl, ◌∙◌, arith, if◌then◌else◌}
 use Rattle.std.specs.Prelude.{Option, Some, None, Bool, is_some, nat_lt, ◌||◌}
 use Rattle.std.specs.Option.{option_or}
 use Rattle.std.proofs.lemmas.Grind.{common_steps}
@@ -29,7 +29,7 @@ module _ {S D P G C : Type 0} where
       → (s : Setup S C) (c now view : ℕ) (t : ℕ → List (Item S D P G C)) (u : ℕ) → f (enter s c now view t u) ≡ f (t u)
   enter-fact f entered armed s c now view t u =
       let once = put-fact f (past.entered now) (entered now) view t u in
-      let twice = put-fact f (past.armed (now + s.leader_timeout) (now + s.certification_timeout) (later now s.stall_timeout)) (armed _ _ _) view (put view (past.entered now) t) u in
+      let twice = put-fact f (past.armed (past.deadline now s.leader_timeout) (past.deadline now s.certification_timeout) (later now s.stall_timeout)) (armed _ _ _) view (put view (past.entered now) t) u in
       ⊎_elim (λ e. rw e (twice ∙ once)) (λ e. rw e refl) (cases_Bool (nat_lt c view))
 
   -- the nullification of each view, behind one more

@@ -153,8 +153,6 @@ module _ {S D P G C : Type 0} (s : Setup S C) (h : List (Point S D P G C)) where
 
   -- so is all that is told of a view and needs no answer
   pub noticed-quiet : (view : ℕ) (n : Notice) → IsQuiet (noticed view n)
-  noticed-quiet view (notice.Latched now why) = quiet-from (History.latched now view why) (refl, refl, λ u. refl, λ u. refl, λ u. refl, λ u. refl, λ u. refl, refl, λ u. refl)
-      (like-put view (past.latched now why) (seen s h) (λ l. refl, λ l. refl, λ l. refl) like-seen)
   noticed-quiet view notice.Unbound = quiet-from (History.unbound view) (refl, refl, λ u. refl, λ u. refl, λ u. refl, λ u. refl, λ u. refl, refl, λ u. refl)
       (like-put view past.unbound (seen s h) (λ l. refl, λ l. refl, λ l. refl) like-seen)
   noticed-quiet view notice.BuildReleased = quiet-from (History.build_released view) (refl, refl, λ u. refl, λ u. refl, λ u. refl, λ u. refl, λ u. refl, refl, λ u. refl)
@@ -165,20 +163,22 @@ module _ {S D P G C : Type 0} (s : Setup S C) (h : List (Point S D P G C)) where
       (like-put view (past.certifying handle) (seen s h) (λ l. refl, λ l. refl, λ l. refl) like-seen)
 
   pub noticed-seen : (view : ℕ) (n : Notice) → put view (told n) (seen s h) ≡ seen s (noticed view n ∷ h)
-  noticed-seen view (notice.Latched now why) = refl
   noticed-seen view notice.Unbound = refl
   noticed-seen view notice.BuildReleased = refl
   noticed-seen view (notice.AncestryAsked missing) = refl
   noticed-seen view (notice.CertifyAsked handle) = refl
 
   pub noticed-stays : (view : ℕ) (n : Notice) → current s (noticed view n ∷ h) ≡ current s h
-  noticed-stays view (notice.Latched now why) = refl
   noticed-stays view notice.Unbound = refl
   noticed-stays view notice.BuildReleased = refl
   noticed-stays view (notice.AncestryAsked missing) = refl
   noticed-stays view (notice.CertifyAsked handle) = refl
 
-  -- and builds that are asked for, verifications, own builds, what is found good, nullifies, finalizes and looks at the timeout
+  -- and reasons to give a view up, builds that are asked for, verifications, own builds, what is found good, nullifies, finalizes and looks at the timeout
+  pub latched-quiet : (now view : ℕ) (why : TimeoutReason) → IsQuiet (History.latched now view why)
+  latched-quiet now view why = quiet-from (History.latched now view why) (refl, refl, λ u. refl, λ u. refl, λ u. refl, λ u. refl, λ u. refl, refl, λ u. refl)
+      (like-put view (past.latched now why) (seen s h) (λ l. refl, λ l. refl, λ l. refl) like-seen)
+
   pub build_asked-quiet : (view : ℕ) → IsQuiet (History.build_asked view)
   build_asked-quiet view = quiet-from (History.build_asked view) (refl, refl, λ u. refl, λ u. refl, λ u. refl, λ u. refl, λ u. refl, refl, λ u. refl)
       (like-put view (past.offered offer.building) (seen s h) (λ l. refl, λ l. refl, λ l. refl) like-seen)
@@ -210,17 +210,17 @@ module _ {S D P G C : Type 0} (s : Setup S C) (h : List (Point S D P G C)) where
   polled-quiet now = quiet-from (History.polled now) (refl, refl, λ u. refl, λ u. refl, λ u. refl, λ u. refl, λ u. refl, refl, λ u. refl)
       (polled-like (nat_lt 0 (current s h)))
     where
-      polled-like : (b : Bool) → IsLike (if b then put (current s h) (past.polled (now + s.timeout_retry)) (seen s h) else seen s h)
-      polled-like true = like-put (current s h) (past.polled (now + s.timeout_retry)) (seen s h) (λ l. refl, λ l. refl, λ l. refl) like-seen
+      polled-like : (b : Bool) → IsLike (if b then put (current s h) (past.polled (past.deadline now s.timeout_retry)) (seen s h) else seen s h)
+      polled-like true = like-put (current s h) (past.polled (past.deadline now s.timeout_retry)) (seen s h) (λ l. refl, λ l. refl, λ l. refl) like-seen
       polled-like false = like-seen
 
   -- a look at the timeout is one at the current view's, where there is a current view
-  pub polled-some : (now view interval : ℕ) → s.timeout_retry ≡ interval → view ≡ current s h → (view ≡ 0 → ⊥) → put view (past.polled (now + interval)) (seen s h) ≡ seen s (History.polled now ∷ h)
+  pub polled-some : (now view interval : ℕ) → s.timeout_retry ≡ interval → view ≡ current s h → (view ≡ 0 → ⊥) → put view (past.polled (past.deadline now interval)) (seen s h) ≡ seen s (History.polled now ∷ h)
   polled-some now view interval same at some =
       let started : nat_lt 0 view ≡ true = grind (arith, nat_tests, some) in
       let behind : nat_lt 0 (current s h) ≡ true = subst (λ n. nat_lt 0 n ≡ true) at started in
-      subst (λ i. put view (past.polled (now + i)) (seen s h) ≡ seen s (History.polled now ∷ h)) same
-      (subst (λ n. put n (past.polled (now + s.timeout_retry)) (seen s h) ≡ seen s (History.polled now ∷ h)) (sym at) (rw behind refl))
+      subst (λ i. put view (past.polled (past.deadline now i)) (seen s h) ≡ seen s (History.polled now ∷ h)) same
+      (subst (λ n. put n (past.polled (past.deadline now s.timeout_retry)) (seen s h) ≡ seen s (History.polled now ∷ h)) (sym at) (rw behind refl))
 
   pub polled-none : (now : ℕ) → current s h ≡ 0 → seen s h ≡ seen s (History.polled now ∷ h)
   polled-none now none = rw none refl
@@ -239,8 +239,8 @@ module _ {S D P G C : Type 0} (s : Setup S C) (h : List (Point S D P G C)) where
       once ok = like-put view (past.judged ok) (seen s h) (λ l. refl, λ l. refl, λ l. refl) like-seen
 
       entered-like : (b : Bool) (t : ℕ → List (Item S D P G C)) → IsLike t
-          → IsLike (if b then put (view + 1) (past.armed (now + s.leader_timeout) (now + s.certification_timeout) (History.later now s.stall_timeout)) (put (view + 1) (past.entered now) t) else t)
-      entered-like true t like = like-put (view + 1) (past.armed (now + s.leader_timeout) (now + s.certification_timeout) (History.later now s.stall_timeout)) (put (view + 1) (past.entered now) t)
+          → IsLike (if b then put (view + 1) (past.armed (past.deadline now s.leader_timeout) (past.deadline now s.certification_timeout) (History.later now s.stall_timeout)) (put (view + 1) (past.entered now) t) else t)
+      entered-like true t like = like-put (view + 1) (past.armed (past.deadline now s.leader_timeout) (past.deadline now s.certification_timeout) (History.later now s.stall_timeout)) (put (view + 1) (past.entered now) t)
           (λ l. refl, λ l. refl, λ l. refl) (like-put (view + 1) (past.entered now) t (λ l. refl, λ l. refl, λ l. refl) like)
       entered-like false t like = like
 

@@ -1,6 +1,5 @@
 -- How far a voter is: its current view, and what is known of all views.
-use Rattle.std.specs.Prelude.{◌≡◌, ◌+◌, ◌<◌, ◌^◌, ℕ, List}
-use Rattle.std.specs.Option.{ForSome}
+use Rattle.std.specs.Prelude.{◌≡◌, ℕ, List}
 use Rattle.simplex_types.specs.declared.scheme.Scheme.{Ghosts}
 use Rattle.simplex_views.specs.declared.progress.Progress.{Progress}
 use Rattle.simplex_history.specs.History.{Setup, Point, seen}
@@ -10,12 +9,6 @@ use Rattle.simplex_tracking.specs.Tracked.{Frame, Tables, Holds}
 -- what stays the same of all views
 abbrev pub frame_of : {S C : Type 0} → Setup S C → Frame S
 frame_of s = record { common = record { scheme = s.scheme; epoch = s.epoch }; length = s.length; optimistic_views = s.optimistic_views }
-
--- a moment lies so early that each deadline that is counted from it has 64 bits
-pub record InTime {S C : Type 0} (s : Setup S C) (now : ℕ) : Type 0 where
-  pub leader : now + s.leader_timeout < 2 ^ 64
-  pub certification : now + s.certification_timeout < 2 ^ 64
-  pub stall : ForSome s.stall_timeout (λ t. now + t < 2 ^ 64)
 
 module _ {S D P G C : Type 0} where
   -- what a history leaves of each view

@@ -20,7 +20,7 @@ use Rattle.simplex_decisions.specs.declared.config.Config.{Config}
 use Rattle.simplex_decisions.specs.Configuring.{skip_budget}
 use Rattle.simplex_views.specs.declared.views.Views.{Views}
 use Rattle.simplex_history.specs.History as History
-use Rattle.simplex_history.specs.History.{Setup, Point, latched, unbound, build_released, ancestry_asked, certify_asked, recalled_notarize, recalled_nullify, recalled_finalize, recalled_verdict, sent, current, last_finalized, min_active, genesis, is_marked, seen, was_nullified, nullification}
+use Rattle.simplex_history.specs.History.{Setup, Point, unbound, build_released, ancestry_asked, certify_asked, recalled_notarize, recalled_nullify, recalled_finalize, recalled_verdict, sent, current, last_finalized, min_active, genesis, is_marked, seen, was_nullified, nullification}
 use Rattle.simplex_history.specs.Known.{backs, waits}
 use Rattle.simplex_history.specs.Leaders.{leader}
 use Rattle.simplex_tracking.specs.Marks.{Shows}
@@ -82,7 +82,6 @@ module _ {S D P G C : Type 0} where
 
   -- the point that a notice of a view is
   abbrev pub noticed : ℕ → Notice → Point S D P G C
-  noticed view (notice.Latched now why) = latched now view why
   noticed view notice.Unbound = unbound view
   noticed view notice.BuildReleased = build_released view
   noticed view (notice.AncestryAsked missing) = ancestry_asked view missing

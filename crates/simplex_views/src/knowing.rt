@@ -21,7 +21,7 @@ impl<S: Scheme<D> + Drop, L: Elector<S, D>, D: Digest> Knowledge<D> for Views<S,
     }
 
     fn genesis(&self) -> Option<D> {
-        self.genesis()
+        self.genesis
     }
 
     fn certified_payload(&self, view: View) -> Option<D> {
@@ -141,7 +141,7 @@ impl<S: Scheme<D> + Drop, L: Elector<S, D>, D: Digest> Knowledge<D> for Views<S,
     }
 
     fn pending_verification(&self, view: View) -> Option<Proposal<D>> {
-        if self.is_backed(view) {
+        if self.backed.contains(view) {
             return None;
         }
         match self.round(view) {
@@ -168,7 +168,7 @@ impl<S: Scheme<D> + Drop, L: Elector<S, D>, D: Digest> Knowledge<D> for Views<S,
     }
 
     fn is_waiting(&self, view: View) -> bool {
-        self.is_waiting(view)
+        self.waiting.contains(view)
     }
 
     fn is_notarized(&self, view: View) -> bool {
@@ -176,6 +176,6 @@ impl<S: Scheme<D> + Drop, L: Elector<S, D>, D: Digest> Knowledge<D> for Views<S,
     }
 
     fn first_uncovered(&self, parent: View, view: View) -> Option<View> {
-        self.first_uncovered(parent, view)
+        self.coverage.first_uncovered(parent, view)
     }
 }

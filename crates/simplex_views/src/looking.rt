@@ -74,7 +74,7 @@ fn start_below<S: Scheme<D> + Drop, L: Elector<S, D>, D: Digest>(
     if view.is_zero() {
         return None;
     }
-    match views.genesis() {
+    match views.genesis {
         Some(payload) => Some((View::zero(), payload)),
         None => None,
     }

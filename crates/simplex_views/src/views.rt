@@ -18,9 +18,9 @@ ghost use Rattle.simplex_round.specs.Round as one;
 ghost use Rattle.simplex_tracking.specs.Marks.{Shows};
 ghost use Rattle.simplex_history.specs.Pasts.{bears};
 ghost use Rattle.simplex_tracking.specs.Rounds.{AreUntracked, IsFirstTracked};
-ghost use Rattle.simplex_history.specs.History.{current, last_finalized, min_active, genesis, nullification, scheduled_leader, seen};
+ghost use Rattle.simplex_history.specs.History.{current, last_finalized, min_active, nullification, scheduled_leader, seen};
 ghost use Rattle.simplex_history.specs.Leaders.{leader};
-ghost use Rattle.simplex_views.specs.Views.{Keeps, AtEach, built, AreCoveredBetween, IsFirstUncovered, IsHighestCovering, IsTracked, noticed, round_of};
+ghost use Rattle.simplex_views.specs.Views.{Keeps, AtEach, built, IsHighestCovering, IsTracked, noticed, round_of};
 
 use crate::progress::Progress;
 use simplex_certificates::{Finalization, Notarization, Nullification};
@@ -47,13 +47,13 @@ pub struct Views<S: Scheme<D>, L: Elector<S, D>, D: Digest> {
     retention: ViewDelta,
     progress: Progress<S, D>,
     last_finalized: View,
-    genesis: Option<D>,
+    pub(crate) genesis: Option<D>,
     /// What was ever covered.
-    coverage: Coverage,
+    pub(crate) coverage: Coverage,
     /// The views whose own notarize was made here, or recalled with its proposal.
-    backed: Marks,
+    pub(crate) backed: Marks,
     /// The views whose verdict was put off.
-    waiting: Marks,
+    pub(crate) waiting: Marks,
     /// The views whose nullification is kept.
     nullified: Marks,
     /// The nullifications of dropped views that cover views above the last finalized one.
@@ -195,13 +195,6 @@ impl<S: Scheme<D> + Drop, L: Elector<S, D>, D: Digest> Views<S, L, D> {
         self.progress.tracked.leader(view)
     }
 
-    /// The payload at the start, behind it.
-    pub fn genesis(&self) -> Option<D>
-        ensures { AtEach S.Scheme L.Elector self.now (λ s h. result ≡ genesis h) }
-    {
-        self.genesis
-    }
-
     /// What is known of a view, where something is.
     pub fn round(&self, view: View) -> Option<&Round<S, D>>
         ensures value { AtEach S.Scheme L.Elector self.now (λ s h. MatchOption result ((seen s h view ≡ []) × (leader s h view ≡ None)) (λ r. IsTracked s h view × one.Keeps S.key_of (round_of s view) r.now (leader s h view) (seen s h view))) }
@@ -282,13 +275,6 @@ impl<S: Scheme<D> + Drop, L: Elector<S, D>, D: Digest> Views<S, L, D> {
             Some(round) => round.forwardable_proposal(),
             None => None,
         }
-    }
-
-    /// The first view after the parent and before the view that isn't covered, or `None` where each of them is.
-    pub fn first_uncovered(&self, parent: View, view: View) -> Option<View>
-        ensures { AtEach S.Scheme L.Elector self.now (λ s h. MatchOption result (AreCoveredBetween s h parent view) (λ first. IsFirstUncovered s h parent view first)) }
-    {
-        self.coverage.first_uncovered(parent, view)
     }
 
     /// Takes in what is told of a view and needs no answer.

@@ -176,8 +176,8 @@ module _ {S D P G C : Type 0} where
     quiet (sent kind.Nullification at) is = puts b view Q at past.sent_nullification (seen s h) tt before
     quiet (sent kind.Finalization at) is = puts b view Q at past.sent_finalization (seen s h) tt before
     quiet (polled now) is =
-        choose_holds (Follows b view Q) view (nat_lt 0 (current s h)) (put (current s h) (past.polled (now + s.timeout_retry)) (seen s h)) (seen s h)
-        (puts b view Q (current s h) (past.polled (now + s.timeout_retry)) (seen s h) tt before) before
+        choose_holds (Follows b view Q) view (nat_lt 0 (current s h)) (put (current s h) (past.polled (past.deadline now s.timeout_retry)) (seen s h)) (seen s h)
+        (puts b view Q (current s h) (past.polled (past.deadline now s.timeout_retry)) (seen s h) tt before) before
     quiet pruned never = absurd never
 
     -- such a point but for one view
@@ -209,9 +209,20 @@ module _ {S D P G C : Type 0} where
     pub owed_there : (b : Bool) (x : Point S D P G C) (at : ℕ) (owed : Owed) → IsLoudAt x at → Has owed at → AreOwed b (seen s h) owed → AreOwed b (seen s (x ∷ h)) owed
     owed_there b x at owed is there are = record { all = λ view fits. loud b s h view (Has owed view) (λ owes. are.all view fits owes) x at is (λ here. subst (λ (v : ℕ). Has owed v) here there) }
 
-    -- behind a verdict, with its view where it is true
-    pub judged_owed : (now at : ℕ) (ok : Bool) (owed : Owed) → (IsTrue ok → Has owed at) → AreOwed true (seen s h) owed → AreOwed true (seen s (judged now at ok ∷ h)) owed
-    judged_owed now at true owed there are = owed_there true (judged now at true) at owed refl (there refl) are
+    -- a view that is undecided behind a true verdict was so before
+    judged_undecided : (now at view : ℕ) → past.is_undecided (seen s (judged now at true ∷ h) view) ≡ true → past.is_undecided (seen s h view) ≡ true
+    judged_undecided now at view = enter_holds Was view s (current s h) now (at + 1) (put at (past.judged true) (seen s h)) (λ moment leader certification stall l was. was)
+        (put_holds Was view at (past.judged true) (seen s h) (λ here was. was) (λ is. is))
+      where
+        Was : List (Item S D P G C) → Type 0
+        Was l = past.is_undecided l ≡ true → past.is_undecided (seen s h view) ≡ true
+
+    -- behind a verdict, with its view where it is true and the view undecided
+    pub judged_owed : (now at : ℕ) (ok : Bool) (owed : Owed) → ((ok && past.is_undecided (seen s h at)) ≡ true → Has owed at) → AreOwed true (seen s h) owed → AreOwed true (seen s (judged now at ok ∷ h)) owed
+    judged_owed now at true owed there are = record {
+      all = λ view fits owes. loud true s h view (Has owed view) (λ old. are.all view fits old) (judged now at true) at refl
+          (λ here. subst (λ (v : ℕ). Has owed v) here (there (subst (λ (v : ℕ). past.is_undecided (seen s h v) ≡ true) (sym here) (judged_undecided now at view owes.undecided)))) owes;
+    }
     judged_owed now at false owed there are = owed_still true (judged now at false) owed refl are
 
     -- and behind an artifact of the record, with its view where that is a true verdict

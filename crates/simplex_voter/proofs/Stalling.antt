@@ -38,10 +38,7 @@ alone : {S D P G C : Type 0} (now : ℕ) (counts : Bool) (stall : Option ℕ) (x
     → past.next_timeout x counts ≡ timeout_of now counts stall y
 alone now counts stall x y same decided = subst (λ z. past.next_timeout x counts ≡ timeout_of now counts stall z) (sym same) (if_true (is_some (past.finalization x) || past.has_finalized x || past.has_nullified x) (past.next_timeout x counts) _ decided)
 
--- the interval is the retry's where the moment stays in range, and the view behind a finalized one is the next
-pub interval_is : (now retry own r : ℕ) → own ≡ retry → r ≡ min own (18446744073709551615 - now) → now + retry < 2 ^ 64 → retry ≡ r
-interval_is now retry own r same is fits = omega (arith, same, is, fits)
-
+-- the view behind a finalized one is the next
 pub behind_is : (last final got added r : ℕ) → final ≡ last → final + 1 < 2 ^ 64 → got ≡ final → added ≡ min (got + 1) 18446744073709551615 → r ≡ added → r ≡ last + 1
 behind_is last final got added r same fits is sum made = omega (arith, same, fits, is, sum, made)
 
@@ -98,13 +95,13 @@ module _ {S D P G C : Type 0} (s : Setup S C) (h : List (Point S D P G C)) where
   silent_counts view at why b c d is off same tracked test silent held = silence_counts view why d (from_of view at (current s h) b is off same) tracked (silent_of why c test silent) held
 
   -- where a standstill doesn't count, the view's own rules tell the timeout
-  pub own_alone : (now moment : ℕ) (counts : Bool) (own : Option (ℕ × TimeoutReason)) → ¬ MayStall s (polled now ∷ h) → counts ≡ has_budget s h → moment ≡ now + s.timeout_retry
+  pub own_alone : (now moment : ℕ) (counts : Bool) (own : Option (ℕ × TimeoutReason)) → ¬ MayStall s (polled now ∷ h) → counts ≡ has_budget s h → moment ≡ past.deadline now s.timeout_retry
       → own ≡ (if nat_lt 0 (current s h) then past.next_timeout (past.polled moment ∷ seen s h (current s h)) counts else None)
       → own ≡ (if nat_lt 0 (current s h) then timeout s (polled now ∷ h) now else None)
   own_alone now moment counts own calm budget at is = ⊎_elim
       (λ started.
-      let x : List (Item S D P G C) = past.polled (now + s.timeout_retry) ∷ seen s h (current s h) in
-      let grown : seen s (polled now ∷ h) (current s h) ≡ x = at_current (current s h) (past.polled (now + s.timeout_retry)) (seen s h) started in
+      let x : List (Item S D P G C) = past.polled (past.deadline now s.timeout_retry) ∷ seen s h (current s h) in
+      let grown : seen s (polled now ∷ h) (current s h) ≡ x = at_current (current s h) (past.polled (past.deadline now s.timeout_retry)) (seen s h) started in
       let decided : (is_some (past.finalization x) || past.has_finalized x || past.has_nullified x) ≡ true = ⊎_elim
       (λ yes. yes)
       (λ open_. absurd (calm (record { started = grind (arith, nat_tests, started); undecided = rw grown open_ })))
@@ -117,12 +114,12 @@ module _ {S D P G C : Type 0} (s : Setup S C) (h : List (Point S D P G C)) where
 
   -- where it does, the earlier of both is the timeout
   pub own_or_stall : (now moment : ℕ) (counts : Bool) (own : Option (ℕ × TimeoutReason)) (stall : Option ℕ) (r : Option (ℕ × TimeoutReason)) → r ≡ earlier now own stall → MayStall s (polled now ∷ h) → counts ≡ has_budget s h → stall ≡ term_deadline s (polled now ∷ h)
-      → moment ≡ now + s.timeout_retry → own ≡ (if nat_lt 0 (current s h) then past.next_timeout (past.polled moment ∷ seen s h (current s h)) counts else None)
+      → moment ≡ past.deadline now s.timeout_retry → own ≡ (if nat_lt 0 (current s h) then past.next_timeout (past.polled moment ∷ seen s h (current s h)) counts else None)
       → r ≡ (if nat_lt 0 (current s h) then timeout s (polled now ∷ h) now else None)
   own_or_stall now moment counts own stall r first may budget due at is =
       let started : nat_lt 0 (current s h) ≡ true = grind (arith, nat_tests, may.started) in
-      let x : List (Item S D P G C) = past.polled (now + s.timeout_retry) ∷ seen s h (current s h) in
-      let grown : seen s (polled now ∷ h) (current s h) ≡ x = at_current (current s h) (past.polled (now + s.timeout_retry)) (seen s h) started in
+      let x : List (Item S D P G C) = past.polled (past.deadline now s.timeout_retry) ∷ seen s h (current s h) in
+      let grown : seen s (polled now ∷ h) (current s h) ≡ x = at_current (current s h) (past.polled (past.deadline now s.timeout_retry)) (seen s h) started in
       let told : own ≡ past.next_timeout x (has_budget s h) = is ∙ rw (started, at, budget) (refl {a = past.next_timeout x (has_budget s h)}) in
       let undecided : (is_some (past.finalization x) || past.has_finalized x || past.has_nullified x) ≡ false =
       subst (λ z. (is_some (past.finalization z) || past.has_finalized z || past.has_nullified z) ≡ false) grown may.undecided in

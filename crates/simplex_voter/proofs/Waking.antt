@@ -78,7 +78,7 @@ module _ {S D P G C : Type 0} where
     enter_grows : (current_view now at : ℕ) (t : ℕ → List (Item S D P G C)) → Grows x view old (t view) → Grows x view old (enter s current_view now at t view)
     enter_grows current_view now at t g =
         choose_grows (nat_lt current_view at) _ t
-        (put_grows at (past.armed (now + s.leader_timeout) (now + s.certification_timeout) _) (put at (past.entered now) t) (λ here. tt) (put_grows at (past.entered now) t (λ here. tt) g)) g
+        (put_grows at (past.armed (past.deadline now s.leader_timeout) (past.deadline now s.certification_timeout) _) (put at (past.entered now) t) (λ here. tt) (put_grows at (past.entered now) t (λ here. tt) g)) g
 
     bind_grows : (o : Option D) (p : Proposal D) (t : ℕ → List (Item S D P G C)) → Grows x view old (t view) → Grows x view old (bind o p t view)
     bind_grows None p t g = g
@@ -153,8 +153,8 @@ module _ {S D P G C : Type 0} where
   grows s h view (sent kind.Nullification at) kept = put_grows s (sent kind.Nullification at) view _ at past.sent_nullification (seen s h) (λ here. tt) still
   grows s h view (sent kind.Finalization at) kept = put_grows s (sent kind.Finalization at) view _ at past.sent_finalization (seen s h) (λ here. tt) still
   grows s h view (polled now) kept =
-      choose_grows s (polled now) view _ (nat_lt 0 (current s h)) (put (current s h) (past.polled (now + s.timeout_retry)) (seen s h)) (seen s h)
-      (put_grows s (polled now) view _ (current s h) (past.polled (now + s.timeout_retry)) (seen s h) (λ here. tt) still) still
+      choose_grows s (polled now) view _ (nat_lt 0 (current s h)) (put (current s h) (past.polled (past.deadline now s.timeout_retry)) (seen s h)) (seen s h)
+      (put_grows s (polled now) view _ (current s h) (past.polled (past.deadline now s.timeout_retry)) (seen s h) (λ here. tt) still) still
   grows s h view pruned kept = unforgotten (nat_lt view (min_active s h)) (grind (arith, nat_tests, kept))
     where
       unforgotten : (b : Bool) → b ≡ false → Grows pruned view (seen s h view) (if b then [] else seen s h view)

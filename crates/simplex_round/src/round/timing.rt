@@ -1,8 +1,8 @@
 //! Moments, deadlines, and when the view is given up.
 
-ghost use Rattle.std.specs.Prelude.{◌≡◌, ◌+◌, ◌^◌, ◌<◌, ◌∷◌, is_some};
+ghost use Rattle.std.specs.Prelude.{◌≡◌, ◌∷◌, false, is_some};
 ghost use Rattle.std.specs.Option.{option_or};
-ghost use Rattle.simplex_history.specs.Past.{entered, armed, latched, polled, entered_at, proposed_at, elapsed, stall_deadline, first_timeout, next_timeout};
+ghost use Rattle.simplex_history.specs.Past.{entered, armed, latched, polled, entered_at, proposed_at, deadline, elapsed, is_unlatched, latch, stall_deadline, first_timeout, next_timeout};
 ghost use Rattle.simplex_round.specs.Round.{AtEach, Becomes};
 
 use crate::round::Round;
@@ -67,29 +67,40 @@ impl<S: Scheme<D>, D: Digest> Round<S, D> {
         self.deadlines.stall
     }
 
-    /// Takes a reason to give the view up at this moment. The first counts, and none once a nullify or finalize
-    /// is voted.
-    pub fn latch_timeout(&mut self, now: u64, reason: TimeoutReason)
-        ensures { Becomes S.key_of self.old self.new (λ h. latched now reason ∷ h) }
+    /// Takes a reason to give the view up at this moment: whether it is the first. The first counts, and none
+    /// once a nullify or finalize is voted: then nothing changes.
+    pub fn latch_timeout(&mut self, now: u64, reason: TimeoutReason) -> bool
+        ensures keeps { Becomes S.key_of self.old self.new (λ h. latched now reason ∷ h) }
+        ensures unchanged { result ≡ false → Becomes S.key_of self.old self.new (λ h. h) }
+        ensures answer { AtEach S.key_of self.old (λ s l h. result ≡ is_unlatched h) }
     {
-        if !self.votes.nullify && !self.votes.finalize && self.deadlines.latch.is_none() {
-            self.deadlines.latch = Some((now, reason));
+        if self.votes.nullify || self.votes.finalize || self.deadlines.latch.is_some() {
+            return false;
         }
+        self.deadlines.latch = Some((now, reason));
+        true
+    }
+
+    /// The first reason to give the view up, where one was taken, and when it came.
+    pub fn latched_timeout(&self) -> Option<(u64, TimeoutReason)>
+        ensures { AtEach S.key_of self.now (λ s l h. result ≡ latch h) }
+    {
+        self.deadlines.latch
     }
 
     /// When the view is to be given up next, and why: at a reason that was taken only where it is allowed. A
-    /// nullify that was voted is due again an interval after the first call that follows it.
+    /// nullify that was voted is due again an interval after the first call that follows it, or at the last moment
+    /// of 64 bits.
     pub fn next_timeout(
         &mut self,
         now: u64,
         retry_interval: u64,
         allow_latched_timeout: bool,
     ) -> Option<(u64, TimeoutReason)>
-        requires { now + retry_interval < 2 ^ 64 }
-        ensures keeps { Becomes S.key_of self.old self.new (λ h. polled (now + retry_interval) ∷ h) }
-        ensures answer { AtEach S.key_of self.old (λ s l h. result ≡ next_timeout (polled (now + retry_interval) ∷ h) allow_latched_timeout) }
+        ensures keeps { Becomes S.key_of self.old self.new (λ h. polled (deadline now retry_interval) ∷ h) }
+        ensures answer { AtEach S.key_of self.old (λ s l h. result ≡ next_timeout (polled (deadline now retry_interval) ∷ h) allow_latched_timeout) }
     {
-        self.poll(now + retry_interval);
+        self.poll(now.saturating_add(retry_interval));
         self.due_timeout(allow_latched_timeout)
     }
 

@@ -1,8 +1,8 @@
 //! What happens to one view. It is no certificate, and hands no leader on: a proposal or an own notarize lets `follow` do that.
 
-ghost use Rattle.std.specs.Prelude.{◌≡◌, ◌↔◌, ◌<◌, ◌≤◌, ◌+◌, ◌^◌, if◌then◌else◌, Bool, false, ◌∷◌, Some, None, is_some, IsTrue, IfSome, IfOk, OnOk, MatchOption};
+ghost use Rattle.std.specs.Prelude.{◌≡◌, ◌↔◌, ◌≤◌, ◌^◌, if◌then◌else◌, Bool, false, ◌∷◌, Some, None, is_some, IsTrue, IfSome, IfOk, OnOk, MatchOption};
 ghost use Rattle.simplex_history.specs.Held.{held, building, confirmed, verifying, Agrees, IsUnverified};
-ghost use Rattle.simplex_history.specs.Past.{offered, sent_notarization, sent_nullification, sent_finalization, has_sent_notarization, has_sent_nullification, has_sent_finalization, judged, bound, built, polled, voted_finalize, voted_notarize, voted_nullify, notarization, nullification, finalization, offers, has_finalized, has_nullified, next_timeout, verdict, MayFinalize, MayNotarize, MayPropose, MayVerify};
+ghost use Rattle.simplex_history.specs.Past.{offered, sent_notarization, sent_nullification, sent_finalization, has_sent_notarization, has_sent_nullification, has_sent_finalization, judged, bound, built, deadline, is_unlatched, latched, polled, voted_finalize, voted_notarize, voted_nullify, notarization, nullification, finalization, offers, has_finalized, has_nullified, next_timeout, verdict, MayFinalize, MayNotarize, MayPropose, MayVerify};
 ghost use Rattle.simplex_round.specs.Round as one;
 ghost use Rattle.simplex_history.specs.Pasts.{bind, put};
 ghost use Rattle.simplex_tracking.specs.Rounds.{AreUntracked, IsFirstTracked, Takes, recalled, setup_of, told};
@@ -53,6 +53,20 @@ impl<S: Scheme<D> + Drop, D: Digest> Tracked<S, D> {
     {
         tell(self.rounds.open(view)?, notice);
         Ok(())
+    }
+
+    /// Takes a reason to give the view up, which came at this moment: whether it is the first that counts. Else nothing changes.
+    pub fn latch_timeout(
+        &mut self,
+        view: View,
+        now: u64,
+        reason: TimeoutReason,
+    ) -> Result<bool, AllocError>
+        ensures keeps { OnOk result (AtEach S.Scheme self.old (λ f t. Holds S.Scheme f self.new (record t { past = put view (latched now reason) t.past }))) }
+        ensures unchanged { IfOk result (λ first. first ≡ false → AtEach S.Scheme self.old (λ f t. Holds S.Scheme f self.new t)) }
+        ensures answer { IfOk result (λ first. AtEach S.Scheme self.old (λ f t. first ≡ is_unlatched (t.past view))) }
+    {
+        Ok(self.rounds.open(view)?.latch_timeout(now, reason))
     }
 
     /// Takes it that the held proposal was found good: whether it became verified. Behind an own nullify nothing changes.
@@ -109,7 +123,8 @@ impl<S: Scheme<D> + Drop, D: Digest> Tracked<S, D> {
         Ok(voted)
     }
 
-    /// When and why the view is given up next, where a nullify that was voted is due again an interval after this look.
+    /// When and why the view is given up next, where a nullify that was voted is due again an interval after this look, or at the
+    /// last moment of 64 bits.
     pub fn next_timeout(
         &mut self,
         view: View,
@@ -117,9 +132,8 @@ impl<S: Scheme<D> + Drop, D: Digest> Tracked<S, D> {
         retry_interval: u64,
         allow_latched_timeout: bool,
     ) -> Result<Option<(u64, TimeoutReason)>, AllocError>
-        requires { now + retry_interval < 2 ^ 64 }
-        ensures keeps { OnOk result (AtEach S.Scheme self.old (λ f t. Holds S.Scheme f self.new (record t { past = put view (polled (now + retry_interval)) t.past }))) }
-        ensures answer { IfOk result (λ timeout. AtEach S.Scheme self.old (λ f t. timeout ≡ next_timeout (polled (now + retry_interval) ∷ t.past view) allow_latched_timeout)) }
+        ensures keeps { OnOk result (AtEach S.Scheme self.old (λ f t. Holds S.Scheme f self.new (record t { past = put view (polled (deadline now retry_interval)) t.past }))) }
+        ensures answer { IfOk result (λ timeout. AtEach S.Scheme self.old (λ f t. timeout ≡ next_timeout (polled (deadline now retry_interval) ∷ t.past view) allow_latched_timeout)) }
     {
         let round = self.rounds.open(view)?;
         Ok(round.next_timeout(now, retry_interval, allow_latched_timeout))
@@ -226,7 +240,6 @@ fn tell<S: Scheme<D>, D: Digest>(round: &mut Round<S, D>, notice: Notice)
     ensures { one.Becomes S.key_of round.old round.new (λ h. told notice ∷ h) }
 {
     match notice {
-        Notice::Latched(now, reason) => round.latch_timeout(now, reason),
         Notice::Unbound => round.clear_verifying(),
         Notice::BuildReleased => round.clear_proposal_request(),
         Notice::AncestryAsked(missing) => {

@@ -2,8 +2,7 @@
 
 ghost use Rattle.std.specs.Prelude.{◌≡◌, ◌↔◌, if◌then◌else◌, ◌∷◌, IsTrue, OnOk};
 ghost use Rattle.simplex_history.specs.Past.{MayVerify};
-ghost use Rattle.simplex_history.specs.History.{ancestry_asked, certify_asked, certify_waited, is_marked, seen, verify_asked};
-ghost use Rattle.simplex_history.specs.Known.{backs, waits};
+ghost use Rattle.simplex_history.specs.History.{ancestry_asked, certify_asked, certify_waited, seen, verify_asked};
 ghost use Rattle.simplex_history.specs.Leaders.{leader};
 ghost use Rattle.simplex_views.specs.Views.{Keeps, AtEach};
 
@@ -58,19 +57,5 @@ impl<S: Scheme<D> + Drop, L: Elector<S, D>, D: Digest> Views<S, L, D> {
         ensures { OnOk result (AtEach S.Scheme L.Elector self.old (λ s h. Keeps S.Scheme L.Elector s self.new (certify_waited view ∷ h))) }
     {
         self.waiting.mark(view)
-    }
-
-    /// Whether a verdict on the view was put off.
-    pub fn is_waiting(&self, view: View) -> bool
-        ensures { AtEach S.Scheme L.Elector self.now (λ s h. result ≡ is_marked s waits h view) }
-    {
-        self.waiting.contains(view)
-    }
-
-    /// Whether an own notarize of the view was made here, or recalled with its proposal.
-    pub fn is_backed(&self, view: View) -> bool
-        ensures { AtEach S.Scheme L.Elector self.now (λ s h. result ≡ is_marked s backs h view) }
-    {
-        self.backed.contains(view)
     }
 }

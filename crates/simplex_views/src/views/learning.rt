@@ -7,14 +7,13 @@ ghost use Rattle.simplex_history.specs.Past.{offers, has_nullified};
 ghost use Rattle.simplex_history.specs.Past as past;
 ghost use Rattle.simplex_history.specs.History.{started, notarized, nullified, finalized, judged, forwarded, nullification, seen};
 ghost use Rattle.simplex_history.specs.Leaders.{leader};
-ghost use Rattle.simplex_views.specs.Progress.{InTime};
 ghost use Rattle.simplex_views.specs.Views.{Keeps, AtEach};
 
 use crate::views::Views;
 use simplex_certificates::{Finalization, Notarization, Nullification};
 use simplex_history::TimeoutReason;
 use simplex_rules::Elector;
-use simplex_tracking::{Notice, later};
+use simplex_tracking::later;
 use simplex_types::{Digest, Duplicate, Proposal, Round, Scheme, View, Viewable};
 use std::alloc::{AllocError, Global};
 
@@ -25,7 +24,7 @@ impl<S: Scheme<D> + Drop, L: Elector<S, D>, D: Digest> Views<S, L, D> {
     ///
     /// `AllocError` where memory ran out.
     pub fn set_genesis(&mut self, now: u64, payload: D) -> Result<(), AllocError>
-        ensures { OnOk result (AtEach S.Scheme L.Elector self.old (λ s h. InTime s now → Keeps S.Scheme L.Elector s self.new (started now payload ∷ h))) }
+        ensures { OnOk result (AtEach S.Scheme L.Elector self.old (λ s h. Keeps S.Scheme L.Elector s self.new (started now payload ∷ h))) }
     {
         let first = View::zero().next();
         let absent: Option<S::Certificate> = None;
@@ -82,7 +81,7 @@ impl<S: Scheme<D> + Drop, L: Elector<S, D>, D: Digest> Views<S, L, D> {
         now: u64,
         certificate: Nullification<S, D>,
     ) -> Result<bool, AllocError>
-        ensures keeps { IfOk result (λ new. AtEach S.Scheme L.Elector self.old (λ s h. InTime s now → Keeps S.Scheme L.Elector s self.new (if new then nullified now certificate ∷ h else h))) }
+        ensures keeps { IfOk result (λ new. AtEach S.Scheme L.Elector self.old (λ s h. Keeps S.Scheme L.Elector s self.new (if new then nullified now certificate ∷ h else h))) }
         ensures answer { IfOk result (λ new. AtEach S.Scheme L.Elector self.old (λ s h. IsTrue new ↔ (HasRoom s.length certificate.round.view × (nullification s h certificate.round.view ≡ None)))) }
     {
         let view = certificate.view();
@@ -116,11 +115,11 @@ impl<S: Scheme<D> + Drop, L: Elector<S, D>, D: Digest> Views<S, L, D> {
         now: u64,
         certificate: Finalization<S, D>,
     ) -> Result<(bool, Option<S::PublicKey>), AllocError>
-        ensures keeps { IfOk result (λ r. AtEach S.Scheme L.Elector self.old (λ s h. InTime s now → Keeps S.Scheme L.Elector s self.new (if r.0 then finalized now certificate ∷ h else h))) }
+        ensures keeps { IfOk result (λ r. AtEach S.Scheme L.Elector self.old (λ s h. Keeps S.Scheme L.Elector s self.new (if r.0 then finalized now certificate ∷ h else h))) }
         ensures first { IfOk result (λ r. AtEach S.Scheme L.Elector self.old (λ s h. IsTrue r.0 ↔ (HasRoom s.length certificate.proposal.round.view × (past.finalization (seen s h certificate.proposal.round.view) ≡ None)))) }
         ensures again { IfOk result (λ r. r.0 ≡ false → r.1 ≡ None) }
-        ensures replaced { IfOk result (λ r. AtEach S.Scheme L.Elector self.old (λ s h. InTime s now → r.0 ≡ true → Differs (held (offers (seen s h certificate.proposal.round.view))) certificate.proposal → r.1 ≡ option_map (S.key_of s.scheme) (leader s h certificate.proposal.round.view))) }
-        ensures same { IfOk result (λ r. AtEach S.Scheme L.Elector self.old (λ s h. InTime s now → Agrees (held (offers (seen s h certificate.proposal.round.view))) certificate.proposal → r.1 ≡ None)) }
+        ensures replaced { IfOk result (λ r. AtEach S.Scheme L.Elector self.old (λ s h. r.0 ≡ true → Differs (held (offers (seen s h certificate.proposal.round.view))) certificate.proposal → r.1 ≡ option_map (S.key_of s.scheme) (leader s h certificate.proposal.round.view))) }
+        ensures same { IfOk result (λ r. AtEach S.Scheme L.Elector self.old (λ s h. Agrees (held (offers (seen s h certificate.proposal.round.view))) certificate.proposal → r.1 ≡ None)) }
     {
         let view = certificate.view();
         // The proof takes from the number that a term has at least one view.
@@ -157,7 +156,7 @@ impl<S: Scheme<D> + Drop, L: Elector<S, D>, D: Digest> Views<S, L, D> {
         view: View,
         is_success: bool,
     ) -> Result<Option<Notarization<S, D>>, AllocError>
-        ensures keeps { IfOk result (λ answer. AtEach S.Scheme L.Elector self.old (λ s h. InTime s now → Keeps S.Scheme L.Elector s self.new (if is_some answer then judged now view is_success ∷ h else h))) }
+        ensures keeps { IfOk result (λ answer. AtEach S.Scheme L.Elector self.old (λ s h. Keeps S.Scheme L.Elector s self.new (if is_some answer then judged now view is_success ∷ h else h))) }
         ensures answer { IfOk result (λ answer. AtEach S.Scheme L.Elector self.old (λ s h. HasRoom s.length view → answer ≡ past.notarization (seen s h view))) }
         ensures no_room { IfOk result (λ answer. AtEach S.Scheme L.Elector self.old (λ s h. (HasRoom s.length view → ⊥) → answer ≡ None)) }
     {
@@ -177,7 +176,7 @@ impl<S: Scheme<D> + Drop, L: Elector<S, D>, D: Digest> Views<S, L, D> {
     /// Takes the verdict on a view: a true one enters the next view, a false one is a reason to give the view up, where that isn't behind.
     fn take_verdict(&mut self, now: u64, view: View, is_success: bool) -> Result<(), AllocError>
         requires { view + 1 < 2 ^ 64 }
-        ensures { OnOk result (AtEach S.Scheme L.Elector self.old (λ s h. InTime s now → Keeps S.Scheme L.Elector s self.new (judged now view is_success ∷ h))) }
+        ensures { OnOk result (AtEach S.Scheme L.Elector self.old (λ s h. Keeps S.Scheme L.Elector s self.new (judged now view is_success ∷ h))) }
     {
         self.progress.tracked.judge(view, is_success)?;
         if is_success {
@@ -186,8 +185,11 @@ impl<S: Scheme<D> + Drop, L: Elector<S, D>, D: Digest> Views<S, L, D> {
         if view < self.progress.view {
             return Ok(());
         }
-        let notice = Notice::Latched(now, TimeoutReason::FailedCertification);
-        self.progress.tracked.tell(view, notice)
+        let _first = self
+            .progress
+            .tracked
+            .latch_timeout(view, now, TimeoutReason::FailedCertification)?;
+        Ok(())
     }
 
     /// Offers the leader's proposal of a view: whether it is the first there. Behind an own nullify it is not taken.

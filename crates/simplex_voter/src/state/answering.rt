@@ -1,12 +1,12 @@
 //! What a voter's application answers of proposals.
 
-ghost use Rattle.std.specs.Prelude.{◌≡◌, ◌↔◌, ◌⊎◌, if◌then◌else◌, false, ◌∷◌, IsTrue, IfOk, OnOk};
+ghost use Rattle.std.specs.Prelude.{◌≡◌, ◌↔◌, ◌⊎◌, false, ◌∷◌, IsTrue, IfOk, OnOk};
 ghost use Rattle.simplex_history.specs.Held.{IsUnverified};
 ghost use Rattle.simplex_history.specs.Past.{offers, has_nullified};
 ghost use Rattle.simplex_history.specs.History.{certify_asked, confirmed, latched, seen, unbound};
 ghost use Rattle.simplex_history.specs.Known.{known};
 ghost use Rattle.simplex_decisions.specs.Ancestry.{IsSteady, member};
-ghost use Rattle.simplex_decisions.specs.Due.{MayLatch};
+ghost use Rattle.simplex_decisions.specs.Due.{IsFirstLatch, MayLatch};
 ghost use Rattle.simplex_voter.specs.Known.{AddsIfTracked};
 ghost use Rattle.simplex_voter.specs.State.{AtEach, Keeps};
 
@@ -32,7 +32,7 @@ impl<S: Scheme<D> + Drop, L: Elector<S, D>, D: Digest> State<S, L, D> {
         if !self.views.is_tracked(view) {
             return Ok(false);
         }
-        if !self.is_steady(view) {
+        if !is_steady(&self.views, view) {
             self.views.clear_verifying(view)?;
             return Ok(false);
         }
@@ -40,8 +40,8 @@ impl<S: Scheme<D> + Drop, L: Elector<S, D>, D: Digest> State<S, L, D> {
         self.views.verified(view)
     }
 
-    /// Takes it that the held proposal of the view wasn't found good, for this reason to give the view up: whether the reason counts.
-    /// Where what the proposal was bound to has fallen, that is dropped, and nothing else changes.
+    /// Takes it that the held proposal of the view wasn't found good, for this reason to give the view up: whether that is the view's
+    /// first, as `trigger_timeout` says. Where what the proposal was bound to has fallen, that is dropped, and nothing else changes.
     ///
     /// # Errors
     ///
@@ -52,21 +52,15 @@ impl<S: Scheme<D> + Drop, L: Elector<S, D>, D: Digest> State<S, L, D> {
         view: View,
         reason: TimeoutReason,
     ) -> Result<bool, AllocError>
-        ensures keeps { IfOk result (λ counts. AtEach S.Scheme L.Elector self.old (λ s h. (IsSteady (member s) (known s h) view × Keeps S.Scheme L.Elector s self.new (if counts then latched now view reason ∷ h else h)) ⊎ ((¬ IsSteady (member s) (known s h) view) × Keeps S.Scheme L.Elector s self.new (unbound view ∷ h)))) }
-        ensures answer { IfOk result (λ counts. AtEach S.Scheme L.Elector self.old (λ s h. IsTrue counts ↔ (IsSteady (member s) (known s h) view × MayLatch s h view reason))) }
+        ensures keeps { OnOk result (AtEach S.Scheme L.Elector self.old (λ s h. (IsSteady (member s) (known s h) view × (MayLatch s h view reason → Keeps S.Scheme L.Elector s self.new (latched now view reason ∷ h))) ⊎ ((¬ IsSteady (member s) (known s h) view) × Keeps S.Scheme L.Elector s self.new (unbound view ∷ h)))) }
+        ensures unchanged { IfOk result (λ first. first ≡ false → AtEach S.Scheme L.Elector self.old (λ s h. IsSteady (member s) (known s h) view → Keeps S.Scheme L.Elector s self.new h)) }
+        ensures answer { IfOk result (λ first. AtEach S.Scheme L.Elector self.old (λ s h. IsTrue first ↔ (IsSteady (member s) (known s h) view × IsFirstLatch s h view reason))) }
     {
-        if !self.is_steady(view) {
-            self.views.clear_verifying(view)?;
-            return Ok(false);
+        if is_steady(&self.views, view) {
+            return self.trigger_timeout(now, view, reason);
         }
-        self.trigger_timeout(now, view, reason)
-    }
-
-    /// Whether what the view's proposal is bound to hasn't fallen.
-    fn is_steady(&self, view: View) -> bool
-        ensures { AtEach S.Scheme L.Elector self.now (λ s h. IsTrue result ↔ IsSteady (member s) (known s h) view) }
-    {
-        is_steady(&self.views, view)
+        self.views.clear_verifying(view)?;
+        Ok(false)
     }
 
     /// Takes it that a verdict on the view was asked for, under this name. Where nothing is known of the view, nothing changes.

@@ -1,12 +1,12 @@
 //! What a voter asks its application to build.
 
-ghost use Rattle.std.specs.Prelude.{◌≡◌, ◌↔◌, ℕ, ◌∷◌, Some, IfSome, IsTrue, MatchOption};
+ghost use Rattle.std.specs.Prelude.{◌≡◌, ◌↔◌, ◌∷◌, Some, IfSome, IsTrue, MatchOption};
 ghost use Rattle.simplex_rules.specs.Windows.{AdmitsOutbound};
 ghost use Rattle.simplex_history.specs.History.{build_asked, current};
 ghost use Rattle.simplex_history.specs.Known.{known};
 ghost use Rattle.simplex_decisions.specs.Ancestry.{member};
 ghost use Rattle.simplex_decisions.specs.Building.{IsContextOf, IsPrepared, context_of};
-ghost use Rattle.simplex_decisions.specs.Requests.{BuildIsDue, IsFirstBuild, IsHandoff, NoBuildIsDue};
+ghost use Rattle.simplex_decisions.specs.Requests.{IsFirstBuild, IsHandoff, NoBuildIsDue};
 ghost use Rattle.simplex_voter.specs.State.{AtEach, Keeps};
 
 use crate::state::State;
@@ -60,7 +60,7 @@ impl<S: Scheme<D> + Drop, L: Elector<S, D>, D: Digest> State<S, L, D> {
             if !self.is_outbound(view) {
                 return None;
             }
-            if let Some((parent, payload)) = self.build_on(view) {
+            if let Some((parent, payload)) = build_on(&self.views, view) {
                 return Some((view, parent, payload));
             }
             if view.get() == u64::MAX {
@@ -77,12 +77,5 @@ impl<S: Scheme<D> + Drop, L: Elector<S, D>, D: Digest> State<S, L, D> {
     {
         let current = self.views.current_view();
         self.views.lookahead().admits_outbound(current, view)
-    }
-
-    /// The parent that a build of the view is to be asked for on, with its payload.
-    fn build_on(&self, view: View) -> Option<(View, D)>
-        ensures { AtEach S.Scheme L.Elector self.now (λ s h. MatchOption result ((parent : ℕ) (payload : D) → ¬ BuildIsDue (member s) (known s h) view parent payload) (λ x. BuildIsDue (member s) (known s h) view x.0 x.1)) }
-    {
-        build_on(&self.views, view)
     }
 }

@@ -7,6 +7,7 @@ ghost use Rattle.simplex_voter.specs.Owing.{IsFirstFinalize, IsFirstNotarize, No
 ghost use Rattle.simplex_voter.specs.State.{AtEach};
 
 use crate::state::State;
+use simplex_decisions::votes::{finalize_is_due, notarize_is_due};
 use simplex_rules::Elector;
 use simplex_types::{Digest, Scheme, View};
 
@@ -20,7 +21,7 @@ impl<S: Scheme<D> + Drop, L: Elector<S, D>, D: Digest> State<S, L, D> {
         let _views = self.views.lookahead().length.get();
         let mut next = View::zero();
         'views: while let Some(view) = self.notarizes.first_from(next) {
-            if self.notarize_is_due(view) {
+            if notarize_is_due(&self.views, view) {
                 return Some(view);
             }
             if view.get() == u64::MAX {
@@ -40,7 +41,7 @@ impl<S: Scheme<D> + Drop, L: Elector<S, D>, D: Digest> State<S, L, D> {
         let _views = self.views.lookahead().length.get();
         let mut next = self.views.last_finalized();
         'views: while let Some(view) = self.finalizes.first_from(next) {
-            if self.finalize_is_due(view) {
+            if finalize_is_due(&self.views, view) {
                 return Some(view);
             }
             if view.get() == u64::MAX {

@@ -6,6 +6,7 @@ ghost use Rattle.simplex_history.specs.Past.{offers, has_nullified};
 ghost use Rattle.simplex_history.specs.History.{build_released, built, seen};
 ghost use Rattle.simplex_history.specs.Known.{known};
 ghost use Rattle.simplex_decisions.specs.Ancestry.{member};
+ghost use Rattle.simplex_decisions.specs.Due.{IsTracked};
 ghost use Rattle.simplex_decisions.specs.Requests.{IsCaptured, IsSuperseded, StopsHandoff};
 ghost use Rattle.simplex_decisions.specs.Building.{proposal_on};
 ghost use Rattle.simplex_voter.specs.Known.{AddsIfTracked, AddsWhere};
@@ -20,8 +21,8 @@ use simplex_types::{Context, Digest, Proposal, Scheme, View};
 use std::alloc::AllocError;
 
 impl<S: Scheme<D> + Drop, L: Elector<S, D>, D: Digest> State<S, L, D> {
-    /// Records an own build of this payload in a context in which one was asked for: whether it is taken, since its parent may still be
-    /// used, and its view was not given up here and holds none or the same. Else nothing changes.
+    /// Records an own build of this payload in a context in which one was asked for: whether it is taken, since something is known of
+    /// its view, its parent may still be used, and its view was not given up here and holds none or the same. Else nothing changes.
     ///
     /// # Errors
     ///
@@ -33,9 +34,12 @@ impl<S: Scheme<D> + Drop, L: Elector<S, D>, D: Digest> State<S, L, D> {
         payload: D,
     ) -> Result<bool, AllocError>
         ensures keeps { IfOk result (λ taken. AtEach S.Scheme L.Elector self.old (λ s h. Keeps S.Scheme L.Elector s self.new (if taken then built now (proposal_on context.now payload) context.now.parent.1 ∷ h else h))) }
-        ensures answer { IfOk result (λ taken. AtEach S.Scheme L.Elector self.old (λ s h. IsTrue taken ↔ (IsCaptured (member s) (known s h) context.now.round.view context.now.parent.0 context.now.parent.1 × (has_nullified (seen s h context.now.round.view) ≡ false) × Agrees (held (offers (seen s h context.now.round.view))) (proposal_on context.now payload)))) }
+        ensures answer { IfOk result (λ taken. AtEach S.Scheme L.Elector self.old (λ s h. IsTrue taken ↔ (IsTracked s h context.now.round.view × IsCaptured (member s) (known s h) context.now.round.view context.now.parent.0 context.now.parent.1 × (has_nullified (seen s h context.now.round.view) ≡ false) × Agrees (held (offers (seen s h context.now.round.view))) (proposal_on context.now payload)))) }
     {
         let (parent, parent_payload) = context.parent;
+        if !self.views.is_tracked(context.round.view) {
+            return Ok(false);
+        }
         if !self.is_captured(context.round.view, parent, parent_payload) {
             return Ok(false);
         }

@@ -1,7 +1,6 @@
 //! How a voter starts.
 
 ghost use Rattle.std.specs.Prelude.{IfOk};
-ghost use Rattle.simplex_views.specs.Progress.{InTime};
 ghost use Rattle.simplex_voter.specs.Floor.{StandsOn, StartsOn};
 ghost use Rattle.simplex_voter.specs.State.{AtEach};
 
@@ -25,7 +24,7 @@ impl<S: Scheme<D> + Drop, L: Elector<S, D>, D: Digest> State<S, L, D> {
         now: u64,
         floor: Floor<S, D>,
     ) -> Result<Option<Finalization<S, D>>, AllocError>
-        ensures { IfOk result (λ answer. AtEach S.Scheme L.Elector self.old (λ s h. InTime s now → StartsOn S.Scheme L.Elector s self.new now h floor answer)) }
+        ensures { IfOk result (λ answer. AtEach S.Scheme L.Elector self.old (λ s h. StartsOn S.Scheme L.Elector s self.new now h floor answer)) }
     {
         match floor {
             Floor::Genesis(payload) => {
@@ -43,7 +42,7 @@ impl<S: Scheme<D> + Drop, L: Elector<S, D>, D: Digest> State<S, L, D> {
         now: u64,
         finalization: Finalization<S, D>,
     ) -> Result<Option<Finalization<S, D>>, AllocError>
-        ensures { IfOk result (λ answer. AtEach S.Scheme L.Elector self.old (λ s h. InTime s now → StandsOn S.Scheme L.Elector s self.new now h finalization answer)) }
+        ensures { IfOk result (λ answer. AtEach S.Scheme L.Elector self.old (λ s h. StandsOn S.Scheme L.Elector s self.new now h finalization answer)) }
     {
         let view = finalization.view();
         let _taken = self.add_finalization(now, finalization)?;

@@ -1,11 +1,11 @@
 //! When a voter gives a view up.
 
-ghost use Rattle.std.specs.Prelude.{◌≡◌, ◌↔◌, ◌+◌, ◌-◌, ◌^◌, ◌<◌, if◌then◌else◌, nat_lt, ℕ, true, ◌∷◌, None, is_some, IsTrue, IfOk, OnOk};
+ghost use Rattle.std.specs.Prelude.{◌≡◌, ◌↔◌, ◌+◌, ◌-◌, if◌then◌else◌, nat_lt, ℕ, false, true, ◌∷◌, None, is_some, IsTrue, IfOk, OnOk};
 ghost use Rattle.std.specs.Option.{option_or};
 ghost use Rattle.simplex_history.specs.declared.timeout_reason.TimeoutReason.TheVariants as reason;
 ghost use Rattle.simplex_history.specs.Past as past;
 ghost use Rattle.simplex_history.specs.History.{current, latched, polled, seen};
-ghost use Rattle.simplex_decisions.specs.Due.{MayLatch, first_from, has_budget, oldest_entered, term_deadline, timeout};
+ghost use Rattle.simplex_decisions.specs.Due.{IsFirstLatch, MayLatch, first_from, has_budget, oldest_entered, term_deadline, timeout};
 ghost use Rattle.simplex_voter.specs.State.{AtEach, Keeps};
 ghost use Rattle.simplex_voter.specs.Timing.{MayStall};
 
@@ -18,18 +18,17 @@ use std::alloc::AllocError;
 
 impl<S: Scheme<D> + Drop, L: Elector<S, D>, D: Digest> State<S, L, D> {
     /// When and why the current view is given up next; nothing before the start. Behind an own nullify that is a retry interval after
-    /// this look, if none came since the vote.
+    /// this look, or the last moment of 64 bits, if none came since the vote.
     ///
     /// # Errors
     ///
     /// `AllocError` where memory ran out.
     pub fn next_timeout(&mut self, now: u64) -> Result<Option<(u64, TimeoutReason)>, AllocError>
-        ensures keeps { OnOk result (AtEach S.Scheme L.Elector self.old (λ s h. now + s.timeout_retry < 2 ^ 64 → Keeps S.Scheme L.Elector s self.new (polled now ∷ h))) }
-        ensures answer { IfOk result (λ next. AtEach S.Scheme L.Elector self.old (λ s h. now + s.timeout_retry < 2 ^ 64 → next ≡ (if nat_lt 0 (current s h) then timeout s (polled now ∷ h) now else None))) }
+        ensures keeps { OnOk result (AtEach S.Scheme L.Elector self.old (λ s h. Keeps S.Scheme L.Elector s self.new (polled now ∷ h))) }
+        ensures answer { IfOk result (λ next. AtEach S.Scheme L.Elector self.old (λ s h. next ≡ (if nat_lt 0 (current s h) then timeout s (polled now ∷ h) now else None))) }
     {
-        let interval = self.timeout_retry.min(u64::MAX - now);
         let counts = self.has_skip_budget();
-        let own = self.views.next_timeout(now, interval, counts)?;
+        let own = self.views.next_timeout(now, self.timeout_retry, counts)?;
         if !self.may_stall() {
             return Ok(own);
         }
@@ -125,8 +124,8 @@ impl<S: Scheme<D> + Drop, L: Elector<S, D>, D: Digest> State<S, L, D> {
         }
     }
 
-    /// Takes a reason to give the view up, which came at this moment: whether it counts. It doesn't where the view is behind or
-    /// nothing is known of it, and that its leader is silent doesn't where a proposal is held that nothing contradicts. Then nothing changes.
+    /// Takes a reason to give the view up, which came at this moment: whether it is the view's first. It counts where
+    /// `may_latch` says so, while neither nullify nor finalize was voted. Behind the first, or where it doesn't count, nothing changes.
     ///
     /// # Errors
     ///
@@ -137,14 +136,14 @@ impl<S: Scheme<D> + Drop, L: Elector<S, D>, D: Digest> State<S, L, D> {
         view: View,
         reason: TimeoutReason,
     ) -> Result<bool, AllocError>
-        ensures keeps { IfOk result (λ counts. AtEach S.Scheme L.Elector self.old (λ s h. Keeps S.Scheme L.Elector s self.new (if counts then latched now view reason ∷ h else h))) }
-        ensures answer { IfOk result (λ counts. AtEach S.Scheme L.Elector self.old (λ s h. IsTrue counts ↔ MayLatch s h view reason)) }
+        ensures keeps { OnOk result (AtEach S.Scheme L.Elector self.old (λ s h. MayLatch s h view reason → Keeps S.Scheme L.Elector s self.new (latched now view reason ∷ h))) }
+        ensures unchanged { IfOk result (λ first. first ≡ false → AtEach S.Scheme L.Elector self.old (λ s h. Keeps S.Scheme L.Elector s self.new h)) }
+        ensures answer { IfOk result (λ first. AtEach S.Scheme L.Elector self.old (λ s h. IsTrue first ↔ IsFirstLatch s h view reason)) }
     {
         if !self.may_latch(view, reason) {
             return Ok(false);
         }
-        self.views.latch_timeout(now, view, reason)?;
-        Ok(true)
+        self.views.latch_timeout(now, view, reason)
     }
 
     /// Whether it would count now that the leader of the current view is silent: as a reason to give the view up, and within the

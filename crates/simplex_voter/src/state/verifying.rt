@@ -4,7 +4,6 @@ ghost use Rattle.std.specs.Prelude.{◌≡◌, ◌≤◌, ℕ, IfOk, IfSome, Mat
 ghost use Rattle.simplex_history.specs.Known.{known};
 ghost use Rattle.simplex_history.specs.Leaders.{leader};
 ghost use Rattle.simplex_decisions.specs.Ancestry.{member};
-ghost use Rattle.simplex_decisions.specs.Asking.{Finds};
 ghost use Rattle.simplex_voter.specs.Resuming.{AnswersFrom, BehindLookFrom, IsFrom, PassesFrom, first_looked};
 ghost use Rattle.simplex_voter.specs.State.{AtEach, Keeps};
 ghost use Rattle.simplex_decisions.specs.Building.{IsKeyOfLeader};
@@ -100,7 +99,7 @@ impl<S: Scheme<D> + Drop, L: Elector<S, D>, D: Digest> State<S, L, D> {
     fn look(&mut self, now: u64, view: View) -> Result<Option<Wanted<D>>, AllocError>
         ensures { IfOk result (λ found. AtEach S.Scheme L.Elector self.old (λ s h. MatchOption found (Passes S.Scheme L.Elector s self.new now h view) (λ x. IsWanted (member s) (known s h) view x × Keeps S.Scheme L.Elector s self.new h))) }
     {
-        match self.request_for(view) {
+        match request_for(&self.views, view) {
             VerifyRequest::Ready(proposal, payload) => {
                 Ok(Some(Wanted::Verification(proposal, payload)))
             }
@@ -111,19 +110,13 @@ impl<S: Scheme<D> + Drop, L: Elector<S, D>, D: Digest> State<S, L, D> {
                 Ok(Some(Wanted::Certificate(Kind::Notarization, parent)))
             }
             VerifyRequest::Invalid => {
-                self.views
+                let _first = self
+                    .views
                     .latch_timeout(now, view, TimeoutReason::InvalidProposal)?;
                 Ok(None)
             }
             VerifyRequest::Wait => Ok(None),
         }
-    }
-
-    /// What is to be done for the view's proposal.
-    fn request_for(&self, view: View) -> VerifyRequest<D>
-        ensures { AtEach S.Scheme L.Elector self.now (λ s h. Finds (member s) (known s h) view result) }
-    {
-        request_for(&self.views, view)
     }
 
     /// Asks for what is wanted for the view's proposal, and puts that down.

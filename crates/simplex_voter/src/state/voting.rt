@@ -38,7 +38,7 @@ impl<S: Scheme<D> + Drop, L: Elector<S, D>, D: Digest> State<S, L, D> {
         if self.scheme.me().is_none() {
             return Ok(None);
         }
-        if !self.notarize_is_due(view) {
+        if !notarize_is_due(&self.views, view) {
             return Ok(None);
         }
         let Some(proposal) = self.views.construct_notarize(view)? else {
@@ -46,13 +46,6 @@ impl<S: Scheme<D> + Drop, L: Elector<S, D>, D: Digest> State<S, L, D> {
         };
         self.notarizes.remove(view);
         Ok(Notarize::sign(&*self.scheme, proposal))
-    }
-
-    /// Whether a notarize of the view is due.
-    pub(super) fn notarize_is_due(&self, view: View) -> bool
-        ensures { AtEach S.Scheme L.Elector self.now (λ s h. IsTrue result ↔ NotarizeIsDue (member s) (known s h) view) }
-    {
-        notarize_is_due(&self.views, view)
     }
 
     /// Votes to finalize the held proposal of the view, where that is due. Else nothing changes. Without a key nothing is voted. Where
@@ -66,7 +59,7 @@ impl<S: Scheme<D> + Drop, L: Elector<S, D>, D: Digest> State<S, L, D> {
         if self.scheme.me().is_none() {
             return None;
         }
-        if !self.finalize_is_due(view) {
+        if !finalize_is_due(&self.views, view) {
             return None;
         }
         let Some(proposal) = self.views.construct_finalize(view) else {
@@ -74,13 +67,6 @@ impl<S: Scheme<D> + Drop, L: Elector<S, D>, D: Digest> State<S, L, D> {
         };
         self.finalizes.remove(view);
         Finalize::sign(&*self.scheme, proposal)
-    }
-
-    /// Whether a finalize of the view is due.
-    pub(super) fn finalize_is_due(&self, view: View) -> bool
-        ensures { AtEach S.Scheme L.Elector self.now (λ s h. IsTrue result ↔ FinalizeIsDue (member s) (known s h) view) }
-    {
-        finalize_is_due(&self.views, view)
     }
 
     /// Votes to give the view up, where it is the current one and this member voted no finalize for it: whether it voted so before, with the

@@ -86,7 +86,14 @@ impl<S: Committee + Scheme<Sha256Digest, PublicKey = PlainKey>, L: Elector<S, Sh
         match name {
             "try_verify" => wanted(say, &self.state.try_verify(last_number(words)?)?),
             "verified" => say.truth(self.state.verified(last_view(words)?)?),
-            "verification_failed" => self.failed(words, say),
+            "verification_failed" => {
+                let _first = self.failed(words)?;
+                say.ok()
+            }
+            "is_first_failure" => {
+                let is_first = self.failed(words)?;
+                say.truth(is_first)
+            }
             "certify_candidates" => self.candidates(words, say),
             "set_certify_handle" => {
                 let view = words.view()?;
@@ -98,13 +105,12 @@ impl<S: Committee + Scheme<Sha256Digest, PublicKey = PlainKey>, L: Elector<S, Sh
         }
     }
 
-    /// `NOW VIEW REASON`: a proposal wasn't found good.
-    fn failed(&mut self, words: &mut Words<'_>, say: &mut Say) -> Result<(), Trouble> {
+    /// `NOW VIEW REASON`: a proposal wasn't found good, and whether that is the first reason to give its view up.
+    fn failed(&mut self, words: &mut Words<'_>) -> Result<bool, Trouble> {
         let now = words.number()?;
         let view = words.view()?;
         let reason = last_reason(words)?;
-        let _counts = self.state.verification_failed(now, view, reason)?;
-        say.ok()
+        Ok(self.state.verification_failed(now, view, reason)?)
     }
 
     /// What is to be asked for verdicts.

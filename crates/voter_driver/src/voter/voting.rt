@@ -80,17 +80,23 @@ impl<S: Committee + Scheme<Sha256Digest, PublicKey = PlainKey>, L: Elector<S, Sh
                 nullify(say, self.state.construct_nullify(view, reason)?)
             }
             "next_timeout" => timeout(say, self.state.next_timeout(last_number(words)?)?),
-            "trigger_timeout" => self.latched(words, say),
+            "trigger_timeout" => {
+                let _first = self.latched(words)?;
+                say.ok()
+            }
+            "is_first_reason" => {
+                let is_first = self.latched(words)?;
+                say.truth(is_first)
+            }
             _ => self.owed(name, words, say),
         }
     }
 
-    /// `NOW VIEW REASON`: why a view is given up.
-    fn latched(&mut self, words: &mut Words<'_>, say: &mut Say) -> Result<(), Trouble> {
+    /// `NOW VIEW REASON`: why a view is given up, and whether that is the first reason.
+    fn latched(&mut self, words: &mut Words<'_>) -> Result<bool, Trouble> {
         let now = words.number()?;
         let view = words.view()?;
         let reason = last_reason(words)?;
-        let _counts = self.state.trigger_timeout(now, view, reason)?;
-        say.ok()
+        Ok(self.state.trigger_timeout(now, view, reason)?)
     }
 }

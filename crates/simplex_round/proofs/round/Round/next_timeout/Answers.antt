@@ -1,4 +1,13 @@
+use Rattle.std.proofs.Common.{◌≡◌}
+use Rattle.simplex_history.specs.Past.{deadline}
 use Rattle.simplex_round.proofs.round.Round.next_timeout.Goals as goal
 
+pub returns-clause-keeps : goal.returns-clause-keeps
+returns-clause-keeps g c = λ s l h k.
+    let until : c.saturating_add.result ≡ deadline c.args.now c.args.retry_interval = c.saturating_add.ensures in
+    rw until at (c.poll.ensures s l h k)
+
 pub returns-clause-answer : goal.returns-clause-answer
-returns-clause-answer g c = λ s l h k. c.due_timeout.ensures s l _ (c.poll.ensures s l h k)
+returns-clause-answer g c = λ s l h k.
+    let until : c.saturating_add.result ≡ deadline c.args.now c.args.retry_interval = c.saturating_add.ensures in
+    rw until at (c.due_timeout.ensures s l _ (c.poll.ensures s l h k))

@@ -6,7 +6,7 @@ use Rattle.simplex_tracking.specs.Tracked.{Holds, inherits_by, handed_on}
 use Rattle.simplex_history.specs.Handing.{extend}
 use Rattle.simplex_tracking.specs.Laws.{IsKept-led}
 use Rattle.simplex_tracking.proofs.Dropping.{next_fits}
-use Rattle.simplex_tracking.proofs.Leading.{further, handed-on-all, handed-on-next, handed-on-within}
+use Rattle.simplex_tracking.proofs.Leading.{further, handed-on-all, handed-on-over, handed-on-within}
 use Rattle.simplex_tracking.proofs.tracked.Tracked.hand_on.Goals as goal
 
 -- a test says that a number is at most another
@@ -24,12 +24,14 @@ views-init g c = record { after = omega arith; holds = λ f t k here known b. Is
 pub views-preserved : goal.views-preserved
 unfolding Holds
 views-preserved g c = record {
-  after = omega (arith, c.views.invariant.after, c.next-view.ensures);
+  after = omega (arith, c.views.invariant.after, c.next_heir-view.ensures.ahead);
   holds = λ f t k here known b.
       let so_far = c.views.invariant.holds f t k here known b in
       let kept = c.in_ok-learnt.ensures.keeps f (record t { led = handed_on here (inherits_by f t) known c.views.view }) so_far in
-      IsKept-led {t = further f t here known c.views.view} (handed_on here (inherits_by f t) known c.next-view.result) kept
-      (λ u fits. rw c.next-view.ensures (handed-on-next here (inherits_by f t) known c.views.view (b.unnamed c.views.view c.views.invariant.after) u));
+      IsKept-led {t = further f t here known c.views.view} (handed_on here (inherits_by f t) known c.next_heir-view.result) kept
+      (λ u fits. handed-on-over here (inherits_by f t) known c.views.view c.next_heir-view.result (b.unnamed c.views.view c.views.invariant.after)
+      (λ v above. b.unnamed v (omega (arith, above, c.views.invariant.after))) c.next_heir-view.ensures.ahead
+      (c.next_heir-view.ensures.bare f (further f t here known c.views.view) kept) u);
 }
 
 pub returns-then-le : goal.returns-then-le

@@ -1,5 +1,5 @@
-use Rattle.std.proofs.Common.{◌+◌, refl}
-use Rattle.simplex_history.specs.Past.{polled}
+use Rattle.std.proofs.Common.{refl}
+use Rattle.simplex_history.specs.Past.{deadline, polled}
 use Rattle.simplex_tracking.specs.Rounds.{setup_of}
 use Rattle.simplex_tracking.specs.Tracked.{Holds}
 use Rattle.simplex_tracking.proofs.Growing.{plain-kept, put-plain, still-plain}
@@ -11,7 +11,7 @@ unfolding Holds
 returns-clause-keeps g c = λ f t k.
     let here = c.in_ok-round.ensures.stands f.common t.led t.past k.rounds in
     let follows = c.open.follows.holds c.next_timeout.new.self (rw c.in_ok-round.was refl) in
-    let item = polled (c.args.now + c.args.retry_interval) in
+    let item = polled (deadline c.args.now c.args.retry_interval) in
     plain-kept k (lent-put f.common t.led t.past item follows k.rounds (c.next_timeout.ensures.keeps (setup_of f.common c.args.view) _ _ here))
     (put-plain c.args.view item (λ l. refl) (still-plain t.past))
 

@@ -13,7 +13,7 @@ use Rattle.simplex_views.proofs.views.Views.add_finalization.Goals as goal
 
 pub returns-clause-keeps : goal.returns-clause-keeps
 unfolding Keeps
-returns-clause-keeps g c = λ s h k time.
+returns-clause-keeps g c = λ s h k.
     let cert = c.args.certificate in
     let at = cert.proposal.round.view in
     let view = c.view-view.result in
@@ -21,7 +21,7 @@ returns-clause-keeps g c = λ s h k time.
     let next : behind ≡ at + 1 = c.next-next.ensures ∙ ap (λ n. n + 1) c.view-view.ensures in
     let led = elected k c.new.result behind (Some cert.certificate) c.elect-leader.result c.new.ensures.epoch c.new.ensures.view c.elect-leader.ensures in
     let fresh : past.finalization (seen s h at) ≡ None = fresh_at c.finalization.result (λ u. past.finalization (seen s h u)) view at c.view-view.ensures (c.finalization.ensures s h k) c.if-is_some.ensures in
-    let entered = c.in_ok-enter.ensures s (current s h) (tables s h) k.progress time in
+    let entered = c.in_ok-enter.ensures s (current s h) (tables s h) k.progress in
     let then = grown-tables s h (inside s h c.args.now behind) in
     let added = c.in_ok-key.ensures.keeps (frame_of s) then entered.tracked (inside-finalization s h c.args.now behind at ∙ fresh) in
     let table = grown-tables s h (put at (past.finalized cert) (inside s h c.args.now behind)) in
@@ -33,20 +33,20 @@ returns-clause-keeps g c = λ s h k time.
 
 pub returns-clause-replaced : goal.returns-clause-replaced
 unfolding Keeps
-returns-clause-replaced g c = λ s h k time new differs.
+returns-clause-replaced g c = λ s h k new differs.
     let at = c.args.certificate.proposal.round.view in
     let behind = c.next-next.result in
-    let entered = c.in_ok-enter.ensures s (current s h) (tables s h) k.progress time in
+    let entered = c.in_ok-enter.ensures s (current s h) (tables s h) k.progress in
     let fresh : past.finalization (seen s h at) ≡ None = fresh_at c.finalization.result (λ u. past.finalization (seen s h u)) c.view-view.result at c.view-view.ensures (c.finalization.ensures s h k) c.if-is_some.ensures in
     c.in_ok-key.ensures.replaced (frame_of s) (grown-tables s h (inside s h c.args.now behind)) entered.tracked (inside-finalization s h c.args.now behind at ∙ fresh)
     (subst (λ l. Differs (held l) c.args.certificate.proposal) (sym (inside-offers s h c.args.now behind at)) differs)
 
 pub returns-clause-same : goal.returns-clause-same
 unfolding Keeps
-returns-clause-same g c = λ s h k time agrees.
+returns-clause-same g c = λ s h k agrees.
     let at = c.args.certificate.proposal.round.view in
     let behind = c.next-next.result in
-    let entered = c.in_ok-enter.ensures s (current s h) (tables s h) k.progress time in
+    let entered = c.in_ok-enter.ensures s (current s h) (tables s h) k.progress in
     c.in_ok-key.ensures.same (frame_of s) (grown-tables s h (inside s h c.args.now behind)) entered.tracked
     (subst (λ l. Agrees (held l) c.args.certificate.proposal) (sym (inside-offers s h c.args.now behind at)) agrees)
 

@@ -19,7 +19,7 @@ cover-requires g c = rw c.term_end.ensures (term_end-above _ _ c.get-views.ensur
 
 pub returns-clause-keeps : goal.returns-clause-keeps
 unfolding Keeps
-returns-clause-keeps g c = λ s h k time.
+returns-clause-keeps g c = λ s h k.
     let cert = c.args.certificate in
     let at = cert.round.view in
     let view = c.view-view.result in
@@ -29,7 +29,7 @@ returns-clause-keeps g c = λ s h k time.
     let led = elected k c.new.result start (Some cert.certificate) c.elect-leader.result c.new.ensures.epoch c.new.ensures.view c.elect-leader.ensures in
     let new : nullification s h at ≡ None = fresh_at c.nullification.result (nullification s h) view at c.view-view.ensures (c.nullification.ensures s h k) c.if-is_some.ensures in
     let fresh : past.nullification (seen s h at) ≡ None = or_neither (get nat_cmp c.args.self.now.reaching at) (past.nullification (seen s h at)) (sym (k.nullifications at) ∙ new) in
-    let entered = c.in_ok-enter.ensures s (current s h) (tables s h) k.progress time in
+    let entered = c.in_ok-enter.ensures s (current s h) (tables s h) k.progress in
     let then = grown-tables s h (inside s h c.args.now start) in
     let added = c.in_ok-add_nullification.ensures (frame_of s) then entered.tracked (inside-nullification s h c.args.now start at ∙ fresh) in
     let table = grown-tables s h (put at (past.nullified cert) (inside s h c.args.now start)) in

@@ -1,8 +1,9 @@
-use Rattle.std.proofs.Common.{◌≡◌, ◌+◌, refl, sym, subst}
+use Rattle.std.proofs.Common.{◌≡◌, refl, sym, subst}
 use Rattle.std.proofs.lemmas.Result.{MatchResult-weaker}
 use Rattle.simplex_views.proofs.Advancing.{grown-tables}
 use Rattle.simplex_views.proofs.Choices.{is-not}
 use Rattle.simplex_history.specs.History as History
+use Rattle.simplex_history.specs.Past.{deadline}
 use Rattle.simplex_views.specs.Progress.{frame_of, tables}
 use Rattle.simplex_tracking.specs.Tracked.{Holds}
 use Rattle.simplex_views.specs.Views.{Keeps}
@@ -30,6 +31,6 @@ pub returns-clause-answer : goal.returns-clause-answer
 unfolding Keeps
 returns-clause-answer g c = MatchResult-weaker c.next_timeout.result c.next_timeout.ensures.answer
     (λ timeout told s h k.
-    polled-answer s h c.args.self.now.progress.view (c.args.now + c.args.retry_interval) c.args.allow_latched_timeout timeout k.progress.view (λ zero. is-not c.if-is_zero.false (c.is_zero.ensures.1 zero))
+    polled-answer s h c.args.self.now.progress.view (deadline c.args.now c.args.retry_interval) c.args.allow_latched_timeout timeout k.progress.view (λ zero. is-not c.if-is_zero.false (c.is_zero.ensures.1 zero))
     (told (frame_of s) (tables s h) k.progress.tracked))
     (λ e _. tt)

@@ -16,18 +16,18 @@ use Rattle.simplex_views.proofs.views.Views.take_verdict.Goals as goal
 pub returns-then-is_success : goal.returns-then-is_success
 unfolding Keeps
 returns-then-is_success g c = MatchResult-weaker c.enter.result c.enter.ensures
-    (λ _ told s h k time.
+    (λ _ told s h k.
     let at = c.args.view in
     let ok = c.args.is_success in
     let then = grown-tables s h (put at (past.judged ok) (seen s h)) in
-    let entered = told s (current s h) then (IsAt-tracked {t' = then} k.progress (c.in_ok-judge.ensures (frame_of s) (tables s h) k.progress.tracked)) time in
+    let entered = told s (current s h) then (IsAt-tracked {t' = then} k.progress (c.in_ok-judge.ensures (frame_of s) (tables s h) k.progress.tracked)) in
     quiet-progress (History.judged c.args.now at ok) c.enter.new.self k (judged-quiet s h c.args.now at ok)
     (judged-true s h c.args.now at c.next.result ok c.enter.new.self c.next.ensures c.if-is_success.true entered))
     (λ e _. tt)
 
 pub returns-then-lt : goal.returns-then-lt
 unfolding Keeps
-returns-then-lt g c = λ s h k time.
+returns-then-lt g c = λ s h k.
     let at = c.args.view in
     let ok = c.args.is_success in
     let behind : nat_le (current s h) at ≡ false = is_before at c.args.self.now.progress.view (current s h) c.lt.result k.progress.view c.lt.ensures c.if-lt.true in
@@ -38,14 +38,12 @@ returns-then-lt g c = λ s h k time.
 
 pub returns : goal.returns
 unfolding Keeps
-returns g c = MatchResult-weaker c.tell.result c.tell.ensures
-    (λ _ told s h k time.
+returns g c = λ s h k.
     let at = c.args.view in
     let ok = c.args.is_success in
     let then = grown-tables s h (put at (past.judged ok) (seen s h)) in
-    let latched = told (frame_of s) then (c.in_ok-judge.ensures (frame_of s) (tables s h) k.progress.tracked) in
-    let kept : Holds g.S.Scheme (frame_of s) c.tell.new.self (grown-tables s h (seen s (History.judged c.args.now at ok ∷ h))) =
-    subst (λ t. Holds g.S.Scheme (frame_of s) c.tell.new.self (grown-tables s h t))
+    let latched = c.in_ok-_first.ensures.keeps (frame_of s) then (c.in_ok-judge.ensures (frame_of s) (tables s h) k.progress.tracked) in
+    let kept : Holds g.S.Scheme (frame_of s) c.latch_timeout.new.self (grown-tables s h (seen s (History.judged c.args.now at ok ∷ h))) =
+    subst (λ t. Holds g.S.Scheme (frame_of s) c.latch_timeout.new.self (grown-tables s h t))
     (judged-ahead s h c.args.now at ok c.if-is_success.false (isnt_before at c.args.self.now.progress.view (current s h) c.lt.result k.progress.view c.lt.ensures c.if-lt.false)) latched in
-    quiet (History.judged c.args.now at ok) c.tell.new.self k (judged-quiet s h c.args.now at ok) (judged-stays s h c.args.now at ok c.if-is_success.false) kept)
-    (λ e _. tt)
+    quiet (History.judged c.args.now at ok) c.latch_timeout.new.self k (judged-quiet s h c.args.now at ok) (judged-stays s h c.args.now at ok c.if-is_success.false) kept

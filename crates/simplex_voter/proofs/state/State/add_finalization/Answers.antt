@@ -9,7 +9,7 @@ use Rattle.simplex_voter.proofs.state.State.add_finalization.Goals as goal
 pub returns-clause-keeps : goal.returns-clause-keeps
 unfolding Keeps
 returns-clause-keeps g c = IfOk-weaker c.add_finalization.result _ _
-    (λ r moved s h k time. keeps_woken_if g.S.Scheme g.L.Elector s h _ _ k r.0 (finalized c.args.now c.args.certificate) tt tt c.wake.new.candidates c.view-finalized.result (ap Some (sym c.view-finalized.ensures)) c.in_ok-wake.ensures (moved s h k.views time))
+    (λ r moved s h k. keeps_woken_if g.S.Scheme g.L.Elector s h _ _ k r.0 (finalized c.args.now c.args.certificate) tt tt c.wake.new.candidates c.view-finalized.result (ap Some (sym c.view-finalized.ensures)) c.in_ok-wake.ensures (moved s h k.views))
     c.add_finalization.ensures.keeps
 
 pub returns-clause-first : goal.returns-clause-first

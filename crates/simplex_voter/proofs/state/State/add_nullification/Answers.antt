@@ -8,7 +8,7 @@ use Rattle.simplex_voter.proofs.state.State.add_nullification.Goals as goal
 pub returns-clause-keeps : goal.returns-clause-keeps
 unfolding Keeps
 returns-clause-keeps g c = IfOk-weaker c.add_nullification.result _ _
-    (λ r moved s h k time. keeps_still_if g.S.Scheme g.L.Elector s h _ _ k r (nullified c.args.now c.args.certificate) refl tt tt (moved s h k.views time))
+    (λ r moved s h k. keeps_still_if g.S.Scheme g.L.Elector s h _ _ k r (nullified c.args.now c.args.certificate) refl tt tt (moved s h k.views))
     c.add_nullification.ensures.keeps
 
 pub returns-clause-answer : goal.returns-clause-answer

@@ -1,4 +1,4 @@
-use Rattle.std.proofs.Common.{false, true, refl}
+use Rattle.std.proofs.Common.{false, true, refl, ◌∙◌}
 use Rattle.std.specs.Prelude.{is_some, not}
 use Rattle.std.proofs.lemmas.Result.{IfOk-weaker}
 use Rattle.simplex_history.specs.History.{judged}
@@ -10,13 +10,13 @@ use Rattle.simplex_voter.proofs.state.State.certified.Goals as goal
 pub returns-clause-keeps : goal.returns-clause-keeps
 unfolding Keeps
 returns-clause-keeps g c = IfOk-weaker c.certified.result _ _
-    (λ answer moved s h k time.
+    (λ answer moved s h k.
     let point = judged c.args.now c.args.view c.args.is_success in
     let more = owed_more s h true c.args.self.now.finalizes c.add_if.new.self c.in_ok-add_if.ensures.kept k.finalizes in
     keeps_owed_if g.S.Scheme g.L.Elector s h c.args.self.now _ k (is_some answer) point c.wake.new.candidates c.args.self.now.notarizes c.add_if.new.self c.args.view refl c.in_ok-wake.ensures
     k.notarizes more (owed_still s h false point c.args.self.now.notarizes (or_true (not c.args.is_success)) k.notarizes)
-    (judged_owed s h c.args.now c.args.view c.args.is_success c.add_if.new.self c.in_ok-add_if.ensures.own more)
-    (moved s h k.views time))
+    (judged_owed s h c.args.now c.args.view c.args.is_success c.add_if.new.self (λ is. c.in_ok-add_if.ensures.own (c.owes_finalize-owes.ensures s h k ∙ is)) more)
+    (moved s h k.views))
     c.certified.ensures.keeps
 
 pub returns-clause-answer : goal.returns-clause-answer

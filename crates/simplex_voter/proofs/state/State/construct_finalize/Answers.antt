@@ -6,6 +6,7 @@ use Rattle.simplex_types.specs.Subject.{finalize}
 use Rattle.simplex_history.specs.Held.{held}
 use Rattle.simplex_history.specs.Past.{offers}
 use Rattle.simplex_history.specs.History.{seen, voted_finalize}
+use Rattle.simplex_views.specs.Knowledge as shown
 use Rattle.simplex_voter.specs.State.{Keeps}
 use Rattle.simplex_voter.proofs.Casting.{casts, keyless, may_finalize, signs}
 use Rattle.simplex_voter.proofs.Keeping.{keeps_by}
@@ -27,7 +28,7 @@ returns-then-not-finalize_is_due-clause-keeps g c = λ s h k. k
 
 pub returns-then-not-finalize_is_due-clause-answer : goal.returns-then-not-finalize_is_due-clause-answer
 unfolding Keeps
-returns-then-not-finalize_is_due-clause-answer g c = λ s h k some due. both_ways c.finalize_is_due.result c.if-not-finalize_is_due.true ((c.finalize_is_due.ensures s h k).1 due)
+returns-then-not-finalize_is_due-clause-answer g c = λ s h k some due. both_ways c.finalize_is_due.result c.if-not-finalize_is_due.true ((c.finalize_is_due.ensures _ _ (shown.at s h k.views)).1 due)
 
 pub returns-in_default-clause-keeps : goal.returns-in_default-clause-keeps
 unfolding Keeps
@@ -63,7 +64,7 @@ unfolding Keeps
 returns-clause-answer g c = λ s h k.
     signs c.sign.result _ c.me.result c.is_none.result _ _ c.sign.ensures.without_key (ap g.S.Scheme.own (c.deref-2.ensures ∙ sym c.deref.ensures) ∙ sym c.me.ensures.own) c.is_none.ensures c.if-is_none.false
     (casts g.S.Scheme s c.deref-2.result.now (c.deref-2.ensures ∙ k.scheme) k.me finalize c.sign.result c.in-Some.proposal _ (λ p. held (offers (seen s h c.args.view)) ≡ Some p) c.sign.ensures.in_own_name c.sign.ensures.proposal c.sign.ensures.attests
-    ((c.finalize_is_due.ensures s h k).0 c.if-not-finalize_is_due.false) (c.in-Some.ensures.answer s h k.views).1)
+    ((c.finalize_is_due.ensures _ _ (shown.at s h k.views)).0 c.if-not-finalize_is_due.false) (c.in-Some.ensures.answer s h k.views).1)
 
 pub returns-clause-of_view : goal.returns-clause-of_view
 unfolding Keeps

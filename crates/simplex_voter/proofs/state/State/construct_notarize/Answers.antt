@@ -7,6 +7,7 @@ use Rattle.simplex_types.specs.Subject.{notarize}
 use Rattle.simplex_history.specs.Held.{held}
 use Rattle.simplex_history.specs.Past.{offers}
 use Rattle.simplex_history.specs.History.{seen, voted_notarize}
+use Rattle.simplex_views.specs.Knowledge as shown
 use Rattle.simplex_voter.specs.State.{Keeps}
 use Rattle.simplex_voter.proofs.Casting.{casts, keyless, signs}
 use Rattle.simplex_voter.proofs.Keeping.{keeps_by}
@@ -28,7 +29,7 @@ returns-then-not-notarize_is_due-clause-keeps g c = λ s h k. k
 
 pub returns-then-not-notarize_is_due-clause-answer : goal.returns-then-not-notarize_is_due-clause-answer
 unfolding Keeps
-returns-then-not-notarize_is_due-clause-answer g c = λ s h k some due. both_ways c.notarize_is_due.result c.if-not-notarize_is_due.true ((c.notarize_is_due.ensures s h k).1 due)
+returns-then-not-notarize_is_due-clause-answer g c = λ s h k some due. both_ways c.notarize_is_due.result c.if-not-notarize_is_due.true ((c.notarize_is_due.ensures _ _ (shown.at s h k.views)).1 due)
 
 pub returns-in_err-proposal-clause-keeps : goal.returns-in_err-proposal-clause-keeps
 unfolding Keeps
@@ -73,7 +74,7 @@ unfolding Keeps
 returns-clause-answer g c = λ s h k.
     signs c.sign.result _ c.me.result c.is_none.result _ _ c.sign.ensures.without_key (ap g.S.Scheme.own (c.deref-2.ensures ∙ sym c.deref.ensures) ∙ sym c.me.ensures.own) c.is_none.ensures c.if-is_none.false
     (casts g.S.Scheme s c.deref-2.result.now (c.deref-2.ensures ∙ k.scheme) k.me notarize c.sign.result c.in-Some.proposal _ (λ p. held (offers (seen s h c.args.view)) ≡ Some p) c.sign.ensures.in_own_name c.sign.ensures.proposal c.sign.ensures.attests
-    ((c.notarize_is_due.ensures s h k).0 c.if-not-notarize_is_due.false) (rw c.in-Some.is at (c.in_ok-proposal.ensures.answer s h k.views)).1)
+    ((c.notarize_is_due.ensures _ _ (shown.at s h k.views)).0 c.if-not-notarize_is_due.false) (rw c.in-Some.is at (c.in_ok-proposal.ensures.answer s h k.views)).1)
 
 pub returns-in_err-proposal-clause-of_view : goal.returns-in_err-proposal-clause-of_view
 returns-in_err-proposal-clause-of_view g c = IfOk-from_err c.from_residual.result _ c.from_residual.ensures.0

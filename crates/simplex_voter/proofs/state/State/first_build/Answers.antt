@@ -1,5 +1,6 @@
 use Rattle.std.proofs.Common.{◌≡◌, ◌+◌, ◌^◌, arith}
 use Rattle.std.proofs.lemmas.Bool.{both_ways}
+use Rattle.simplex_views.specs.Knowledge as shown
 use Rattle.simplex_voter.specs.State.{Keeps}
 use Rattle.simplex_voter.proofs.Lowest.{none_at_all, none_behind, none_past, none_through, none_up_to}
 use Rattle.simplex_voter.proofs.state.State.first_build.Goals as goal
@@ -15,7 +16,7 @@ pub views-preserved : goal.views-preserved
 unfolding Keeps
 views-preserved g c = record {
   from = λ s h k. let at = c.views.invariant.from s h k in omega (arith, at, c.in-Some.ensures.behind, c.next-next.ensures);
-  none = λ s h k u below. none_through s h c.views.next c.in-Some.view (c.views.invariant.none s h k) (c.in-Some.ensures.tracked s h k.views).bare (c.in_default-build_on.ensures s h k) u (omega (arith, below, c.next-next.ensures));
+  none = λ s h k u below. none_through s h c.views.next c.in-Some.view (c.views.invariant.none s h k) (c.in-Some.ensures.tracked s h k.views).bare (c.in_default-build_on.ensures _ _ (shown.at s h k.views)) u (omega (arith, below, c.next-next.ensures));
 }
 
 pub returns-then-not-is_outbound : goal.returns-then-not-is_outbound
@@ -28,7 +29,7 @@ returns-then-not-is_outbound g c = λ s h k.
 pub returns-in-Some-build_on : goal.returns-in-Some-build_on
 unfolding Keeps
 returns-in-Some-build_on g c = λ s h k. record {
-  due = c.in-Some-build_on.ensures s h k;
+  due = c.in-Some-build_on.ensures _ _ (shown.at s h k.views);
   lowest = none_up_to s h c.views.next c.in-Some.view (c.views.invariant.none s h k) (c.in-Some.ensures.tracked s h k.views).bare;
 }
 
@@ -37,7 +38,7 @@ unfolding Keeps
 returns-then-get g c = λ s h k.
     let some = rw (c.lookahead.ensures.length s h k.views) at c.get-views.ensures.at_least_one in
     let last : c.in-Some.view + 1 ≡ 2 ^ 64 = omega (arith, c.get.ensures.value) in
-    none_at_all s h some (λ u below. none_through s h c.views.next c.in-Some.view (c.views.invariant.none s h k) (c.in-Some.ensures.tracked s h k.views).bare (c.in_default-build_on.ensures s h k) u (omega (arith, below, last)))
+    none_at_all s h some (λ u below. none_through s h c.views.next c.in-Some.view (c.views.invariant.none s h k) (c.in-Some.ensures.tracked s h k.views).bare (c.in_default-build_on.ensures _ _ (shown.at s h k.views)) u (omega (arith, below, last)))
 
 pub returns : goal.returns
 unfolding Keeps

@@ -1,30 +1,31 @@
 use Rattle.std.proofs.Common.{inl, inr, refl}
 use Rattle.simplex_history.specs.declared.timeout_reason.TimeoutReason.TheVariants as reason
 use Rattle.simplex_history.specs.History.{latched}
+use Rattle.simplex_views.specs.Knowledge as shown
 use Rattle.simplex_voter.specs.State.{Keeps}
 use Rattle.simplex_voter.proofs.Keeping.{keeps_still}
 use Rattle.simplex_voter.proofs.state.State.look.Goals as goal
 
 pub returns-in-Ready : goal.returns-in-Ready
 unfolding Keeps
-returns-in-Ready g c = λ s h k. (rw c.in-Ready.is at (c.request_for.ensures s h k), k)
+returns-in-Ready g c = λ s h k. (rw c.in-Ready.is at (c.request_for.ensures _ _ (shown.at s h k.views)), k)
 
 pub returns-in-Nullification : goal.returns-in-Nullification
 unfolding Keeps
-returns-in-Nullification g c = λ s h k. (rw c.in-Nullification.is at (c.request_for.ensures s h k), k)
+returns-in-Nullification g c = λ s h k. (rw c.in-Nullification.is at (c.request_for.ensures _ _ (shown.at s h k.views)), k)
 
 pub returns-in-Notarization : goal.returns-in-Notarization
 unfolding Keeps
-returns-in-Notarization g c = λ s h k. (rw c.in-Notarization.is at (c.request_for.ensures s h k), k)
+returns-in-Notarization g c = λ s h k. (rw c.in-Notarization.is at (c.request_for.ensures _ _ (shown.at s h k.views)), k)
 
-pub returns-in_ok-latch_timeout-in-Invalid : goal.returns-in_ok-latch_timeout-in-Invalid
+pub returns-in_ok-_first-in-Invalid : goal.returns-in_ok-_first-in-Invalid
 unfolding Keeps
-returns-in_ok-latch_timeout-in-Invalid g c = λ s h k.
+returns-in_ok-_first-in-Invalid g c = λ s h k.
     inr (
-      rw c.in-Invalid.is at (c.request_for.ensures s h k),
-      keeps_still g.S.Scheme g.L.Elector s h c.args.self.now _ k (latched c.args.now c.args.view reason.InvalidProposal) refl tt tt (c.in_ok-latch_timeout-in-Invalid.ensures s h k.views),
+      rw c.in-Invalid.is at (c.request_for.ensures _ _ (shown.at s h k.views)),
+      keeps_still g.S.Scheme g.L.Elector s h c.args.self.now _ k (latched c.args.now c.args.view reason.InvalidProposal) refl tt tt (c.in_ok-_first-in-Invalid.ensures.keeps s h k.views),
     )
 
 pub returns-in-Wait : goal.returns-in-Wait
 unfolding Keeps
-returns-in-Wait g c = λ s h k. inl (rw c.in-Wait.is at (c.request_for.ensures s h k), k)
+returns-in-Wait g c = λ s h k. inl (rw c.in-Wait.is at (c.request_for.ensures _ _ (shown.at s h k.views)), k)

@@ -3,6 +3,7 @@ use Rattle.std.proofs.lemmas.Bool.{both_ways}
 use Rattle.simplex_history.specs.Known.{known}
 use Rattle.simplex_decisions.specs.Ancestry.{member}
 use Rattle.simplex_decisions.specs.Due.{FinalizeIsDue}
+use Rattle.simplex_views.specs.Knowledge as shown
 use Rattle.simplex_voter.specs.State.{Keeps}
 use Rattle.simplex_voter.proofs.Owing.{none_at_all, none_before, none_through, finalizes_owed, finalize_fits}
 use Rattle.simplex_voter.proofs.state.State.next_finalize.Goals as goal
@@ -16,14 +17,14 @@ unfolding Keeps
 views-preserved g c = λ s h k u below.
     let some = rw (c.lookahead.ensures.length s h k.views) at c.get-views.ensures.at_least_one in
     none_through s h some c.args.self.now.finalizes (FinalizeIsDue (member s) (known s h)) (finalizes_owed s h some c.args.self.now.finalizes k.finalizes) c.views.next c.in-Some.view (c.views.invariant s h k) c.in-Some.ensures.first
-    (λ due. both_ways c.finalize_is_due.result c.if-finalize_is_due.false ((c.finalize_is_due.ensures s h k).1 due)) u (omega (arith, below, c.next-next.ensures))
+    (λ due. both_ways c.finalize_is_due.result c.if-finalize_is_due.false ((c.finalize_is_due.ensures _ _ (shown.at s h k.views)).1 due)) u (omega (arith, below, c.next-next.ensures))
 
 pub returns-then-finalize_is_due : goal.returns-then-finalize_is_due
 unfolding Keeps
 returns-then-finalize_is_due g c = λ s h k.
     let some = rw (c.lookahead.ensures.length s h k.views) at c.get-views.ensures.at_least_one in
     record {
-      due = (c.finalize_is_due.ensures s h k).0 c.if-finalize_is_due.true;
+      due = (c.finalize_is_due.ensures _ _ (shown.at s h k.views)).0 c.if-finalize_is_due.true;
       lowest = none_before s h some c.args.self.now.finalizes (FinalizeIsDue (member s) (known s h)) (finalizes_owed s h some c.args.self.now.finalizes k.finalizes) c.views.next c.in-Some.view (c.views.invariant s h k) c.in-Some.ensures.first;
     }
 
@@ -34,7 +35,7 @@ returns-then-get g c = λ s h k.
     let last : c.in-Some.view + 1 ≡ 2 ^ 64 = omega (arith, c.get.ensures.value) in
     finalize_fits s h some c.in-Some.view last
     (none_through s h some c.args.self.now.finalizes (FinalizeIsDue (member s) (known s h)) (finalizes_owed s h some c.args.self.now.finalizes k.finalizes) c.views.next c.in-Some.view (c.views.invariant s h k) c.in-Some.ensures.first
-    (λ due. both_ways c.finalize_is_due.result c.if-finalize_is_due.false ((c.finalize_is_due.ensures s h k).1 due)))
+    (λ due. both_ways c.finalize_is_due.result c.if-finalize_is_due.false ((c.finalize_is_due.ensures _ _ (shown.at s h k.views)).1 due)))
 
 pub returns : goal.returns
 unfolding Keeps

@@ -17,11 +17,18 @@ use Rattle.simplex_voter.proofs.state.State.proposed.Goals as goal
 made : {D P : Type 0} (p : Proposal D) (context : Context D P) (payload : D) → p.round ≡ context.round → p.parent ≡ context.parent.0 → p.payload ≡ payload → p ≡ proposal_on context payload
 made p context payload round parent same = λ i. record { round = round i; parent = parent i; payload = same i }
 
+pub returns-then-not-is_tracked-clause-keeps : goal.returns-then-not-is_tracked-clause-keeps
+returns-then-not-is_tracked-clause-keeps g c = λ s h k. k
+
+pub returns-then-not-is_tracked-clause-answer : goal.returns-then-not-is_tracked-clause-answer
+unfolding Keeps
+returns-then-not-is_tracked-clause-answer g c = λ s h k. (λ never. absurd (cc never), λ is. absurd (both_ways c.is_tracked.result c.if-not-is_tracked.true ((c.is_tracked.ensures s h k.views).1 is.0)))
+
 pub returns-then-not-is_captured-clause-keeps : goal.returns-then-not-is_captured-clause-keeps
 returns-then-not-is_captured-clause-keeps g c = λ s h k. k
 
 pub returns-then-not-is_captured-clause-answer : goal.returns-then-not-is_captured-clause-answer
-returns-then-not-is_captured-clause-answer g c = λ s h k. (λ never. absurd (cc (never)), λ is. absurd (both_ways c.is_captured.result c.if-not-is_captured.true ((c.is_captured.ensures s h k).1 is.0)))
+returns-then-not-is_captured-clause-answer g c = λ s h k. (λ never. absurd (cc (never)), λ is. absurd (both_ways c.is_captured.result c.if-not-is_captured.true ((c.is_captured.ensures s h k).1 is.1)))
 
 pub returns-clause-keeps : goal.returns-clause-keeps
 unfolding Keeps
@@ -41,5 +48,5 @@ returns-clause-answer g c = IfOk-weaker c.proposed.result _ _
     (λ taken is s h k.
     let same = made c.new-proposal.result c.args.context.now c.args.payload c.new-proposal.ensures.round c.new-proposal.ensures.parent c.new-proposal.ensures.payload in
     let free = subst (λ p. IsTrue taken ↔ ((has_nullified (seen s h p.round.view) ≡ false) × Agrees (held (offers (seen s h p.round.view))) p)) same (is s h k.views) in
-    (λ yes. let may = free.0 yes in ((c.is_captured.ensures s h k).0 c.if-not-is_captured.false, may.0, may.1), λ all. free.1 (all.1, all.2)))
+    (λ yes. let may = free.0 yes in ((c.is_tracked.ensures s h k.views).0 c.if-not-is_tracked.false, (c.is_captured.ensures s h k).0 c.if-not-is_captured.false, may.0, may.1), λ all. free.1 (all.2, all.3)))
     c.proposed.ensures.answer

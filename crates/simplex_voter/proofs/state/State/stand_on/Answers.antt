@@ -12,9 +12,9 @@ chosen Q b known x y same q = subst (λ (c : Bool). Q (if c then x else y)) same
 
 pub returns : goal.returns
 returns g c = both_of c.broadcast_finalization.result _ _ _
-    (λ copy keeps answer s h k time.
+    (λ copy keeps answer s h k.
     let grown = finalized c.args.now c.args.finalization ∷ h in
-    let moved = c.in_ok-_taken.ensures.keeps s h k time in
+    let moved = c.in_ok-_taken.ensures.keeps s h k in
     let first = c.in_ok-_taken.ensures.first s h k in
     record {
       taken = λ is.

@@ -1,7 +1,0 @@
-use Rattle.simplex_views.specs.Knowledge.{at}
-use Rattle.simplex_voter.specs.State.{Keeps}
-use Rattle.simplex_voter.proofs.state.State.request_for.Goals as goal
-
-pub returns : goal.returns
-unfolding Keeps
-returns g c = λ s h k. c.request_for.ensures _ _ (at s h k.views)
