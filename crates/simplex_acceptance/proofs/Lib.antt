@@ -1,0 +1,11 @@
+pub mod Pieces
+pub mod Changing
+pub mod Known
+pub mod Firsts
+pub mod Doing
+pub mod Opening
+pub mod Dropping
+pub mod Pointing
+pub mod Answering
+pub mod Entering
+pub mod Advancing

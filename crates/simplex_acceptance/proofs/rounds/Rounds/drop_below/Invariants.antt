@@ -1,0 +1,13 @@
+use Rattle.std.proofs.Common.{◌≡◌, ◌≤◌, ℕ}
+use Rattle.std.specs.Ordering.{nat_cmp}
+use Rattle.std.specs.BTreeMap.{btree_map_len, get}
+use Rattle.std.specs.BTreeSet.{contains}
+use Rattle.simplex_acceptance.specs.Standing.{common_of}
+use Rattle.simplex_acceptance.proofs.Changing.{IsDropping}
+use Rattle.simplex_acceptance.proofs.rounds.Rounds.drop_below.Given as goal
+
+abbrev pub invariant-views : goal.invariant-views
+invariant-views g l = IsDropping l.floor l.fn.self l.self
+
+abbrev pub decreases-views : goal.decreases-views
+decreases-views g l = btree_map_len l.self.by_view

@@ -1,0 +1,9 @@
+use Rattle.simplex_acceptance.proofs.Changing.{apart-at}
+use Rattle.simplex_acceptance.proofs.rounds.Rounds.forget.Goals as goal
+
+pub returns-clause-others : goal.returns-clause-others
+returns-clause-others g c = λ u ne. record {
+  rounds = c.remove.ensures.updates.2 u (apart-at c.args.view u ne);
+  touched = c.remove-2.ensures.updates.2 u (apart-at c.args.view u ne);
+  unled = c.remove-3.ensures.updates.2 u (apart-at c.args.view u ne);
+}

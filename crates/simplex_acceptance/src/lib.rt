@@ -1,0 +1,9 @@
+//! The votes of all views that a member's node keeps.
+#![tactic(auto)]
+
+mod acceptance;
+mod due;
+mod rounds;
+
+pub use acceptance::Acceptance;
+pub use due::Due;
