@@ -9,3 +9,4 @@ pub mod Pointing
 pub mod Answering
 pub mod Entering
 pub mod Advancing
+pub mod Silent

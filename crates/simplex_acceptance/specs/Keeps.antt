@@ -1,5 +1,5 @@
 -- At which history of its node the votes of all views stand.
-use Rattle.std.specs.Prelude.{◌≡◌, ◌≢◌, ◌≤◌, ◌&&◌, nat_lt, ℕ, Bool, List, [], ◌∷◌, Option, Some, None, IsSome, MatchOption, if◌then◌else◌, is_none, true}
+use Rattle.std.specs.Prelude.{◌≡◌, ◌≢◌, ◌≤◌, ◌&&◌, nat_lt, ℕ, Bool, List, [], ◌∷◌, Option, Some, None, IsSome, MatchOption, if◌then◌else◌, is_none, true, false}
 use Rattle.std.specs.Option.{option_or}
 use Rattle.simplex_types.specs.declared.position.Round.{Round}
 use Rattle.simplex_types.specs.declared.scheme.Scheme.{Ghosts}
@@ -11,7 +11,7 @@ use Rattle.simplex_messages.specs.VoteParts.{vote_round, vote_signer}
 use Rattle.simplex_verifier.specs.Construction.{IsBatch}
 use Rattle.simplex_verifier.specs.History.{forwardable, leader_of, next_kind, recorded}
 use Rattle.simplex_verifier.specs.Votes.{vote_attestation, vote_statement}
-use Rattle.simplex_member.specs.Layers.{add_point, all_votes, concerns, current_of, floor_of, has_room, opened, passes_over, stage, voter_of, votes_of, votes_setup}
+use Rattle.simplex_member.specs.Layers.{add_point, all_votes, concerns, current_of, floor_of, has_room, may_enter, opened, passes_over, stage, voter_of, votes_of, votes_setup}
 use Rattle.simplex_member.specs.Point.{History, Point, Constructs, Forwards}
 use Rattle.simplex_member.specs.Setup.{Setup}
 use Rattle.simplex_acceptance.specs.declared.acceptance.Acceptance.{Acceptance}
@@ -84,3 +84,17 @@ module _ {S D P G C : Type 0} (g : Ghosts S D P G C) (same : D → D → Bool) w
   Does s h new view (due.Forwards p) = IsSome (stage s h view) × (forwardable (votes_of s h view) s.me ≡ Some p) × Keeps s new (Forwards view p ∷ h)
   Does s h new view (due.Made batch) = IsSome (stage s h view) × MatchOption (next_kind same (votes_setup s g h view) (votes_of s h view)) ⊥
       (λ kind. IsBatch g same (votes_setup s g h view) kind (votes_of s h view) batch × KeepsAhead s new h (Constructs view kind batch))
+
+module _ {S D P G C : Type 0} where
+  -- a point says nothing of the votes of any view
+  abbrev pub SaysNothing : Point S D P G C → Type 0
+  SaysNothing p = (view : ℕ) → (concerns view p ≡ false) × ((r : votes.History S D P G C) → add_point view p r ≡ r)
+
+module _ {S D P G C : Type 0} (g : Ghosts S D P G C) (same : D → D → Bool) where
+  -- behind a point that says nothing of votes, and by which no view is entered, they stand where they did
+  abbrev pub QuietStays : Type 0
+  QuietStays = (s : Setup S D C) (a : Acceptance S D P G C) (h : History S D P G C) (p : Point S D P G C) → SaysNothing p → may_enter p ≡ false → Keeps g same s a h → Keeps g same s a (p ∷ h)
+
+  -- a point ahead they do for any point that says nothing of them
+  abbrev pub SilentStays : Type 0
+  SilentStays = (s : Setup S D C) (a : Acceptance S D P G C) (h : History S D P G C) (p : Point S D P G C) → SaysNothing p → Keeps g same s a h → KeepsAhead g same s a h p

@@ -3,7 +3,9 @@
 
 mod acceptance;
 mod due;
+mod laws;
 mod rounds;
 
 pub use acceptance::Acceptance;
 pub use due::Due;
+pub use laws::silent_points_leave_votes;
