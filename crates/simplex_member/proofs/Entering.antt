@@ -98,7 +98,7 @@ module _ {S D P G C : Type 0} (s : views.Setup S C) where
   only-enter h now_at now at t view only = go (nat_lt now_at at)
     where
       armed : past.Item S D P G C
-      armed = past.armed (now + s.leader_timeout) (now + s.certification_timeout) (later now s.stall_timeout)
+      armed = past.armed (past.deadline now s.leader_timeout) (past.deadline now s.certification_timeout) (later now s.stall_timeout)
 
       go : (b : Bool) → Only h ((if b then put at armed (put at (past.entered now) t) else t) view)
       go true = only-put h at armed (put at (past.entered now) t) view (none-new h armed refl) (only-put h at (past.entered now) t view (none-new h (past.entered now) refl) only)
@@ -167,8 +167,8 @@ module _ {S D P G C : Type 0} (s : views.Setup S C) where
       step (views.sent kind.Finalization at) only = only-plain (views.sent kind.Finalization at ∷ h) at past.sent_finalization (seen s h) view refl only
       step (views.polled now) only = looked (nat_lt 0 (current s h))
         where
-          looked : (b : Bool) → Only (views.polled now ∷ h) ((if b then put (current s h) (past.polled (now + s.timeout_retry)) (seen s h) else seen s h) view)
-          looked true = only-plain (views.polled now ∷ h) (current s h) (past.polled (now + s.timeout_retry)) (seen s h) view refl only
+          looked : (b : Bool) → Only (views.polled now ∷ h) ((if b then put (current s h) (past.polled (past.deadline now s.timeout_retry)) (seen s h) else seen s h) view)
+          looked true = only-plain (views.polled now ∷ h) (current s h) (past.polled (past.deadline now s.timeout_retry)) (seen s h) view refl only
           looked false = only
       step views.pruned only = only-if (views.pruned ∷ h) (nat_lt view (min_active s (views.pruned ∷ h))) [] (seen s h view) (only-nil (views.pruned ∷ h)) only
 

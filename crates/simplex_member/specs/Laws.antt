@@ -1,6 +1,6 @@
 -- What follows from the member model, as statements. Each is proved where a function without a body has it as a clause (`laws.rt`): what
 -- stands in no clause there is not proved.
-use Rattle.std.specs.Prelude.{◌≡◌, ◌≢◌, ◌↔◌, IsTrue, ◌⊎◌, ◌≤◌, ◌<◌, ◌+◌, ◌++◌, ℕ, true, false, List, [], ◌∷◌, Contains, IsSome, Option, Some, nat_lt, if◌then◌else◌, Bool, None, IfSome, map, All, ⊤}
+use Rattle.std.specs.Prelude.{◌≡◌, ◌≢◌, ◌↔◌, IsTrue, ◌⊎◌, ◌≤◌, ◌<◌, ◌+◌, ◌++◌, ℕ, true, false, List, [], ◌∷◌, Contains, IsSome, Option, Some, nat_lt, if◌then◌else◌, Bool, None, IfSome, option_map, map, All, ⊤}
 use Rattle.simplex_types.specs.declared.attestation.Attestation.{Attestation}
 use Rattle.simplex_types.specs.declared.position.Round.{Round}
 use Rattle.simplex_types.specs.declared.proposal.Proposal.{Proposal}
