@@ -1,0 +1,4 @@
+mod Calm
+mod Resting
+mod Living
+mod Network
