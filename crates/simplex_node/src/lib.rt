@@ -1,4 +1,5 @@
 //! The node of one member.
 #![tactic(auto)]
 
-pub use simplex_record::{Owner, agreement, first_refused};
+pub use simplex_network::{accountability, agreement};
+pub use simplex_record::{Owner, first_refused};
