@@ -1,5 +1,5 @@
 -- A member that is alone: what it records stands on ground, since each notarization is of a proposal that it voted for.
-use Rattle.std.proofs.Common.{◌≡◌, inl, inr, ⊎_elim, ℕ, zero, suc, ◌≤◌, Bool, true, false, List, [], ◌∷◌, ◌++◌, Option, Some, None, length, refl, sym, ◌∙◌, ap, subst, arith, append_assoc}
+use Rattle.std.proofs.Common.{◌≡◌, ◌⊎◌, inl, inr, ⊎_elim, ℕ, zero, suc, ◌≤◌, Bool, true, false, List, [], ◌∷◌, ◌++◌, Option, Some, None, length, refl, sym, ◌∙◌, ap, subst, arith, append_assoc}
 use Rattle.std.specs.Prelude.{Contains, IfSome, option_map, ⊤}
 use Rattle.std.proofs.lemmas.List.{append-nil, map-append}
 use Rattle.std.proofs.lemmas.List.Elements.{Contains-append_left, Contains-push_cases}
@@ -18,10 +18,9 @@ use Rattle.simplex_certificates.specs.Artifact.{certificate_artifact}
 use Rattle.simplex_messages.specs.declared.vote.Vote.{Vote}
 use Rattle.simplex_messages.specs.declared.vote.Vote.TheVariants as vote
 use Rattle.simplex_messages.specs.VoteParts.{vote_artifact}
-use Rattle.simplex_record.specs.Chain.{JudgesOnGround, StandsOnGround}
+use Rattle.simplex_record.specs.Chain.{JudgesOnGround, MayFollowOnGround, StandsOnGround}
 use Rattle.simplex_record.specs.Record.{Entry, entry, entries, HasJudged, HasTaken, HasVoted}
 use Rattle.simplex_record.specs.Record as recorded
-use Rattle.simplex_record.specs.World.{World, IsCorrect}
 use Rattle.simplex_history.specs.History.{scheduled_leader}
 use Rattle.simplex_judging.specs.declared.kind.Kind.{Kind}
 use Rattle.simplex_verifier.specs.declared.batch.Batch.{Batch}
@@ -34,8 +33,8 @@ use Rattle.simplex_member.specs.Allowed.{Allowed, AreAllowed, MayRecord}
 use Rattle.simplex_member.specs.First.{IsFirst}
 use Rattle.simplex_member.specs.Layers.{is_begun, known_of}
 use Rattle.simplex_member.specs.Laws.{RoundLaws}
-use Rattle.simplex_member.specs.Lives.{Life, Broken, Lasting, Turn, Refuses, Went, AreMembers, IsCut, Lived, Lives, Members, Turns, points_of, turn_points}
-use Rattle.simplex_member.specs.Member.{AreFound, AreOpening, AreStep, Goes, IsPointOf}
+use Rattle.simplex_member.specs.Lives.{Life, Broken, Lasting, Turn, Refuses, Went, IsCut, Lived, Lives, Turns, points_of, turn_points}
+use Rattle.simplex_member.specs.Member.{AreFound, AreOpening, AreStep, Goes, IsPointOf, after}
 use Rattle.simplex_member.specs.Packet.{Formats, Packet}
 use Rattle.simplex_member.specs.Point.{AreActs, Point, Opened, Found, Began, Heard, Came, Judged, Constructs, AsksCertify, Votes, History}
 use Rattle.simplex_member.specs.Recorded.{put_behind, record_of, recorded_by}
@@ -43,7 +42,8 @@ use Rattle.simplex_member.specs.Refusals.{packet_tests, sender_tests, tests}
 use Rattle.simplex_member.specs.Setup.{Setup, member_of}
 use Rattle.simplex_member.proofs.Ballots.{made-lists}
 use Rattle.simplex_member.proofs.Binding.{due-bound}
-use Rattle.simplex_member.proofs.Chaining.{begun-stays, by-index, by-world, mine}
+use Rattle.simplex_member.proofs.Blame.{after-goes}
+use Rattle.simplex_member.proofs.Chaining.{begun-stays}
 use Rattle.simplex_member.proofs.Feeding.{Each, acts-each, each-append, opening-each, takes_in}
 use Rattle.simplex_member.proofs.Grounding.{ground-on}
 use Rattle.simplex_member.proofs.Judgeable.{due-taken, says-on}
@@ -51,7 +51,21 @@ use Rattle.simplex_member.proofs.Listed.{vote-entry}
 use Rattle.simplex_member.proofs.Lists.{Contains-map}
 use Rattle.simplex_member.proofs.Recordable.{matches}
 use Rattle.simplex_member.proofs.Telling.{apart}
-use Rattle.simplex_member.proofs.Walking.{cut_points, life-goes}
+use Rattle.simplex_member.proofs.Walking.{cut_points, each-first, goes-part, life-goes}
+
+same-first : {X : Type 0} (x y : X) (xs ys : List X) → x ∷ xs ≡ y ∷ ys → x ≡ y
+same-first {X} x y xs ys is = ap first is
+  where
+    first : List X → X
+    first [] = x
+    first (z ∷ zs) = z
+
+same-rest : {X : Type 0} (x y : X) (xs ys : List X) → x ∷ xs ≡ y ∷ ys → xs ≡ ys
+same-rest {X} x y xs ys is = ap rest is
+  where
+    rest : List X → List X
+    rest [] = []
+    rest (z ∷ zs) = zs
 
 some-there : {X : Type 0} (xs : List X) → 1 ≤ length xs → (x : X) × Contains xs x
 some-there [] long = absurd (omega (arith, long))
@@ -99,12 +113,21 @@ module _ {D : Type 0} (views : ℕ) (leader : ℕ → Option ℕ) (member : ℕ)
           (Contains-push_cases r e (recorded.judged t true) here));
     }
 
-  nothing-alone : StandsAlone []
+  pub nothing-alone : StandsAlone []
   nothing-alone = record {
     own = λ p here. absurd (omega (arith, here.1));
     next = λ p here. absurd (omega (arith, here.1));
     good = λ t here. absurd (omega (arith, here.1));
   }
+
+  -- what follows so follows on ground
+  pub follows-ground : (before : List (Entry D)) (e : Entry D) → MayFollowAlone before e → MayFollowOnGround 1 views leader member before e
+  follows-ground before (recorded.voted (notarize p)) may = λ start. ⊎_elim (λ ground. inl ground) (λ next. inr next.0) (may start)
+  follows-ground before (recorded.voted (nullify r)) may = tt
+  follows-ground before (recorded.voted (finalize p)) may = tt
+  follows-ground before (recorded.taken s) may = tt
+  follows-ground before (recorded.judged r true) may = may
+  follows-ground before (recorded.judged r false) may = tt
 
   -- such a record stands on ground
   pub alone-stands : (r : List (Entry D)) → StandsAlone r → StandsOnGround 1 views leader member r
@@ -122,6 +145,10 @@ module _ {S D P G C : Type 0} where
   abbrev pub IsNoneOfOthers : Point S D P G C → Type 0
   IsNoneOfOthers (Came c) = ⊥
   IsNoneOfOthers p = ⊤
+
+  own-or-came : (p : Point S D P G C) → IsNoneOfOthers p ⊎ ((c : Certificate S D P G C) × (p ≡ Came c))
+  own-or-came (Came c) = inr (c, refl)
+  own-or-came p = inl tt
 
   pub quiet-none : (p : Point S D P G C) → takes_in p ≡ false → IsNoneOfOthers p
   quiet-none (Came c) none = absurd (apart (sym none))
@@ -147,6 +174,36 @@ module _ {S D P G C : Type 0} (g : Ghosts S D P G C) (f : Formats S D P G C) (s 
       (λ is. begun-stays g f s q h (subst (λ (x : Point S D P G C). Allowed g f s h x) is all.0).order)
       (λ later. begun-stays g f s q h (asked-begun h all.1 p later))
       (Contains-cases q h (AsksCertify p) here)
+
+  came-stands : (h : History S D P G C) (c : Certificate S D P G C) → MayFollowOnGround 1 s.voter.length (scheduled_leader s.voter) s.me (entries (record_of h)) (entry (certificate_artifact c))
+  came-stands h (certificate.Notarization c) = tt
+  came-stands h (certificate.Nullification c) = tt
+  came-stands h (certificate.Finalization c) = tt
+
+  records-ground : (h : History S D P G C) (o : Option (Artifact S D P G C)) → IfSome o (MayAlone h) → IfSome o (λ x. MayFollowOnGround 1 s.voter.length (scheduled_leader s.voter) s.me (entries (record_of h)) (entry x))
+  records-ground h None may = tt
+  records-ground h (Some x) may = follows-ground s.voter.length (scheduled_leader s.voter) s.me (entries (record_of h)) (entry x) may
+
+  -- of what an opening went through, and more, a part behind which the record was gone through: it has all of that
+  begun-part : (h : History S D P G C) (xs : List (Artifact S D P G C)) (read more before behind : List (Point S D P G C)) → AreFound xs read → read ++ (Began ∷ more) ≡ before ++ behind → is_begun h ≡ false → is_begun (after h before) ≡ true
+      → (rest : List (Point S D P G C)) × (before ≡ read ++ (Began ∷ rest))
+  begun-part h xs read more [] behind are is none begun = absurd (apart (sym none ∙ begun))
+  begun-part h [] [] more (p ∷ before) behind are is none begun = (before, ap (λ (q : Point S D P G C). q ∷ before) (sym (same-first Began p more (before ++ behind) is)))
+  begun-part h (x ∷ xs) (Found y taken ∷ read) more (p ∷ before) behind are is none begun =
+      let first = same-first (Found y taken) p (read ++ (Began ∷ more)) (before ++ behind) is in
+      let part = begun-part (p ∷ h) xs read more before behind are.1 (same-rest (Found y taken) p (read ++ (Began ∷ more)) (before ++ behind) is) (subst (λ (q : Point S D P G C). is_begun (q ∷ h) ≡ false) first none) begun in
+      (part.0, ap (λ (q : Point S D P G C). q ∷ before) (sym first) ∙ ap (λ (l : List (Point S D P G C)). Found y taken ∷ l) part.1)
+  begun-part h [] (q ∷ read) more (p ∷ before) behind never is none begun = absurd never
+  begun-part h (x ∷ xs) [] more (p ∷ before) behind never is none begun = absurd never
+  begun-part h (x ∷ xs) (q ∷ read) more (p ∷ before) behind never is none begun = absurd never
+
+  opened-part : (now : ℕ) (found : List (Artifact S D P G C)) (read more before behind : List (Point S D P G C)) → AreFound found read → Opened now ∷ (read ++ (Began ∷ more)) ≡ before ++ behind → is_begun (after [] before) ≡ true
+      → (rest : List (Point S D P G C)) × (before ≡ Opened now ∷ (read ++ (Began ∷ rest)))
+  opened-part now found read more [] behind are is begun = absurd (apart begun)
+  opened-part now found read more (p ∷ before) behind are is begun =
+      let first = same-first (Opened now) p (read ++ (Began ∷ more)) (before ++ behind) is in
+      let part = begun-part (p ∷ []) found read more before behind are (same-rest (Opened now) p (read ++ (Began ∷ more)) (before ++ behind) is) (subst (λ (q : Point S D P G C). is_begun (q ∷ []) ≡ false) first refl) begun in
+      (part.0, ap (λ (q : Point S D P G C). q ∷ before) (sym first) ∙ ap (λ (l : List (Point S D P G C)). Opened now ∷ l) part.1)
 
   -- a history of a member alone, once the record was gone through
   pub record IsAlone (h : History S D P G C) : Type 0 where
@@ -205,6 +262,13 @@ module _ {S D P G C : Type 0} (g : Ghosts S D P G C) (f : Formats S D P G C) (s 
     records-alone h is (Votes (vote.Nullify v)) a own = tt
     records-alone h is (Votes (vote.Finalize v)) a own = tt
     records-alone h is p a own = tt
+
+    -- what may come next stands on ground, also where it came in
+    allowed-stands : (h : History S D P G C) → IsAlone h → (p : Point S D P G C) → Allowed g f s h p → IfSome (recorded_by p) (λ x. MayFollowOnGround 1 s.voter.length (scheduled_leader s.voter) s.me (entries (record_of h)) (entry x))
+    allowed-stands h is p a = ⊎_elim
+        (λ own. records-ground h (recorded_by p) (records-alone h is p a own))
+        (λ came. subst (λ (q : Point S D P G C). IfSome (recorded_by q) (λ x. MayFollowOnGround 1 s.voter.length (scheduled_leader s.voter) s.me (entries (record_of h)) (entry x))) (sym came.1) (came-stands h came.0))
+        (own-or-came p)
 
     -- a verdict that is asked for stands on ground
     due-judges : (h : History S D P G C) → IsAlone h → (p : Proposal D) → Allowed g f s h (AsksCertify p) → Judges h p.round
@@ -281,48 +345,68 @@ module _ {S D P G C : Type 0} (g : Ghosts S D P G C) (f : Formats S D P G C) (s 
     first-own (event.Moment now) h passes (Came c) is = absurd is
     first-own e h passes p is = tt
 
-module _ {S D P G C : Type 0} (g : Ghosts S D P G C) (f : Formats S D P G C) (scheme : S) (m : Members S D P G C) (world : World S D P G C) (leader : ℕ → Option ℕ)
-    (schedule : (i : ℕ) → IsCorrect world i → (view : ℕ) → scheduled_leader (m.setup i).voter view ≡ leader view) (w : AreMembers g f scheme m world) (i : ℕ) (correct : IsCorrect world i)
-    (law : EachHistoryMatches S D P G C) (notarize_law : DueNotarizeIsOnGroundOrNext D) (verdict : DueVerdictOfOneIsOnGround D) (stays : GroundStays D) (laws : RoundLaws g f.same)
-    (backed : (own : S) (x : Statement D) (c : C) → g.certifies own x c → IsQuorum (g.size own) (λ k a. g.attests own k x a) (g.lists c)) (lone : world.size ≡ 1) where
-  one : g.size (m.setup i).voter.scheme ≡ 1
-  one = (w.alike i correct).size_is ∙ lone
+    -- ---- so nothing that came in stands in a life
 
-  first : (m.setup i).me ≡ 0
-  first = mine g f scheme m world leader schedule w i correct ∙ omega (arith, correct.0, lone)
+    step-own : (h : History S D P G C) (e : Event D) (points : List (Point S D P G C)) → AreStep g f s h e points → Each IsNoneOfOthers points
+    step-own h e points step = subst (λ (l : List (Point S D P G C)). Each IsNoneOfOthers l) (sym step.split) (first-own e h step.passes step.first step.of_it, acts-each g f s IsNoneOfOthers quiet-none step.acts step.own)
 
-  acts-own : (points : List (Point S D P G C)) → AreActs points → Each IsNoneOfOthers points
-  acts-own points acts = acts-each g f scheme m world i IsNoneOfOthers quiet-none points acts
+    turns-own : (h : History S D P G C) (turns : List (Turn S D P G C)) (end : History S D P G C) → Turns g f s h turns end → Each IsNoneOfOthers (turn_points turns)
+    turns-own h [] end t = tt
+    turns-own h (Refuses e r ∷ turns) end t = turns-own h turns end t.1
+    turns-own h (Went e points ∷ turns) end t = each-append IsNoneOfOthers points (turn_points turns) (step-own h e points t.1) (turns-own t.0 turns end t.3)
 
-  step-own : (h : History S D P G C) (e : Event D) (points : List (Point S D P G C)) → AreStep g f (m.setup i) h e points → Each IsNoneOfOthers points
-  step-own h e points step = subst (λ (l : List (Point S D P G C)). Each IsNoneOfOthers l) (sym step.split)
-      (first-own g f (m.setup i) law notarize_law verdict stays laws (by-index g f scheme m world leader schedule w i correct) one first (backed (m.setup i).voter.scheme) e h step.passes step.first step.of_it, acts-own step.acts step.own)
+    cut-own : (h : History S D P G C) (cut : Option (Event D × List (Point S D P G C))) (end : History S D P G C) → IsCut g f s h cut end → Each IsNoneOfOthers (cut_points cut)
+    cut-own h None end is = tt
+    cut-own h (Some c) end is = step-own h c.0 c.1 is.0
 
-  turns-own : (h : History S D P G C) (turns : List (Turn S D P G C)) (end : History S D P G C) → Turns g f (m.setup i) h turns end → Each IsNoneOfOthers (turn_points turns)
-  turns-own h [] end t = tt
-  turns-own h (Refuses e r ∷ turns) end t = turns-own h turns end t.1
-  turns-own h (Went e points ∷ turns) end t = each-append IsNoneOfOthers points (turn_points turns) (step-own h e points t.1) (turns-own t.0 turns end t.3)
+    opening-own : (now : ℕ) (found : List (Artifact S D P G C)) (points : List (Point S D P G C)) → AreOpening g f s now found points → Each IsNoneOfOthers points
+    opening-own now found points o = opening-each g f s IsNoneOfOthers quiet-none now found points o (λ x taken there. tt)
 
-  cut-own : (h : History S D P G C) (cut : Option (Event D × List (Point S D P G C))) (end : History S D P G C) → IsCut g f (m.setup i) h cut end → Each IsNoneOfOthers (cut_points cut)
-  cut-own h None end is = tt
-  cut-own h (Some c) end is = step-own h c.0 c.1 is.0
+    life-own : (found : List (Artifact S D P G C)) (life : Life S D P G C) (end : History S D P G C) → Lived g f s found life end → Each IsNoneOfOthers (points_of life)
+    life-own found (Broken now points) end lived = opening-own now found points lived.0
+    life-own found (Lasting now points turns cut) end lived = each-append IsNoneOfOthers (points ++ turn_points turns) (cut_points cut)
+        (each-append IsNoneOfOthers points (turn_points turns) (opening-own now found points lived.2) (turns-own lived.0 turns lived.1 lived.4)) (cut-own lived.1 cut end lived.5)
 
-  opening-own : (now : ℕ) (found : List (Artifact S D P G C)) (points : List (Point S D P G C)) → AreOpening g f (m.setup i) now found points → Each IsNoneOfOthers points
-  opening-own now found points o = opening-each g f scheme m world i IsNoneOfOthers quiet-none now found points o (λ x taken there. tt)
+    pub lives-alone : (found : List (Artifact S D P G C)) (lives : List (Life S D P G C)) (left : List (Artifact S D P G C)) → Lives g f s found lives left → Alone found → Alone left
+    lives-alone found [] left is alone = subst (λ (r : List (Artifact S D P G C)). Alone r) (sym is) alone
+    lives-alone found (life ∷ lives) left all alone = lives-alone (record_of all.0) lives left all.2 (life-alone found life all.0 all.1 (life-own found life all.0 all.1) alone).alone
 
-  life-own : (found : List (Artifact S D P G C)) (life : Life S D P G C) (end : History S D P G C) → Lived g f (m.setup i) found life end → Each IsNoneOfOthers (points_of life)
-  life-own found (Broken now points) end lived = opening-own now found points lived.0
-  life-own found (Lasting now points turns cut) end lived = each-append IsNoneOfOthers (points ++ turn_points turns) (cut_points cut)
-      (each-append IsNoneOfOthers points (turn_points turns) (opening-own now found points lived.2) (turns-own lived.0 turns lived.1 lived.4)) (cut-own lived.1 cut end lived.5)
+    -- ---- on the way
 
-  lives-alone : (found : List (Artifact S D P G C)) (lives : List (Life S D P G C)) (left : List (Artifact S D P G C)) → Lives g f (m.setup i) found lives left → Alone g f (m.setup i) found → Alone g f (m.setup i) left
-  lives-alone found [] left is alone = subst (λ (r : List (Artifact S D P G C)). Alone g f (m.setup i) r) (sym is) alone
-  lives-alone found (life ∷ lives) left all alone = lives-alone (record_of all.0) lives left all.2
-      (life-alone g f (m.setup i) law notarize_law verdict stays laws (by-index g f scheme m world leader schedule w i correct) one first (backed (m.setup i).voter.scheme) found life all.0 all.1 (life-own found life all.0 all.1) alone).alone
+    -- of a life that begins so, up to a place behind which the record was gone through
+    part-alone : (now : ℕ) (found : List (Artifact S D P G C)) (points more before behind : List (Point S D P G C)) (h : History S D P G C) → AreOpening g f s now found points → points ++ more ≡ before ++ behind
+        → Goes g f s [] before h → is_begun h ≡ true → Each IsNoneOfOthers before → Alone found → IsAlone h
+    part-alone now found points more before behind h o same goes begun own alone =
+        let whole : Opened now ∷ (o.read ++ (Began ∷ (o.acts ++ more))) ≡ before ++ behind =
+        ap (λ (l : List (Point S D P G C)). Opened now ∷ l) (sym (append_assoc o.read (Began ∷ o.acts) more)) ∙ (ap (λ (l : List (Point S D P G C)). l ++ more) (sym o.split) ∙ same) in
+        let part = opened-part now found o.read (o.acts ++ more) before behind o.are whole (subst (λ (k : History S D P G C). is_begun k ≡ true) (sym (after-goes g f s [] before h goes)) begun) in
+        let gone = subst (λ (l : List (Point S D P G C)). Goes g f s [] l h) part.1 goes in
+        let none = subst (λ (l : List (Point S D P G C)). Each IsNoneOfOthers l) part.1 own in
+        read-alone (Opened now ∷ []) found o.read part.0 h o.are gone.1 none.1 (gone.0, tt) alone
 
-  -- the record of a member alone stands on ground
-  pub one-grounded : StandsOnGround world.size world.term_length leader i (entries (world.recorded i))
-  one-grounded = by-world g f scheme m world leader schedule w i correct
-      (subst (λ (n : ℕ). StandsOnGround n (m.setup i).voter.length (scheduled_leader (m.setup i).voter) (m.setup i).me (entries (world.recorded i))) (sym one)
-      (alone-stands (m.setup i).voter.length (scheduled_leader (m.setup i).voter) (m.setup i).me (entries (world.recorded i))
-      (lives-alone [] (m.lives i) (world.recorded i) (w.lived i correct) (nothing-alone (m.setup i).voter.length (scheduled_leader (m.setup i).voter) (m.setup i).me))))
+    life-part : (found : List (Artifact S D P G C)) (life : Life S D P G C) (end : History S D P G C) → Lived g f s found life end → Alone found
+        → (before behind : List (Point S D P G C)) → points_of life ≡ before ++ behind → is_begun (after [] before) ≡ true → IsAlone (after [] before)
+    life-part found life end lived alone before behind split begun =
+        let goes = goes-part g f s [] end before behind (subst (λ (l : List (Point S D P G C)). Goes g f s [] l end) split (life-goes g f s found life end lived)) in
+        let own = each-first IsNoneOfOthers before behind (subst (λ (l : List (Point S D P G C)). Each IsNoneOfOthers l) split (life-own found life end lived)) in
+        go life lived split goes own
+      where
+        go : (l : Life S D P G C) → Lived g f s found l end → points_of l ≡ before ++ behind → Goes g f s [] before (after [] before) → Each IsNoneOfOthers before → IsAlone (after [] before)
+        go (Broken now points) is same goes own = part-alone now found points [] before behind (after [] before) is.0 (append-nil points ∙ same) goes begun own alone
+        go (Lasting now points turns cut) is same goes own = part-alone now found points (turn_points turns ++ cut_points cut) before behind (after [] before) is.2 (sym (append_assoc points (turn_points turns) (cut_points cut)) ∙ same) goes begun own alone
+
+    lives-part : (found : List (Artifact S D P G C)) (lives : List (Life S D P G C)) (left : List (Artifact S D P G C)) → Lives g f s found lives left → Alone found → (life : Life S D P G C) → Contains lives life
+        → (before behind : List (Point S D P G C)) → points_of life ≡ before ++ behind → is_begun (after [] before) ≡ true → IsAlone (after [] before)
+    lives-part found [] left all alone life here before behind split begun = absurd (omega (arith, here.1))
+    lives-part found (x ∷ lives) left all alone life here before behind split begun = ⊎_elim
+        (λ is. life-part found x all.0 all.1 alone before behind (ap points_of is ∙ split) begun)
+        (λ later. lives-part (record_of all.0) lives left all.2 (life-alone found x all.0 all.1 (life-own found x all.0 all.1) alone).alone life later before behind split begun)
+        (Contains-cases x lives life here)
+
+    -- what may come next stands on ground
+    pub next-stands : (left : List (Artifact S D P G C)) (lives : List (Life S D P G C)) → Lives g f s [] lives left → (life : Life S D P G C) → Contains lives life
+        → (before behind : List (Point S D P G C)) → points_of life ≡ before ++ behind → (h : History S D P G C) → h ≡ after [] before → is_begun h ≡ true
+        → (p : Point S D P G C) → Allowed g f s h p → IfSome (recorded_by p) (λ x. MayFollowOnGround 1 s.voter.length (scheduled_leader s.voter) s.me (entries (record_of h)) (entry x))
+    next-stands left lives all life here before behind split h is begun p a =
+        let alone = subst IsAlone (sym is) (lives-part [] lives left all (nothing-alone s.voter.length (scheduled_leader s.voter) s.me) life here before behind split (subst (λ (k : History S D P G C). is_begun k ≡ true) is begun)) in
+        allowed-stands h alone p a

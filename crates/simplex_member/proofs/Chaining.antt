@@ -1,5 +1,5 @@
 -- What lives leave stands on ground, and so do the records of a world of them.
-use Rattle.std.proofs.Common.{◌≡◌, ◌≢◌, ℕ, true, List, [], ◌∷◌, ◌++◌, Option, Some, None, refl, sym, ◌∙◌, ap, subst, append_assoc}
+use Rattle.std.proofs.Common.{◌≡◌, ◌≢◌, ℕ, true, List, [], ◌∷◌, ◌++◌, Option, Some, None, refl, sym, ◌∙◌, ap, subst, arith, append_assoc}
 use Rattle.std.specs.Prelude.{IfSome}
 use Rattle.std.proofs.lemmas.List.{append-nil, map-append}
 use Rattle.simplex_types.specs.declared.scheme.Scheme.{Ghosts}
@@ -13,7 +13,7 @@ use Rattle.simplex_laws.specs.Matching.{DueNotarizeIsOnGround, DueVerdictIsOnGro
 use Rattle.simplex_member.specs.declared.event.Event.{Event}
 use Rattle.simplex_member.specs.Allowed.{AreAllowed}
 use Rattle.simplex_member.specs.Layers.{is_begun}
-use Rattle.simplex_member.specs.Laws.{RoundLaws}
+use Rattle.simplex_member.specs.Laws.{HasLived, RoundLaws}
 use Rattle.simplex_member.specs.Lives.{Life, Broken, Lasting, Turn, Refuses, Went, AreMembers, IsCut, Lived, Lives, Members, Turns}
 use Rattle.simplex_member.specs.Member.{AreFound, AreOpening, Goes}
 use Rattle.simplex_member.specs.Packet.{Formats}
@@ -95,10 +95,10 @@ module _ {S D P G C : Type 0} (g : Ghosts S D P G C) (f : Formats S D P G C) (s 
 
 module _ {S D P G C : Type 0} (g : Ghosts S D P G C) (f : Formats S D P G C) (scheme : S) (m : Members S D P G C) (world : World S D P G C) (leader : ℕ → Option ℕ)
     (schedule : (i : ℕ) → IsCorrect world i → (view : ℕ) → scheduled_leader (m.setup i).voter view ≡ leader view) (w : AreMembers g f scheme m world) (i : ℕ) (correct : IsCorrect world i) where
-  pub mine : (m.setup i).me ≡ i
+  mine : (m.setup i).me ≡ i
   mine = ap (λ (o : Owner). o.signer) (w.owner i correct)
 
-  pub by-index : (m.setup i).voter.me ≡ Some (m.setup i).me
+  by-index : (m.setup i).voter.me ≡ Some (m.setup i).me
   by-index = w.me i correct ∙ ap (λ (n : ℕ). Some n) (sym mine)
 
   -- a record that stands on ground by the member's own setup does so by the world's
@@ -109,9 +109,10 @@ module _ {S D P G C : Type 0} (g : Ghosts S D P G C) (f : Formats S D P G C) (sc
       let by_leader = subst (λ (l : ℕ → Option ℕ). StandsOnGround world.size world.term_length l (m.setup i).me (entries (world.recorded i))) (λ j view. schedule i correct view j) by_length in
       subst (λ (n : ℕ). StandsOnGround world.size world.term_length leader n (entries (world.recorded i))) mine by_leader
 
-  -- the record of a correct member of a committee of more than one stands on ground
-  pub many-grounded : EachHistoryMatches S D P G C → DueVerdictIsOnGround D → DueNotarizeIsOnGround D → GroundGrows D → ((size views : ℕ) (leader : ℕ → Option ℕ) (member : ℕ) → StandsOnGround {D = D} size views leader member [])
-      → RoundLaws g f.same → world.size ≢ 1 → StandsOnGround world.size world.term_length leader i (entries (world.recorded i))
-  many-grounded law verdict notarize_law grows first laws more =
-      by-world (lives-ground g f (m.setup i) law verdict notarize_law grows (λ one. more (sym (w.alike i correct).size_is ∙ one)) laws by-index [] (m.lives i) (world.recorded i) (w.lived i correct)
-      (first (g.size (m.setup i).voter.scheme) (m.setup i).voter.length (scheduled_leader (m.setup i).voter) (m.setup i).me))
+  -- it lived by its own index
+  pub has-lived : HasLived g f m i (world.recorded i)
+  has-lived = record {
+    me = by-index;
+    member = omega (arith, correct.0, mine, (w.alike i correct).size_is);
+    lives = w.lived i correct;
+  }

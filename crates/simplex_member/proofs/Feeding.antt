@@ -49,8 +49,7 @@ module _ {S D P G C : Type 0} where
     goes-each g f s h [] end goes fed before = subst (λ (e : History S D P G C). Each e) (sym goes) before
     goes-each g f s h (p ∷ points) end goes fed before = goes-each g f s (p ∷ h) points end goes.1 fed.1 (fed.0, before)
 
-module _ {S D P G C : Type 0} (g : Ghosts S D P G C) (f : Formats S D P G C) (scheme : S) (m : Members S D P G C) (world : World S D P G C) (i : ℕ)
-    (Q : Point S D P G C → Type 0) (quiet : (p : Point S D P G C) → takes_in p ≡ false → Q p) where
+module _ {S D P G C : Type 0} (g : Ghosts S D P G C) (f : Formats S D P G C) (s : Setup S D C) (Q : Point S D P G C → Type 0) (quiet : (p : Point S D P G C) → takes_in p ≡ false → Q p) where
   pub acts-each : (points : List (Point S D P G C)) → AreActs points → Each Q points
   acts-each [] acts = tt
   acts-each (p ∷ points) acts = (quiet p (act-takes-none p (acts 0 p (omega arith))), acts-each points (λ k d l. acts (suc k) d (omega (arith, l))))
@@ -64,10 +63,12 @@ module _ {S D P G C : Type 0} (g : Ghosts S D P G C) (f : Formats S D P G C) (sc
   found-each (x ∷ xs) [] never all = absurd never
   found-each (x ∷ xs) (p ∷ points) never all = absurd never
 
-  pub opening-each : (now : ℕ) (found : List (Artifact S D P G C)) (points : List (Point S D P G C)) → AreOpening g f (m.setup i) now found points → ((x : Artifact S D P G C) (taken : Bool) → Contains found x → Q (Found x taken)) → Each Q points
+  pub opening-each : (now : ℕ) (found : List (Artifact S D P G C)) (points : List (Point S D P G C)) → AreOpening g f s now found points → ((x : Artifact S D P G C) (taken : Bool) → Contains found x → Q (Found x taken)) → Each Q points
   opening-each now found points o all = subst (λ (l : List (Point S D P G C)). Each Q l) (sym o.split)
       (quiet (Opened now) refl, each-append Q o.read (Began ∷ o.acts) (found-each found o.read o.are all) (quiet Began refl, acts-each o.acts o.own))
 
+module _ {S D P G C : Type 0} (g : Ghosts S D P G C) (f : Formats S D P G C) (scheme : S) (m : Members S D P G C) (world : World S D P G C) (i : ℕ)
+    (Q : Point S D P G C → Type 0) (quiet : (p : Point S D P G C) → takes_in p ≡ false → Q p) where
   module _ (came : (sender : ℕ) (x : Packet S D P G C) → CameIn g f scheme m world i sender x → (p : Point S D P G C) → IsPacketPoint sender (Some x) p → Q p) where
     -- a step over an event that was handed in
     packet-each : (sender : ℕ) (o : Option (Packet S D P G C)) → ((x : Packet S D P G C) → o ≡ Some x → CameIn g f scheme m world i sender x) → (p : Point S D P G C) → IsPacketPoint sender o p → Q p
@@ -86,4 +87,4 @@ module _ {S D P G C : Type 0} (g : Ghosts S D P G C) (f : Formats S D P G C) (sc
     first-each (event.Moment now) handed p is = absurd is
 
     pub step-each : (h : History S D P G C) (e : Event D) (points : List (Point S D P G C)) → WasHanded g f scheme m world i e → AreStep g f (m.setup i) h e points → Each Q points
-    step-each h e points handed step = subst (λ (l : List (Point S D P G C)). Each Q l) (sym step.split) (first-each e handed step.first step.of_it, acts-each step.acts step.own)
+    step-each h e points handed step = subst (λ (l : List (Point S D P G C)). Each Q l) (sym step.split) (first-each e handed step.first step.of_it, acts-each g f (m.setup i) Q quiet step.acts step.own)

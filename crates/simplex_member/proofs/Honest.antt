@@ -158,7 +158,7 @@ module _ {S D P G C : Type 0} (g : Ghosts S D P G C) (f : Formats S D P G C) (sc
       step-fed h e points handed step = step-each g f scheme m world i IsFed quiet-fed came-fed h e points handed step
 
       opening-fed : (now : ℕ) (found : List (Artifact S D P G C)) (points : List (Point S D P G C)) → AreOpening g f (m.setup i) now found points → HonestAll found → AreFed points
-      opening-fed now found points o honest = opening-each g f scheme m world i IsFed quiet-fed now found points o (λ x taken there. λ c is. honest x c there is)
+      opening-fed now found points o honest = opening-each g f (m.setup i) IsFed quiet-fed now found points o (λ x taken there. λ c is. honest x c there is)
 
       goes-fed : (h : History S D P G C) (points : List (Point S D P G C)) (end : History S D P G C) → Goes g f (m.setup i) h points end → AreFed points → AreFed h → AreFed end
       goes-fed h points end goes fed before = goes-each IsFed g f (m.setup i) h points end goes fed before

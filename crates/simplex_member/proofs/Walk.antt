@@ -52,7 +52,7 @@ module _ {S D P G C : Type 0} (g : Ghosts S D P G C) (f : Formats S D P G C) (sc
   found-taken x taken = tt
 
   pub opening-taken : (now : ℕ) (found : List (Artifact S D P G C)) (points : List (Point S D P G C)) → AreOpening g f (m.setup i) now found points → AreTaken points
-  opening-taken now found points o = opening-each g f scheme m world i IsTaken quiet-taken now found points o (λ x taken there. found-taken x taken)
+  opening-taken now found points o = opening-each g f (m.setup i) IsTaken quiet-taken now found points o (λ x taken there. found-taken x taken)
 
   pub came-taken : (sender : ℕ) (x : Packet S D P G C) → CameIn g f scheme m world i sender x → (p : Point S D P G C) → IsPacketPoint sender (Some x) p → IsTaken p
   came-taken sender (of_vote v) came (Heard u) is = subst (λ (x : Vote S D P G C). CameIn g f scheme m world i (vote_signer x) (of_vote x)) is.0

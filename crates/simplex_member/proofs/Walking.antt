@@ -223,6 +223,14 @@ module _ {S D P G C : Type 0} (g : Ghosts S D P G C) (f : Formats S D P G C) (s 
       (turn-done (after [] points) turns lived.1 d (subst (λ (k : History S D P G C). Turns g f s k turns lived.1) (sym (after-goes g f s [] points lived.0 lived.3.goes)) lived.4) later))
       (Contains-append_cases (all_deeds g f s [] points) (turn_deeds g f s (after [] points) turns) d here)
 
+module _ {S D P G C : Type 0} (g : Ghosts S D P G C) (f : Formats S D P G C) (m : Members S D P G C) (i : ℕ) where
+  -- points lead to a history on the way
+  pub among-goes : (left : List (Artifact S D P G C)) → Lives g f (m.setup i) [] (m.lives i) left → (h : History S D P G C) → (at : HasReached m i h) → Goes g f (m.setup i) [] at.before h
+  among-goes left lives h at =
+      let lived = lived-among g f (m.setup i) [] (m.lives i) left at.life lives at.among in
+      let goes = subst (λ (l : List (Point S D P G C)). Goes g f (m.setup i) [] l lived.end) at.split (life-goes g f (m.setup i) lived.found at.life lived.end lived.lived) in
+      subst (λ (k : History S D P G C). Goes g f (m.setup i) [] at.before k) (sym at.is) (goes-part g f (m.setup i) [] lived.end at.before at.behind goes)
+
 module _ {S D P G C : Type 0} (g : Ghosts S D P G C) (f : Formats S D P G C) (scheme : S) (m : Members S D P G C) (world : World S D P G C) (i : ℕ) where
   -- ---- what came in on the way
 
@@ -251,10 +259,7 @@ module _ {S D P G C : Type 0} (g : Ghosts S D P G C) (f : Formats S D P G C) (sc
 
   -- a history on the way: points lead to it, what it heard came in, what it recorded is recorded
   pub reached-goes : AreMembers g f scheme m world → IsCorrect world i → (h : History S D P G C) → (at : HasReached m i h) → Goes g f (m.setup i) [] at.before h
-  reached-goes w correct h at =
-      let lived = lived-among g f (m.setup i) [] (m.lives i) (world.recorded i) at.life (w.lived i correct) at.among in
-      let goes = subst (λ (l : List (Point S D P G C)). Goes g f (m.setup i) [] l lived.end) at.split (life-goes g f (m.setup i) lived.found at.life lived.end lived.lived) in
-      subst (λ (k : History S D P G C). Goes g f (m.setup i) [] at.before k) (sym at.is) (goes-part g f (m.setup i) [] lived.end at.before at.behind goes)
+  reached-goes w correct h at = among-goes g f m i (world.recorded i) (w.lived i correct) h at
 
   pub reached-heard : AreMembers g f scheme m world → IsCorrect world i → (h : History S D P G C) → HasReached m i h → HasHeard g f scheme m world i h
   reached-heard w correct h at =

@@ -24,7 +24,7 @@ use Rattle.simplex_record.specs.Record.{entries, entry, HasVoted}
 use Rattle.simplex_record.specs.Rules.{HasParentBelow, MayFollow, MayJudge, StandsInTheWay}
 use Rattle.simplex_record.specs.declared.owner.Owner.{Owner}
 use Rattle.simplex_record.specs.Lawful.{Fits, IsLawful, IsRefusedAt}
-use Rattle.simplex_record.specs.Chain.{MayFollowOnGround, OneChain}
+use Rattle.simplex_record.specs.Chain.{MayFollowOnGround, OneChain, StandsOnGround}
 use Rattle.simplex_record.specs.World.{World, IsCorrect, IsHonest, IsSound}
 use Rattle.simplex_record.specs.Agreement.{OneProposalAView, NoFinalizedViewNullified, NoFinalizedViewSkipped}
 use Rattle.simplex_batcher.specs.Admission.{IsBlocked}
@@ -312,6 +312,23 @@ module _ {S D P G C : Type 0} (g : Ghosts S D P G C) (f : Formats S D P G C) whe
   HandedCertificatesAreSound = (scheme : S) (m : Members S D P G C) (world : World S D P G C) → IsWorldOfLives g f scheme m world
       → (i sender : ℕ) → IsCorrect world i → (c : Certificate S D P G C) → CameIn g f scheme m world i sender (of_certificate c)
       → g.certifies (m.setup i).voter.scheme (certificate_statement c) (certified_by c) → IsSound (g.attests scheme) g.lists world c
+
+  -- by its own index, one of a committee of its scheme, on a disk that was empty at first, a member lived lives that left this
+  pub record HasLived (m : Members S D P G C) (i : ℕ) (left : List (Artifact S D P G C)) : Type 0 where
+    pub me : (m.setup i).voter.me ≡ Some (m.setup i).me
+    pub member : (m.setup i).me < g.size (m.setup i).voter.scheme
+    pub lives : Lives g f (m.setup i) [] (m.lives i) left
+
+  -- what its lives leave stands on ground, in a committee of any size
+  abbrev pub LeftStandsOnGround : Type 0
+  LeftStandsOnGround = (m : Members S D P G C) (i : ℕ) (left : List (Artifact S D P G C)) → HasLived m i left
+      → StandsOnGround (g.size (m.setup i).voter.scheme) (m.setup i).voter.length (scheduled_leader (m.setup i).voter) (m.setup i).me (entries left)
+
+  -- and so does what may come next at a history on their way, once the record was gone through
+  abbrev pub NextStandsOnGround : Type 0
+  NextStandsOnGround = (m : Members S D P G C) (i : ℕ) (left : List (Artifact S D P G C)) (h : History S D P G C) (p : Point S D P G C) (x : Artifact S D P G C) → HasLived m i left → HasReached m i h
+      → Allowed g f (m.setup i) h p → is_begun h ≡ true → recorded_by p ≡ Some x
+      → MayFollowOnGround (g.size (m.setup i).voter.scheme) (m.setup i).voter.length (scheduled_leader (m.setup i).voter) (m.setup i).me (entries (record_of h)) (entry x)
 
   -- finalized views lie on one chain, where all go by one schedule
   abbrev pub LieOnOneChain : Type 0

@@ -3,7 +3,7 @@
 ghost use Rattle.std.specs.Prelude.{◌≡◌, ◌<◌, ◌^◌, ℕ};
 ghost use Rattle.simplex_codec.specs.Codec.{Readable};
 ghost use Rattle.simplex_certificates.specs.Artifact.{artifact_fits, artifact_spelling, artifact_within};
-ghost use Rattle.simplex_member.specs.Laws.{AcceptedAreKnown, Agree, AgreeIfHonest, AreReadBack, AwaitedMayBeRecorded, BlockedByRefusalAlone, ConstructionsBlockNone, CorrectVotesAreSound, CorrectVotesContradictNone, DeedsAreDone, DeedsAreOfPoints, DueFinalizeMayBeRecorded, DueIsBound, DueMayBeRecorded, DueNullifyMayBeRecorded, EarlyIsInTime, EmptyIsOpened, HandedCertificatesAreSound, IsExact, LieOnOneChain, LivesLeaveLawful, MadeAreHonest, MadeAreSound, MadeListVotes, NeverContradicts, NoneIsBlamed, NoQuorumIsLost, OneIsRead, OwnVotesAgree, ReachedAreGoneTo, RecordLaws, RecordsGrow, RecordsStandOnGround, RecordsStayLawful, ReportsAreHonest, RoundLaws, RunsAreStretches, StepsRaiseLittle, ViewsNeverFall, VotersAreOrderly, VotersTellTheRecord, VotesAreLawful, VotesAreRecorded, VotesWereDue};
+ghost use Rattle.simplex_member.specs.Laws.{AcceptedAreKnown, Agree, AgreeIfHonest, AreReadBack, AwaitedMayBeRecorded, BlockedByRefusalAlone, ConstructionsBlockNone, CorrectVotesAreSound, CorrectVotesContradictNone, DeedsAreDone, DeedsAreOfPoints, DueFinalizeMayBeRecorded, DueIsBound, DueMayBeRecorded, DueNullifyMayBeRecorded, EarlyIsInTime, EmptyIsOpened, HandedCertificatesAreSound, IsExact, LeftStandsOnGround, LieOnOneChain, LivesLeaveLawful, MadeAreHonest, MadeAreSound, MadeListVotes, NeverContradicts, NextStandsOnGround, NoneIsBlamed, NoQuorumIsLost, OneIsRead, OwnVotesAgree, ReachedAreGoneTo, RecordLaws, RecordsGrow, RecordsStandOnGround, RecordsStayLawful, ReportsAreHonest, RoundLaws, RunsAreStretches, StepsRaiseLittle, ViewsNeverFall, VotersAreOrderly, VotersTellTheRecord, VotesAreLawful, VotesAreRecorded, VotesWereDue};
 ghost use Rattle.simplex_member.specs.Packet.{Formats, formats};
 ghost use Rattle.simplex_member.specs.Setup.{Setup};
 
@@ -153,6 +153,20 @@ pub fn records_stand_on_ground<S: Scheme<D>, D: Digest>()
     what_is_due_stands_on_ground::<D>();
 }
 
+/// What a member's lives leave stands on ground, in a committee of any size, and so does whatever may come next on
+/// their way. (A member that is alone takes no packet of anybody, so each notarization that it has is of a proposal
+/// that it voted for.)
+pub fn lives_stand_on_ground<S: Listing<D>, D: Digest>()
+    ensures left { (f : Formats S D S.PublicKey S.Signature S.Certificate) → IsExact f → LeftStandsOnGround S.Scheme f }
+    ensures next { (f : Formats S D S.PublicKey S.Signature S.Certificate) → IsExact f → NextStandsOnGround S.Scheme f }
+{
+    rounds_obey::<S, D>();
+    ground::<D>();
+    what_is_known_is_recorded::<S, D>();
+    what_is_due_stands_on_ground::<D>();
+    a_lone_member_stands_on_ground::<D>();
+}
+
 /// The votes of each view that is kept are lawful.
 pub fn votes_are_lawful<S: Scheme<D>, D: Digest>()
     ensures { (f : Formats S D S.PublicKey S.Signature S.Certificate) (s : Setup S D S.Certificate) → IsExact f → VotesAreLawful S.Scheme f s }
@@ -197,8 +211,7 @@ pub fn agreement_of_lives<S: Listing<D>, D: Digest>()
 }
 
 /// From each finalized proposal the parents lead down to each that is finalized of a view no higher, in a
-/// committee whose members live by their nodes and go by one schedule of leaders. (A member that is alone takes no
-/// packet of anybody, so each notarization that it has is of a proposal that it voted for.)
+/// committee whose members live by their nodes and go by one schedule of leaders, also of a member that is alone.
 pub fn finalized_views_lie_on_one_chain<S: Listing<D>, D: Digest>()
     ensures { (f : Formats S D S.PublicKey S.Signature S.Certificate) → IsExact f → LieOnOneChain S.Scheme f }
 {
@@ -207,10 +220,7 @@ pub fn finalized_views_lie_on_one_chain<S: Listing<D>, D: Digest>()
     whole_records_are_ever_lawful::<S, D>();
     ever_lawful_members_vote_lawfully::<S, D>();
     chain::<S, D>();
-    ground::<D>();
-    what_is_known_is_recorded::<S, D>();
-    what_is_due_stands_on_ground::<D>();
-    a_lone_member_stands_on_ground::<D>();
+    lives_stand_on_ground::<S, D>();
 }
 
 /// Why a point hands something out: it records a vote or a certificate that it sends, or what it reports, or heard the vote that it

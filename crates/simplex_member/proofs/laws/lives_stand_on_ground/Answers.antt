@@ -1,0 +1,48 @@
+use Rattle.std.proofs.Common.{◌≢◌, ⊎_elim, ℕ, ◌==◌, [], subst, sym, ◌∙◌, arith}
+use Rattle.std.proofs.lemmas.Bool.{cases_Bool, eqb-true}
+use Rattle.simplex_record.specs.Chain.{MayFollowOnGround, StandsOnGround}
+use Rattle.simplex_record.specs.Record.{entries, entry}
+use Rattle.simplex_history.specs.History.{scheduled_leader}
+use Rattle.simplex_member.specs.Recorded.{record_of, recorded_by}
+use Rattle.simplex_member.proofs.Allowing.{begun-allowed}
+use Rattle.simplex_member.proofs.Alone.{alone-stands, lives-alone, next-stands, nothing-alone}
+use Rattle.simplex_member.proofs.Chaining.{lives-ground}
+use Rattle.simplex_member.proofs.Grounding.{Stands, stands}
+use Rattle.simplex_member.proofs.Lists.{if-some, same-number}
+use Rattle.simplex_member.proofs.Telling.{apart}
+use Rattle.simplex_member.proofs.Walking.{among-goes}
+use Rattle.simplex_member.proofs.laws.lives_stand_on_ground.Goals as goal
+
+pub returns : goal.returns
+returns g c = record {
+  left = λ f exact m i left lived.
+      let s = m.setup i in
+      let size : ℕ = g.S.Scheme.size s.voter.scheme in
+      ⊎_elim
+      (λ e.
+      let one = eqb-true size 1 e in
+      subst (λ (n : ℕ). StandsOnGround n s.voter.length (scheduled_leader s.voter) s.me (entries left)) (sym one)
+      (alone-stands s.voter.length (scheduled_leader s.voter) s.me (entries left)
+      (lives-alone g.S.Scheme f s c.what_is_known_is_recorded.ensures c.a_lone_member_stands_on_ground.ensures.notarize c.a_lone_member_stands_on_ground.ensures.verdict c.a_lone_member_stands_on_ground.ensures.stays (c.rounds_obey.ensures f exact) lived.me one (omega (arith, lived.member, one))
+      (λ x certificate certifies. g.met.S.Listing.backed s.voter.scheme x certificate certifies) [] (m.lives i) left lived.lives (nothing-alone s.voter.length (scheduled_leader s.voter) s.me))))
+      (λ more. lives-ground g.S.Scheme f s c.what_is_known_is_recorded.ensures c.what_is_due_stands_on_ground.ensures.verdict c.what_is_due_stands_on_ground.ensures.notarize
+      (λ n views by member before e is may. c.records_stand_on_ground.ensures.further n views by member before e is may) (λ one. apart (sym more ∙ same-number size 1 one)) (c.rounds_obey.ensures f exact) lived.me [] (m.lives i) left lived.lives
+      (c.records_stand_on_ground.ensures.first size s.voter.length (scheduled_leader s.voter) s.me))
+      (cases_Bool (size == 1));
+  next = λ f exact m i left h p x lived at a begun is.
+      let s = m.setup i in
+      let size : ℕ = g.S.Scheme.size s.voter.scheme in
+      ⊎_elim
+      (λ e.
+      let one = eqb-true size 1 e in
+      subst (λ (n : ℕ). MayFollowOnGround n s.voter.length (scheduled_leader s.voter) s.me (entries (record_of h)) (entry x)) (sym one)
+      (if-some (λ y. MayFollowOnGround 1 s.voter.length (scheduled_leader s.voter) s.me (entries (record_of h)) (entry y)) (recorded_by p) x
+      (next-stands g.S.Scheme f s c.what_is_known_is_recorded.ensures c.a_lone_member_stands_on_ground.ensures.notarize c.a_lone_member_stands_on_ground.ensures.verdict c.a_lone_member_stands_on_ground.ensures.stays (c.rounds_obey.ensures f exact) lived.me one (omega (arith, lived.member, one))
+      (λ y certificate certifies. g.met.S.Listing.backed s.voter.scheme y certificate certifies) left (m.lives i) lived.lives at.life at.among at.before at.behind at.split h at.is begun p a) is))
+      (λ more.
+      let other : size ≢ 1 = λ one. apart (sym more ∙ same-number size 1 one) in
+      if-some (Stands g.S.Scheme f s c.what_is_known_is_recorded.ensures c.what_is_due_stands_on_ground.ensures.verdict other c.what_is_due_stands_on_ground.ensures.notarize (c.rounds_obey.ensures f exact) lived.me h) (recorded_by p) x
+      (stands g.S.Scheme f s c.what_is_known_is_recorded.ensures c.what_is_due_stands_on_ground.ensures.verdict other c.what_is_due_stands_on_ground.ensures.notarize (c.rounds_obey.ensures f exact) lived.me h
+      (begun-allowed g.S.Scheme f s at.before h (among-goes g.S.Scheme f m i left lived.lives h at)) p a begun) is)
+      (cases_Bool (size == 1));
+}
