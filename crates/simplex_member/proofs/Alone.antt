@@ -36,7 +36,7 @@ use Rattle.simplex_member.specs.Laws.{RoundLaws}
 use Rattle.simplex_member.specs.Lives.{Life, Broken, Lasting, Turn, Refuses, Went, IsCut, Lived, Lives, Turns, points_of, turn_points}
 use Rattle.simplex_member.specs.Member.{AreFound, AreOpening, AreStep, Goes, IsPointOf, after}
 use Rattle.simplex_member.specs.Packet.{Formats, Packet}
-use Rattle.simplex_member.specs.Point.{AreActs, Point, Opened, Found, Began, Heard, Came, Judged, Constructs, AsksCertify, Votes, History}
+use Rattle.simplex_member.specs.Point.{Point, Opened, Found, Began, Heard, Came, Judged, Constructs, AsksCertify, Votes, History}
 use Rattle.simplex_member.specs.Recorded.{put_behind, record_of, recorded_by}
 use Rattle.simplex_member.specs.Refusals.{packet_tests, sender_tests, tests}
 use Rattle.simplex_member.specs.Setup.{Setup, member_of}

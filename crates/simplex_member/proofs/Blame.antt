@@ -6,6 +6,7 @@ use Rattle.simplex_committee.specs.Counting.{Contains-cases}
 use Rattle.simplex_types.specs.declared.scheme.Scheme.{Ghosts}
 use Rattle.simplex_types.specs.Subject.{notarize}
 use Rattle.simplex_certificates.specs.declared.artifact.Artifact.{Artifact}
+use Rattle.simplex_certificates.specs.declared.artifact.Artifact.TheVariants as artifact
 use Rattle.simplex_messages.specs.declared.vote.Vote.{Vote}
 use Rattle.simplex_messages.specs.declared.vote.Vote.TheVariants as vote
 use Rattle.simplex_messages.specs.VoteParts.{vote_artifact}
@@ -27,7 +28,7 @@ use Rattle.simplex_member.specs.Deeds.{Deed, Sends, Serves, Blocks, Reports, all
 use Rattle.simplex_member.specs.Laws.{AreReadBack, IsOwnAndSound, RecordLaws}
 use Rattle.simplex_member.specs.Lives.{Life, Broken, Lasting, Turn, Refuses, Went, AreFaithful, AreMembers, CameIn, HandedOut, HandsOutBytes, Holds, Lived, Lives, Members, Turns, WasHanded, handed_out, turn_deeds}
 use Rattle.simplex_member.specs.Member.{Goes, after}
-use Rattle.simplex_member.specs.Packet.{Formats, Packet, of_vote, packet_channel}
+use Rattle.simplex_member.specs.Packet.{Formats, IsReadable, Packet, of_ask, of_certificate, of_vote}
 use Rattle.simplex_member.specs.Point.{Point, History}
 use Rattle.simplex_member.specs.Recorded.{record_of}
 use Rattle.simplex_member.specs.Refusals.{blocks_sender, evidence_deeds, refused_deeds, refusal_report}
@@ -103,7 +104,7 @@ module _ {S D P G C : Type 0} (g : Ghosts S D P G C) (f : Formats S D P G C) (s 
       (Contains-cases x lives life here)
 
   -- of a lawful record: what stands in it was allowed there
-  placed : (r : List (Artifact S D P G C)) → Lawful g f s r → (x : Artifact S D P G C) → Contains r x → (before : List (Artifact S D P G C)) × (behind : List (Artifact S D P G C)) × (r ≡ before ++ x ∷ behind) × Fits (g.attests s.voter.scheme) (g.certifies s.voter.scheme) (owner_of s) before x
+  pub placed : (r : List (Artifact S D P G C)) → Lawful g f s r → (x : Artifact S D P G C) → Contains r x → (before : List (Artifact S D P G C)) × (behind : List (Artifact S D P G C)) × (r ≡ before ++ x ∷ behind) × Fits (g.attests s.voter.scheme) (g.certifies s.voter.scheme) (owner_of s) before x
   placed r lawful x here = let at = splits r x here in (at.before, at.behind, at.is, lawful at.before at.behind x at.is)
 
   pub own-signed : (before : List (Artifact S D P G C)) (v : Vote S D P G C) → Fits (g.attests s.voter.scheme) (g.certifies s.voter.scheme) (owner_of s) before (vote_artifact v) → vote_signer v ≡ s.me
@@ -126,7 +127,7 @@ module _ {S D P G C : Type 0} (g : Ghosts S D P G C) (f : Formats S D P G C) (s 
 
 module _ {S D P G C : Type 0} (g : Ghosts S D P G C) (f : Formats S D P G C) (scheme : S) (m : Members S D P G C) (world : World S D P G C) where
   -- a vote that a correct member handed out is its own, recorded, with its parent below
-  own-sound : RecordLaws g → AreMembers g f scheme m world → (j : ℕ) → IsCorrect world j → (to : Option ℕ) (v : Vote S D P G C) → HandedOut g f scheme m world j (Sends to (of_vote v)) → IsOwnAndSound world j v
+  pub own-sound : RecordLaws g → AreMembers g f scheme m world → (j : ℕ) → IsCorrect world j → (to : Option ℕ) (v : Vote S D P G C) → HandedOut g f scheme m world j (Sends to (of_vote v)) → IsOwnAndSound world j v
   own-sound grows w j correct to v sent =
       let lived = w.lived j correct in
       let here = lives-sent g f (m.setup j) [] (m.lives j) (world.recorded j) sent.0 to v lived sent.1 sent.2 in
@@ -138,15 +139,24 @@ module _ {S D P G C : Type 0} (g : Ghosts S D P G C) (f : Formats S D P G C) (sc
         parent_below = parent-below g f (m.setup j) (world.recorded j) lawful v here;
       }
 
+  -- a vote that it recorded can be read
+  pub vote-readable : AreFaithful g f scheme m world → (j : ℕ) → IsCorrect world j → (v : Vote S D P G C) → Contains (world.recorded j) (vote_artifact v) → IsReadable f (of_vote v)
+  vote-readable faithful j correct (vote.Notarize v) here = faithful.readable j correct (artifact.Notarize v) here
+  vote-readable faithful j correct (vote.Nullify v) here = faithful.readable j correct (artifact.Nullify v) here
+  vote-readable faithful j correct (vote.Finalize v) here = faithful.readable j correct (artifact.Finalize v) here
+
   -- so is each vote that came in to a correct member by a packet of it
   pub came-sound : RecordLaws g → AreReadBack f → AreMembers g f scheme m world → AreFaithful g f scheme m world → (i j : ℕ) → IsCorrect world i → IsCorrect world j → (v : Vote S D P G C) → CameIn g f scheme m world i j (of_vote v) → IsOwnAndSound world j v
   came-sound grows back w faithful i j ci cj v came = go came.0 came.1 came.2
     where
       by-deed : (by : Channel) (bytes : List ℕ) → f.packet_in by bytes ≡ Some (of_vote v) → (d : Deed S D P G C) → HandedOut g f scheme m world j d → HandsOutBytes g f scheme m world by bytes d → IsOwnAndSound world j v
-      by-deed by bytes read (Sends to x) sent is =
-          let read_so : f.packet_in (packet_channel x) (f.packet x) ≡ Some (of_vote v) = subst (λ (b : List ℕ). f.packet_in (packet_channel x) b ≡ Some (of_vote v)) is.1 (subst (λ (c : Channel). f.packet_in c bytes ≡ Some (of_vote v)) is.0 read) in
-          let one : of_vote v ≡ x = some-is (of_vote v) x (sym read_so ∙ back.again x (faithful.sent j cj to x sent)) in
+      by-deed by bytes read (Sends to (of_vote u)) sent is =
+          let sound = own-sound grows w j cj to u sent in
+          let read_so : f.packet_in channel.Votes (f.packet (of_vote u)) ≡ Some (of_vote v) = subst (λ (b : List ℕ). f.packet_in channel.Votes b ≡ Some (of_vote v)) is.1 (subst (λ (c : Channel). f.packet_in c bytes ≡ Some (of_vote v)) is.0 read) in
+          let one : of_vote v ≡ of_vote u = some-is (of_vote v) (of_vote u) (sym read_so ∙ back.again (of_vote u) (vote-readable faithful j cj u sound.recorded)) in
           own-sound grows w j cj to v (subst (λ (y : Packet S D P G C). HandedOut g f scheme m world j (Sends to y)) (sym one) sent)
+      by-deed by bytes read (Sends to (of_certificate c)) sent is = absurd (apart (sym (ap is_votes (back.by_channel by bytes (of_vote v) read ∙ is.0))))
+      by-deed by bytes read (Sends to (of_ask view)) sent is = absurd (apart (sym (ap is_votes (back.by_channel by bytes (of_vote v) read ∙ is.0))))
       by-deed by bytes read (Serves member served) sent is = absurd (apart (sym (ap is_votes (back.by_channel by bytes (of_vote v) read ∙ is.0))))
       by-deed by bytes read d sent is = absurd is
 

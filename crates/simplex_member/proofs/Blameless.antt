@@ -7,6 +7,7 @@ use Rattle.simplex_committee.specs.Counting.{Contains-nil}
 use Rattle.simplex_types.specs.declared.scheme.Scheme.{Ghosts}
 use Rattle.simplex_types.specs.Quorum.{IsQuorum}
 use Rattle.simplex_types.specs.Subject.{Statement}
+use Rattle.simplex_certificates.specs.declared.artifact.Artifact.TheVariants as artifact
 use Rattle.simplex_certificates.specs.declared.certificate.Certificate.{Certificate}
 use Rattle.simplex_certificates.specs.declared.certificate.Certificate.TheVariants as certificate
 use Rattle.simplex_certificates.specs.Artifact.{certificate_artifact}
@@ -14,6 +15,7 @@ use Rattle.simplex_certificates.specs.Certificate.{certificate_statement, certif
 use Rattle.simplex_messages.specs.declared.vote.Vote.{Vote}
 use Rattle.simplex_record.specs.Rules.{HasParentBelow}
 use Rattle.simplex_record.specs.World.{World, IsCorrect}
+use Rattle.simplex_laws.specs.Matching.{EachHistoryMatches}
 use Rattle.simplex_resolver.specs.Answers.{WhatIsProducedCame}
 use Rattle.simplex_member.specs.declared.event.Channel.{Channel}
 use Rattle.simplex_member.specs.declared.event.Channel.TheVariants as channel
@@ -26,12 +28,13 @@ use Rattle.simplex_member.specs.Deeds.{Deed, Sends, Serves, Blocks, Reports}
 use Rattle.simplex_member.specs.First.{IsFirst}
 use Rattle.simplex_member.specs.Laws.{AreReadBack, DoAttestAlike, HoldsNoVote, IsRefusedFor, RecordLaws, RoundLaws}
 use Rattle.simplex_member.specs.Lives.{AreFaithful, AreMembers, Carries, HandedOut, HandsOutBytes, Members}
-use Rattle.simplex_member.specs.Packet.{Formats, Packet, of_vote, of_certificate, of_ask, packet_channel}
+use Rattle.simplex_member.specs.Packet.{Formats, IsReadable, Packet, of_vote, of_certificate, of_ask, packet_channel}
 use Rattle.simplex_member.specs.Point.{Point, History}
 use Rattle.simplex_member.specs.Recorded.{record_of, recorded_by}
 use Rattle.simplex_member.specs.Refusals.{blocks_sender, evidence_deeds, packet_tests, refusal_report, refused_deeds, sender_tests, tests}
 use Rattle.simplex_member.proofs.Allowing.{begun-allowed}
-use Rattle.simplex_member.proofs.Blame.{splits}
+use Rattle.simplex_member.proofs.Asking.{AreSmall, asked-low}
+use Rattle.simplex_member.proofs.Blame.{own-sound, splits, vote-readable}
 use Rattle.simplex_member.proofs.Doing.{deeds-are}
 use Rattle.simplex_member.proofs.Entering.{best-recorded}
 use Rattle.simplex_member.proofs.Going.{Lawful}
@@ -114,7 +117,7 @@ module _ {S D P G C : Type 0} (g : Ghosts S D P G C) (f : Formats S D P G C) (sc
         (λ at. absurd (refused-none j at.h at.e at.r (Serves member bytes) refl at.done))
         (deed-done g f scheme m world j w cj (Serves member bytes) out)
 
-    module _ (law : WhatIsProducedCame) (back : AreReadBack f) (faithful : AreFaithful g f scheme m world) where
+    module _ (known : EachHistoryMatches S D P G C) (law : WhatIsProducedCame) (back : AreReadBack f) (faithful : AreFaithful g f scheme m world) where
       -- a packet, of which a certificate is recorded by the sender
       abbrev IsFine : Packet S D P G C → Type 0
       IsFine (of_vote v) = ⊤
@@ -131,6 +134,29 @@ module _ {S D P G C : Type 0} (g : Ghosts S D P G C) (f : Formats S D P G C) (sc
       fine to (of_certificate c) out = sent-recorded to c out
       fine to (of_ask view) out = tt
 
+      -- a certificate that it recorded can be read
+      certificate-readable : (c : Certificate S D P G C) → Contains (world.recorded j) (certificate_artifact c) → IsReadable f (of_certificate c)
+      certificate-readable (certificate.Notarization c) here = faithful.readable j cj (artifact.Notarization c) here
+      certificate-readable (certificate.Nullification c) here = faithful.readable j cj (artifact.Nullification c) here
+      certificate-readable (certificate.Finalization c) here = faithful.readable j cj (artifact.Finalization c) here
+
+      -- and so can an ask that it sends
+      ask-readable : (to : Option ℕ) (view : ℕ) → HandedOut g f scheme m world j (Sends to (of_ask view)) → IsReadable f (of_ask view)
+      ask-readable to view out = ⊎_elim
+          (λ at.
+          let of = deeds-are g f (m.setup j) at.h at.p (Sends to (of_ask view)) at.done in
+          let all = begun-allowed g f (m.setup j) at.reached.before at.h (reached-goes g f scheme m world j w cj at.h at.reached) in
+          let small : AreSmall (record_of at.h) = λ c here. back.views c (certificate-readable c ((reached-heard g f scheme m world j w cj at.h at.reached).recorded (certificate_artifact c) here)) in
+          back.asks view (asked-low g f (m.setup j) grows known at.h all small view of.0 to (subst (λ (p : Point S D P G C). Allowed g f (m.setup j) at.h p) of.1 at.allowed)))
+          (λ at. absurd (refused-none j at.h at.e at.r (Sends to (of_ask view)) refl at.done))
+          (deed-done g f scheme m world j w cj (Sends to (of_ask view)) out)
+
+      -- so can all that it sends
+      sent-readable : (to : Option ℕ) (x : Packet S D P G C) → HandedOut g f scheme m world j (Sends to x) → IsReadable f x
+      sent-readable to (of_vote v) out = vote-readable g f scheme m world faithful j cj v (own-sound g f scheme m world grows w j cj to v out).recorded
+      sent-readable to (of_certificate c) out = certificate-readable c (sent-recorded to c out)
+      sent-readable to (of_ask view) out = ask-readable to view out
+
       at-channel : (by at : Channel) (bytes own : List ℕ) (x : Packet S D P G C) → by ≡ at → bytes ≡ own → f.packet_in at own ≡ Some x → f.packet_in by bytes ≡ Some x
       at-channel by at bytes own x e b read =
           subst (λ (c : Channel). f.packet_in c bytes ≡ Some x) (sym e) (subst (λ (l : List ℕ). f.packet_in at l ≡ Some x) (sym b) read)
@@ -139,19 +165,19 @@ module _ {S D P G C : Type 0} (g : Ghosts S D P G C) (f : Formats S D P G C) (sc
       handed-read : (by : Channel) (bytes : List ℕ) (d : Deed S D P G C) → HandedOut g f scheme m world j d → HandsOutBytes g f scheme m world by bytes d → IsRead by bytes
       handed-read by bytes (Sends to x) out is = record {
         x = x;
-        is = at-channel by (packet_channel x) bytes (f.packet x) x is.0 is.1 (back.again x (faithful.sent j cj to x out));
+        is = at-channel by (packet_channel x) bytes (f.packet x) x is.0 is.1 (back.again x (sent-readable to x out));
         fine = fine to x out;
       }
       handed-read by bytes (Serves member served) out is =
           let of = served-recorded law member served out in
           record {
             x = of_certificate of.c;
-            is = at-channel by channel.Certificates bytes (f.packet (of_certificate of.c)) (of_certificate of.c) is.0 (is.1 ∙ (of.are ∙ back.certificates of.c)) (back.again (of_certificate of.c) (faithful.kept j cj of.c of.recorded));
+            is = at-channel by channel.Certificates bytes (f.packet (of_certificate of.c)) (of_certificate of.c) is.0 (is.1 ∙ (of.are ∙ back.certificates of.c)) (back.again (of_certificate of.c) (certificate-readable of.c of.recorded));
             fine = of.recorded;
           }
       handed-read by bytes d out is = absurd is
 
-  module _ (grows : RecordLaws g) (laws : RoundLaws g f.same) (law : WhatIsProducedCame) (back : AreReadBack f) (w : AreMembers g f scheme m world) (faithful : AreFaithful g f scheme m world) (alike : DoAttestAlike g f scheme m world)
+  module _ (grows : RecordLaws g) (laws : RoundLaws g f.same) (known : EachHistoryMatches S D P G C) (law : WhatIsProducedCame) (back : AreReadBack f) (w : AreMembers g f scheme m world) (faithful : AreFaithful g f scheme m world) (alike : DoAttestAlike g f scheme m world)
       (backed : (own : S) (x : Statement D) (c : C) → g.certifies own x c → IsQuorum (g.size own) (λ k a. g.attests own k x a) (g.lists c))
       (sufficient : (own : S) (x : Statement D) (c : C) → IsQuorum (g.size own) (λ k a. g.attests own k x a) (g.lists c) → g.certifies own x c)
       (i j : ℕ) (ci : IsCorrect world i) (cj : IsCorrect world j) where
@@ -164,20 +190,20 @@ module _ {S D P G C : Type 0} (g : Ghosts S D P G C) (f : Formats S D P G C) (sc
         sufficient (m.setup i).voter.scheme x c (record { distinct = p.distinct; members = p.members; enough = p.enough; attesting = λ k d l. alike i j ci cj _ x _ (p.attesting k d l) })
 
     -- no test that blocks applies to it
-    none-first : (h : History S D P G C) (x : Packet S D P G C) → IsFine grows w j cj law back faithful x → ((v : Vote S D P G C) → x ≡ of_vote v → ⊥) → (r : Refusal)
+    none-first : (h : History S D P G C) (x : Packet S D P G C) → IsFine grows w j cj known law back faithful x → ((v : Vote S D P G C) → x ≡ of_vote v → ⊥) → (r : Refusal)
         → IsFirst (sender_tests g f (m.setup i) j ++ packet_tests g f (m.setup i) h j (Some x)) (Some r) → blocks_sender r ≡ true → ⊥
-    none-first h (of_vote v) known unvoted r first blocks = unvoted v refl
-    none-first h (of_certificate c) known unvoted r first blocks =
+    none-first h (of_vote v) fine unvoted r first blocks = unvoted v refl
+    none-first h (of_certificate c) fine unvoted r first blocks =
         ⊎_elim (λ t. spares r refusal.UnknownSender t.1 refl blocks) (λ n.
         ⊎_elim (λ t. spares r refusal.OwnName t.1 refl blocks) (λ n.
         ⊎_elim (λ t. spares r refusal.WrongEpoch t.1 refl blocks) (λ n.
         ⊎_elim (λ t. spares r refusal.ViewZero t.1 refl blocks) (λ n.
         ⊎_elim (λ t. spares r refusal.OutsideWindow t.1 refl blocks) (λ n.
         ⊎_elim (λ t. spares r refusal.NoRoom t.1 refl blocks) (λ n.
-        ⊎_elim (λ t. t.0 (parent-below grows w j cj c known)) (λ n.
+        ⊎_elim (λ t. t.0 (parent-below grows w j cj c fine)) (λ n.
         ⊎_elim (λ t. spares r refusal.Repeated t.1 refl blocks) (λ n.
-        ⊎_elim (λ t. t.0 (certifies-alike (certificate_statement c) (certified_by c) (own-certifies grows w j cj c known))) (λ n. none-some r (sym n.1)) n.1) n.1) n.1) n.1) n.1) n.1) n.1) n.1) first
-    none-first h (of_ask view) known unvoted r first blocks =
+        ⊎_elim (λ t. t.0 (certifies-alike (certificate_statement c) (certified_by c) (own-certifies grows w j cj c fine))) (λ n. none-some r (sym n.1)) n.1) n.1) n.1) n.1) n.1) n.1) n.1) n.1) first
+    none-first h (of_ask view) fine unvoted r first blocks =
         ⊎_elim (λ t. spares r refusal.UnknownSender t.1 refl blocks) (λ n.
         ⊎_elim (λ t. spares r refusal.OwnName t.1 refl blocks) (λ n.
         ⊎_elim (λ t. spares r refusal.ViewZero t.1 refl blocks) (λ n. none-some r (sym n.1)) n.1) n.1) first
@@ -192,7 +218,7 @@ module _ {S D P G C : Type 0} (g : Ghosts S D P G C) (f : Formats S D P G C) (sc
         (λ report. absurd (report-spares g f (m.setup i) is.r (evidence_deeds g f (m.setup i) h sender o) j (evidence-spares g f (m.setup i) h sender o j) report))
         (Contains-append_cases (if blocks_sender is.r then Blocks sender ∷ [] else []) (refusal_report g f (m.setup i) is.r (evidence_deeds g f (m.setup i) h sender o)) (Blocks j) blocks) in
         let by_deed = faithful.handed i j is.e by bytes.items ci cj is.handed (subst (λ (x : Event D). Carries g f scheme m world x j by bytes.items) (sym same) (holds.0, refl, refl)) in
-        let of = handed-read grows w j cj law back faithful by bytes.items by_deed.0 by_deed.1 by_deed.2 in
+        let of = handed-read grows w j cj known law back faithful by bytes.items by_deed.0 by_deed.1 by_deed.2 in
         none-first h of.x of.fine (λ v e. holds.1 v (of.is ∙ ap (λ (x : Packet S D P G C). Some x) e)) is.r
         (subst (λ (x : Option (Packet S D P G C)). IsFirst (sender_tests g f (m.setup i) j ++ packet_tests g f (m.setup i) h j x) (Some is.r)) of.is
         (subst (λ (k : ℕ). IsFirst (sender_tests g f (m.setup i) k ++ packet_tests g f (m.setup i) h k o) (Some is.r)) holds.0 first)) who.0

@@ -5,8 +5,7 @@ use Rattle.std.specs.Option.{option_or}
 use Rattle.std.proofs.lemmas.Option.{none-some}
 use Rattle.std.proofs.lemmas.List.Elements.{Contains-append_cases}
 use Rattle.simplex_committee.specs.Counting.{Contains-cases, Contains-head, Contains-nil, Contains-rest}
-use Rattle.simplex_types.specs.declared.proposal.Proposal.{Proposal}
-use Rattle.simplex_types.specs.Positions.{next_term_start, term_end, term_start}
+use Rattle.simplex_types.specs.Positions.{term_end, term_start}
 use Rattle.simplex_certificates.specs.declared.artifact.Artifact.{Artifact}
 use Rattle.simplex_certificates.specs.declared.artifact.Artifact.TheVariants as artifact
 use Rattle.simplex_certificates.specs.declared.certificate.Certificate.{Certificate}
@@ -20,9 +19,8 @@ use Rattle.simplex_rules.specs.declared.kind.Kind.TheVariants as kind
 use Rattle.simplex_history.specs.declared.timeout_reason.TimeoutReason.TheVariants as reason
 use Rattle.simplex_history.specs.Held as offer
 use Rattle.simplex_history.specs.History as views
-use Rattle.simplex_history.specs.History.{current, enter, later, last_finalized, min_active, seen, undecided_payload}
+use Rattle.simplex_history.specs.History.{current, later, last_finalized, min_active, seen}
 use Rattle.simplex_history.specs.Past as past
-use Rattle.simplex_history.specs.Pasts.{bind, put}
 use Rattle.simplex_decisions.specs.Answers.{best_certificate, covering_nullification, entry_certificate, last_of}
 use Rattle.simplex_decisions.specs.Building.{proposal_on}
 use Rattle.simplex_member.specs.Layers.{casts, finalizes_above, finds, latest, reason_of, takes_certificate, takes_outcome, voter_of, voter_points}
@@ -30,8 +28,9 @@ use Rattle.simplex_member.specs.Point.{Outcome, Counts, Falls, Passes, Point, Op
 use Rattle.simplex_member.specs.Recorded.{record_of, recorded_by}
 use Rattle.simplex_member.specs.Setup.{Setup}
 use Rattle.simplex_member.proofs.Lists.{put-before, put-here, some-is}
+use Rattle.simplex_member.proofs.Seeing.{AreGood, Enters, Puts, good-at, good-weaker, seen-good}
 
-or-cases : {X : Type 0} (a b : Option X) (x : X) → option_or a b ≡ Some x → (a ≡ Some x) ⊎ (b ≡ Some x)
+pub or-cases : {X : Type 0} (a b : Option X) (x : X) → option_or a b ≡ Some x → (a ≡ Some x) ⊎ (b ≡ Some x)
 or-cases None b x is = inr is
 or-cases (Some y) b x is = inl is
 
@@ -62,115 +61,69 @@ module _ {S D P G C : Type 0} where
   abbrev Brought : List (views.Point S D P G C) → Certificate S D P G C → Type 0
   Brought h c = (p : views.Point S D P G C) × Contains h p × (point_certificate p ≡ Some c)
 
-  -- each certificate among items did
-  abbrev Only : List (views.Point S D P G C) → List (past.Item S D P G C) → Type 0
-  Only h items = (x : past.Item S D P G C) → Contains items x → (c : Certificate S D P G C) → item_certificate x ≡ Some c → Brought h c
+  -- the certificate that an item is, if it is one, did
+  abbrev IsFrom : List (views.Point S D P G C) → past.Item S D P G C → Type 0
+  IsFrom h x = (c : Certificate S D P G C) → item_certificate x ≡ Some c → Brought h c
 
   further : (p : views.Point S D P G C) (h : List (views.Point S D P G C)) (c : Certificate S D P G C) → Brought h c → Brought (p ∷ h) c
   further p h c by = (by.0, Contains-rest p h by.0 by.1, by.2)
 
-  only-further : (p : views.Point S D P G C) (h : List (views.Point S D P G C)) (items : List (past.Item S D P G C)) → Only h items → Only (p ∷ h) items
-  only-further p h items only x here c is = further p h c (only x here c is)
-
-  only-nil : (h : List (views.Point S D P G C)) → Only h []
-  only-nil h x here c is = absurd (Contains-nil x here)
-
-  only-put : (h : List (views.Point S D P G C)) (at : ℕ) (y : past.Item S D P G C) (t : ℕ → List (past.Item S D P G C)) (view : ℕ)
-      → ((c : Certificate S D P G C) → item_certificate y ≡ Some c → Brought h c) → Only h (t view) → Only h (put at y t view)
-  only-put h at y t view new only = go (at == view)
-    where
-      go : (b : Bool) → Only h (if b then y ∷ t view else t view)
-      go true x here c is = ⊎_elim
-          (λ e. new c (ap item_certificate e ∙ is))
-          (λ later. only x later c is)
-          (Contains-cases y (t view) x here)
-      go false x here c is = only x here c is
-
-  only-if : (h : List (views.Point S D P G C)) (b : Bool) (xs ys : List (past.Item S D P G C)) → Only h xs → Only h ys → Only h (if b then xs else ys)
-  only-if h true xs ys first second = first
-  only-if h false xs ys first second = second
-
-  none-new : (h : List (views.Point S D P G C)) (y : past.Item S D P G C) → item_certificate y ≡ None → (c : Certificate S D P G C) → item_certificate y ≡ Some c → Brought h c
-  none-new h y none c is = absurd (none-some c (sym none ∙ is))
+  -- an item that is none
+  none-new : (h : List (views.Point S D P G C)) (x : past.Item S D P G C) → item_certificate x ≡ None → IsFrom h x
+  none-new h x none c is = absurd (none-some c (sym none ∙ is))
 
 module _ {S D P G C : Type 0} (s : views.Setup S C) where
-  only-enter : (h : List (views.Point S D P G C)) (now_at now at : ℕ) (t : ℕ → List (past.Item S D P G C)) (view : ℕ) → Only h (t view) → Only h (enter s now_at now at t view)
-  only-enter h now_at now at t view only = go (nat_lt now_at at)
-    where
-      armed : past.Item S D P G C
-      armed = past.armed (past.deadline now s.leader_timeout) (past.deadline now s.certification_timeout) (later now s.stall_timeout)
+  module _ (h : List (views.Point S D P G C)) where
+    enters-from : (q : views.Point S D P G C) (now : ℕ) → Enters (IsFrom (q ∷ h)) s now
+    enters-from q now = (
+      none-new (q ∷ h) (past.entered now) refl,
+      none-new (q ∷ h) (past.armed (past.deadline now s.leader_timeout) (past.deadline now s.certification_timeout) (later now s.stall_timeout)) refl,
+    )
 
-      go : (b : Bool) → Only h ((if b then put at armed (put at (past.entered now) t) else t) view)
-      go true = only-put h at armed (put at (past.entered now) t) view (none-new h armed refl) (only-put h at (past.entered now) t view (none-new h (past.entered now) refl) only)
-      go false = only
-
-  only-bind : (h : List (views.Point S D P G C)) (o : Option D) (p : Proposal D) (t : ℕ → List (past.Item S D P G C)) (view : ℕ) → Only h (t view) → Only h (bind o p t view)
-  only-bind h None p t view only = only
-  only-bind h (Some payload) p t view only = only-put h p.round.view (past.bound p payload) t view (none-new h (past.bound p payload) refl) only
-
-  -- a plain item
-  only-plain : (h : List (views.Point S D P G C)) (at : ℕ) (y : past.Item S D P G C) (t : ℕ → List (past.Item S D P G C)) (view : ℕ) → item_certificate y ≡ None → Only h (t view) → Only h (put at y t view)
-  only-plain h at y t view none only = only-put h at y t view (none-new h y none) only
+    -- a point puts no certificate on a view but its own
+    puts-from : (q : views.Point S D P G C) (view : ℕ) → Puts (IsFrom (q ∷ h)) s q view
+    puts-from (views.started now payload) view = enters-from (views.started now payload) now
+    puts-from (views.notarized c) view = λ d is. (views.notarized c, Contains-head (views.notarized c) h, is)
+    puts-from (views.nullified now c) view = (λ d is. (views.nullified now c, Contains-head (views.nullified now c) h, is), enters-from (views.nullified now c) now)
+    puts-from (views.finalized now c) view = (λ d is. (views.finalized now c, Contains-head (views.finalized now c) h, is), enters-from (views.finalized now c) now)
+    puts-from (views.judged now at true) view = (none-new (views.judged now at true ∷ h) (past.judged true) refl, enters-from (views.judged now at true) now)
+    puts-from (views.judged now at false) view = (none-new (views.judged now at false ∷ h) (past.judged false) refl, λ e. none-new (views.judged now at false ∷ h) (past.latched now reason.FailedCertification) refl)
+    puts-from (views.forwarded at p) view = none-new (views.forwarded at p ∷ h) (past.offered (offer.forwarded p)) refl
+    puts-from (views.built now p payload) view = (none-new (views.built now p payload ∷ h) (past.built now p) refl, none-new (views.built now p payload ∷ h) (past.bound p payload) refl)
+    puts-from (views.confirmed at) view = none-new (views.confirmed at ∷ h) (past.offered offer.confirmed) refl
+    puts-from (views.unbound at) view = none-new (views.unbound at ∷ h) past.unbound refl
+    puts-from (views.latched now at why) view = λ e. none-new (views.latched now at why ∷ h) (past.latched now why) refl
+    puts-from (views.build_asked at) view = none-new (views.build_asked at ∷ h) (past.offered offer.building) refl
+    puts-from (views.build_released at) view = none-new (views.build_released at ∷ h) (past.offered offer.released) refl
+    puts-from (views.verify_asked at p payload) view = (none-new (views.verify_asked at p payload ∷ h) (past.offered offer.verifying) refl, none-new (views.verify_asked at p payload ∷ h) (past.bound p payload) refl)
+    puts-from (views.ancestry_asked at missing) view = none-new (views.ancestry_asked at missing ∷ h) (past.asked missing) refl
+    puts-from (views.certify_asked at handle) view = none-new (views.certify_asked at handle ∷ h) (past.certifying handle) refl
+    puts-from (views.certify_waited at) view = tt
+    puts-from (views.voted_notarize at p) view = none-new (views.voted_notarize at p ∷ h) past.voted_notarize refl
+    puts-from (views.voted_nullify at) view = none-new (views.voted_nullify at ∷ h) past.voted_nullify refl
+    puts-from (views.voted_finalize at p) view = none-new (views.voted_finalize at p ∷ h) past.voted_finalize refl
+    puts-from (views.recalled_notarize p taken) view = (
+      none-new (views.recalled_notarize p taken ∷ h) past.voted_notarize refl,
+      none-new (views.recalled_notarize p taken ∷ h) (past.offered (offer.recorded p)) refl,
+      λ payload. none-new (views.recalled_notarize p taken ∷ h) (past.bound p payload) refl,
+    )
+    puts-from (views.recalled_nullify at) view = none-new (views.recalled_nullify at ∷ h) past.voted_nullify refl
+    puts-from (views.recalled_finalize p) view = none-new (views.recalled_finalize p ∷ h) past.voted_finalize refl
+    puts-from (views.recalled_verdict at ok) view = none-new (views.recalled_verdict at ok ∷ h) (past.judged ok) refl
+    puts-from (views.sent kind.Notarization at) view = none-new (views.sent kind.Notarization at ∷ h) past.sent_notarization refl
+    puts-from (views.sent kind.Nullification at) view = none-new (views.sent kind.Nullification at ∷ h) past.sent_nullification refl
+    puts-from (views.sent kind.Finalization at) view = none-new (views.sent kind.Finalization at ∷ h) past.sent_finalization refl
+    puts-from (views.polled now) view = none-new (views.polled now ∷ h) (past.polled (past.deadline now s.timeout_retry)) refl
+    puts-from views.pruned view = tt
 
   -- each certificate that is seen of a view came
-  seen-only : (h : List (views.Point S D P G C)) (view : ℕ) → Only h (seen s h view)
-  seen-only [] view = only-nil []
-  seen-only (p ∷ h) view = step p (only-further p h (seen s h view) (seen-only h view))
-    where
-      step : (q : views.Point S D P G C) → Only (q ∷ h) (seen s h view) → Only (q ∷ h) (seen s (q ∷ h) view)
-      step (views.started now payload) only = only-enter (views.started now payload ∷ h) (current s h) now 1 (seen s h) view only
-      step (views.notarized c) only = only-put (views.notarized c ∷ h) c.proposal.round.view (past.notarized c) (seen s h) view (λ d is. (views.notarized c, Contains-head (views.notarized c) h, is)) only
-      step (views.nullified now c) only = only-put (views.nullified now c ∷ h) c.round.view (past.nullified c) (enter s (current s h) now (next_term_start s.length c.round.view) (seen s h)) view
-          (λ d is. (views.nullified now c, Contains-head (views.nullified now c) h, is)) (only-enter (views.nullified now c ∷ h) (current s h) now (next_term_start s.length c.round.view) (seen s h) view only)
-      step (views.finalized now c) only = only-put (views.finalized now c ∷ h) c.proposal.round.view (past.finalized c) (enter s (current s h) now (c.proposal.round.view + 1) (seen s h)) view
-          (λ d is. (views.finalized now c, Contains-head (views.finalized now c) h, is)) (only-enter (views.finalized now c ∷ h) (current s h) now (c.proposal.round.view + 1) (seen s h) view only)
-      step (views.judged now at true) only = only-enter (views.judged now at true ∷ h) (current s h) now (at + 1) (put at (past.judged true) (seen s h)) view (only-plain (views.judged now at true ∷ h) at (past.judged true) (seen s h) view refl only)
-      step (views.judged now at false) only = failed (nat_le (current s h) at)
-        where
-          failed : (b : Bool) → Only (views.judged now at false ∷ h) ((if b then put at (past.latched now reason.FailedCertification) (put at (past.judged false) (seen s h)) else put at (past.judged false) (seen s h)) view)
-          failed true = only-plain (views.judged now at false ∷ h) at (past.latched now reason.FailedCertification) (put at (past.judged false) (seen s h)) view refl (only-plain (views.judged now at false ∷ h) at (past.judged false) (seen s h) view refl only)
-          failed false = only-plain (views.judged now at false ∷ h) at (past.judged false) (seen s h) view refl only
-      step (views.forwarded at p) only = taken (past.has_nullified (seen s h at))
-        where
-          taken : (b : Bool) → Only (views.forwarded at p ∷ h) ((if b then seen s h else put at (past.offered (offer.forwarded p)) (seen s h)) view)
-          taken true = only
-          taken false = only-plain (views.forwarded at p ∷ h) at (past.offered (offer.forwarded p)) (seen s h) view refl only
-      step (views.built now p payload) only = only-plain (views.built now p payload ∷ h) p.round.view (past.bound p payload) (put p.round.view (past.built now p) (seen s h)) view refl
-          (only-plain (views.built now p payload ∷ h) p.round.view (past.built now p) (seen s h) view refl only)
-      step (views.confirmed at) only = taken (past.has_nullified (seen s h at))
-        where
-          taken : (b : Bool) → Only (views.confirmed at ∷ h) ((if b then seen s h else put at (past.offered offer.confirmed) (seen s h)) view)
-          taken true = only
-          taken false = only-plain (views.confirmed at ∷ h) at (past.offered offer.confirmed) (seen s h) view refl only
-      step (views.unbound at) only = only-plain (views.unbound at ∷ h) at past.unbound (seen s h) view refl only
-      step (views.latched now at why) only = only-plain (views.latched now at why ∷ h) at (past.latched now why) (seen s h) view refl only
-      step (views.build_asked at) only = only-plain (views.build_asked at ∷ h) at (past.offered offer.building) (seen s h) view refl only
-      step (views.build_released at) only = only-plain (views.build_released at ∷ h) at (past.offered offer.released) (seen s h) view refl only
-      step (views.verify_asked at p payload) only = only-plain (views.verify_asked at p payload ∷ h) at (past.bound p payload) (put at (past.offered offer.verifying) (seen s h)) view refl
-          (only-plain (views.verify_asked at p payload ∷ h) at (past.offered offer.verifying) (seen s h) view refl only)
-      step (views.ancestry_asked at missing) only = only-plain (views.ancestry_asked at missing ∷ h) at (past.asked missing) (seen s h) view refl only
-      step (views.certify_asked at handle) only = only-plain (views.certify_asked at handle ∷ h) at (past.certifying handle) (seen s h) view refl only
-      step (views.certify_waited at) only = only
-      step (views.voted_notarize at p) only = only-plain (views.voted_notarize at p ∷ h) at past.voted_notarize (seen s h) view refl only
-      step (views.voted_nullify at) only = only-plain (views.voted_nullify at ∷ h) at past.voted_nullify (seen s h) view refl only
-      step (views.voted_finalize at p) only = only-plain (views.voted_finalize at p ∷ h) at past.voted_finalize (seen s h) view refl only
-      step (views.recalled_notarize p true) only = only-bind (views.recalled_notarize p true ∷ h) (undecided_payload (seen s h p.parent)) p (put p.round.view past.voted_notarize (put p.round.view (past.offered (offer.recorded p)) (seen s h))) view
-          (only-plain (views.recalled_notarize p true ∷ h) p.round.view past.voted_notarize (put p.round.view (past.offered (offer.recorded p)) (seen s h)) view refl
-          (only-plain (views.recalled_notarize p true ∷ h) p.round.view (past.offered (offer.recorded p)) (seen s h) view refl only))
-      step (views.recalled_notarize p false) only = only-bind (views.recalled_notarize p false ∷ h) (undecided_payload (seen s h p.parent)) p (put p.round.view past.voted_notarize (seen s h)) view
-          (only-plain (views.recalled_notarize p false ∷ h) p.round.view past.voted_notarize (seen s h) view refl only)
-      step (views.recalled_nullify at) only = only-plain (views.recalled_nullify at ∷ h) at past.voted_nullify (seen s h) view refl only
-      step (views.recalled_finalize p) only = only-plain (views.recalled_finalize p ∷ h) p.round.view past.voted_finalize (seen s h) view refl only
-      step (views.recalled_verdict at ok) only = only-plain (views.recalled_verdict at ok ∷ h) at (past.judged ok) (seen s h) view refl only
-      step (views.sent kind.Notarization at) only = only-plain (views.sent kind.Notarization at ∷ h) at past.sent_notarization (seen s h) view refl only
-      step (views.sent kind.Nullification at) only = only-plain (views.sent kind.Nullification at ∷ h) at past.sent_nullification (seen s h) view refl only
-      step (views.sent kind.Finalization at) only = only-plain (views.sent kind.Finalization at ∷ h) at past.sent_finalization (seen s h) view refl only
-      step (views.polled now) only = looked (nat_lt 0 (current s h))
-        where
-          looked : (b : Bool) → Only (views.polled now ∷ h) ((if b then put (current s h) (past.polled (past.deadline now s.timeout_retry)) (seen s h) else seen s h) view)
-          looked true = only-plain (views.polled now ∷ h) (current s h) (past.polled (past.deadline now s.timeout_retry)) (seen s h) view refl only
-          looked false = only
-      step views.pruned only = only-if (views.pruned ∷ h) (nat_lt view (min_active s (views.pruned ∷ h))) [] (seen s h view) (only-nil (views.pruned ∷ h)) only
+  seen-from : (h : List (views.Point S D P G C)) (view : ℕ) → AreGood (IsFrom h) (seen s h view)
+  seen-from [] view = tt
+  seen-from (p ∷ h) view = seen-good (IsFrom (p ∷ h)) s p h view (puts-from h p view)
+      (good-weaker (IsFrom h) (IsFrom (p ∷ h)) (λ x from c is. further p h c (from c is)) (seen s h view) (seen-from h view))
+
+  seen-only : (h : List (views.Point S D P G C)) (view : ℕ) (x : past.Item S D P G C) → Contains (seen s h view) x → (c : Certificate S D P G C) → item_certificate x ≡ Some c → Brought h c
+  seen-only h view x here c is = good-at (IsFrom h) (seen s h view) (seen-from h view) x here c is
 
   -- ---- so each that is found did
 

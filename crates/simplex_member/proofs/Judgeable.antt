@@ -31,7 +31,7 @@ module _ {S D P G C : Type 0} (g : Ghosts S D P G C) (f : Formats S D P G C) (s 
   due-taken law (q ∷ h) all p a = ((matches g f s law q h all).notarized p.round.view p a.due.opens.notarized).1
 
   -- so is one that was asked for
-  asked-taken : EachHistoryMatches S D P G C → (h : History S D P G C) → AreAllowed g f s h → (p : Proposal D) → Contains h (AsksCertify p) → HasTaken (entries (record_of h)) (notarize p)
+  pub asked-taken : EachHistoryMatches S D P G C → (h : History S D P G C) → AreAllowed g f s h → (p : Proposal D) → Contains h (AsksCertify p) → HasTaken (entries (record_of h)) (notarize p)
   asked-taken law [] all p here = absurd (omega (arith, here.1))
   asked-taken law (q ∷ h) all p here = ⊎_elim
       (λ is. says-on q h (recorded.taken (notarize p)) (due-taken law h all.1 p (subst (λ (x : Point S D P G C). Allowed g f s h x) is all.0)))

@@ -34,7 +34,11 @@ mod Doing
 mod Alone
 mod Making
 mod Reporting
+mod Seeing
 mod Entering
+mod Waiting
+mod Lone
 mod Spellings
 mod Serving
+mod Asking
 mod Blameless

@@ -1,5 +1,5 @@
 -- How often a step raises the current view: by each view whose votes were heard, once.
-use Rattle.std.proofs.Common.{◌≡◌, ⊎_elim, inl, inr, ℕ, suc, ◌+◌, ◌≤◌, ◌<◌, ◌==◌, Bool, true, false, List, [], ◌∷◌, length, Option, Some, None, refl, sym, ◌∙◌, ap, subst, arith}
+use Rattle.std.proofs.Common.{◌≡◌, ◌≢◌, ⊎_elim, inl, inr, ℕ, suc, ◌+◌, ◌≤◌, ◌<◌, ◌==◌, Bool, true, false, List, [], ◌∷◌, length, Option, Some, None, refl, sym, ◌∙◌, ap, subst, arith}
 use Rattle.std.specs.Prelude.{All, Contains, IfSome, IsSome, ◌⊎◌, ◌^◌, find, if◌then◌else◌, nat_lt, option_map}
 use Rattle.std.specs.Option.{option_or}
 use Rattle.std.proofs.lemmas.Bool.{le-ltb, lt-ltb, ltb-false, ltb-true}
@@ -22,7 +22,6 @@ use Rattle.simplex_messages.specs.VoteParts.{vote_round, vote_signer}
 use Rattle.simplex_record.specs.Record as recorded
 use Rattle.simplex_record.specs.Record.{Entry, entry, entries, HasTaken}
 use Rattle.simplex_record.specs.Rules.{AreAlike, MayTake}
-use Rattle.simplex_rules.specs.Windows.{HasExactly}
 use Rattle.simplex_judging.specs.declared.kind.Kind.{Kind}
 use Rattle.simplex_verifier.specs.declared.batch.Batch.{Batch}
 use Rattle.simplex_verifier.specs.Construction.{after}
@@ -33,7 +32,7 @@ use Rattle.simplex_member.specs.declared.event.Event.{Event}
 use Rattle.simplex_member.specs.Allowed.{Allowed, AreAllowed, MayRecord}
 use Rattle.simplex_member.specs.Laws.{IsKnownVote, IsOfVote, RecordLaws, RoundLaws, raises}
 use Rattle.simplex_member.specs.Layers.{all_votes, current_of, finalized_of, floor_of, opened, opens, passes_over, stage, votes_of, votes_setup}
-use Rattle.simplex_member.specs.Member.{AreStep, Goes}
+use Rattle.simplex_member.specs.Member.{AreStep, Goes, IsPointOf}
 use Rattle.simplex_member.specs.Packet.{Formats}
 use Rattle.simplex_member.specs.Point as point
 use Rattle.simplex_member.specs.Point.{AreActs, Point, Found, Began, Opened, Told, Heard, Came, Wanted, Built, Checked, Leads, Forwards, Constructs, Votes, History, is_act}
@@ -69,12 +68,12 @@ either : (b : Bool) (n rounds : ℕ) → n ≤ rounds + 1 → (if b then 1 else 
 either true n rounds few = omega (arith, few)
 either false n rounds few = omega (arith, few)
 
-some-either : (b : Bool) (o : Option Bool) (d : Bool) → IsSome o → IsSome (if b then option_or o (Some d) else o)
+pub some-either : (b : Bool) (o : Option Bool) (d : Bool) → IsSome o → IsSome (if b then option_or o (Some d) else o)
 some-either true None d some = refl
 some-either true (Some x) d some = refl
 some-either false o d some = some
 
-some-first : (o : Option Bool) (d : Bool) → IsSome (option_or o (Some d))
+pub some-first : (o : Option Bool) (d : Bool) → IsSome (option_or o (Some d))
 some-first None d = refl
 some-first (Some x) d = refl
 
@@ -92,7 +91,7 @@ module _ {D : Type 0} where
 
 module _ {S D P G C : Type 0} where
   -- a certificate that may lead to a new view
-  abbrev leads_on : Certificate S D P G C → Bool
+  abbrev pub leads_on : Certificate S D P G C → Bool
   leads_on (certificate.Notarization c) = false
   leads_on (certificate.Nullification c) = true
   leads_on (certificate.Finalization c) = true
@@ -176,7 +175,7 @@ module _ {S D P G C : Type 0} where
   heard_view (Heard v) = (vote_round v).view
   heard_view p = 0
 
-  abbrev view_of : Point S D P G C → ℕ
+  abbrev pub view_of : Point S D P G C → ℕ
   view_of (Constructs view kind batch) = view
   view_of p = 0
 
@@ -262,7 +261,7 @@ module _ {S D P G C : Type 0} (g : Ghosts S D P G C) (f : Formats S D P G C) (s 
   }
 
   -- a construction that raises the current view
-  record IsRise (p : Point S D P G C) : Type 0 where
+  pub record IsRise (p : Point S D P G C) : Type 0 where
     pub view : ℕ
     pub kind : Kind
     pub batch : Batch (Certificate S D P G C)
@@ -272,7 +271,7 @@ module _ {S D P G C : Type 0} (g : Ghosts S D P G C) (f : Formats S D P G C) (s 
     pub leads : leads_on c ≡ true
 
   -- of the acts constructions alone raise it
-  rise-of : (p : Point S D P G C) (h : History S D P G C) → is_act p ≡ true → nat_lt (current_of s h) (current_of s (p ∷ h)) ≡ true → IsRise p
+  pub rise-of : (p : Point S D P G C) (h : History S D P G C) → is_act p ≡ true → nat_lt (current_of s h) (current_of s (p ∷ h)) ≡ true → IsRise p
   rise-of (Opened now) h act up = absurd (apart act)
   rise-of (Found x taken) h act up = absurd (apart act)
   rise-of Began h act up = absurd (apart act)
@@ -295,36 +294,53 @@ module _ {S D P G C : Type 0} (g : Ghosts S D P G C) (f : Formats S D P G C) (s 
   rise-of (Votes (vote.Finalize v)) h act up = absurd (no-less (current_of s h) up)
   rise-of p h act up = absurd (no-less (current_of s h) up)
 
-  module _ (grows : RecordLaws g) (laws : RoundLaws g f.same) (backed : (x : Statement D) (certificate : C) → g.certifies s.voter.scheme x certificate → IsQuorum (g.size s.voter.scheme) (λ i a. g.attests s.voter.scheme i x a) (g.lists certificate)) (several : 1 < g.size s.voter.scheme) where
+  -- ---- counting
+
+  -- the views of the constructions that raise the current view
+  abbrev pub ways : History S D P G C → List (Point S D P G C) → List ℕ
+  ways h [] = []
+  ways h (p ∷ points) = if nat_lt (current_of s h) (current_of s (p ∷ h)) then view_of p ∷ ways (p ∷ h) points else ways (p ∷ h) points
+
+  ways-length : (h : History S D P G C) (points : List (Point S D P G C)) → raises g f s h points ≡ length (ways h points)
+  ways-length h [] = refl
+  ways-length h (p ∷ points) = go (nat_lt (current_of s h) (current_of s (p ∷ h))) (ways-length (p ∷ h) points)
+    where
+      go : (b : Bool) → raises g f s (p ∷ h) points ≡ length (ways (p ∷ h) points) → (if b then 1 else 0) + raises g f s (p ∷ h) points ≡ length (if b then view_of p ∷ ways (p ∷ h) points else ways (p ∷ h) points)
+      go true e = omega (arith, e)
+      go false e = omega (arith, e)
+
+  pub way-cases : (h : History S D P G C) (p : Point S D P G C) (points : List (Point S D P G C)) (x : ℕ) → Contains (ways h (p ∷ points)) x
+      → ((nat_lt (current_of s h) (current_of s (p ∷ h)) ≡ true) × (view_of p ≡ x)) ⊎ Contains (ways (p ∷ h) points) x
+  way-cases h p points x here = go (nat_lt (current_of s h) (current_of s (p ∷ h))) refl here
+    where
+      go : (b : Bool) → nat_lt (current_of s h) (current_of s (p ∷ h)) ≡ b → Contains (if b then view_of p ∷ ways (p ∷ h) points else ways (p ∷ h) points) x
+          → ((nat_lt (current_of s h) (current_of s (p ∷ h)) ≡ true) × (view_of p ≡ x)) ⊎ Contains (ways (p ∷ h) points) x
+      go true e there = ⊎_elim (λ is. inl (e, is)) (λ later. inr later) (Contains-cases (view_of p) (ways (p ∷ h) points) x there)
+      go false e there = inr there
+
+  pub acts-head : (p : Point S D P G C) (points : List (Point S D P G C)) → AreActs (p ∷ points) → is_act p ≡ true
+  acts-head p points acts = acts 0 p (omega arith)
+
+  pub acts-rest : (p : Point S D P G C) (points : List (Point S D P G C)) → AreActs (p ∷ points) → AreActs points
+  acts-rest p points acts = λ k d l. acts (suc k) d (omega (arith, l))
+
+  module _ (grows : RecordLaws g) (laws : RoundLaws g f.same) (backed : (x : Statement D) (certificate : C) → g.certifies s.voter.scheme x certificate → IsQuorum (g.size s.voter.scheme) (λ i a. g.attests s.voter.scheme i x a) (g.lists certificate)) (some : 0 < g.size s.voter.scheme) where
     module _ (h : History S D P G C) (all : AreAllowed g f s h) (view : ℕ) (kind : Kind) (batch : Batch (Certificate S D P G C)) (a : Allowed g f s h (Constructs view kind batch)) (c : Certificate S D P G C) (made : batch.certificate ≡ Some c) (leads : leads_on c ≡ true) where
       may : MayRecord g f s h (certificate_artifact c)
       may = subst (λ (o : Option (Certificate S D P G C)). IfSome (option_map certificate_artifact o) (MayRecord g f s h)) made a.fits
 
-      at : (certificate_round c).view ≡ view
+      pub at : (certificate_round c).view ≡ view
       at = ap (λ (r : Round). r.view) (batch-round g f s (votes_setup s g h view) kind (votes_of s h view) batch c a.due.2 made)
 
-      voted : (x : Attestation G) → Contains (g.lists (certified_by c)) x → IsOfVote g f s h (certificate_statement c) x
+      pub voted : (x : Attestation G) → Contains (g.lists (certified_by c)) x → IsOfVote g f s h (certificate_statement c) x
       voted x here = made-lists g f s laws h all view kind batch a c made x here
 
-      listed : IsQuorum (g.size s.voter.scheme) (λ i x. g.attests s.voter.scheme i (certificate_statement c) x) (g.lists (certified_by c))
+      pub listed : IsQuorum (g.size s.voter.scheme) (λ i x. g.attests s.voter.scheme i (certificate_statement c) x) (g.lists (certified_by c))
       listed = backed (certificate_statement c) (certified_by c) (does-certify h c may)
 
       -- a listed vote is of the view
-      of-view : (x : Attestation G) (is : IsOfVote g f s h (certificate_statement c) x) → (vote_round is.vote).view ≡ view
+      pub of-view : (x : Attestation G) (is : IsOfVote g f s h (certificate_statement c) x) → (vote_round is.vote).view ≡ view
       of-view x is = ap (λ (r : Round). r.view) (sym (vote-stated is.vote) ∙ (ap statement_round is.states ∙ certificate-stated c)) ∙ at
-
-      -- a vote of the view was heard
-      some-heard : (v : Vote S D P G C) × Contains h (Heard v) × ((vote_round v).view ≡ view)
-      some-heard =
-          let q = signers-AreQuorum (g.size s.voter.scheme) (λ i x. g.attests s.voter.scheme i (certificate_statement c) x) (g.lists (certified_by c)) listed in
-          let other = escapes (signers (g.lists (certified_by c))) (s.me ∷ []) q.once (omega (arith, q.enough, several)) in
-          let x = Contains-mapped (λ (b : Attestation G). b.signer) (g.lists (certified_by c)) other.0 other.1 in
-          let is = voted x.0 x.1 in
-          let signer : vote_signer is.vote ≡ other.0 = sym (signer-of is.vote) ∙ (ap (λ (b : Attestation G). b.signer) is.attestation_is ∙ x.2) in
-          ⊎_elim
-          (λ heard. (is.vote, heard, of-view x.0 is))
-          (λ own. absurd (other.2 (subst (λ (n : ℕ). Contains (s.me ∷ []) n) (sym own.0 ∙ signer) (Contains-head s.me []))))
-          is.known
 
       -- behind it the view is one that a certificate led on from
       new-way : IsWay (Constructs view kind batch ∷ h) view
@@ -343,7 +359,7 @@ module _ {S D P G C : Type 0} (g : Ghosts S D P G C) (f : Formats S D P G C) (s 
       way-again way =
           let this : ℕ → G → Type 0 = λ i x. g.attests s.voter.scheme i (certificate_statement c) x in
           let that : ℕ → G → Type 0 = λ i x. g.attests s.voter.scheme i (certificate_statement way.c) x in
-          let both = two_quorums_attest (g.size s.voter.scheme) this that (g.lists (certified_by c)) (g.lists (certified_by way.c)) (omega (arith, several)) listed way.listed in
+          let both = two_quorums_attest (g.size s.voter.scheme) this that (g.lists (certified_by c)) (g.lists (certified_by way.c)) (omega (arith, some)) listed way.listed in
           let one = pick (λ i. AttestsIn this (g.lists (certified_by c)) i × AttestsIn that (g.lists (certified_by way.c)) i) both.0 (omega (arith, both.3)) both.4 in
           let x = one.1.0 in
           let y = one.1.1 in
@@ -358,36 +374,6 @@ module _ {S D P G C : Type 0} (g : Ghosts S D P G C) (f : Formats S D P G C) (s 
           let same : u.vote ≡ v.vote = known-apart grows h all v.vote u.vote v.known u.known (u_at ∙ sym (of-view x.0 v)) signer (in-way v.vote u.vote v_other u_other signer) in
           let alike : certificate_statement c ≡ certificate_statement way.c = sym v.states ∙ (ap vote_statement (sym same) ∙ u.states) in
           (may-take h c may).first (certificate_statement way.c) (subst (λ (z : Statement D). AreAlike (certificate_statement c) z) alike (same-alike (certificate_statement c))) way.taken
-
-    -- ---- counting
-
-    -- the views of the constructions that raise the current view
-    abbrev ways : History S D P G C → List (Point S D P G C) → List ℕ
-    ways h [] = []
-    ways h (p ∷ points) = if nat_lt (current_of s h) (current_of s (p ∷ h)) then view_of p ∷ ways (p ∷ h) points else ways (p ∷ h) points
-
-    ways-length : (h : History S D P G C) (points : List (Point S D P G C)) → raises g f s h points ≡ length (ways h points)
-    ways-length h [] = refl
-    ways-length h (p ∷ points) = go (nat_lt (current_of s h) (current_of s (p ∷ h))) (ways-length (p ∷ h) points)
-      where
-        go : (b : Bool) → raises g f s (p ∷ h) points ≡ length (ways (p ∷ h) points) → (if b then 1 else 0) + raises g f s (p ∷ h) points ≡ length (if b then view_of p ∷ ways (p ∷ h) points else ways (p ∷ h) points)
-        go true e = omega (arith, e)
-        go false e = omega (arith, e)
-
-    way-cases : (h : History S D P G C) (p : Point S D P G C) (points : List (Point S D P G C)) (x : ℕ) → Contains (ways h (p ∷ points)) x
-        → ((nat_lt (current_of s h) (current_of s (p ∷ h)) ≡ true) × (view_of p ≡ x)) ⊎ Contains (ways (p ∷ h) points) x
-    way-cases h p points x here = go (nat_lt (current_of s h) (current_of s (p ∷ h))) refl here
-      where
-        go : (b : Bool) → nat_lt (current_of s h) (current_of s (p ∷ h)) ≡ b → Contains (if b then view_of p ∷ ways (p ∷ h) points else ways (p ∷ h) points) x
-            → ((nat_lt (current_of s h) (current_of s (p ∷ h)) ≡ true) × (view_of p ≡ x)) ⊎ Contains (ways (p ∷ h) points) x
-        go true e there = ⊎_elim (λ is. inl (e, is)) (λ later. inr later) (Contains-cases (view_of p) (ways (p ∷ h) points) x there)
-        go false e there = inr there
-
-    acts-head : (p : Point S D P G C) (points : List (Point S D P G C)) → AreActs (p ∷ points) → is_act p ≡ true
-    acts-head p points acts = acts 0 p (omega arith)
-
-    acts-rest : (p : Point S D P G C) (points : List (Point S D P G C)) → AreActs (p ∷ points) → AreActs points
-    acts-rest p points acts = λ k d l. acts (suc k) d (omega (arith, l))
 
     -- no view leads on twice
     none-again : (h : History S D P G C) → AreAllowed g f s h → (points : List (Point S D P G C)) (end : History S D P G C) → Goes g f s h points end → AreActs points → (x : ℕ) → IsWay h x → Contains (ways h points) x → ⊥
@@ -414,44 +400,76 @@ module _ {S D P G C : Type 0} (g : Ghosts S D P G C) (f : Formats S D P G C) (s 
 
     -- ---- a step
 
-    module _ (start : History S D P G C) (begun : AreAllowed g f s start) (first : Point S D P G C) (rounds : ℕ) (exactly : HasExactly (λ view. IsSome (stage s start view)) rounds) where
-      -- of a view that leads on votes were kept when the step began, or the event was its first
-      ways-listed : (h : History S D P G C) → AreAllowed g f s h → (points : List (Point S D P G C)) (end : History S D P G C) → Goes g f s h points end → AreActs points
-          → ((v : Vote S D P G C) → Contains h (Heard v) → Contains (first ∷ start) (Heard v)) → finalized_of s start ≤ finalized_of s h
-          → (x : ℕ) → Contains (ways h points) x → Contains (heard_view first ∷ exactly.numbers) x
-      ways-listed h all [] end goes acts heard final x here = absurd (omega (arith, here.1))
-      ways-listed h all (p ∷ points) end goes acts heard final x here = ⊎_elim
-          (λ up.
-          let rise = rise-of p h (acts-head p points acts) up.0 in
-          let view_is : rise.view ≡ x = sym (ap view_of rise.is) ∙ up.1 in
-          let a = subst (λ (q : Point S D P G C). Allowed g f s h q) rise.is goes.0 in
-          let some = some-heard h all rise.view rise.kind rise.batch a rise.c rise.made rise.leads in
-          let at : (vote_round some.0).view ≡ x = some.2 ∙ view_is in
-          ⊎_elim
-          (λ now. subst (λ (n : ℕ). Contains (heard_view first ∷ exactly.numbers) n) (ap heard_view now ∙ at) (Contains-head (heard_view first) exactly.numbers))
-          (λ before.
-          let kept = ltb-false rise.view (floor_of s h) (stage-kept g f s h rise.view (some-from g f s (stage s h rise.view) false a.due.0)) in
-          let low : floor_of s start ≤ (vote_round some.0).view = omega (arith, kept, final, some.2) in
-          let there : IsSome (stage s start (vote_round some.0).view) = rw (le-ltb (vote_round some.0).view (floor_of s start) low) (heard-opened start begun some.0 before) in
-          Contains-rest (heard_view first) exactly.numbers x ((exactly.exact x).1 (subst (λ (n : ℕ). IsSome (stage s start n)) at there)))
-          (Contains-cases first start (Heard some.0) (heard some.0 some.1)))
-          (λ later. ways-listed (p ∷ h) (goes.0, all) points end goes.1 (acts-rest p points acts)
-          (λ v there. ⊎_elim (λ is. absurd (act-hears-none p v (acts-head p points acts) is)) (λ before. heard v before) (Contains-cases p h (Heard v) there))
-          (let rises = (goes-rise g f s h (p ∷ h) (p ∷ []) (goes.0, refl)).1 in omega (arith, final, rises)) x later)
-          (way-cases h p points x here)
+    -- where each view that leads on is one of these, acts raise the current view no more often than there are of these
+    acts-few : (h : History S D P G C) → AreAllowed g f s h → (acts : List (Point S D P G C)) (end : History S D P G C) → Goes g f s h acts end → AreActs acts → (these : List ℕ)
+        → ((x : ℕ) → Contains (ways h acts) x → Contains these x) → raises g f s h acts ≤ length these
+    acts-few h all acts end goes own these within =
+        let few = no_longer (ways h acts) these (ways-once h all acts end goes own) within in
+        omega (arith, few, ways-length h acts)
 
-      acts-raise : Allowed g f s start first → (acts : List (Point S D P G C)) (end : History S D P G C) → Goes g f s (first ∷ start) acts end → AreActs acts → raises g f s (first ∷ start) acts ≤ rounds + 1
-      acts-raise a acts end goes own =
-          let all : AreAllowed g f s (first ∷ start) = (a, begun) in
-          let few = no_longer (ways (first ∷ start) acts) (heard_view first ∷ exactly.numbers) (ways-once (first ∷ start) all acts end goes own)
-          (λ x here. ways-listed (first ∷ start) all acts end goes own (λ v there. there) (goes-rise g f s start (first ∷ start) (first ∷ []) (a, refl)).1 x here) in
-          omega (arith, few, ways-length (first ∷ start) acts, exactly.count_is)
-
-    -- a step raises it at most once by its event, and once by each of these
-    pub step-raises : (h : History S D P G C) → AreAllowed g f s h → (e : Event D) (more : List (Point S D P G C)) (end : History S D P G C) → AreStep g f s h e more → Goes g f s h more end → (rounds : ℕ)
-        → HasExactly (λ view. IsSome (stage s h view)) rounds → raises g f s h more ≤ rounds + 2
-    step-raises h all e more end step goes rounds exactly =
+    -- so a step raises it no more often than there are others beside one, and one by its event, and that one
+    pub step-few : (h : History S D P G C) → AreAllowed g f s h → (e : Event D) (more : List (Point S D P G C)) (end : History S D P G C) → AreStep g f s h e more → Goes g f s h more end
+        → (one : Point S D P G C → ℕ) (others : List ℕ)
+        → ((first : Point S D P G C) (acts : List (Point S D P G C)) → Allowed g f s h first → IsPointOf g f s e first → Goes g f s (first ∷ h) acts end → AreActs acts → (x : ℕ) → Contains (ways (first ∷ h) acts) x → Contains (one first ∷ others) x)
+        → raises g f s h more ≤ length others + 2
+    step-few h all e more end step goes one others within =
         let gone = subst (λ (l : List (Point S D P G C)). Goes g f s h l end) step.split goes in
-        let acts = acts-raise h all step.first rounds exactly gone.0 step.acts end gone.1 step.own in
-        subst (λ (l : List (Point S D P G C)). raises g f s h l ≤ rounds + 2) (sym step.split)
-        (either (nat_lt (current_of s h) (current_of s (step.first ∷ h))) (raises g f s (step.first ∷ h) step.acts) rounds acts)
+        let few = acts-few (step.first ∷ h) (gone.0, all) step.acts end gone.1 step.own (one step.first ∷ others) (within step.first step.acts gone.0 step.of_it gone.1 step.own) in
+        let less : raises g f s (step.first ∷ h) step.acts ≤ length others + 1 = omega (arith, few) in
+        subst (λ (l : List (Point S D P G C)). raises g f s h l ≤ length others + 2) (sym step.split)
+        (either (nat_lt (current_of s h) (current_of s (step.first ∷ h))) (raises g f s (step.first ∷ h) step.acts) (length others) less)
+
+    -- ---- where each quorum has another member
+
+    module _ (other : (x : Statement D) (listed : List (Attestation G)) → IsQuorum (g.size s.voter.scheme) (λ i a. g.attests s.voter.scheme i x a) listed → (i : ℕ) × Contains (signers listed) i × (i ≢ s.me)) where
+      -- a vote of the view was heard
+      some-heard : (h : History S D P G C) → AreAllowed g f s h → (view : ℕ) (kind : Kind) (batch : Batch (Certificate S D P G C)) → Allowed g f s h (Constructs view kind batch) → (c : Certificate S D P G C) → batch.certificate ≡ Some c → leads_on c ≡ true
+          → (v : Vote S D P G C) × Contains h (Heard v) × ((vote_round v).view ≡ view)
+      some-heard h all view kind batch a c made leads =
+          let one = other (certificate_statement c) (g.lists (certified_by c)) (listed h all view kind batch a c made leads) in
+          let x = Contains-mapped (λ (b : Attestation G). b.signer) (g.lists (certified_by c)) one.0 one.1 in
+          let is = voted h all view kind batch a c made leads x.0 x.1 in
+          let signer : vote_signer is.vote ≡ one.0 = sym (signer-of is.vote) ∙ (ap (λ (b : Attestation G). b.signer) is.attestation_is ∙ x.2) in
+          ⊎_elim
+          (λ heard. (is.vote, heard, of-view h all view kind batch a c made leads x.0 is))
+          (λ own. absurd (one.2 (sym signer ∙ own.0)))
+          is.known
+
+      module _ (start : History S D P G C) (begun : AreAllowed g f s start) (first : Point S D P G C) (numbers : List ℕ) (kept : (x : ℕ) → IsSome (stage s start x) → Contains numbers x) where
+        -- of a view that leads on votes were kept when the step began, or the event was its first
+        ways-listed : (h : History S D P G C) → AreAllowed g f s h → (points : List (Point S D P G C)) (end : History S D P G C) → Goes g f s h points end → AreActs points
+            → ((v : Vote S D P G C) → Contains h (Heard v) → Contains (first ∷ start) (Heard v)) → finalized_of s start ≤ finalized_of s h
+            → (x : ℕ) → Contains (ways h points) x → Contains (heard_view first ∷ numbers) x
+        ways-listed h all [] end goes acts heard final x here = absurd (omega (arith, here.1))
+        ways-listed h all (p ∷ points) end goes acts heard final x here = ⊎_elim
+            (λ up.
+            let rise = rise-of p h (acts-head p points acts) up.0 in
+            let view_is : rise.view ≡ x = sym (ap view_of rise.is) ∙ up.1 in
+            let a = subst (λ (q : Point S D P G C). Allowed g f s h q) rise.is goes.0 in
+            let some_vote = some-heard h all rise.view rise.kind rise.batch a rise.c rise.made rise.leads in
+            let at_view : (vote_round some_vote.0).view ≡ x = some_vote.2 ∙ view_is in
+            ⊎_elim
+            (λ now. subst (λ (n : ℕ). Contains (heard_view first ∷ numbers) n) (ap heard_view now ∙ at_view) (Contains-head (heard_view first) numbers))
+            (λ before.
+            let high = ltb-false rise.view (floor_of s h) (stage-kept g f s h rise.view (some-from g f s (stage s h rise.view) false a.due.0)) in
+            let low : floor_of s start ≤ (vote_round some_vote.0).view = omega (arith, high, final, some_vote.2) in
+            let there : IsSome (stage s start (vote_round some_vote.0).view) = rw (le-ltb (vote_round some_vote.0).view (floor_of s start) low) (heard-opened start begun some_vote.0 before) in
+            Contains-rest (heard_view first) numbers x (kept x (subst (λ (n : ℕ). IsSome (stage s start n)) at_view there)))
+            (Contains-cases first start (Heard some_vote.0) (heard some_vote.0 some_vote.1)))
+            (λ later. ways-listed (p ∷ h) (goes.0, all) points end goes.1 (acts-rest p points acts)
+            (λ v there. ⊎_elim (λ is. absurd (act-hears-none p v (acts-head p points acts) is)) (λ before. heard v before) (Contains-cases p h (Heard v) there))
+            (let rises = (goes-rise g f s h (p ∷ h) (p ∷ []) (goes.0, refl)).1 in omega (arith, final, rises)) x later)
+            (way-cases h p points x here)
+
+      -- a step raises it at most once by its event, once by the view of a vote that it brings, and once by each view whose votes were kept
+      pub step-raises : (h : History S D P G C) → AreAllowed g f s h → (e : Event D) (more : List (Point S D P G C)) (end : History S D P G C) → AreStep g f s h e more → Goes g f s h more end
+          → (numbers : List ℕ) → ((x : ℕ) → IsSome (stage s h x) → Contains numbers x) → raises g f s h more ≤ length numbers + 2
+      step-raises h all e more end step goes numbers kept = step-few h all e more end step goes heard_view numbers
+          (λ first acts a of_it gone own x here. ways-listed h all first numbers kept (first ∷ h) (a, all) acts end gone own (λ v there. there) (goes-rise g f s h (first ∷ h) (first ∷ []) (a, refl)).1 x here)
+
+-- in a committee of more than one each quorum has another member
+pub of-several : {G : Type 0} (n me : ℕ) (attests : ℕ → G → Type 0) (listed : List (Attestation G)) → 1 < n → IsQuorum n attests listed → (i : ℕ) × Contains (signers listed) i × (i ≢ me)
+of-several n me attests listed several quorate =
+    let q = signers-AreQuorum n attests listed quorate in
+    let other = escapes (signers listed) (me ∷ []) q.once (omega (arith, q.enough, several)) in
+    (other.0, other.1, λ same. other.2 (subst (λ (i : ℕ). Contains (me ∷ []) i) (sym same) (Contains-head me [])))

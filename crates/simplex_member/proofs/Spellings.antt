@@ -1,18 +1,24 @@
 -- Packets that can be read are read back from their own bytes.
-use Rattle.std.proofs.Common.{◌≡◌, ℕ, Bool, List, [], ◌∷◌, Some, Result, Ok, Err, refl, sym, ◌∙◌, ap, subst}
+use Rattle.std.proofs.Common.{◌≡◌, ℕ, ◌<◌, Bool, List, [], ◌∷◌, Some, Result, Ok, Err, refl, sym, ◌∙◌, ap, subst, arith}
 use Rattle.std.specs.Prelude.{◌-◌, ◌^◌, option_map}
 use Rattle.std.proofs.lemmas.List.{append-nil}
 use Rattle.std.proofs.lemmas.Option.{none-some}
 use Rattle.simplex_codec.specs.declared.codec.CodecError.{CodecError}
 use Rattle.simplex_codec.specs.Codec.{IsCodec, Readable}
-use Rattle.simplex_codec.specs.Varint.{varint_at, varint-IsCodec}
+use Rattle.simplex_codec.specs.Varint.{varint, varint_at, varint-IsCodec}
+use Rattle.simplex_certificates.specs.declared.artifact.Artifact.TheVariants as artifact
 use Rattle.simplex_certificates.specs.declared.certificate.Certificate.{Certificate}
-use Rattle.simplex_certificates.specs.Certificate.{any_certificate_at, any_certificate-IsCodec}
+use Rattle.simplex_certificates.specs.declared.certificate.Certificate.TheVariants as certificate
+use Rattle.simplex_certificates.specs.Artifact.{artifact_fits, artifact_within}
+use Rattle.simplex_certificates.specs.Certificate.{any_certificate_at, any_certificate_fits, any_certificate_spelling, any_certificate_within, any_certificate-IsCodec, certificate_round}
+use Rattle.simplex_certificates.specs.Nullification.{nullification_fits}
+use Rattle.simplex_certificates.specs.ProposalCertificate.{certificate_fits}
 use Rattle.simplex_messages.specs.declared.vote.Vote.{Vote}
-use Rattle.simplex_messages.specs.Vote.{any_vote_at, any_vote-IsCodec}
+use Rattle.simplex_messages.specs.declared.vote.Vote.TheVariants as vote
+use Rattle.simplex_messages.specs.Vote.{any_vote_at, any_vote_fits, any_vote_spelling, any_vote-IsCodec}
 use Rattle.simplex_member.specs.declared.event.Channel.{Channel}
 use Rattle.simplex_member.specs.declared.event.Channel.TheVariants as channel
-use Rattle.simplex_member.specs.Laws.{AreReadBack}
+use Rattle.simplex_member.specs.Laws.{AreReadBack, CanBeSent}
 use Rattle.simplex_member.specs.Packet.{Formats, IsReadable, Packet, formats, of_ask, of_certificate, of_vote, packet_channel, whole}
 use Rattle.simplex_member.proofs.Entering.{mapped}
 use Rattle.simplex_member.proofs.Lists.{some-is}
@@ -36,7 +42,28 @@ mapped-again {A} {B} {Fits} {spelling} {reading} made codec one bytes x is =
     let same : of.x ≡ x = one of.x x of.gives in
     ap (option_map made) (read-again codec bytes x (of.is ∙ ap (λ (y : A). Some y) same))
 
+-- what can be read at all is read of its own spelling, under another form
+spelled-so : {A B : Type 0} {Fits : A → Type 0} {spelling : A → List ℕ} {reading : List ℕ → Result (A × List ℕ) CodecError} (made : A → B) → IsCodec Fits spelling reading
+    → (x : A) → Fits x → option_map made (whole (reading (spelling x))) ≡ Some (made x)
+spelled-so {A} {B} {Fits} {spelling} {reading} made codec x fits =
+    ap (λ (r : Result (A × List ℕ) CodecError). option_map made (whole r)) (subst (λ (l : List ℕ). reading l ≡ Ok (x, [])) (append-nil (spelling x)) (codec.again x [] fits))
+
+-- and what was read can be read
+read-fits : {A B : Type 0} {Fits : A → Type 0} {spelling : A → List ℕ} {reading : List ℕ → Result (A × List ℕ) CodecError} (made : A → B) → IsCodec Fits spelling reading → ((x y : A) → made x ≡ made y → x ≡ y)
+    → (bytes : List ℕ) (x : A) → option_map made (whole (reading bytes)) ≡ Some (made x) → Fits x
+read-fits {A} {B} {Fits} {spelling} {reading} made codec one bytes x is =
+    let of = mapped made (whole (reading bytes)) (made x) is in
+    let same : of.x ≡ x = one of.x x of.gives in
+    (codec.takes bytes x [] (whole-is (reading bytes) x (of.is ∙ ap (λ (y : A). Some y) same))).1
+
 module _ {S D P G C : Type 0} where
+  -- a certificate that fits its types is of a view of 64 bits
+  view-fits : (Q : D → Type 0) (R : C → Type 0) (c : Certificate S D P G C) → any_certificate_fits Q R c → (certificate_round c).view < 2 ^ 64
+  unfolding any_certificate_fits certificate_fits nullification_fits
+  view-fits Q R (certificate.Notarization c) fits = omega (arith, fits.0.0.0.1)
+  view-fits Q R (certificate.Nullification c) fits = omega (arith, fits.0.1)
+  view-fits Q R (certificate.Finalization c) fits = omega (arith, fits.0.0.0.1)
+
   vote-is : (v u : Vote S D P G C) → of_vote v ≡ of_vote u → v ≡ u
   vote-is v u e = ap inside e
     where
@@ -77,5 +104,28 @@ module _ {S D P G C : Type 0} where
     by-channel channel.Certificates bytes x is = let of = mapped of_certificate (whole (any_certificate_at (p_at n) (r_at n) bytes)) x is in sym (ap packet_channel of.gives)
     by-channel channel.Fetches bytes x is = let of = mapped of_ask (whole (varint_at (2 ^ 64 - 1) bytes)) x is in sym (ap packet_channel of.gives)
 
+    views : (c : Certificate S D P G C) → IsReadable These (of_certificate c) → (certificate_round c).view < 2 ^ 64
+    views c readable = view-fits Q R c (read-fits {reading = any_certificate_at (p_at n) (r_at n)} of_certificate (any_certificate-IsCodec payloads certificates) certificate-is readable.0 c readable.1).0
+
+    asks : (view : ℕ) → view < 2 ^ 64 → IsReadable These (of_ask view)
+    asks view small = (varint view, spelled-so {reading = varint_at (2 ^ 64 - 1)} of_ask (varint-IsCodec (2 ^ 64 - 1)) view (omega (arith, small)))
+
     pub read-back : AreReadBack These
-    read-back = record { by_channel = by-channel; again = read-so; certificates = λ c. refl }
+    read-back = record { by_channel = by-channel; again = read-so; certificates = λ c. refl; views = views; asks = asks }
+
+    vote-sent : (v : Vote S D P G C) → any_vote_fits Q F v → IsReadable These (of_vote v)
+    vote-sent v fits = (any_vote_spelling p q v, spelled-so {reading = any_vote_at (p_at n) (q_at n)} of_vote (any_vote-IsCodec payloads signatures) v fits)
+
+    certificate-sent : (c : Certificate S D P G C) → Readable (any_certificate_fits Q R) (any_certificate_within W) c → IsReadable These (of_certificate c)
+    certificate-sent c fits = (any_certificate_spelling p r c, spelled-so {reading = any_certificate_at (p_at n) (r_at n)} of_certificate (any_certificate-IsCodec payloads certificates) c fits)
+
+    -- an artifact that can be read under the bound of the packets can be read as one
+    pub can-be-sent : CanBeSent (Readable (artifact_fits Q F R) (artifact_within W)) These
+    unfolding artifact_fits artifact_within any_vote_fits any_certificate_fits any_certificate_within
+    can-be-sent (artifact.Notarize v) fits = vote-sent (vote.Notarize v) fits.0
+    can-be-sent (artifact.Notarization c) fits = certificate-sent (certificate.Notarization c) fits
+    can-be-sent (artifact.Certification round ok) fits = tt
+    can-be-sent (artifact.Nullify v) fits = vote-sent (vote.Nullify v) fits.0
+    can-be-sent (artifact.Nullification c) fits = certificate-sent (certificate.Nullification c) fits
+    can-be-sent (artifact.Finalize v) fits = vote-sent (vote.Finalize v) fits.0
+    can-be-sent (artifact.Finalization c) fits = certificate-sent (certificate.Finalization c) fits

@@ -1,6 +1,6 @@
 -- What follows from the member model, as statements. Each is proved where a function without a body has it as a clause (`laws.rt`): what
 -- stands in no clause there is not proved.
-use Rattle.std.specs.Prelude.{◌≡◌, ◌≢◌, ◌↔◌, IsTrue, ◌⊎◌, ◌≤◌, ◌<◌, ◌+◌, ◌++◌, ℕ, true, false, List, [], ◌∷◌, Contains, IsSome, Option, Some, nat_lt, if◌then◌else◌, Bool, None, IfSome, option_map, map, All, ⊤}
+use Rattle.std.specs.Prelude.{◌≡◌, ◌≢◌, ◌↔◌, IsTrue, ◌⊎◌, ◌≤◌, ◌<◌, ◌+◌, ◌^◌, ◌++◌, ℕ, true, false, List, [], ◌∷◌, Contains, IsSome, Option, Some, nat_lt, if◌then◌else◌, Bool, None, IfSome, option_map, map, All, ⊤}
 use Rattle.simplex_types.specs.declared.attestation.Attestation.{Attestation}
 use Rattle.simplex_types.specs.declared.position.Round.{Round}
 use Rattle.simplex_types.specs.declared.proposal.Proposal.{Proposal}
@@ -16,7 +16,7 @@ use Rattle.simplex_messages.specs.declared.vote.Vote.{Vote}
 use Rattle.simplex_messages.specs.declared.vote.Vote.TheVariants as vote
 use Rattle.simplex_certificates.specs.Artifact.{certificate_artifact}
 use Rattle.simplex_messages.specs.VoteParts.{vote_artifact}
-use Rattle.simplex_certificates.specs.Certificate.{certificate_statement, certified_by}
+use Rattle.simplex_certificates.specs.Certificate.{certificate_round, certificate_statement, certified_by}
 use Rattle.simplex_messages.specs.VoteParts.{vote_round, vote_signer}
 use Rattle.simplex_judging.specs.declared.kind.Kind.{Kind}
 use Rattle.simplex_rules.specs.Windows.{HasExactly}
@@ -38,7 +38,7 @@ use Rattle.simplex_verifier.specs.Quorums.{AllCertified}
 use Rattle.simplex_history.specs.Past as past
 use Rattle.simplex_history.specs.History.{later, scheduled_leader}
 use Rattle.simplex_decisions.specs.Ancestry.{held_at}
-use Rattle.simplex_decisions.specs.Due.{NotarizeIsDue}
+use Rattle.simplex_decisions.specs.Due.{IsTracked, NotarizeIsDue}
 use Rattle.simplex_laws.specs.Matching as voter
 use Rattle.simplex_laws.specs.Matching.{IsOrderly, IsBound}
 use Rattle.simplex_journal.specs.Record.{Reads}
@@ -58,10 +58,10 @@ use Rattle.simplex_member.specs.Deeds.{Deed, Sends, Serves, Blocks, Reports, all
 use Rattle.simplex_member.specs.Layers.{current_of, finalized_of, is_begun, known_of, repair_of, stage, voter_of, votes_of, votes_setup}
 use Rattle.simplex_member.specs.Lives.{Life, Lives, Members, AreMembers, IsWorldOfLives, AreFaithful, HandedOut, CameIn, IsHonestVote, WasHanded, points_of}
 use Rattle.simplex_member.specs.Member.{AreOpening, Goes, NoneDue, Run, AreStep, ReadsAs, after}
-use Rattle.simplex_member.specs.Packet.{Formats, IsReadable, Packet, of_vote, of_certificate, of_ask, packet_channel}
+use Rattle.simplex_member.specs.Packet.{Formats, IsReadable, Packet, of_vote, of_certificate, of_ask, packet_channel, packet_of}
 use Rattle.simplex_member.specs.Point.{Point, Opened, Began, Constructs, Heard, Wanted, Asks, Repeats, History}
 use Rattle.simplex_member.specs.Recorded.{record_of, recorded_by, reported}
-use Rattle.simplex_member.specs.Setup.{Setup, IsInTime, owner_of, member_of}
+use Rattle.simplex_member.specs.Setup.{Setup, DeadlinesLieAhead, GoesByMembers, IsInTime, owner_of, member_of}
 
 -- payloads that are compared as one are one
 abbrev pub IsExact : {S D P G C : Type 0} → Formats S D P G C → Type 0
@@ -164,10 +164,18 @@ module _ {S D P G C : Type 0} (g : Ghosts S D P G C) (f : Formats S D P G C) (s 
   raises h [] = 0
   raises h (p ∷ points) = (if nat_lt (current_of s h) (current_of s (p ∷ h)) then 1 else 0) + raises (p ∷ h) points
 
-  -- a step raises the current view at most as often as there were views whose votes were kept when it began, plus two, in a committee
-  -- of more than one
+  -- a view is kept: its votes came up, or the voter tracks it
+  abbrev pub IsKeptView : History S D P G C → ℕ → Type 0
+  IsKeptView h view = IsSome (stage s h view) ⊎ IsTracked s.voter (voter_of s h) view
+
+  -- a step raises the current view at most as often as there were views that are kept when it began, plus two, in a committee of any size
   abbrev pub StepsRaiseLittle : Type 0
-  StepsRaiseLittle = (h end : History S D P G C) (points more : List (Point S D P G C)) (e : Event D) (rounds : ℕ) → 1 < g.size s.voter.scheme → Goes g f s [] points h
+  StepsRaiseLittle = (h end : History S D P G C) (points more : List (Point S D P G C)) (e : Event D) (rounds : ℕ) → 0 < g.size s.voter.scheme → DeadlinesLieAhead s → GoesByMembers s (g.size s.voter.scheme)
+      → Goes g f s [] points h → AreStep g f s h e more → Goes g f s h more end → HasExactly (IsKeptView h) rounds → raises h more ≤ rounds + 2
+
+  -- in one of more than one, as often as there were views whose votes were kept, plus two, whatever deadlines are
+  abbrev pub StepsOfSeveralRaiseLittle : Type 0
+  StepsOfSeveralRaiseLittle = (h end : History S D P G C) (points more : List (Point S D P G C)) (e : Event D) (rounds : ℕ) → 1 < g.size s.voter.scheme → Goes g f s [] points h
       → AreStep g f s h e more → Goes g f s h more end → HasExactly (λ view. IsSome (stage s h view)) rounds → raises h more ≤ rounds + 2
 
   -- no quorum is lost: where nothing is due, each kind with a valid quorum has its certificate, in each view whose votes are kept
@@ -259,12 +267,18 @@ module _ {S D P G C : Type 0} (g : Ghosts S D P G C) (f : Formats S D P G C) (s 
 
 -- ---- of worlds
 
--- what bytes are read as goes by their channel; what can be read is read back from its own bytes; and a certificate that is served is
--- spelled as one that is sent
+-- what bytes are read as goes by their channel; what can be read is read back from its own bytes; a certificate that is served is
+-- spelled as one that is sent; a certificate that can be read is of a view of 64 bits, and each ask for such a view can be read
 pub record AreReadBack {S D P G C : Type 0} (f : Formats S D P G C) : Type 0 where
   pub by_channel : (by : Channel) (bytes : List ℕ) (x : Packet S D P G C) → f.packet_in by bytes ≡ Some x → packet_channel x ≡ by
   pub again : (x : Packet S D P G C) → IsReadable f x → f.packet_in (packet_channel x) (f.packet x) ≡ Some x
   pub certificates : (c : Certificate S D P G C) → f.certificate c ≡ f.packet (of_certificate c)
+  pub views : (c : Certificate S D P G C) → IsReadable f (of_certificate c) → (certificate_round c).view < 2 ^ 64
+  pub asks : (view : ℕ) → view < 2 ^ 64 → IsReadable f (of_ask view)
+
+-- an artifact of these can be read as the packet that it is sent as
+abbrev pub CanBeSent : {S D P G C : Type 0} → (Artifact S D P G C → Type 0) → Formats S D P G C → Type 0
+CanBeSent {S} {D} {P} {G} {C} Fits f = (x : Artifact S D P G C) → Fits x → IfSome (packet_of x) (IsReadable f)
 
 -- an event is a packet of this sender that holds no vote
 abbrev pub HoldsNoVote : {S D P G C : Type 0} → Formats S D P G C → Event D → ℕ → Type 0

@@ -1,10 +1,8 @@
 -- A member's life: openings one after another, each with the events that came, until a crash or a fault. And worlds of such members.
-use Rattle.std.specs.Prelude.{◌≡◌, ◌<◌, ◌≤◌, ◌++◌, ℕ, List, [], ◌∷◌, length, Contains, Option, Some, None, option_map, option_to_list, unwrap_or, ⊤}
+use Rattle.std.specs.Prelude.{◌≡◌, ◌<◌, ◌≤◌, ◌++◌, ℕ, List, [], ◌∷◌, length, Contains, Option, Some, None, IfSome, option_map, option_to_list, unwrap_or, ⊤}
 use Rattle.simplex_types.specs.declared.scheme.Scheme.{Ghosts}
 use Rattle.simplex_committee.specs.Committee.{faults}
 use Rattle.simplex_certificates.specs.declared.artifact.Artifact.{Artifact}
-use Rattle.simplex_certificates.specs.declared.certificate.Certificate.{Certificate}
-use Rattle.simplex_certificates.specs.Artifact.{certificate_artifact}
 use Rattle.simplex_messages.specs.declared.vote.Vote.{Vote}
 use Rattle.simplex_messages.specs.VoteParts.{vote_signer}
 use Rattle.simplex_record.specs.Record.{entries, HasVoted}
@@ -18,7 +16,7 @@ use Rattle.simplex_member.specs.declared.refusal.Refusal.{Refusal}
 use Rattle.simplex_member.specs.Deeds.{Deed, Sends, Serves, all_deeds}
 use Rattle.simplex_member.specs.First.{IsFirst}
 use Rattle.simplex_member.specs.Member.{AreOpening, AreStep, Goes, Rests, after}
-use Rattle.simplex_member.specs.Packet.{Formats, IsReadable, Packet, of_vote, of_certificate, of_ask, packet_channel}
+use Rattle.simplex_member.specs.Packet.{Formats, IsReadable, Packet, of_vote, of_certificate, of_ask, packet_channel, packet_of}
 use Rattle.simplex_member.specs.Point.{Point, History}
 use Rattle.simplex_member.specs.Recorded.{record_of}
 use Rattle.simplex_member.specs.Refusals.{tests, refused_deeds}
@@ -155,10 +153,9 @@ module _ {S D P G C : Type 0} (g : Ghosts S D P G C) (f : Formats S D P G C) (sc
   HandsOutBytes by bytes (Serves member served) = (by ≡ channel.Certificates) × (bytes ≡ served)
   HandsOutBytes by bytes d = ⊥
 
-  -- a packet in a correct member's name was handed out by one of its nodes; and what these send, and each certificate that they recorded,
-  -- can be read: nothing is written that has no spelling
+  -- a packet in a correct member's name was handed out by one of its nodes; and each vote and certificate that it recorded can be read:
+  -- nothing is recorded that has no spelling
   pub record AreFaithful : Type 0 where
     pub handed : (i j : ℕ) (e : Event D) (by : Channel) (bytes : List ℕ) → IsCorrect world i → IsCorrect world j → WasHanded i e → Carries e j by bytes
         → (d : Deed S D P G C) × HandedOut j d × HandsOutBytes by bytes d
-    pub sent : (i : ℕ) → IsCorrect world i → (to : Option ℕ) (x : Packet S D P G C) → HandedOut i (Sends to x) → IsReadable f x
-    pub kept : (i : ℕ) → IsCorrect world i → (c : Certificate S D P G C) → Contains (world.recorded i) (certificate_artifact c) → IsReadable f (of_certificate c)
+    pub readable : (i : ℕ) → IsCorrect world i → (x : Artifact S D P G C) → Contains (world.recorded i) x → IfSome (packet_of x) (IsReadable f)

@@ -4,8 +4,11 @@ use Rattle.simplex_codec.specs.declared.codec.CodecError.{CodecError}
 use Rattle.simplex_codec.specs.Varint.{varint, varint_at}
 use Rattle.simplex_messages.specs.declared.activity.Activity.{Activity}
 use Rattle.simplex_certificates.specs.declared.artifact.Artifact.{Artifact}
+use Rattle.simplex_certificates.specs.declared.artifact.Artifact.TheVariants as artifact
 use Rattle.simplex_certificates.specs.declared.certificate.Certificate.{Certificate}
+use Rattle.simplex_certificates.specs.declared.certificate.Certificate.TheVariants as certificate
 use Rattle.simplex_messages.specs.declared.vote.Vote.{Vote}
+use Rattle.simplex_messages.specs.declared.vote.Vote.TheVariants as vote
 use Rattle.simplex_messages.specs.Activity.{activity_spelling}
 use Rattle.simplex_certificates.specs.Artifact.{artifact_spelling}
 use Rattle.simplex_certificates.specs.Certificate.{any_certificate_spelling, any_certificate_at}
@@ -44,6 +47,16 @@ module _ {S D P G C : Type 0} where
   -- a packet can be read: some bytes are exactly it
   abbrev pub IsReadable : Formats S D P G C → Packet S D P G C → Type 0
   IsReadable f x = (bytes : List ℕ) × (f.packet_in (packet_channel x) bytes ≡ Some x)
+
+  -- the packet that an artifact is sent as, if it is a vote or a certificate: no verdict is sent
+  abbrev pub packet_of : Artifact S D P G C → Option (Packet S D P G C)
+  packet_of (artifact.Notarize v) = Some (of_vote (vote.Notarize v))
+  packet_of (artifact.Notarization c) = Some (of_certificate (certificate.Notarization c))
+  packet_of (artifact.Certification round ok) = None
+  packet_of (artifact.Nullify v) = Some (of_vote (vote.Nullify v))
+  packet_of (artifact.Nullification c) = Some (of_certificate (certificate.Nullification c))
+  packet_of (artifact.Finalize v) = Some (of_vote (vote.Finalize v))
+  packet_of (artifact.Finalization c) = Some (of_certificate (certificate.Finalization c))
 
   -- a packet's bytes, by the spellings of payloads, signatures and certificates
   abbrev pub packet_spelling : (D → List ℕ) → (G → List ℕ) → (C → List ℕ) → Packet S D P G C → List ℕ

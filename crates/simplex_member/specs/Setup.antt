@@ -1,5 +1,5 @@
 -- What stays the same through an opening of a member's node.
-use Rattle.std.specs.Prelude.{◌<◌, ◌+◌, ◌^◌, ℕ, Bool, max, unwrap_or, Option, Some, None}
+use Rattle.std.specs.Prelude.{◌≡◌, ◌<◌, ◌+◌, ◌^◌, ℕ, Bool, max, unwrap_or, Option, Some, None, IfSome}
 use Rattle.simplex_types.specs.declared.scheme.Scheme.{Ghosts}
 use Rattle.simplex_rules.specs.declared.elector.Elector as elector
 use Rattle.simplex_record.specs.declared.owner.Owner.{Owner}
@@ -48,6 +48,17 @@ module _ {S D C : Type 0} where
   -- a moment lies so early that each deadline counted from it has 64 bits
   abbrev pub IsInTime : Setup S D C → ℕ → Type 0
   IsInTime s now = now + longest_timeout s < 2 ^ 64
+
+-- Each deadline lies ahead of the moment from which it counts, as a configuration has it that is checked, and terms that are stable
+pub record DeadlinesLieAhead {S D C : Type 0} (s : Setup S D C) : Type 0 where
+  pub leader : 0 < s.voter.leader_timeout
+  pub certification : 0 < s.voter.certification_timeout
+  pub stall : IfSome s.voter.stall_timeout (λ time. 0 < time)
+
+-- The voter goes by the member's own index, and the elector names members of a committee of so many
+pub record GoesByMembers {S D C : Type 0} (s : Setup S D C) (members : ℕ) : Type 0 where
+  pub own : s.voter.me ≡ Some s.me
+  pub named : (view : ℕ) (certificate : Option C) → s.voter.elect view certificate < members
 
 module _ {S L D P G C : Type 0} where
   -- the setup of a node that is opened so, by the member of this index

@@ -3,7 +3,7 @@
 ghost use Rattle.std.specs.Prelude.{◌≡◌, ◌<◌, ◌^◌, ℕ};
 ghost use Rattle.simplex_codec.specs.Codec.{Readable};
 ghost use Rattle.simplex_certificates.specs.Artifact.{artifact_fits, artifact_spelling, artifact_within};
-ghost use Rattle.simplex_member.specs.Laws.{AcceptedAreKnown, Agree, AgreeIfHonest, AreReadBack, AwaitedMayBeRecorded, BlockedByRefusalAlone, ConstructionsBlockNone, CorrectVotesAreSound, CorrectVotesContradictNone, DeedsAreDone, DeedsAreOfPoints, DueFinalizeMayBeRecorded, DueIsBound, DueMayBeRecorded, DueNullifyMayBeRecorded, EarlyIsInTime, EmptyIsOpened, HandedCertificatesAreSound, IsExact, LeftStandsOnGround, LieOnOneChain, LivesLeaveLawful, MadeAreHonest, MadeAreSound, MadeListVotes, NeverContradicts, NextStandsOnGround, NoneIsBlamed, NoQuorumIsLost, OneIsRead, OwnVotesAgree, ReachedAreGoneTo, RecordLaws, RecordsGrow, RecordsStandOnGround, RecordsStayLawful, ReportsAreHonest, RoundLaws, RunsAreStretches, StepsRaiseLittle, ViewsNeverFall, VotersAreOrderly, VotersTellTheRecord, VotesAreLawful, VotesAreRecorded, VotesWereDue};
+ghost use Rattle.simplex_member.specs.Laws.{AcceptedAreKnown, Agree, AgreeIfHonest, AreReadBack, AwaitedMayBeRecorded, BlockedByRefusalAlone, CanBeSent, ConstructionsBlockNone, CorrectVotesAreSound, CorrectVotesContradictNone, DeedsAreDone, DeedsAreOfPoints, DueFinalizeMayBeRecorded, DueIsBound, DueMayBeRecorded, DueNullifyMayBeRecorded, EarlyIsInTime, EmptyIsOpened, HandedCertificatesAreSound, IsExact, LeftStandsOnGround, LieOnOneChain, LivesLeaveLawful, MadeAreHonest, MadeAreSound, MadeListVotes, NeverContradicts, NextStandsOnGround, NoneIsBlamed, NoQuorumIsLost, OneIsRead, OwnVotesAgree, ReachedAreGoneTo, RecordLaws, RecordsGrow, RecordsStandOnGround, RecordsStayLawful, ReportsAreHonest, RoundLaws, RunsAreStretches, StepsOfSeveralRaiseLittle, StepsRaiseLittle, ViewsNeverFall, VotersAreOrderly, VotersTellTheRecord, VotesAreLawful, VotesAreRecorded, VotesWereDue};
 ghost use Rattle.simplex_member.specs.Packet.{Formats, formats};
 ghost use Rattle.simplex_member.specs.Setup.{Setup};
 
@@ -11,7 +11,7 @@ use simplex_certificates::Artifact;
 use simplex_journal::a_disk_reads_as_one_record;
 use simplex_laws::{
     a_lone_member_stands_on_ground, what_is_due_may_be_recorded, what_is_due_stands_on_ground,
-    what_is_known_is_recorded,
+    what_is_known_is_recorded, what_is_recorded_is_known,
 };
 use simplex_record::{
     a_lawful_record_grows, agreement, chain, ever_lawful_members_vote_lawfully,
@@ -93,14 +93,19 @@ pub fn votes_are_recorded<S: Scheme<D>, D: Digest>()
     ensures recorded { (f : Formats S D S.PublicKey S.Signature S.Certificate) (s : Setup S D S.Certificate) → VotesAreRecorded S.Scheme f s }
 {}
 
-/// A step raises the current view at most as often as there were views whose votes were kept when it began,
-/// plus two: once by the event, and once by each view of which votes were heard. In a committee of more than
-/// one; a member alone makes certificates of its own votes.
+/// A step raises the current view at most as often as there were views that were kept when it began, plus two: once
+/// by the event, once where it stands then, and once by each view whose votes had come up, or that the voter tracked.
+/// It is so in a committee of any size, where deadlines lie ahead of the moments from which they count; else a member
+/// alone, whose own vote is a quorum, would give up view after view at one moment. In a committee of more than one
+/// deadlines don't matter, and only views whose votes had come up count.
 pub fn steps_raise_little<S: Listing<D>, D: Digest>()
-    ensures { (f : Formats S D S.PublicKey S.Signature S.Certificate) (s : Setup S D S.Certificate) → IsExact f → StepsRaiseLittle S.Scheme f s }
+    ensures all { (f : Formats S D S.PublicKey S.Signature S.Certificate) (s : Setup S D S.Certificate) → IsExact f → StepsRaiseLittle S.Scheme f s }
+    ensures of_several { (f : Formats S D S.PublicKey S.Signature S.Certificate) (s : Setup S D S.Certificate) → IsExact f → StepsOfSeveralRaiseLittle S.Scheme f s }
 {
     records_obey::<S, D>();
     rounds_obey::<S, D>();
+    what_is_known_is_recorded::<S, D>();
+    what_is_recorded_is_known::<S, D>();
 }
 
 /// The current view and the last finalized one never fall.
@@ -292,12 +297,15 @@ pub fn none_is_blamed<S: Listing<D>, D: Digest>()
 {
     records_obey::<S, D>();
     rounds_obey::<S, D>();
+    what_is_known_is_recorded::<S, D>();
     what_is_produced_came();
 }
 
 /// Packets as the messages spell them: payloads that are compared as one are one; and in a committee of each size that
-/// 32 bits can tell, what can be read is read back from its own bytes.
+/// 32 bits can tell, what can be read is read back from its own bytes, and each vote and certificate of a record that
+/// can be written, and is within the committee's bound, can be read as a packet.
 pub fn packets_are_read_back<S: Scheme<D>, D: Digest>()
     ensures exact { (n : ℕ) → IsExact (formats {S = S} {P = S.PublicKey} D.PartialEq.eq D.spelling S.Signature.spelling S.Certificate.spelling D.reading S.Signature.reading S.Certificate.reading n) }
     ensures read_back { (n : ℕ) → n < 2 ^ 32 → AreReadBack (formats {S = S} {P = S.PublicKey} D.PartialEq.eq D.spelling S.Signature.spelling S.Certificate.spelling D.reading S.Signature.reading S.Certificate.reading n) }
+    ensures readable { (n : ℕ) → n < 2 ^ 32 → CanBeSent (Readable (artifact_fits D.fits S.Signature.fits S.Certificate.fits) (artifact_within (S.Certificate.within n))) (formats {S = S} {P = S.PublicKey} D.PartialEq.eq D.spelling S.Signature.spelling S.Certificate.spelling D.reading S.Signature.reading S.Certificate.reading n) }
 {}

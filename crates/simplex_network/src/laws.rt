@@ -40,7 +40,7 @@ pub fn agreement<S: Listing<D>, D: Digest>()
 /// The law of accountability, however many members are excused. Of each member that isn't, let all be as for
 /// agreement; and a scheme may sign one statement differently each time. Then none of these members blocks another,
 /// neither by a refusal nor by a construction, where each packet in the name of one of them was handed out by it,
-/// what is sent can be read, and what attests by one's scheme does by another's. Over reports that such members
+/// the votes and certificates that it recorded can be read, and what attests by one's scheme does by another's. Over reports that such members
 /// handed out an audit names none of them; and where certificates among these contradict each other on a round, it
 /// names at least one member more of that round than may be faulty. Reports that can be spelled, joined as members
 /// spell them, are read to their end.
