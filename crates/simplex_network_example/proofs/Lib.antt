@@ -2,3 +2,4 @@ mod Calm
 mod Resting
 mod Living
 mod Network
+mod Plain

@@ -3,4 +3,4 @@
 
 mod laws;
 
-pub use laws::networks_are_there;
+pub use laws::{networks_are_there, plain_networks_are_there};
