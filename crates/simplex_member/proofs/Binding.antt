@@ -1,6 +1,6 @@
 -- A proposal on which a notarize is due was bound.
 use Rattle.std.proofs.Common.{◌≡◌, ◌≢◌, ◌⊎◌, inl, inr, ⊎_elim, ℕ, ◌≤◌, ◌==◌, Bool, true, false, List, [], ◌∷◌, ◌++◌, Option, Some, None, refl, sym, ◌∙◌, ap, subst, arith}
-use Rattle.std.specs.Prelude.{IsSome, if◌then◌else◌, not, ◌&&◌, option_map, unwrap_or}
+use Rattle.std.specs.Prelude.{IsSome, if◌then◌else◌, is_some, not, ◌&&◌, option_map, unwrap_or}
 use Rattle.std.proofs.lemmas.Bool.{eqb-true}
 use Rattle.std.proofs.lemmas.Option.{none-some}
 use Rattle.simplex_types.specs.declared.context.Context.{Context}
@@ -18,14 +18,14 @@ use Rattle.simplex_history.specs.History as views
 use Rattle.simplex_history.specs.History.{finalized, last_finalized, pruned, seen, sent}
 use Rattle.simplex_history.specs.Leaders.{leader}
 use Rattle.simplex_decisions.specs.Ancestry.{held_at}
-use Rattle.simplex_decisions.specs.Due.{NotarizeIsDue}
+use Rattle.simplex_decisions.specs.Due.{IsTracked, NotarizeIsDue}
 use Rattle.simplex_laws.specs.Matching.{IsBound}
 use Rattle.simplex_decisions.specs.Building.{proposal_on}
 use Rattle.simplex_verifier.specs.History as votes
 use Rattle.simplex_verifier.specs.History.{forwardable, has_forwarded, is_another, leader_of, selected}
 use Rattle.simplex_member.specs.Allowed.{Allowed, AreAllowed}
 use Rattle.simplex_member.specs.Asked.{build_at, check_at}
-use Rattle.simplex_member.specs.Laws.{RoundLaws}
+use Rattle.simplex_member.specs.Laws.{AreTracked, RoundLaws}
 use Rattle.simplex_member.specs.Layers.{finalizes_above, floor_of, known_of, latest, takes_certificate, voter_of, voter_points, votes_of, votes_setup}
 use Rattle.simplex_member.specs.Packet.{Formats}
 use Rattle.simplex_member.specs.Point.{Outcome, Counts, Falls, Passes, Point, Opened, Found, Began, Came, Built, Checked, Judged, Forwards, Constructs, Latches, Looks, AsksBuild, AsksVerify, AsksCertify, GivesBack, LeavesBehind, PutsOff, Resolves, Votes, Repeats, History}
@@ -262,3 +262,13 @@ module _ {S D P G C : Type 0} (g : Ghosts S D P G C) (f : Formats S D P G C) (s 
           payload = b.0.1;
           bound = b.1 ∙ ap (λ (q : Proposal D). Some (q, b.0.1)) same;
         }
+
+    -- and the views of requests are tracked
+    led-tracked : (h : History S D P G C) (view i : ℕ) → leader s.voter (voter_of s h) view ≡ Some i → IsTracked s.voter (voter_of s h) view
+    led-tracked h view i is = inr (ap (λ (o : Option ℕ). is_some o) is)
+
+    pub requests-tracked : (h : History S D P G C) → AreAllowed g f s h → AreTracked g f s h
+    requests-tracked h all = record {
+      builds = λ n handoff context asked kept. let l = (at-view h all context.round.view kept).mine n handoff context asked refl in led-tracked h context.round.view l.0 l.1;
+      checks = λ n view asked kept. let l = (at-view h all view kept).led n asked in led-tracked h view l.0 l.1;
+    }

@@ -298,3 +298,8 @@ module _ {S D P G C : Type 0} (s : Setup S D C) where
   -- so is the best certificate to enter a view by
   pub best-recorded : (h : History S D P G C) (c : Certificate S D P G C) → best_certificate s.voter (voter_of s h) ≡ Some c → Contains (record_of h) (certificate_artifact c)
   best-recorded h c is = brought-recorded h c (best-brought s.voter (voter_of s h) c is)
+
+  -- so is each notarization that the voter has of a view
+  pub notarized-recorded : (h : History S D P G C) (view : ℕ) (c : Notarization S D P G C) → past.notarization (seen s.voter (voter_of s h) view) ≡ Some c → Contains (record_of h) (artifact.Notarization c)
+  notarized-recorded h view c is = brought-recorded h (certificate.Notarization c)
+      (seen-only s.voter (voter_of s h) view (past.notarized c) (item-notarization s.voter (seen s.voter (voter_of s h) view) c is) (certificate.Notarization c) refl)

@@ -42,3 +42,4 @@ mod Spellings
 mod Serving
 mod Asking
 mod Blameless
+mod Awaiting

@@ -24,7 +24,7 @@ use Rattle.simplex_history.specs.History.{seen}
 use Rattle.simplex_history.specs.Leaders.{leader}
 use Rattle.simplex_decisions.specs.Ancestry.{held_at, IsSteady}
 use Rattle.simplex_decisions.specs.Answers.{best_certificate}
-use Rattle.simplex_decisions.specs.Due.{NotarizeIsDue, FinalizeIsDue, NullifyIsDue, MayLatch}
+use Rattle.simplex_decisions.specs.Due.{NotarizeIsDue, FinalizeIsDue, NullifyIsDue, MayLatch, IsTracked}
 use Rattle.simplex_decisions.specs.Requests.{BuildIsDue, IsHandoff, IsCaptured, IsSuperseded, StopsHandoff, VerifyIsDue, IsInvalid, CertifyIsDue, IsPutOff, CertificateIsWanted}
 use Rattle.simplex_history.specs.declared.handoff_abandoned_reason.HandoffAbandonedReason.{HandoffAbandonedReason}
 use Rattle.simplex_decisions.specs.Building.{IsContextOf, IsKeyOfLeader, proposal_on}
@@ -64,8 +64,10 @@ module _ {S D P G C : Type 0} (g : Ghosts S D P G C) (f : Formats S D P G C) (s 
     pub another : member ≢ s.me
     pub from_one : 1 ≤ view
 
-  -- an own build may still be taken: its parent may be used, and its view was not given up and holds none or the same
+  -- an own build may still be taken: its view is tracked, its parent may be used, and its view was not given up and holds none or the
+  -- same
   pub record MayBeBuilt (h : History S D P G C) (context : Context D P) (payload : D) : Type 0 where
+    pub tracked : IsTracked s.voter (voter_of s h) context.round.view
     pub captured : IsCaptured (member_of s) (known_of s h) context.round.view context.parent.0 context.parent.1
     pub not_given_up : past.has_nullified (seen s.voter (voter_of s h) context.round.view) ≡ false
     pub agrees : Agrees (held (past.offers (seen s.voter (voter_of s h) context.round.view))) (proposal_on context payload)
@@ -75,9 +77,9 @@ module _ {S D P G C : Type 0} (g : Ghosts S D P G C) (f : Formats S D P G C) (s 
   BuildCounts h context (Some payload) = MayBeBuilt h context payload
   BuildCounts h context None = MayLatch s.voter (voter_of s h) context.round.view reason.MissingProposal
 
-  -- an answer on a proposal counts: it is good, or the reason that it isn't counts
+  -- an answer on a proposal counts: it is good, and its view is tracked; or the reason that it isn't counts
   abbrev pub AnswerCounts : History S D P G C → ℕ → Option Bool → Type 0
-  AnswerCounts h view (Some true) = ⊤
+  AnswerCounts h view (Some true) = IsTracked s.voter (voter_of s h) view
   AnswerCounts h view answer = MayLatch s.voter (voter_of s h) view (reason_of answer)
 
   -- what comes of an answer on a proposal

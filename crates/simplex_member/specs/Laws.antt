@@ -2,13 +2,16 @@
 -- stands in no clause there is not proved.
 use Rattle.std.specs.Prelude.{◌≡◌, ◌≢◌, ◌↔◌, IsTrue, ◌⊎◌, ◌≤◌, ◌<◌, ◌+◌, ◌^◌, ◌++◌, ℕ, true, false, List, [], ◌∷◌, Contains, IsSome, Option, Some, nat_lt, if◌then◌else◌, Bool, None, IfSome, option_map, map, All, ⊤}
 use Rattle.simplex_types.specs.declared.attestation.Attestation.{Attestation}
+use Rattle.simplex_types.specs.declared.context.Context.{Context}
 use Rattle.simplex_types.specs.declared.position.Round.{Round}
 use Rattle.simplex_types.specs.declared.proposal.Proposal.{Proposal}
 use Rattle.simplex_types.specs.declared.scheme.Scheme.{Ghosts}
+use Rattle.simplex_types.specs.Positions.{HasRoom}
 use Rattle.simplex_types.specs.Subject.{Statement}
 use Rattle.simplex_certificates.specs.declared.artifact.Artifact.{Artifact}
 use Rattle.simplex_certificates.specs.declared.certificate.Certificate.{Certificate}
 use Rattle.simplex_certificates.specs.declared.nullify.Nullify.{Nullify}
+use Rattle.simplex_certificates.specs.ProposalCertificate.{Notarization}
 use Rattle.simplex_certificates.specs.ProposalVote.{Finalize, Notarize}
 use Rattle.simplex_messages.specs.declared.activity.Activity.{Activity}
 use Rattle.simplex_messages.specs.Guilt.{finalizes_in, notarizes_in, nullifies_in}
@@ -36,7 +39,7 @@ use Rattle.simplex_verifier.specs.Lawful as lawful
 use Rattle.simplex_types.specs.Batching.{AreFailing}
 use Rattle.simplex_verifier.specs.Quorums.{AllCertified}
 use Rattle.simplex_history.specs.Past as past
-use Rattle.simplex_history.specs.History.{later, scheduled_leader}
+use Rattle.simplex_history.specs.History.{later, scheduled_leader, seen}
 use Rattle.simplex_decisions.specs.Ancestry.{held_at}
 use Rattle.simplex_decisions.specs.Due.{IsTracked, NotarizeIsDue}
 use Rattle.simplex_laws.specs.Matching as voter
@@ -46,8 +49,8 @@ use Rattle.simplex_member.specs.declared.action.Reply.{Reply}
 use Rattle.simplex_member.specs.declared.event.Channel.{Channel}
 use Rattle.simplex_member.specs.declared.event.Event.{Event}
 use Rattle.simplex_member.specs.declared.event.Event.TheVariants as event
-use Rattle.simplex_member.specs.Allowed.{Allowed, RepeatIsDue, VoteIsDue}
-use Rattle.simplex_member.specs.Asked.{IsAwaited}
+use Rattle.simplex_member.specs.Allowed.{Allowed, AreAllowed, RepeatIsDue, VoteIsDue}
+use Rattle.simplex_member.specs.Asked.{IsAwaited, build_at, check_at}
 use Rattle.simplex_member.specs.declared.refusal.Refusal.{Refusal}
 use Rattle.simplex_member.specs.First.{IsFirst}
 use Rattle.simplex_member.specs.Refusals.{refused_deeds, tests}
@@ -55,12 +58,12 @@ use Rattle.simplex_admission.specs.Evidence.{as_report}
 use Rattle.simplex_resolver.specs.declared.ask.Ask.{Ask}
 use Rattle.simplex_resolver.specs.Answers.{produced}
 use Rattle.simplex_member.specs.Deeds.{Deed, Sends, Serves, Blocks, Reports, all_deeds, deeds_of}
-use Rattle.simplex_member.specs.Layers.{current_of, finalized_of, is_begun, known_of, repair_of, stage, voter_of, votes_of, votes_setup}
+use Rattle.simplex_member.specs.Layers.{current_of, finalized_of, floor_of, is_begun, known_of, repair_of, stage, voter_of, votes_of, votes_setup}
 use Rattle.simplex_member.specs.Lives.{Life, Lives, Members, AreMembers, IsWorldOfLives, AreFaithful, HandedOut, CameIn, IsHonestVote, WasHanded, points_of}
 use Rattle.simplex_member.specs.Member.{AreOpening, Goes, NoneDue, Run, AreStep, ReadsAs, after}
 use Rattle.simplex_member.specs.Packet.{Formats, IsReadable, Packet, of_vote, of_certificate, of_ask, packet_channel, packet_of}
 use Rattle.simplex_member.specs.Point.{Point, Opened, Began, Constructs, Heard, Wanted, Asks, Repeats, History}
-use Rattle.simplex_member.specs.Recorded.{record_of, recorded_by, reported}
+use Rattle.simplex_member.specs.Recorded.{notarization_in, record_of, recorded_by, reported}
 use Rattle.simplex_member.specs.Setup.{Setup, DeadlinesLieAhead, GoesByMembers, IsInTime, owner_of, member_of}
 
 -- payloads that are compared as one are one
@@ -242,6 +245,28 @@ module _ {S D P G C : Type 0} (g : Ghosts S D P G C) (f : Formats S D P G C) (s 
   abbrev pub AwaitedMayBeRecorded : Type 0
   AwaitedMayBeRecorded = (h : History S D P G C) (points : List (Point S D P G C)) (r : Round) → Goes g f s [] points h → r.epoch ≡ s.voter.epoch
       → IsAwaited s h r.view → MayJudge (entries (record_of h)) r
+
+  -- a verdict on a round may be taken: it may be recorded, the view has room, and the recorded notarization of it is the voter's
+  pub record IsJudgeable (h : History S D P G C) (r : Round) : Type 0 where
+    pub follows : MayJudge (entries (record_of h)) r
+    pub room : HasRoom s.voter.length r.view
+    pub notarization : Notarization S D P G C
+    pub at : notarization.proposal.round.view ≡ r.view
+    pub recorded : notarization_in (record_of h) r.view ≡ Some notarization
+    pub known : past.notarization (seen s.voter (voter_of s h) r.view) ≡ Some notarization
+
+  -- so it may where it is awaited
+  abbrev pub AwaitedIsJudgeable : Type 0
+  AwaitedIsJudgeable = (h : History S D P G C) (r : Round) → AreAllowed g f s h → r.epoch ≡ s.voter.epoch → IsAwaited s h r.view → IsJudgeable h r
+
+  -- the views of builds and verifications that stand are tracked while they are kept
+  pub record AreTracked (h : History S D P G C) : Type 0 where
+    pub builds : (number : ℕ) (handoff : Bool) (context : Context D P) → build_at h number ≡ Some (handoff, context) → floor_of s h ≤ context.round.view
+        → IsTracked s.voter (voter_of s h) context.round.view
+    pub checks : (number view : ℕ) → check_at h number ≡ Some view → floor_of s h ≤ view → IsTracked s.voter (voter_of s h) view
+
+  abbrev pub RequestsAreTracked : Type 0
+  RequestsAreTracked = (h : History S D P G C) → AreAllowed g f s h → AreTracked h
 
   -- what is recorded, once the record was gone through, stands on ground, in a committee of more than one
   abbrev pub RecordsStandOnGround : Type 0

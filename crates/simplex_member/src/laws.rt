@@ -3,7 +3,7 @@
 ghost use Rattle.std.specs.Prelude.{◌≡◌, ◌<◌, ◌^◌, ℕ};
 ghost use Rattle.simplex_codec.specs.Codec.{Readable};
 ghost use Rattle.simplex_certificates.specs.Artifact.{artifact_fits, artifact_spelling, artifact_within};
-ghost use Rattle.simplex_member.specs.Laws.{AcceptedAreKnown, Agree, AgreeIfHonest, AreReadBack, AwaitedMayBeRecorded, BlockedByRefusalAlone, CanBeSent, ConstructionsBlockNone, CorrectVotesAreSound, CorrectVotesContradictNone, DeedsAreDone, DeedsAreOfPoints, DueFinalizeMayBeRecorded, DueIsBound, DueMayBeRecorded, DueNullifyMayBeRecorded, EarlyIsInTime, EmptyIsOpened, HandedCertificatesAreSound, IsExact, LeftStandsOnGround, LieOnOneChain, LivesLeaveLawful, MadeAreHonest, MadeAreSound, MadeListVotes, NeverContradicts, NextStandsOnGround, NoneIsBlamed, NoQuorumIsLost, OneIsRead, OwnVotesAgree, ReachedAreGoneTo, RecordLaws, RecordsGrow, RecordsStandOnGround, RecordsStayLawful, ReportsAreHonest, RoundLaws, RunsAreStretches, StepsOfSeveralRaiseLittle, StepsRaiseLittle, ViewsNeverFall, VotersAreOrderly, VotersTellTheRecord, VotesAreLawful, VotesAreRecorded, VotesWereDue};
+ghost use Rattle.simplex_member.specs.Laws.{AcceptedAreKnown, Agree, AgreeIfHonest, AreReadBack, AwaitedIsJudgeable, AwaitedMayBeRecorded, BlockedByRefusalAlone, CanBeSent, ConstructionsBlockNone, CorrectVotesAreSound, CorrectVotesContradictNone, DeedsAreDone, DeedsAreOfPoints, DueFinalizeMayBeRecorded, DueIsBound, DueMayBeRecorded, DueNullifyMayBeRecorded, EarlyIsInTime, EmptyIsOpened, HandedCertificatesAreSound, IsExact, LeftStandsOnGround, LieOnOneChain, LivesLeaveLawful, MadeAreHonest, MadeAreSound, MadeListVotes, NeverContradicts, NextStandsOnGround, NoQuorumIsLost, NoneIsBlamed, OneIsRead, OwnVotesAgree, ReachedAreGoneTo, RecordLaws, RecordsGrow, RecordsStandOnGround, RecordsStayLawful, ReportsAreHonest, RequestsAreTracked, RoundLaws, RunsAreStretches, StepsOfSeveralRaiseLittle, StepsRaiseLittle, ViewsNeverFall, VotersAreOrderly, VotersTellTheRecord, VotesAreLawful, VotesAreRecorded, VotesWereDue};
 ghost use Rattle.simplex_member.specs.Packet.{Formats, formats};
 ghost use Rattle.simplex_member.specs.Setup.{Setup};
 
@@ -146,6 +146,23 @@ pub fn due_may_be_recorded<S: Scheme<D>, D: Digest>()
     rounds_obey::<S, D>();
     what_is_known_is_recorded::<S, D>();
     what_is_due_may_be_recorded::<S, D>();
+}
+
+/// A verdict that is awaited may be recorded, its view has room, and the notarization that it is on is recorded, and is the one that
+/// the voter has.
+pub fn awaited_verdicts_may_be_taken<S: Scheme<D>, D: Digest>()
+    ensures { (f : Formats S D S.PublicKey S.Signature S.Certificate) (s : Setup S D S.Certificate) → AwaitedIsJudgeable S.Scheme f s }
+{
+    what_is_known_is_recorded::<S, D>();
+    what_is_recorded_is_known::<S, D>();
+}
+
+/// The view of a build or a verification that stands is tracked while it is kept: so an answer finds nothing of its view only where
+/// that was dropped.
+pub fn requests_are_tracked<S: Scheme<D>, D: Digest>()
+    ensures { (f : Formats S D S.PublicKey S.Signature S.Certificate) (s : Setup S D S.Certificate) → IsExact f → RequestsAreTracked S.Scheme f s }
+{
+    rounds_obey::<S, D>();
 }
 
 /// What a member of a committee of more than one records stands on ground: a notarize for a term's start on
