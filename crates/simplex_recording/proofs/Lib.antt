@@ -5,6 +5,7 @@ pub mod Likes
 pub mod Judging
 pub mod Resting
 pub mod Adding
+pub mod Asking
 pub mod Firsts
 pub mod Verdicts
 pub mod Quiet

@@ -1,5 +1,5 @@
 -- What a node remembers of what it asked for, of when members were heard, and of the time.
-use Rattle.std.specs.Prelude.{◌≡◌, ◌↔◌, ◌≤◌, ◌<◌, ◌-◌, ◌^◌, ℕ, Bool, true, false, IsTrue, List, [], ◌∷◌, ◌++◌, Contains, Option, Some, None, option_map, option_to_list, unwrap_or}
+use Rattle.std.specs.Prelude.{◌≡◌, ◌↔◌, ◌≤◌, ◌<◌, ℕ, Bool, true, false, IsTrue, List, [], ◌∷◌, ◌++◌, Contains, Option, Some, None, option_map, option_to_list, unwrap_or}
 use Rattle.std.specs.BTreeMap.{get}
 use Rattle.std.specs.BTreeSet.{contains}
 use Rattle.std.specs.Ordering.{nat_cmp}
@@ -71,7 +71,7 @@ module _ {S D P G C : Type 0} where
     verdicts = verdicts_of h;
   }
 
-  -- the tables tell this: of asks and requests for verdicts, those of views above this one
+  -- the tables tell this: of asks and requests for verdicts, those of views above this one and no other
   pub record Tells (low : ℕ) (tables : Tables S D P G C) (r : Remembered D P) : Type 0 where
     pub opened : tables.opened ≡ r.opened
     pub moment : tables.moment ≡ r.moment
@@ -79,20 +79,16 @@ module _ {S D P G C : Type 0} where
     pub builds : (number : ℕ) → option_map build_parts (get nat_cmp tables.builds number) ≡ r.builds number
     pub checks : (number : ℕ) → get nat_cmp tables.checks number ≡ r.checks number
     pub heard : (member : ℕ) → unwrap_or (get nat_cmp tables.heard member) tables.opened ≡ r.heard member
-    pub asks : (a : Asked) → low < a.view → IsTrue (contains asked_cmp tables.asks a) ↔ Contains r.asks a
+    pub asks : (a : Asked) → IsTrue (contains asked_cmp tables.asks a) ↔ ((low < a.view) × Contains r.asks a)
     pub verdicts : (view : ℕ) → IsTrue (contains nat_cmp tables.verdicts view) ↔ ((low < view) × Contains r.verdicts view)
 
-  -- the tables stand where this history leads: of asks and requests for verdicts, those of views above this one
+  -- the tables stand where this history leads: of asks and requests for verdicts, those of views above this one and no other
   abbrev pub KeepsTables : ℕ → Tables S D P G C → History S D P G C → Type 0
   KeepsTables low tables h = Tells low tables (remembered h)
 
   -- what holds of each view and each history at which the tables stand so
   abbrev pub AtEach : Tables S D P G C → (ℕ → History S D P G C → Type 0) → Type 0
   AtEach tables Q = (low : ℕ) (h : History S D P G C) → KeepsTables low tables h → Q low h
-
-  -- a number is left
-  abbrev pub HasNumberLeft : Tables S D P G C → Type 0
-  HasNumberLeft tables = tables.number < 2 ^ 64 - 1
 
   -- of the builds that stand, this is the first of this number or a later one
   pub record IsFirstBuild (h : History S D P G C) (from number : ℕ) (build : Bool × Context D P) : Type 0 where

@@ -12,7 +12,7 @@ ghost use Rattle.simplex_member.specs.Asked.{HasNumber, IsAwaited, IsJudged, ask
 ghost use Rattle.simplex_member.specs.Layers.{finalized_of, latest};
 ghost use Rattle.simplex_member.specs.Point.{History, Outcome, Opened, Told, Heard, Built, Checked, AsksBuild, AsksVerify, AsksCertify, GivesBack, LeavesBehind, Asks};
 ghost use Rattle.simplex_member.specs.Setup.{Setup};
-ghost use Rattle.simplex_recording.specs.Tables.{AtEach, HasNumberLeft, IsFirstBuild, KeepsTables, asked_cmp, build_parts, verdicts_of};
+ghost use Rattle.simplex_recording.specs.Tables.{AtEach, IsFirstBuild, KeepsTables, asked_cmp, build_parts, verdicts_of};
 
 use simplex_member::Asked;
 use simplex_resolver::Ask;
@@ -105,22 +105,21 @@ impl<S: Scheme<D>, D: Digest> Tables<S, D> {
 
     /// Whether a number is left for a request.
     pub fn has_number(&self) -> bool
-        ensures left { IsTrue result ↔ HasNumberLeft self.now }
-        ensures told { AtEach self.now (λ low h. IsTrue result ↔ HasNumber h) }
+        ensures { AtEach self.now (λ low h. IsTrue result ↔ HasNumber h) }
     {
         self.number < u64::MAX
     }
 
     /// Notes that a build is asked for, under the next number, which it answers.
     pub fn add_build(&mut self, building: Building<D, S::PublicKey>) -> Result<u64, AllocError>
-        requires { HasNumberLeft self.old }
+        requires { AtEach self.old (λ low h. HasNumber h) }
         ensures number { IfOk result (λ number. AtEach self.old (λ low h. number ≡ next_number h)) }
         ensures keeps { IfOk result (λ number. AtEach self.old (λ low h. KeepsTables low self.new (AsksBuild number building.handoff building.context ∷ h))) }
         ensures memory { OnErr result (AtEach self.old (λ low h. KeepsTables low self.new h)) }
     {
         let number = self.number;
         self.builds.insert(number, building)?;
-        self.number = number + 1;
+        self.number = number.saturating_add(1);
         Ok(number)
     }
 
@@ -156,14 +155,14 @@ impl<S: Scheme<D>, D: Digest> Tables<S, D> {
 
     /// Notes that a proposal of the view is to be verified, under the next number, which it answers.
     pub fn add_check(&mut self, view: View) -> Result<u64, AllocError>
-        requires { HasNumberLeft self.old }
+        requires { AtEach self.old (λ low h. HasNumber h) }
         ensures number { IfOk result (λ number. AtEach self.old (λ low h. number ≡ next_number h)) }
         ensures keeps { IfOk result (λ number. AtEach self.old (λ low h. (context : Context D S.PublicKey) (p : Proposal D) → context.round.view ≡ view → KeepsTables low self.new (AsksVerify number context p ∷ h))) }
         ensures memory { OnErr result (AtEach self.old (λ low h. KeepsTables low self.new h)) }
     {
         let number = self.number;
         self.checks.insert(number, view)?;
-        self.number = number + 1;
+        self.number = number.saturating_add(1);
         Ok(number)
     }
 
@@ -198,10 +197,10 @@ impl<S: Scheme<D>, D: Digest> Tables<S, D> {
         self.verdicts.contains(&view)
     }
 
-    /// Notes that this is asked of other members: whether it was not asked before.
+    /// Notes that this is asked of other members, of a view that isn't final: whether it was not asked before.
     pub fn add_ask(&mut self, asked: Asked) -> Result<bool, AllocError>
         ensures is_new { IfOk result (λ is_new. AtEach self.old (λ low h. low < asked.view → IsTrue is_new ↔ ¬ Contains (asks_of h) asked)) }
-        ensures keeps { OnOk result (AtEach self.old (λ low h. KeepsTables low self.new (Asks asked.view asked.ask asked.to ∷ h))) }
+        ensures keeps { OnOk result (AtEach self.old (λ low h. low < asked.view → KeepsTables low self.new (Asks asked.view asked.ask asked.to ∷ h))) }
         ensures known { IfOk result (λ is_new. is_new ≡ false → AtEach self.old (λ low h. KeepsTables low self.new h)) }
         ensures memory { OnErr result (AtEach self.old (λ low h. KeepsTables low self.new h)) }
     {
@@ -210,12 +209,12 @@ impl<S: Scheme<D>, D: Digest> Tables<S, D> {
 
     /// Whether this was asked before, of a view that isn't final.
     pub fn was_asked(&self, asked: &Asked) -> bool
-        ensures { AtEach self.now (λ low h. low < asked.now.view → IsTrue result ↔ Contains (asks_of h) asked.now) }
+        ensures { AtEach self.now (λ low h. IsTrue result ↔ ((low < asked.now.view) × Contains (asks_of h) asked.now)) }
     {
         self.asks.contains(asked)
     }
 
-    /// Forgets the asks and the requests for verdicts up to a view, which is final now.
+    /// Forgets the asks and the requests for verdicts up to a view, which is final now: none of them is held any more.
     pub fn forget(&mut self, last: View)
         ensures { AtEach self.old (λ low h. low ≤ last → KeepsTables last self.new h) }
     {
@@ -263,7 +262,8 @@ fn forget_views(views: &mut BTreeSet<View>, last: View)
 
 /// Takes the asks of views up to this one out.
 fn forget_asks(asks: &mut BTreeSet<Asked>, last: View)
-    ensures { (a : Asked) → last < a.view → contains asked_cmp asks.new a ≡ contains asked_cmp asks.old a }
+    ensures gone { (a : Asked) → a.view ≤ last → ¬ IsTrue (contains asked_cmp asks.new a) }
+    ensures kept { (a : Asked) → last < a.view → contains asked_cmp asks.new a ≡ contains asked_cmp asks.old a }
 {
     while let Some(&first) = asks.first() {
         if last < first.view {

@@ -1,4 +1,5 @@
-use Rattle.simplex_recording.proofs.Adding.{on_ok-map, one_more_above}
+use Rattle.std.proofs.Common.{◌<◌, ℕ}
+use Rattle.simplex_recording.proofs.Adding.{on_ok-map, one_more}
 use Rattle.simplex_recording.proofs.tables.Tables.add_verdict.Goals as goal
 
 pub returns-clause-keeps : goal.returns-clause-keeps
@@ -10,5 +11,5 @@ returns-clause-keeps g c = on_ok-map c.put_view.result (λ more. λ low h k p is
   checks = k.checks;
   heard = k.heard;
   asks = k.asks;
-  verdicts = λ u. one_more_above low c.args.view p.round.view u _ _ _ is over (more u) (k.verdicts u);
+  verdicts = λ u. one_more (λ (v : ℕ). low < v) c.args.view p.round.view u _ _ _ is over (more u) (k.verdicts u);
 }) c.put_view.ensures.one_more
