@@ -12,3 +12,7 @@ at_rest_reads {calls = calls} {bodies = bodies} r image left =
 
 pub nothing_asked : {seen : List ℕ} {calls : List Call} {gate : ℕ} {bodies : List (List ℕ)} (body : List ℕ) → IsAtRest [] seen calls gate bodies → LeavesOnly calls calls (IsWithOrWithout bodies body)
 nothing_asked {calls = calls} {bodies = bodies} body r = started calls (IsWithOrWithout bodies body) (λ image left. inl (at_rest_reads r image left))
+
+-- a crash leaves the record
+pub rest_leaves : {seen : List ℕ} {calls : List Call} {gate : ℕ} {bodies : List (List ℕ)} → IsAtRest [] seen calls gate bodies → LeavesOnly calls calls (λ image. Reads image bodies)
+rest_leaves {calls = calls} {bodies = bodies} r = started calls (λ image. Reads image bodies) (λ image left. at_rest_reads r image left)

@@ -7,7 +7,10 @@ mod places;
 mod recorded;
 mod tables;
 
-pub use laws::{quiet_points_leave_the_tables, the_nullify_of_the_current_view_is_the_last};
+pub use laws::{
+    a_ledger_at_rest_leaves_its_record, quiet_points_leave_the_tables,
+    the_nullify_of_the_current_view_is_the_last,
+};
 pub use ledger::Ledger;
 pub use recorded::Recorded;
 pub use tables::{Building, Tables};
