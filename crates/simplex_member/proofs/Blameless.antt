@@ -84,7 +84,7 @@ module _ {S D P G C : Type 0} (g : Ghosts S D P G C) (f : Formats S D P G C) (sc
     parent-below (certificate.Nullification c) here = tt
     parent-below (certificate.Finalization c) here = let at = splits (world.recorded j) (certificate_artifact (certificate.Finalization c)) here in (lawful at.before at.behind (certificate_artifact (certificate.Finalization c)) at.is).follows.parent_below
 
-    own-certifies : (c : Certificate S D P G C) → Contains (world.recorded j) (certificate_artifact c) → g.certifies (m.setup j).voter.scheme (certificate_statement c) (certified_by c)
+    pub own-certifies : (c : Certificate S D P G C) → Contains (world.recorded j) (certificate_artifact c) → g.certifies (m.setup j).voter.scheme (certificate_statement c) (certified_by c)
     own-certifies (certificate.Notarization c) here = let at = splits (world.recorded j) (certificate_artifact (certificate.Notarization c)) here in (lawful at.before at.behind (certificate_artifact (certificate.Notarization c)) at.is).verifies.verifies
     own-certifies (certificate.Nullification c) here = let at = splits (world.recorded j) (certificate_artifact (certificate.Nullification c)) here in (lawful at.before at.behind (certificate_artifact (certificate.Nullification c)) at.is).verifies.verifies
     own-certifies (certificate.Finalization c) here = let at = splits (world.recorded j) (certificate_artifact (certificate.Finalization c)) here in (lawful at.before at.behind (certificate_artifact (certificate.Finalization c)) at.is).verifies.verifies

@@ -43,3 +43,4 @@ mod Serving
 mod Asking
 mod Blameless
 mod Awaiting
+mod Certified

@@ -60,7 +60,7 @@ use Rattle.simplex_member.proofs.Walking.{deed-done, reached-goes, reached-heard
 pub one : {X : Type 0} (x y : X) → Contains (x ∷ []) y → x ≡ y
 one x y here = ⊎_elim (λ is. is) (λ later. absurd (Contains-nil y later)) (Contains-cases x [] y here)
 
-if-is : {X : Type 0} (b : Bool) (x y : X) → (if b then Some x else None) ≡ Some y → x ≡ y
+pub if-is : {X : Type 0} (b : Bool) (x y : X) → (if b then Some x else None) ≡ Some y → x ≡ y
 if-is true x y is = some-is x y is
 if-is false x y is = absurd (none-some y is)
 
@@ -84,7 +84,7 @@ way-turned (nullify p) (notarize q) is = absurd is
 way-turned (finalize p) (notarize q) is = absurd is
 
 module _ {S D P G C : Type 0} where
-  abbrev report_in : Deed S D P G C → Option (Activity S D P G C)
+  abbrev pub report_in : Deed S D P G C → Option (Activity S D P G C)
   report_in (Reports a) = Some a
   report_in d = None
 

@@ -10,10 +10,12 @@ use Rattle.simplex_types.specs.Positions.{HasRoom}
 use Rattle.simplex_types.specs.Subject.{Statement}
 use Rattle.simplex_certificates.specs.declared.artifact.Artifact.{Artifact}
 use Rattle.simplex_certificates.specs.declared.certificate.Certificate.{Certificate}
+use Rattle.simplex_certificates.specs.declared.certificate.Certificate.TheVariants as certificate
 use Rattle.simplex_certificates.specs.declared.nullify.Nullify.{Nullify}
 use Rattle.simplex_certificates.specs.ProposalCertificate.{Notarization}
 use Rattle.simplex_certificates.specs.ProposalVote.{Finalize, Notarize}
 use Rattle.simplex_messages.specs.declared.activity.Activity.{Activity}
+use Rattle.simplex_messages.specs.declared.activity.Activity.TheVariants as activity
 use Rattle.simplex_messages.specs.Guilt.{finalizes_in, notarizes_in, nullifies_in}
 use Rattle.simplex_messages.specs.declared.vote.Vote.{Vote}
 use Rattle.simplex_messages.specs.declared.vote.Vote.TheVariants as vote
@@ -290,6 +292,14 @@ module _ {S D P G C : Type 0} (g : Ghosts S D P G C) (f : Formats S D P G C) (s 
   NeverContradicts = (lives : List (Life S D P G C)) (left : List (Artifact S D P G C)) (position : ℕ) → Lives g f s [] lives left
       → ¬ IsRefusedAt (g.attests s.voter.scheme) (g.certifies s.voter.scheme) (owner_of s) left position
 
+-- the certificate that a report is, or that it says was judged good
+abbrev pub reported_certificate : {S D P G C : Type 0} → Activity S D P G C → Option (Certificate S D P G C)
+reported_certificate (activity.Notarization c) = Some (certificate.Notarization c)
+reported_certificate (activity.Certification c) = Some (certificate.Notarization c)
+reported_certificate (activity.Nullification c) = Some (certificate.Nullification c)
+reported_certificate (activity.Finalization c) = Some (certificate.Finalization c)
+reported_certificate a = None
+
 -- ---- of worlds
 
 -- what bytes are read as goes by their channel; what can be read is read back from its own bytes; a certificate that is served is
@@ -447,6 +457,11 @@ module _ {S D P G C : Type 0} (g : Ghosts S D P G C) (f : Formats S D P G C) whe
   abbrev pub ReportsAreHonest : Type 0
   ReportsAreHonest = (scheme : S) (m : Members S D P G C) (world : World S D P G C) → AreMembers g f scheme m world → (i : ℕ) → IsCorrect world i
       → (a : Activity S D P G C) → HandedOut g f scheme m world i (Reports a) → IsHonestReport scheme m world a
+
+  -- a certificate that a correct member reports certifies, by a scheme of the committee's size
+  abbrev pub ReportedCertify : Type 0
+  ReportedCertify = (scheme : S) (m : Members S D P G C) (world : World S D P G C) → AreMembers g f scheme m world → g.size scheme ≡ world.size → (i : ℕ) → IsCorrect world i
+      → (a : Activity S D P G C) → HandedOut g f scheme m world i (Reports a) → (c : Certificate S D P G C) → reported_certificate a ≡ Some c → g.certifies scheme (certificate_statement c) (certified_by c)
 
   -- of the votes that a correct member recorded, two of which one stands in the other's way are for one statement
   abbrev pub OwnVotesAgree : Type 0

@@ -3,7 +3,7 @@
 ghost use Rattle.std.specs.Prelude.{◌≡◌, ◌<◌, ◌^◌, ℕ};
 ghost use Rattle.simplex_codec.specs.Codec.{Readable};
 ghost use Rattle.simplex_certificates.specs.Artifact.{artifact_fits, artifact_spelling, artifact_within};
-ghost use Rattle.simplex_member.specs.Laws.{AcceptedAreKnown, Agree, AgreeIfHonest, AreReadBack, AwaitedIsJudgeable, AwaitedMayBeRecorded, BlockedByRefusalAlone, CanBeSent, ConstructionsBlockNone, CorrectVotesAreSound, CorrectVotesContradictNone, DeedsAreDone, DeedsAreOfPoints, DueFinalizeMayBeRecorded, DueIsBound, DueMayBeRecorded, DueNullifyMayBeRecorded, EarlyIsInTime, EmptyIsOpened, HandedCertificatesAreSound, IsExact, LeftStandsOnGround, LieOnOneChain, LivesLeaveLawful, MadeAreHonest, MadeAreSound, MadeListVotes, NeverContradicts, NextStandsOnGround, NoQuorumIsLost, NoneIsBlamed, OneIsRead, OwnVotesAgree, ReachedAreGoneTo, RecordLaws, RecordsGrow, RecordsStandOnGround, RecordsStayLawful, ReportsAreHonest, RequestsAreTracked, RoundLaws, RunsAreStretches, StepsOfSeveralRaiseLittle, StepsRaiseLittle, ViewsNeverFall, VotersAreOrderly, VotersTellTheRecord, VotesAreLawful, VotesAreRecorded, VotesWereDue};
+ghost use Rattle.simplex_member.specs.Laws.{AcceptedAreKnown, Agree, AgreeIfHonest, AreReadBack, AwaitedIsJudgeable, AwaitedMayBeRecorded, BlockedByRefusalAlone, CanBeSent, ConstructionsBlockNone, CorrectVotesAreSound, CorrectVotesContradictNone, DeedsAreDone, DeedsAreOfPoints, DueFinalizeMayBeRecorded, DueIsBound, DueMayBeRecorded, DueNullifyMayBeRecorded, EarlyIsInTime, EmptyIsOpened, HandedCertificatesAreSound, IsExact, LeftStandsOnGround, LieOnOneChain, LivesLeaveLawful, MadeAreHonest, MadeAreSound, MadeListVotes, NeverContradicts, NextStandsOnGround, NoQuorumIsLost, NoneIsBlamed, OneIsRead, OwnVotesAgree, ReachedAreGoneTo, RecordLaws, RecordsGrow, RecordsStandOnGround, RecordsStayLawful, ReportedCertify, ReportsAreHonest, RequestsAreTracked, RoundLaws, RunsAreStretches, StepsOfSeveralRaiseLittle, StepsRaiseLittle, ViewsNeverFall, VotersAreOrderly, VotersTellTheRecord, VotesAreLawful, VotesAreRecorded, VotesWereDue};
 ghost use Rattle.simplex_member.specs.Packet.{Formats, formats};
 ghost use Rattle.simplex_member.specs.Setup.{Setup};
 
@@ -276,6 +276,14 @@ pub fn reports_are_honest<S: Scheme<D>, D: Digest>()
 {
     records_obey::<S, D>();
     rounds_obey::<S, D>();
+}
+
+/// A certificate that a correct member reports certifies, by each scheme of the committee's size by which all attests
+/// that does by the member's.
+pub fn reported_certificates_certify<S: Listing<D>, D: Digest>()
+    ensures { (f : Formats S D S.PublicKey S.Signature S.Certificate) → ReportedCertify S.Scheme f }
+{
+    records_obey::<S, D>();
 }
 
 /// A correct member recorded votes for no two statements of which one stands in the other's way.

@@ -20,8 +20,8 @@ pub use laws::{
     lives_stand_on_ground, made_certificates_are_sound, made_certificates_list_votes,
     never_contradicts, no_quorum_is_lost, none_is_blamed, one_record_is_read, own_votes_agree,
     packets_are_read_back, records_grow, records_stand_on_ground, records_stay_lawful,
-    reports_are_honest, requests_are_tracked, runs_are_stretches, steps_raise_little,
-    views_never_fall, voters_are_orderly, voters_tell_the_record, votes_are_lawful,
-    votes_are_recorded,
+    reported_certificates_certify, reports_are_honest, requests_are_tracked, runs_are_stretches,
+    steps_raise_little, views_never_fall, voters_are_orderly, voters_tell_the_record,
+    votes_are_lawful, votes_are_recorded,
 };
 pub use refusal::Refusal;

@@ -1,6 +1,6 @@
 -- An audit over what correct members report names none of them.
-use Rattle.std.proofs.Common.{◌≡◌, ⊎_elim, ℕ, List, [], ◌∷◌, ◌++◌, Option, Some, None, sym, ap, subst, arith}
-use Rattle.std.specs.Prelude.{Contains}
+use Rattle.std.proofs.Common.{◌≡◌, inl, inr, ⊎_elim, ℕ, ◌<◌, List, [], ◌∷◌, ◌++◌, Option, Some, None, refl, sym, ap, subst, arith}
+use Rattle.std.specs.Prelude.{Contains, ⊤}
 use Rattle.std.specs.List.{flat_map}
 use Rattle.std.specs.declared.cmp.Ordering.{Ordering}
 use Rattle.std.proofs.lemmas.List.Elements.{Contains-append_cases, Contains-append_right}
@@ -9,16 +9,21 @@ use Rattle.simplex_types.specs.declared.position.Round.{Round}
 use Rattle.simplex_types.specs.declared.proposal.Proposal.{Proposal}
 use Rattle.simplex_types.specs.declared.scheme.Scheme.{Ghosts}
 use Rattle.simplex_types.specs.Subject.{Statement, notarize, nullify, finalize}
+use Rattle.simplex_certificates.specs.declared.certificate.Certificate.{Certificate}
+use Rattle.simplex_certificates.specs.declared.certificate.Certificate.TheVariants as certificate
 use Rattle.simplex_certificates.specs.declared.nullify.Nullify.{Nullify}
+use Rattle.simplex_certificates.specs.Certificate.{certificate_statement, certified_by}
+use Rattle.simplex_certificates.specs.ProposalCertificate.{Notarization}
 use Rattle.simplex_certificates.specs.ProposalVote.{Finalize, Notarize}
 use Rattle.simplex_messages.specs.declared.activity.Activity.{Activity}
 use Rattle.simplex_messages.specs.declared.activity.Activity.TheVariants as activity
 use Rattle.simplex_messages.specs.declared.vote.Vote.TheVariants as vote
 use Rattle.simplex_messages.specs.Guilt.{finalizes_in, notarizes_in, nullifies_in, finalizes_of, notarizes_of, nullifies_of}
+use Rattle.simplex_audit.specs.Accountability.{HoldNotarization, IsContradicted}
 use Rattle.simplex_audit.specs.Audit.{Accusation, IsAccused, IsLeast, IsVerdict, accused}
 use Rattle.simplex_record.specs.Record.{entries, HasVoted}
 use Rattle.simplex_record.specs.World.{World, IsCorrect}
-use Rattle.simplex_member.specs.Laws.{IsHonestReport, OwnVotesAgree, ReportsAreHonest}
+use Rattle.simplex_member.specs.Laws.{IsHonestReport, OwnVotesAgree, ReportedCertify, ReportsAreHonest, reported_certificate}
 use Rattle.simplex_member.specs.Lives.{AreMembers, IsHonestVote, Members}
 use Rattle.simplex_member.specs.Packet.{Formats}
 use Rattle.simplex_network.specs.Accountability.{AreReported}
@@ -118,3 +123,65 @@ module _ {S D P G C : Type 0} (g : Ghosts S D P G C) (f : Formats S D P G C) (sc
     -- so no audit's verdict names one
     pub none-named : (evidence : List (Activity S D P G C)) → IsVerdict g.lists (g.attests scheme) cmp reports evidence → (x : Accusation) → IsAccused evidence x → IsCorrect world x.signer → ⊥
     none-named evidence verdict x by correct = none-accused by.0 (verdict.sound by.0 by.1) x by.2 correct
+
+    -- certificates among the reports that contradict each other do so as certificates that verify
+    module _ (certify : ReportedCertify g f) (size : g.size scheme ≡ world.size) where
+      certified : (a : Activity S D P G C) → Contains reports a → (c : Certificate S D P G C) → reported_certificate a ≡ Some c → g.certifies scheme (certificate_statement c) (certified_by c)
+      certified a here c is = let by = told a here in certify scheme m world w size by.0 by.1 a by.2 c is
+
+      notarization-certified : (c : Notarization S D P G C) → HoldNotarization reports c → g.certifies scheme (notarize c.proposal) c.certificate
+      notarization-certified c held = ⊎_elim
+          (λ here. certified (activity.Notarization c) here (certificate.Notarization c) refl)
+          (λ here. certified (activity.Certification c) here (certificate.Notarization c) refl)
+          held
+
+      pub verified : (round : Round) → IsContradicted (λ x c. ⊤) reports round → IsContradicted (g.certifies scheme) reports round
+      verified round contradicted = ⊎_elim
+          (λ two. inl (record {
+            first = two.first;
+            second = two.second;
+            first_is_held = two.first_is_held;
+            second_is_held = two.second_is_held;
+            first_certifies = notarization-certified two.first two.first_is_held;
+            second_certifies = notarization-certified two.second two.second_is_held;
+            first_round = two.first_round;
+            second_round = two.second_round;
+            two_proposals = two.two_proposals;
+          }))
+          (λ others. ⊎_elim
+          (λ two. inr (inl (record {
+            first = two.first;
+            second = two.second;
+            first_is_held = two.first_is_held;
+            second_is_held = two.second_is_held;
+            first_certifies = certified (activity.Finalization two.first) two.first_is_held (certificate.Finalization two.first) refl;
+            second_certifies = certified (activity.Finalization two.second) two.second_is_held (certificate.Finalization two.second) refl;
+            first_round = two.first_round;
+            second_round = two.second_round;
+            two_proposals = two.two_proposals;
+          })))
+          (λ both. inr (inr (record {
+            first = both.first;
+            second = both.second;
+            first_is_held = both.first_is_held;
+            second_is_held = both.second_is_held;
+            first_certifies = certified (activity.Nullification both.first) both.first_is_held (certificate.Nullification both.first) refl;
+            second_certifies = certified (activity.Finalization both.second) both.second_is_held (certificate.Finalization both.second) refl;
+            first_round = both.first_round;
+            second_round = both.second_round;
+          })))
+          others)
+          contradicted
+
+      -- one of the reports was handed out by a member
+      some-report : (a : Activity S D P G C) → Contains reports a → 0 < g.size scheme
+      some-report a here = let by = told a here in let low : by.0 < world.size = by.1.0 in omega (arith, low, size)
+
+      held-some : (c : Notarization S D P G C) → HoldNotarization reports c → 0 < g.size scheme
+      held-some c held = ⊎_elim (λ here. some-report (activity.Notarization c) here) (λ here. some-report (activity.Certification c) here) held
+
+      pub some-member : (round : Round) → IsContradicted (λ x c. ⊤) reports round → 0 < g.size scheme
+      some-member round contradicted = ⊎_elim
+          (λ two. held-some two.first two.first_is_held)
+          (λ others. ⊎_elim (λ two. some-report (activity.Finalization two.first) two.first_is_held) (λ both. some-report (activity.Nullification both.first) both.first_is_held) others)
+          contradicted

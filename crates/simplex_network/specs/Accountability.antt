@@ -1,5 +1,5 @@
 -- Who is ever blamed, however many members are excused: statements.
-use Rattle.std.specs.Prelude.{◌<◌, ◌+◌, ℕ, List, Contains, ◌≡◌, All, Option, None, Result}
+use Rattle.std.specs.Prelude.{◌<◌, ◌+◌, ℕ, List, Contains, ◌≡◌, All, Option, None, Result, ⊤}
 use Rattle.std.specs.List.{flat_map}
 use Rattle.std.specs.declared.cmp.Ordering.{Ordering}
 use Rattle.simplex_codec.specs.declared.codec.CodecError.{CodecError}
@@ -32,6 +32,14 @@ module _ {S D P G C : Type 0} (g : Ghosts S D P G C) (f : Formats S D P G C) whe
       → (reports evidence : List (Activity S D P G C)) → AreReported scheme m world reports → IsVerdict g.lists (g.attests scheme) cmp reports evidence
       → (round : Round) → IsContradicted (g.certifies scheme) reports round
       → (named : NamesAtLeast (faults (g.size scheme) + 1) (g.size scheme) evidence round) × ((i : ℕ) → Contains named.names i → IsCorrect world i → ⊥)
+
+  -- so it is of all certificates among their reports, where the audit is by a scheme of the committee's size: members report none that doesn't
+  -- verify by such a one
+  abbrev pub ReportedNameEnough : (D → D → Ordering) → Type 0
+  ReportedNameEnough cmp = (scheme : S) (m : Members S D P G C) (world : World S D P G C) → AreMembers g f scheme m world → g.size scheme ≡ world.size
+      → (reports evidence : List (Activity S D P G C)) → AreReported scheme m world reports → IsVerdict g.lists (g.attests scheme) cmp reports evidence
+      → (round : Round) → IsContradicted (λ x c. ⊤) reports round
+      → (named : NamesAtLeast (faults world.size + 1) world.size evidence round) × ((i : ℕ) → Contains named.names i → IsCorrect world i → ⊥)
 
 -- reports that can be spelled, one behind the other as members spell them, are read to their end: an audit of the bytes is one of just
 -- these reports

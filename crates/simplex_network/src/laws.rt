@@ -4,13 +4,13 @@ ghost use Rattle.std.specs.Prelude.{◌<◌, ◌^◌};
 ghost use Rattle.simplex_codec.specs.Codec.{Readable};
 ghost use Rattle.simplex_member.specs.Laws.{AreReadBack, IsExact, NoneIsBlamed};
 ghost use Rattle.simplex_member.specs.Packet.{Formats, formats};
-ghost use Rattle.simplex_network.specs.Accountability.{ContradictionsNameEnough, JoinedAreAudited, NoneIsNamed};
+ghost use Rattle.simplex_network.specs.Accountability.{ContradictionsNameEnough, JoinedAreAudited, NoneIsNamed, ReportedNameEnough};
 ghost use Rattle.simplex_network.specs.Agreement.{AllAreSound, FinalizedViewsLieOnOneChain, NoFinalizedViewIsNullified, NoFinalizedViewIsSkipped, NoViewHasTwoProposals};
 
 use simplex_audit::{a_contradicted_round_names_enough, joined_reports_are_read};
 use simplex_member::{
     agreement_of_lives, finalized_views_lie_on_one_chain, made_certificates_are_sound,
-    none_is_blamed, own_votes_agree, reports_are_honest,
+    none_is_blamed, own_votes_agree, reported_certificates_certify, reports_are_honest,
 };
 use simplex_messages::Activity;
 use simplex_types::{Digest, Listing, Read, Write};
@@ -42,18 +42,21 @@ pub fn agreement<S: Listing<D>, D: Digest>()
 /// neither by a refusal nor by a construction, where each packet in the name of one of them was handed out by it,
 /// the votes and certificates that it recorded can be read, and what attests by one's scheme does by another's. Over reports that such members
 /// handed out an audit names none of them; and where certificates among these contradict each other on a round, it
-/// names at least one member more of that round than may be faulty. Reports that can be spelled, joined as members
-/// spell them, are read to their end.
+/// names at least one member more of that round than may be faulty: where they verify by the audit's scheme, and so
+/// always where that is of the committee's size. Reports that can be spelled, joined as members spell them, are read to
+/// their end.
 pub fn accountability<S: Listing<D>, D: Digest>()
     ensures none_blocked { (f : Formats S D S.PublicKey S.Signature S.Certificate) → IsExact f → AreReadBack f → NoneIsBlamed S.Scheme f }
     ensures none_named { (f : Formats S D S.PublicKey S.Signature S.Certificate) → IsExact f → NoneIsNamed S.Scheme f D.cmp }
     ensures read_to_the_end { (scheme : S) → S.size scheme < 2 ^ 32 → JoinedAreAudited S.Scheme D.cmp scheme (formats D.PartialEq.eq D.spelling S.Signature.spelling S.Certificate.spelling D.reading S.Signature.reading S.Certificate.reading (S.size scheme))
         (Readable ⟦<Activity<S, D> as Write>⟧.fits (⟦<Activity<S, D> as Read>⟧.within (S.size scheme))) ⟦<Activity<S, D> as Write>⟧.spelling (⟦<Activity<S, D> as Read>⟧.reading (S.size scheme)) }
     ensures enough_named { (f : Formats S D S.PublicKey S.Signature S.Certificate) → IsExact f → ContradictionsNameEnough S.Scheme f D.cmp }
+    ensures reported_enough { (f : Formats S D S.PublicKey S.Signature S.Certificate) → IsExact f → ReportedNameEnough S.Scheme f D.cmp }
 {
     none_is_blamed::<S, D>();
     reports_are_honest::<S, D>();
     own_votes_agree::<S, D>();
     joined_reports_are_read::<S, D>();
     a_contradicted_round_names_enough::<S, D>();
+    reported_certificates_certify::<S, D>();
 }

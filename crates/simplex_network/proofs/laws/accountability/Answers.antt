@@ -1,7 +1,9 @@
-use Rattle.std.proofs.Common.{List, subst}
+use Rattle.std.proofs.Common.{ℕ, ◌+◌, List, subst}
+use Rattle.simplex_committee.specs.Committee.{faults}
 use Rattle.simplex_messages.specs.declared.activity.Activity.{Activity}
+use Rattle.simplex_audit.specs.Accountability.{NamesAtLeast}
 use Rattle.simplex_audit.specs.Audit.{IsVerdict}
-use Rattle.simplex_network.proofs.Naming.{none-named}
+use Rattle.simplex_network.proofs.Naming.{none-named, some-member, verified}
 use Rattle.simplex_network.proofs.laws.accountability.Goals as goal
 
 pub returns : goal.returns
@@ -18,5 +20,17 @@ returns g c = record {
         λ i here correct.
             let by = named.accused i here in
             none-named g.S.Scheme f scheme m world w (c.reports_are_honest.ensures f exact) (c.own_votes_agree.ensures f) reports told g.D.Ord.cmp evidence verdict (record { round = round; signer = i; offence = by.0 }) by.1 correct,
+      );
+  reported_enough = λ f exact scheme m world w size reports evidence told verdict round contradicted.
+      let certify = c.reported_certificates_certify.ensures f in
+      let honest = c.reports_are_honest.ensures f exact in
+      let agree = c.own_votes_agree.ensures f in
+      let some = some-member g.S.Scheme f scheme m world w honest agree reports told g.D.Ord.cmp certify size round contradicted in
+      let named = c.a_contradicted_round_names_enough.ensures scheme reports evidence round some verdict (verified g.S.Scheme f scheme m world w honest agree reports told g.D.Ord.cmp certify size round contradicted) in
+      let all = subst (λ (n : ℕ). NamesAtLeast (faults n + 1) n evidence round) size named in (
+        all,
+        λ i here correct.
+            let by = all.accused i here in
+            none-named g.S.Scheme f scheme m world w honest agree reports told g.D.Ord.cmp evidence verdict (record { round = round; signer = i; offence = by.0 }) by.1 correct,
       );
 }
