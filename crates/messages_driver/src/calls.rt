@@ -1,55 +1,63 @@
-//! The calls by their names.
+//! The calls by their names, whatever the scheme: at one scheme they would cost the prover several times as much.
 
 use crate::evidence::{beside, conflict, contradict, nullify_finalize};
 use crate::kinds::{becomes, certification, is_within, most, reports, signer, value};
 use crate::making::{assemble, can_assemble, sign};
 use crate::verdicts::{certificates, verified, verify};
-use script_words::{Say, Trouble, Words};
+use script_words::{Committee, Say, Trouble, Words};
 use simplex_messages::{Finalizing, Notarizing, equal_messages_are_one, equal_reports_are_one};
-use simplex_types::{PlainScheme, Sha256Digest};
+use simplex_types::Sha256Digest;
 
 /// Answers the call of a line.
-pub fn answer(name: &str, words: &mut Words<'_>, say: &mut Say) -> Result<(), Trouble> {
+pub fn answer<S: Committee>(
+    name: &str,
+    words: &mut Words<'_>,
+    say: &mut Say,
+) -> Result<(), Trouble> {
     match name {
-        "sign" => sign(words, say),
-        "verify" => verify(words, say),
-        "verified" => verified(words, say),
-        "certificates" => certificates(words, say),
-        "assemble" => assemble(words, say),
-        "can_assemble" => can_assemble(words, say),
-        _ => of_votes(name, words, say),
+        "sign" => sign::<S>(words, say),
+        "verify" => verify::<S>(words, say),
+        "verified" => verified::<S>(words, say),
+        "certificates" => certificates::<S>(words, say),
+        "assemble" => assemble::<S>(words, say),
+        "can_assemble" => can_assemble::<S>(words, say),
+        _ => of_votes::<S>(name, words, say),
     }
 }
 
 /// Calls on two votes.
-fn of_votes(name: &str, words: &mut Words<'_>, say: &mut Say) -> Result<(), Trouble> {
+fn of_votes<S: Committee>(name: &str, words: &mut Words<'_>, say: &mut Say) -> Result<(), Trouble> {
     match name {
-        "contradict" => contradict(words, say),
-        "beside" => beside(words, say),
-        "conflict" => conflict(words, say),
-        "nullify_finalize" => nullify_finalize(words, say),
-        "laws" => laws(say),
-        _ => of_any_type(name, words, say),
+        "contradict" => contradict::<S>(words, say),
+        "beside" => beside::<S>(words, say),
+        "conflict" => conflict::<S>(words, say),
+        "nullify_finalize" => nullify_finalize::<S>(words, say),
+        "laws" => laws::<S>(say),
+        _ => of_any_type::<S>(name, words, say),
     }
 }
 
 /// Calls that the next word names the type of.
-fn of_any_type(name: &str, words: &mut Words<'_>, say: &mut Say) -> Result<(), Trouble> {
+fn of_any_type<S: Committee>(
+    name: &str,
+    words: &mut Words<'_>,
+    say: &mut Say,
+) -> Result<(), Trouble> {
     match name {
-        "signer" => signer(words, say),
-        "most" => most(words, say),
-        "within" => is_within(words, say),
-        "becomes" => becomes(words, say),
-        "reports" => reports(words, say),
-        "certification" => certification(words, say),
-        _ => value(name, words, say),
+        "signer" => signer::<S>(words, say),
+        "most" => most::<S>(words, say),
+        "within" => is_within::<S>(words, say),
+        "becomes" => becomes::<S>(words, say),
+        "reports" => reports::<S>(words, say),
+        "certification" => certification::<S>(words, say),
+        _ => value::<S>(name, words, say),
     }
 }
 
 /// The laws can be called, and do nothing.
-fn laws(say: &mut Say) -> Result<(), Trouble> {
-    equal_messages_are_one::<Notarizing, PlainScheme, Sha256Digest>();
-    equal_messages_are_one::<Finalizing, PlainScheme, Sha256Digest>();
-    equal_reports_are_one::<PlainScheme, Sha256Digest>();
+fn laws<S: Committee>(say: &mut Say) -> Result<(), Trouble> {
+    equal_messages_are_one::<Notarizing, S, Sha256Digest>();
+    equal_messages_are_one::<Finalizing, S, Sha256Digest>();
+    equal_reports_are_one::<S, Sha256Digest>();
     say.ok()
 }

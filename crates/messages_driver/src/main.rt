@@ -21,12 +21,12 @@ mod evidence;
 mod kinds;
 mod making;
 mod map;
-mod plain;
+mod types;
 mod verdicts;
 
 use script_words::{Layer, Say, Trouble, Words, play};
 use simplex_messages::AttributableMap;
-use simplex_types::Attestation;
+use simplex_types::{Attestation, PlainScheme};
 use std::alloc::Global;
 use std::io;
 use std::process::ExitCode;
@@ -52,7 +52,7 @@ impl Layer for Messages {
                 None => Err(Trouble::Unreadable),
             };
         }
-        calls::answer(name, words, say)?;
+        calls::answer::<PlainScheme>(name, words, say)?;
         words.end()
     }
 }

@@ -1,11 +1,12 @@
 //! Votes that are signed, and certificates that are made of votes.
 
-use crate::plain::{
+use crate::types::{
     Finalization, Finalize, Notarization, Notarize, Nullification, Nullify, committee,
 };
 use script_values as values;
 use script_words::{Committee, Say, Trouble, Words};
-use simplex_types::{AssemblyError, PlainScheme, Round, Scheme, Sha256Digest, Write};
+use simplex_messages::{Finalizing, Notarizing, ProposalCertificate, ProposalKind, ProposalVote};
+use simplex_types::{AssemblyError, Round, Sha256Digest, Write};
 
 /// Says a message and its round.
 fn say_made<T: Write>(made: &T, round: Round, say: &mut Say) -> Result<(), Trouble> {
@@ -15,60 +16,104 @@ fn say_made<T: Write>(made: &T, round: Round, say: &mut Say) -> Result<(), Troub
 }
 
 /// `sign KIND MEMBERS ME PROPOSAL`, or a round in its place: the vote, or `-` without a key.
-pub fn sign(words: &mut Words<'_>, say: &mut Say) -> Result<(), Trouble> {
+pub fn sign<S: Committee>(words: &mut Words<'_>, say: &mut Say) -> Result<(), Trouble> {
     let kind = words.word();
     let members = words.index()?;
     let me = words.optional_member()?;
-    let scheme = PlainScheme::member_of(say.alloc, members, me, 0)?;
+    let scheme = S::member_of(say.alloc, members, me, 0)?;
+    sign_by(kind, &scheme, words, say)
+}
+
+fn sign_by<S: Committee>(
+    kind: &str,
+    scheme: &S,
+    words: &mut Words<'_>,
+    say: &mut Say,
+) -> Result<(), Trouble> {
     match kind {
-        "notarize" => match Notarize::sign(&scheme, words.proposal()?) {
-            Some(vote) => say_made(&vote, vote.round(), say),
-            None => say.none(),
-        },
-        "finalize" => match Finalize::sign(&scheme, words.proposal()?) {
-            Some(vote) => say_made(&vote, vote.round(), say),
-            None => say.none(),
-        },
-        "nullify" => match Nullify::sign(&scheme, words.round()?) {
-            Some(vote) => say_made(&vote, vote.round(), say),
-            None => say.none(),
-        },
+        "notarize" => sign_proposal::<Notarizing, S>(scheme, words, say),
+        "finalize" => sign_proposal::<Finalizing, S>(scheme, words, say),
+        "nullify" => sign_nullify(scheme, words, say),
         _ => Err(Trouble::Unreadable),
     }
 }
 
+fn sign_proposal<K: ProposalKind<Sha256Digest>, S: Committee>(
+    scheme: &S,
+    words: &mut Words<'_>,
+    say: &mut Say,
+) -> Result<(), Trouble> {
+    match ProposalVote::<K, S, Sha256Digest>::sign(scheme, words.proposal()?) {
+        Some(vote) => say_made(&vote, vote.round(), say),
+        None => say.none(),
+    }
+}
+
+fn sign_nullify<S: Committee>(
+    scheme: &S,
+    words: &mut Words<'_>,
+    say: &mut Say,
+) -> Result<(), Trouble> {
+    match Nullify::<S>::sign(scheme, words.round()?) {
+        Some(vote) => say_made(&vote, vote.round(), say),
+        None => say.none(),
+    }
+}
+
 /// `can_assemble CERTIFICATE MEMBERS VOTE..`.
-pub fn can_assemble(words: &mut Words<'_>, say: &mut Say) -> Result<(), Trouble> {
+pub fn can_assemble<S: Committee>(words: &mut Words<'_>, say: &mut Say) -> Result<(), Trouble> {
     let kind = words.word();
     let members = words.index()?;
-    let answer = match kind {
-        "notarization" => {
-            let votes = values::all::<Notarize>(words, say.alloc)?;
-            Notarization::can_certify(say.alloc, members, &votes)?
-        }
-        "finalization" => {
-            let votes = values::all::<Finalize>(words, say.alloc)?;
-            Finalization::can_certify(say.alloc, members, &votes)?
-        }
-        "nullification" => {
-            let votes = values::all::<Nullify>(words, say.alloc)?;
-            Nullification::can_nullify(say.alloc, members, &votes)?
-        }
-        _ => return Err(Trouble::Unreadable),
-    };
+    match kind {
+        "notarization" => can_certify::<Notarizing, S>(members, words, say),
+        "finalization" => can_certify::<Finalizing, S>(members, words, say),
+        "nullification" => can_nullify::<S>(members, words, say),
+        _ => Err(Trouble::Unreadable),
+    }
+}
+
+fn can_certify<K: ProposalKind<Sha256Digest>, S: Committee>(
+    members: u32,
+    words: &mut Words<'_>,
+    say: &mut Say,
+) -> Result<(), Trouble> {
+    let votes = values::all::<ProposalVote<K, S, Sha256Digest>>(words, say.alloc)?;
+    let answer = ProposalCertificate::<K, S, Sha256Digest>::can_certify(
+        say.alloc, members, &votes,
+    )?;
+    say.truth(answer)
+}
+
+fn can_nullify<S: Committee>(
+    members: u32,
+    words: &mut Words<'_>,
+    say: &mut Say,
+) -> Result<(), Trouble> {
+    let votes = values::all::<Nullify<S>>(words, say.alloc)?;
+    let answer = Nullification::<S>::can_nullify(say.alloc, members, &votes)?;
     say.truth(answer)
 }
 
 /// `assemble CERTIFICATE OWNED MEMBERS VOTE..`: the certificate, or why there is none. The votes are handed
 /// over where OWNED is `1`, and else lent.
-pub fn assemble(words: &mut Words<'_>, say: &mut Say) -> Result<(), Trouble> {
+pub fn assemble<S: Committee>(words: &mut Words<'_>, say: &mut Say) -> Result<(), Trouble> {
     let kind = words.word();
     let owned = words.truth()?;
-    let scheme = committee(words, say)?;
+    let scheme: S = committee(words, say)?;
+    assemble_by(kind, &scheme, owned, words, say)
+}
+
+fn assemble_by<S: Committee>(
+    kind: &str,
+    scheme: &S,
+    owned: bool,
+    words: &mut Words<'_>,
+    say: &mut Say,
+) -> Result<(), Trouble> {
     match kind {
-        "notarization" => notarization(&scheme, owned, words, say),
-        "finalization" => finalization(&scheme, owned, words, say),
-        "nullification" => nullification(&scheme, owned, words, say),
+        "notarization" => notarization(scheme, owned, words, say),
+        "finalization" => finalization(scheme, owned, words, say),
+        "nullification" => nullification(scheme, owned, words, say),
         _ => Err(Trouble::Unreadable),
     }
 }
@@ -81,68 +126,84 @@ fn say_refused(error: AssemblyError, say: &mut Say) -> Result<(), Trouble> {
     }
 }
 
-fn notarization(
-    scheme: &PlainScheme,
-    owned: bool,
-    words: &mut Words<'_>,
+/// Says a certificate for a proposal, or why there is none.
+fn say_certified<K: ProposalKind<Sha256Digest>, S: Committee>(
+    made: Result<ProposalCertificate<K, S, Sha256Digest>, AssemblyError>,
     say: &mut Say,
 ) -> Result<(), Trouble> {
-    let votes = values::all::<Notarize>(words, say.alloc)?;
-    let participants = Scheme::<Sha256Digest>::participants(scheme);
-    if !Notarization::can_certify(say.alloc, participants, &votes)? {
-        return Err(Trouble::Condition);
-    }
-    let made = if owned {
-        Notarization::from_owned_notarizes(say.alloc, scheme, votes)
-    } else {
-        Notarization::from_notarizes(say.alloc, scheme, &votes)
-    };
     match made {
         Ok(made) => say_made(&made, made.round(), say),
         Err(error) => say_refused(error, say),
     }
 }
 
-fn finalization(
-    scheme: &PlainScheme,
+fn notarization<S: Committee>(
+    scheme: &S,
     owned: bool,
     words: &mut Words<'_>,
     say: &mut Say,
 ) -> Result<(), Trouble> {
-    let votes = values::all::<Finalize>(words, say.alloc)?;
-    let participants = Scheme::<Sha256Digest>::participants(scheme);
-    if !Finalization::can_certify(say.alloc, participants, &votes)? {
+    let votes = values::all::<Notarize<S>>(words, say.alloc)?;
+    if !Notarization::<S>::can_certify(say.alloc, scheme.participants(), &votes)? {
         return Err(Trouble::Condition);
     }
-    let made = if owned {
-        Finalization::from_owned_finalizes(say.alloc, scheme, votes)
-    } else {
-        Finalization::from_finalizes(say.alloc, scheme, &votes)
-    };
+    if owned {
+        return say_certified(
+            Notarization::from_owned_notarizes(say.alloc, scheme, votes),
+            say,
+        );
+    }
+    say_certified(Notarization::from_notarizes(say.alloc, scheme, &votes), say)
+}
+
+fn finalization<S: Committee>(
+    scheme: &S,
+    owned: bool,
+    words: &mut Words<'_>,
+    say: &mut Say,
+) -> Result<(), Trouble> {
+    let votes = values::all::<Finalize<S>>(words, say.alloc)?;
+    if !Finalization::<S>::can_certify(say.alloc, scheme.participants(), &votes)? {
+        return Err(Trouble::Condition);
+    }
+    if owned {
+        return say_certified(
+            Finalization::from_owned_finalizes(say.alloc, scheme, votes),
+            say,
+        );
+    }
+    say_certified(Finalization::from_finalizes(say.alloc, scheme, &votes), say)
+}
+
+/// Says a nullification, or why there is none.
+fn say_nullified<S: Committee>(
+    made: Result<Nullification<S>, AssemblyError>,
+    say: &mut Say,
+) -> Result<(), Trouble> {
     match made {
         Ok(made) => say_made(&made, made.round(), say),
         Err(error) => say_refused(error, say),
     }
 }
 
-fn nullification(
-    scheme: &PlainScheme,
+fn nullification<S: Committee>(
+    scheme: &S,
     owned: bool,
     words: &mut Words<'_>,
     say: &mut Say,
 ) -> Result<(), Trouble> {
-    let votes = values::all::<Nullify>(words, say.alloc)?;
-    let participants = Scheme::<Sha256Digest>::participants(scheme);
-    if !Nullification::can_nullify(say.alloc, participants, &votes)? {
+    let votes = values::all::<Nullify<S>>(words, say.alloc)?;
+    if !Nullification::<S>::can_nullify(say.alloc, scheme.participants(), &votes)? {
         return Err(Trouble::Condition);
     }
-    let made = if owned {
-        Nullification::from_owned_nullifies(say.alloc, scheme, votes)
-    } else {
-        Nullification::from_nullifies(say.alloc, scheme, &votes)
-    };
-    match made {
-        Ok(made) => say_made(&made, made.round(), say),
-        Err(error) => say_refused(error, say),
+    if owned {
+        return say_nullified(
+            Nullification::from_owned_nullifies(say.alloc, scheme, votes),
+            say,
+        );
     }
+    say_nullified(
+        Nullification::from_nullifies(say.alloc, scheme, &votes),
+        say,
+    )
 }
