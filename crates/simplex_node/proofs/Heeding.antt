@@ -1,6 +1,6 @@
 -- What comes of the votes and asks of other members.
-use Rattle.std.proofs.Common.{◌≡◌, ◌≢◌, ⊎_elim, inl, inr, ℕ, Bool, true, false, List, [], ◌∷◌, ◌++◌, map, refl, sym, ◌∙◌, ap, subst}
-use Rattle.std.specs.Prelude.{◌<◌, ◌==◌, ◌&&◌, ◌↔◌, Option, Some, None, IsTrue, MatchOption, if◌then◌else◌, is_none, option_to_list}
+use Rattle.std.proofs.Common.{◌≡◌, ◌≢◌, ⊎_elim, inl, inr, ℕ, Bool, true, false, List, ◌∷◌, map, refl, sym, subst}
+use Rattle.std.specs.Prelude.{◌<◌, ◌==◌, ◌&&◌, Option, Some, None, MatchOption, if◌then◌else◌, is_none, option_to_list}
 use Rattle.simplex_types.specs.declared.scheme.Scheme.{Ghosts}
 use Rattle.simplex_rules.specs.declared.elector.Elector as elector
 use Rattle.simplex_journal.specs.declared.disk.Disk as disk
@@ -8,7 +8,6 @@ use Rattle.simplex_messages.specs.declared.vote.Vote.{Vote}
 use Rattle.simplex_messages.specs.declared.activity.Activity.{Activity}
 use Rattle.simplex_messages.specs.VoteParts.{vote_round, vote_signer}
 use Rattle.simplex_admission.specs.Evidence.{as_report}
-use Rattle.simplex_admission.specs.Refusal.{IsBlockedFor}
 use Rattle.simplex_verifier.specs.History as votes
 use Rattle.simplex_verifier.specs.History.{takes}
 use Rattle.simplex_batcher.specs.Admission.{IsBlocked, report_of}
@@ -19,19 +18,16 @@ use Rattle.simplex_recording.specs.Tables.{KeepsTables}
 use Rattle.simplex_member.specs.declared.action.Action.{Action}
 use Rattle.simplex_member.specs.declared.refusal.Refusal.TheVariants as refusal
 use Rattle.simplex_member.specs.Allowed.{Allowed}
-use Rattle.simplex_member.specs.Deeds.{Blocks, Reports}
+use Rattle.simplex_member.specs.Deeds.{Reports}
 use Rattle.simplex_member.specs.First.{IsFirst}
 use Rattle.simplex_member.specs.Layers.{finalized_of, votes_of, votes_setup}
-use Rattle.simplex_member.specs.Packet.{Formats, of_vote}
+use Rattle.simplex_member.specs.Packet.{Formats}
 use Rattle.simplex_member.specs.Point.{History, Heard, Wanted}
 use Rattle.simplex_member.specs.Setup.{Setup}
 use Rattle.simplex_node.specs.declared.node.Node.{Node}
 use Rattle.simplex_node.specs.Handing.{HandsOut}
-use Rattle.simplex_node.specs.Hearing.{IsHeard}
 use Rattle.simplex_node.specs.Keeps.{NodeKeeps}
 use Rattle.simplex_node.specs.Refusing.{IsAnother, MayBeHeard, last_vote_tests}
-use Rattle.simplex_node.specs.Taking.{IsTaken}
-use Rattle.simplex_node.proofs.Deeds.{both_more, nothing_more}
 
 no-offence : {A : Type 0} (by member : Bool) (o : Option A) (Offends : A → Type 0) → (by && (member && is_none o)) ≡ true → MatchOption o ⊥ Offends → ⊥
 no-offence true true None Offends takes offends = offends

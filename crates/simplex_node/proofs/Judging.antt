@@ -26,7 +26,7 @@ use Rattle.simplex_recording.specs.Ledger.{KeepsRecord}
 use Rattle.simplex_recording.specs.Tables.{KeepsTables}
 use Rattle.simplex_member.specs.Allowed.{Allowed}
 use Rattle.simplex_member.specs.Asked.{IsAwaited}
-use Rattle.simplex_member.specs.Deeds.{Deed, Reports, report_deeds}
+use Rattle.simplex_member.specs.Deeds.{Reports, report_deeds}
 use Rattle.simplex_member.specs.Laws.{IsJudgeable}
 use Rattle.simplex_member.specs.Layers.{finalized_of, is_begun, notarization_bytes, repair_of, voter_of}
 use Rattle.simplex_member.specs.Packet.{Formats}

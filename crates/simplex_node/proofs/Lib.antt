@@ -19,3 +19,4 @@ mod Reading
 mod Tests
 mod Refusals
 mod Heeding
+mod Replying

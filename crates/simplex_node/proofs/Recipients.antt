@@ -1,11 +1,10 @@
 -- Who gets the payload of the view before the one that is entered.
 use Rattle.std.proofs.Common.{◌≡◌, ◌≢◌, ◌∙◌, ◌<◌, ◌≤◌, ◌+◌, ◌-◌, ◌++◌, [], ◌∷◌, ℕ, zero, suc, Bool, true, false, List, ap, refl, sym, subst, arith, filter}
-use Rattle.std.specs.Prelude.{◌==◌, ◌&&◌, nat_eq, nat_lt, not, Option, Some, None, if◌then◌else◌, option_map, unwrap_or}
+use Rattle.std.specs.Prelude.{◌==◌, ◌&&◌, nat_lt, not, Option, Some, None, if◌then◌else◌, option_map, unwrap_or}
 use Rattle.std.specs.Ordering.{is_le, nat_cmp}
 use Rattle.std.proofs.lemmas.Bool.{le-ltb, lt-ltb}
 use Rattle.std.proofs.lemmas.Bool.Decides.{nat_tests}
 use Rattle.std.specs.List.{range_with_len}
-use Rattle.std.specs.Option.{option_eq}
 use Rattle.std.proofs.lemmas.List.Elements.{filter-append}
 use Rattle.simplex_types.specs.declared.scheme.Scheme.{Ghosts}
 use Rattle.simplex_types.specs.declared.proposal.Proposal.{Proposal}
@@ -14,7 +13,7 @@ use Rattle.simplex_history.specs.History.{seen}
 use Rattle.simplex_history.specs.Leaders.{leader}
 use Rattle.simplex_decisions.specs.declared.config.ForwardPolicy.{ForwardPolicy}
 use Rattle.simplex_decisions.specs.declared.config.ForwardPolicy.TheVariants as policy
-use Rattle.simplex_member.specs.Deeds.{Deed, HandsOn, HandsTo, entered_deeds, entry_deeds, hands_on, recipients, silent}
+use Rattle.simplex_member.specs.Deeds.{HandsOn, HandsTo, entered_deeds, entry_deeds, hands_on, recipients, silent}
 use Rattle.simplex_member.specs.Layers.{current_of, voter_of}
 use Rattle.simplex_member.specs.Packet.{Formats}
 use Rattle.simplex_member.specs.Point.{Point, History}

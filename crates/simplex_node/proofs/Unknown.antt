@@ -1,22 +1,18 @@
 -- Of what isn't recorded the voter knows nothing.
-use Rattle.std.proofs.Common.{◌≡◌, ◌≢◌, ℕ, Bool, true, false, List, [], ◌∷◌, refl, sym, ◌∙◌, ap, subst}
+use Rattle.std.proofs.Common.{◌≡◌, ◌≢◌, ℕ, Bool, true, false, List, [], ◌∷◌, refl, sym, ap, subst}
 use Rattle.std.specs.Prelude.{◌==◌, ◌||◌, Option, Some, None, option_map, if◌then◌else◌}
 use Rattle.simplex_types.specs.declared.scheme.Scheme.{Ghosts}
-use Rattle.simplex_types.specs.declared.proposal.Proposal.{Proposal}
 use Rattle.simplex_types.specs.Subject.{notarize, nullify, finalize}
 use Rattle.simplex_certificates.specs.declared.certificate.Certificate.{Certificate}
 use Rattle.simplex_certificates.specs.declared.certificate.Certificate.TheVariants as certificate
 use Rattle.simplex_certificates.specs.declared.nullification.Nullification.{Nullification}
 use Rattle.simplex_certificates.specs.ProposalCertificate.{Finalization, Notarization}
 use Rattle.simplex_certificates.specs.Certificate.{certificate_statement}
-use Rattle.simplex_record.specs.Record.{Entry, HasTaken, entries}
+use Rattle.simplex_record.specs.Record.{Entry, entries}
 use Rattle.simplex_history.specs.Past as past
 use Rattle.simplex_history.specs.History as views
 use Rattle.simplex_history.specs.History.{started, notarized, nullified, finalized, judged, forwarded, built, confirmed, unbound, latched, build_asked, build_released, verify_asked, ancestry_asked, certify_asked, certify_waited, voted_notarize, voted_nullify, voted_finalize, recalled_notarize, recalled_nullify, recalled_finalize, recalled_verdict, sent, polled, pruned, nullification, was_nullified, seen}
-use Rattle.simplex_history.specs.Known.{known}
-use Rattle.simplex_decisions.specs.Ancestry.{member}
-use Rattle.simplex_laws.specs.Matching as matching
-use Rattle.simplex_laws.specs.Matching.{EachHistoryMatches, IsOrderly, Matches}
+use Rattle.simplex_laws.specs.Matching.{EachHistoryMatches, Matches}
 use Rattle.simplex_laws.specs.Recording.{EachRecordIsKnown, IsKnown}
 use Rattle.simplex_member.specs.Allowed.{AreAllowed}
 use Rattle.simplex_member.specs.Laws.{VotersAreOrderly, VotersTellTheRecord}

@@ -10,3 +10,4 @@ pub mod Deciding
 pub mod Hearing
 pub mod Packets
 pub mod Refusing
+pub mod Stepping

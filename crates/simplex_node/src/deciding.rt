@@ -1,12 +1,12 @@
 //! What is done with a packet.
 
-ghost use Rattle.std.specs.Prelude.{◌≡◌, IfOk, OnErr, Some, false};
+ghost use Rattle.std.specs.Prelude.{◌≡◌, IfOk, OnErr, Some, false, ◌<◌, ◌^◌};
 ghost use Rattle.simplex_member.specs.declared.refusal.Refusal.{Refusal};
 ghost use Rattle.simplex_member.specs.First.{IsFirst};
 ghost use Rattle.simplex_member.specs.Packet.{formats};
 ghost use Rattle.simplex_member.specs.Refusals.{needs_nothing, packet_tests};
 ghost use Rattle.simplex_node.specs.Deciding.{IsDecided};
-ghost use Rattle.simplex_node.specs.Keeps.{AtOwn};
+ghost use Rattle.simplex_node.specs.Keeps.{AtAll, AtOwn};
 ghost use Rattle.simplex_node.specs.Packets.{as_packet};
 ghost use Rattle.simplex_node.specs.Refusing.{IsAnother, bytes_tests};
 
@@ -43,6 +43,7 @@ impl<S: Scheme<D> + Drop, L: Elector<S, D>, D: Digest, K: Disk> Node<S, L, D, K>
         bytes: &[u8],
     ) -> Result<Decided<S, D>, AllocError>
         ensures decided { IfOk result (λ decided. AtOwn S.Scheme L.Elector K.Disk (formats D.PartialEq.eq D.spelling S.Signature.spelling S.Certificate.spelling D.reading S.Signature.reading S.Certificate.reading) self.now (λ f s h. IsDecided S.Scheme f s h sender (f.packet_in channel bytes.now) (bytes_tests S.Scheme f s h sender channel bytes.now) decided)) }
+        ensures size { AtAll S.Scheme L.Elector K.Disk self.now (λ f s h. S.size s.voter.scheme < 2 ^ 32) }
         ensures memory { OnErr result (AtOwn S.Scheme L.Elector K.Disk (formats D.PartialEq.eq D.spelling S.Signature.spelling S.Certificate.spelling D.reading S.Signature.reading S.Certificate.reading) self.now (λ f s h. (r : Refusal) → IsFirst (bytes_tests S.Scheme f s h sender channel bytes.now) (Some r) → needs_nothing r ≡ false)) }
     {
         if let Some(refusal) = self.sender_refusal(sender) {

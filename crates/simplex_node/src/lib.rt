@@ -13,10 +13,12 @@ mod node;
 mod opening;
 mod packets;
 mod recalling;
+mod receiving;
 mod recording;
 mod refusing;
 mod serving;
 mod settings;
+mod stepping;
 mod telling;
 mod verdicts;
 

@@ -1,7 +1,7 @@
 //! The first reason for which an event is not taken, where that asks for neither memory nor the disk. The votes of a view tell the
 //! last two reasons for which a vote is not.
 
-ghost use Rattle.std.specs.Prelude.{◌≡◌, ◌≤◌, Bool, Option, IfNone};
+ghost use Rattle.std.specs.Prelude.{◌≡◌, ◌≤◌, Bool, Option, IfNone, ◌<◌, ◌^◌};
 ghost use Rattle.simplex_member.specs.declared.event.Event.TheVariants as event;
 ghost use Rattle.simplex_member.specs.Allowed.{Allowed};
 ghost use Rattle.simplex_member.specs.Asked.{IsAwaited};
@@ -28,6 +28,7 @@ impl<S: Scheme<D> + Drop, L: Elector<S, D>, D: Digest, K: Disk> Node<S, L, D, K>
     pub(crate) fn sender_refusal(&self, sender: Participant) -> Option<Refusal>
         ensures first { AtAll S.Scheme L.Elector K.Disk self.now (λ f s h. IsFirst (sender_tests S.Scheme f s sender) result) }
         ensures may { IfNone result (AtAll S.Scheme L.Elector K.Disk self.now (λ f s h. IsAnother S.Scheme f s sender)) }
+        ensures size { AtAll S.Scheme L.Elector K.Disk self.now (λ f s h. S.size s.voter.scheme < 2 ^ 32) }
     {
         if self.settings.scheme.participants() <= sender.get() {
             return Some(Refusal::UnknownSender);

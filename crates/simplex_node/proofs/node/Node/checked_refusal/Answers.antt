@@ -1,4 +1,4 @@
-use Rattle.std.proofs.Common.{◌≡◌, inl, inr, refl, sym}
+use Rattle.std.proofs.Common.{inl, inr, refl, sym}
 use Rattle.simplex_member.specs.Layers.{finalized_of}
 use Rattle.simplex_node.proofs.node.Node.checked_refusal.Goals as goal
 

@@ -1,4 +1,4 @@
-use Rattle.std.proofs.Common.{◌≡◌, Some, refl, sym, subst}
+use Rattle.std.proofs.Common.{Some, refl, sym, subst}
 use Rattle.simplex_member.specs.Packet.{formats}
 use Rattle.simplex_member.specs.Refusals.{certificate_tests, packet_tests}
 use Rattle.simplex_node.specs.declared.deciding.Decided.TheVariants as decided

@@ -1,4 +1,4 @@
-use Rattle.std.proofs.Common.{◌≡◌, ◌∷◌, refl, sym, None}
+use Rattle.std.proofs.Common.{refl, None}
 use Rattle.std.proofs.lemmas.Result.{on_ok_weaker}
 use Rattle.std.specs.Prelude.{map, option_to_list}
 use Rattle.simplex_messages.specs.Activity.{certificate_activity}

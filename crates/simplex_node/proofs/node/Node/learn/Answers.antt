@@ -1,9 +1,7 @@
-use Rattle.std.proofs.Common.{◌≡◌, ◌≤◌, ◌∷◌, ◌++◌, [], ℕ, List, Some, sym, ap, subst}
+use Rattle.std.proofs.Common.{◌≡◌, ◌≤◌, ◌∷◌, ◌++◌, [], ℕ, Some, sym, ap, subst}
 use Rattle.simplex_certificates.specs.declared.artifact.Artifact.{Artifact}
-use Rattle.simplex_certificates.specs.Artifact.{certificate_artifact}
 use Rattle.simplex_record.specs.Record.{entries, entry}
 use Rattle.simplex_record.specs.Rules.{MayFollow}
-use Rattle.simplex_history.specs.History as views
 use Rattle.simplex_voter.specs.State as voting
 use Rattle.simplex_recording.specs.Ledger.{KeepsRecord}
 use Rattle.simplex_recording.specs.Tables.{KeepsTables}

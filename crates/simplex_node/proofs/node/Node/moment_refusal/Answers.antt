@@ -1,4 +1,4 @@
-use Rattle.std.proofs.Common.{◌≡◌, ◌<◌, ◌≤◌, ◌+◌, ◌-◌, ◌^◌, ℕ, inl, inr, refl, sym, ◌∙◌, subst, arith}
+use Rattle.std.proofs.Common.{◌<◌, ◌≤◌, ◌+◌, ◌-◌, ◌^◌, ℕ, inl, inr, refl, sym, subst, arith}
 use Rattle.simplex_member.specs.Layers.{finalized_of}
 use Rattle.simplex_node.proofs.node.Node.moment_refusal.Goals as goal
 

@@ -1,4 +1,4 @@
-use Rattle.std.proofs.Common.{◌≡◌, ◌∙◌, ℕ, true, false, refl, sym, ap, arith, filter, append-nil}
+use Rattle.std.proofs.Common.{◌≡◌, ◌∙◌, true, false, refl, sym, ap, arith, filter, append-nil}
 use Rattle.std.specs.List.{range_with_len}
 use Rattle.simplex_history.specs.Leaders.{leader}
 use Rattle.simplex_batcher.specs.Queries.{is_missing_voter}

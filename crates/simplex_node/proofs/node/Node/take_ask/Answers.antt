@@ -1,4 +1,4 @@
-use Rattle.std.proofs.Common.{◌≡◌, ℕ, List, ◌++◌, refl, ◌∙◌, ap, subst, map}
+use Rattle.std.proofs.Common.{ℕ, List, ◌++◌, refl, ◌∙◌, ap, subst, map}
 use Rattle.std.specs.Prelude.{Option, option_to_list}
 use Rattle.std.proofs.lemmas.Result.{on_ok_weaker}
 use Rattle.simplex_member.specs.Deeds.{Serves}

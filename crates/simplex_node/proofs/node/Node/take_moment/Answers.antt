@@ -2,8 +2,8 @@ use Rattle.simplex_member.specs.Layers.{finalized_of}
 use Rattle.simplex_node.proofs.Moments.{votes_told}
 use Rattle.simplex_node.proofs.node.Node.take_moment.Goals as goal
 
-pub returns : goal.returns
-returns g c = λ f s h k same behind time. record {
+pub returns-clause-taken : goal.returns-clause-taken
+returns-clause-taken g c = λ f s h k same behind time. record {
   begun = k.begun;
   allowed = (record { order = k.begun; due = (behind, time); fits = tt }, k.allowed);
   running = k.running;

@@ -1,4 +1,4 @@
-use Rattle.std.proofs.Common.{◌≡◌, Some, refl, sym}
+use Rattle.std.proofs.Common.{Some, refl}
 use Rattle.std.proofs.lemmas.Result.{on_ok_weaker}
 use Rattle.simplex_member.specs.Deeds.{HandsOn, own_way}
 use Rattle.simplex_member.specs.Layers.{finalized_of, voter_of}

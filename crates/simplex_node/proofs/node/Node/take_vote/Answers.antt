@@ -1,7 +1,6 @@
-use Rattle.std.proofs.Common.{◌≡◌, [], ◌∷◌, refl, sym, ◌∙◌, map}
-use Rattle.std.specs.Prelude.{◌↔◌, IsTrue, true, false, option_to_list}
+use Rattle.std.proofs.Common.{[], ◌∷◌, refl, sym, ◌∙◌, map}
+use Rattle.std.specs.Prelude.{option_to_list}
 use Rattle.simplex_messages.specs.VoteParts.{vote_round}
-use Rattle.simplex_verifier.specs.History.{takes}
 use Rattle.simplex_batcher.specs.Admission.{report_of}
 use Rattle.simplex_acceptance.specs.Keeps.{IsOpenTo}
 use Rattle.simplex_member.specs.Deeds.{Blocks, Reports}

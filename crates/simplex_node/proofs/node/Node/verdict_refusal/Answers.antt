@@ -1,4 +1,4 @@
-use Rattle.std.proofs.Common.{◌≡◌, inl, inr, refl}
+use Rattle.std.proofs.Common.{inl, inr, refl}
 use Rattle.simplex_member.specs.Asked.{IsJudged}
 use Rattle.simplex_member.specs.Recorded.{record_of}
 use Rattle.simplex_member.specs.Setup.{owner_of}

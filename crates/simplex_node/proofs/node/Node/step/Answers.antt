@@ -1,0 +1,13 @@
+use Rattle.simplex_node.proofs.node.Node.step.Goals as goal
+
+pub returns-in-Ok-clause-ok : goal.returns-in-Ok-clause-ok
+returns-in-Ok-clause-ok g c = λ s h k.
+    (c.in-Ok.ensures.answered s h k).ok
+
+pub returns-in-Ok-clause-any_moment : goal.returns-in-Ok-clause-any_moment
+returns-in-Ok-clause-any_moment g c = λ s h k.
+    (c.in-Ok.ensures.answered s h k).any_moment
+
+pub returns-in-Err-clause-any_moment : goal.returns-in-Err-clause-any_moment
+returns-in-Err-clause-any_moment g c = λ s h k.
+    (c.in-Err.ensures.answered s h k).any_moment
