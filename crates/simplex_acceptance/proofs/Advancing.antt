@@ -6,9 +6,9 @@ use Rattle.std.proofs.lemmas.Bool.Decides.{nat_tests}
 use Rattle.simplex_types.specs.declared.proposal.Proposal.{Proposal}
 use Rattle.simplex_types.specs.declared.scheme.Scheme.{Ghosts}
 use Rattle.simplex_certificates.specs.declared.certificate.Certificate.{Certificate}
-use Rattle.simplex_judging.specs.declared.kind.Kind.{Kind}
+use Rattle.simplex_rules.specs.declared.kind.Kind.{Kind}
 use Rattle.simplex_verifier.specs.declared.batch.Batch.{Batch}
-use Rattle.simplex_verifier.specs.Construction.{IsBatch, after}
+use Rattle.simplex_verifier.specs.ConstructionResult.{IsBatch, after}
 use Rattle.simplex_verifier.specs.History.{Forwarded, forwardable, next_kind}
 use Rattle.simplex_member.specs.Layers.{add_point, all_votes, floor_of, passes_over, stage, votes_of, votes_setup}
 use Rattle.simplex_member.specs.Point.{History, Constructs, Forwards}

@@ -4,10 +4,10 @@ use Rattle.std.specs.Prelude.{MatchOption, is_none, is_some}
 use Rattle.simplex_types.specs.declared.proposal.Proposal.{Proposal}
 use Rattle.simplex_types.specs.declared.scheme.Scheme.{Ghosts}
 use Rattle.simplex_certificates.specs.declared.certificate.Certificate.{Certificate}
-use Rattle.simplex_judging.specs.declared.kind.Kind.{Kind}
+use Rattle.simplex_rules.specs.declared.kind.Kind.{Kind}
 use Rattle.simplex_verifier.specs.declared.batch.Batch.{Batch}
 use Rattle.simplex_verifier.specs.History.{Forwarded, History, Setup, forwardable}
-use Rattle.simplex_verifier.specs.Construction.{IsBatch, after, after_construction}
+use Rattle.simplex_verifier.specs.ConstructionResult.{IsBatch, after, after_construction}
 use Rattle.simplex_batcher.specs.declared.round.Round.{Round}
 use Rattle.simplex_batcher.specs.Rounds.{AtEach, RoundKeeps}
 

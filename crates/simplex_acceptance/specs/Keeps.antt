@@ -8,7 +8,7 @@ use Rattle.simplex_history.specs.Leaders.{leader}
 use Rattle.simplex_verifier.specs.History as votes
 use Rattle.simplex_messages.specs.declared.vote.Vote.{Vote}
 use Rattle.simplex_messages.specs.VoteParts.{vote_round, vote_signer}
-use Rattle.simplex_verifier.specs.Construction.{IsBatch}
+use Rattle.simplex_verifier.specs.ConstructionResult.{IsBatch}
 use Rattle.simplex_verifier.specs.History.{forwardable, leader_of, next_kind, recorded}
 use Rattle.simplex_verifier.specs.Votes.{vote_attestation, vote_statement}
 use Rattle.simplex_member.specs.Layers.{add_point, all_votes, concerns, current_of, floor_of, has_room, may_enter, opened, passes_over, stage, voter_of, votes_of, votes_setup}

@@ -12,7 +12,7 @@ use Rattle.simplex_messages.specs.declared.activity.Activity.{Activity}
 use Rattle.simplex_messages.specs.VoteParts.{vote_round, vote_signer}
 use Rattle.simplex_admission.specs.declared.admission.Admission.{Admission}
 use Rattle.simplex_admission.specs.Evidence.{as_report}
-use Rattle.simplex_verifier.specs.Construction.{IsBatch, after}
+use Rattle.simplex_verifier.specs.ConstructionResult.{IsBatch, after}
 use Rattle.simplex_verifier.specs.History.{Event, Taken, Cast, Certified, Led, Forwarded, History, Setup, forwardable, leader_of, next_kind, recorded, takes}
 use Rattle.simplex_verifier.specs.Votes.{vote_attestation, vote_statement}
 use Rattle.simplex_batcher.specs.Admission.{IsBlocked, report_of}

@@ -1,2 +1,2 @@
 pub mod Evidence
-pub mod Refusal
+pub mod Blocking

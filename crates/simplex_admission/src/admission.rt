@@ -3,7 +3,7 @@
 ghost use Rattle.std.specs.Prelude.{◌≡◌, ◌↔◌, IsTrue, IfSome, None, false, is_none};
 ghost use Rattle.std.specs.Option.{option_copied};
 ghost use Rattle.simplex_admission.specs.Evidence.{as_report};
-ghost use Rattle.simplex_admission.specs.Refusal.{is_accepted, IsBlockedFor, evidence_against};
+ghost use Rattle.simplex_admission.specs.Blocking.{is_accepted, IsBlockedFor, evidence_against};
 
 use crate::contradiction::{are_for_two, are_one, evidence_of};
 use crate::copies::{again, nullify_again};

@@ -11,7 +11,7 @@ use Rattle.simplex_messages.specs.VoteParts.{vote_signer, vote_round}
 use Rattle.simplex_verifier.specs.History.{History, Setup, accepted, takes, recorded, is_kept_in_full, forwardable, has_forwarded}
 use Rattle.simplex_verifier.specs.Lawful.{IsNew}
 use Rattle.simplex_admission.specs.Evidence.{evidence}
-use Rattle.simplex_admission.specs.Refusal.{Offends}
+use Rattle.simplex_admission.specs.Blocking.{Offends}
 use Rattle.simplex_batcher.specs.Admission.{IsBlocked, contradicts, AgreesWithOwn}
 use Rattle.simplex_verifier.specs.Votes.{is_in_way, vote_kind}
 

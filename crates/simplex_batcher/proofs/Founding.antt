@@ -3,12 +3,12 @@ use Rattle.std.proofs.Common.{◌≡◌, Bool, true, refl, ap, sym}
 use Rattle.std.specs.Prelude.{Option, None, Some, IfSome, MatchOption}
 use Rattle.simplex_types.specs.declared.scheme.Scheme.{Ghosts}
 use Rattle.simplex_certificates.specs.declared.certificate.Certificate.{Certificate}
-use Rattle.simplex_judging.specs.declared.kind.Kind.{Kind}
-use Rattle.simplex_judging.specs.Turn.{in_turn}
+use Rattle.simplex_rules.specs.declared.kind.Kind.{Kind}
+use Rattle.simplex_judging.specs.KindOrder.{in_turn}
 use Rattle.simplex_verifier.specs.declared.batch.Batch.{Batch}
 use Rattle.simplex_verifier.specs.Votes.{certificate_kind}
 use Rattle.simplex_verifier.specs.History.{History, Setup, is_due, next_kind}
-use Rattle.simplex_verifier.specs.Construction.{IsFounded, IsBatch}
+use Rattle.simplex_verifier.specs.ConstructionResult.{IsFounded, IsBatch}
 use Rattle.simplex_batcher.proofs.Admitting.{found-there}
 
 -- what follows of the one that is there, follows

@@ -4,7 +4,7 @@ use Rattle.std.specs.Prelude.{Option, None, Some, MatchOption, is_none, is_some,
 use Rattle.simplex_types.specs.declared.scheme.Scheme.{Ghosts}
 use Rattle.simplex_messages.specs.declared.vote.Vote.{Vote}
 use Rattle.simplex_certificates.specs.declared.certificate.Certificate.{Certificate}
-use Rattle.simplex_judging.specs.declared.kind.Kind.{Kind}
+use Rattle.simplex_rules.specs.declared.kind.Kind.{Kind}
 use Rattle.simplex_verifier.specs.declared.batch.Batch.{Batch}
 use Rattle.simplex_batcher.specs.declared.call.Call.{Call}
 use Rattle.simplex_batcher.specs.declared.call.Call.TheVariants.{AddNetwork, AcceptVote, RecordCertificate, SetLeader, TryConstruct, TryForwardProposal, Ask}
@@ -12,7 +12,7 @@ use Rattle.simplex_batcher.specs.declared.call.Question.TheVariants.{HasCertific
 use Rattle.simplex_batcher.specs.declared.call.Answer.{Answer}
 use Rattle.simplex_batcher.specs.declared.call.Answer.TheVariants as answer
 use Rattle.simplex_verifier.specs.History.{History, Event, Taken, Cast, Certified, Led, Forwarded, Setup, taken, takes, recorded, leader_of, forwardable, next_kind}
-use Rattle.simplex_verifier.specs.Construction.{after, after_construction, IsBatch, IsConstruction}
+use Rattle.simplex_verifier.specs.ConstructionResult.{after, after_construction, IsBatch, IsConstruction}
 use Rattle.simplex_verifier.specs.Spending.{waits, Spends}
 use Rattle.simplex_batcher.specs.Run.{Answers, AnswersAre, after_call, after_all, processed_of, processed_in}
 

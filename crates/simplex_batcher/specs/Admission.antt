@@ -4,7 +4,7 @@ use Rattle.std.specs.Option.{option_and_then}
 use Rattle.simplex_messages.specs.declared.vote.Vote.{Vote}
 use Rattle.simplex_messages.specs.declared.activity.Activity.{Activity}
 use Rattle.simplex_admission.specs.Evidence.{as_report, evidence}
-use Rattle.simplex_admission.specs.Refusal.{IsBlockedFor, evidence_against}
+use Rattle.simplex_admission.specs.Blocking.{IsBlockedFor, evidence_against}
 use Rattle.simplex_messages.specs.VoteParts.{vote_signer, vote_round}
 use Rattle.simplex_verifier.specs.declared.fault.BatcherFault.{BatcherFault}
 use Rattle.simplex_verifier.specs.declared.fault.BatcherFault.TheVariants.{WrongRound, OtherLeader, Contradicts, Memory}

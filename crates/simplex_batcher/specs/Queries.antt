@@ -5,7 +5,7 @@ use Rattle.simplex_types.specs.declared.proposal.Proposal.{Proposal}
 use Rattle.simplex_messages.specs.declared.vote.Vote.{Vote}
 use Rattle.simplex_messages.specs.declared.vote.Vote.TheVariants as vote
 use Rattle.simplex_messages.specs.VoteParts.{vote_signer}
-use Rattle.simplex_judging.specs.declared.kind.Kind.TheVariants.{Nullification}
+use Rattle.simplex_rules.specs.declared.kind.Kind.TheVariants.{Nullification}
 use Rattle.simplex_verifier.specs.Votes.{is_kind, is_proposal, vote_kind}
 use Rattle.simplex_verifier.specs.History.{History, Setup, accepted}
 

@@ -8,7 +8,7 @@ use Rattle.simplex_messages.specs.declared.activity.Activity.{Activity}
 use Rattle.simplex_messages.specs.VoteParts.{vote_round}
 use Rattle.simplex_certificates.specs.Certificate.{certificate_round}
 use Rattle.simplex_verifier.specs.declared.fault.BatcherFault.TheVariants.{WrongRound, OtherLeader, Memory}
-use Rattle.simplex_judging.specs.declared.kind.Kind.TheVariants.{Notarization}
+use Rattle.simplex_rules.specs.declared.kind.Kind.TheVariants.{Notarization}
 use Rattle.simplex_admission.specs.declared.admission.Admission.{Admission}
 use Rattle.simplex_verifier.specs.declared.batch.Batch.{Batch}
 use Rattle.simplex_batcher.specs.declared.call.Call.{Call}
@@ -23,7 +23,7 @@ use Rattle.simplex_verifier.specs.Lawful.{VoteAttests}
 use Rattle.simplex_batcher.specs.Queries.{has_nullify, is_missing_voter, missing_voters}
 use Rattle.simplex_admission.specs.Evidence.{as_report}
 use Rattle.simplex_batcher.specs.Admission.{IsBlocked, report_of, contradicts, IsAdmissionFault, IsCastFault}
-use Rattle.simplex_verifier.specs.Construction.{after_construction, IsConstruction}
+use Rattle.simplex_verifier.specs.ConstructionResult.{after_construction, IsConstruction}
 
 module _ {S D P G C : Type 0} where
   -- what a call asks: that an own vote attests

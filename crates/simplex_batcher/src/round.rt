@@ -7,14 +7,14 @@ ghost use Rattle.simplex_types.specs.declared.attestation.Attestation.{Attestati
 ghost use Rattle.simplex_messages.specs.VoteParts.{vote_round, vote_signer};
 ghost use Rattle.simplex_certificates.specs.Certificate.{certificate_round, certificate_statement, certified_by};
 ghost use Rattle.simplex_verifier.specs.declared.fault.BatcherFault.TheVariants.{WrongRound, OtherLeader, Contradicts, Memory};
-ghost use Rattle.simplex_judging.specs.declared.kind.Kind.TheVariants.{Notarization};
+ghost use Rattle.simplex_rules.specs.declared.kind.Kind.TheVariants.{Notarization};
 ghost use Rattle.simplex_verifier.specs.Votes.{vote_kind, certificate_kind};
 ghost use Rattle.simplex_verifier.specs.History.{Taken, Cast, Certified, Led, Forwarded, recorded, selected, leader_of, takes, is_kept_in_full, is_complete, forwardable, is_another, next_kind};
 ghost use Rattle.simplex_verifier.specs.Lawful.{IsNew, VoteAttests, Allowed};
 ghost use Rattle.simplex_verifier.specs.Quorums.{AllCertified};
 ghost use Rattle.simplex_admission.specs.Evidence.{as_report, evidence};
 ghost use Rattle.simplex_batcher.specs.Admission.{contradicts, IsBlocked, report_of, AgreesWithOwn, IsAdmissionFault, IsCastFault};
-ghost use Rattle.simplex_verifier.specs.Construction.{after, after_construction, kinds_left, HasFailed, IsBatch, IsReadable, IsVoted};
+ghost use Rattle.simplex_verifier.specs.ConstructionResult.{after, after_construction, kinds_left, HasFailed, IsBatch, IsReadable, IsVoted};
 ghost use Rattle.simplex_batcher.specs.Rounds.{RoundKeeps, AtEach};
 
 use crate::tracker::VoteTracker;

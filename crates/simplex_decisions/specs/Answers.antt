@@ -7,7 +7,7 @@ use Rattle.simplex_certificates.specs.declared.certificate.Certificate.TheVarian
 use Rattle.simplex_certificates.specs.declared.nullification.Nullification.{Nullification}
 use Rattle.simplex_history.specs.Past as past
 use Rattle.simplex_history.specs.History.{Setup, Point, current, min_active, nullification, seen}
-use Rattle.simplex_decisions.specs.Due.{IsTracked}
+use Rattle.simplex_decisions.specs.GivingUp.{IsTracked}
 
 -- what the highest of so many numbers up to this one gives that gives something
 abbrev pub last_of : {X : Type 0} → (ℕ → Option X) → ℕ → ℕ → Option X

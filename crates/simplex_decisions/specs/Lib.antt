@@ -3,7 +3,8 @@ pub mod Answers
 pub mod Asking
 pub mod Building
 pub mod Configuring
-pub mod Due
+pub mod VotesDue
+pub mod GivingUp
 pub mod Floor
 pub mod Knowing
 pub mod Laws

@@ -2,7 +2,7 @@
 
 ghost use Rattle.std.specs.Prelude.{◌≡◌, ◌↔◌, ◌+◌, ◌-◌, ◌<◌, ◌^◌, IsTrue};
 ghost use Rattle.simplex_types.specs.Positions.{term_index};
-ghost use Rattle.simplex_decisions.specs.Due.{earlier};
+ghost use Rattle.simplex_decisions.specs.GivingUp.{earlier};
 
 use simplex_history::TimeoutReason;
 use simplex_types::{TermLength, View};

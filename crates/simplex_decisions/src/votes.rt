@@ -6,7 +6,7 @@ ghost use Rattle.simplex_types.specs.declared.proposal.Proposal.{Proposal};
 ghost use Rattle.simplex_types.specs.Positions.{HasRoom, term_start};
 ghost use Rattle.simplex_rules.specs.Windows.{AdmitsOutbound};
 ghost use Rattle.simplex_decisions.specs.Ancestry.{InWindow, IsRequired, Optimistic, explicit, held_at};
-ghost use Rattle.simplex_decisions.specs.Due.{FinalizeIsDue, NotarizeIsDue};
+ghost use Rattle.simplex_decisions.specs.VotesDue.{FinalizeIsDue, NotarizeIsDue};
 ghost use Rattle.simplex_decisions.specs.Knowing.{AtEach};
 
 use crate::ancestry::{

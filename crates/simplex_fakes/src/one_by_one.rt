@@ -106,6 +106,8 @@ impl Scheme<Sha256Digest> for OneByOne {
     }
 
     ghost attests_member = { λ s i x a h. h.0 };
+
+    ghost declined_in_each_order = { λ s x given others moved declined. tt };
 }
 
 impl Listing<Sha256Digest> for OneByOne {

@@ -1,12 +1,21 @@
 -- Who leads each view, as far as it is known.
-use Rattle.std.specs.Prelude.{◌+◌, ◌-◌, ◌==◌, ◌&&◌, ◌||◌, not, nat_lt, nat_le, nat_eq, ℕ, Bool, false, List, [], ◌∷◌, Option, Some, None, if◌then◌else◌}
+use Rattle.std.specs.Prelude.{◌+◌, ◌-◌, ◌==◌, ◌&&◌, ◌||◌, not, nat_lt, nat_le, nat_eq, ℕ, zero, suc, Bool, false, List, [], ◌∷◌, Option, Some, None, if◌then◌else◌}
 use Rattle.std.specs.Option.{option_or, option_eq}
 use Rattle.simplex_types.specs.Positions.{next_term_start, term_start}
 use Rattle.simplex_rules.specs.Windows.{issuance_floor}
 use Rattle.simplex_history.specs.Past as past
-use Rattle.simplex_history.specs.Handing.{any_from, extend}
 use Rattle.simplex_history.specs.Pasts.{is_direct}
 use Rattle.simplex_history.specs.History.{Setup, Point, started, notarized, nullified, finalized, forwarded, pruned, hands_off, scheduled_leader, is_marked, min_active, seen}
+
+-- one of so many numbers from this one on passes
+abbrev pub any_from : (ℕ → Bool) → ℕ → ℕ → Bool
+any_from test low zero = false
+any_from test low (suc n) = test (low + n) || any_from test low n
+
+-- one view after the other: known before, named just now, or the leader of the view before
+abbrev pub extend : (ℕ → Option ℕ) → (ℕ → Bool) → (ℕ → Option ℕ) → ℕ → Option ℕ
+extend here from_before known zero = known zero
+extend here from_before known (suc w) = option_or (known (suc w)) (option_or (here (suc w)) (if from_before (suc w) then extend here from_before known w else None))
 
 module _ {S D P G C : Type 0} where
   -- the leader's proposal of a view was forwarded, whether it was taken or not

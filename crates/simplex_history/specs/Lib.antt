@@ -1,4 +1,3 @@
-pub mod Handing
 pub mod Held
 pub mod History
 pub mod Known

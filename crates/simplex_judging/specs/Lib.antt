@@ -1,3 +1,3 @@
 pub mod Judging
 pub mod Fewer
-pub mod Turn
+pub mod KindOrder

@@ -1,18 +1,9 @@
-//! The kinds of certificates.
+//! The order in which certificates are made.
 
 ghost use Rattle.std.specs.Prelude.{◌≡◌};
-ghost use Rattle.simplex_judging.specs.Turn.{in_turn};
+ghost use Rattle.simplex_judging.specs.KindOrder.{in_turn};
 
-/// A kind of certificate.
-#[derive(Clone, Copy, Debug, PartialEq, Eq)]
-pub enum Kind {
-    /// That a proposal may be built on.
-    Notarization,
-    /// That a round is given up.
-    Nullification,
-    /// That a proposal is final.
-    Finalization,
-}
+use simplex_rules::Kind;
 
 /// The kinds, in the order in which certificates are made.
 pub const fn in_turn() -> [Kind; 3]

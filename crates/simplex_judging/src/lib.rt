@@ -5,4 +5,5 @@ mod judging;
 mod kind;
 
 pub use judging::{Judged, assemble_enough, is_listed, judge};
-pub use kind::{Kind, in_turn};
+pub use kind::in_turn;
+pub use simplex_rules::Kind;

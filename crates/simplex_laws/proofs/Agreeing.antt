@@ -11,7 +11,7 @@ use Rattle.simplex_history.specs.Past.{verdict_is_true}
 use Rattle.simplex_history.specs.Known.{Known}
 use Rattle.simplex_decisions.specs.Ancestry.{Member, held_at, AreCoveredBetween, IsFirstUncovered, explicit, has_certificate, certificate_payload, InWindow, IsHandoffParent, HasFailed, IsVotedFor, Optimistic, at_start, by_certificate, by_own_vote, Supports, IsSpan, IsParent, IsPredecessor, IsLastCertified, IsHandedOver, IsPreferred, Leads, Stands, IsSteady, IsRequired}
 use Rattle.simplex_decisions.specs.Requests.{IsOpen, BuildIsDue, IsCaptured, IsSuperseded, WaitsForParent, NullificationIsWanted, VerdictIsOpen}
-use Rattle.simplex_decisions.specs.Due.{NotarizeIsDue, FinalizeIsDue}
+use Rattle.simplex_decisions.specs.VotesDue.{NotarizeIsDue, FinalizeIsDue}
 use Rattle.simplex_laws.specs.Matching.{AgreeAbove, WhatAgreesIsDueAlike}
 
 -- a view behind the start that is finalized and holds a proposal is explicit

@@ -11,7 +11,7 @@ use Rattle.simplex_history.specs.Past as past
 use Rattle.simplex_history.specs.Past.{Item}
 use Rattle.simplex_history.specs.Pasts.{is_direct}
 use Rattle.simplex_history.specs.History.{Setup, Point, pruned, min_active, seen}
-use Rattle.simplex_history.specs.Handing.{any_from, extend}
+use Rattle.simplex_history.specs.Leaders.{any_from, extend}
 use Rattle.simplex_history.specs.Leaders.{was_forwarded, named, named_early, has_anchor, has_anchor_in_term, is_in_window, inherits, leader}
 
 -- one test is passed wherever another is

@@ -12,14 +12,14 @@ use Rattle.simplex_history.specs.Held as offer
 use Rattle.simplex_history.specs.Held.{Offer, IsConfirmed, IsTainted, held}
 use Rattle.simplex_history.specs.Past as past
 use Rattle.simplex_history.specs.Past.{Item, offers}
-use Rattle.simplex_history.specs.Handing.{extend}
+use Rattle.simplex_history.specs.Leaders.{extend}
 use Rattle.simplex_history.specs.History.{Setup, Point, started, nullified, finalized, judged, pruned, current, last_finalized, min_active, is_marked, seen, was_nullified}
 use Rattle.simplex_history.specs.Leaders.{inherits, leader, named, named_early}
 use Rattle.simplex_history.specs.Known.{Known, known, backs, waits}
 use Rattle.simplex_decisions.specs.Ancestry.{Member, member}
 use Rattle.simplex_decisions.specs.Requests.{IsCaptured}
 use Rattle.simplex_laws.specs.Matching.{AgreeAbove}
-use Rattle.simplex_laws.specs.Lasting.{AreUsedAlike, IsLeft, WhatIsKnownStays, ViewsNeverFall, PruneKeepsUses}
+use Rattle.simplex_laws.specs.StaysKnown.{AreUsedAlike, IsLeft, WhatIsKnownStays, ViewsNeverFall, PruneKeepsUses}
 use Rattle.simplex_laws.proofs.Agreeing.{turned, steady, preferred, parent_rule, verdict_is_open, required, same_explicit}
 use Rattle.simplex_laws.proofs.Growing.{StaysKept, grows, grown, finalized_rises}
 use Rattle.simplex_laws.proofs.Pruning.{held_more, pruned_agrees}

@@ -19,7 +19,7 @@ use Rattle.simplex_history.specs.Leaders.{leader}
 use Rattle.simplex_history.specs.Known.{known, backs, waits}
 use Rattle.simplex_decisions.specs.Ancestry.{member}
 use Rattle.simplex_laws.specs.Matching.{AgreeAbove, PruneChangesNothing, PruneKeepsTimeouts}
-use Rattle.simplex_decisions.specs.Due.{first_from, oldest_entered, term_deadline, timeout, NullifyIsDue, IsTracked, MayLatch}
+use Rattle.simplex_decisions.specs.GivingUp.{first_from, oldest_entered, term_deadline, timeout, NullifyIsDue, IsTracked, MayLatch}
 use Rattle.simplex_laws.proofs.Agreeing.{turned, what_agrees_is_due_alike}
 use Rattle.simplex_laws.proofs.Growing.{grows, stays_kept, grown}
 use Rattle.simplex_laws.proofs.Recordable.{ahead}

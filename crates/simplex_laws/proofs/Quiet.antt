@@ -10,7 +10,7 @@ use Rattle.simplex_history.specs.Past as past
 use Rattle.simplex_history.specs.Past.{Item}
 use Rattle.simplex_history.specs.Pasts.{put, is_direct}
 use Rattle.simplex_history.specs.History.{Setup, Point, latched, polled, sent, voted_nullify, is_marked, was_nullified, current, last_finalized, floor, genesis, seen}
-use Rattle.simplex_history.specs.Handing.{extend}
+use Rattle.simplex_history.specs.Leaders.{extend}
 use Rattle.simplex_history.specs.Leaders.{leader, inherits, was_forwarded}
 use Rattle.simplex_history.specs.Known.{known, backs, waits}
 use Rattle.simplex_laws.specs.Matching.{LatchChangesNothing, PollChangesNothing, SendChangesNothing, RepetitionChangesNothing, LeadersAreClosed}

@@ -16,7 +16,7 @@ use Rattle.simplex_history.specs.Past as past
 use Rattle.simplex_history.specs.History.{Setup, Point, started, nullified, finalized, judged, current, last_finalized, seen}
 use Rattle.simplex_history.specs.Known.{Known, known}
 use Rattle.simplex_decisions.specs.Ancestry.{Member, member, held_at, AreCoveredBetween, IsParent, IsPreferred}
-use Rattle.simplex_decisions.specs.Due.{FinalizeIsDue}
+use Rattle.simplex_decisions.specs.VotesDue.{FinalizeIsDue}
 use Rattle.simplex_laws.specs.Matching.{Matches, round_of, DueMayBeNotarized, DueMayBeFinalized, DueMayBeNullified}
 
 -- what is there is something

@@ -14,7 +14,7 @@ use Rattle.simplex_history.specs.Past as past
 use Rattle.simplex_history.specs.Past.{Item}
 use Rattle.simplex_history.specs.Pasts.{put}
 use Rattle.simplex_history.specs.History.{Setup, Point, started, nullified, finalized, judged, polled, pruned, enter, current, seen}
-use Rattle.simplex_decisions.specs.Due.{earlier, has_budget, oldest_entered, term_deadline, timeout_of}
+use Rattle.simplex_decisions.specs.GivingUp.{earlier, has_budget, oldest_entered, term_deadline, timeout_of}
 use Rattle.simplex_laws.specs.Stepping.{put_holds}
 use Rattle.simplex_laws.specs.Timeouts.{CurrentHasTimeout, TimeoutIsEarliest, PolledOnceIsPolled}
 use Rattle.simplex_laws.proofs.Growing.{grows, grown}

@@ -10,7 +10,7 @@ use Rattle.simplex_certificates.specs.ProposalCertificate.{Notarization, Finaliz
 use Rattle.simplex_history.specs.Past as past
 use Rattle.simplex_history.specs.Pasts.{is_direct}
 use Rattle.simplex_history.specs.History.{Setup, Point, seen}
-use Rattle.simplex_history.specs.Handing.{any_from}
+use Rattle.simplex_history.specs.Leaders.{any_from}
 use Rattle.simplex_history.specs.Leaders.{has_anchor, is_in_window}
 use Rattle.simplex_history.specs.Known.{known}
 use Rattle.simplex_decisions.specs.Ancestry.{member, has_certificate, InWindow}

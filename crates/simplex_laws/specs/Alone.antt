@@ -7,7 +7,7 @@ use Rattle.simplex_record.specs.Record.{Entry, HasVoted}
 use Rattle.simplex_record.specs.Chain.{IsGround, JudgesOnGround}
 use Rattle.simplex_history.specs.Known.{Known}
 use Rattle.simplex_decisions.specs.Ancestry.{Member}
-use Rattle.simplex_decisions.specs.Due.{NotarizeIsDue}
+use Rattle.simplex_decisions.specs.VotesDue.{NotarizeIsDue}
 use Rattle.simplex_decisions.specs.Requests.{CertifyIsDue}
 use Rattle.simplex_laws.specs.Matching.{Matches, IsBound}
 

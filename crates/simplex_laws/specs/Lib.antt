@@ -1,5 +1,5 @@
 pub mod Alone
-pub mod Lasting
+pub mod StaysKnown
 pub mod Matching
 pub mod Missing
 pub mod Placing

@@ -18,7 +18,8 @@ use Rattle.simplex_history.specs.Leaders.{is_in_window, inherits, leader}
 use Rattle.simplex_history.specs.Known.{Known, known}
 use Rattle.simplex_decisions.specs.Ancestry.{Member, member, held_at, IsCovered, InWindow}
 use Rattle.simplex_decisions.specs.Requests.{Scanned, BuildIsDue, IsSuperseded, VerifyIsDue, IsInvalid, AsksNothing, NullificationIsWanted, NotarizationIsWanted, CertifyIsDue, CertificateIsWanted}
-use Rattle.simplex_decisions.specs.Due.{NotarizeIsDue, NullifyIsDue, FinalizeIsDue, MayLatch, timeout}
+use Rattle.simplex_decisions.specs.VotesDue.{NotarizeIsDue, FinalizeIsDue}
+use Rattle.simplex_decisions.specs.GivingUp.{NullifyIsDue, MayLatch, timeout}
 
 -- the round of a view
 abbrev pub round_of : {S C : Type 0} → Setup S C → ℕ → Round

@@ -6,7 +6,7 @@ use Rattle.simplex_history.specs.Past as past
 use Rattle.simplex_history.specs.History.{Setup, Point, notarized, finalized, forwarded, built, confirmed, unbound, verify_asked, recalled_notarize, seen}
 use Rattle.simplex_history.specs.Known.{known}
 use Rattle.simplex_decisions.specs.Ancestry.{member, held_at}
-use Rattle.simplex_decisions.specs.Due.{NotarizeIsDue}
+use Rattle.simplex_decisions.specs.VotesDue.{NotarizeIsDue}
 use Rattle.simplex_laws.specs.Matching.{IsBound, round_of}
 
 module _ {S D P G C : Type 0} where

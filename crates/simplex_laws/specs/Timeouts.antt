@@ -3,7 +3,7 @@ use Rattle.std.specs.Prelude.{◌≡◌, ◌↔◌, ◌<◌, ◌≤◌, ℕ, tru
 use Rattle.simplex_history.specs.declared.timeout_reason.TimeoutReason.{TimeoutReason}
 use Rattle.simplex_history.specs.Past as past
 use Rattle.simplex_history.specs.History.{Setup, Point, polled, current, seen}
-use Rattle.simplex_decisions.specs.Due.{MayGiveUp, NullifyIsDue, timeout}
+use Rattle.simplex_decisions.specs.GivingUp.{MayGiveUp, NullifyIsDue, timeout}
 
 module _ (S D P G C : Type 0) where
   -- behind a look at its timeout the current view has one, unless it is finalized, this member voted to finalize it, or its

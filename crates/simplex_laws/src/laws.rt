@@ -2,7 +2,7 @@
 
 ghost use Rattle.simplex_laws.specs.Matching.{DueMayBeNotarized, DueMayBeFinalized, DueMayBeNullified, DueNotarizeIsOnGround, DueVerdictIsOnGround, LatchChangesNothing, ScanChangesNothing, ScanLeavesNothing, LeadersAreClosed, EachHistoryMatches, WhatAgreesIsDueAlike, PruneChangesNothing, PruneKeepsTimeouts, WindowsAgree, PollChangesNothing, SendChangesNothing, RepetitionChangesNothing, ScanGivesUp, WholeScanLeavesNothing};
 ghost use Rattle.simplex_laws.specs.Alone.{DueNotarizeIsOnGroundOrNext, DueVerdictOfOneIsOnGround, GroundStays};
-ghost use Rattle.simplex_laws.specs.Lasting.{PruneKeepsUses, ViewsNeverFall, WhatIsKnownStays};
+ghost use Rattle.simplex_laws.specs.StaysKnown.{PruneKeepsUses, ViewsNeverFall, WhatIsKnownStays};
 ghost use Rattle.simplex_laws.specs.Timeouts.{CurrentHasTimeout, PolledOnceIsPolled, TimeoutIsEarliest};
 ghost use Rattle.simplex_laws.specs.Recording.{EachRecordIsKnown};
 ghost use Rattle.simplex_laws.specs.Placing.{DueNotarizeIsBound, HeldLiesInItsView};

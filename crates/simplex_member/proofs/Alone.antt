@@ -22,7 +22,7 @@ use Rattle.simplex_record.specs.Chain.{JudgesOnGround, MayFollowOnGround, Stands
 use Rattle.simplex_record.specs.Record.{Entry, entry, entries, HasJudged, HasTaken, HasVoted}
 use Rattle.simplex_record.specs.Record as recorded
 use Rattle.simplex_history.specs.History.{scheduled_leader}
-use Rattle.simplex_judging.specs.declared.kind.Kind.{Kind}
+use Rattle.simplex_rules.specs.declared.kind.Kind.{Kind}
 use Rattle.simplex_verifier.specs.declared.batch.Batch.{Batch}
 use Rattle.simplex_laws.specs.Alone.{DueNotarizeIsOnGroundOrNext, DueVerdictOfOneIsOnGround, GroundStays, VotesOnGroundOrNext}
 use Rattle.simplex_laws.specs.Matching.{EachHistoryMatches}

@@ -21,14 +21,14 @@ use Rattle.simplex_certificates.specs.Certificate.{certificate_round, certificat
 use Rattle.simplex_messages.specs.VoteParts.{vote_round, vote_signer}
 use Rattle.simplex_record.specs.Record.{Entry, entry, entries, HasVoted}
 use Rattle.simplex_record.specs.Rules.{MayFollow}
-use Rattle.simplex_judging.specs.declared.kind.Kind.{Kind}
+use Rattle.simplex_rules.specs.declared.kind.Kind.{Kind}
 use Rattle.simplex_verifier.specs.declared.batch.Batch.{Batch}
 use Rattle.simplex_verifier.specs.Votes.{is_in_way, vote_attestation, vote_statement}
 use Rattle.simplex_verifier.specs.History as votes
 use Rattle.simplex_verifier.specs.History.{Taken, Cast, Certified, Led, Forwarded, accepted, forwardable, has_forwarded, is_ready, leader_of, recorded}
 use Rattle.simplex_verifier.specs.Lawful as lawful
 use Rattle.simplex_verifier.specs.Lawful.{IsLawful, IsRight}
-use Rattle.simplex_verifier.specs.Construction.{IsBatch, IsCertificateOn, IsFounded, IsOfVerified, IsOfWaiting, after}
+use Rattle.simplex_verifier.specs.ConstructionResult.{IsBatch, IsCertificateOn, IsFounded, IsOfVerified, IsOfWaiting, after}
 use Rattle.simplex_verifier.specs.Quorums.{AllCertified}
 use Rattle.simplex_member.specs.Allowed.{Allowed, AreAllowed, MayRecord}
 use Rattle.simplex_member.specs.Laws.{IsOfVote, RoundLaws}

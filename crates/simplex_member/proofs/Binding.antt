@@ -18,7 +18,8 @@ use Rattle.simplex_history.specs.History as views
 use Rattle.simplex_history.specs.History.{finalized, last_finalized, pruned, seen, sent}
 use Rattle.simplex_history.specs.Leaders.{leader}
 use Rattle.simplex_decisions.specs.Ancestry.{held_at}
-use Rattle.simplex_decisions.specs.Due.{IsTracked, NotarizeIsDue}
+use Rattle.simplex_decisions.specs.VotesDue.{NotarizeIsDue}
+use Rattle.simplex_decisions.specs.GivingUp.{IsTracked}
 use Rattle.simplex_laws.specs.Matching.{IsBound}
 use Rattle.simplex_decisions.specs.Building.{proposal_on}
 use Rattle.simplex_verifier.specs.History as votes

@@ -12,7 +12,7 @@ use Rattle.simplex_history.specs.Held as offer
 use Rattle.simplex_history.specs.Held.{held, IsConfirmed, IsVerifyAsked}
 use Rattle.simplex_history.specs.Past as past
 use Rattle.simplex_history.specs.Past.{Item}
-use Rattle.simplex_history.specs.Handing.{extend}
+use Rattle.simplex_history.specs.Leaders.{extend}
 use Rattle.simplex_history.specs.Pasts.{bind, put}
 use Rattle.simplex_history.specs.History as views
 use Rattle.simplex_history.specs.History.{started, notarized, nullified, finalized, judged, forwarded, built, confirmed, unbound, latched, build_asked, build_released, verify_asked, ancestry_asked, certify_asked, certify_waited, voted_notarize, voted_nullify, voted_finalize, recalled_notarize, recalled_nullify, recalled_finalize, recalled_verdict, sent, polled, pruned, current, enter, later, min_active, seen, undecided_payload}

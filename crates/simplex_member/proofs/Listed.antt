@@ -15,12 +15,12 @@ use Rattle.simplex_messages.specs.VoteParts.{vote_artifact}
 use Rattle.simplex_certificates.specs.Certificate.{certificate_round}
 use Rattle.simplex_messages.specs.VoteParts.{vote_round, vote_signer}
 use Rattle.simplex_record.specs.Record.{entry, voted}
-use Rattle.simplex_judging.specs.declared.kind.Kind.{Kind}
+use Rattle.simplex_rules.specs.declared.kind.Kind.{Kind}
 use Rattle.simplex_verifier.specs.declared.batch.Batch.{Batch}
 use Rattle.simplex_verifier.specs.Votes.{vote_attestation, vote_statement}
 use Rattle.simplex_verifier.specs.History as votes
 use Rattle.simplex_verifier.specs.History.{Taken, Cast, Certified, Led, Judged, Forwarded, accepted, context, is_candidate, is_complete, is_ready, selected, verified, vote_in, waiting}
-use Rattle.simplex_verifier.specs.Construction.{after}
+use Rattle.simplex_verifier.specs.ConstructionResult.{after}
 use Rattle.simplex_member.specs.Allowed.{Allowed, AreAllowed, MayRecord}
 use Rattle.simplex_member.specs.Laws.{IsKnownVote}
 use Rattle.simplex_member.specs.Layers.{all_votes}

@@ -31,19 +31,19 @@ use Rattle.simplex_rules.specs.declared.kind.Kind.TheVariants as sent_kind
 use Rattle.simplex_rules.specs.Spans.{ends-before, term_end-above, term_end-le}
 use Rattle.simplex_record.specs.Record as recorded
 use Rattle.simplex_record.specs.Record.{Entry, current_view, entries, entry, enters, greatest, HasTaken}
-use Rattle.simplex_judging.specs.declared.kind.Kind.{Kind}
+use Rattle.simplex_rules.specs.declared.kind.Kind.{Kind}
 use Rattle.simplex_verifier.specs.declared.batch.Batch.{Batch}
 use Rattle.simplex_verifier.specs.History.{accepted}
 use Rattle.simplex_verifier.specs.Votes.{vote_statement}
 use Rattle.simplex_batcher.specs.Queries.{is_nullify}
 use Rattle.simplex_history.specs.declared.timeout_reason.TimeoutReason.{TimeoutReason}
 use Rattle.simplex_history.specs.declared.timeout_reason.TimeoutReason.TheVariants as reason
-use Rattle.simplex_history.specs.Handing.{extend}
+use Rattle.simplex_history.specs.Leaders.{extend}
 use Rattle.simplex_history.specs.History as views
 use Rattle.simplex_history.specs.History.{current, hands_off, last_finalized, scheduled_leader, seen}
 use Rattle.simplex_history.specs.Leaders.{inherits, leader, named, named_early}
 use Rattle.simplex_history.specs.Past as past
-use Rattle.simplex_decisions.specs.Due.{IsTracked, NullifyIsDue}
+use Rattle.simplex_decisions.specs.GivingUp.{IsTracked, NullifyIsDue}
 use Rattle.simplex_laws.specs.Matching.{EachHistoryMatches}
 use Rattle.simplex_laws.specs.Recording.{EachRecordIsKnown, IsKnown}
 use Rattle.simplex_member.specs.declared.event.Event.{Event}

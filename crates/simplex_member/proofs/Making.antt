@@ -15,7 +15,7 @@ use Rattle.simplex_record.specs.declared.owner.Owner.{Owner}
 use Rattle.simplex_record.specs.Record.{Entry, entry, entries, HasVoted}
 use Rattle.simplex_record.specs.World.{World, IsCorrect, IsHonest, IsSound}
 use Rattle.simplex_verifier.specs.Votes.{vote_attestation, vote_statement}
-use Rattle.simplex_judging.specs.declared.kind.Kind.{Kind}
+use Rattle.simplex_rules.specs.declared.kind.Kind.{Kind}
 use Rattle.simplex_verifier.specs.declared.batch.Batch.{Batch}
 use Rattle.simplex_member.specs.Allowed.{Allowed, MayRecord}
 use Rattle.simplex_member.specs.Laws.{HasHeard, HasReached, IsKnownVote, RoundLaws}

@@ -14,14 +14,14 @@ use Rattle.simplex_messages.specs.declared.vote.Vote.TheVariants as vote
 use Rattle.simplex_messages.specs.VoteParts.{vote_artifact}
 use Rattle.simplex_messages.specs.VoteParts.{vote_round, vote_signer}
 use Rattle.simplex_admission.specs.Evidence.{AreForTwo}
-use Rattle.simplex_admission.specs.Refusal.{Offends}
+use Rattle.simplex_admission.specs.Blocking.{Offends}
 use Rattle.simplex_batcher.specs.Admission.{IsBlocked}
 use Rattle.simplex_record.specs.declared.owner.Owner.{Owner}
 use Rattle.simplex_record.specs.Lawful.{Fits}
 use Rattle.simplex_record.specs.Record.{Entry, entry, entries}
-use Rattle.simplex_judging.specs.declared.kind.Kind.{Kind}
+use Rattle.simplex_rules.specs.declared.kind.Kind.{Kind}
 use Rattle.simplex_verifier.specs.declared.batch.Batch.{Batch}
-use Rattle.simplex_verifier.specs.Construction.{HasFailed}
+use Rattle.simplex_verifier.specs.ConstructionResult.{HasFailed}
 use Rattle.simplex_record.specs.World.{World, IsCorrect}
 use Rattle.simplex_verifier.specs.Votes.{is_in_way, vote_attestation, vote_kind, vote_statement}
 use Rattle.simplex_verifier.specs.History.{accepted, is_kept_in_full, recorded}

@@ -22,9 +22,9 @@ use Rattle.simplex_messages.specs.VoteParts.{vote_round, vote_signer}
 use Rattle.simplex_record.specs.Record as recorded
 use Rattle.simplex_record.specs.Record.{Entry, entry, entries, HasTaken}
 use Rattle.simplex_record.specs.Rules.{AreAlike, MayTake}
-use Rattle.simplex_judging.specs.declared.kind.Kind.{Kind}
+use Rattle.simplex_rules.specs.declared.kind.Kind.{Kind}
 use Rattle.simplex_verifier.specs.declared.batch.Batch.{Batch}
-use Rattle.simplex_verifier.specs.Construction.{after}
+use Rattle.simplex_verifier.specs.ConstructionResult.{after}
 use Rattle.simplex_verifier.specs.History as votes
 use Rattle.simplex_verifier.specs.History.{Taken, Cast, Certified, Led, Judged, Forwarded, accepted}
 use Rattle.simplex_verifier.specs.Votes.{is_in_way, vote_statement}

@@ -19,7 +19,7 @@ use Rattle.simplex_record.specs.Rules.{MayFollow, MayNullify, MayFinalize, MayNo
 use Rattle.simplex_history.specs.Past as past
 use Rattle.simplex_history.specs.History as views
 use Rattle.simplex_history.specs.History.{judged, recalled_verdict, seen, voted_notarize, voted_finalize}
-use Rattle.simplex_decisions.specs.Due.{NotarizeIsDue, FinalizeIsDue}
+use Rattle.simplex_decisions.specs.VotesDue.{NotarizeIsDue, FinalizeIsDue}
 use Rattle.simplex_decisions.specs.Ancestry.{held_at}
 use Rattle.simplex_laws.specs.Matching as matching
 use Rattle.simplex_laws.specs.Matching.{IsOrderly, Matches, IsBound, EachHistoryMatches, DueMayBeNotarized, DueMayBeNullified, DueMayBeFinalized}

@@ -10,7 +10,7 @@ use Rattle.simplex_history.specs.Held.{held}
 use Rattle.simplex_history.specs.History as views
 use Rattle.simplex_history.specs.History.{current, last_finalized, later, seen}
 use Rattle.simplex_history.specs.Past as past
-use Rattle.simplex_decisions.specs.Due.{NullifyIsDue, earlier, first_from, has_budget, oldest_entered, term_deadline, timeout, timeout_of}
+use Rattle.simplex_decisions.specs.GivingUp.{NullifyIsDue, earlier, first_from, has_budget, oldest_entered, term_deadline, timeout, timeout_of}
 use Rattle.simplex_member.specs.Setup.{Setup, DeadlinesLieAhead, IsInTime}
 use Rattle.simplex_member.proofs.Lists.{if-some, some-is}
 use Rattle.simplex_member.proofs.Seeing.{AreGood}

@@ -24,14 +24,15 @@ use Rattle.simplex_history.specs.History.{seen}
 use Rattle.simplex_history.specs.Leaders.{leader}
 use Rattle.simplex_decisions.specs.Ancestry.{held_at, IsSteady}
 use Rattle.simplex_decisions.specs.Answers.{best_certificate}
-use Rattle.simplex_decisions.specs.Due.{NotarizeIsDue, FinalizeIsDue, NullifyIsDue, MayLatch, IsTracked}
+use Rattle.simplex_decisions.specs.VotesDue.{NotarizeIsDue, FinalizeIsDue}
+use Rattle.simplex_decisions.specs.GivingUp.{NullifyIsDue, MayLatch, IsTracked}
 use Rattle.simplex_decisions.specs.Requests.{BuildIsDue, IsHandoff, IsCaptured, IsSuperseded, StopsHandoff, VerifyIsDue, IsInvalid, CertifyIsDue, IsPutOff, CertificateIsWanted}
 use Rattle.simplex_history.specs.declared.handoff_abandoned_reason.HandoffAbandonedReason.{HandoffAbandonedReason}
 use Rattle.simplex_decisions.specs.Building.{IsContextOf, IsKeyOfLeader, proposal_on}
 use Rattle.simplex_laws.specs.Missing.{IsMissing}
 use Rattle.simplex_verifier.specs.Votes.{vote_statement}
 use Rattle.simplex_verifier.specs.History.{forwardable, leader_of, next_kind, takes}
-use Rattle.simplex_verifier.specs.Construction.{IsBatch}
+use Rattle.simplex_verifier.specs.ConstructionResult.{IsBatch}
 use Rattle.simplex_batcher.specs.Queries.{has_nullify}
 use Rattle.simplex_resolver.specs.declared.ask.Ask.{Ask}
 use Rattle.simplex_resolver.specs.declared.ask.Kind as repair

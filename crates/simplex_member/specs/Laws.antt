@@ -23,7 +23,7 @@ use Rattle.simplex_certificates.specs.Artifact.{certificate_artifact}
 use Rattle.simplex_messages.specs.VoteParts.{vote_artifact}
 use Rattle.simplex_certificates.specs.Certificate.{certificate_round, certificate_statement, certified_by}
 use Rattle.simplex_messages.specs.VoteParts.{vote_round, vote_signer}
-use Rattle.simplex_judging.specs.declared.kind.Kind.{Kind}
+use Rattle.simplex_rules.specs.declared.kind.Kind.{Kind}
 use Rattle.simplex_rules.specs.Windows.{HasExactly}
 use Rattle.simplex_record.specs.Record.{entries, entry, HasVoted}
 use Rattle.simplex_record.specs.Rules.{HasParentBelow, MayFollow, MayJudge, StandsInTheWay}
@@ -35,7 +35,7 @@ use Rattle.simplex_record.specs.Agreement.{OneProposalAView, NoFinalizedViewNull
 use Rattle.simplex_batcher.specs.Admission.{IsBlocked}
 use Rattle.simplex_verifier.specs.declared.batch.Batch.{Batch}
 use Rattle.simplex_verifier.specs.Votes.{vote_attestation, vote_statement}
-use Rattle.simplex_verifier.specs.Construction.{HasFailed, IsBatch, IsFounded}
+use Rattle.simplex_verifier.specs.ConstructionResult.{HasFailed, IsBatch, IsFounded}
 use Rattle.simplex_verifier.specs.History as votes
 use Rattle.simplex_verifier.specs.Lawful as lawful
 use Rattle.simplex_types.specs.Batching.{AreFailing}
@@ -43,7 +43,8 @@ use Rattle.simplex_verifier.specs.Quorums.{AllCertified}
 use Rattle.simplex_history.specs.Past as past
 use Rattle.simplex_history.specs.History.{later, scheduled_leader, seen}
 use Rattle.simplex_decisions.specs.Ancestry.{held_at}
-use Rattle.simplex_decisions.specs.Due.{IsTracked, NotarizeIsDue}
+use Rattle.simplex_decisions.specs.VotesDue.{NotarizeIsDue}
+use Rattle.simplex_decisions.specs.GivingUp.{IsTracked}
 use Rattle.simplex_laws.specs.Matching as voter
 use Rattle.simplex_laws.specs.Matching.{IsOrderly, IsBound}
 use Rattle.simplex_journal.specs.Record.{Reads}

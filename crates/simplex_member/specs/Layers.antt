@@ -22,7 +22,7 @@ use Rattle.simplex_views.specs.Views.{recalls}
 use Rattle.simplex_decisions.specs.Building.{proposal_on}
 use Rattle.simplex_verifier.specs.History as votes
 use Rattle.simplex_verifier.specs.History.{Taken, Cast, Certified, Led, Forwarded}
-use Rattle.simplex_verifier.specs.Construction.{after}
+use Rattle.simplex_verifier.specs.ConstructionResult.{after}
 use Rattle.simplex_resolver.specs.History as repair
 use Rattle.simplex_resolver.specs.History.{Item, Replayed, item_of}
 use Rattle.simplex_member.specs.Packet.{Formats}

@@ -10,7 +10,8 @@ use Rattle.simplex_history.specs.declared.timeout_reason.TimeoutReason.TheVarian
 use Rattle.simplex_history.specs.Past as past
 use Rattle.simplex_history.specs.History.{latched, seen}
 use Rattle.simplex_history.specs.Leaders.{leader}
-use Rattle.simplex_decisions.specs.Due.{NotarizeIsDue, FinalizeIsDue, NullifyIsDue, MayLatch}
+use Rattle.simplex_decisions.specs.VotesDue.{NotarizeIsDue, FinalizeIsDue}
+use Rattle.simplex_decisions.specs.GivingUp.{NullifyIsDue, MayLatch}
 use Rattle.simplex_decisions.specs.Requests.{NoBuildIsDue, VerifyIsDue, CertifyIsDue, IsPutOff}
 use Rattle.simplex_laws.specs.Missing.{IsMissing}
 use Rattle.simplex_verifier.specs.History.{forwardable, leader_of, next_kind}

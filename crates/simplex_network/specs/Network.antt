@@ -5,7 +5,7 @@ use Rattle.simplex_certificates.specs.declared.certificate.Certificate.{Certific
 use Rattle.simplex_certificates.specs.Certificate.{certificate_statement, certified_by}
 use Rattle.simplex_record.specs.World.{World, IsCorrect}
 use Rattle.simplex_history.specs.History.{scheduled_leader}
-use Rattle.simplex_judging.specs.declared.kind.Kind.{Kind}
+use Rattle.simplex_rules.specs.declared.kind.Kind.{Kind}
 use Rattle.simplex_verifier.specs.declared.batch.Batch.{Batch}
 use Rattle.simplex_member.specs.Allowed.{Allowed}
 use Rattle.simplex_member.specs.Laws.{HasReached}

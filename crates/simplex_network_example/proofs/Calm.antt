@@ -8,7 +8,7 @@ use Rattle.simplex_rules.specs.declared.kind.Kind.TheVariants as kind
 use Rattle.simplex_history.specs.Past as past
 use Rattle.simplex_history.specs.Past.{Item}
 use Rattle.simplex_history.specs.Pasts.{put}
-use Rattle.simplex_history.specs.Handing.{extend}
+use Rattle.simplex_history.specs.Leaders.{extend}
 use Rattle.simplex_history.specs.History as views
 use Rattle.simplex_history.specs.History.{started, nullified, sent, recalled_nullify, voted_nullify, polled, pruned, current, enter, later, min_active, seen}
 use Rattle.simplex_history.specs.Leaders.{inherits, leader, named, named_early}

@@ -20,7 +20,7 @@ use Rattle.simplex_history.specs.Held.{Offer, held}
 use Rattle.simplex_history.specs.History.{seen}
 use Rattle.simplex_history.specs.Leaders.{leader}
 use Rattle.simplex_decisions.specs.Ancestry.{held_at}
-use Rattle.simplex_decisions.specs.Due.{NullifyIsDue}
+use Rattle.simplex_decisions.specs.GivingUp.{NullifyIsDue}
 use Rattle.simplex_laws.specs.Missing.{IsMissing}
 use Rattle.simplex_verifier.specs.History as votes
 use Rattle.simplex_verifier.specs.History.{Cast, Certified, Led, forwardable, has_forwarded, is_another, leader_of, next_kind, selected}

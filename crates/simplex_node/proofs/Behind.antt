@@ -12,7 +12,7 @@ use Rattle.simplex_history.specs.Held.{Agrees, held}
 use Rattle.simplex_history.specs.Past as past
 use Rattle.simplex_history.specs.declared.timeout_reason.TimeoutReason.TheVariants as reason
 use Rattle.simplex_decisions.specs.Building.{proposal_on}
-use Rattle.simplex_decisions.specs.Due.{IsTracked, MayLatch}
+use Rattle.simplex_decisions.specs.GivingUp.{IsTracked, MayLatch}
 use Rattle.simplex_decisions.specs.Requests.{IsCaptured}
 use Rattle.simplex_voter.specs.declared.state.State.{State}
 use Rattle.simplex_voter.specs.State as voting

@@ -15,7 +15,7 @@ use Rattle.simplex_history.specs.History.{built, current, latched, seen, unbound
 use Rattle.simplex_history.specs.Leaders.{leader}
 use Rattle.simplex_decisions.specs.Ancestry.{IsSteady}
 use Rattle.simplex_decisions.specs.Building.{proposal_on}
-use Rattle.simplex_decisions.specs.Due.{IsFirstLatch, IsTracked, MayLatch}
+use Rattle.simplex_decisions.specs.GivingUp.{IsFirstLatch, IsTracked, MayLatch}
 use Rattle.simplex_decisions.specs.Requests.{IsCaptured}
 use Rattle.simplex_voter.specs.declared.state.State.{State}
 use Rattle.simplex_voter.specs.State as voting

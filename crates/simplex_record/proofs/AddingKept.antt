@@ -20,7 +20,7 @@ use Rattle.simplex_record.specs.declared.votes.Votes.{Votes}
 use Rattle.simplex_record.specs.Coverage as coverage
 use Rattle.simplex_record.specs.Record.{Entry, voted, taken, judged, HasTaken, HasJudged, IsCovered, finalizes, enters}
 use Rattle.simplex_record.specs.Rules.{AreAlike, MayTake, MayJudge}
-use Rattle.simplex_record.specs.Standing.{KeepsVotes, KeepsCertificates, KeepsVerdicts, KeepsViews}
+use Rattle.simplex_record.specs.CheckerState.{KeepsVotes, KeepsCertificates, KeepsVerdicts, KeepsViews}
 use Rattle.simplex_record.specs.Told.{told, notarized_at, nullified_at, finalized_at, vote_in, certificate_in, verdict_at}
 use Rattle.simplex_record.specs.Spans.{covers-span}
 use Rattle.simplex_record.proofs.AddingTold.{greatest-push, greatest-same, KeepsSet-same, KeepsSet-push, KeepsMap-same, KeepsMap-push}

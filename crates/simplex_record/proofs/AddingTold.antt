@@ -10,7 +10,7 @@ use Rattle.std.proofs.Common.{◌≡◌, inl, inr, ℕ, ◌≤◌, ◌==◌, max
 use Rattle.std.proofs.lemmas.Bool.{cases_eq}
 use Rattle.std.proofs.lemmas.Bool.Decides.{nat_tests}
 use Rattle.simplex_record.specs.Record.{Entry, greatest}
-use Rattle.simplex_record.specs.Standing.{KeepsSet, KeepsMap}
+use Rattle.simplex_record.specs.CheckerState.{KeepsSet, KeepsMap}
 use Rattle.simplex_record.specs.Told.{told}
 use Rattle.simplex_record.proofs.Figures.{greatest-least}
 use Rattle.simplex_record.proofs.Telling.{cases_option, or-first, told-push, at_same, at_other}

@@ -11,7 +11,7 @@ use Rattle.simplex_record.specs.declared.standing.Standing.{Standing}
 use Rattle.simplex_record.specs.Record.{Entry, voted, taken, judged, entry, entries}
 use Rattle.simplex_record.specs.Rules.{MayFollow, MayJudge, LeavesRoom}
 use Rattle.simplex_record.specs.Lawful.{Fits, IsLawful, IsRefusedAt}
-use Rattle.simplex_record.specs.Standing.{Keeps, KeepsCertificates}
+use Rattle.simplex_record.specs.CheckerState.{Keeps, KeepsCertificates}
 use Rattle.simplex_rules.specs.Spans.{term_end-le}
 
 -- a view with room isn't the last

@@ -11,8 +11,8 @@ use Rattle.simplex_types.specs.Positions.{term_start}
 use Rattle.simplex_types.specs.Subject.{Statement, notarize, nullify, finalize}
 use Rattle.simplex_record.specs.declared.votes.Votes.{Votes}
 use Rattle.simplex_record.specs.Record.{Entry, HasVoted, last_finalized}
-use Rattle.simplex_record.specs.Rules.{IsHealed}
-use Rattle.simplex_record.specs.Standing.{KeepsVotes}
+use Rattle.simplex_record.specs.Rules.{HasNoOpenNullify}
+use Rattle.simplex_record.specs.CheckerState.{KeepsVotes}
 use Rattle.simplex_record.specs.Told.{told, nullified_at, vote_in}
 use Rattle.simplex_record.proofs.Ruling.{absent}
 use Rattle.simplex_record.proofs.Telling.{is_some-true, votes-none, votes-some, at_same, of_view}
@@ -42,7 +42,7 @@ module _ {D : Type 0} (votes : Votes) (before : List (Entry D)) (keeps : KeepsVo
       of_statement view r (finalize p) here gives = absurd (none-some r gives)
 
   -- where none lies between the last finalized view and a view in its term, all are healed, and the other way round
-  pub healed-none : (views view : ℕ) → ((u : ℕ) → term_start views view ≤ u → last_finalized before < u → u < view → contains nat_cmp votes.nullifies u ≡ false) → IsHealed views before view
+  pub healed-none : (views view : ℕ) → ((u : ℕ) → term_start views view ≤ u → last_finalized before < u → u < view → contains nat_cmp votes.nullifies u ≡ false) → HasNoOpenNullify views before view
   healed-none views view none r above below here = elim (cases_lt (last_finalized before) r.view) [
     | inl past ↦
         let gone = votes-none (nullified_at r.view) before (absent _ _ (keeps.nullifies r.view) (none r.view above past below)) (nullify r) here in
@@ -50,7 +50,7 @@ module _ {D : Type 0} (votes : Votes) (before : List (Entry D)) (keeps : KeepsVo
     | inr not_past ↦ omega (arith, not_past)
   ]
 
-  pub none-healed : (views view u : ℕ) → IsHealed views before view → term_start views view ≤ u → last_finalized before < u → u < view → contains nat_cmp votes.nullifies u ≡ true → ⊥
+  pub none-healed : (views view u : ℕ) → HasNoOpenNullify views before view → term_start views view ≤ u → last_finalized before < u → u < view → contains nat_cmp votes.nullifies u ≡ true → ⊥
   none-healed views view u healed above past below kept =
       let r = nullify_of u kept in
       absurd (omega (arith, healed r.0 (omega (arith, above, r.1)) (omega (arith, below, r.1)) r.2, past, r.1))

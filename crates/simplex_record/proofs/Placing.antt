@@ -4,7 +4,7 @@ use Rattle.std.proofs.lemmas.List.Elements.{Contains-push_cases}
 use Rattle.simplex_types.specs.Subject.{notarize, nullify, finalize}
 use Rattle.simplex_record.specs.declared.numbering.Numbering.{Numbering}
 use Rattle.simplex_record.specs.Record.{Entry, voted, taken, judged, IsNullify, IsLastNullify}
-use Rattle.simplex_record.specs.Standing.{TellsLastNullify, KeepsNumbering}
+use Rattle.simplex_record.specs.CheckerState.{TellsLastNullify, KeepsNumbering}
 
 -- in an empty record none stands
 pub tells_none : (D : Type 0) (o : Option ℕ) → o ≡ None → TellsLastNullify {D = D} [] o

@@ -14,7 +14,7 @@ use Rattle.simplex_record.specs.declared.certificates.Certificates.{Certificates
 use Rattle.simplex_record.specs.declared.votes.Votes.{Votes}
 use Rattle.simplex_record.specs.Record.{Entry, voted, taken, judged, HasVoted, HasTaken, HasJudged, HasVerdict, HasCertificate, finalizes, last_finalized}
 use Rattle.simplex_record.specs.Rules.{AreAlike, HasNoVoteLike}
-use Rattle.simplex_record.specs.Standing.{KeepsVotes, KeepsCertificates, KeepsVerdicts}
+use Rattle.simplex_record.specs.CheckerState.{KeepsVotes, KeepsCertificates, KeepsVerdicts}
 use Rattle.simplex_record.specs.Told.{told, certificate_in, notarized_at, nullified_at, finalized_at, verdict_at}
 use Rattle.simplex_rules.specs.declared.kind.Kind.TheVariants as kind
 use Rattle.simplex_record.proofs.Figures.{greatest-at}

@@ -37,8 +37,8 @@ module _ {D : Type 0} where
   HasNoVoteLike before s = (t : Statement D) → AreAlike s t → HasVoted before t → ⊥
 
   -- each recorded nullify of an earlier view of the term lies at or below the last finalized view
-  abbrev pub IsHealed : ℕ → List (Entry D) → ℕ → Type 0
-  IsHealed views before view = (r : Round) → term_start views view ≤ r.view → r.view < view → HasVoted before (nullify r) → r.view ≤ last_finalized before
+  abbrev pub HasNoOpenNullify : ℕ → List (Entry D) → ℕ → Type 0
+  HasNoOpenNullify views before view = (r : Round) → term_start views view ≤ r.view → r.view < view → HasVoted before (nullify r) → r.view ≤ last_finalized before
 
   -- the member may vote to notarize the proposal
   pub record MayNotarize (views : ℕ) (before : List (Entry D)) (p : Proposal D) : Type 0 where
@@ -61,7 +61,7 @@ module _ {D : Type 0} where
     pub notarized : HasTaken before (notarize p)
     pub certified : (r : Round) × (r.view ≡ p.round.view) × HasJudged before r true
     pub no_other : (q : Proposal D) → q.round.view ≡ p.round.view → HasTaken before (notarize q) ⊎ HasTaken before (finalize q) → q ≡ p
-    pub healed : IsHealed views before p.round.view
+    pub healed : HasNoOpenNullify views before p.round.view
 
   -- it may take a certificate for the statement
   pub record MayTake (views : ℕ) (before : List (Entry D)) (s : Statement D) : Type 0 where

@@ -5,7 +5,7 @@ ghost use Rattle.simplex_types.specs.Positions.{HasRoom};
 ghost use Rattle.simplex_types.specs.Subject.{notarize, nullify, finalize};
 ghost use Rattle.simplex_record.specs.Record.{Entry, voted, taken, judged};
 ghost use Rattle.simplex_record.specs.Rules.{MayTake, MayJudge};
-ghost use Rattle.simplex_record.specs.Standing.{KeepsViews};
+ghost use Rattle.simplex_record.specs.CheckerState.{KeepsViews};
 
 use crate::standing::Standing;
 use simplex_types::{Digest, Proposal, Round, TermLength};

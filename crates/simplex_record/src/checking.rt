@@ -4,7 +4,7 @@ ghost use Rattle.std.specs.Prelude.{◌≡◌, ◌↔◌, ◌++◌, ◌∷◌, [
 ghost use Rattle.simplex_record.specs.Record.{Entry, entry, entries, IsNullify};
 ghost use Rattle.simplex_record.specs.Rules.{MayFollow, LeavesRoom};
 ghost use Rattle.simplex_record.specs.Lawful.{Verifies, IsLawful, IsRefusedAt};
-ghost use Rattle.simplex_record.specs.Standing.{Keeps, KeepsViews};
+ghost use Rattle.simplex_record.specs.CheckerState.{Keeps, KeepsViews};
 
 use crate::owner::Owner;
 use crate::standing::Standing;

@@ -7,8 +7,8 @@ ghost use Rattle.std.specs.Ordering.{nat_cmp};
 ghost use Rattle.simplex_types.specs.Positions.{HasRoom};
 ghost use Rattle.simplex_types.specs.Subject.{notarize, nullify, finalize};
 ghost use Rattle.simplex_record.specs.Record.{Entry, HasVerdict, HasCertificate};
-ghost use Rattle.simplex_record.specs.Rules.{MayNotarize, MayNullify, MayFinalize, MayTake, MayJudge, IsHealed};
-ghost use Rattle.simplex_record.specs.Standing.{Keeps, TellsLastNullify};
+ghost use Rattle.simplex_record.specs.Rules.{MayNotarize, MayNullify, MayFinalize, MayTake, MayJudge, HasNoOpenNullify};
+ghost use Rattle.simplex_record.specs.CheckerState.{Keeps, TellsLastNullify};
 
 use crate::certificates::Certificates;
 use crate::numbering::Numbering;
@@ -147,7 +147,7 @@ impl<D: Digest> Standing<D> {
     /// Whether each own nullify of an earlier view of the term lies at or below the last finalized view.
     fn is_healed(&self, length: TermLength, view: View) -> bool
         requires { self.now.last_finalized < view }
-        ensures { (before : List (Entry D)) → Keeps length self.now before → IsTrue result ↔ IsHealed length before view }
+        ensures { (before : List (Entry D)) → Keeps length self.now before → IsTrue result ↔ HasNoOpenNullify length before view }
     {
         let start = view.term_start(length);
         let low = start.max(self.last_finalized.next());

@@ -10,7 +10,7 @@ use Rattle.simplex_certificates.specs.declared.artifact.Artifact.{Artifact}
 use Rattle.simplex_certificates.specs.declared.artifact.Artifact.TheVariants as artifact
 use Rattle.simplex_certificates.specs.declared.nullify.Nullify.{Nullify}
 use Rattle.simplex_record.specs.Record.{Entry, voted, entry, entries, HasVoted, IsLastNullify}
-use Rattle.simplex_record.specs.Standing.{TellsLastNullify}
+use Rattle.simplex_record.specs.CheckerState.{TellsLastNullify}
 use Rattle.simplex_recording.specs.Places.{as_nullify, at_place}
 use Rattle.simplex_recording.specs.Recorded.{HasNoNullify, IsLastNullifyOf}
 use Rattle.simplex_recording.proofs.Placing.{found_behind}

@@ -7,7 +7,7 @@ use Rattle.simplex_certificates.specs.declared.nullify.Nullify.{Nullify}
 use Rattle.simplex_record.specs.declared.owner.Owner.{Owner}
 use Rattle.simplex_record.specs.Record.{Entry, entries, HasTaken}
 use Rattle.simplex_record.specs.Rules.{AreAlike}
-use Rattle.simplex_record.specs.Standing as kept
+use Rattle.simplex_record.specs.CheckerState as kept
 use Rattle.simplex_recording.specs.declared.recorded.Recorded.{Recorded}
 use Rattle.simplex_recording.specs.Places.{KeepsPlaces}
 

@@ -8,7 +8,7 @@ use Rattle.std.proofs.lemmas.List.Sorted.{Contains-permutation}
 use Rattle.std.proofs.lemmas.Nat.{div-add-mod', mod-mul-add}
 use Rattle.std.proofs.Math.Nat.{suc-mul, mul-le-mul_right}
 use Rattle.simplex_rules.specs.Rotation.{indices, IsOrder, place, LeadsOnce}
-use Rattle.simplex_rules.specs.Turns.{length-IsOrder}
+use Rattle.simplex_rules.specs.RotationLaws.{length-IsOrder}
 use Rattle.simplex_rules.proofs.Orders.{get_or-indices, order-IsOnce}
 
 -- among n numbers in a row one has the remainder k

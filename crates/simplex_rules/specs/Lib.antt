@@ -2,7 +2,7 @@ pub mod Terms
 pub mod Kind
 pub mod Rotation
 pub mod Shuffle
-pub mod Turns
+pub mod RotationLaws
 pub mod Windows
 pub mod Spans
 pub mod Salted

@@ -3,9 +3,11 @@
 ghost use Rattle.std.specs.Prelude.{◌≡◌, ◌↔◌, ◌<◌, ◌≤◌, ◌^◌, ◌++◌, ℕ, List, Option, Some, None, length, Contains, IfOk, IfSome, IfNone, IsNone, IsSome, true, ⊤, Ok, Err};
 ghost use Rattle.std.specs.Option.{ForSome};
 ghost use Rattle.std.proofs.Common.{rules, arith};
+ghost use Rattle.std.proofs.lemmas.List.Sorted.{IsPermutation-sym};
 ghost use Rattle.simplex_codec.specs.Codec.{bytes_at, bytes-IsCodec, unbounded-IsCodec};
 ghost use Rattle.simplex_types.specs.AttestationList.{list_within};
 ghost use Rattle.simplex_types.specs.Quorum.{IsQuorum};
+ghost use Rattle.simplex_types.specs.QuorumOrder.{IsQuorum-permutation};
 ghost use Rattle.simplex_types.specs.Subject.{Statement, statement};
 ghost use Rattle.simplex_types.specs.declared.attestation.Attestation.{Attestation};
 ghost use Rattle.simplex_codec.specs.declared.codec.CodecError.TheVariants.{End};
@@ -337,6 +339,8 @@ impl<D: Digest> Scheme<D> for SaltedScheme {
     }
 
     ghost attests_member = { λ s i x a h. h.0 };
+
+    ghost declined_in_each_order = { λ s x given others moved declined quorum. declined (IsQuorum-permutation s.participants (λ i a. Attests D.spelling s.base s.participants i x a) others given (IsPermutation-sym given others moved) quorum) };
 }
 
 impl<D: Digest> Listing<D> for SaltedScheme {

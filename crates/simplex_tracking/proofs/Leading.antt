@@ -8,7 +8,7 @@ use Rattle.std.proofs.lemmas.Bool.{cases_lt, cases_eq, ne_eqb}
 use Rattle.simplex_types.specs.declared.scheme.Scheme.{Ghosts}
 use Rattle.simplex_tracking.specs.declared.tracked.Tracked.{Tracked}
 use Rattle.simplex_tracking.specs.Laws.{IsKept-led, extend-above, one_more, or_none}
-use Rattle.simplex_history.specs.Handing.{extend}
+use Rattle.simplex_history.specs.Leaders.{extend}
 use Rattle.simplex_tracking.specs.Rounds.{learn}
 use Rattle.simplex_tracking.specs.Tracked.{Frame, IsClosedAt, IsKept, Tables, handed_on, inherits_by}
 use Rattle.simplex_tracking.proofs.Choices.{is_itself}

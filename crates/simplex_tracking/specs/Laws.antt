@@ -14,7 +14,7 @@ use Rattle.simplex_tracking.specs.declared.marks.Marks.{Marks}
 use Rattle.simplex_tracking.specs.declared.rounds.Rounds.{Rounds}
 use Rattle.simplex_tracking.specs.declared.tracked.Tracked.{Tracked}
 use Rattle.simplex_history.specs.Pasts.{put}
-use Rattle.simplex_history.specs.Handing.{any_from, extend}
+use Rattle.simplex_history.specs.Leaders.{any_from, extend}
 use Rattle.simplex_tracking.specs.Marks.{Shows}
 use Rattle.simplex_tracking.specs.Rounds.{Keep}
 use Rattle.simplex_tracking.specs.Rounds as rounds

@@ -13,7 +13,7 @@ use Rattle.simplex_tracking.specs.declared.marks.Marks.{Marks}
 use Rattle.simplex_history.specs.declared.sign.Sign.TheVariants as sign
 use Rattle.simplex_tracking.specs.declared.tracked.Tracked.{Tracked}
 use Rattle.simplex_history.specs.Pasts.{bears, forget, is_direct, put}
-use Rattle.simplex_history.specs.Handing.{any_from, extend}
+use Rattle.simplex_history.specs.Leaders.{any_from, extend}
 use Rattle.simplex_tracking.specs.Marks.{Shows, IsMarkedWithin}
 use Rattle.simplex_tracking.specs.Rounds.{Common, Keep, unled}
 

@@ -10,7 +10,7 @@ ghost use Rattle.simplex_history.specs.Past.{entered, armed, notarized, nullifie
 ghost use Rattle.simplex_round.specs.Round as one;
 ghost use Rattle.simplex_tracking.specs.Marks.{Shows};
 ghost use Rattle.simplex_history.specs.Pasts.{bears, put};
-ghost use Rattle.simplex_history.specs.Handing.{extend};
+ghost use Rattle.simplex_history.specs.Leaders.{extend};
 ghost use Rattle.simplex_tracking.specs.Rounds.{AreUntracked, IsFirstBelow, IsTracked, setup_of};
 ghost use Rattle.simplex_tracking.specs.Tracked.{Frame, Tables, Holds, AtEach, Inherits, IsBegun, IsClosedAt, count, forgotten, inherits_by, is_spoken, proposed};
 

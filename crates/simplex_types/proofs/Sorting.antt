@@ -1,48 +1,15 @@
 -- Attestations of distinct members, sorted by index, ascend.
-use Rattle.std.proofs.Common.{◌≡◌, ◌≢◌, ℕ, zero, suc, ◌+◌, ◌≤◌, ◌<◌, ◌==◌, true, false, cond, List, [], ◌∷◌, length, get_or, refl, sym, arith, inl, inr}
+use Rattle.std.proofs.Common.{◌≡◌, ◌≢◌, ℕ, zero, suc, ◌+◌, ◌≤◌, ◌<◌, ◌==◌, true, List, [], ◌∷◌, length, get_or, refl, sym, arith}
 use Rattle.std.specs.List.{All, sum_by}
 use Rattle.std.specs.List.Sorted.{IsNonDecreasingBy, IsPermutation}
-use Rattle.std.proofs.lemmas.Bool.{cases_Bool, eqb-true, ne_eqb}
 use Rattle.std.proofs.lemmas.List.Elements.{All-nil, All-cons, All-tail}
-use Rattle.std.proofs.lemmas.List.Sums.{sum_by-cons}
 use Rattle.std.proofs.lemmas.List.Sorted.{sum_by-IsPermutation}
 use Rattle.simplex_types.specs.declared.attestation.Attestation.{Attestation}
 use Rattle.simplex_types.specs.AttestationList.{AscendsFrom}
 use Rattle.simplex_types.specs.Quorum.{AreDistinct, AscendsFrom-distinct}
+use Rattle.simplex_types.specs.QuorumOrder.{is_by, one_more, one_by, some_by}
 
 module _ {G : Type 0} where
-  -- 1 for an attestation of this member, and 0 for others
-  abbrev is_by : ℕ → Attestation G → ℕ
-  is_by i a = cond (a.signer == i) 1 0
-
-  one_more : (i : ℕ) (a : Attestation G) (x : List (Attestation G)) → sum_by (is_by i) (a ∷ x) ≡ is_by i a + sum_by (is_by i) x
-  one_more i a x = sum_by-cons (is_by i) a x
-
-  none_by : (i : ℕ) (x : List (Attestation G)) → All (λ b. i ≢ b.signer) x → sum_by (is_by i) x ≡ 0
-  none_by i [] apart = refl
-  none_by i (a ∷ x) apart =
-      let other : (a.signer == i) ≡ false = ne_eqb a.signer i (λ e. apart 0 a (omega arith) (sym e)) in
-      let none = none_by i x (All-tail (λ (b : Attestation G). i ≢ b.signer) a x apart) in
-      rw (one_more i a x, other, none) refl
-
-  tail_distinct : (a : Attestation G) (x : List (Attestation G)) → AreDistinct (a ∷ x) → AreDistinct x
-  tail_distinct a x apart = λ i j d l m. apart (suc i) (suc j) d (omega arith) (omega arith)
-
-  one_by : (x : List (Attestation G)) → AreDistinct x → (i : ℕ) → sum_by (is_by i) x ≤ 1
-  one_by [] apart i = omega arith
-  one_by (a ∷ x) apart i = elim (cases_Bool (a.signer == i)) [
-    | inl own ↦
-        let same : a.signer ≡ i = eqb-true a.signer i own in
-        let none : sum_by (is_by i) x ≡ 0 = none_by i x (λ k d l e. apart 0 (suc k) d (omega arith) (omega arith) (rw same e)) in
-        rw (one_more i a x, own) (omega (arith, none))
-    | inr other ↦ rw (one_more i a x, other) (omega (arith, one_by x (tail_distinct a x apart) i))
-  ]
-
-  some_by : (i : ℕ) (x : List (Attestation G)) (k : ℕ) (d : Attestation G) → k < length x → (get_or x k d).signer ≡ i → 1 ≤ sum_by (is_by i) x
-  some_by i [] k d l e = absurd (omega arith)
-  some_by i (a ∷ x) zero d l e = let own : (a.signer == i) ≡ true = search (arith, e) in rw (one_more i a x, own) (omega arith)
-  some_by i (a ∷ x) (suc k) d l e = let later = some_by i x k d (omega arith) e in rw (one_more i a x) (omega (arith, later))
-
   ascends_sorted : (low : ℕ) (x : List (Attestation G)) → All (λ a. low ≤ a.signer) x → IsNonDecreasingBy (λ a. a.signer) x → ((i : ℕ) → sum_by (is_by i) x ≤ 1) → AscendsFrom low x
   ascends_sorted low [] above sorted once = tt
   ascends_sorted low (a ∷ x) above sorted once = (above 0 a (omega arith), ascends_sorted (a.signer + 1) x later (λ i j d l m. sorted (suc i) (suc j) d (omega arith) (omega arith)) (λ i. omega (arith, once i, one_more i a x)))

@@ -8,6 +8,7 @@ pub mod ListCodec
 pub mod ListEquality
 pub mod ListSize
 pub mod Quorum
+pub mod QuorumOrder
 pub mod Overlap
 pub mod Subject
 pub mod Plain

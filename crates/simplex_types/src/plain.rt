@@ -4,6 +4,7 @@ ghost use Rattle.std.specs.Prelude.{◌≡◌, ◌↔◌, ◌<◌, ◌≤◌, �
 ghost use Rattle.std.specs.Option.{ForSome};
 ghost use Rattle.std.specs.Int.{w32, to_be_bytes};
 ghost use Rattle.std.proofs.Common.{rules, arith};
+ghost use Rattle.std.proofs.lemmas.List.Sorted.{IsPermutation-sym};
 ghost use Rattle.sha2.specs.Hashers.{Holds256};
 ghost use Rattle.simplex_codec.specs.Codec.{bytes_at, bytes-IsCodec, unbounded-IsCodec};
 ghost use Rattle.simplex_types.specs.declared.attestation.Attestation.{Attestation};
@@ -12,6 +13,7 @@ ghost use Rattle.simplex_types.specs.Plain.{Attests, signature, key_at, key-IsCo
 ghost use Rattle.simplex_types.specs.Proposal.{proposal_spelling};
 ghost use Rattle.simplex_types.specs.Round.{round_spelling};
 ghost use Rattle.simplex_types.specs.Quorum.{IsQuorum};
+ghost use Rattle.simplex_types.specs.QuorumOrder.{IsQuorum-permutation};
 ghost use Rattle.simplex_types.specs.Subject.{statement, message, namespace};
 ghost use Rattle.simplex_codec.specs.Varint.{varint};
 
@@ -380,6 +382,8 @@ impl<D: Digest> Scheme<D> for PlainScheme {
     }
 
     ghost attests_member = { λ s i x a h. h.0 };
+
+    ghost declined_in_each_order = { λ s x given others moved declined quorum. declined (IsQuorum-permutation s.participants (λ i a. Attests D.spelling s.base s.participants i x a) others given (IsPermutation-sym given others moved) quorum) };
 }
 
 impl<D: Digest> Listing<D> for PlainScheme {

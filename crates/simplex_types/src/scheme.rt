@@ -3,6 +3,7 @@
 ghost use Rattle.std.specs.Prelude.{◌≡◌, ◌↔◌, ◌<◌, ◌≤◌, ◌^◌, ℕ, Bool, List, length, All, Contains, Option, Some, None, Err, IsTrue, IfSome, IsSome, IsNone, IfOk, IfErr};
 ghost use Rattle.simplex_types.specs.declared.attestation.Attestation.{Attestation};
 ghost use Rattle.simplex_types.specs.declared.scheme.AssemblyError.TheVariants.{InsufficientAttestations, Memory};
+ghost use Rattle.std.specs.List.Sorted.{IsPermutation};
 ghost use Rattle.simplex_types.specs.AttestationList.{AscendsFrom};
 ghost use Rattle.simplex_types.specs.Batching.{AreFailing};
 ghost use Rattle.simplex_types.specs.Quorum.{AreDistinct, IsQuorum};
@@ -192,6 +193,9 @@ pub trait Scheme<D: Digest> {
 
     /// Only members attest.
     ghost attests_member: { (s : Self) (i : ℕ) (x : Statement D) (a : Self.Signature) → attests s i x a → i < size s };
+
+    /// Whether attestations may be declined doesn't rest on their order.
+    ghost declined_in_each_order: { (s : Self) (x : Statement D) (given others : List (Attestation Self.Signature)) → IsPermutation given others → may_decline s x given → may_decline s x others };
 }
 
 /// Schemes whose certificates list their attestations.

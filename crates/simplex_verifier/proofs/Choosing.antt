@@ -7,8 +7,8 @@ use Rattle.std.proofs.lemmas.List.Elements.{filter-append}
 use Rattle.simplex_types.specs.declared.proposal.Proposal.{Proposal}
 use Rattle.simplex_messages.specs.declared.vote.Vote.{Vote}
 use Rattle.simplex_certificates.specs.declared.certificate.Certificate.{Certificate}
-use Rattle.simplex_judging.specs.declared.kind.Kind.{Kind}
-use Rattle.simplex_judging.specs.declared.kind.Kind.TheVariants.{Notarization, Nullification, Finalization}
+use Rattle.simplex_rules.specs.declared.kind.Kind.{Kind}
+use Rattle.simplex_rules.specs.declared.kind.Kind.TheVariants.{Notarization, Nullification, Finalization}
 use Rattle.simplex_verifier.specs.declared.pool.Pool.{Pool}
 use Rattle.simplex_verifier.specs.declared.proposal_state.ProposalState.{ProposalState}
 use Rattle.simplex_verifier.specs.Votes.{is_kind, vote_kind, certificate_kind}

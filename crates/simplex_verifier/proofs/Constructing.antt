@@ -17,7 +17,7 @@ use Rattle.simplex_messages.specs.declared.vote.Vote.TheVariants as vote
 use Rattle.simplex_certificates.specs.declared.certificate.Certificate.{Certificate}
 use Rattle.simplex_certificates.specs.Certificate.{certificate_statement, certified_by}
 use Rattle.simplex_messages.specs.VoteParts.{vote_round}
-use Rattle.simplex_judging.specs.declared.kind.Kind.{Kind}
+use Rattle.simplex_rules.specs.declared.kind.Kind.{Kind}
 use Rattle.simplex_judging.specs.declared.judging.Judged.{Judged}
 use Rattle.simplex_verifier.specs.declared.batch.Batch.{Batch}
 use Rattle.simplex_verifier.specs.declared.pool.Pool.{Pool}
@@ -28,8 +28,8 @@ use Rattle.simplex_verifier.specs.History.{History, Setup, selected, context, ve
 use Rattle.simplex_verifier.specs.Lawful.{IsConsistent}
 use Rattle.simplex_verifier.specs.Pools.{pool_at, PoolIs, settled_waiting, settled_verified}
 use Rattle.simplex_verifier.specs.Keeping.{IsVerifierKept}
-use Rattle.simplex_verifier.specs.Construction.{judged_of, IsCertificateOf, IsCertificateOn, IsOfWaiting}
-use Rattle.simplex_judging.specs.declared.kind.Kind.TheVariants.{Notarization, Nullification, Finalization}
+use Rattle.simplex_verifier.specs.ConstructionResult.{judged_of, IsCertificateOf, IsCertificateOn, IsOfWaiting}
+use Rattle.simplex_rules.specs.declared.kind.Kind.TheVariants.{Notarization, Nullification, Finalization}
 use Rattle.simplex_verifier.specs.History as history
 use Rattle.simplex_verifier.proofs.Folding.{selection-stays}
 use Rattle.simplex_verifier.proofs.Rightly.{judged-right}

@@ -15,14 +15,14 @@ use Rattle.simplex_certificates.specs.declared.certificate.Certificate.{Certific
 use Rattle.simplex_certificates.specs.declared.certificate.Certificate.TheVariants as certificate
 use Rattle.simplex_certificates.specs.Certificate.{certificate_statement}
 use Rattle.simplex_messages.specs.VoteParts.{vote_signer}
-use Rattle.simplex_judging.specs.declared.kind.Kind.{Kind}
-use Rattle.simplex_judging.specs.declared.kind.Kind.TheVariants.{Notarization, Nullification, Finalization}
+use Rattle.simplex_rules.specs.declared.kind.Kind.{Kind}
+use Rattle.simplex_rules.specs.declared.kind.Kind.TheVariants.{Notarization, Nullification, Finalization}
 use Rattle.simplex_verifier.specs.declared.batch.Batch.{Batch}
 use Rattle.simplex_judging.specs.Judging.{is_among, without}
 use Rattle.simplex_verifier.specs.Votes.{is_kind, vote_kind, vote_attestation, vote_statement, certificate_kind, certificate_proposal, fixed_proposal}
 use Rattle.simplex_verifier.specs.History.{History, Taken, Cast, Certified, Led, Judged, Forwarded, Setup, Selection, Unknown, Leads, Fixed, select, proposal_of, selection, selected, led, is_complete, counting, waiting, verified, context, is_ready, is_due, are_one, next_kind}
 use Rattle.simplex_verifier.specs.Lawful.{IsConsistent}
-use Rattle.simplex_verifier.specs.Construction.{after, kinds_left, IsOfWaiting, IsBatch}
+use Rattle.simplex_verifier.specs.ConstructionResult.{after, kinds_left, IsOfWaiting, IsBatch}
 use Rattle.simplex_verifier.proofs.Folding.{selection-stays, selection-certified, select-fixes, waiting-count, verified-count, counting-stays, counting-complete}
 use Rattle.simplex_verifier.proofs.Stating.{verified-state}
 use Rattle.simplex_verifier.proofs.Rightly.{signer-of}

@@ -12,8 +12,8 @@ use Rattle.simplex_messages.specs.declared.vote.Vote.{Vote}
 use Rattle.simplex_messages.specs.declared.vote.Vote.TheVariants as vote
 use Rattle.simplex_certificates.specs.declared.certificate.Certificate.{Certificate}
 use Rattle.simplex_messages.specs.VoteParts.{vote_signer}
-use Rattle.simplex_judging.specs.declared.kind.Kind.{Kind}
-use Rattle.simplex_judging.specs.declared.kind.Kind.TheVariants.{Notarization, Nullification, Finalization}
+use Rattle.simplex_rules.specs.declared.kind.Kind.{Kind}
+use Rattle.simplex_rules.specs.declared.kind.Kind.TheVariants.{Notarization, Nullification, Finalization}
 use Rattle.simplex_judging.specs.Judging.{is_among}
 use Rattle.simplex_verifier.specs.Votes.{is_kind, is_proposal, vote_kind, vote_statement, certificate_kind}
 use Rattle.simplex_verifier.specs.History.{History, accepted, Event, Taken, Cast, Certified, Led, Judged, Forwarded, Setup, certificate_in, selected, is_complete, is_candidate, counting, waiting, verified, context, is_due, next_kind, are_one}

@@ -12,8 +12,8 @@ use Rattle.simplex_messages.specs.declared.vote.Vote.{Vote}
 use Rattle.simplex_certificates.specs.declared.certificate.Certificate.{Certificate}
 use Rattle.simplex_messages.specs.declared.vote.Vote.TheVariants as vote
 use Rattle.simplex_messages.specs.VoteParts.{vote_signer}
-use Rattle.simplex_judging.specs.declared.kind.Kind.{Kind}
-use Rattle.simplex_judging.specs.declared.kind.Kind.TheVariants.{Notarization, Nullification, Finalization}
+use Rattle.simplex_rules.specs.declared.kind.Kind.{Kind}
+use Rattle.simplex_rules.specs.declared.kind.Kind.TheVariants.{Notarization, Nullification, Finalization}
 use Rattle.simplex_judging.specs.Judging.{is_among}
 use Rattle.simplex_verifier.specs.Votes.{is_kind, vote_kind, vote_attestation, is_in_way}
 use Rattle.simplex_verifier.specs.History.{Event, History, accepted, Taken, Cast, Certified, Led, Judged, Forwarded, Setup, selected, is_complete, is_candidate, waiting, verified}

@@ -10,7 +10,7 @@ use Rattle.simplex_types.specs.Batching.{AreFailing, FailsIn}
 use Rattle.simplex_messages.specs.declared.vote.Vote.{Vote}
 use Rattle.simplex_messages.specs.declared.vote.Vote.TheVariants as vote
 use Rattle.simplex_messages.specs.VoteParts.{vote_signer}
-use Rattle.simplex_judging.specs.declared.kind.Kind.{Kind}
+use Rattle.simplex_rules.specs.declared.kind.Kind.{Kind}
 use Rattle.simplex_judging.specs.Judging.{is_among}
 use Rattle.simplex_verifier.specs.Votes.{vote_statement, vote_attestation}
 use Rattle.simplex_verifier.specs.History.{History, Setup, context, waiting, verified}

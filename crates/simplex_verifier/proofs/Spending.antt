@@ -5,12 +5,12 @@ use Rattle.simplex_types.specs.declared.scheme.Scheme.{Ghosts}
 use Rattle.simplex_messages.specs.declared.vote.Vote.{Vote}
 use Rattle.simplex_messages.specs.declared.vote.Vote.TheVariants as vote
 use Rattle.simplex_certificates.specs.declared.certificate.Certificate.{Certificate}
-use Rattle.simplex_judging.specs.declared.kind.Kind.{Kind}
-use Rattle.simplex_judging.specs.declared.kind.Kind.TheVariants.{Notarization, Nullification, Finalization}
+use Rattle.simplex_rules.specs.declared.kind.Kind.{Kind}
+use Rattle.simplex_rules.specs.declared.kind.Kind.TheVariants.{Notarization, Nullification, Finalization}
 use Rattle.simplex_verifier.specs.declared.batch.Batch.{Batch}
 use Rattle.simplex_verifier.specs.Votes.{is_kind, vote_kind}
 use Rattle.simplex_verifier.specs.History.{History, Event, Taken, Cast, Certified, Led, Judged, Forwarded, Setup, taken, selected, is_complete, is_candidate, counting, waiting, is_ready}
-use Rattle.simplex_verifier.specs.Construction.{after, IsBatch}
+use Rattle.simplex_verifier.specs.ConstructionResult.{after, IsBatch}
 use Rattle.simplex_verifier.specs.Spending.{waits, Spends}
 use Rattle.simplex_verifier.proofs.Finishing.{kind-self, either, batch-kind, complete-waits}
 

@@ -17,8 +17,8 @@ use Rattle.simplex_certificates.specs.declared.certificate.Certificate.{Certific
 use Rattle.simplex_certificates.specs.declared.certificate.Certificate.TheVariants as certificate
 use Rattle.simplex_certificates.specs.Certificate.{certificate_round, certificate_statement}
 use Rattle.simplex_messages.specs.VoteParts.{vote_round}
-use Rattle.simplex_judging.specs.declared.kind.Kind.{Kind}
-use Rattle.simplex_judging.specs.declared.kind.Kind.TheVariants.{Notarization, Nullification, Finalization}
+use Rattle.simplex_rules.specs.declared.kind.Kind.{Kind}
+use Rattle.simplex_rules.specs.declared.kind.Kind.TheVariants.{Notarization, Nullification, Finalization}
 use Rattle.simplex_verifier.specs.Votes.{is_kind, is_proposal, vote_kind, vote_proposal, notarized_proposal, vote_statement, vote_attestation, certificate_kind, is_notarize_of}
 use Rattle.simplex_verifier.specs.History.{History, accepted, Event, Taken, Cast, Certified, Led, Judged, Forwarded, Setup, Selection, Unknown, Leads, Fixed, select, proposal_of, selection, selected, led, leader_of, notarized_by, fixed_by, is_complete, is_candidate, waiting, verified, are_one, statement_for, context, is_ready}
 use Rattle.simplex_verifier.specs.Lawful.{VoteAttests, IsConsistent}

@@ -10,14 +10,14 @@ use Rattle.simplex_types.specs.Batching.{FailsIn}
 use Rattle.simplex_messages.specs.declared.vote.Vote.{Vote}
 use Rattle.simplex_certificates.specs.declared.certificate.Certificate.{Certificate}
 use Rattle.simplex_certificates.specs.Certificate.{certificate_statement, certified_by}
-use Rattle.simplex_judging.specs.declared.kind.Kind.{Kind}
+use Rattle.simplex_rules.specs.declared.kind.Kind.{Kind}
 use Rattle.simplex_judging.specs.Judging.{is_among, without, IsSound}
 use Rattle.simplex_judging.specs.Fewer.{filter-holds}
 use Rattle.simplex_verifier.specs.declared.batch.Batch.{Batch}
 use Rattle.simplex_verifier.specs.Votes.{is_kind, vote_kind, vote_statement, vote_attestation}
 use Rattle.simplex_verifier.specs.History.{History, Setup, accepted, is_complete, waiting, verified, context, is_ready, is_due, are_one}
 use Rattle.simplex_verifier.specs.Lawful.{IsConsistent}
-use Rattle.simplex_verifier.specs.Construction.{IsVoted, HasFailed, IsFounded, IsOfVerified, IsOfWaiting, IsBatch}
+use Rattle.simplex_verifier.specs.ConstructionResult.{IsVoted, HasFailed, IsFounded, IsOfVerified, IsOfWaiting, IsBatch}
 use Rattle.simplex_verifier.proofs.Folding.{waiting-count, verified-count, counting-complete}
 use Rattle.simplex_verifier.proofs.Lawfully.{each-counted}
 use Rattle.simplex_verifier.proofs.Stating.{waiting-state, verified-state}

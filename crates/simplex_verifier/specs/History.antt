@@ -9,10 +9,10 @@ use Rattle.simplex_messages.specs.declared.vote.Vote.{Vote}
 use Rattle.simplex_messages.specs.declared.vote.Vote.TheVariants as vote
 use Rattle.simplex_certificates.specs.declared.certificate.Certificate.{Certificate}
 use Rattle.simplex_messages.specs.VoteParts.{vote_signer}
-use Rattle.simplex_judging.specs.declared.kind.Kind.{Kind}
-use Rattle.simplex_judging.specs.declared.kind.Kind.TheVariants.{Notarization, Nullification, Finalization}
+use Rattle.simplex_rules.specs.declared.kind.Kind.{Kind}
+use Rattle.simplex_rules.specs.declared.kind.Kind.TheVariants.{Notarization, Nullification, Finalization}
 use Rattle.simplex_judging.specs.Judging.{is_among}
-use Rattle.simplex_judging.specs.Turn.{in_turn}
+use Rattle.simplex_judging.specs.KindOrder.{in_turn}
 use Rattle.simplex_verifier.specs.Votes.{is_kind, is_proposal, vote_kind, vote_proposal, notarized_proposal, fixed_proposal, is_in_way, is_notarize_of, certificate_kind, certificate_proposal}
 
 -- what can happen to a round

@@ -6,8 +6,8 @@ use Rattle.simplex_messages.specs.declared.vote.Vote.{Vote}
 use Rattle.simplex_messages.specs.declared.vote.Vote.TheVariants as vote
 use Rattle.simplex_committee.specs.Committee.{quorum}
 use Rattle.simplex_types.specs.declared.scheme.Scheme.{Ghosts}
-use Rattle.simplex_judging.specs.declared.kind.Kind.{Kind}
-use Rattle.simplex_judging.specs.declared.kind.Kind.TheVariants.{Notarization, Nullification, Finalization}
+use Rattle.simplex_rules.specs.declared.kind.Kind.{Kind}
+use Rattle.simplex_rules.specs.declared.kind.Kind.TheVariants.{Notarization, Nullification, Finalization}
 use Rattle.simplex_verifier.specs.declared.proposal_state.ProposalState.{ProposalState}
 use Rattle.simplex_verifier.specs.declared.proposal_state.ProposalState.TheVariants as state
 use Rattle.simplex_verifier.specs.declared.pool.Pool.{Pool}

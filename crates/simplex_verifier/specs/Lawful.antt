@@ -5,7 +5,7 @@ use Rattle.simplex_messages.specs.declared.vote.Vote.{Vote}
 use Rattle.simplex_certificates.specs.declared.certificate.Certificate.{Certificate}
 use Rattle.simplex_messages.specs.VoteParts.{vote_round, vote_signer}
 use Rattle.simplex_certificates.specs.Certificate.{certificate_round}
-use Rattle.simplex_judging.specs.declared.kind.Kind.{Kind}
+use Rattle.simplex_rules.specs.declared.kind.Kind.{Kind}
 use Rattle.simplex_judging.specs.Judging.{is_among}
 use Rattle.simplex_verifier.specs.Votes.{vote_statement, vote_attestation, is_in_way}
 use Rattle.simplex_verifier.specs.History.{Event, Taken, Cast, Certified, Led, Judged, Forwarded, History, Setup, recorded, leader_of, has_forwarded, context, waiting, verified}

@@ -3,6 +3,6 @@ pub mod History
 pub mod Lawful
 pub mod Pools
 pub mod Keeping
-pub mod Construction
+pub mod ConstructionResult
 pub mod Quorums
 pub mod Spending

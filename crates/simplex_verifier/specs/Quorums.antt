@@ -5,8 +5,8 @@ use Rattle.simplex_types.specs.Subject.{Statement}
 use Rattle.simplex_types.specs.declared.proposal.Proposal.{Proposal}
 use Rattle.simplex_messages.specs.declared.vote.Vote.{Vote}
 use Rattle.simplex_messages.specs.VoteParts.{vote_signer}
-use Rattle.simplex_judging.specs.declared.kind.Kind.{Kind}
-use Rattle.simplex_judging.specs.declared.kind.Kind.TheVariants.{Notarization, Nullification, Finalization}
+use Rattle.simplex_rules.specs.declared.kind.Kind.{Kind}
+use Rattle.simplex_rules.specs.declared.kind.Kind.TheVariants.{Notarization, Nullification, Finalization}
 use Rattle.simplex_verifier.specs.Votes.{is_kind, vote_kind, vote_statement}
 use Rattle.simplex_verifier.specs.History.{History, Setup, accepted, selected, is_complete, context}
 use Rattle.simplex_verifier.specs.Lawful.{VoteAttests}

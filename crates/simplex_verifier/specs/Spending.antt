@@ -1,6 +1,6 @@
 -- How many votes are judged, against how many came.
 use Rattle.std.specs.Prelude.{◌≤◌, ◌+◌, ℕ, Bool, length}
-use Rattle.simplex_judging.specs.declared.kind.Kind.TheVariants.{Notarization, Nullification, Finalization}
+use Rattle.simplex_rules.specs.declared.kind.Kind.TheVariants.{Notarization, Nullification, Finalization}
 use Rattle.simplex_verifier.specs.History.{History, Setup, taken, waiting}
 
 module _ {S D P G C : Type 0} (same : D → D → Bool) (s : Setup S) where

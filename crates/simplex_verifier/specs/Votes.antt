@@ -7,8 +7,8 @@ use Rattle.simplex_messages.specs.declared.vote.Vote.{Vote}
 use Rattle.simplex_messages.specs.declared.vote.Vote.TheVariants as vote
 use Rattle.simplex_certificates.specs.declared.certificate.Certificate.{Certificate}
 use Rattle.simplex_certificates.specs.declared.certificate.Certificate.TheVariants as certificate
-use Rattle.simplex_judging.specs.declared.kind.Kind.{Kind}
-use Rattle.simplex_judging.specs.declared.kind.Kind.TheVariants.{Notarization, Nullification, Finalization}
+use Rattle.simplex_rules.specs.declared.kind.Kind.{Kind}
+use Rattle.simplex_rules.specs.declared.kind.Kind.TheVariants.{Notarization, Nullification, Finalization}
 
 -- the two kinds are one
 abbrev pub is_kind : Kind → Kind → Bool

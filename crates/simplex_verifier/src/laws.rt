@@ -8,14 +8,14 @@ ghost use Rattle.simplex_types.specs.Batching.{AreFailing};
 ghost use Rattle.simplex_messages.specs.VoteParts.{vote_round};
 ghost use Rattle.simplex_messages.specs.declared.vote.Vote.{Vote};
 ghost use Rattle.simplex_certificates.specs.declared.certificate.Certificate.{Certificate};
-ghost use Rattle.simplex_judging.specs.declared.kind.Kind.{Kind};
+ghost use Rattle.simplex_rules.specs.declared.kind.Kind.{Kind};
 ghost use Rattle.simplex_verifier.specs.declared.batch.Batch.{Batch};
 ghost use Rattle.simplex_verifier.specs.declared.verifier.Verifier.{Verifier};
 ghost use Rattle.simplex_verifier.specs.Votes.{is_kind, vote_kind, vote_statement, vote_attestation};
 ghost use Rattle.simplex_verifier.specs.History.{Event, Forwarded, History, Setup, accepted, context, counting, has_forwarded, is_candidate, is_complete, is_due, next_kind, selected, statement_for, taken, verified, waiting};
 ghost use Rattle.simplex_verifier.specs.Lawful.{IsConsistent, IsLawful, IsNew, IsRight, MayBeAdded};
 ghost use Rattle.simplex_verifier.specs.Keeping.{VerifierKeeps};
-ghost use Rattle.simplex_verifier.specs.Construction.{after, kinds_left, HasFailed, IsBatch, IsFounded};
+ghost use Rattle.simplex_verifier.specs.ConstructionResult.{after, kinds_left, HasFailed, IsBatch, IsFounded};
 ghost use Rattle.simplex_verifier.specs.Quorums.{AllCertified};
 ghost use Rattle.simplex_verifier.specs.Spending.{waits, Spends};
 

@@ -19,6 +19,6 @@ pub use laws::{
     votes_that_count_state_it, votes_that_count_were_accepted, what_is_due_has_no_certificate,
     what_is_new_may_be_added,
 };
-pub use simplex_judging::Kind;
+pub use simplex_rules::Kind;
 pub use verifier::Verifier;
 pub use votes::{kind_of, kind_of_certificate};

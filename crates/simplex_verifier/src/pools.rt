@@ -5,7 +5,7 @@ ghost use Rattle.std.specs.List.Sorted.{IsStrictlyIncreasing};
 ghost use Rattle.simplex_types.specs.Quorum.{AreDistinct};
 ghost use Rattle.simplex_types.specs.Subject.{statement};
 ghost use Rattle.simplex_messages.specs.VoteParts.{vote_signer};
-ghost use Rattle.simplex_judging.specs.declared.kind.Kind.TheVariants.{Notarization, Nullification, Finalization};
+ghost use Rattle.simplex_rules.specs.declared.kind.Kind.TheVariants.{Notarization, Nullification, Finalization};
 ghost use Rattle.simplex_judging.specs.Judging.{is_among, IsJudged};
 ghost use Rattle.simplex_verifier.specs.Votes.{is_kind, vote_kind, vote_attestation};
 ghost use Rattle.simplex_verifier.specs.History.{is_candidate, are_one};
@@ -13,7 +13,7 @@ ghost use Rattle.simplex_verifier.specs.Pools.{pool_at, PoolIs, PoolStays, settl
 
 use crate::pool::Pool;
 use crate::votes::kind_of;
-use simplex_judging::Kind;
+use simplex_rules::Kind;
 use simplex_messages::Vote;
 use simplex_types::{Digest, Participant, Proposal, Scheme, Subject};
 use std::alloc::{AllocError, Global};

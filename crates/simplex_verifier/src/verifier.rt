@@ -15,7 +15,7 @@ use crate::fault::BatcherFault;
 use crate::pools::Pools;
 use crate::proposal_state::ProposalState;
 use crate::votes::{fixed_by, is_for, kind_of, kind_of_certificate, proposal_of_certificate};
-use simplex_judging::Kind;
+use simplex_rules::Kind;
 use simplex_messages::{Certificate, Notarize, Vote};
 use simplex_types::{Attributable, Digest, Participant, Proposal, Round, Scheme, quorum};
 use std::alloc::{AllocError, Global};

@@ -15,7 +15,7 @@ use Rattle.simplex_types.specs.declared.scheme.Scheme.{Ghosts}
 use Rattle.simplex_tracking.specs.declared.tracked.Tracked.{Tracked}
 use Rattle.simplex_history.specs.Pasts.{forget, is_direct, put}
 use Rattle.simplex_history.specs.History.{Setup, Point, min_active, seen, enter, current}
-use Rattle.simplex_history.specs.Handing.{extend}
+use Rattle.simplex_history.specs.Leaders.{extend}
 use Rattle.simplex_history.specs.Leaders.{named, named_early, inherits, leader, was_forwarded}
 use Rattle.simplex_views.specs.Progress.{frame_of, tables}
 use Rattle.simplex_tracking.specs.Tracked.{Tables, Inherits, IsClosedAt, Holds, inherits_by}

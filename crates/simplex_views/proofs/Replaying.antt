@@ -21,7 +21,7 @@ use Rattle.simplex_history.specs.Known.{backs}
 use Rattle.simplex_history.specs.Leaders.{leader, was_forwarded}
 use Rattle.simplex_tracking.specs.Marks.{Shows}
 use Rattle.simplex_views.specs.Progress.{frame_of, tables}
-use Rattle.simplex_history.specs.Handing.{extend}
+use Rattle.simplex_history.specs.Leaders.{extend}
 use Rattle.simplex_tracking.specs.Rounds.{Takes, recalled}
 use Rattle.simplex_tracking.specs.Tracked.{Tables, AtEach, IsClosedAt, Holds, inherits_by}
 use Rattle.simplex_views.specs.Views.{IsKept, recalls}

@@ -23,7 +23,7 @@ use Rattle.simplex_views.specs.Views.{Keeps}
 use Rattle.simplex_decisions.specs.Ancestry.{Member, member, certificate_payload, has_certificate, held_at}
 use Rattle.simplex_decisions.specs.Ancestry as due
 use Rattle.simplex_decisions.specs.Knowing.{AllowsBuild, AllowsFinalize, AllowsNotarize, AllowsVerify, HasCertificateWithin, HasFailedWithin, IsBacked}
-use Rattle.simplex_views.specs.Knowledge.{Shows, at}
+use Rattle.simplex_views.specs.ShowsKnown.{Shows, at}
 
 -- what holds of what each history makes known holds of what is shown
 pub each : {S L D P G C : Type 0} {g : Ghosts S D P G C} {e : elector.Ghosts L S D P G C} {v : Views S L D P G C} (Q : Member → Known D → Type 0)

@@ -26,7 +26,7 @@ use Rattle.simplex_history.specs.History as History
 use Rattle.simplex_history.specs.Pasts.{is_direct, put}
 use Rattle.simplex_history.specs.History.{Setup, Point, current, enter, is_marked, seen, sent_item, was_nullified}
 use Rattle.simplex_history.specs.Known.{backs, waits}
-use Rattle.simplex_history.specs.Handing.{extend}
+use Rattle.simplex_history.specs.Leaders.{extend}
 use Rattle.simplex_history.specs.Leaders.{named, named_early, inherits, leader, was_forwarded}
 use Rattle.simplex_tracking.specs.Marks.{Shows}
 use Rattle.simplex_views.specs.Progress.{IsAt, frame_of, tables}

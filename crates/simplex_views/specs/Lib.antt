@@ -1,3 +1,3 @@
-pub mod Knowledge
+pub mod ShowsKnown
 pub mod Progress
 pub mod Views

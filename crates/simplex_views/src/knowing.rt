@@ -1,6 +1,6 @@
 //! What a voter's views answer to whoever asks what is due by what they know.
 
-ghost use Rattle.simplex_views.specs.Knowledge.{Shows};
+ghost use Rattle.simplex_views.specs.ShowsKnown.{Shows};
 
 use crate::looking::{certified_payload, last_explicit};
 use crate::views::Views;

@@ -19,7 +19,8 @@ use Rattle.simplex_history.specs.Past as past
 use Rattle.simplex_history.specs.History.{Setup, Point, current, seen}
 use Rattle.simplex_history.specs.Known.{known}
 use Rattle.simplex_decisions.specs.Ancestry.{member}
-use Rattle.simplex_decisions.specs.Due.{FinalizeIsDue, MayGiveUp}
+use Rattle.simplex_decisions.specs.VotesDue.{FinalizeIsDue}
+use Rattle.simplex_decisions.specs.GivingUp.{MayGiveUp}
 use Rattle.simplex_voter.proofs.Entering.{positive}
 use Rattle.simplex_voter.specs.Votes.{IsOwn, IsOwnNullify}
 

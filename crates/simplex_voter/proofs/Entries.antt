@@ -7,7 +7,7 @@ use Rattle.simplex_history.specs.Past.{Item}
 use Rattle.simplex_tracking.specs.Rounds.{AreUntracked}
 use Rattle.simplex_history.specs.Known.{Known}
 use Rattle.simplex_decisions.specs.Ancestry.{Member, IsPreferred}
-use Rattle.simplex_decisions.specs.Due.{first_from}
+use Rattle.simplex_decisions.specs.GivingUp.{first_from}
 use Rattle.simplex_decisions.specs.Requests.{IsCaptured, IsSuperseded}
 
 module _ {D : Type 0} where

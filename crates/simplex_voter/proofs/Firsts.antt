@@ -6,7 +6,7 @@ use Rattle.std.specs.declared.ops.Bound.TheVariants.{Included, Unbounded}
 use Rattle.std.specs.BTreeSet.{IsKeyRangeOf}
 use Rattle.std.proofs.lemmas.Bool.Decides.{nat_tests}
 use Rattle.simplex_voter.specs.declared.owed.Owed.{Owed}
-use Rattle.simplex_voter.specs.Owed.{Has, IsFirstFrom}
+use Rattle.simplex_voter.specs.OwedViews.{Has, IsFirstFrom}
 
 module _ (owed : Owed) (from : ℕ) (range : List ℕ) (is_range : IsKeyRangeOf nat_cmp (Included from) Unbounded owed.views range) where
   pub first_there : (view : ℕ) (rest : List ℕ) → range ≡ view ∷ rest → IsFirstFrom owed from view

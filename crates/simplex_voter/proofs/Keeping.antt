@@ -9,7 +9,7 @@ use Rattle.simplex_history.specs.History.{Setup, Point, seen}
 use Rattle.simplex_views.specs.Views as above
 use Rattle.simplex_voter.specs.declared.owed.Owed.{Owed}
 use Rattle.simplex_voter.specs.Candidates.{AreAmong, IsWoken}
-use Rattle.simplex_voter.specs.Owing.{AreOwed}
+use Rattle.simplex_voter.specs.LowestDue.{AreOwed}
 use Rattle.simplex_voter.specs.State.{Keeps}
 use Rattle.simplex_voter.specs.declared.state.State.{State}
 use Rattle.simplex_voter.proofs.Waking.{told, stays, wakes, wakes_if}

@@ -22,12 +22,12 @@ use Rattle.simplex_history.specs.History.{Setup, Point, started, notarized, null
 use Rattle.simplex_history.specs.Known.{known}
 use Rattle.simplex_views.specs.Views.{recalls}
 use Rattle.simplex_decisions.specs.Ancestry.{member}
-use Rattle.simplex_decisions.specs.Due.{NotarizeIsDue, FinalizeIsDue}
+use Rattle.simplex_decisions.specs.VotesDue.{NotarizeIsDue, FinalizeIsDue}
 use Rattle.simplex_laws.specs.Stepping.{choose_holds, put_holds, put_both, enter_holds, bind_holds}
 use Rattle.simplex_voter.specs.declared.owed.Owed.{Owed}
-use Rattle.simplex_voter.specs.Owed.{Has, IsFirstFrom}
+use Rattle.simplex_voter.specs.OwedViews.{Has, IsFirstFrom}
 use Rattle.simplex_voter.specs.Candidates.{put_off}
-use Rattle.simplex_voter.specs.Owing.{MayOwe, AreOwed, IsTrueVerdict}
+use Rattle.simplex_voter.specs.LowestDue.{MayOwe, AreOwed, IsTrueVerdict}
 use Rattle.simplex_voter.proofs.Waking.{put_off_seen}
 
 -- the verdict that is true was, where one more isn't

@@ -15,8 +15,8 @@ use Rattle.simplex_history.specs.Past.{Item}
 use Rattle.simplex_history.specs.Pasts.{put}
 use Rattle.simplex_history.specs.History.{Setup, Point, current, polled, seen}
 use Rattle.simplex_history.specs.Leaders.{leader}
-use Rattle.simplex_decisions.specs.Due.{IsTracked, MayLatch, earlier, has_budget, oldest_entered, term_deadline, timeout, timeout_of}
-use Rattle.simplex_voter.specs.Timing.{MayStall}
+use Rattle.simplex_decisions.specs.GivingUp.{IsTracked, MayLatch, earlier, has_budget, oldest_entered, term_deadline, timeout, timeout_of}
+use Rattle.simplex_voter.specs.Stalling.{MayStall}
 
 -- what happened to a view last happened to it
 put-here : {X : Type 0} (at : ℕ) (x : X) (t : ℕ → List X) → put at x t at ≡ x ∷ t at

@@ -7,7 +7,7 @@ use Rattle.simplex_history.specs.Past.{Item}
 use Rattle.simplex_history.specs.History.{Setup, Point, seen}
 use Rattle.simplex_history.specs.Known.{known}
 use Rattle.simplex_decisions.specs.Ancestry.{member, IsSteady, Stands}
-use Rattle.simplex_decisions.specs.Due.{IsTracked}
+use Rattle.simplex_decisions.specs.GivingUp.{IsTracked}
 use Rattle.std.specs.Option.{ForSome}
 
 -- a list that can't be other than empty is

@@ -3,7 +3,7 @@ use Rattle.std.specs.Prelude.{◌⊎◌, ℕ, Bool, true, false, List, ◌∷◌
 use Rattle.simplex_types.specs.declared.scheme.Scheme.{Ghosts}
 use Rattle.simplex_rules.specs.declared.elector.Elector as elector
 use Rattle.simplex_history.specs.History.{Setup, Point}
-use Rattle.simplex_decisions.specs.Due.{IsTracked}
+use Rattle.simplex_decisions.specs.GivingUp.{IsTracked}
 use Rattle.simplex_voter.specs.declared.state.State.{State}
 use Rattle.simplex_voter.specs.State.{Keeps}
 

@@ -1,10 +1,10 @@
 pub mod Candidates
 pub mod Floor
 pub mod Known
-pub mod Owed
-pub mod Owing
+pub mod OwedViews
+pub mod LowestDue
 pub mod Resuming
 pub mod State
-pub mod Timing
+pub mod Stalling
 pub mod Verifying
 pub mod Votes

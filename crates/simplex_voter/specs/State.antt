@@ -5,7 +5,7 @@ use Rattle.simplex_rules.specs.declared.elector.Elector as elector
 use Rattle.simplex_history.specs.History.{Setup, Point, seen}
 use Rattle.simplex_views.specs.Views as views
 use Rattle.simplex_voter.specs.Candidates.{AreAmong}
-use Rattle.simplex_voter.specs.Owing.{AreOwed}
+use Rattle.simplex_voter.specs.LowestDue.{AreOwed}
 use Rattle.simplex_voter.specs.declared.state.State.{State}
 
 module _ {S L D P G C : Type 0} where

@@ -1,7 +1,7 @@
 //! For which views a vote may be owed.
 
 ghost use Rattle.std.specs.Prelude.{◌≡◌, ◌≤◌, ◌<◌, ◌==◌, ℕ, false, IfSome, IsTrue, MatchOption, OnOk};
-ghost use Rattle.simplex_voter.specs.Owed.{Has, IsFirstFrom};
+ghost use Rattle.simplex_voter.specs.OwedViews.{Has, IsFirstFrom};
 
 use simplex_types::View;
 use std::alloc::{AllocError, Global};

@@ -2,7 +2,7 @@
 
 ghost use Rattle.std.specs.Prelude.{◌≡◌, ◌<◌, IfOk, refl, option_copied};
 ghost use Rattle.simplex_rules.specs.Rotation.{IsOrder, view_leader};
-ghost use Rattle.simplex_rules.specs.Turns.{leader_within, IsOrder-from_IsOrderOf};
+ghost use Rattle.simplex_rules.specs.RotationLaws.{leader_within, IsOrder-from_IsOrderOf};
 ghost use Rattle.voter_driver.specs.Leading.{passed, turn, turn-scheduled};
 
 use simplex_rules::elector::{Config, Elector, Mode};

@@ -143,7 +143,7 @@ impl<S: Scheme<D>, D: Digest> Elector<S, D> for RoundRobinElector {
     ghost use Rattle.std.specs.Prelude.{◌<◌, refl};
     ghost use Rattle.simplex_rules.specs.declared.elector.Mode.TheVariants.{Scheduled};
     ghost use Rattle.simplex_rules.specs.Rotation.{IsOrder, view_leader};
-    ghost use Rattle.simplex_rules.specs.Turns.{leader_within};
+    ghost use Rattle.simplex_rules.specs.RotationLaws.{leader_within};
 
     ghost built_for = { λ e n. (0 < n) × IsOrder n e.order };
 

@@ -4,8 +4,8 @@ ghost use Rattle.std.specs.Prelude.{◌≡◌, ◌∷◌, Bool, Option, Some, No
 ghost use Rattle.std.specs.Option.{option_map};
 ghost use Rattle.simplex_types.specs.Subject.{statement};
 ghost use Rattle.simplex_verifier.specs.History.{context, statement_for, waiting, verified, is_ready, is_worth_judging, is_due};
-ghost use Rattle.simplex_verifier.specs.Construction.{after, IsReadable, IsCertificateOf, IsOfVerified, IsOfWaiting, IsBatch};
-ghost use Rattle.simplex_judging.specs.declared.kind.Kind.TheVariants.{Notarization, Nullification, Finalization};
+ghost use Rattle.simplex_verifier.specs.ConstructionResult.{after, IsReadable, IsCertificateOf, IsOfVerified, IsOfWaiting, IsBatch};
+ghost use Rattle.simplex_rules.specs.declared.kind.Kind.TheVariants.{Notarization, Nullification, Finalization};
 ghost use Rattle.simplex_verifier.specs.Keeping.{VerifierKeeps, AtEachOf, selection_of};
 ghost use Rattle.simplex_verifier.specs.History.{proposal_of};
 
@@ -13,7 +13,8 @@ use crate::batch::Batch;
 use crate::pool::attestations_of;
 use crate::verifier::Verifier;
 use crate::votes::{certificate_on, subject_of};
-use simplex_judging::{Judged, Kind, assemble_enough};
+use simplex_judging::{Judged, assemble_enough};
+use simplex_rules::Kind;
 use simplex_messages::Certificate;
 use simplex_types::{Digest, Proposal, Round, Scheme, Subject};
 use std::alloc::{AllocError, Global};

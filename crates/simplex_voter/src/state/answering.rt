@@ -6,7 +6,7 @@ ghost use Rattle.simplex_history.specs.Past.{offers, has_nullified};
 ghost use Rattle.simplex_history.specs.History.{certify_asked, confirmed, latched, seen, unbound};
 ghost use Rattle.simplex_history.specs.Known.{known};
 ghost use Rattle.simplex_decisions.specs.Ancestry.{IsSteady, member};
-ghost use Rattle.simplex_decisions.specs.Due.{IsFirstLatch, MayLatch};
+ghost use Rattle.simplex_decisions.specs.GivingUp.{IsFirstLatch, MayLatch};
 ghost use Rattle.simplex_voter.specs.Known.{AddsIfTracked};
 ghost use Rattle.simplex_voter.specs.State.{AtEach, Keeps};
 

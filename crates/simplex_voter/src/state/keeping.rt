@@ -4,7 +4,7 @@ ghost use Rattle.std.specs.Prelude.{◌≡◌, ◌↔◌, Bool, ◌∷◌, IfOk,
 ghost use Rattle.simplex_tracking.specs.Rounds.{Takes};
 ghost use Rattle.simplex_history.specs.History.{pruned, seen};
 ghost use Rattle.simplex_views.specs.Views.{AreDropped, recalls};
-ghost use Rattle.simplex_voter.specs.Owing.{IsTrueVerdict};
+ghost use Rattle.simplex_voter.specs.LowestDue.{IsTrueVerdict};
 ghost use Rattle.simplex_voter.specs.State.{AtEach, Keeps};
 
 use crate::state::State;

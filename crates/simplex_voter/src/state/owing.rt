@@ -3,7 +3,7 @@
 ghost use Rattle.std.specs.Prelude.{◌≡◌, MatchOption};
 ghost use Rattle.simplex_history.specs.Known.{known};
 ghost use Rattle.simplex_decisions.specs.Ancestry.{member};
-ghost use Rattle.simplex_voter.specs.Owing.{IsFirstFinalize, IsFirstNotarize, NoFinalizeIsDue, NoNotarizeIsDue};
+ghost use Rattle.simplex_voter.specs.LowestDue.{IsFirstFinalize, IsFirstNotarize, NoFinalizeIsDue, NoNotarizeIsDue};
 ghost use Rattle.simplex_voter.specs.State.{AtEach};
 
 use crate::state::State;

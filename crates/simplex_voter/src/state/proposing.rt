@@ -6,7 +6,7 @@ ghost use Rattle.simplex_history.specs.Past.{offers, has_nullified};
 ghost use Rattle.simplex_history.specs.History.{build_released, built, seen};
 ghost use Rattle.simplex_history.specs.Known.{known};
 ghost use Rattle.simplex_decisions.specs.Ancestry.{member};
-ghost use Rattle.simplex_decisions.specs.Due.{IsTracked};
+ghost use Rattle.simplex_decisions.specs.GivingUp.{IsTracked};
 ghost use Rattle.simplex_decisions.specs.Requests.{IsCaptured, IsSuperseded, StopsHandoff};
 ghost use Rattle.simplex_decisions.specs.Building.{proposal_on};
 ghost use Rattle.simplex_voter.specs.Known.{AddsIfTracked, AddsWhere};

@@ -5,9 +5,9 @@ ghost use Rattle.std.specs.Option.{option_or};
 ghost use Rattle.simplex_history.specs.declared.timeout_reason.TimeoutReason.TheVariants as reason;
 ghost use Rattle.simplex_history.specs.Past as past;
 ghost use Rattle.simplex_history.specs.History.{current, latched, polled, seen};
-ghost use Rattle.simplex_decisions.specs.Due.{IsFirstLatch, MayLatch, first_from, has_budget, oldest_entered, term_deadline, timeout};
+ghost use Rattle.simplex_decisions.specs.GivingUp.{IsFirstLatch, MayLatch, first_from, has_budget, oldest_entered, term_deadline, timeout};
 ghost use Rattle.simplex_voter.specs.State.{AtEach, Keeps};
-ghost use Rattle.simplex_voter.specs.Timing.{MayStall};
+ghost use Rattle.simplex_voter.specs.Stalling.{MayStall};
 
 use crate::state::State;
 use simplex_decisions::timing::{earlier, has_budget};

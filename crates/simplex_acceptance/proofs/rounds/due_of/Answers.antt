@@ -1,9 +1,9 @@
 use Rattle.std.proofs.Common.{◌≡◌, List, [], ◌∷◌, Option, None, Some, refl, sym, subst, if◌then◌else◌}
 use Rattle.std.specs.Prelude.{MatchOption, is_none, is_some}
 use Rattle.simplex_types.specs.declared.proposal.Proposal.{Proposal}
-use Rattle.simplex_judging.specs.declared.kind.Kind.{Kind}
+use Rattle.simplex_rules.specs.declared.kind.Kind.{Kind}
 use Rattle.simplex_verifier.specs.History.{Forwarded, History, forwardable, next_kind}
-use Rattle.simplex_verifier.specs.Construction.{IsBatch, after, after_construction}
+use Rattle.simplex_verifier.specs.ConstructionResult.{IsBatch, after, after_construction}
 use Rattle.simplex_batcher.specs.Rounds.{RoundKeeps}
 use Rattle.simplex_acceptance.proofs.Doing.{made-batch, none-due, still-here}
 use Rattle.simplex_acceptance.proofs.rounds.due_of.Goals as goal

@@ -1,10 +1,10 @@
 use Rattle.std.proofs.Common.{◌≡◌, ◌∙◌, refl, sym}
 use Rattle.std.specs.Prelude.{Option, None, Some, MatchOption}
 use Rattle.simplex_certificates.specs.declared.certificate.Certificate.{Certificate}
-use Rattle.simplex_judging.specs.declared.kind.Kind.{Kind}
+use Rattle.simplex_rules.specs.declared.kind.Kind.{Kind}
 use Rattle.simplex_verifier.specs.declared.batch.Batch.{Batch}
 use Rattle.simplex_verifier.specs.History.{History, next_kind}
-use Rattle.simplex_verifier.specs.Construction.{after, after_construction}
+use Rattle.simplex_verifier.specs.ConstructionResult.{after, after_construction}
 use Rattle.simplex_batcher.specs.Rounds.{RoundKeeps}
 use Rattle.simplex_verifier.specs.Keeping.{kept-consistent, kept-needed}
 use Rattle.simplex_batcher.proofs.Admitting.{nothing, some-at}

@@ -1,7 +1,7 @@
 use Rattle.std.proofs.Common.{sym, ◌∙◌, subst}
 use Rattle.simplex_record.specs.declared.numbering.Numbering.{Numbering}
 use Rattle.simplex_record.specs.Record.{entry}
-use Rattle.simplex_record.specs.Standing.{KeepsNumbering}
+use Rattle.simplex_record.specs.CheckerState.{KeepsNumbering}
 use Rattle.simplex_record.proofs.Checks.{follows_room}
 use Rattle.simplex_record.proofs.Placing.{KeepsNumbering-push}
 use Rattle.simplex_record.proofs.Ruling.{true-false}

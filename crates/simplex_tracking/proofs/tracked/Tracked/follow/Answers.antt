@@ -2,7 +2,7 @@ use Rattle.std.proofs.Common.{refl, sym, arith}
 use Rattle.std.specs.Prelude.{None}
 use Rattle.std.proofs.lemmas.Bool.{ne_eqb}
 use Rattle.std.proofs.lemmas.Result.{MatchResult-weaker}
-use Rattle.simplex_history.specs.Handing.{extend}
+use Rattle.simplex_history.specs.Leaders.{extend}
 use Rattle.simplex_tracking.specs.Tracked.{Holds, inherits_by}
 use Rattle.simplex_tracking.specs.Laws.{IsKept-led}
 use Rattle.simplex_tracking.proofs.Leading.{extend-upto, handed-on-upto}

@@ -3,7 +3,7 @@ use Rattle.std.specs.Prelude.{Bool}
 use Rattle.std.specs.Ordering.{nat_cmp, is_le}
 use Rattle.std.proofs.lemmas.Map.Keys.{le_from_is_le}
 use Rattle.simplex_tracking.specs.Tracked.{Holds, inherits_by, handed_on}
-use Rattle.simplex_history.specs.Handing.{extend}
+use Rattle.simplex_history.specs.Leaders.{extend}
 use Rattle.simplex_tracking.specs.Laws.{IsKept-led}
 use Rattle.simplex_tracking.proofs.Dropping.{next_fits}
 use Rattle.simplex_tracking.proofs.Leading.{further, handed-on-all, handed-on-over, handed-on-within}

@@ -1,5 +1,5 @@
 use Rattle.std.proofs.Common.{◌≡◌, ◌∷◌, refl, ap, ◌∙◌}
-use Rattle.simplex_judging.specs.declared.kind.Kind.TheVariants.{Notarization, Nullification, Finalization}
+use Rattle.simplex_rules.specs.declared.kind.Kind.TheVariants.{Notarization, Nullification, Finalization}
 use Rattle.simplex_verifier.specs.History.{Led, selection, proposal_of, notarized_by}
 use Rattle.simplex_verifier.specs.Keeping.{selection_of, held_by, VerifierKeeps}
 use Rattle.simplex_verifier.proofs.Choosing.{select-led, select-or, chosen-keeps, keeps-led}

@@ -1,5 +1,5 @@
 use Rattle.std.proofs.Common.{◌≡◌, ◌∷◌, refl, sym, ◌∙◌}
-use Rattle.simplex_judging.specs.declared.kind.Kind.TheVariants.{Notarization, Nullification, Finalization}
+use Rattle.simplex_rules.specs.declared.kind.Kind.TheVariants.{Notarization, Nullification, Finalization}
 use Rattle.simplex_verifier.specs.History.{Certified, selection}
 use Rattle.simplex_verifier.specs.Keeping.{selection_of, VerifierKeeps}
 use Rattle.simplex_verifier.proofs.Folding.{selection-certified}

@@ -6,7 +6,7 @@ use Rattle.simplex_types.specs.Subject.{finalize}
 use Rattle.simplex_history.specs.Held.{held}
 use Rattle.simplex_history.specs.Past.{offers}
 use Rattle.simplex_history.specs.History.{seen, voted_finalize}
-use Rattle.simplex_views.specs.Knowledge as shown
+use Rattle.simplex_views.specs.ShowsKnown as shown
 use Rattle.simplex_voter.specs.State.{Keeps}
 use Rattle.simplex_voter.proofs.Casting.{casts, keyless, may_finalize, signs}
 use Rattle.simplex_voter.proofs.Keeping.{keeps_by}

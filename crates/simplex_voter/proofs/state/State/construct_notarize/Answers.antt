@@ -7,7 +7,7 @@ use Rattle.simplex_types.specs.Subject.{notarize}
 use Rattle.simplex_history.specs.Held.{held}
 use Rattle.simplex_history.specs.Past.{offers}
 use Rattle.simplex_history.specs.History.{seen, voted_notarize}
-use Rattle.simplex_views.specs.Knowledge as shown
+use Rattle.simplex_views.specs.ShowsKnown as shown
 use Rattle.simplex_voter.specs.State.{Keeps}
 use Rattle.simplex_voter.proofs.Casting.{casts, keyless, signs}
 use Rattle.simplex_voter.proofs.Keeping.{keeps_by}

@@ -1,7 +1,7 @@
 use Rattle.std.proofs.Common.{◌∙◌, sym, subst}
 use mathlib.Core.Bool.{true≢false}
 use Rattle.std.specs.Prelude.{◌↔◌, IsTrue}
-use Rattle.simplex_decisions.specs.Due.{MayLatch}
+use Rattle.simplex_decisions.specs.GivingUp.{MayLatch}
 use Rattle.simplex_history.specs.declared.timeout_reason.TimeoutReason.TheVariants as reason
 use Rattle.simplex_voter.specs.State.{Keeps}
 use Rattle.simplex_voter.proofs.state.State.counts_silence.Goals as goal

@@ -1,6 +1,6 @@
 use Rattle.std.proofs.Common.{◌≡◌, ◌+◌, ◌^◌, arith}
 use Rattle.std.proofs.lemmas.Bool.{both_ways}
-use Rattle.simplex_views.specs.Knowledge as shown
+use Rattle.simplex_views.specs.ShowsKnown as shown
 use Rattle.simplex_voter.specs.State.{Keeps}
 use Rattle.simplex_voter.proofs.Lowest.{none_at_all, none_behind, none_past, none_through, none_up_to}
 use Rattle.simplex_voter.proofs.state.State.first_build.Goals as goal

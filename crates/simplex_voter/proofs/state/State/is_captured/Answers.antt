@@ -1,4 +1,4 @@
-use Rattle.simplex_views.specs.Knowledge.{at}
+use Rattle.simplex_views.specs.ShowsKnown.{at}
 use Rattle.simplex_voter.specs.State.{Keeps}
 use Rattle.simplex_voter.proofs.Entries.{first_holds, second_holds}
 use Rattle.simplex_voter.proofs.state.State.is_captured.Goals as goal

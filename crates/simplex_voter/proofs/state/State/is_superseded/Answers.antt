@@ -1,5 +1,5 @@
 use Rattle.std.proofs.lemmas.Bool.{both_ways}
-use Rattle.simplex_views.specs.Knowledge.{at}
+use Rattle.simplex_views.specs.ShowsKnown.{at}
 use Rattle.simplex_voter.specs.State.{Keeps}
 use Rattle.simplex_voter.proofs.Entries.{another_preferred}
 use Rattle.simplex_voter.proofs.state.State.is_superseded.Goals as goal

@@ -2,8 +2,8 @@ use Rattle.std.proofs.Common.{◌≡◌, ◌+◌, ◌^◌, arith}
 use Rattle.std.proofs.lemmas.Bool.{both_ways}
 use Rattle.simplex_history.specs.Known.{known}
 use Rattle.simplex_decisions.specs.Ancestry.{member}
-use Rattle.simplex_decisions.specs.Due.{FinalizeIsDue}
-use Rattle.simplex_views.specs.Knowledge as shown
+use Rattle.simplex_decisions.specs.VotesDue.{FinalizeIsDue}
+use Rattle.simplex_views.specs.ShowsKnown as shown
 use Rattle.simplex_voter.specs.State.{Keeps}
 use Rattle.simplex_voter.proofs.Owing.{none_at_all, none_before, none_through, finalizes_owed, finalize_fits}
 use Rattle.simplex_voter.proofs.state.State.next_finalize.Goals as goal

@@ -2,7 +2,7 @@ use Rattle.std.proofs.Common.{◌-◌, ◌^◌, List}
 use Rattle.simplex_history.specs.History.{Setup, Point}
 use Rattle.simplex_history.specs.Known.{known}
 use Rattle.simplex_decisions.specs.Ancestry.{member}
-use Rattle.simplex_decisions.specs.Due.{FinalizeIsDue}
+use Rattle.simplex_decisions.specs.VotesDue.{FinalizeIsDue}
 use Rattle.simplex_voter.specs.State.{Keeps}
 use Rattle.simplex_voter.proofs.Owing.{NoneBelow}
 use Rattle.simplex_voter.proofs.state.State.next_finalize.Given as goal

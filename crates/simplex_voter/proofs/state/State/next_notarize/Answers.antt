@@ -2,8 +2,8 @@ use Rattle.std.proofs.Common.{◌≡◌, ◌+◌, ◌^◌, arith}
 use Rattle.std.proofs.lemmas.Bool.{both_ways}
 use Rattle.simplex_history.specs.Known.{known}
 use Rattle.simplex_decisions.specs.Ancestry.{member}
-use Rattle.simplex_decisions.specs.Due.{NotarizeIsDue}
-use Rattle.simplex_views.specs.Knowledge as shown
+use Rattle.simplex_decisions.specs.VotesDue.{NotarizeIsDue}
+use Rattle.simplex_views.specs.ShowsKnown as shown
 use Rattle.simplex_voter.specs.State.{Keeps}
 use Rattle.simplex_voter.proofs.Owing.{none_at_all, none_before, none_through, notarizes_owed, notarize_fits}
 use Rattle.simplex_voter.proofs.state.State.next_notarize.Goals as goal

@@ -1,4 +1,4 @@
-use Rattle.simplex_views.specs.Knowledge.{at}
+use Rattle.simplex_views.specs.ShowsKnown.{at}
 use Rattle.simplex_voter.specs.State.{Keeps}
 use Rattle.simplex_voter.proofs.Entries.{is_given, none_is_given}
 use Rattle.simplex_voter.proofs.state.State.parent_certified.Goals as goal

@@ -2,7 +2,7 @@ use Rattle.std.proofs.Common.{inl, inr, refl}
 use Rattle.std.proofs.lemmas.Bool.{both_ways}
 use Rattle.std.proofs.lemmas.Result.{IfOk-from_err, IfOk-weaker, on_ok_weaker}
 use Rattle.simplex_history.specs.History.{unbound}
-use Rattle.simplex_views.specs.Knowledge as shown
+use Rattle.simplex_views.specs.ShowsKnown as shown
 use Rattle.simplex_voter.specs.State.{Keeps}
 use Rattle.simplex_voter.proofs.Keeping.{keeps_still}
 use Rattle.simplex_voter.proofs.state.State.verification_failed.Goals as goal

@@ -3,7 +3,7 @@ use Rattle.std.specs.BTreeSet.{btree_set_len}
 use Rattle.std.proofs.lemmas.Result.{IfOk-from_err}
 use Rattle.simplex_history.specs.Known.{known}
 use Rattle.simplex_decisions.specs.Ancestry.{member}
-use Rattle.simplex_views.specs.Knowledge.{at}
+use Rattle.simplex_views.specs.ShowsKnown.{at}
 use Rattle.simplex_voter.proofs.Members.{fewer, nothing_in}
 use Rattle.simplex_voter.proofs.Sorting.{looked_at_all, looked_at_more, looked_at_none}
 use Rattle.simplex_voter.proofs.Waking.{notarized_at}

@@ -1,5 +1,5 @@
 use Rattle.std.proofs.Common.{◌<◌, length, arith}
-use Rattle.simplex_rules.specs.Turns.{length-IsOrder, IsOrder-from_IsOrderOf}
+use Rattle.simplex_rules.specs.RotationLaws.{length-IsOrder, IsOrder-from_IsOrderOf}
 use Rattle.simplex_rules.proofs.elector.round_robin.RoundRobinConfig.build.Goals as goal
 
 pub invariant_of-result : goal.invariant_of-result

@@ -7,9 +7,9 @@ use Rattle.simplex_history.specs.Past as past
 use Rattle.simplex_history.specs.Past.{Item}
 use Rattle.simplex_history.specs.Known.{Known}
 use Rattle.simplex_decisions.specs.Ancestry.{Member}
-use Rattle.simplex_decisions.specs.Due.{NotarizeIsDue, FinalizeIsDue}
+use Rattle.simplex_decisions.specs.VotesDue.{NotarizeIsDue, FinalizeIsDue}
 use Rattle.simplex_voter.specs.declared.owed.Owed.{Owed}
-use Rattle.simplex_voter.specs.Owed.{Has}
+use Rattle.simplex_voter.specs.OwedViews.{Has}
 
 module _ {D : Type 0} (m : Member) (k : Known D) where
   -- the lowest view of which a notarize is due; and that none is of any

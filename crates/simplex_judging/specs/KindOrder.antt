@@ -1,7 +1,7 @@
 -- The order in which certificates are made.
 use Rattle.std.specs.Prelude.{List, [], ◌∷◌}
-use Rattle.simplex_judging.specs.declared.kind.Kind.{Kind}
-use Rattle.simplex_judging.specs.declared.kind.Kind.TheVariants.{Notarization, Nullification, Finalization}
+use Rattle.simplex_rules.specs.declared.kind.Kind.{Kind}
+use Rattle.simplex_rules.specs.declared.kind.Kind.TheVariants.{Notarization, Nullification, Finalization}
 
 -- all kinds, the one of which a certificate is made first at the head
 abbrev pub in_turn : List Kind
