@@ -1,4 +1,4 @@
-use Rattle.std.proofs.Common.{ℕ, sym, ◌∙◌, subst, refl}
+use Rattle.std.proofs.Common.{ℕ, sym, subst, refl}
 use Rattle.std.proofs.lemmas.Bool.{true≢false, iff_false}
 use Rattle.simplex_types.specs.Positions.{IsTermStart}
 use Rattle.simplex_decisions.proofs.Testing.{never, next_after}

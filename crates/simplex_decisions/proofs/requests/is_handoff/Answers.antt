@@ -1,6 +1,6 @@
 use Rattle.std.proofs.Common.{ℕ, sym, ap, subst}
 use Rattle.std.specs.Prelude.{not}
-use Rattle.std.proofs.lemmas.Bool.{false_from_ne_true, iff_false, not-true, true≢false}
+use Rattle.std.proofs.lemmas.Bool.{false_from_ne_true, iff_false, not-true}
 use Rattle.simplex_types.specs.Positions.{IsTermStart}
 use Rattle.simplex_decisions.proofs.Testing.{never}
 use Rattle.simplex_decisions.proofs.requests.is_handoff.Goals as goal
