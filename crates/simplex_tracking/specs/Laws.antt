@@ -1,6 +1,6 @@
 -- What those who stand above take from these words.
 use Rattle.std.proofs.Common.{◌≡◌, ◌≢◌, ◌≤◌, ◌<◌, ◌+◌, ◌-◌, ◌==◌, ◌^◌, ℕ, zero, suc, Bool, List, ◌∷◌, true, false, ⊎_elim, inl, inr, refl, sym, ◌∙◌, subst, arith, if◌then◌else◌}
-use Rattle.std.specs.Prelude.{Option, Some, None, ◌&&◌, ◌||◌, not, nat_le}
+use Rattle.std.specs.Prelude.{Option, None, ◌&&◌, ◌||◌, not, nat_le}
 use Rattle.std.specs.Option.{option_or}
 use Rattle.std.specs.BTreeSet.{contains}
 use Rattle.std.specs.Ordering.{nat_cmp}

@@ -1,5 +1,5 @@
-use Rattle.std.proofs.Common.{◌==◌, ◌+◌, ⊎_elim, sym, arith, if◌then◌else◌}
-use Rattle.std.specs.Prelude.{None}
+use Rattle.std.proofs.Common.{◌==◌, ◌+◌, ℕ, ⊎_elim, sym, arith, if◌then◌else◌}
+use Rattle.std.specs.Prelude.{Option, None}
 use Rattle.std.proofs.lemmas.Bool.{ne_eqb}
 use Rattle.std.proofs.lemmas.Result.{MatchResult-weaker}
 use Rattle.simplex_history.specs.Leaders.{extend}
@@ -20,7 +20,7 @@ returns-in_default g c = MatchResult-weaker c.follow.result c.follow.ensures
 pub returns-then-get-eq18446744073709551615 : goal.returns-then-get-eq18446744073709551615
 unfolding Holds
 returns-then-get-eq18446744073709551615 g c = λ f t k member closed.
-    let here = λ u. if u == c.args.view + 1 then c.args.next_leader else None in
+    let here : ℕ → Option ℕ = λ u. if u == c.args.view + 1 then c.args.next_leader else None in
     IsKept-led (extend here (inherits_by f t) t.led) k
     (λ u fits. sym (extend-below here (inherits_by f t) t.led (c.args.view + 1) (not-yet-next c.args.view c.args.next_leader)
     (λ v lt. closed v (ne_eqb c.args.view v (λ e. omega (arith, e, lt)))) u (omega arith)))

@@ -1,5 +1,5 @@
-use Rattle.std.proofs.Common.{◌==◌, ◌∙◌, refl, inl, inr, arith, if◌then◌else◌}
-use Rattle.std.specs.Prelude.{Some, None}
+use Rattle.std.proofs.Common.{◌==◌, ◌∙◌, ℕ, refl, inl, inr, arith, if◌then◌else◌}
+use Rattle.std.specs.Prelude.{Option, Some, None}
 use Rattle.std.proofs.lemmas.Result.{MatchResult-weaker}
 use Rattle.simplex_history.specs.Leaders.{extend}
 use Rattle.simplex_tracking.specs.Laws.{IsKept-led}
@@ -11,7 +11,7 @@ use Rattle.simplex_tracking.proofs.tracked.Tracked.lead.Goals as goal
 pub returns-then-get-eq18446744073709551615 : goal.returns-then-get-eq18446744073709551615
 unfolding Holds
 returns-then-get-eq18446744073709551615 g c = λ f t k some member closed.
-    let here = λ u. if u == c.args.first then Some c.args.leader else None in
+    let here : ℕ → Option ℕ = λ u. if u == c.args.first then Some c.args.leader else None in
     IsKept-led {t = record t { led = learn c.args.first c.args.leader t.led }} (extend here (inherits_by f t) t.led)
     (learnt-kept c.args.first c.args.leader k member (c.in_ok-_new.ensures.keeps f.common t.led t.past k.rounds member))
     (λ u fits. named-first c.args.first c.args.leader (inherits_by f t) t.led some (λ v lt. closed v (inl lt) (omega (arith, lt, c.get.ensures.fits))) u
