@@ -39,7 +39,8 @@ module _ {S D P G C : Type 0} (g : Ghosts S D P G C) (f : Formats S D P G C) whe
       → (c : Finalization S D P G C) (d : Notarization S D P G C) → IsThere g f scheme m world (certificate.Finalization c) → IsThere g f scheme m world (certificate.Notarization d)
       → d.proposal.parent < c.proposal.round.view → c.proposal.round.view < d.proposal.round.view → ⊥
 
-  -- in a network, finalized views lie on one chain: from each finalized proposal the parents lead down to each that is finalized of a view no higher
+  -- in a network, finalized views lie on one chain: from each finalized proposal the parents lead down to each that is finalized of a view
+  -- no higher
   abbrev pub FinalizedViewsLieOnOneChain : Type 0
   FinalizedViewsLieOnOneChain = (scheme : S) (m : Members S D P G C) (world : World S D P G C) → IsNetwork g f scheme m world
       → (c d : Finalization S D P G C) → IsThere g f scheme m world (certificate.Finalization c) → IsThere g f scheme m world (certificate.Finalization d)
