@@ -60,17 +60,17 @@ fn lies(alloc: Global, liar: &PlainScheme) -> Result<Vec<u8>, AllocError> {
 /// A member starts with what its record holds, and votes for the proposal that the leader sends, if it may.
 fn start(rt: &HostRuntime, byte: u8) -> io::Result<()> {
     let alloc = rt.alloc();
-    let scheme = Rc::new(alloc, committee(alloc, 1)?)?;
+    let scheme = Rc::new(alloc, committee(alloc, 3)?)?;
     let Ok((mut journal, record)) = open_record(alloc, FileDisk::open(rt, "record")?) else {
         return println!(rt; "the record can't be opened");
     };
-    let me = Participant::new(1);
+    let me = Participant::new(3);
     if let Some(place) = first_breach(alloc, &scheme, me, &record)? {
         return println!(rt; "artifact {place} breaks a rule");
     }
     let count = record.len();
     println!(rt; "artifacts in a lawful record: {count}")?;
-    let mut known = recalled(scheme.clone()?, first_round(), Participant::new(0), &record);
+    let mut known = recalled(scheme.clone()?, first_round(), Participant::new(1), &record);
     let Some(vote) = vote_on(&scheme, &mut known, &proposal(byte)) else {
         return println!(rt; "no vote");
     };
