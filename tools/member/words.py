@@ -19,6 +19,8 @@
 SIGNERS and MEMBERS are numbers with commas; a signer whose attestation is spoiled has a `!` behind it, and one that salts by s
 has `/s`. ATT is twice the salt of a signature, and one more where its first byte is spoiled.
 """
+from script_rows import sum_of
+
 from . import codec
 from .codec import EVIDENCE, FETCH_CHANNEL, PAYLOAD, VOTE_TAGS, Reader, whole
 from .scheme import key
@@ -253,7 +255,19 @@ def message(it, scheme):
     return f"{it.kind} {message(it.first, scheme)} {message(it.second, scheme)}"
 
 
-def packet(channel, data, scheme):
+def with_sums(it, scheme):
+    """The same, as the drivers of the layers write it: with the sum of the signatures in place of ATT, or behind SIGNERS."""
+    if isinstance(it, Vote):
+        return f"{it.kind} {it.signer} {sum_of(it.signature)} {on(it.on)}"
+    if isinstance(it, Certificate):
+        signers = ",".join(str(signer) for signer, _ in it.attestations) or "-"
+        return f"{it.kind} {signers} {sum_of(b''.join(signature for _, signature in it.attestations))} {on(it.on)}"
+    if isinstance(it, Certified):
+        return "certification " + with_sums(it.notarization, scheme)
+    return message(it, scheme) if isinstance(it, Verdict) else f"{it.kind} {with_sums(it.first, scheme)} {with_sums(it.second, scheme)}"
+
+
+def packet(channel, data, scheme, message=message):
     try:
         got = whole(data, scheme.signature_size, scheme.members, lambda reader: Reader.packet(reader, channel))
     except codec.Unreadable:
@@ -282,10 +296,10 @@ def leader(context):
     return int.from_bytes(context.leader, "big")
 
 
-def action(it, scheme):
+def action(it, scheme, message=message):
     match it:
         case Send(to, channel, data):
-            return f"send {'all' if to is None else to} {packet(channel, data, scheme)}"
+            return f"send {'all' if to is None else to} {packet(channel, data, scheme, message)}"
         case Block(member):
             return f"block {member}"
         case Build(number, handoff, c):
@@ -304,11 +318,9 @@ def action(it, scheme):
             return f"wake {moment}"
 
 
-def reply(it, scheme):
+def reply(it, scheme, message=message):
     parts = [f"refused {it.refused}"] if it.refused else []
-    return " , ".join([*parts, *(action(one, scheme) for one in it.actions)]) or "nothing"
-
-
+    return " , ".join([*parts, *(action(one, scheme, message) for one in it.actions)]) or "nothing"
 
 
 def point(it, scheme):
