@@ -5,9 +5,7 @@ ghost use Rattle.std.specs.Prelude.{◌<◌, IfOk};
 use script_words::{Committee, Trouble, Words};
 use simplex_decisions::config::{Config, ForwardPolicy, SkipBudget, SkipPolicy};
 use simplex_rules::elector::{Config as Building, Elector, RoundRobin, RoundRobinElector};
-use simplex_types::{
-    Epoch, Participant, PlainScheme, Scheme, Sha256Digest, TermLength, ViewDelta,
-};
+use simplex_types::{Epoch, Participant, PlainScheme, Scheme, Sha256Digest, TermLength, ViewDelta};
 use std::alloc::{AllocError, Global};
 use std::rc::Rc;
 
