@@ -105,13 +105,14 @@ impl Setup {
         let config = config(words, epoch)?;
         let _hands_off = words.truth()?;
         words.end()?;
-        let _is_a_seat = PlainScheme::member_of(alloc, members, me, 0)?;
-        Ok(Setup {
+        let setup = Setup {
             members,
             me,
             terms,
             config,
-        })
+        };
+        let _is_a_seat = setup.scheme(alloc)?;
+        Ok(setup)
     }
 
     /// The committee, seen by this member.
