@@ -5,10 +5,10 @@ use Rattle.simplex_member.specs.Deeds.{AreActions, Finalizes}
 use Rattle.simplex_exchange.specs.Handing.{nothing_more}
 use Rattle.simplex_recalling.proofs.recalling.finalize.Goals as goal
 
-pub returns-in-Ok-in-Some : goal.returns-in-Ok-in-Some
-returns-in-Ok-in-Some g c = λ f owner xs deeds holds are.
+pub returns-in-Ok : goal.returns-in-Ok
+returns-in-Ok g c = λ f owner xs deeds holds are.
     subst (λ (found : Option (Finalization g.row.S.Denot g.row.D.Denot g.row.S-PublicKey.Denot g.row.S-Signature.Denot g.row.S-Certificate.Denot)). AreActions f c.hand_out.new.out.items (deeds ++ map (λ (x : Finalization g.row.S.Denot g.row.D.Denot g.row.S-PublicKey.Denot g.row.S-Signature.Denot g.row.S-Certificate.Denot). Finalizes x.proposal) (option_to_list found)))
-    (c.in-Some.ensures owner xs holds) (c.in-Ok-in-Some.ensures.done f (Finalizes c.in-Some.finalization.now.proposal) refl deeds are)
+    (c.in-Some.ensures owner xs holds) (c.in-Ok.ensures.done f (Finalizes c.in-Some.finalization.now.proposal) refl deeds are)
 
 pub returns-in-None : goal.returns-in-None
 returns-in-None g c = λ f owner xs deeds holds are.
