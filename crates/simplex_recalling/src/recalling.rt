@@ -27,7 +27,8 @@ ghost use Rattle.simplex_recalling.specs.GoingThrough.{IsRecordOf};
 ghost use Rattle.simplex_recalling.specs.Learning.{IsNew};
 
 use crate::learning::{
-    give_finalization, give_notarization, give_nullification, give_verdict, judge_repair, update_repair,
+    give_finalization, give_notarization, give_nullification, give_verdict, judge_repair,
+    update_repair,
 };
 use simplex_acceptance::{Acceptance, silent_points_leave_votes};
 use simplex_certificates::{Artifact, Certificate};

@@ -26,7 +26,7 @@ returns g c = λ n now s found rest is k.
     let room_here = subst (λ (v : ℕ). HasRoom c.term_length.result v) c.view.ensures (c.has_room.ensures.0 c.if-not-has_room.false) in
     let room = subst (λ (views : ℕ). HasRoom views (artifact_round x).view) length room_here in
     let told = c.in_ok-tell_voter.ensures s.voter (voter_of s h) k.stand.voter room (λ d is_it. c.what_is_not_recorded_is_unknown.ensures f s h d k.allowed (reading-some now h k.reading)
-        (first_of s.voter.length (entries (record_of h)) d (subst (λ (y : (Artifact g.row.S.Denot g.row.D.Denot g.row.S-PublicKey.Denot g.row.S-Signature.Denot g.row.S-Certificate.Denot)). MayFollow s.voter.length (entries (record_of h)) (entry y)) is_it fits.follows))) in
+    (first_of s.voter.length (entries (record_of h)) d (subst (λ (y : (Artifact g.row.S.Denot g.row.D.Denot g.row.S-PublicKey.Denot g.row.S-Signature.Denot g.row.S-Certificate.Denot)). MayFollow s.voter.length (entries (record_of h)) (entry y)) is_it fits.follows))) in
     let voter = subst (λ (t : ℕ). voting.Keeps g.S.Scheme g.L.Elector s.voter c.tell_voter.new.voter (finds t x told.0 ++ voter_of s h)) moment told.2 in
     let floor = c.min_active-floor.ensures s.voter (voter_of s h) (c.views.ensures s.voter (voter_of s h) k.stand.voter) in
     let ahead = c.in_ok-tell_votes.ensures s h k.stand.votes told.0 floor room fits.verifies in
