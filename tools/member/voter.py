@@ -263,7 +263,7 @@ def is_spoken(told):
 
 def starts_by_handoff(setup, view):
     """The view starts a term, and a schedule names this member for it, where handoffs occur."""
-    return setup.handoffs and setup.terms.is_start(view) and setup.scheduled(view) == setup.me
+    return setup.handoffs and setup.me is not None and setup.terms.is_start(view) and setup.scheduled(view) == setup.me
 
 
 def leader(h, view):

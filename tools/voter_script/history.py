@@ -241,8 +241,9 @@ def at(h, view):
 
 @over({})
 def leaders(known, here):
-    """Who leads each view, where that is known. The start names the leader of view 1, a certificate that of the view it leads to;
-    others are handed on. Whoever becomes known first stays, until the view is dropped."""
+    """Who leads each view, where that is known. The start names the leader of view 1, a certificate that of the view it leads to, an own
+    notarize this member for the next view, where it may lead that by a handoff; others are handed on. Whoever becomes known first
+    stays, until the view is dropped."""
     named = {}
     match here.point:
         case Pruned():
@@ -253,7 +254,12 @@ def leaders(known, here):
             is_nullification = certificate.kind == NULLIFICATION
             view = here.setup.terms.next_start(certificate.view) if is_nullification else certificate.view + 1
             named[view] = here.setup.elect(view, certificate)
-    return of_voter.handed_on(here, {**named, **known})
+    early = {
+        view + 1: here.setup.me
+        for view, told in views(here).items()
+        if told.has_notarized and of_voter.starts_by_handoff(here.setup, view + 1)
+    }
+    return of_voter.handed_on(here, {**early, **named, **known})
 
 
 # ---- all of it

@@ -32,7 +32,7 @@ def setup_line(pick, leading, has_key):
     length, optimistic, stall = pick.choice(((1, 0, "-"), (1, 0, 2500), (1, 2, 2500), (2, 1, 2500), (3, 0, 4000), (3, 2, 4000),
                                              (5, 0, 9000), (5, 1, 2000), (5, 2, 9000), (5, 3, 5000)))
     retention, budget = pick.choice((0, 1, 2, 3, 10)), pick.choice((0, 1, 2, 4, 9))
-    line = f"reset voter {members} {me} {epoch} {length} {optimistic} {stall} {retention} 1000 2000 5000 {budget} 0 {leading}"
+    line = f"reset voter {members} {me} {epoch} {length} {optimistic} {stall} {retention} 1000 2000 5000 {budget} 1 {leading}"
     return line.rstrip()
 
 

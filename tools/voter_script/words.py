@@ -45,7 +45,7 @@ def setup_of(line):
     leading, *seed = given[12:] or [""]
     return {"": Setup, "shuffled": Shuffled, "dynamic": Dynamic}[leading](
         PlainScheme(members), me, epoch, length, optimistic, stall, retention, leader, certification, retry,
-        2**64 - 1, budget, "disabled", False, False, **({"seed": seed[0].encode()} if seed else {}),
+        2**64 - 1, budget, "disabled", False, given[11] == "1", **({"seed": seed[0].encode()} if seed else {}),
     )
 
 

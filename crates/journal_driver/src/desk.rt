@@ -5,31 +5,38 @@ use crate::torn_disk::TornDisk;
 use crate::{files, laws, memory, torn};
 use script_words::{Layer, Say, Trouble, Words};
 use simplex_journal::{FileDisk, MemoryDisk};
+use simplex_types::{EncodeSize, Read};
 use std::alloc::Global;
 
 /// The disk of a script, with the journal on it.
 #[derive(Drop)]
-enum Thing {
+enum Thing<M: Read + EncodeSize> {
     Nothing,
-    Memory(Session<MemoryDisk>),
-    Torn(Session<TornDisk>),
-    File(Session<FileDisk>),
+    Memory(Session<M, MemoryDisk>),
+    Torn(Session<M, TornDisk>),
+    File(Session<M, FileDisk>),
 }
 
-/// The disk of a script, and the system's files.
+/// The disk of a script, and the system's files. What messages the journals keep is left open: at one type each call
+/// would cost the prover several times as much.
 #[derive(Drop)]
-pub(crate) struct Desk<'a> {
+pub(crate) struct Desk<'a, M: Read + EncodeSize> {
     files: &'a HostRuntime,
-    thing: Thing,
+    thing: Thing<M>,
 }
 
-impl<'a> Desk<'a> {
+impl<'a, M: Read + EncodeSize + Drop> Desk<'a, M> {
     /// No disk.
     pub(crate) fn new(files: &'a HostRuntime) -> Self {
         Desk {
             files,
             thing: Thing::Nothing,
         }
+    }
+
+    /// Puts this in the place of what stood there.
+    fn put(&mut self, thing: Thing<M>) {
+        self.thing = thing;
     }
 
     /// The calls of the disk that is there.
@@ -43,28 +50,27 @@ impl<'a> Desk<'a> {
     }
 }
 
-impl Layer for Desk<'_> {
+impl<M: Read + EncodeSize + Drop> Layer for Desk<'_, M> {
     /// `reset nothing`, `reset memory BYTES`, `reset torn BYTES`, `reset file PATH`.
     fn reset(&mut self, words: &mut Words<'_>, alloc: Global) -> Result<(), Trouble> {
-        let thing = match words.word() {
+        match words.word() {
             "nothing" => {
                 words.end()?;
-                Thing::Nothing
+                self.put(Thing::Nothing);
             }
-            "memory" => Thing::Memory(memory::session(words, alloc)?),
-            "torn" => Thing::Torn(torn::session(words, alloc)?),
-            "file" => Thing::File(files::session(self.files, words)?),
+            "memory" => self.put(Thing::Memory(memory::session(words, alloc)?)),
+            "torn" => self.put(Thing::Torn(torn::session(words, alloc)?)),
+            "file" => self.put(Thing::File(files::session(self.files, words)?)),
             _ => return Err(Trouble::Unreadable),
-        };
-        self.thing = thing;
+        }
         Ok(())
     }
 
     fn call(&mut self, name: &str, words: &mut Words<'_>, say: &mut Say) -> Result<(), Trouble> {
         match name {
             "file" => files::answer(self.files, words, say),
-            "finds" => memory::finds(words, say),
-            "laws" => laws::answer(words, say),
+            "finds" => memory::finds::<M>(words, say),
+            "laws" => laws::answer::<M>(words, say),
             _ => self.ask(name, words, say),
         }
     }

@@ -4,6 +4,7 @@ use crate::item::bytes;
 use crate::session::Session;
 use script_words::{Say, Trouble, Words};
 use simplex_journal::FileDisk;
+use simplex_types::{EncodeSize, Read};
 use std::fs;
 use std::io::{self, ErrorKind};
 
@@ -28,10 +29,10 @@ fn say_done(say: &mut Say, done: io::Result<()>) -> Result<(), Trouble> {
 
 /// A disk in the file whose path is the last word. A condition isn't met where it can't be opened: `file open`
 /// tells why.
-pub(crate) fn session(
+pub(crate) fn session<M: Read + EncodeSize + Drop>(
     files: &HostRuntime,
     words: &mut Words<'_>,
-) -> Result<Session<FileDisk>, Trouble> {
+) -> Result<Session<M, FileDisk>, Trouble> {
     let path = words.word();
     words.end()?;
     match FileDisk::open(files, path) {

@@ -3,11 +3,11 @@
 ghost use Rattle.std.specs.Prelude.{All, IfOk};
 ghost use Rattle.simplex_journal.specs.History.{OfMessage};
 
-use crate::item::{Item, message, say_fault, say_items};
+use crate::item::{message, say_fault, say_items};
 use crate::session::Session;
 use script_words::{Say, Trouble, Words};
 use simplex_journal::{Event, MemoryDisk, Request, run};
-use simplex_types::Read;
+use simplex_types::{EncodeSize, Read, Write};
 use std::alloc::Global;
 
 /// `open`, `append ARTIFACT` or `crash`.
@@ -40,7 +40,7 @@ fn requests<M: Read + Drop>(
 }
 
 /// The event's name, and what it tells.
-fn say_event(say: &mut Say, event: &Event<Item>) -> Result<(), Trouble> {
+fn say_event<M: Write>(say: &mut Say, event: &Event<M>) -> Result<(), Trouble> {
     match event {
         Event::Opened(found) => {
             say.text("Opened ")?;
@@ -50,25 +50,25 @@ fn say_event(say: &mut Say, event: &Event<Item>) -> Result<(), Trouble> {
             say.text("OpenFailed ")?;
             say_fault(say, *fault)
         }
-        Event::Appended(item) => say_told(say, "Appended ", item),
-        Event::AppendFailed(item, fault) => {
-            say_told(say, "AppendFailed ", item)?;
+        Event::Appended(message) => say_told(say, "Appended ", message),
+        Event::AppendFailed(message, fault) => {
+            say_told(say, "AppendFailed ", message)?;
             say.gap()?;
             say_fault(say, *fault)
         }
-        Event::NotOpen(item) => say_told(say, "NotOpen ", item),
+        Event::NotOpen(message) => say_told(say, "NotOpen ", message),
         Event::Crashed => say.text("Crashed"),
     }
 }
 
-/// An event's name, and the artifact that it tells of.
-fn say_told(say: &mut Say, name: &str, item: &Item) -> Result<(), Trouble> {
+/// An event's name, and the message that it tells of.
+fn say_told<M: Write>(say: &mut Say, name: &str, message: &M) -> Result<(), Trouble> {
     say.text(name)?;
-    say.value(item)
+    say.value(message)
 }
 
 /// Events with ` , ` between two.
-fn say_events(say: &mut Say, events: &[Event<Item>]) -> Result<(), Trouble> {
+fn say_events<M: Write>(say: &mut Say, events: &[Event<M>]) -> Result<(), Trouble> {
     let Some((first, rest)) = events.split_first() else {
         return say.none();
     };
@@ -81,15 +81,28 @@ fn say_events(say: &mut Say, events: &[Event<Item>]) -> Result<(), Trouble> {
 }
 
 /// `run REQUEST..`: what comes of all requests on the disk, which comes back.
-pub(crate) fn answer(
-    session: &mut Session<MemoryDisk>,
+pub(crate) fn answer<M: Read + EncodeSize + Drop>(
+    session: &mut Session<M, MemoryDisk>,
     words: &mut Words<'_>,
     say: &mut Say,
 ) -> Result<(), Trouble> {
-    let requests = requests::<Item>(words, say.alloc)?;
-    let Ok(history) = run(say.alloc, session.take()?, requests) else {
-        return Err(Trouble::Memory);
-    };
-    session.put(history.disk);
-    say_events(say, &history.events)
+    let requests = requests(words, say.alloc)?;
+    say_events(say, &played(session, requests, say.alloc)?)
+}
+
+/// What comes of the requests.
+fn played<M: Read + EncodeSize + Drop>(
+    session: &mut Session<M, MemoryDisk>,
+    requests: Vec<Request<M>>,
+    alloc: Global,
+) -> Result<Vec<Event<M>>, Trouble>
+    requires { All (OfMessage (M.within 65535)) requests.items }
+{
+    match run(alloc, session.take()?, requests) {
+        Ok(history) => {
+            session.put(history.disk);
+            Ok(history.events)
+        }
+        Err(_) => Err(Trouble::Memory),
+    }
 }

@@ -3,13 +3,9 @@
 ghost use Rattle.std.specs.Prelude.{IfOk};
 
 use script_words::{Say, Trouble, Words};
-use simplex_certificates::Artifact;
 use simplex_journal::{BOUND, JournalFault};
-use simplex_types::{PlainScheme, Read, Sha256Digest, decode_cfg};
+use simplex_types::{Read, Write, decode_cfg};
 use std::alloc::Global;
-
-/// An artifact under the plain scheme. In a script it stands as the bytes that spell it.
-pub(crate) type Item = Artifact<PlainScheme, Sha256Digest>;
 
 /// The bytes of the next word, `-` for none: the word has to be there.
 pub(crate) fn bytes(words: &mut Words<'_>, alloc: Global) -> Result<Vec<u8>, Trouble> {
@@ -30,8 +26,8 @@ pub(crate) fn message<M: Read + Drop>(words: &mut Words<'_>, alloc: Global) -> R
     }
 }
 
-/// Artifacts with a comma between two, or `-`.
-pub(crate) fn say_items(say: &mut Say, items: &[Item]) -> Result<(), Trouble> {
+/// Messages with a comma between two, or `-`.
+pub(crate) fn say_items<M: Write>(say: &mut Say, items: &[M]) -> Result<(), Trouble> {
     let Some((first, rest)) = items.split_first() else {
         return say.none();
     };

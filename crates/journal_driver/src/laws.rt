@@ -1,12 +1,15 @@
 //! The laws of journals, which hold of artifacts as of any messages.
 
-use crate::item::Item;
 use script_words::{Say, Trouble, Words};
 use simplex_journal::a_disk_reads_as_one_record;
+use simplex_types::{EncodeSize, Read};
 
 /// `laws`: they are calls without arguments that do nothing.
-pub(crate) fn answer(words: &Words<'_>, say: &mut Say) -> Result<(), Trouble> {
+pub(crate) fn answer<M: Read + EncodeSize + Drop>(
+    words: &Words<'_>,
+    say: &mut Say,
+) -> Result<(), Trouble> {
     words.end()?;
-    a_disk_reads_as_one_record::<Item>();
+    a_disk_reads_as_one_record::<M>();
     say.ok()
 }

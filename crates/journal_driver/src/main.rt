@@ -28,10 +28,20 @@ mod torn_disk;
 
 use crate::desk::Desk;
 use script_words::play;
+use simplex_certificates::Artifact;
+use simplex_types::{EncodeSize, PlainScheme, Read, Sha256Digest};
 use std::io;
 use std::process::ExitCode;
 
+/// What the journals of the scripts keep: an artifact under the plain scheme, which stands there as the bytes that spell it.
+type Item = Artifact<PlainScheme, Sha256Digest>;
+
+/// Plays the script of standard input, whose journals keep such messages.
+fn play_with<M: Read + EncodeSize + Drop>(rt: &HostRuntime) -> u8 {
+    let mut desk = Desk::<M>::new(rt);
+    play(rt.alloc(), &mut desk, rt.reader(), &mut io::writer(rt))
+}
+
 fn main(rt: HostRuntime) -> ExitCode {
-    let mut desk = Desk::new(&rt);
-    ExitCode::from(play(rt.alloc(), &mut desk, rt.reader(), &mut io::writer(&rt)))
+    ExitCode::from(play_with::<Item>(&rt))
 }

@@ -5,13 +5,14 @@ use crate::item::bytes;
 use crate::session::Session;
 use script_words::{Say, Trouble, Words};
 use simplex_journal::{Crash, MemoryDisk};
+use simplex_types::{EncodeSize, Read};
 use std::alloc::Global;
 
 /// A disk in memory that holds the bytes of the last word.
-pub(crate) fn session(
+pub(crate) fn session<M: Read + EncodeSize + Drop>(
     words: &mut Words<'_>,
     alloc: Global,
-) -> Result<Session<MemoryDisk>, Trouble> {
+) -> Result<Session<M, MemoryDisk>, Trouble> {
     let bytes = bytes(words, alloc)?;
     words.end()?;
     if bytes.is_empty() {
@@ -21,8 +22,17 @@ pub(crate) fn session(
 }
 
 /// `finds BYTES`: what an opening of a disk that holds these bytes finds, and what it leaves.
-pub(crate) fn finds(words: &mut Words<'_>, say: &mut Say) -> Result<(), Trouble> {
-    let mut session = session(words, say.alloc)?;
+pub(crate) fn finds<M: Read + EncodeSize + Drop>(
+    words: &mut Words<'_>,
+    say: &mut Say,
+) -> Result<(), Trouble> {
+    found_and_left(&mut session::<M>(words, say.alloc)?, say)
+}
+
+fn found_and_left<M: Read + EncodeSize + Drop>(
+    session: &mut Session<M, MemoryDisk>,
+    say: &mut Say,
+) -> Result<(), Trouble> {
     session.open(say)?;
     session.close();
     say.text(" left ")?;
@@ -30,8 +40,8 @@ pub(crate) fn finds(words: &mut Words<'_>, say: &mut Say) -> Result<(), Trouble>
 }
 
 /// The calls of a disk in memory, and of the journal on it.
-pub(crate) fn answer(
-    session: &mut Session<MemoryDisk>,
+pub(crate) fn answer<M: Read + EncodeSize + Drop>(
+    session: &mut Session<M, MemoryDisk>,
     name: &str,
     words: &mut Words<'_>,
     say: &mut Say,
@@ -46,8 +56,8 @@ pub(crate) fn answer(
 }
 
 /// `fuse CALLS`: lets so many calls of the disk through, and has every later one fail.
-fn fuse(
-    session: &mut Session<MemoryDisk>,
+fn fuse<M: Read + EncodeSize + Drop>(
+    session: &mut Session<M, MemoryDisk>,
     words: &mut Words<'_>,
     say: &mut Say,
 ) -> Result<(), Trouble> {
@@ -58,8 +68,8 @@ fn fuse(
 }
 
 /// `fail_at CALLS`: has the call of the disk behind so many others fail.
-fn fail_at(
-    session: &mut Session<MemoryDisk>,
+fn fail_at<M: Read + EncodeSize + Drop>(
+    session: &mut Session<M, MemoryDisk>,
     words: &mut Words<'_>,
     say: &mut Say,
 ) -> Result<(), Trouble> {
@@ -70,8 +80,8 @@ fn fail_at(
 }
 
 /// `crash`: a crash of the process, which takes the journal and leaves all that was written.
-fn crash(
-    session: &mut Session<MemoryDisk>,
+fn crash<M: Read + EncodeSize + Drop>(
+    session: &mut Session<M, MemoryDisk>,
     words: &Words<'_>,
     say: &mut Say,
 ) -> Result<(), Trouble> {

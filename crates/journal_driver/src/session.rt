@@ -1,19 +1,26 @@
 //! A disk, and the journal that is open on it.
 
 use crate::device;
-use crate::item::{Item, message, say_fault, say_items};
+use crate::item::{message, say_fault, say_items};
 use crate::medium::Medium;
 use script_words::{Say, Trouble, Words};
 use simplex_journal::Journal;
+use simplex_types::{EncodeSize, Read, Write};
+
+/// `opened`, and what was found.
+fn say_found<M: Write>(say: &mut Say, found: &[M]) -> Result<(), Trouble> {
+    say.text("opened ")?;
+    say_items(say, found)
+}
 
 /// A disk with no journal open on it, or the journal that is open on one.
 #[derive(Drop)]
-pub(crate) struct Session<K: Medium> {
+pub(crate) struct Session<M: Read + EncodeSize, K: Medium> {
     disk: Option<K>,
-    journal: Option<Journal<Item, K>>,
+    journal: Option<Journal<M, K>>,
 }
 
-impl<K: Medium> Session<K> {
+impl<M: Read + EncodeSize + Drop, K: Medium> Session<M, K> {
     /// A disk with no journal open on it.
     pub(crate) fn new(disk: K) -> Self {
         Session {
@@ -56,8 +63,7 @@ impl<K: Medium> Session<K> {
         match Journal::open(say.alloc, self.take()?) {
             Ok((journal, found)) => {
                 self.journal = Some(journal);
-                say.text("opened ")?;
-                say_items(say, &found)
+                say_found(say, &found)
             }
             Err((fault, disk)) => {
                 self.disk = Some(disk);
@@ -66,9 +72,9 @@ impl<K: Medium> Session<K> {
         }
     }
 
-    /// `append ARTIFACT`.
+    /// `append MESSAGE`.
     fn append(&mut self, words: &mut Words<'_>, say: &mut Say) -> Result<(), Trouble> {
-        let item: Item = message(words, say.alloc)?;
+        let item: M = message(words, say.alloc)?;
         words.end()?;
         let Some(journal) = &mut self.journal else {
             return Err(Trouble::Condition);

@@ -4,18 +4,22 @@ use crate::item::bytes;
 use crate::session::Session;
 use crate::torn_disk::TornDisk;
 use script_words::{Say, Trouble, Words};
+use simplex_types::{EncodeSize, Read};
 use std::alloc::Global;
 
 /// Such a disk, which holds the bytes of the last word.
-pub(crate) fn session(words: &mut Words<'_>, alloc: Global) -> Result<Session<TornDisk>, Trouble> {
+pub(crate) fn session<M: Read + EncodeSize + Drop>(
+    words: &mut Words<'_>,
+    alloc: Global,
+) -> Result<Session<M, TornDisk>, Trouble> {
     let bytes = bytes(words, alloc)?;
     words.end()?;
     Ok(Session::new(TornDisk::with(alloc, bytes)))
 }
 
 /// The calls of such a disk, and of the journal on it.
-pub(crate) fn answer(
-    session: &mut Session<TornDisk>,
+pub(crate) fn answer<M: Read + EncodeSize + Drop>(
+    session: &mut Session<M, TornDisk>,
     name: &str,
     words: &mut Words<'_>,
     say: &mut Say,
@@ -29,8 +33,8 @@ pub(crate) fn answer(
 }
 
 /// `stop CALLS BYTES`: lets so many calls through. The next fails and leaves the bytes, and each further one fails.
-fn stop(
-    session: &mut Session<TornDisk>,
+fn stop<M: Read + EncodeSize + Drop>(
+    session: &mut Session<M, TornDisk>,
     words: &mut Words<'_>,
     say: &mut Say,
 ) -> Result<(), Trouble> {
@@ -42,8 +46,8 @@ fn stop(
 }
 
 /// `crash BYTES`: a crash, which takes the journal and leaves the bytes.
-fn crash(
-    session: &mut Session<TornDisk>,
+fn crash<M: Read + EncodeSize + Drop>(
+    session: &mut Session<M, TornDisk>,
     words: &mut Words<'_>,
     say: &mut Say,
 ) -> Result<(), Trouble> {
@@ -55,7 +59,11 @@ fn crash(
 }
 
 /// `calls`: the calls of the disk since they were told last, while no journal is open.
-fn calls(session: &mut Session<TornDisk>, words: &Words<'_>, say: &mut Say) -> Result<(), Trouble> {
+fn calls<M: Read + EncodeSize + Drop>(
+    session: &mut Session<M, TornDisk>,
+    words: &Words<'_>,
+    say: &mut Say,
+) -> Result<(), Trouble> {
     words.end()?;
     session.disk()?.say_calls(say)
 }

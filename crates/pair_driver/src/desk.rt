@@ -4,24 +4,26 @@ use crate::session::Session;
 use crate::{files, memory};
 use script_words::{Layer, Say, Trouble, Words};
 use simplex_journal::{FileDisk, MemoryDisk};
+use simplex_types::{EncodeSize, Read};
 use std::alloc::Global;
 
 /// The disks of a script, with the journal on them.
 #[derive(Drop)]
-enum Thing {
+enum Thing<M: Read + EncodeSize> {
     Nothing,
-    Memory(Session<MemoryDisk>),
-    Files(Session<FileDisk>),
+    Memory(Session<M, MemoryDisk>),
+    Files(Session<M, FileDisk>),
 }
 
-/// The disks of a script, and the system's files.
+/// The disks of a script, and the system's files. What messages the journals keep is left open: at one type each call
+/// would cost the prover several times as much.
 #[derive(Drop)]
-pub(crate) struct Desk<'a> {
+pub(crate) struct Desk<'a, M: Read + EncodeSize> {
     files: &'a HostRuntime,
-    thing: Thing,
+    thing: Thing<M>,
 }
 
-impl<'a> Desk<'a> {
+impl<'a, M: Read + EncodeSize + Drop> Desk<'a, M> {
     /// No disks.
     pub(crate) fn new(files: &'a HostRuntime) -> Self {
         Desk {
@@ -29,21 +31,34 @@ impl<'a> Desk<'a> {
             thing: Thing::Nothing,
         }
     }
+
+    /// Puts this in the place of what stood there.
+    fn put(&mut self, thing: Thing<M>) {
+        self.thing = thing;
+    }
+
+    /// The calls of the disks that are there.
+    fn ask(&mut self, name: &str, words: &mut Words<'_>, say: &mut Say) -> Result<(), Trouble> {
+        match &mut self.thing {
+            Thing::Nothing => Err(Trouble::Unreadable),
+            Thing::Memory(session) => memory::answer(session, name, words, say),
+            Thing::Files(session) => session.answer(name, words, say),
+        }
+    }
 }
 
-impl Layer for Desk<'_> {
+impl<M: Read + EncodeSize + Drop> Layer for Desk<'_, M> {
     /// `reset nothing`, `reset memory BYTES BYTES`, `reset files PATH PATH`.
     fn reset(&mut self, words: &mut Words<'_>, alloc: Global) -> Result<(), Trouble> {
-        let thing = match words.word() {
+        match words.word() {
             "nothing" => {
                 words.end()?;
-                Thing::Nothing
+                self.put(Thing::Nothing);
             }
-            "memory" => Thing::Memory(memory::session(words, alloc)?),
-            "files" => Thing::Files(files::session(self.files, words)?),
+            "memory" => self.put(Thing::Memory(memory::session(words, alloc)?)),
+            "files" => self.put(Thing::Files(files::session(self.files, words)?)),
             _ => return Err(Trouble::Unreadable),
-        };
-        self.thing = thing;
+        }
         Ok(())
     }
 
@@ -51,10 +66,6 @@ impl Layer for Desk<'_> {
         if name == "file" {
             return files::answer(self.files, words, say);
         }
-        match &mut self.thing {
-            Thing::Nothing => Err(Trouble::Unreadable),
-            Thing::Memory(session) => memory::answer(session, name, words, say),
-            Thing::Files(session) => session.answer(name, words, say),
-        }
+        self.ask(name, words, say)
     }
 }

@@ -4,6 +4,7 @@ use crate::item::bytes;
 use crate::session::Session;
 use script_words::{Say, Trouble, Words};
 use simplex_journal::FileDisk;
+use simplex_types::{EncodeSize, Read};
 use std::fs;
 use std::io::{self, ErrorKind};
 
@@ -25,10 +26,10 @@ fn say_reason(say: &mut Say, reason: ErrorKind) -> Result<(), Trouble> {
 }
 
 /// Two disks in the files whose paths are the last words. A condition isn't met where one can't be opened.
-pub(crate) fn session(
+pub(crate) fn session<M: Read + EncodeSize + Drop>(
     files: &HostRuntime,
     words: &mut Words<'_>,
-) -> Result<Session<FileDisk>, Trouble> {
+) -> Result<Session<M, FileDisk>, Trouble> {
     let first = words.word();
     let second = words.word();
     words.end()?;

@@ -3,12 +3,12 @@
 ghost use Rattle.std.specs.Prelude.{All, IfOk};
 ghost use Rattle.simplex_pair.specs.History.{OfMessages};
 
-use crate::item::{Item, message, say_fault, say_items};
+use crate::item::{message, say_fault, say_items};
 use crate::session::{Session, messages};
 use script_words::{Say, Trouble, Words};
 use simplex_journal::MemoryDisk;
 use simplex_pair::{PairEvent, PairRequest, run};
-use simplex_types::Read;
+use simplex_types::{EncodeSize, Read, Write};
 use std::alloc::Global;
 
 /// `open`, `append ARTIFACT`, `rewrite COUNT ARTIFACT..` or `crash`.
@@ -45,7 +45,7 @@ fn requests<M: Read + Drop>(
 }
 
 /// The event's name, and what it tells.
-fn say_event(say: &mut Say, event: &PairEvent<Item>) -> Result<(), Trouble> {
+fn say_event<M: Write>(say: &mut Say, event: &PairEvent<M>) -> Result<(), Trouble> {
     match event {
         PairEvent::Opened(found) => say_told(say, "Opened ", found),
         PairEvent::OpenFailed(fault) => {
@@ -64,7 +64,7 @@ fn say_event(say: &mut Say, event: &PairEvent<Item>) -> Result<(), Trouble> {
 }
 
 /// The same of a rewrite, which tells its list.
-fn say_rewrite(say: &mut Say, event: &PairEvent<Item>) -> Result<(), Trouble> {
+fn say_rewrite<M: Write>(say: &mut Say, event: &PairEvent<M>) -> Result<(), Trouble> {
     match event {
         PairEvent::Rewritten(list) => say_told(say, "Rewritten ", list),
         PairEvent::RewriteFailed(list, fault) => {
@@ -77,14 +77,14 @@ fn say_rewrite(say: &mut Say, event: &PairEvent<Item>) -> Result<(), Trouble> {
     }
 }
 
-/// An event's name, and the artifacts that it tells of.
-fn say_told(say: &mut Say, name: &str, items: &[Item]) -> Result<(), Trouble> {
+/// An event's name, and the messages that it tells of.
+fn say_told<M: Write>(say: &mut Say, name: &str, items: &[M]) -> Result<(), Trouble> {
     say.text(name)?;
     say_items(say, items)
 }
 
 /// Events with ` , ` between two.
-fn say_events(say: &mut Say, events: &[PairEvent<Item>]) -> Result<(), Trouble> {
+fn say_events<M: Write>(say: &mut Say, events: &[PairEvent<M>]) -> Result<(), Trouble> {
     let Some((first, rest)) = events.split_first() else {
         return say.none();
     };
@@ -97,16 +97,29 @@ fn say_events(say: &mut Say, events: &[PairEvent<Item>]) -> Result<(), Trouble> 
 }
 
 /// `run REQUEST..`: what comes of all requests on the disks, which come back.
-pub(crate) fn answer(
-    session: &mut Session<MemoryDisk>,
+pub(crate) fn answer<M: Read + EncodeSize + Drop>(
+    session: &mut Session<M, MemoryDisk>,
     words: &mut Words<'_>,
     say: &mut Say,
 ) -> Result<(), Trouble> {
-    let requests = requests::<Item>(words, say.alloc)?;
+    let requests = requests(words, say.alloc)?;
+    say_events(say, &played(session, requests, say.alloc)?)
+}
+
+/// What comes of the requests.
+fn played<M: Read + EncodeSize + Drop>(
+    session: &mut Session<M, MemoryDisk>,
+    requests: Vec<PairRequest<M>>,
+    alloc: Global,
+) -> Result<Vec<PairEvent<M>>, Trouble>
+    requires { All (OfMessages (M.within 65535)) requests.items }
+{
     let (first, second) = session.take()?;
-    let Ok(history) = run(say.alloc, first, second, requests) else {
-        return Err(Trouble::Memory);
-    };
-    session.put(history.first, history.second);
-    say_events(say, &history.events)
+    match run(alloc, first, second, requests) {
+        Ok(history) => {
+            session.put(history.first, history.second);
+            Ok(history.events)
+        }
+        Err(_) => Err(Trouble::Memory),
+    }
 }

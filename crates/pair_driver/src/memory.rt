@@ -5,6 +5,7 @@ use crate::item::bytes;
 use crate::session::Session;
 use script_words::{Say, Trouble, Words};
 use simplex_journal::MemoryDisk;
+use simplex_types::{EncodeSize, Read};
 use std::alloc::Global;
 
 /// A disk in memory that holds these bytes.
@@ -16,10 +17,10 @@ fn disk(alloc: Global, bytes: &[u8]) -> Result<MemoryDisk, Trouble> {
 }
 
 /// Two disks in memory that hold the bytes of the last two words.
-pub(crate) fn session(
+pub(crate) fn session<M: Read + EncodeSize + Drop>(
     words: &mut Words<'_>,
     alloc: Global,
-) -> Result<Session<MemoryDisk>, Trouble> {
+) -> Result<Session<M, MemoryDisk>, Trouble> {
     let first = bytes(words, alloc)?;
     let second = bytes(words, alloc)?;
     words.end()?;
@@ -27,8 +28,8 @@ pub(crate) fn session(
 }
 
 /// The calls of two disks in memory, and of the journal on them.
-pub(crate) fn answer(
-    session: &mut Session<MemoryDisk>,
+pub(crate) fn answer<M: Read + EncodeSize + Drop>(
+    session: &mut Session<M, MemoryDisk>,
     name: &str,
     words: &mut Words<'_>,
     say: &mut Say,
@@ -43,8 +44,8 @@ pub(crate) fn answer(
 
 /// `fuse DISK CALLS`: lets so many calls of the disk through, and has every later one fail. `fail_at DISK CALLS`: has
 /// the call behind so many others fail.
-fn plan(
-    session: &mut Session<MemoryDisk>,
+fn plan<M: Read + EncodeSize + Drop>(
+    session: &mut Session<M, MemoryDisk>,
     name: &str,
     words: &mut Words<'_>,
     say: &mut Say,
@@ -67,8 +68,8 @@ fn plan(
 }
 
 /// `bytes`: what both disks hold, while no journal is open.
-fn held(
-    session: &mut Session<MemoryDisk>,
+fn held<M: Read + EncodeSize + Drop>(
+    session: &mut Session<M, MemoryDisk>,
     words: &Words<'_>,
     say: &mut Say,
 ) -> Result<(), Trouble> {

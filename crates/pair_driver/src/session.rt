@@ -2,18 +2,18 @@
 
 ghost use Rattle.std.specs.Prelude.{All, IfOk};
 
-use crate::item::{Item, message, say_fault, say_items};
+use crate::item::{message, say_fault, say_items};
 use script_words::{Say, Trouble, Words};
 use simplex_journal::Disk;
 use simplex_pair::Pair;
-use simplex_types::Read;
+use simplex_types::{EncodeSize, Read, Write};
 use std::alloc::Global;
 
 /// Two disks with no journal open on them, or the journal that is open.
 #[derive(Drop)]
-pub(crate) struct Session<K: Disk> {
+pub(crate) struct Session<M: Read + EncodeSize, K: Disk> {
     disks: Option<(K, K)>,
-    journal: Option<Pair<Item, K>>,
+    journal: Option<Pair<M, K>>,
 }
 
 /// The messages that the words left spell, so many at most, each of which can be read again.
@@ -35,7 +35,13 @@ pub(crate) fn messages<M: Read + Drop>(
     Ok(list)
 }
 
-impl<K: Disk> Session<K> {
+/// `opened`, and what was found.
+fn say_found<M: Write>(say: &mut Say, found: &[M]) -> Result<(), Trouble> {
+    say.text("opened ")?;
+    say_items(say, found)
+}
+
+impl<M: Read + EncodeSize + Drop, K: Disk> Session<M, K> {
     /// Two disks with no journal open on them.
     pub(crate) fn new(first: K, second: K) -> Self {
         Session {
@@ -79,8 +85,7 @@ impl<K: Disk> Session<K> {
         match Pair::open(say.alloc, first, second) {
             Ok((journal, found)) => {
                 self.journal = Some(journal);
-                say.text("opened ")?;
-                say_items(say, &found)
+                say_found(say, &found)
             }
             Err((fault, first, second)) => {
                 self.put(first, second);
@@ -89,9 +94,9 @@ impl<K: Disk> Session<K> {
         }
     }
 
-    /// `append ARTIFACT`.
+    /// `append MESSAGE`.
     fn append(&mut self, words: &mut Words<'_>, say: &mut Say) -> Result<(), Trouble> {
-        let item: Item = message(words, say.alloc)?;
+        let item: M = message(words, say.alloc)?;
         words.end()?;
         let Some(journal) = &mut self.journal else {
             return Err(Trouble::Condition);
@@ -102,9 +107,9 @@ impl<K: Disk> Session<K> {
         }
     }
 
-    /// `rewrite ARTIFACT ..`.
+    /// `rewrite MESSAGE ..`.
     fn rewrite(&mut self, words: &mut Words<'_>, say: &mut Say) -> Result<(), Trouble> {
-        let list: Vec<Item> = messages(words, say.alloc, u64::MAX)?;
+        let list: Vec<M> = messages(words, say.alloc, u64::MAX)?;
         let Some(journal) = &mut self.journal else {
             return Err(Trouble::Condition);
         };

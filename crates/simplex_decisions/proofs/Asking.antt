@@ -8,10 +8,11 @@ use Rattle.simplex_types.specs.declared.proposal.Proposal.{Proposal}
 use Rattle.simplex_types.specs.Positions.{IsTermStart}
 use Rattle.simplex_history.specs.Known.{Known}
 use Rattle.simplex_decisions.specs.Ancestry.{Member, explicit, InWindow, Supports, IsFirstUncovered, IsInvalidParent, IsSpan, IsParent, LacksPayload, IsPreferred, IsRequired}
-use Rattle.simplex_decisions.specs.Knowing.{AllowsBuild, AllowsVerify, Explains, uncertified}
+use Rattle.simplex_decisions.specs.Knowing.{AllowsVerify, Explains, uncertified}
 use Rattle.simplex_decisions.specs.declared.ancestry.ParentFault.{ParentFault}
 use Rattle.simplex_decisions.specs.declared.ancestry.ParentFault.TheVariants as fault
 use Rattle.simplex_decisions.specs.Requests.{IsOpen, IsHandoff, BuildIsDue, WaitsForParent, IsPassed, VerdictIsOpen, CertifyIsDue, CertifyWaits, CertificateIsWanted}
+use Rattle.simplex_decisions.proofs.Single.{one_is_preferred}
 
 -- what isn't there is none
 pub nothing : {A : Type 0} (o : Option A) → is_some o ≡ false → o ≡ None
@@ -44,24 +45,12 @@ module _ {D : Type 0} (m : Member) (k : Known D) (view : ℕ) where
     | inr above ↦ elim (cases_lt w u) [ inl under ↦ absurd (b.bare (a.least w b.after under)) | inr other ↦ omega (arith, above, other) ]
   ]
 
-  -- a build on the parent that is preferred waits for nothing, where none is handed over
-  pub never_handoff : (parent : ℕ) (payload : D) → IsPreferred m k view parent payload → IsHandoff m k view parent payload → ⊥
-  never_handoff parent payload (inl before) handoff = before.inside handoff.starts
-  never_handoff parent payload (inr (inl last)) handoff = handoff.early last.there
-  never_handoff parent payload (inr (inr over)) handoff = true≢false (sym over.handoff.allowed)
-
-  -- a build is due on the parent that is preferred
-  pub build_of : (o : Option (ℕ × D)) → IsOpen m k view → AllowsBuild m k view
-      → MatchOption o ((parent : ℕ) (payload : D) → ¬ IsPreferred m k view parent payload) (λ x. IsPreferred m k view x.0 x.1)
-      → MatchOption o ((parent : ℕ) (payload : D) → ¬ BuildIsDue m k view parent payload) (λ x. BuildIsDue m k view x.0 x.1)
-  build_of None opens allows none = λ parent payload due. none parent payload due.preferred
-  build_of (Some x) opens allows found = record {
-    opens = opens;
-    leads = allows.leads;
-    vacant = allows.vacant;
-    preferred = found;
-    patient = λ handoff. absurd (never_handoff x.0 x.1 found handoff);
-  }
+  -- where a build on the parent that is preferred has to wait, none is due
+  pub waiting_build : (u : ℕ) (x : D) → IsPreferred m k view u x → ¬ (IsHandoff m k view u x → k.has_nullified k.current ≡ false)
+      → (parent : ℕ) (payload : D) → ¬ BuildIsDue m k view parent payload
+  waiting_build u x found waits parent payload due =
+      let one = one_is_preferred m k view u parent x payload found due.preferred in
+      waits (λ handoff. due.patient (subst (λ (y : ℕ × D). IsHandoff m k view y.0 y.1) (λ i. (one.0 i, one.1 i)) handoff))
 
   -- where nothing is open nothing waits, and where nothing waits nothing is asked for
   pub waiting_of : (o : Option (Proposal D)) → IsOpen m k view → MatchOption o ((p : Proposal D) → ¬ AllowsVerify m k view p) (λ p. AllowsVerify m k view p)

@@ -7,7 +7,7 @@ use Rattle.std.specs.Option.{ForSome}
 use Rattle.simplex_types.specs.declared.proposal.Proposal.{Proposal}
 use Rattle.simplex_types.specs.Positions.{term_start}
 use Rattle.simplex_history.specs.Known.{Known}
-use Rattle.simplex_decisions.specs.Ancestry.{Member, held_at, InWindow, AreCoveredBetween, IsFirstUncovered, has_certificate, certificate_payload, HasFailed, IsVotedFor, Optimistic, at_start, by_certificate, by_own_vote}
+use Rattle.simplex_decisions.specs.Ancestry.{Member, held_at, AreCoveredBetween, IsFirstUncovered, has_certificate, certificate_payload, HasFailed, IsVotedFor, Optimistic, at_start, by_certificate, by_own_vote}
 use Rattle.simplex_decisions.specs.Knowing.{IsBacked, IsLink, HasFailedWithin, Rests}
 use Rattle.simplex_decisions.specs.declared.ancestry.Link.{Link}
 use Rattle.simplex_decisions.proofs.Single.{why, one_is_supported}
@@ -89,7 +89,7 @@ module _ {D : Type 0} (m : Member) (k : Known D) where
       bound_as x None stands bound is = absurd (none-some bound is)
       bound_as x (Some b) stands bound is = sym (same_Some b.1 bound is) ∙ stands b refl
 
-  -- no vote counts over a view that isn't covered, or outside the window
+  -- no vote counts over a view that isn't covered
   pub uncovered_unvoted : (view : ℕ) (p : Proposal D) → held_at m k view ≡ Some p → (o : Option ℕ) → is_some o ≡ true
       → MatchOption o (AreCoveredBetween m k p.parent view) (λ first. IsFirstUncovered m k p.parent view first) → (q : Proposal D) → ¬ IsVotedFor m k view q
   uncovered_unvoted view p held None there first q v = true≢false (sym there)
@@ -104,12 +104,6 @@ module _ {D : Type 0} (m : Member) (k : Known D) where
   misplaced_unvoted view p held misplaced q v =
       let parent : p.parent ≡ q.parent = ap (λ (x : Proposal D). x.parent) (same_Some p q (sym held ∙ v.held)) in
       elim misplaced [ inl under ↦ omega (arith, parent, under, v.above) | inr above ↦ omega (arith, parent, above, v.below) ]
-
-  pub outside_unvoted : (view next : ℕ) → next ≡ view + 1 → ¬ InWindow m k next → (q : Proposal D) → ¬ IsVotedFor m k view q
-  outside_unvoted view next is outside q v = elim v.reached [
-    | inl inside ↦ outside (subst (λ (u : ℕ). InWindow m k u) (sym is) inside)
-    | inr over ↦ true≢false (sym over.allowed)
-  ]
 
   -- where no view between is uncovered each is covered
   pub covered_of : (parent view : ℕ) (o : Option ℕ) → is_some o ≡ false → MatchOption o (AreCoveredBetween m k parent view) (λ first. IsFirstUncovered m k parent view first) → AreCoveredBetween m k parent view

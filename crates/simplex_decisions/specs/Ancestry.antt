@@ -6,7 +6,7 @@ use Rattle.simplex_types.specs.Positions.{IsTermStart, InCoveringRange}
 use Rattle.simplex_rules.specs.Windows.{issuance_floor}
 use Rattle.simplex_history.specs.Held.{held, IsVerified}
 use Rattle.simplex_history.specs.Past.{verdict_is_true, verdict_is_false}
-use Rattle.simplex_history.specs.History.{Setup, hands_off, scheduled_leader}
+use Rattle.simplex_history.specs.History.{Setup, scheduled_leader}
 use Rattle.simplex_history.specs.Known.{Known}
 
 -- what stays the same of a member, as far as what is due rests on it: its index, the views of a term and how many are optimistic,
@@ -67,7 +67,6 @@ module _ {D : Type 0} (m : Member) (k : Known D) where
   -- this member may build at the start of the next term before the view that ends this one is decided: a schedule names it for
   -- that start, and the view isn't covered
   pub record IsHandoffParent (view : ℕ) : Type 0 where
-    pub allowed : hands_off ≡ true
     pub ends : IsTermStart m.length (view + 1)
     pub leads : LeadsBySchedule m (view + 1)
     pub bare : ¬ IsCovered view

@@ -3,7 +3,7 @@
 ghost use Rattle.std.specs.Prelude.{◌≡◌, ◌≢◌, ◌⊎◌, ◌↔◌, ℕ, ◌+◌, ◌<◌, ◌^◌, IsTrue, IfSome, option_map, MatchOption, MatchResult, None, Some, true, false};
 ghost use Rattle.std.specs.Option.{ForSome};
 ghost use Rattle.simplex_types.specs.Positions.{IsTermStart};
-ghost use Rattle.simplex_decisions.specs.Ancestry.{HasFailed, InWindow, IsParent, IsPreferred, IsRequired, IsSpan, IsSteady, Leads, Optimistic, Stands, Supports, explicit, has_certificate};
+ghost use Rattle.simplex_decisions.specs.Ancestry.{HasFailed, InWindow, IsHandedOver, IsHandoffParent, IsLastCertified, IsParent, IsPreferred, IsRequired, IsSpan, IsSteady, Leads, Optimistic, Stands, Supports, explicit, has_certificate};
 ghost use Rattle.simplex_decisions.specs.Knowing.{AtEach, Explains, IsLink, Rests};
 
 use crate::knowledge::Knowledge;
@@ -38,6 +38,23 @@ pub fn explicit_payload<K: Knowledge<D>, D: Digest>(known: &K, view: View) -> Op
         return known.genesis();
     }
     known.certified_payload(view)
+}
+
+/// Whether a view is explicit with this payload.
+pub fn is_explicit_with<K: Knowledge<D>, D: Digest>(known: &K, view: View, payload: D) -> bool
+    ensures { AtEach K.shows known.now (λ m k. IsTrue result ↔ (explicit m k view ≡ Some payload)) }
+{
+    is_payload(explicit_payload(known, view), payload)
+}
+
+/// Whether just this payload was found.
+fn is_payload<D: Digest>(found: Option<D>, payload: D) -> bool
+    ensures { IsTrue result ↔ (found ≡ Some payload) }
+{
+    match found {
+        Some(given) => given == payload,
+        None => false,
+    }
 }
 
 /// Whether a view may be taken up before the views before it are certified: it starts no term, and at most the
@@ -155,7 +172,7 @@ fn voted_link<K: Knowledge<D>, D: Digest>(known: &K, view: View) -> Option<Link<
     if known.first_uncovered(proposal.parent, view).is_some() {
         return None;
     }
-    if !is_in_window(known, view.next()) {
+    if !is_reached(known, view) {
         return None;
     }
     let bound = bound_payload(known, view);
@@ -163,6 +180,37 @@ fn voted_link<K: Knowledge<D>, D: Digest>(known: &K, view: View) -> Option<Link<
         payload: proposal.payload,
         below: Some((proposal.parent, bound)),
     })
+}
+
+/// Whether a view without a certificate may be built on for this member's vote: the view behind it is in the issuance
+/// window, or this member may build there by a handoff.
+fn is_reached<K: Knowledge<D>, D: Digest>(known: &K, view: View) -> bool
+    requires { view + 1 < 2 ^ 64 }
+    ensures { AtEach K.shows known.now (λ m k. view ≢ 0 → IsTrue result ↔ (InWindow m k (view + 1) ⊎ IsHandoffParent m k view)) }
+{
+    if is_in_window(known, view.next()) {
+        return true;
+    }
+    is_handoff_parent(known, view)
+}
+
+/// Whether this member may build at the start of the next term before the view that ends this one is decided: a
+/// schedule names it for that start, and the view isn't covered. The start isn't such a view: it is explicit.
+fn is_handoff_parent<K: Knowledge<D>, D: Digest>(known: &K, view: View) -> bool
+    requires { view + 1 < 2 ^ 64 }
+    ensures { AtEach K.shows known.now (λ m k. IsTrue result ↔ ((view ≢ 0) × IsHandoffParent m k view)) }
+{
+    let Some(before) = view.previous() else {
+        return false;
+    };
+    let next = view.next();
+    if !next.is_term_start(known.lookahead().length) {
+        return false;
+    }
+    if !known.leads_by_schedule(next) {
+        return false;
+    }
+    known.first_uncovered(before, next).is_some()
 }
 
 /// The parent's payload that a view's proposal is bound to, where it is to any.
@@ -229,7 +277,8 @@ pub fn span_fault<K: Knowledge<D>, D: Digest>(
 }
 
 /// The parent that a view is built on, with its payload: inside a term the view before, where it supports one; at a
-/// term's start the highest explicit view below, where each view between is covered.
+/// term's start the highest explicit view below, where each view between is covered, or else the view before, where it
+/// may be handed off.
 pub fn preferred_parent<K: Knowledge<D>, D: Digest>(known: &K, view: View) -> Option<(View, D)>
     ensures { AtEach K.shows known.now (λ m k. MatchOption result ((parent : ℕ) (payload : D) → ¬ IsPreferred m k view parent payload) (λ x. IsPreferred m k view x.0 x.1)) }
 {
@@ -254,11 +303,35 @@ fn previous_parent<K: Knowledge<D>, D: Digest>(known: &K, view: View) -> Option<
 fn last_parent<K: Knowledge<D>, D: Digest>(known: &K, view: View) -> Option<(View, D)>
     ensures { AtEach K.shows known.now (λ m k. IsTermStart m.length view → MatchOption result ((parent : ℕ) (payload : D) → ¬ IsPreferred m k view parent payload) (λ x. IsPreferred m k view x.0 x.1)) }
 {
+    if let Some(found) = certified_parent(known, view) {
+        return Some(found);
+    }
+    handed_over(known, view)
+}
+
+/// The highest explicit view below a term's start with its payload, where each view between is covered.
+fn certified_parent<K: Knowledge<D>, D: Digest>(known: &K, view: View) -> Option<(View, D)>
+    ensures { AtEach K.shows known.now (λ m k. IsTermStart m.length view → MatchOption result ((parent : ℕ) (payload : D) → ¬ IsLastCertified m k view parent payload) (λ x. IsLastCertified m k view x.0 x.1)) }
+{
     let (parent, payload) = known.last_certified(view)?;
     if known.first_uncovered(parent, view).is_some() {
         return None;
     }
     Some((parent, payload))
+}
+
+/// The view before a term's start with the payload that it supports, where it may be handed off.
+fn handed_over<K: Knowledge<D>, D: Digest>(known: &K, view: View) -> Option<(View, D)>
+    ensures { AtEach K.shows known.now (λ m k. IsTermStart m.length view → ((u : ℕ) (other : D) → ¬ IsLastCertified m k view u other) → MatchOption result ((parent : ℕ) (payload : D) → ¬ IsHandedOver m k view parent payload) (λ x. IsHandedOver m k view x.0 x.1)) }
+{
+    let parent = view.previous()?;
+    if !is_handoff_parent(known, parent) {
+        return None;
+    }
+    match optimistic_payload(known, parent) {
+        Some(payload) => Some((parent, payload)),
+        None => None,
+    }
 }
 
 /// Whether what a view's proposal is bound to hasn't fallen: it names the held proposal, and its parent may still be

@@ -1,15 +1,15 @@
 //! What is to be asked for: builds, verifications, certificates that proposals wait for, verdicts.
 
-ghost use Rattle.std.specs.Prelude.{◌≡◌, ◌↔◌, ℕ, IsTrue, MatchOption};
+ghost use Rattle.std.specs.Prelude.{◌≡◌, ◌↔◌, ℕ, IsTrue, MatchOption, false};
 ghost use Rattle.simplex_types.specs.declared.proposal.Proposal.{Proposal};
 ghost use Rattle.simplex_decisions.specs.Ancestry.{IsFirstUncovered, IsInvalidParent, IsRequired, IsSpan, LacksPayload};
 ghost use Rattle.simplex_decisions.specs.Asking.{Decides, Finds};
 ghost use Rattle.simplex_decisions.specs.Knowing.{AtEach, Explains};
-ghost use Rattle.simplex_decisions.specs.Requests.{BuildIsDue, IsOpen, VerdictIsOpen, WaitsForParent};
+ghost use Rattle.simplex_decisions.specs.Requests.{BuildIsDue, IsHandoff, IsOpen, VerdictIsOpen, WaitsForParent};
 
 use crate::ancestry::{
-    ParentFault, explicit_payload, is_in_window, parent_payload, preferred_parent, required_parent,
-    span_fault,
+    ParentFault, explicit_payload, is_explicit_with, is_in_window, parent_payload,
+    preferred_parent, required_parent, span_fault,
 };
 use crate::knowledge::Knowledge;
 use crate::votes::may_be_spoken_of;
@@ -53,7 +53,36 @@ pub fn build_on<K: Knowledge<D>, D: Digest>(known: &K, view: View) -> Option<(Vi
     if !known.should_propose(view) {
         return None;
     }
-    preferred_parent(known, view)
+    let (parent, payload) = preferred_parent(known, view)?;
+    if !may_begin(known, view, parent, payload) {
+        return None;
+    }
+    Some((parent, payload))
+}
+
+/// Whether a build on this parent needn't wait: a handoff waits while the current view is given up here.
+fn may_begin<K: Knowledge<D>, D: Digest>(known: &K, view: View, parent: View, payload: D) -> bool
+    ensures { AtEach K.shows known.now (λ m k. IsTrue result ↔ (IsHandoff m k view parent payload → k.has_nullified k.current ≡ false)) }
+{
+    if !is_handoff(known, view, parent, payload) {
+        return true;
+    }
+    !known.broadcast_nullify(known.current_view())
+}
+
+/// Whether building on this parent is a handoff: the view starts a term, and the parent isn't explicit with this payload.
+pub fn is_handoff<K: Knowledge<D>, D: Digest>(
+    known: &K,
+    view: View,
+    parent: View,
+    payload: D,
+) -> bool
+    ensures { AtEach K.shows known.now (λ m k. IsTrue result ↔ IsHandoff m k view parent payload) }
+{
+    if !view.is_term_start(known.lookahead().length) {
+        return false;
+    }
+    !is_explicit_with(known, parent, payload)
 }
 
 /// Whether something may be asked for a view's proposal: the view isn't behind the current one, has room, may be

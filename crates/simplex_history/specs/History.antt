@@ -80,10 +80,6 @@ pub data Point (S D P G C : Type 0) : Type 0 where
   polled : ℕ → Point S D P G C
   pruned : Point S D P G C
 
--- whether a view may be built before the last view of the term before it is decided: not yet, in no case
-abbrev pub hands_off : Bool
-hands_off = false
-
 -- a moment later by so much, where by something, or the last one of 64 bits
 abbrev pub later : ℕ → Option ℕ → Option ℕ
 later now timeout = option_map (λ t. past.deadline now t) timeout

@@ -5,7 +5,7 @@ use Rattle.simplex_types.specs.Positions.{next_term_start, term_start}
 use Rattle.simplex_rules.specs.Windows.{issuance_floor}
 use Rattle.simplex_history.specs.Past as past
 use Rattle.simplex_history.specs.Pasts.{is_direct}
-use Rattle.simplex_history.specs.History.{Setup, Point, started, notarized, nullified, finalized, forwarded, pruned, hands_off, scheduled_leader, is_marked, min_active, seen}
+use Rattle.simplex_history.specs.History.{Setup, Point, started, notarized, nullified, finalized, forwarded, pruned, scheduled_leader, is_marked, min_active, seen}
 
 -- one of so many numbers from this one on passes
 abbrev pub any_from : (ℕ → Bool) → ℕ → ℕ → Bool
@@ -16,6 +16,11 @@ any_from test low (suc n) = test (low + n) || any_from test low n
 abbrev pub extend : (ℕ → Option ℕ) → (ℕ → Bool) → (ℕ → Option ℕ) → ℕ → Option ℕ
 extend here from_before known zero = known zero
 extend here from_before known (suc w) = option_or (known (suc w)) (option_or (here (suc w)) (if from_before (suc w) then extend here from_before known w else None))
+
+module _ {S C : Type 0} where
+  -- this member, where it may lead a view before the view before it is decided: it starts a term, and a schedule names this member
+  abbrev pub handoff_leader : Setup S C → ℕ → Option ℕ
+  handoff_leader s view = if (view == term_start s.length view) && option_eq nat_eq s.me (scheduled_leader s view) then s.me else None
 
 module _ {S D P G C : Type 0} where
   -- the leader's proposal of a view was forwarded, whether it was taken or not
@@ -34,11 +39,9 @@ module _ {S D P G C : Type 0} where
   named s (finalized now c) view = if view == c.proposal.round.view + 1 then Some (s.elect view (Some c.certificate)) else None
   named s x view = None
 
-  -- this member, where a schedule names it for a term's start and it voted to notarize the view before
+  -- that leader, once this member voted to notarize the view before
   abbrev pub named_early : Setup S C → List (Point S D P G C) → ℕ → Option ℕ
-  named_early s h view =
-      if hands_off && (view == term_start s.length view) && past.has_notarized (seen s h (view - 1)) && option_eq nat_eq s.me (scheduled_leader s view)
-      then s.me else None
+  named_early s h view = if past.has_notarized (seen s h (view - 1)) then handoff_leader s view else None
 
   -- some of the views that a view's window reaches back to has a notarization or finalization
   abbrev pub has_anchor : Setup S C → List (Point S D P G C) → ℕ → Bool

@@ -69,7 +69,7 @@ module _ {D : Type 0} (m : Member) (k j : Known D) (a : AgreeAbove m k j) where
 
   -- the same may be handed off, and has failed
   handoff : (view : ℕ) → k.last_finalized < view → IsHandoffParent m k view → IsHandoffParent m j view
-  handoff view above h = record { allowed = h.allowed; ends = h.ends; leads = h.leads; bare = λ covered. h.bare ((a.covered view above).1 covered) }
+  handoff view above h = record { ends = h.ends; leads = h.leads; bare = λ covered. h.bare ((a.covered view above).1 covered) }
 
   failed : (view : ℕ) → HasFailed m k view → HasFailed m j view
   failed view (u, range, above, false_verdict) = (u, range, omega (arith, above, a.last_finalized), sym (a.verdict u (omega (arith, above))) ∙ false_verdict)

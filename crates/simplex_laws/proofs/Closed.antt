@@ -106,15 +106,16 @@ module _ {S D P G C : Type 0} (s : Setup S C) where
   closed (x ∷ h) view i passes led =
       extended (leader s h (suc view)) (option_or (named s x (suc view)) (named_early s (x ∷ h) (suc view))) (inherits s (x ∷ h) (suc view)) (leader s (x ∷ h) view) i passes led
 
--- where nothing is named, and what could be inherited was, who leads stays
-pub still_led : (from_before : ℕ → Bool) (known : ℕ → Option ℕ) → ((w i : ℕ) → from_before (suc w) ≡ true → known w ≡ Some i → IsSome (known (suc w)))
-    → (w : ℕ) → extend (λ view. None) from_before known w ≡ known w
-still_led from_before known shut zero = refl
-still_led from_before known shut (suc w) = one (known (suc w)) (from_before (suc w)) (extend (λ view. None) from_before known w) (known w) (still_led from_before known shut w) (shut w)
+-- where nobody is named, and what could be inherited was, who leads stays
+pub still_led : (here : ℕ → Option ℕ) (from_before : ℕ → Bool) (known : ℕ → Option ℕ) → ((w : ℕ) → here w ≡ None) → ((w i : ℕ) → from_before (suc w) ≡ true → known w ≡ Some i → IsSome (known (suc w)))
+    → (w : ℕ) → extend here from_before known w ≡ known w
+still_led here from_before known nobody shut zero = refl
+still_led here from_before known nobody shut (suc w) =
+    one (known (suc w)) (here (suc w)) (from_before (suc w)) (extend here from_before known w) (known w) (nobody (suc w)) (still_led here from_before known nobody shut w) (shut w)
   where
-    one : (here : Option ℕ) (b : Bool) (inherited before : Option ℕ) → inherited ≡ before → ((i : ℕ) → b ≡ true → before ≡ Some i → IsSome here)
-        → option_or here (option_or None (if b then inherited else None)) ≡ here
-    one (Some a) b inherited before same shut = refl
-    one None false inherited before same shut = refl
-    one None true inherited None same shut = same
-    one None true inherited (Some i) same shut = absurd (true≢false (sym (shut i refl refl)))
+    one : (led named : Option ℕ) (b : Bool) (inherited before : Option ℕ) → named ≡ None → inherited ≡ before → ((i : ℕ) → b ≡ true → before ≡ Some i → IsSome led)
+        → option_or led (option_or named (if b then inherited else None)) ≡ led
+    one (Some a) named b inherited before none same shut = refl
+    one None named false inherited before none same shut = rw none refl
+    one None named true inherited None none same shut = rw none same
+    one None named true inherited (Some i) none same shut = absurd (true≢false (sym (shut i refl refl)))

@@ -13,7 +13,7 @@ use Rattle.simplex_history.specs.Held.{Offer, IsConfirmed, IsTainted, held}
 use Rattle.simplex_history.specs.Past as past
 use Rattle.simplex_history.specs.Past.{Item, offers}
 use Rattle.simplex_history.specs.Leaders.{extend}
-use Rattle.simplex_history.specs.History.{Setup, Point, started, nullified, finalized, judged, pruned, current, last_finalized, min_active, is_marked, seen, was_nullified}
+use Rattle.simplex_history.specs.History.{Setup, Point, started, nullified, finalized, judged, pruned, current, min_active, is_marked, seen, was_nullified}
 use Rattle.simplex_history.specs.Leaders.{inherits, leader, named, named_early}
 use Rattle.simplex_history.specs.Known.{Known, known, backs, waits}
 use Rattle.simplex_decisions.specs.Ancestry.{Member, member}

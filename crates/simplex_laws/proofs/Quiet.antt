@@ -10,8 +10,8 @@ use Rattle.simplex_history.specs.Past as past
 use Rattle.simplex_history.specs.Past.{Item}
 use Rattle.simplex_history.specs.Pasts.{put, is_direct}
 use Rattle.simplex_history.specs.History.{Setup, Point, latched, polled, sent, voted_nullify, is_marked, was_nullified, current, last_finalized, floor, genesis, seen}
-use Rattle.simplex_history.specs.Leaders.{extend}
-use Rattle.simplex_history.specs.Leaders.{leader, inherits, was_forwarded}
+use Rattle.simplex_history.specs.Leaders.{leader, inherits, named, was_forwarded}
+use Rattle.simplex_history.specs.Leading.{HandsOn, leader_named}
 use Rattle.simplex_history.specs.Known.{known, backs, waits}
 use Rattle.simplex_laws.specs.Matching.{LatchChangesNothing, PollChangesNothing, SendChangesNothing, RepetitionChangesNothing, LeadersAreClosed}
 use Rattle.simplex_laws.proofs.Closed.{closed, inherits_still, still_led}
@@ -63,12 +63,14 @@ module _ {S D P G C : Type 0} where
     backed : is_marked s backs (x ∷ h) ≡ is_marked s backs h
     waited : is_marked s waits (x ∷ h) ≡ is_marked s waits h
     forwarded : (view : ℕ) → was_forwarded s (x ∷ h) view ≡ was_forwarded s h view
-    leader : (view : ℕ) → leader s (x ∷ h) view ≡ extend (λ v. None) (inherits s (x ∷ h)) (leader s h) view
+    hands : HandsOn s h x
+    nobody : (view : ℕ) → named s x view ≡ None
     facts : (view : ℕ) → facts (seen s (x ∷ h) view) ≡ facts (seen s h view)
 
   -- who leads stays
   same_leader : (s : Setup S C) (h : List (Point S D P G C)) (x : Point S D P G C) → IsQuiet s h x → (view : ℕ) → leader s (x ∷ h) view ≡ leader s h view
-  same_leader s h x quiet view = quiet.leader view ∙ still_led (inherits s (x ∷ h)) (leader s h) shut view
+  same_leader s h x quiet view =
+      leader_named s h x quiet.hands (λ v. ap (λ (f : Facts D). f.has_notarized) (quiet.facts v)) view ∙ still_led (named s x) (inherits s (x ∷ h)) (leader s h) quiet.nobody shut view
     where
       shut : (w i : ℕ) → inherits s (x ∷ h) (suc w) ≡ true → leader s h w ≡ Some i → IsSome (leader s h (suc w))
       shut w i passes led = closed s h w i
@@ -107,7 +109,8 @@ module _ {S D P G C : Type 0} where
     backed = refl;
     waited = refl;
     forwarded = λ v. refl;
-    leader = λ v. refl;
+    hands = refl;
+    nobody = λ v. refl;
     facts = quiet_put view (past.latched now why) (seen s h) refl;
   })
 
@@ -120,7 +123,8 @@ module _ {S D P G C : Type 0} where
     backed = refl;
     waited = refl;
     forwarded = λ v. refl;
-    leader = λ v. refl;
+    hands = refl;
+    nobody = λ v. refl;
     facts = λ v. by (nat_lt 0 (current s h)) v;
   })
     where
@@ -137,7 +141,8 @@ module _ {S D P G C : Type 0} where
     backed = refl;
     waited = refl;
     forwarded = λ v. refl;
-    leader = λ v. refl;
+    hands = refl;
+    nobody = λ v. refl;
     facts = quiet_put view past.sent_notarization (seen s h) refl;
   })
   send_changes_nothing s h kind.Nullification view = quiet_known s h (sent kind.Nullification view) (record {
@@ -148,7 +153,8 @@ module _ {S D P G C : Type 0} where
     backed = refl;
     waited = refl;
     forwarded = λ v. refl;
-    leader = λ v. refl;
+    hands = refl;
+    nobody = λ v. refl;
     facts = quiet_put view past.sent_nullification (seen s h) refl;
   })
   send_changes_nothing s h kind.Finalization view = quiet_known s h (sent kind.Finalization view) (record {
@@ -159,7 +165,8 @@ module _ {S D P G C : Type 0} where
     backed = refl;
     waited = refl;
     forwarded = λ v. refl;
-    leader = λ v. refl;
+    hands = refl;
+    nobody = λ v. refl;
     facts = quiet_put view past.sent_finalization (seen s h) refl;
   })
 
@@ -172,7 +179,8 @@ module _ {S D P G C : Type 0} where
     backed = refl;
     waited = refl;
     forwarded = λ v. refl;
-    leader = λ v. refl;
+    hands = refl;
+    nobody = λ v. refl;
     facts = quiet_put view past.voted_nullify (seen s h) again;
   })
     where

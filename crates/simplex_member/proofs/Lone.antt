@@ -40,8 +40,8 @@ use Rattle.simplex_history.specs.declared.timeout_reason.TimeoutReason.{TimeoutR
 use Rattle.simplex_history.specs.declared.timeout_reason.TimeoutReason.TheVariants as reason
 use Rattle.simplex_history.specs.Leaders.{extend}
 use Rattle.simplex_history.specs.History as views
-use Rattle.simplex_history.specs.History.{current, hands_off, last_finalized, scheduled_leader, seen}
-use Rattle.simplex_history.specs.Leaders.{inherits, leader, named, named_early}
+use Rattle.simplex_history.specs.History.{current, last_finalized, scheduled_leader, seen}
+use Rattle.simplex_history.specs.Leaders.{handoff_leader, inherits, leader, named, named_early}
 use Rattle.simplex_history.specs.Past as past
 use Rattle.simplex_decisions.specs.GivingUp.{IsTracked, NullifyIsDue}
 use Rattle.simplex_laws.specs.Matching.{EachHistoryMatches}
@@ -165,7 +165,8 @@ module _ {S D P G C : Type 0} (s : views.Setup S C) (n me : ℕ) (own : s.me ≡
   below-named x view = tt
 
   below-early : (h : List (views.Point S D P G C)) (view : ℕ) → Below n (named_early s h view)
-  below-early h view = below-if n (hands_off && (view == term_start s.length view) && past.has_notarized (seen s h (view - 1)) && option_eq nat_eq s.me (scheduled_leader s view)) s.me (subst (λ (o : Option ℕ). Below n o) (sym own) member)
+  below-early h view = below-if n (past.has_notarized (seen s h (view - 1))) (handoff_leader s view)
+      (below-if n ((view == term_start s.length view) && option_eq nat_eq s.me (scheduled_leader s view)) s.me (subst (λ (o : Option ℕ). Below n o) (sym own) member))
 
   -- whoever leads a view is a member
   leader-below : (h : List (views.Point S D P G C)) (view : ℕ) → Below n (leader s h view)

@@ -1,2 +1,4 @@
 mod Sound
 mod Naming
+mod Readable
+mod Spelled

@@ -1,4 +1,4 @@
--- What the members of a network agree on: statements, over all verifying certificates that one of them was handed, or made.
+-- What members agree on: statements, over all verifying certificates that one of them was handed, or made, or that stand elsewhere.
 use Rattle.std.specs.Prelude.{◌≡◌, ◌<◌, ◌≤◌, List}
 use Rattle.simplex_types.specs.declared.proposal.Proposal.{Proposal}
 use Rattle.simplex_types.specs.declared.scheme.Scheme.{Ghosts}
@@ -10,35 +10,37 @@ use Rattle.simplex_certificates.specs.ProposalCertificate.{Notarization, Finaliz
 use Rattle.simplex_record.specs.Agreement.{IsFor}
 use Rattle.simplex_record.specs.Chain.{LeadDown}
 use Rattle.simplex_record.specs.World.{World, IsSound}
-use Rattle.simplex_member.specs.Lives.{Members}
+use Rattle.simplex_member.specs.Lives.{AreMembers, IsWorldOfLives, Members}
 use Rattle.simplex_member.specs.Packet.{Formats}
 use Rattle.simplex_network.specs.Network.{IsNetwork, IsThere}
 
 module _ {S D P G C : Type 0} (g : Ghosts S D P G C) (f : Formats S D P G C) where
-  -- each is sound: it lists attestations of a quorum, and each in a member's name is on what that member recorded a vote for
+  -- each is sound, however many are excused: it lists attestations of a quorum, and each in a member's name is on what that member recorded
+  -- a vote for
   abbrev pub AllAreSound : Type 0
-  AllAreSound = (scheme : S) (m : Members S D P G C) (world : World S D P G C) → IsNetwork g f scheme m world
+  AllAreSound = (scheme : S) (m : Members S D P G C) (world : World S D P G C) → AreMembers g f scheme m world
       → (c : Certificate S D P G C) → IsThere g f scheme m world c → IsSound (g.attests scheme) g.lists world c
 
   -- no view is certified for two proposals, by notarizations or finalizations, in any mixture
   abbrev pub NoViewHasTwoProposals : Type 0
-  NoViewHasTwoProposals = (scheme : S) (m : Members S D P G C) (world : World S D P G C) → IsNetwork g f scheme m world
+  NoViewHasTwoProposals = (scheme : S) (m : Members S D P G C) (world : World S D P G C) → IsWorldOfLives g f scheme m world
       → (c d : Certificate S D P G C) (p q : Proposal D) → IsThere g f scheme m world c → IsThere g f scheme m world d → IsFor c p → IsFor d q
       → p.round.view ≡ q.round.view → p ≡ q
 
   -- no finalized view is nullified, nor is an earlier view of its term
   abbrev pub NoFinalizedViewIsNullified : Type 0
-  NoFinalizedViewIsNullified = (scheme : S) (m : Members S D P G C) (world : World S D P G C) → IsNetwork g f scheme m world
+  NoFinalizedViewIsNullified = (scheme : S) (m : Members S D P G C) (world : World S D P G C) → IsWorldOfLives g f scheme m world
       → (c : Finalization S D P G C) (d : Nullification S D P G C) → IsThere g f scheme m world (certificate.Finalization c) → IsThere g f scheme m world (certificate.Nullification d)
       → InCoveringRange world.term_length c.proposal.round.view d.round.view → ⊥
 
   -- no notarized proposal skips a finalized view: none stands above it with a parent below it
   abbrev pub NoFinalizedViewIsSkipped : Type 0
-  NoFinalizedViewIsSkipped = (scheme : S) (m : Members S D P G C) (world : World S D P G C) → IsNetwork g f scheme m world
+  NoFinalizedViewIsSkipped = (scheme : S) (m : Members S D P G C) (world : World S D P G C) → IsWorldOfLives g f scheme m world
       → (c : Finalization S D P G C) (d : Notarization S D P G C) → IsThere g f scheme m world (certificate.Finalization c) → IsThere g f scheme m world (certificate.Notarization d)
       → d.proposal.parent < c.proposal.round.view → c.proposal.round.view < d.proposal.round.view → ⊥
 
-  -- finalized views lie on one chain: from each finalized proposal the parents lead down to each that is finalized of a view no higher
+  -- in a network, finalized views lie on one chain: from each finalized proposal the parents lead down to each that is finalized of a view
+  -- no higher
   abbrev pub FinalizedViewsLieOnOneChain : Type 0
   FinalizedViewsLieOnOneChain = (scheme : S) (m : Members S D P G C) (world : World S D P G C) → IsNetwork g f scheme m world
       → (c d : Finalization S D P G C) → IsThere g f scheme m world (certificate.Finalization c) → IsThere g f scheme m world (certificate.Finalization d)

@@ -3,7 +3,7 @@ use Rattle.std.specs.Prelude.{◌≡◌, ◌⊎◌, ℕ, Option, Some}
 use Rattle.simplex_types.specs.declared.scheme.Scheme.{Ghosts}
 use Rattle.simplex_certificates.specs.declared.certificate.Certificate.{Certificate}
 use Rattle.simplex_certificates.specs.Certificate.{certificate_statement, certified_by}
-use Rattle.simplex_record.specs.World.{World, IsCorrect}
+use Rattle.simplex_record.specs.World.{World, IsCorrect, IsHonest}
 use Rattle.simplex_history.specs.History.{scheduled_leader}
 use Rattle.simplex_rules.specs.declared.kind.Kind.{Kind}
 use Rattle.simplex_verifier.specs.declared.batch.Batch.{Batch}
@@ -21,10 +21,14 @@ module _ {S D P G C : Type 0} (g : Ghosts S D P G C) (f : Formats S D P G C) (sc
 
   -- A network: no more members are excused than may be faulty, and the others live by their nodes, each on a disk that was empty at first,
   -- by one elector. What comes in to them is any bytes whatever, in any order and any number of times, but no verifying vote in the name of
-  -- one of them is on what that member recorded no vote for
+  -- one of them is on what that member recorded no vote for. The elector serves the chain alone
   pub record IsNetwork : Type 0 where
     pub lives : IsWorldOfLives g f scheme m world
     pub elector : HaveOneElector
+
+  -- a certificate verifies by a member's scheme
+  abbrev pub Verifies : ℕ → Certificate S D P G C → Type 0
+  Verifies member c = g.certifies (m.setup member).voter.scheme (certificate_statement c) (certified_by c)
 
   -- a certificate stood in bytes that one of these members was handed, and verifies by its scheme
   pub record WasHandedIn (c : Certificate S D P G C) : Type 0 where
@@ -32,7 +36,7 @@ module _ {S D P G C : Type 0} (g : Ghosts S D P G C) (f : Formats S D P G C) (sc
     pub correct : IsCorrect world member
     pub sender : ℕ
     pub came : CameIn g f scheme m world member sender (of_certificate c)
-    pub verifies : g.certifies (m.setup member).voter.scheme (certificate_statement c) (certified_by c)
+    pub verifies : Verifies member c
 
   -- one of these members made it, whether or not it came to record it
   pub record WasMade (c : Certificate S D P G C) : Type 0 where
@@ -46,6 +50,14 @@ module _ {S D P G C : Type 0} (g : Ghosts S D P G C) (f : Formats S D P G C) (sc
     pub allowed : Allowed g f (m.setup member) h (Constructs view kind batch)
     pub made : batch.certificate ≡ Some c
 
-  -- a verifying certificate is there: in bytes that a member was handed, or made by one
+  -- it stands wherever else, as in bytes that were handed to a node that had failed, verifies by the scheme of one of these members, and no
+  -- verifying vote that it lists in the name of one of them is on what that member recorded no vote for
+  pub record StandsElsewhere (c : Certificate S D P G C) : Type 0 where
+    pub member : ℕ
+    pub correct : IsCorrect world member
+    pub honest : IsHonest (g.attests scheme) g.lists world c
+    pub verifies : Verifies member c
+
+  -- a verifying certificate is there: in bytes that a member was handed, or made by one, or honest elsewhere
   abbrev pub IsThere : Certificate S D P G C → Type 0
-  IsThere c = WasHandedIn c ⊎ WasMade c
+  IsThere c = WasHandedIn c ⊎ (WasMade c ⊎ StandsElsewhere c)

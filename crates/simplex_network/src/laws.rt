@@ -9,20 +9,23 @@ ghost use Rattle.simplex_network.specs.Agreement.{AllAreSound, FinalizedViewsLie
 
 use simplex_audit::{a_contradicted_round_names_enough, joined_reports_are_read};
 use simplex_member::{
-    agreement_of_lives, finalized_views_lie_on_one_chain, made_certificates_are_sound,
-    none_is_blamed, own_votes_agree, reported_certificates_certify, reports_are_honest,
+    accepted_votes_are_known, agreement_of_lives, deeds_are_done, deeds_are_of_their_points,
+    finalized_views_lie_on_one_chain, histories_of_lives_are_gone_to, made_certificates_are_sound,
+    none_is_blamed, own_votes_agree, packets_are_read_back, reported_certificates_certify,
+    reports_are_honest,
 };
 use simplex_messages::Activity;
 use simplex_types::{Digest, Listing, Read, Write};
 
-/// The law of agreement for networks. In a committee of any size, with terms of any length, let no more members
-/// be excused from all rules than may be faulty. Let each other member run one node after another, through any
-/// number of openings, events, losses and crashes inside any write, on a disk that was empty at first; let all of
-/// them have one elector, and schemes of the committee's size, each its own, by which nothing attests that does
-/// not by the committee's; and let no verifying vote that they are handed in a member's name be on what that
-/// member recorded no vote for. Then over all verifying certificates in bytes that they were handed, or that they
-/// made: no view is certified for two proposals, no finalized view is nullified, no notarized proposal skips a
-/// finalized view, and finalized views lie on one chain.
+/// The law of agreement. In a committee of any size, with terms of any length, let no more members be excused from
+/// all rules than may be faulty. Let each other member run one node after another, through any number of openings,
+/// events, losses and crashes inside any write, on a disk that was empty at first; let all of them have schemes of
+/// the committee's size, each its own, by which nothing attests that does not by the committee's; and let no
+/// verifying vote that they are handed in a member's name be on what that member recorded no vote for. Then over all
+/// verifying certificates in bytes that they were handed, or that they made, and over all that a member's scheme
+/// verifies wherever they stand, whose verifying votes are as those: no view is certified for two proposals, no
+/// finalized view is nullified, and no notarized proposal skips a finalized view; and where all of them have one
+/// elector, finalized views lie on one chain. Each such certificate is sound, however many are excused.
 ///
 /// It holds however packets are spelled and read, where payloads that are compared as one are one.
 pub fn agreement<S: Listing<D>, D: Digest>()
@@ -38,17 +41,18 @@ pub fn agreement<S: Listing<D>, D: Digest>()
 }
 
 /// The law of accountability, however many members are excused. Of each member that isn't, let all be as for
-/// agreement; and a scheme may sign one statement differently each time. Then none of these members blocks another,
-/// neither by a refusal nor by a construction, where each packet in the name of one of them was handed out by it,
-/// the votes and certificates that it recorded can be read, and what attests by one's scheme does by another's. Over reports that such members
-/// handed out an audit names none of them; and where certificates among these contradict each other on a round, it
-/// names at least one member more of that round than may be faulty: where they verify by the audit's scheme, and so
-/// always where that is of the committee's size. Reports that can be spelled, joined as members spell them, are read to
-/// their end.
+/// agreement, but for the elector; and a scheme may sign one statement differently each time. Then none of these
+/// members blocks another, neither by a refusal nor by a construction, where each packet in the name of one of them
+/// was handed out by it, the votes and certificates that it recorded can be read, and what attests by one's scheme does
+/// by another's. Over reports that such members handed out an audit names none of them; and where certificates among
+/// these contradict each other on a round, it names at least one member more of that round than may be faulty: where
+/// they verify by the audit's scheme, and so always where that is of the committee's size. Joined as members spell them,
+/// these reports are read to their end, where the votes and certificates that they recorded can be read: what is
+/// reported is built of these and of packets that were read.
 pub fn accountability<S: Listing<D>, D: Digest>()
     ensures none_blocked { (f : Formats S D S.PublicKey S.Signature S.Certificate) → IsExact f → AreReadBack f → NoneIsBlamed S.Scheme f }
     ensures none_named { (f : Formats S D S.PublicKey S.Signature S.Certificate) → IsExact f → NoneIsNamed S.Scheme f D.cmp }
-    ensures read_to_the_end { (scheme : S) → S.size scheme < 2 ^ 32 → JoinedAreAudited S.Scheme D.cmp scheme (formats D.PartialEq.eq D.spelling S.Signature.spelling S.Certificate.spelling D.reading S.Signature.reading S.Certificate.reading (S.size scheme))
+    ensures read_to_the_end { (scheme : S) → S.size scheme < 2 ^ 32 → JoinedAreAudited S.Scheme (formats D.PartialEq.eq D.spelling S.Signature.spelling S.Certificate.spelling D.reading S.Signature.reading S.Certificate.reading (S.size scheme)) D.cmp scheme
         (Readable ⟦<Activity<S, D> as Write>⟧.fits (⟦<Activity<S, D> as Read>⟧.within (S.size scheme))) ⟦<Activity<S, D> as Write>⟧.spelling (⟦<Activity<S, D> as Read>⟧.reading (S.size scheme)) }
     ensures enough_named { (f : Formats S D S.PublicKey S.Signature S.Certificate) → IsExact f → ContradictionsNameEnough S.Scheme f D.cmp }
     ensures reported_enough { (f : Formats S D S.PublicKey S.Signature S.Certificate) → IsExact f → ReportedNameEnough S.Scheme f D.cmp }
@@ -57,6 +61,11 @@ pub fn accountability<S: Listing<D>, D: Digest>()
     reports_are_honest::<S, D>();
     own_votes_agree::<S, D>();
     joined_reports_are_read::<S, D>();
+    packets_are_read_back::<S, D>();
+    deeds_are_done::<S, D>();
+    deeds_are_of_their_points::<S, D>();
+    histories_of_lives_are_gone_to::<S, D>();
+    accepted_votes_are_known::<S, D>();
     a_contradicted_round_names_enough::<S, D>();
     reported_certificates_certify::<S, D>();
 }

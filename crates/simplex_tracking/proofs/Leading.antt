@@ -6,12 +6,15 @@ use Rattle.std.proofs.lemmas.Grind.{common_steps}
 use Rattle.std.proofs.lemmas.Bool.Decides.{nat_tests}
 use Rattle.std.proofs.lemmas.Bool.{cases_lt, cases_eq, ne_eqb}
 use Rattle.simplex_types.specs.declared.scheme.Scheme.{Ghosts}
+use Rattle.simplex_tracking.specs.declared.rounds.Rounds.{Rounds}
 use Rattle.simplex_tracking.specs.declared.tracked.Tracked.{Tracked}
-use Rattle.simplex_tracking.specs.Laws.{IsKept-led, extend-above, one_more, or_none}
+use Rattle.simplex_tracking.specs.Laws.{IsKept-led, extend-above, one_more}
 use Rattle.simplex_history.specs.Leaders.{extend}
-use Rattle.simplex_tracking.specs.Rounds.{learn}
+use Rattle.simplex_history.specs.Leading.{or_none}
+use Rattle.simplex_tracking.specs.Rounds.{Keep, learn}
 use Rattle.simplex_tracking.specs.Tracked.{Frame, IsClosedAt, IsKept, Tables, handed_on, inherits_by}
 use Rattle.simplex_tracking.proofs.Choices.{is_itself}
+use Rattle.simplex_tracking.proofs.Tables.{learn-members}
 
 -- a view that learns nothing leaves all as they were
 still_led : (view : ℕ) (l : Option ℕ) (led : ℕ → Option ℕ) → option_or (led view) l ≡ led view → (u : ℕ) → (if view == u then option_or (led view) l else led u) ≡ led u
@@ -49,6 +52,18 @@ module _ {S D P G C : Type 0} {g : Ghosts S D P G C} {f : Frame S} {x : Tracked 
   -- all is kept where a view learns nothing
   pub kept-still : (view : ℕ) (l : Option ℕ) → IsKept g f x t → option_or (t.led view) l ≡ t.led view → IsKept g f x (record t { led = λ u. if view == u then option_or (t.led view) l else t.led u })
   kept-still view l k same = IsKept-led (λ u. if view == u then option_or (t.led view) l else t.led u) k (λ u fits. sym (still_led view l t.led same u))
+
+  -- all is kept where a leader became known, who is a member
+  pub learnt-kept : {r : Rounds S D P G C} (view leader : ℕ) → IsKept g f x t → leader < g.size f.common.scheme → Keep g.key_of f.common r (learn view leader t.led) t.past
+      → IsKept g f (record x { rounds = r }) (record t { led = learn view leader t.led })
+  learnt-kept view leader k member kept = record {
+    length = k.length;
+    optimistic_views = k.optimistic_views;
+    rounds = kept;
+    signs = k.signs;
+    noted = k.noted;
+    members = learn-members (g.size f.common.scheme) t.led view leader k.members member;
+  }
 
 module _ (here : ℕ → Option ℕ) (from_before : ℕ → Bool) (known : ℕ → Option ℕ) where
   -- below the first that is named no view learns anything, if nothing is left to be handed on there
@@ -173,6 +188,21 @@ not_later v w below = let apart : w ≡ suc v → ⊥ = λ e. omega (arith, e, b
 
 pub behind_first : (first next u : ℕ) → next ≡ first + 1 → next ≤ u → (u == first) ≡ false
 behind_first first next u is le = let apart : u ≡ first → ⊥ = λ e. omega (arith, e, is, le) in ne_eqb u first apart
+
+-- a view before an end has what is handed on up to there
+pub handed-on-below : (here : ℕ → Option ℕ) (from_before : ℕ → Bool) (known : ℕ → Option ℕ) (end u : ℕ) → u < end → handed_on here from_before known end u ≡ extend here from_before known u
+handed-on-below here from_before known end u lt = let within : nat_lt u end ≡ true = grind (arith, nat_tests, lt) in rw within refl
+
+-- where nobody is given to be named for the next view, nobody is
+pub nobody-next : (view : ℕ) (leader : Option ℕ) → leader ≡ None → (u : ℕ) → None ≡ (if u == view + 1 then leader else None)
+nobody-next view leader none u = by (u == view + 1) where
+  by : (b : Bool) → None ≡ (if b then leader else None)
+  by true = sym none
+  by false = refl
+
+-- nor for a view up to the one before it
+pub not-yet-next : (view : ℕ) (leader : Option ℕ) (u : ℕ) → u < view + 1 → (if u == view + 1 then leader else None) ≡ None
+not-yet-next view leader u below = let apart : (u == view + 1) ≡ false = ne_eqb u (view + 1) (λ e. omega (arith, e, below)) in rw apart refl
 
 -- the first that is named has its leader, and no view before it learnt anything
 pub named-first : (first leader : ℕ) (from_before : ℕ → Bool) (known : ℕ → Option ℕ) → 0 < first → ((u : ℕ) → u + 1 < first → IsClosedAt from_before known u)

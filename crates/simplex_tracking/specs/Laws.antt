@@ -1,6 +1,6 @@
 -- What those who stand above take from these words.
 use Rattle.std.proofs.Common.{◌≡◌, ◌≢◌, ◌≤◌, ◌<◌, ◌+◌, ◌-◌, ◌==◌, ◌^◌, ℕ, zero, suc, Bool, List, ◌∷◌, true, false, ⊎_elim, inl, inr, refl, sym, ◌∙◌, subst, arith, if◌then◌else◌}
-use Rattle.std.specs.Prelude.{Option, Some, None, ◌&&◌, ◌||◌, not, nat_le}
+use Rattle.std.specs.Prelude.{Option, None, ◌&&◌, ◌||◌, not, nat_le}
 use Rattle.std.specs.Option.{option_or}
 use Rattle.std.specs.BTreeSet.{contains}
 use Rattle.std.specs.Ordering.{nat_cmp}
@@ -9,6 +9,7 @@ use Rattle.std.proofs.lemmas.Bool.{cases_lt, cases_eq, or_cases, or_left, or_rig
 use Rattle.simplex_types.specs.Positions.{term_start}
 use Rattle.simplex_types.specs.declared.scheme.Scheme.{Ghosts}
 use Rattle.simplex_rules.specs.Windows.{issuance_floor}
+use Rattle.simplex_history.specs.Leading.{or_none}
 use Rattle.simplex_history.specs.Past.{Item}
 use Rattle.simplex_tracking.specs.declared.marks.Marks.{Marks}
 use Rattle.simplex_tracking.specs.declared.rounds.Rounds.{Rounds}
@@ -129,11 +130,6 @@ module _ {S D P G C : Type 0} (f : Frame S) (t : Tables S D P G C) (view : ℕ) 
         );
       })
       (or_cases anchored opened so)
-
--- what there is of one and nothing
-pub or_none : {A : Type 0} (o : Option A) → option_or o None ≡ o
-or_none None = refl
-or_none (Some x) = refl
 
 -- one view more: nothing is named there, and what it would inherit it has already
 pub one_more : (known : Option ℕ) (named : Option ℕ) (inherits : Bool) (before old : Option ℕ) → named ≡ None → before ≡ old → (inherits ≡ true → option_or known old ≡ known)

@@ -4,7 +4,7 @@
 mod one_view;
 
 ghost use Rattle.std.specs.Prelude.{◌≡◌, ◌≢◌, ◌↔◌, ◌⊎◌, ◌<◌, ◌≤◌, ◌+◌, ◌-◌, ◌^◌, ◌==◌, if◌then◌else◌, nat_lt, min, ℕ, Bool, false, true, List, [], ◌∷◌, Option, Some, None, is_none, IsSome, IsTrue, IfOk, OnOk, MatchOption, option_map};
-ghost use Rattle.std.specs.Option.{option_or};
+ghost use Rattle.std.specs.Option.{option_or, ForSome};
 ghost use Rattle.simplex_history.specs.Held.{held, Agrees, Differs};
 ghost use Rattle.simplex_history.specs.Past.{entered, armed, notarized, nullified, finalized, notarization, nullification, finalization, offers, has_nullified};
 ghost use Rattle.simplex_round.specs.Round as one;
@@ -164,10 +164,12 @@ impl<S: Scheme<D> + Drop, D: Digest> Tracked<S, D> {
 
     /// Names the leader of a view, where it isn't known, and hands leaders on behind it.
     pub fn lead(&mut self, first: View, leader: Participant, last: View) -> Result<(), AllocError>
-        requires { first + 1 < 2 ^ 64 }
         ensures { OnOk result (AtEach S.Scheme self.old (λ f t. 0 < first → leader < S.size f.common.scheme → ((u : ℕ) → (u + 1 < first) ⊎ (last ≤ u) → u + 1 < 2 ^ 64 → IsClosedAt (inherits_by f t) t.led u) → Holds S.Scheme f self.new (record t { led = extend (λ u. if u == first then Some leader else None) (inherits_by f t) t.led }))) }
     {
         let _new = self.rounds.learn(first, leader)?;
+        if first.get() == u64::MAX {
+            return Ok(());
+        }
         self.hand_on(first.next(), last)
     }
 
@@ -246,6 +248,25 @@ impl<S: Scheme<D> + Drop, D: Digest> Tracked<S, D> {
         }
         let next = view.next();
         self.hand_on(next, next)
+    }
+
+    /// Hands leaders on from a view that this member voted to notarize, and names the leader of the view behind it, where one is
+    /// given and none is known.
+    pub fn follow_vote(
+        &mut self,
+        view: View,
+        next_leader: Option<Participant>,
+    ) -> Result<(), AllocError>
+        ensures { OnOk result (AtEach S.Scheme self.old (λ f t. ForSome next_leader (λ i. i < S.size f.common.scheme) → ((u : ℕ) → (view == u) ≡ false → IsClosedAt (inherits_by f t) t.led u) → Holds S.Scheme f self.new (record t { led = extend (λ u. if u == view + 1 then next_leader else None) (inherits_by f t) t.led }))) }
+    {
+        let Some(leader) = next_leader else {
+            return self.follow(view);
+        };
+        if view.get() == u64::MAX {
+            return Ok(());
+        }
+        let next = view.next();
+        self.lead(next, leader, next)
     }
 
     /// Offers the leader's proposal of a view: whether it is the first there. Behind an own nullify it is not taken.

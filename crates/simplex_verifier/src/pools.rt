@@ -13,8 +13,8 @@ ghost use Rattle.simplex_verifier.specs.Pools.{pool_at, PoolIs, PoolStays, settl
 
 use crate::pool::Pool;
 use crate::votes::kind_of;
-use simplex_rules::Kind;
 use simplex_messages::Vote;
+use simplex_rules::Kind;
 use simplex_types::{Digest, Participant, Proposal, Scheme, Subject};
 use std::alloc::{AllocError, Global};
 

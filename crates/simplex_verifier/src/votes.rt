@@ -6,8 +6,8 @@ ghost use Rattle.simplex_certificates.specs.Certificate.{certificate_statement, 
 ghost use Rattle.simplex_verifier.specs.Votes.{vote_kind, vote_statement, vote_attestation, certificate_kind, certificate_proposal, fixed_proposal};
 ghost use Rattle.simplex_verifier.specs.History.{is_candidate};
 
-use simplex_rules::Kind;
 use simplex_messages::{Certificate, Finalization, Notarization, Nullification, Vote};
+use simplex_rules::Kind;
 use simplex_types::{Attestation, Digest, Proposal, Scheme, Subject};
 
 /// The kind of certificate that a vote counts for.

@@ -1,5 +1,5 @@
 -- Who leads by a history, and that nothing is left to be handed on.
-use Rattle.std.proofs.Common.{◌≡◌, ◌+◌, ◌-◌, ◌==◌, ℕ, suc, Bool, true, false, List, [], ◌∷◌, ⊎_elim, inl, inr, refl, sym, ap, subst, ◌∙◌, arith, if◌then◌else◌}
+use Rattle.std.proofs.Common.{◌≡◌, ◌+◌, ◌-◌, ◌<◌, ◌^◌, ◌==◌, ℕ, suc, Bool, true, false, List, [], ◌∷◌, ⊎_elim, inl, inr, refl, sym, ap, subst, ◌∙◌, arith, if◌then◌else◌}
 use Rattle.std.specs.Prelude.{Option, Some, None, nat_lt}
 use Rattle.std.specs.Option.{option_or}
 use Rattle.std.proofs.lemmas.Grind.{common_steps}
@@ -16,10 +16,12 @@ use Rattle.simplex_tracking.specs.declared.tracked.Tracked.{Tracked}
 use Rattle.simplex_history.specs.Pasts.{forget, is_direct, put}
 use Rattle.simplex_history.specs.History.{Setup, Point, min_active, seen, enter, current}
 use Rattle.simplex_history.specs.Leaders.{extend}
-use Rattle.simplex_history.specs.Leaders.{named, named_early, inherits, leader, was_forwarded}
+use Rattle.simplex_history.specs.Leaders.{named, named_early, handoff_leader, inherits, leader, was_forwarded}
+use Rattle.simplex_history.specs.Leading.{HandsOn, leader_named, leader_voted, or_none}
 use Rattle.simplex_views.specs.Progress.{frame_of, tables}
 use Rattle.simplex_tracking.specs.Tracked.{Tables, Inherits, IsClosedAt, Holds, inherits_by}
-use Rattle.simplex_tracking.specs.Laws.{or_none, extend-above, inherits_from, inherits_says, Holds-led}
+use Rattle.simplex_tracking.specs.Laws.{extend-above, inherits_from, inherits_says, put-fact, Holds-led}
+use Rattle.simplex_views.proofs.Entering.{enter-fact}
 
 -- what was taken in already doesn't count again
 or-again : {A : Type 0} (a b c : Option A) → option_or (option_or a (option_or b c)) c ≡ option_or a (option_or b c)
@@ -34,9 +36,9 @@ extend-closed here from_before known w so = rw so (or-again (known (suc w)) (her
 
 -- a point that names the leader of one view
 pub named-leader : {C : Type 0} (next led : ℕ) (elect : ℕ → Option C → ℕ) (c : C) (from_before : ℕ → Bool) (known : ℕ → Option ℕ) → led ≡ elect next (Some c) → (u : ℕ)
-    → extend (λ w. if w == next then Some led else None) from_before known u ≡ extend (λ w. option_or (if w == next then Some (elect w (Some c)) else None) None) from_before known u
+    → extend (λ w. if w == next then Some led else None) from_before known u ≡ extend (λ w. if w == next then Some (elect w (Some c)) else None) from_before known u
 named-leader next led elect c from_before known is u = λ i. extend (λ w. named w i) from_before known u where
-  named : (w : ℕ) → (if w == next then Some led else None) ≡ option_or (if w == next then Some (elect w (Some c)) else None) None
+  named : (w : ℕ) → (if w == next then Some led else None) ≡ (if w == next then Some (elect w (Some c)) else None)
   named w = ⊎_elim
       (λ e. let here : (w == next) ≡ true = grind (arith, common_steps) in rw here (ap Some (is ∙ ap (λ v. elect v (Some c)) (sym e))))
       (λ ne. let apart : (w == next) ≡ false = grind (arith, common_steps) in rw apart refl)
@@ -80,8 +82,7 @@ module _ {S D P G C : Type 0} where
   }
 
   -- behind a point by which leaders were handed on nothing is left
-  closed-behind : (s : Setup S C) (h : List (Point S D P G C)) (x : Point S D P G C)
-      → leader s (x ∷ h) ≡ extend (λ view. option_or (named s x view) (named_early s (x ∷ h) view)) (inherits s (x ∷ h)) (leader s h)
+  closed-behind : (s : Setup S C) (h : List (Point S D P G C)) (x : Point S D P G C) → HandsOn s h x
       → (u : ℕ) → inherits_by (frame_of s) (tables s (x ∷ h)) (suc u) ≡ true → option_or (leader s (x ∷ h) (suc u)) (leader s (x ∷ h) u) ≡ leader s (x ∷ h) (suc u)
   closed-behind s h x e u so = subst (λ l. option_or (l (suc u)) (l u) ≡ l (suc u)) (sym e)
       (extend-closed (λ view. option_or (named s x view) (named_early s (x ∷ h) view)) (inherits s (x ∷ h)) (leader s h) u so)
@@ -120,15 +121,37 @@ module _ {S D P G C : Type 0} where
 
 module _ {S D P G C : Type 0} where
   -- who leads is as it was where a point names nobody, and leaves alone what leaders rest on
-  pub leader-same : (s : Setup S C) (h : List (Point S D P G C)) (x : Point S D P G C)
-      → leader s (x ∷ h) ≡ extend (λ view. option_or (named s x view) (named_early s (x ∷ h) view)) (inherits s (x ∷ h)) (leader s h)
-      → ((u : ℕ) → named s x u ≡ None) → ((u : ℕ) → inherits_by (frame_of s) (tables s (x ∷ h)) u ≡ inherits_by (frame_of s) (tables s h) u)
+  pub leader-same : (s : Setup S C) (h : List (Point S D P G C)) (x : Point S D P G C) → HandsOn s h x → ((u : ℕ) → named s x u ≡ None)
+      → ((u : ℕ) → has_notarized (seen s (x ∷ h) u) ≡ has_notarized (seen s h u)) → ((u : ℕ) → inherits_by (frame_of s) (tables s (x ∷ h)) u ≡ inherits_by (frame_of s) (tables s h) u)
       → (u : ℕ) → leader s (x ∷ h) u ≡ leader s h u
-  leader-same s h x e nobody same u = ap (λ l. l u) e
-      ∙ extend-above (λ view. option_or (named s x view) (named_early s (x ∷ h) view)) (inherits s (x ∷ h)) (leader s h) 0 u refl
-      (λ w _. rw (nobody w) refl)
+  leader-same s h x hands nobody votes same u = leader_named s h x hands votes u
+      ∙ extend-above (named s x) (inherits s (x ∷ h)) (leader s h) 0 u refl
+      (λ w _. nobody w)
       (λ w _ _ so. leader-closed s h w (sym (same (suc w)) ∙ so))
       (omega arith)
+
+  -- what is known of each view behind a point that brings no own notarize: all but for leaders who are named early
+  abbrev pub named-tables : Setup S C → List (Point S D P G C) → Point S D P G C → Tables S D P G C
+  named-tables s h x = record { led = extend (named s x) (inherits s (x ∷ h)) (leader s h); past = seen s (x ∷ h); noted = was_forwarded s (x ∷ h) }
+
+  pub named-at : (g : Ghosts S D P G C) (x : Tracked S D P G C) (s : Setup S C) (h : List (Point S D P G C)) (point : Point S D P G C) → HandsOn s h point
+      → ((u : ℕ) → has_notarized (seen s (point ∷ h) u) ≡ has_notarized (seen s h u)) → Holds g (frame_of s) x (named-tables s h point) → Holds g (frame_of s) x (tables s (point ∷ h))
+  named-at g x s h point hands votes k = Holds-led g (frame_of s) x (named-tables s h point) (leader s (point ∷ h)) k (λ u fits. sym (leader_named s h point hands votes u))
+
+  -- and behind an own notarize of a view: who may lead the next one early is named
+  abbrev pub voted-tables : Setup S C → List (Point S D P G C) → Point S D P G C → ℕ → Option ℕ → Tables S D P G C
+  voted-tables s h x at heir = record { led = extend (λ u. if u == at + 1 then heir else None) (inherits s (x ∷ h)) (leader s h); past = seen s (x ∷ h); noted = was_forwarded s (x ∷ h) }
+
+  pub voted-at : (g : Ghosts S D P G C) (x : Tracked S D P G C) (s : Setup S C) (h : List (Point S D P G C)) (point : Point S D P G C) (at : ℕ) (heir : Option ℕ) → HandsOn s h point
+      → ((u : ℕ) → named s point u ≡ None) → has_notarized (seen s (point ∷ h) at) ≡ true
+      → ((u : ℕ) → (at == u) ≡ false → has_notarized (seen s (point ∷ h) u) ≡ has_notarized (seen s h u)) → (at + 1 < 2 ^ 64 → heir ≡ handoff_leader s (at + 1))
+      → Holds g (frame_of s) x (voted-tables s h point at heir) → Holds g (frame_of s) x (tables s (point ∷ h))
+  voted-at g x s h point at heir hands nobody own others heirs k =
+      Holds-led g (frame_of s) x (voted-tables s h point at heir) (leader s (point ∷ h)) k (λ u fits. sym (leader_voted s h point at heir hands nobody own others heirs u fits))
+
+  -- a view that is entered brings no own notarize
+  pub entered-votes : (s : Setup S C) (h : List (Point S D P G C)) (now next u : ℕ) → has_notarized (enter s (current s h) now next (seen s h) u) ≡ has_notarized (seen s h u)
+  entered-votes s h now next u = enter-fact has_notarized (λ m l. refl) (λ a b o l. refl) s (current s h) now next (seen s h) u
 
   -- what is known of each view behind a nullification that enters this view, whose leader is named so
   abbrev pub nullified-tables : Setup S C → List (Point S D P G C) → ℕ → Nullification S D P G C → ℕ → ℕ → Tables S D P G C
@@ -146,10 +169,12 @@ module _ {S D P G C : Type 0} where
   nullified-at g x s h now c next led e f k =
       let start : ℕ = next_term_start s.length c.round.view in
       let moved : Holds g (frame_of s) x (nullified-tables s h now c led start) = subst (λ n. Holds g (frame_of s) x (nullified-tables s h now c led n)) e k in
-      Holds-led g (frame_of s) x _ (leader s (History.nullified now c ∷ h)) moved
+      named-at g x s h (History.nullified now c) refl
+      (λ u. put-fact has_notarized (past.nullified c) (λ l. refl) c.round.view (enter s (current s h) now start (seen s h)) u ∙ entered-votes s h now start u)
+      (Holds-led g (frame_of s) x _ (named-tables s h (History.nullified now c)).led moved
       (λ u fits. named-leader start led s.elect c.certificate
       (inherits_by (frame_of s) (record { led = leader s h; past = put c.round.view (past.nullified c) (enter s (current s h) now start (seen s h)); noted = was_forwarded s h }))
-      (leader s h) (f ∙ ap (λ n. s.elect n (Some c.certificate)) e) u)
+      (leader s h) (f ∙ ap (λ n. s.elect n (Some c.certificate)) e) u))
 
   -- the same behind a notarization
   abbrev pub notarized-tables : Setup S C → List (Point S D P G C) → Notarization S D P G C → ℕ → ℕ → Tables S D P G C
@@ -167,10 +192,12 @@ module _ {S D P G C : Type 0} where
   notarized-at g x s h c next led e f k =
       let start : ℕ = c.proposal.round.view + 1 in
       let moved : Holds g (frame_of s) x (notarized-tables s h c led start) = subst (λ n. Holds g (frame_of s) x (notarized-tables s h c led n)) e k in
-      Holds-led g (frame_of s) x _ (leader s (History.notarized c ∷ h)) moved
+      named-at g x s h (History.notarized c) refl
+      (λ u. put-fact has_notarized (past.notarized c) (λ l. refl) c.proposal.round.view (seen s h) u)
+      (Holds-led g (frame_of s) x _ (named-tables s h (History.notarized c)).led moved
       (λ u fits. named-leader start led s.elect c.certificate
       (inherits_by (frame_of s) (record { led = leader s h; past = put c.proposal.round.view (past.notarized c) (seen s h); noted = was_forwarded s h }))
-      (leader s h) (f ∙ ap (λ n. s.elect n (Some c.certificate)) e) u)
+      (leader s h) (f ∙ ap (λ n. s.elect n (Some c.certificate)) e) u))
 
   -- and behind a finalization, which enters the next view
   abbrev pub finalized-tables : Setup S C → List (Point S D P G C) → ℕ → Finalization S D P G C → ℕ → ℕ → Tables S D P G C
@@ -188,10 +215,12 @@ module _ {S D P G C : Type 0} where
   finalized-at g x s h now c next led e f k =
       let start : ℕ = c.proposal.round.view + 1 in
       let moved : Holds g (frame_of s) x (finalized-tables s h now c led start) = subst (λ n. Holds g (frame_of s) x (finalized-tables s h now c led n)) e k in
-      Holds-led g (frame_of s) x _ (leader s (History.finalized now c ∷ h)) moved
+      named-at g x s h (History.finalized now c) refl
+      (λ u. put-fact has_notarized (past.finalized c) (λ l. refl) c.proposal.round.view (enter s (current s h) now start (seen s h)) u ∙ entered-votes s h now start u)
+      (Holds-led g (frame_of s) x _ (named-tables s h (History.finalized now c)).led moved
       (λ u fits. named-leader start led s.elect c.certificate
       (inherits_by (frame_of s) (record { led = leader s h; past = put c.proposal.round.view (past.finalized c) (enter s (current s h) now start (seen s h)); noted = was_forwarded s h }))
-      (leader s h) (f ∙ ap (λ n. s.elect n (Some c.certificate)) e) u)
+      (leader s h) (f ∙ ap (λ n. s.elect n (Some c.certificate)) e) u))
 
   -- and behind the start, which enters view 1
   abbrev pub started-tables : Setup S C → List (Point S D P G C) → ℕ → ℕ → ℕ → Tables S D P G C
@@ -207,6 +236,4 @@ module _ {S D P G C : Type 0} where
       → Holds g (frame_of s) x (started-tables s h now led first) → Holds g (frame_of s) x (tables s (History.started now payload ∷ h))
   started-at g x s h now payload first led e f k =
       let moved : Holds g (frame_of s) x (started-tables s h now (s.elect 1 None) 1) = subst (λ n. Holds g (frame_of s) x (started-tables s h now n 1)) f (subst (λ n. Holds g (frame_of s) x (started-tables s h now led n)) e k) in
-      Holds-led g (frame_of s) x _ (leader s (History.started now payload ∷ h)) moved
-      (λ u fits. let named_once = λ (w : ℕ). sym (or_none (if w == 1 then Some (s.elect 1 None) else None)) in
-      λ i. extend (λ w. named_once w i) (inherits_by (frame_of s) (record { led = leader s h; past = enter s (current s h) now 1 (seen s h); noted = was_forwarded s h })) (leader s h) u)
+      named-at g x s h (History.started now payload) refl (entered-votes s h now 1) moved

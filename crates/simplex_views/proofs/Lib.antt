@@ -3,6 +3,7 @@ pub mod Choices
 pub mod Covering
 pub mod Entering
 pub mod Following
+pub mod Heirs
 pub mod Learning
 pub mod Pruning
 pub mod Replaying

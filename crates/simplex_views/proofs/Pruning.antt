@@ -23,7 +23,7 @@ use Rattle.simplex_tracking.specs.Rounds.{AreUntracked, Common, IsFirstBelow, Is
 use Rattle.simplex_tracking.specs.declared.tracked.Tracked.{Tracked}
 use Rattle.simplex_tracking.specs.Tracked.{Frame, Holds, Tables, forgotten}
 use Rattle.simplex_views.specs.Views.{kept_from}
-use Rattle.simplex_tracking.specs.Laws.{or_none}
+use Rattle.simplex_history.specs.Leading.{or_none}
 
 pub apart_from_lt : (a b : ℕ) → a < b → is_eq (nat_cmp a b) ≡ false
 apart_from_lt a b lt = grind (arith, nat_tests)

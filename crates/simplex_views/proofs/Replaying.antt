@@ -1,6 +1,8 @@
 -- What an artifact of a record leaves of the voter.
-use Rattle.std.proofs.Common.{◌≡◌, ◌==◌, ℕ, true, false, List, ◌∷◌, refl, ◌∙◌, if◌then◌else◌}
+use Rattle.std.proofs.Common.{◌≡◌, ◌==◌, ◌+◌, ◌<◌, ◌^◌, ℕ, true, false, List, ◌∷◌, refl, sym, subst, ◌∙◌, if◌then◌else◌}
 use Rattle.std.specs.Prelude.{Option, Some, None, Bool, ⊤, ◌||◌}
+use Rattle.std.specs.Option.{ForSome}
+use Rattle.std.proofs.lemmas.Bool.{eq-eqb}
 use Rattle.simplex_types.specs.declared.proposal.Proposal.{Proposal}
 use Rattle.simplex_types.specs.declared.scheme.Scheme.{Ghosts}
 use Rattle.simplex_certificates.specs.declared.artifact.Artifact.{Artifact}
@@ -18,7 +20,7 @@ use Rattle.simplex_history.specs.History as History
 use Rattle.simplex_history.specs.Pasts.{bind, is_direct, put}
 use Rattle.simplex_history.specs.History.{Setup, Point, current, is_marked, seen, undecided_payload}
 use Rattle.simplex_history.specs.Known.{backs}
-use Rattle.simplex_history.specs.Leaders.{leader, was_forwarded}
+use Rattle.simplex_history.specs.Leaders.{handoff_leader, leader, was_forwarded}
 use Rattle.simplex_tracking.specs.Marks.{Shows}
 use Rattle.simplex_views.specs.Progress.{frame_of, tables}
 use Rattle.simplex_history.specs.Leaders.{extend}
@@ -27,6 +29,7 @@ use Rattle.simplex_tracking.specs.Tracked.{Tables, AtEach, IsClosedAt, Holds, in
 use Rattle.simplex_views.specs.Views.{IsKept, recalls}
 use Rattle.simplex_tracking.specs.Laws.{Shows-same, put-fact}
 use Rattle.simplex_views.proofs.Advancing.{IsAt-tracked, grown-tables}
+use Rattle.simplex_views.proofs.Following.{voted-at}
 use Rattle.simplex_views.proofs.Stepping.{IsQuiet, like-put, like-seen, quiet-from, sent-quiet, spoken-closed, still-kept}
 
 module _ {S D P G C : Type 0} where
@@ -59,6 +62,12 @@ module _ {S D P G C : Type 0} where
       bind-fact has_notarized (λ p payload l. refl) o p (put p.round.view past.voted_notarize (if taken then put p.round.view (past.offered (recorded p)) t else t)) u
       ∙ rw apart (taken-fact has_notarized (past.offered (recorded p)) (λ l. refl) taken p.round.view t u)
 
+  recalled-vote : (o : Option D) (p : Proposal D) (taken : Bool) (t : ℕ → List (Item S D P G C)) → has_notarized (recalled-past o p taken t p.round.view) ≡ true
+  recalled-vote o p taken t =
+      let here : (p.round.view == p.round.view) ≡ true = eq-eqb p.round.view p.round.view refl in
+      bind-fact has_notarized (λ p payload l. refl) o p (put p.round.view past.voted_notarize (if taken then put p.round.view (past.offered (recorded p)) t else t)) p.round.view
+      ∙ rw here refl
+
 module _ {S D P G C : Type 0} (s : Setup S C) (h : List (Point S D P G C)) (p : Proposal D) (taken : Bool) where
   -- what is known of each view then, but for leaders that are handed on
   abbrev pub recalled-tables : Tables S D P G C
@@ -84,17 +93,26 @@ module _ {S D P G C : Type 0} (s : Setup S C) (h : List (Point S D P G C)) (p : 
 
 module _ {S L D P G C : Type 0} {g : Ghosts S D P G C} {leads : elector.Ghosts L S D P G C} {s : Setup S C} {v : Views S L D P G C} {h : List (Point S D P G C)} where
   -- behind what it leaves, what its proposal is bound to, and what these hand on, views are where the own notarize leads
-  pub recalled-steps : (vote : Notarize S D P G C) (payload : Option D) (view : ℕ) (x y z : Tracked S D P G C) → IsKept g leads s v h
+  pub recalled-steps : (vote : Notarize S D P G C) (payload : Option D) (view : ℕ) (heir : Option ℕ) (x y z : Tracked S D P G C) → IsKept g leads s v h
       → payload ≡ undecided_payload (seen s h vote.proposal.parent) → view ≡ vote.proposal.round.view
+      → (view + 1 < 2 ^ 64 → heir ≡ handoff_leader s (view + 1)) → ForSome heir (λ i. i < g.size s.scheme)
       → AtEach g v.progress.tracked (λ f t. (taken : Bool) × Takes t.past (artifact.Notarize vote) taken × Holds g f x (record t { past = recalled taken (artifact.Notarize vote) t.past }))
       → AtEach g x (λ f t. Holds g f y (record t { past = bind payload vote.proposal t.past }))
-      → AtEach g y (λ f t. ((u : ℕ) → (view == u) ≡ false → IsClosedAt (inherits_by f t) t.led u) → Holds g f z (record t { led = extend (λ u. None) (inherits_by f t) t.led }))
+      → AtEach g y (λ f t. ForSome heir (λ i. i < g.size f.common.scheme) → ((u : ℕ) → (view == u) ≡ false → IsClosedAt (inherits_by f t) t.led u)
+      → Holds g f z (record t { led = extend (λ u. if u == view + 1 then heir else None) (inherits_by f t) t.led }))
       → (taken : Bool) × Takes (seen s h) (artifact.Notarize vote) taken × Holds g (frame_of s) z (tables s (History.recalled_notarize vote.proposal taken ∷ h))
-  recalled-steps vote payload view x y z k decides named replays binds follows =
+  recalled-steps vote payload view heir x y z k decides named heirs member replays binds follows =
       let p = vote.proposal in
+      let bound_to = undecided_payload (seen s h p.parent) in
       let told = replays (frame_of s) (tables s h) k.progress.tracked in
       let bound = rw decides at (binds (frame_of s) (grown-tables s h (recalled told.0 (artifact.Notarize vote) (seen s h))) told.2) in
-      (told.0, told.1, follows (frame_of s) (recalled-tables s h p told.0) bound (λ u apart. recalled-closed s h p told.0 u (rw named at apart)))
+      let followed = follows (frame_of s) (recalled-tables s h p told.0) bound member (λ u apart. recalled-closed s h p told.0 u (rw named at apart)) in (
+        told.0,
+        told.1,
+        voted-at g z s h (History.recalled_notarize p told.0) view heir refl (λ u. refl)
+            (subst (λ (u : ℕ). has_notarized (recalled-past bound_to p told.0 (seen s h) u) ≡ true) (sym named) (recalled-vote bound_to p told.0 (seen s h)))
+            (λ u apart. recalled-votes bound_to p told.0 (seen s h) u (rw named at apart)) heirs followed,
+      )
 
   -- the voter stands where the own notarize leads
   pub recalled-notarize : (p : Proposal D) (taken : Bool) (x : Tracked S D P G C) (marks : Marks) → IsKept g leads s v h

@@ -118,7 +118,7 @@ module _ {S D P G C : Type 0} (s : Setup S C) (h : List (Point S D P G C)) where
   stepped x = record { led = leader s h; past = seen s (x ∷ h); noted = was_forwarded s (x ∷ h) }
 
   pub unled-leader : (x : Point S D P G C) → IsUnled x → (u : ℕ) → leader s (x ∷ h) u ≡ leader s h u
-  unled-leader x q = leader-same s h x q.leads q.nobody
+  unled-leader x q = leader-same s h x q.leads q.nobody q.votes
       (inherits-same (frame_of s) (tables s (x ∷ h)) (tables s h) q.certificates
       (λ u i. q.notes u i || q.votes u i))
 

@@ -11,6 +11,7 @@ mod timing;
 mod voting;
 
 ghost use Rattle.std.specs.Prelude.{◌≡◌, ◌↔◌, ◌+◌, ◌<◌, ◌≤◌, ◌^◌, ◌∷◌, ℕ, [], Some, None, IsTrue, IfSome, IfOk, OnOk, MatchOption, option_copied};
+ghost use Rattle.std.specs.Option.{ForSome};
 ghost use Rattle.simplex_types.specs.Positions.{InCoveringRange};
 ghost use Rattle.simplex_rules.specs.Windows.{Admits, Retains};
 ghost use Rattle.simplex_history.specs.Past as past;
@@ -19,7 +20,7 @@ ghost use Rattle.simplex_tracking.specs.Marks.{Shows};
 ghost use Rattle.simplex_history.specs.Pasts.{bears};
 ghost use Rattle.simplex_tracking.specs.Rounds.{AreUntracked, IsFirstTracked};
 ghost use Rattle.simplex_history.specs.History.{current, last_finalized, min_active, nullification, scheduled_leader, seen};
-ghost use Rattle.simplex_history.specs.Leaders.{leader};
+ghost use Rattle.simplex_history.specs.Leaders.{handoff_leader, leader};
 ghost use Rattle.simplex_views.specs.Views.{Keeps, AtEach, built, IsHighestCovering, IsTracked, noticed, round_of};
 
 use crate::progress::Progress;
@@ -186,6 +187,26 @@ impl<S: Scheme<D> + Drop, L: Elector<S, D>, D: Digest> Views<S, L, D> {
             }
             Mode::Dynamic => None,
         }
+    }
+
+    /// This member, where it may lead the view behind this one before this one is decided: that view starts a term, and a schedule
+    /// names this member for it.
+    fn handoff_leader(&self, view: View) -> Option<Participant>
+        ensures value { AtEach S.Scheme L.Elector self.now (λ s h. view + 1 < 2 ^ 64 → result ≡ handoff_leader s (view + 1)) }
+        ensures member { AtEach S.Scheme L.Elector self.now (λ s h. ForSome result (λ i. i < S.size s.scheme)) }
+    {
+        if view.get() == u64::MAX {
+            return None;
+        }
+        let next = view.next();
+        if !next.is_term_start(self.lookahead.length) {
+            return None;
+        }
+        let leader = self.scheduled_leader(next)?;
+        if !self.is_me(leader) {
+            return None;
+        }
+        Some(leader)
     }
 
     /// Who leads the view, where that is known.

@@ -1,5 +1,5 @@
--- The first of many views that was entered, and what an option gives.
-use Rattle.std.proofs.Common.{◌≡◌, ◌<◌, ◌≤◌, ◌+◌, ℕ, zero, suc, Bool, true, false, ◌⊎◌, inl, inr, refl, sym, ◌∙◌, ⊎_elim, arith}
+-- The first of many views that was entered, and whether there is another parent to build on.
+use Rattle.std.proofs.Common.{◌≡◌, ◌<◌, ◌≤◌, ◌+◌, ℕ, zero, suc, Bool, true, false, ◌⊎◌, inl, inr, refl, ⊎_elim, arith}
 use Rattle.std.specs.Prelude.{◌↔◌, List, [], Option, Some, None, IsTrue, is_some, MatchOption}
 use Rattle.std.proofs.lemmas.Bool.{both_ways, cases_lt}
 use Rattle.simplex_history.specs.Past as past
@@ -9,17 +9,6 @@ use Rattle.simplex_history.specs.Known.{Known}
 use Rattle.simplex_decisions.specs.Ancestry.{Member, IsPreferred}
 use Rattle.simplex_decisions.specs.GivingUp.{first_from}
 use Rattle.simplex_decisions.specs.Requests.{IsCaptured, IsSuperseded}
-
-module _ {D : Type 0} where
-  -- what an option gives is another value exactly where a test of both says so
-  pub is_given : (found wanted : Option D) (given x : D) (b same : Bool) → found ≡ Some given → found ≡ wanted → b ≡ same → IsTrue same ↔ (given ≡ x) → IsTrue b ↔ (wanted ≡ Some x)
-  is_given found wanted given x b same is there test law = (
-    λ yes. sym there ∙ is ∙ (let one : given ≡ x = law.0 (sym test ∙ yes) in cc (one)),
-    λ wants. test ∙ law.1 (let one : Some given ≡ Some x = sym is ∙ there ∙ wants in cc (one)),
-  )
-
-  pub none_is_given : (found wanted : Option D) (x : D) → found ≡ None → found ≡ wanted → IsTrue false ↔ (wanted ≡ Some x)
-  none_is_given found wanted x none there = (λ never. absurd (cc (never)), λ wants. absurd (cc (none, there, wants)))
 
 -- one of two facts holds exactly where the test of the first says so, or else that of the second
 pub first_holds : (b : Bool) (P Q : Type 0) → IsTrue b ↔ P → b ≡ true → IsTrue true ↔ (P ⊎ Q)

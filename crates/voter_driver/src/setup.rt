@@ -11,8 +11,8 @@ use std::alloc::Global;
 use std::rc::Rc;
 
 /// How a voter is set up: `N ME EPOCH L K STALL RETENTION LEADER CERTIFICATION RETRY BUDGET HANDOFF`. ME is `-` for a voter
-/// without a key, STALL for terms of one view without optimism that never stall. HANDOFF says whether builds are handed off in
-/// the script.
+/// without a key, STALL for terms of one view without optimism that never stall. HANDOFF is 1: builds are handed off, and no
+/// voter goes without.
 #[derive(Drop)]
 pub struct Setup {
     /// How many members the committee has.
@@ -37,13 +37,16 @@ fn terms(words: &mut Words<'_>) -> Result<Terms, Trouble> {
     }
 }
 
-/// `RETENTION LEADER CERTIFICATION RETRY BUDGET`, in this epoch.
+/// `RETENTION LEADER CERTIFICATION RETRY BUDGET HANDOFF`, in this epoch.
 fn config(words: &mut Words<'_>, epoch: Epoch) -> Result<Config<Sha256Digest>, Trouble> {
     let view_retention = ViewDelta::new(words.number()?);
     let leader_timeout = words.number()?;
     let certification_timeout = words.number()?;
     let timeout_retry = words.number()?;
     let budget = SkipBudget::Fixed(words.number()?);
+    if !words.truth()? {
+        return Err(Trouble::Condition);
+    }
     Ok(Config {
         epoch,
         genesis: Sha256Digest::new([0; 32]),
@@ -61,14 +64,13 @@ fn config(words: &mut Words<'_>, epoch: Epoch) -> Result<Config<Sha256Digest>, T
 }
 
 impl Setup {
-    /// The words of a setup, up to HANDOFF.
+    /// The words of a setup, up to who leads.
     fn read(words: &mut Words<'_>) -> Result<Self, Trouble> {
         let participants = words.index()?;
         let me = words.optional_member()?;
         let epoch = words.epoch()?;
         let terms = terms(words)?;
         let config = config(words, epoch)?;
-        let _hands_off = words.truth()?;
         Ok(Setup {
             participants,
             me,

@@ -1,4 +1,5 @@
-//! What happens to one view. It is no certificate, and hands no leader on: a proposal or an own notarize lets `follow` do that.
+//! What happens to one view. It is no certificate, and hands no leader on: a proposal lets `follow` do that, an own notarize
+//! `follow_vote`.
 
 ghost use Rattle.std.specs.Prelude.{◌≡◌, ◌↔◌, ◌≤◌, ◌^◌, if◌then◌else◌, Bool, false, ◌∷◌, Some, None, is_some, IsTrue, IfSome, IfOk, OnOk, MatchOption};
 ghost use Rattle.simplex_history.specs.Held.{held, building, confirmed, verifying, Agrees, IsUnverified};

@@ -14,8 +14,8 @@ use crate::pool::attestations_of;
 use crate::verifier::Verifier;
 use crate::votes::{certificate_on, subject_of};
 use simplex_judging::{Judged, assemble_enough};
-use simplex_rules::Kind;
 use simplex_messages::Certificate;
+use simplex_rules::Kind;
 use simplex_types::{Digest, Proposal, Round, Scheme, Subject};
 use std::alloc::{AllocError, Global};
 

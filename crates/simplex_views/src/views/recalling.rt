@@ -15,8 +15,8 @@ use std::alloc::AllocError;
 
 impl<S: Scheme<D> + Drop, L: Elector<S, D>, D: Digest> Views<S, L, D> {
     /// Takes in an artifact of this member's record, in the order of the record. No view is entered. A vote counts as its
-    /// own: a notarize offers its proposal, where none or the same is held, and binds it to the payload that its parent
-    /// holds, where that has no certificate. Of a certificate it only takes in that it was handed out: the certificate
+    /// own: a notarize offers its proposal, where none or the same is held, binds it to the payload that its parent holds,
+    /// where that has no certificate, and names who leads the next view as one that is voted does. Of a certificate it only takes in that it was handed out: the certificate
     /// itself comes by its `add_` call, and a verdict by `certified`.
     ///
     /// # Errors
@@ -32,9 +32,10 @@ impl<S: Scheme<D> + Drop, L: Elector<S, D>, D: Digest> Views<S, L, D> {
         let view = proposal.view();
         let is_taken = self.takes(&proposal);
         let payload = self.undecided_payload(proposal.parent);
+        let next_leader = self.handoff_leader(view);
         self.progress.tracked.replay(artifact)?;
         self.progress.tracked.bind(proposal, payload)?;
-        self.progress.tracked.follow(view)?;
+        self.progress.tracked.follow_vote(view, next_leader)?;
         if is_taken {
             return self.backed.mark(view);
         }

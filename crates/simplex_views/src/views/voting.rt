@@ -12,7 +12,8 @@ use simplex_types::{Digest, Proposal, Scheme, View};
 use std::alloc::AllocError;
 
 impl<S: Scheme<D> + Drop, L: Elector<S, D>, D: Digest> Views<S, L, D> {
-    /// Votes to notarize the view, where the view itself allows it: the held proposal. Else nothing changes.
+    /// Votes to notarize the view, where the view itself allows it: the held proposal. Behind that this member leads the next view,
+    /// where it starts a term for which a schedule names it, and nobody is known to lead it. Else nothing changes.
     ///
     /// # Errors
     ///
@@ -21,10 +22,11 @@ impl<S: Scheme<D> + Drop, L: Elector<S, D>, D: Digest> Views<S, L, D> {
         ensures keeps { IfOk result (λ voted. AtEach S.Scheme L.Elector self.old (λ s h. MatchOption voted (Keeps S.Scheme L.Elector s self.new h) (λ p. Keeps S.Scheme L.Elector s self.new (voted_notarize view p ∷ h)))) }
         ensures answer { IfOk result (λ voted. AtEach S.Scheme L.Elector self.old (λ s h. MatchOption voted (¬ MayNotarize (seen s h view)) (λ p. MayNotarize (seen s h view) × (held (offers (seen s h view)) ≡ Some p)))) }
     {
+        let next_leader = self.handoff_leader(view);
         let Some(proposal) = self.progress.tracked.construct_notarize(view) else {
             return Ok(None);
         };
-        self.progress.tracked.follow(view)?;
+        self.progress.tracked.follow_vote(view, next_leader)?;
         self.backed.mark(view)?;
         Ok(Some(proposal))
     }

@@ -11,7 +11,7 @@ ghost use Rattle.simplex_voter.specs.State.{AtEach, Keeps};
 
 use crate::state::State;
 use simplex_decisions::ProposalRequest;
-use simplex_decisions::requests::build_on;
+use simplex_decisions::requests::{build_on, is_handoff};
 use simplex_rules::Elector;
 use simplex_types::{Context, Digest, Round, Scheme, View};
 
@@ -27,7 +27,7 @@ impl<S: Scheme<D> + Drop, L: Elector<S, D>, D: Digest> State<S, L, D> {
             return None;
         };
         let (view, parent, payload) = first;
-        let is_handoff = self.is_handoff(view, parent, payload);
+        let is_handoff = is_handoff(&self.views, view, parent, payload);
         let Some(leader) = self.views.try_propose(view) else {
             return None;
         };
@@ -37,16 +37,6 @@ impl<S: Scheme<D> + Drop, L: Elector<S, D>, D: Digest> State<S, L, D> {
             parent: (parent, payload),
         };
         Some(ProposalRequest::new(is_handoff, context))
-    }
-
-    /// Whether a build on this parent is a handoff: the view starts a term, and the parent isn't certified with this payload.
-    fn is_handoff(&self, view: View, parent: View, payload: D) -> bool
-        ensures { AtEach S.Scheme L.Elector self.now (λ s h. IsTrue result ↔ IsHandoff (member s) (known s h) view parent payload) }
-    {
-        if !view.is_term_start(self.views.lookahead().length) {
-            return false;
-        }
-        !self.parent_certified(parent, payload)
     }
 
     /// The lowest view where a build is due, with the parent to build on.

@@ -8,7 +8,7 @@ ghost use Rattle.simplex_decisions.specs.Ancestry.{explicit, member};
 ghost use Rattle.simplex_voter.specs.State.{AtEach, Keeps};
 
 use crate::state::State;
-use simplex_decisions::ancestry::explicit_payload;
+use simplex_decisions::ancestry::is_explicit_with;
 use simplex_rules::Elector;
 use simplex_types::{Digest, Scheme, View};
 
@@ -43,9 +43,6 @@ impl<S: Scheme<D> + Drop, L: Elector<S, D>, D: Digest> State<S, L, D> {
     pub fn parent_certified(&self, view: View, payload: D) -> bool
         ensures { AtEach S.Scheme L.Elector self.now (λ s h. IsTrue result ↔ (explicit (member s) (known s h) view ≡ Some payload)) }
     {
-        match explicit_payload(&self.views, view) {
-            Some(given) => given == payload,
-            None => false,
-        }
+        is_explicit_with(&self.views, view, payload)
     }
 }

@@ -1,10 +1,10 @@
 use Rattle.std.proofs.Common.{◌⊎◌, inl, inr, sym, ◌∙◌, subst, ℕ, ◌<◌, ◌≤◌}
 use Rattle.std.proofs.lemmas.Bool.{iff_false}
 use Rattle.std.specs.Prelude.{Option, Some}
-use Rattle.simplex_decisions.specs.Ancestry.{InWindow, IsVotedFor}
+use Rattle.simplex_decisions.specs.Ancestry.{IsVotedFor}
 use Rattle.simplex_decisions.specs.Knowing.{IsLink}
 use Rattle.simplex_decisions.proofs.Testing.{le_passes, le_fails, lt_passes, lt_fails}
-use Rattle.simplex_decisions.proofs.Walking.{covered_of, misplaced_unvoted, outside_unvoted, unbacked_unvoted, uncovered_unvoted, unvoted_none, below_is, voted_is_link}
+use Rattle.simplex_decisions.proofs.Walking.{covered_of, misplaced_unvoted, unbacked_unvoted, uncovered_unvoted, unvoted_none, below_is, voted_is_link}
 use Rattle.simplex_decisions.proofs.ancestry.voted_link.Goals as goal
 use Rattle.simplex_decisions.proofs.ancestry.voted_link.Goals.{then-lt-via-then-lt, then-lt-via-else-lt+then-le}
 
@@ -15,7 +15,7 @@ returns-clause-link g c = λ m k shown some undecided.
     let finalized = c.last_finalized.ensures m k shown in
     let v : IsVotedFor m k c.args.view p = record {
       undecided = undecided;
-      reached = inl (subst (λ (u : ℕ). InWindow m k u) c.next.ensures ((c.is_in_window.ensures m k shown).0 c.if-not-is_in_window.false));
+      reached = (c.is_reached.ensures m k shown some).0 c.if-not-is_reached.false;
       voted = backed.0.voted;
       verified = backed.0.verified;
       held = backed.1;
@@ -31,10 +31,9 @@ returns-then-is_some-clause-link g c = λ m k shown some undecided.
     unvoted_none m k c.args.view undecided some
     (uncovered_unvoted m k c.args.view c.in_ok-proposal.proposal held c.first_uncovered.result (sym c.is_some.ensures ∙ c.if-is_some.true) (c.first_uncovered.ensures m k shown))
 
-pub returns-then-not-is_in_window-clause-link : goal.returns-then-not-is_in_window-clause-link
-returns-then-not-is_in_window-clause-link g c = λ m k shown some undecided.
-    unvoted_none m k c.args.view undecided some
-    (outside_unvoted m k c.args.view c.next.result c.next.ensures (iff_false (c.is_in_window.ensures m k shown) c.if-not-is_in_window.true))
+pub returns-then-not-is_reached-clause-link : goal.returns-then-not-is_reached-clause-link
+returns-then-not-is_reached-clause-link g c = λ m k shown some undecided.
+    unvoted_none m k c.args.view undecided some (λ q v. iff_false (c.is_reached.ensures m k shown some) c.if-not-is_reached.true v.reached)
 
 pub returns-clause-lower : goal.returns-clause-lower
 returns-clause-lower g c = below_is c.args.view (c.in_ok-proposal.proposal.parent, c.bound_payload-bound.result) (le_fails c.args.view c.in_ok-proposal.proposal.parent c.le.ensures c.if-le.false)
@@ -61,5 +60,5 @@ returns-then-lt-clause-link g c = λ m k shown some undecided.
 pub returns-then-is_some-clause-lower : goal.returns-then-is_some-clause-lower
 returns-then-is_some-clause-lower g c = tt
 
-pub returns-then-not-is_in_window-clause-lower : goal.returns-then-not-is_in_window-clause-lower
-returns-then-not-is_in_window-clause-lower g c = tt
+pub returns-then-not-is_reached-clause-lower : goal.returns-then-not-is_reached-clause-lower
+returns-then-not-is_reached-clause-lower g c = tt

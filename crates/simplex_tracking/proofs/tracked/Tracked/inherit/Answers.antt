@@ -5,7 +5,8 @@ use Rattle.std.proofs.lemmas.Result.{MatchResult-weaker}
 use Rattle.simplex_tracking.specs.Tracked.{Holds, inherits_by}
 use Rattle.simplex_tracking.proofs.Choices.{false_is_not}
 use Rattle.simplex_tracking.proofs.Tables.{learn-members}
-use Rattle.simplex_tracking.specs.Laws.{inherits_from, inherits_says, or_none}
+use Rattle.simplex_history.specs.Leading.{or_none}
+use Rattle.simplex_tracking.specs.Laws.{inherits_from, inherits_says}
 use Rattle.simplex_tracking.proofs.Leading.{kept-still, known_stays, nothing_new, of_before}
 use Rattle.simplex_tracking.proofs.tracked.Tracked.inherit.Goals as goal
 

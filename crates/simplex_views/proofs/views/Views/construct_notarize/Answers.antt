@@ -1,4 +1,5 @@
-use Rattle.std.proofs.Common.{refl, ◌∷◌}
+use Rattle.std.proofs.Common.{◌≡◌, ◌==◌, true, refl, ◌∷◌}
+use Rattle.std.proofs.lemmas.Bool.{eq-eqb}
 use Rattle.simplex_history.specs.Past as past
 use Rattle.simplex_history.specs.History as History
 use Rattle.simplex_history.specs.Pasts.{is_direct, put}
@@ -8,6 +9,7 @@ use Rattle.simplex_views.specs.Progress.{frame_of, tables}
 use Rattle.simplex_tracking.specs.Tracked.{Holds}
 use Rattle.simplex_views.specs.Views.{Keeps}
 use Rattle.simplex_tracking.specs.Laws.{put-fact}
+use Rattle.simplex_views.proofs.Following.{voted-at}
 use Rattle.simplex_views.proofs.Stepping.{notarize-still, spoken-closed, still-kept, unmoved}
 use Rattle.simplex_views.proofs.Advancing.{IsAt-tracked, grown-tables}
 use Rattle.simplex_views.proofs.views.Views.construct_notarize.Goals as goal
@@ -26,10 +28,13 @@ returns-clause-keeps g c = λ s h k.
     let voted : Holds g.S.Scheme (frame_of s) c.construct_notarize.new.self (grown-tables s h grown) =
     rw c.in-Some.is at (c.construct_notarize.ensures.keeps (frame_of s) (tables s h) k.progress.tracked) in
     let certificates = put-fact is_direct past.voted_notarize (λ l. refl) view (seen s h) in
-    let followed = c.in_ok-follow.ensures (frame_of s) (grown-tables s h grown) voted
+    let here : (view == view) ≡ true = eq-eqb view view refl in
+    let followed = c.in_ok-follow_vote.ensures (frame_of s) (grown-tables s h grown) voted (c.handoff_leader-next_leader.ensures.member s h k)
     (spoken-closed s h grown view certificates (λ w apart. rw apart refl)) in
-    still-kept (History.voted_notarize view c.in-Some.proposal) (record c.args.self.now.progress { tracked = c.follow.new.self }) c.mark.new.self c.args.self.now.waiting k (notarize-still s h view c.in-Some.proposal)
-    (IsAt-tracked {t' = tables s (History.voted_notarize view c.in-Some.proposal ∷ h)} k.progress followed)
+    let led = voted-at g.S.Scheme c.follow_vote.new.self s h (History.voted_notarize view c.in-Some.proposal) view c.handoff_leader-next_leader.result refl (λ u. refl) (rw here refl)
+    (λ w apart. rw apart refl) (c.handoff_leader-next_leader.ensures.value s h k) followed in
+    still-kept (History.voted_notarize view c.in-Some.proposal) (record c.args.self.now.progress { tracked = c.follow_vote.new.self }) c.mark.new.self c.args.self.now.waiting k (notarize-still s h view c.in-Some.proposal)
+    (IsAt-tracked {t' = tables s (History.voted_notarize view c.in-Some.proposal ∷ h)} k.progress led)
     (c.in_ok-mark.ensures (is_marked s backs h) k.backed) k.waiting
 
 pub returns-in_default-clause-answer : goal.returns-in_default-clause-answer

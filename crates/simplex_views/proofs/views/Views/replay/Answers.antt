@@ -33,19 +33,21 @@ returns-then-is_taken g c = MatchResult-weaker c.mark.result c.mark.ensures
     (λ _ marks s h k.
     let p = c.in-Notarize.vote.proposal in
     let view : c.view-view.result ≡ p.round.view = c.view-view.ensures in
-    let told = recalled-steps c.in-Notarize.vote c.undecided_payload-payload.result c.view-view.result c.replay-2.new.self c.bind.new.self c.follow.new.self k
-    (c.undecided_payload-payload.ensures s h k) view (rw c.in-Notarize.is at c.in_ok-replay.ensures) c.in_ok-bind.ensures c.in_ok-follow.ensures in
+    let told = recalled-steps c.in-Notarize.vote c.undecided_payload-payload.result c.view-view.result c.handoff_leader-next_leader.result c.replay-2.new.self c.bind.new.self c.follow_vote.new.self k
+    (c.undecided_payload-payload.ensures s h k) view (c.handoff_leader-next_leader.ensures.value s h k) (c.handoff_leader-next_leader.ensures.member s h k)
+    (rw c.in-Notarize.is at c.in_ok-replay.ensures) c.in_ok-bind.ensures c.in_ok-follow_vote.ensures in
     let is_taken : told.0 ≡ true = told.1.1 ((c.takes-is_taken.ensures s h k).0 c.if-is_taken.true) in
     let marked : Shows c.mark.new.self (is_marked s backs (History.recalled_notarize p told.0 ∷ h)) = recalled-backed s h p told.0 c.view-view.result c.mark.new.self view is_taken (marks (is_marked s backs h) k.backed) in
-    rw c.in-Notarize.is (told.0, told.1, recalled-notarize p told.0 c.follow.new.self c.mark.new.self k told.2 marked))
+    rw c.in-Notarize.is (told.0, told.1, recalled-notarize p told.0 c.follow_vote.new.self c.mark.new.self k told.2 marked))
     (λ e _. tt)
 
 pub returns : goal.returns
 unfolding Keeps
 returns g c = λ s h k.
     let p = c.in-Notarize.vote.proposal in
-    let told = recalled-steps c.in-Notarize.vote c.undecided_payload-payload.result c.view-view.result c.replay-2.new.self c.bind.new.self c.follow.new.self k
-    (c.undecided_payload-payload.ensures s h k) c.view-view.ensures (rw c.in-Notarize.is at c.in_ok-replay.ensures) c.in_ok-bind.ensures c.in_ok-follow.ensures in
+    let told = recalled-steps c.in-Notarize.vote c.undecided_payload-payload.result c.view-view.result c.handoff_leader-next_leader.result c.replay-2.new.self c.bind.new.self c.follow_vote.new.self k
+    (c.undecided_payload-payload.ensures s h k) c.view-view.ensures (c.handoff_leader-next_leader.ensures.value s h k) (c.handoff_leader-next_leader.ensures.member s h k)
+    (rw c.in-Notarize.is at c.in_ok-replay.ensures) c.in_ok-bind.ensures c.in_ok-follow_vote.ensures in
     let isnt_taken : told.0 ≡ false = not-so told.0 (λ is. is-not c.if-is_taken.false ((c.takes-is_taken.ensures s h k).1 (told.1.0 is))) in
     let marked : Shows c.args.self.now.backed (is_marked s backs (History.recalled_notarize p told.0 ∷ h)) = recalled-unbacked s h p told.0 c.args.self.now.backed isnt_taken k.backed in
-    rw c.in-Notarize.is (told.0, told.1, recalled-notarize p told.0 c.follow.new.self c.args.self.now.backed k told.2 marked)
+    rw c.in-Notarize.is (told.0, told.1, recalled-notarize p told.0 c.follow_vote.new.self c.args.self.now.backed k told.2 marked)

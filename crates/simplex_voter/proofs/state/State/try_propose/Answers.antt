@@ -1,5 +1,6 @@
 use Rattle.std.proofs.Common.{◌∙◌, ◌∷◌, refl}
 use Rattle.simplex_history.specs.History.{build_asked}
+use Rattle.simplex_views.specs.ShowsKnown.{at}
 use Rattle.simplex_voter.specs.State.{Keeps}
 use Rattle.simplex_voter.proofs.Keeping.{keeps_still}
 use Rattle.simplex_voter.proofs.Wanting.{may_propose}
@@ -22,7 +23,7 @@ returns-clause-answer g c = λ s h k.
 pub returns-clause-handoff : goal.returns-clause-handoff
 unfolding Keeps
 returns-clause-handoff g c = λ s h k.
-    let test = c.is_handoff-is_handoff.ensures s h k in
+    let test = c.is_handoff-is_handoff.ensures _ _ (at s h k.views) in
     let wanted = c.new-2.ensures.handoff in
     rw (c.new-2.ensures.context, c.new.ensures.view) (λ yes. test.0 (wanted.0 yes), λ is. wanted.1 (test.1 is))
 
