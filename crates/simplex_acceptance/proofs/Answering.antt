@@ -1,5 +1,5 @@
 -- What comes of the calls on a member's votes.
-use Rattle.std.proofs.Common.{◌≡◌, ℕ, ◌==◌, ◌-◌, ◌≤◌, ◌<◌, Bool, true, false, List, [], ◌∷◌, ⊎_elim, refl, sym, ◌∙◌, ap, subst, arith, if◌then◌else◌}
+use Rattle.std.proofs.Common.{◌≡◌, ◌⊎◌, ℕ, ◌==◌, ◌-◌, ◌≤◌, ◌<◌, Bool, true, false, List, [], ◌∷◌, ⊎_elim, refl, sym, ◌∙◌, ap, subst, arith, if◌then◌else◌}
 use Rattle.std.specs.Prelude.{◌↔◌, nat_lt, Option, Some, None, IfSome, IsSome, IsTrue, MatchOption, is_none, is_some, unwrap_or}
 use Rattle.std.proofs.lemmas.Bool.{cases_Bool, cases_lt, le-ltb, ltb-false, lt-ltb, ne_eqb}
 use Rattle.simplex_types.specs.Positions.{HasRoom}
@@ -12,14 +12,16 @@ use Rattle.simplex_messages.specs.declared.activity.Activity.{Activity}
 use Rattle.simplex_messages.specs.declared.vote.Vote.{Vote}
 use Rattle.simplex_messages.specs.VoteParts.{vote_artifact, vote_round}
 use Rattle.simplex_admission.specs.declared.admission.Admission.{Admission}
+use Rattle.simplex_verifier.specs.declared.fault.BatcherFault.{BatcherFault}
 use Rattle.simplex_verifier.specs.History as votes
 use Rattle.simplex_verifier.specs.History.{Taken, Cast, Certified, Led, Forwarded, forwardable, leader_of, next_kind, recorded}
 use Rattle.simplex_member.specs.Layers.{all_votes, current_of, floor_of, has_room, may_enter, stage, votes_of, votes_setup}
 use Rattle.simplex_member.specs.Point.{History, Point, Came, Found, Heard, Leads, Forwards, Constructs, Votes}
 use Rattle.simplex_member.specs.Setup.{Setup}
+use Rattle.simplex_batcher.specs.Admission.{IsCastFault}
 use Rattle.simplex_acceptance.specs.declared.acceptance.Acceptance.{Acceptance}
 use Rattle.simplex_acceptance.specs.declared.rounds.Rounds.{Rounds}
-use Rattle.simplex_acceptance.specs.Standing.{Common, IsAdmitted, IsCast, Stand, come_up, happened_from, is_passed, put, up_from}
+use Rattle.simplex_acceptance.specs.Standing.{Common, IsAdmitted, IsCast, Stand, come_up, happened_from, is_passed, put, setup_now, up_from}
 use Rattle.simplex_acceptance.specs.Keeps.{Keeps, KeepsAhead, IsSetUp, common_part, stage_ahead, votes_ahead}
 use Rattle.simplex_acceptance.proofs.Changing.{alike}
 use Rattle.simplex_acceptance.proofs.Pieces.{happened-brought}
@@ -47,6 +49,10 @@ both-open floor low view views length b above at same room =
 
 pub none-open : (P : Type 0) (floor low view : ℕ) (b : Bool) → b ≡ false → view < low → low ≡ floor → IsTrue b ↔ ((floor ≤ view) × P)
 none-open P floor low view b isnt below at = (λ is. absurd (cc (is, isnt)), λ both. let from : low ≤ view = subst (λ (n : ℕ). n ≤ view) (sym at) both.0 in absurd (omega (arith, from, below)))
+
+-- what is shut is not open
+pub shut-open : {P : Type 0} (floor view : ℕ) → (view < floor) ⊎ (P → ⊥) → (floor ≤ view) × P → ⊥
+shut-open floor view shut both = ⊎_elim (λ low. omega (arith, low, both.0)) (λ none. none both.1) shut
 
 -- what is not open to votes, but has room, lies below the floor
 pub low-where-shut : {P : Type 0} (floor view : ℕ) {b : Bool} → IsTrue b ↔ ((floor ≤ view) × P) → b ≡ false → P → view < floor
@@ -79,6 +85,11 @@ module _ {S D P G C : Type 0} (g : Ghosts S D P G C) (same : D → D → Bool) (
     floor_is = k.floor_is;
     rounds = brought g same s h (Heard v) new (vote_round v).view (Taken v) (λ u. refl) (λ u vs. refl) refl refl low room stands;
   }
+
+  pub why-now : (v : Vote S D P G C) (e : BatcherFault) → IsCastFault same (setup_now g (common_part s) (stage s h) (vote_round v).view a.current) (votes_of s h (vote_round v).view) v e
+      → IsCastFault same (votes_setup s g h (vote_round v).view) (votes_of s h (vote_round v).view) v e
+  unfolding Keeps
+  why-now v e is = subst (λ (n : ℕ). IsCastFault same (setup_now g (common_part s) (stage s h) (vote_round v).view n) (votes_of s h (vote_round v).view) v e) k.current_is is
 
   module _ (v : Vote S D P G C) where
     -- an own vote is cast

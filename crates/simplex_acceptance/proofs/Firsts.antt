@@ -1,6 +1,6 @@
 -- What comes of the first that happens to the votes of a view.
 use Rattle.std.proofs.Common.{◌≡◌, ◌≢◌, ℕ, ◌==◌, Bool, true, false, List, [], ◌∷◌, ⊎_elim, refl, sym, ◌∙◌, ap, subst, arith}
-use Rattle.std.specs.Prelude.{◌↔◌, Option, Some, None, IsTrue, if◌then◌else◌, is_none}
+use Rattle.std.specs.Prelude.{◌↔◌, Option, Some, None, IsTrue, if◌then◌else◌, is_none, unwrap_or}
 use Rattle.std.specs.BTreeMap.{get}
 use Rattle.std.specs.BTreeSet.{contains}
 use Rattle.std.specs.Ordering.{nat_cmp}
@@ -19,7 +19,7 @@ use Rattle.simplex_verifier.specs.declared.fault.BatcherFault.TheVariants.{Wrong
 use Rattle.simplex_verifier.specs.History.{Event, History, Taken, Cast, Certified, recorded, takes}
 use Rattle.simplex_verifier.specs.Lawful.{VoteAttests}
 use Rattle.simplex_batcher.specs.declared.round.Round.{Round}
-use Rattle.simplex_batcher.specs.Admission.{AgreesWithOwn, IsAdmissionFault, IsBlocked, report_of}
+use Rattle.simplex_batcher.specs.Admission.{AgreesWithOwn, IsAdmissionFault, IsBlocked, IsCastFault, contradicts, report_of}
 use Rattle.simplex_batcher.specs.Rounds.{RoundKeeps}
 use Rattle.simplex_batcher.specs.Rounds as one
 use Rattle.simplex_acceptance.specs.declared.rounds.Rounds.{Rounds}
@@ -71,6 +71,15 @@ module _ {S D P G C : Type 0} (g : Ghosts S D P G C) (same : D → D → Bool) (
         let bare = unknown g same s view (get nat_cmp old.by_view view) (up view) (happened view) none (k.kept view) in
         own (setup_at g s view (is_passed s view current)) [] (fresh s k.shared) (round-of (vote_round v) s.epoch view epoch (sym ours)) (rw bare.1 at agrees))
 
+    pub first-why : (e : BatcherFault) → one.AtEach same g g.batchable round (λ s h. IsCastFault same s h v e)
+        → AtEach g same old (λ s up happened. get nat_cmp old.by_view (vote_round v).view ≡ None → IsCastFault same (setup_now g s up (vote_round v).view current) (happened (vote_round v).view) v e)
+    first-why e why = λ s up happened k. subst (λ (w : ℕ). get nat_cmp old.by_view w ≡ None → IsCastFault same (setup_now g s up w current) (happened w) v e) ours
+        (λ none.
+        let bare = unknown g same s view (get nat_cmp old.by_view view) (up view) (happened view) none (k.kept view) in
+        subst (λ (o : Option Bool). IsCastFault same (setup_at g s view (unwrap_or o (is_passed s view current))) (happened view) v e) (sym bare.0)
+        (subst (λ (h : History S D P G C). IsCastFault same (setup_at g s view (is_passed s view current)) h v e) (sym bare.1)
+        (why (setup_at g s view (is_passed s view current)) [] (fresh s k.shared))))
+
   module _ (c : Certificate S D P G C) (ours : view ≡ (certificate_round c).view) where
     pub first-foreign : (e : BatcherFault) → one.AtEach same g g.batchable round (λ s h. (certificate_round c ≢ s.round) × (e ≡ WrongRound)) → AtEach g same old (λ s up happened. (certificate_round c).epoch ≡ s.epoch → e ≡ Memory)
     first-foreign e refused = λ s up happened k epoch. absurd ((refused (setup_at g s view (is_passed s view current)) [] (fresh s k.shared)).0 (round-of (certificate_round c) s.epoch view epoch (sym ours)))
@@ -106,17 +115,18 @@ module _ {S D P G C : Type 0} (g : Ghosts S D P G C) (same : D → D → Bool) (
     -- an own vote is cast
     pub first-cast : (o : Option (Activity S D P G C)) → one.AtEach same g g.batchable round (λ s h. o ≡ (if is_none (recorded h v) then Some (as_report v) else None))
         → one.AtEach same g g.batchable round (λ s h. VoteAttests g.attests s v → RoundKeeps same g g.batchable s round' (if is_none (recorded h v) then Cast v ∷ h else h))
+        → one.AtEach same g g.batchable round (λ s h. contradicts same h v ≡ false)
         → AtEach g same old (λ s up happened. get nat_cmp old.by_view (vote_round v).view ≡ None → contains nat_cmp old.touched (vote_round v).view ≡ true → IsCast g same s up happened new current v o)
-    first-cast o report ok = λ s up happened k.
+    first-cast o report ok agrees = λ s up happened k.
         let st = setup_at g s view (is_passed s view current) in
         let here = fresh s k.shared in
         subst (λ (w : ℕ). get nat_cmp old.by_view w ≡ None → contains nat_cmp old.touched w ≡ true → IsCast g same s up happened new current v o) ours
         (λ none touched.
         let bare = unknown g same s view (get nat_cmp old.by_view view) (up view) (happened view) none (k.kept view) in
         subst (λ (w : ℕ). (o ≡ (if is_none (recorded (happened w) v) then Some (as_report v) else None)) → (VoteAttests g.attests st v → Stand g same s new (come_up w (is_passed s w current) up) (put w (Cast v) happened))
-        → (is_none (recorded (happened w) v) ≡ false → ⊥) → IsCast g same s up happened new current v o) (sym ours)
-        (λ x y z. record { report_is = x; cast = λ attests free. y attests; again = λ no. absurd (z no) })
-        (rw bare.1 (report st [] here)) (λ attests. first-put (Cast v) s up happened k none touched (ok st [] here attests)) (rw bare.1 (λ no. absurd (cc no))))
+        → (is_none (recorded (happened w) v) ≡ false → ⊥) → (contradicts same (happened w) v ≡ false) → IsCast g same s up happened new current v o) (sym ours)
+        (λ x y z a. record { report_is = x; cast = λ attests free. y attests; again = λ no. absurd (z no); agrees = a })
+        (rw bare.1 (report st [] here)) (λ attests. first-put (Cast v) s up happened k none touched (ok st [] here attests)) (rw bare.1 (λ no. absurd (cc no))) (rw bare.1 (agrees st [] here)))
 
   module _ (c : Certificate S D P G C) (ours : view ≡ (certificate_round c).view) where
     -- a certificate is recorded

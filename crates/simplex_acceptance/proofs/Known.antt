@@ -22,7 +22,7 @@ use Rattle.simplex_verifier.specs.declared.fault.BatcherFault.TheVariants.{Wrong
 use Rattle.simplex_verifier.specs.History.{Event, Taken, Cast, Certified, Led, History, Setup, leader_of, recorded, takes}
 use Rattle.simplex_verifier.specs.Lawful.{VoteAttests}
 use Rattle.simplex_batcher.specs.declared.round.Round.{Round}
-use Rattle.simplex_batcher.specs.Admission.{AgreesWithOwn, IsAdmissionFault, IsBlocked, IsCastFault, report_of}
+use Rattle.simplex_batcher.specs.Admission.{AgreesWithOwn, IsAdmissionFault, IsBlocked, IsCastFault, contradicts, report_of}
 use Rattle.simplex_batcher.specs.Rounds.{RoundKeeps}
 use Rattle.simplex_batcher.specs.Rounds as one
 use Rattle.simplex_acceptance.specs.declared.rounds.Rounds.{Rounds}
@@ -141,20 +141,29 @@ module _ {S D P G C : Type 0} (g : Ghosts S D P G C) (same : D → D → Bool) (
         → IfOk r (λ report. one.AtEach same g g.batchable round (λ s h. report ≡ (if is_none (recorded h v) then Some (as_report v) else None)))
         → OnOk r (one.AtEach same g g.batchable round (λ s h. VoteAttests g.attests s v → RoundKeeps same g g.batchable s round' (if is_none (recorded h v) then Cast v ∷ h else h)))
         → OnOk r (one.AtEach same g g.batchable round (λ s h. is_none (recorded h v) ≡ false → RoundKeeps same g g.batchable s round' h))
+        → IfOk r (λ report. one.AtEach same g g.batchable round (λ s h. contradicts same h v ≡ false))
         → IfOk r (λ report. AtEach g same old (λ s up happened. IsCast g same s up happened (record mid { by_view = m }) current v report))
-    known-cast current (Err e) report ok again = tt
-    known-cast current (Ok o) report ok again = λ s up happened before.
+    known-cast current (Err e) report ok again agrees = tt
+    known-cast current (Ok o) report ok again agrees = λ s up happened before.
         let k = opens s up happened before in
         let here = stands-here g same s mid up happened view k current round there in
         let st = setup_now g s up view current in
         subst (λ (w : ℕ). (o ≡ (if is_none (recorded (happened w) v) then Some (as_report v) else None))
         → (VoteAttests g.attests st v → is_none (recorded (happened w) v) ≡ true → Stand g same s (record mid { by_view = m }) (come_up w (is_passed s w current) up) (put w (Cast v) happened))
-        → (is_none (recorded (happened w) v) ≡ false → Stand g same s (record mid { by_view = m }) up happened) → IsCast g same s up happened (record mid { by_view = m }) current v o) (sym ours)
-        (λ x y z. record { report_is = x; cast = y; again = z })
+        → (is_none (recorded (happened w) v) ≡ false → Stand g same s (record mid { by_view = m }) up happened) → (contradicts same (happened w) v ≡ false) → IsCast g same s up happened (record mid { by_view = m }) current v o) (sym ours)
+        (λ x y z a. record { report_is = x; cast = y; again = z; agrees = a })
         (report st (happened view) here)
         (λ attests free. moved-put g same s mid up happened view k current round there round' m updates touched (Cast v) refl
         (subst (λ (b : Bool). RoundKeeps same g g.batchable st round' (if b then Cast v ∷ happened view else happened view)) free (ok st (happened view) here attests)))
         (λ no. moved-still g same s mid up happened view k current round there round' m updates touched (again st (happened view) here no))
+        (agrees st (happened view) here)
+
+    pub known-why : (current : ℕ) (r : Result (Option (Activity S D P G C)) BatcherFault) → IfErr r (λ e. one.AtEach same g g.batchable round (λ s h. IsCastFault same s h v e))
+        → IfErr r (λ e. AtEach g same old (λ s up happened. IsCastFault same (setup_now g s up (vote_round v).view current) (happened (vote_round v).view) v e))
+    known-why current (Ok a) why = tt
+    known-why current (Err e) why = λ s up happened before.
+        subst (λ (w : ℕ). IsCastFault same (setup_now g s up w current) (happened w) v e) ours
+        (why (setup_now g s up view current) (happened view) (stands-here g same s mid up happened view (opens s up happened before) current round there))
 
     pub known-own : (r : Result (Option (Activity S D P G C)) BatcherFault) → IfErr r (λ e. one.AtEach same g g.batchable round (λ s h. vote_round v ≡ s.round → AgreesWithOwn same h v → e ≡ Memory))
         → IfErr r (λ e. AtEach g same old (λ s up happened. (vote_round v).epoch ≡ s.epoch → AgreesWithOwn same (happened (vote_round v).view) v → e ≡ Memory))

@@ -1,5 +1,5 @@
 -- At which history of its node the votes of all views stand.
-use Rattle.std.specs.Prelude.{◌≡◌, ◌≢◌, ◌≤◌, ◌&&◌, nat_lt, ℕ, Bool, List, [], ◌∷◌, Option, Some, None, IsSome, MatchOption, if◌then◌else◌, is_none, true, false}
+use Rattle.std.specs.Prelude.{◌≡◌, ◌≢◌, ◌⊎◌, ◌<◌, ◌≤◌, ◌&&◌, nat_lt, ℕ, Bool, List, [], ◌∷◌, Option, Some, None, IsSome, MatchOption, if◌then◌else◌, is_none, true, false}
 use Rattle.std.specs.Option.{option_or}
 use Rattle.simplex_types.specs.declared.position.Round.{Round}
 use Rattle.simplex_types.specs.declared.scheme.Scheme.{Ghosts}
@@ -38,6 +38,10 @@ module _ {S D P G C : Type 0} where
     pub epoch : r.epoch ≡ s.voter.epoch
     pub kept : floor_of s h ≤ r.view
     pub room : HasRoom s.voter.length r.view
+
+  -- nothing is kept of the votes of a view: it is below the floor, or has no room
+  abbrev pub IsShut : Setup S D C → History S D P G C → ℕ → Type 0
+  IsShut s h view = (view < floor_of s h) ⊎ ¬ HasRoom s.voter.length view
 
   -- an own vote attests what it states, is of the epoch, has room, and no accepted vote stands in its way
   pub record IsNewVote (g : Ghosts S D P G C) (s : Setup S D C) (h : History S D P G C) (v : Vote S D P G C) : Type 0 where

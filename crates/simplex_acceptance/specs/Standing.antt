@@ -15,7 +15,7 @@ use Rattle.simplex_admission.specs.Evidence.{as_report}
 use Rattle.simplex_verifier.specs.ConstructionResult.{IsBatch, after}
 use Rattle.simplex_verifier.specs.History.{Event, Taken, Cast, Certified, Led, Forwarded, History, Setup, forwardable, leader_of, next_kind, recorded, takes}
 use Rattle.simplex_verifier.specs.Votes.{vote_attestation, vote_statement}
-use Rattle.simplex_batcher.specs.Admission.{IsBlocked, report_of}
+use Rattle.simplex_batcher.specs.Admission.{IsBlocked, contradicts, report_of}
 use Rattle.simplex_batcher.specs.declared.round.Round.{Round}
 use Rattle.simplex_batcher.specs.Rounds.{RoundKeeps}
 use Rattle.simplex_acceptance.specs.declared.due.Due.{Due}
@@ -118,12 +118,13 @@ module _ {S D P G C : Type 0} (g : Ghosts S D P G C) (same : D → D → Bool) w
     pub taken : a.added ≡ true → Stand s new (come_up (vote_round v).view (is_passed s (vote_round v).view current) up) (put (vote_round v).view (Taken v) happened)
     pub passed : a.added ≡ false → Stand s new up happened
 
-  -- an own vote was told to its round: where it is new, it is cast
+  -- an own vote was told to its round, and contradicts no recorded one: where it is new, it is cast
   pub record IsCast (s : Common S) (up : ℕ → Option Bool) (happened : ℕ → History S D P G C) (new : Rounds S D P G C) (current : ℕ) (v : Vote S D P G C) (report : Option (Activity S D P G C)) : Type 0 where
     pub report_is : report ≡ (if is_none (recorded (happened (vote_round v).view) v) then Some (as_report v) else None)
     pub cast : g.attests s.scheme (vote_signer v) (vote_statement v) (vote_attestation v).signature → is_none (recorded (happened (vote_round v).view) v) ≡ true
         → Stand s new (come_up (vote_round v).view (is_passed s (vote_round v).view current) up) (put (vote_round v).view (Cast v) happened)
     pub again : is_none (recorded (happened (vote_round v).view) v) ≡ false → Stand s new up happened
+    pub agrees : contradicts same (happened (vote_round v).view) v ≡ false
 
   -- what was due of the votes of one round is done: the proposal is forwarded; or a construction of the kind that is due was made; or
   -- nothing was due

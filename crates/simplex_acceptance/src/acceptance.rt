@@ -10,14 +10,14 @@ ghost use Rattle.simplex_admission.specs.Evidence.{as_report};
 ghost use Rattle.simplex_verifier.specs.declared.fault.BatcherFault.TheVariants.{Memory};
 ghost use Rattle.simplex_verifier.specs.History.{forwardable, leader_of, next_kind, recorded, takes};
 ghost use Rattle.simplex_verifier.specs.Votes.{vote_attestation, vote_statement};
-ghost use Rattle.simplex_batcher.specs.Admission.{AgreesWithOwn, IsBlocked, report_of};
+ghost use Rattle.simplex_batcher.specs.Admission.{AgreesWithOwn, IsBlocked, IsCastFault, contradicts, report_of};
 ghost use Rattle.simplex_batcher.specs.Queries.{has_nullify, is_missing_voter};
 ghost use Rattle.simplex_member.specs.Layers.{current_of, floor_of, may_enter, stage, votes_of, votes_setup};
 ghost use Rattle.simplex_member.specs.Point.{Point, History, Came, Found, Heard, Leads, Votes};
 ghost use Rattle.simplex_member.specs.Setup.{Setup};
 ghost use Rattle.simplex_verifier.specs.History as votes;
 ghost use Rattle.simplex_acceptance.specs.Standing.{happened_from, up_from};
-ghost use Rattle.simplex_acceptance.specs.Keeps.{AtEach, Does, IsAt, IsNewVote, IsOpenTo, IsSetUp, Keeps, KeepsAhead, NoneIsDue};
+ghost use Rattle.simplex_acceptance.specs.Keeps.{AtEach, Does, IsAt, IsNewVote, IsOpenTo, IsSetUp, IsShut, Keeps, KeepsAhead, NoneIsDue};
 
 use crate::due::Due;
 use crate::rounds::Rounds;
@@ -71,6 +71,7 @@ impl<S: Scheme<D> + Drop, D: Digest> Acceptance<S, D> {
         ensures added { IfOk result (λ a. AtEach S.Scheme D.PartialEq.eq self.old (λ s h. IsOpenTo s h (vote_round vote) → a.added ≡ takes (votes_setup s S.Scheme h (vote_round vote).view) (votes_of s h (vote_round vote).view) sender vote)) }
         ensures block { IfOk result (λ a. AtEach S.Scheme D.PartialEq.eq self.old (λ s h. IsOpenTo s h (vote_round vote) → IsTrue a.block ↔ IsBlocked (votes_setup s S.Scheme h (vote_round vote).view) (votes_of s h (vote_round vote).view) sender vote)) }
         ensures report { IfOk result (λ a. AtEach S.Scheme D.PartialEq.eq self.old (λ s h. IsOpenTo s h (vote_round vote) → a.report ≡ report_of D.PartialEq.eq (votes_setup s S.Scheme h (vote_round vote).view) (votes_of s h (vote_round vote).view) sender vote)) }
+        ensures shut { IfOk result (λ a. AtEach S.Scheme D.PartialEq.eq self.old (λ s h. IsShut s h (vote_round vote).view → (a.added ≡ false) × (a.block ≡ false) × (a.report ≡ None))) }
         ensures heard { IfOk result (λ a. a.added ≡ true → AtEach S.Scheme D.PartialEq.eq self.old (λ s h. Keeps S.Scheme D.PartialEq.eq s self.new (Heard vote ∷ h))) }
         ensures refused { IfOk result (λ a. a.added ≡ false → AtEach S.Scheme D.PartialEq.eq self.old (λ s h. Keeps S.Scheme D.PartialEq.eq s self.new h)) }
         ensures fault { IfErr result (λ e. AtEach S.Scheme D.PartialEq.eq self.old (λ s h. (vote_round vote).epoch ≡ s.voter.epoch → e ≡ Memory)) }
@@ -108,7 +109,10 @@ impl<S: Scheme<D> + Drop, D: Digest> Acceptance<S, D> {
         ensures report { IfOk result (λ report. AtEach S.Scheme D.PartialEq.eq self.old (λ s h. IsOpenTo s h (vote_round vote) → report ≡ (if is_none (recorded (votes_of s h (vote_round vote).view) vote) then Some (as_report vote) else None))) }
         ensures cast { OnOk result (AtEach S.Scheme D.PartialEq.eq self.old (λ s h. IsNewVote S.Scheme s h vote → Keeps S.Scheme D.PartialEq.eq s self.new (Votes vote ∷ h))) }
         ensures found { OnOk result (AtEach S.Scheme D.PartialEq.eq self.old (λ s h. IsNewVote S.Scheme s h vote → (taken : Bool) → KeepsAhead S.Scheme D.PartialEq.eq s self.new h (Found (vote_artifact vote) taken))) }
+        ensures shut { IfOk result (λ report. AtEach S.Scheme D.PartialEq.eq self.old (λ s h. IsShut s h (vote_round vote).view → (report ≡ None) × Keeps S.Scheme D.PartialEq.eq s self.new h)) }
+        ensures agrees { OnOk result (AtEach S.Scheme D.PartialEq.eq self.old (λ s h. IsOpenTo s h (vote_round vote) → contradicts D.PartialEq.eq (votes_of s h (vote_round vote).view) vote ≡ false)) }
         ensures again { OnOk result (AtEach S.Scheme D.PartialEq.eq self.old (λ s h. is_none (recorded (votes_of s h (vote_round vote).view) vote) ≡ false → Keeps S.Scheme D.PartialEq.eq s self.new h)) }
+        ensures why { IfErr result (λ e. AtEach S.Scheme D.PartialEq.eq self.old (λ s h. IsCastFault D.PartialEq.eq (votes_setup s S.Scheme h (vote_round vote).view) (votes_of s h (vote_round vote).view) vote e)) }
         ensures fault { IfErr result (λ e. AtEach S.Scheme D.PartialEq.eq self.old (λ s h. (vote_round vote).epoch ≡ s.voter.epoch → AgreesWithOwn D.PartialEq.eq (votes_of s h (vote_round vote).view) vote → e ≡ Memory)) }
         ensures err { OnErr result (AtEach S.Scheme D.PartialEq.eq self.old (λ s h. Keeps S.Scheme D.PartialEq.eq s self.new h)) }
     {
@@ -132,6 +136,7 @@ impl<S: Scheme<D> + Drop, D: Digest> Acceptance<S, D> {
     pub fn record(&mut self, certificate: &Certificate<S, D>) -> Result<(), BatcherFault>
         ensures came { OnOk result (AtEach S.Scheme D.PartialEq.eq self.old (λ s h. HasRoom s.voter.length (certificate_round certificate.now).view → KeepsAhead S.Scheme D.PartialEq.eq s self.new h (Came certificate.now))) }
         ensures found { OnOk result (AtEach S.Scheme D.PartialEq.eq self.old (λ s h. HasRoom s.voter.length (certificate_round certificate.now).view → (taken : Bool) → KeepsAhead S.Scheme D.PartialEq.eq s self.new h (Found (certificate_artifact certificate.now) taken))) }
+        ensures shut { OnOk result (AtEach S.Scheme D.PartialEq.eq self.old (λ s h. IsShut s h (certificate_round certificate.now).view → Keeps S.Scheme D.PartialEq.eq s self.new h)) }
         ensures fault { IfErr result (λ e. AtEach S.Scheme D.PartialEq.eq self.old (λ s h. (certificate_round certificate.now).epoch ≡ s.voter.epoch → e ≡ Memory)) }
         ensures err { OnErr result (AtEach S.Scheme D.PartialEq.eq self.old (λ s h. Keeps S.Scheme D.PartialEq.eq s self.new h)) }
     {

@@ -9,10 +9,10 @@ ghost use Rattle.simplex_certificates.specs.Certificate.{certificate_round};
 ghost use Rattle.simplex_verifier.specs.declared.fault.BatcherFault.TheVariants.{Memory};
 ghost use Rattle.simplex_verifier.specs.History.{Certified, History, Led, leader_of};
 ghost use Rattle.simplex_batcher.specs.Queries.{has_nullify, is_missing_voter};
-ghost use Rattle.simplex_batcher.specs.Admission.{AgreesWithOwn};
+ghost use Rattle.simplex_batcher.specs.Admission.{AgreesWithOwn, IsCastFault};
 ghost use Rattle.simplex_batcher.specs.Rounds.{RoundKeeps};
 ghost use Rattle.simplex_batcher.specs.Rounds as one;
-ghost use Rattle.simplex_acceptance.specs.Standing.{AreAlike, AreAtRest, AtEach, Common, IsAdmitted, IsCast, IsDone, IsRoundDone, Stand, come_up, common_of, happened_from, is_passed, put, set_at, setup_at, up_from};
+ghost use Rattle.simplex_acceptance.specs.Standing.{AreAlike, AreAtRest, AtEach, Common, IsAdmitted, IsCast, IsDone, IsRoundDone, Stand, come_up, common_of, happened_from, is_passed, put, set_at, setup_at, setup_now, up_from};
 
 use crate::due::Due;
 use simplex_batcher::{Admission, BatcherFault, Round};
@@ -147,6 +147,7 @@ impl<S: Scheme<D> + Drop, D: Digest> Rounds<S, D> {
     ) -> Result<Option<Activity<S, D>>, BatcherFault>
         ensures cast { IfOk result (λ report. AtEach S.Scheme D.PartialEq.eq self.old (λ s up happened. IsCast S.Scheme D.PartialEq.eq s up happened self.new current vote report)) }
         ensures refused { IfErr result (λ e. AtEach S.Scheme D.PartialEq.eq self.old (λ s up happened. (vote_round vote).epoch ≡ s.epoch → AgreesWithOwn D.PartialEq.eq (happened (vote_round vote).view) vote → e ≡ Memory)) }
+        ensures why { IfErr result (λ e. AtEach S.Scheme D.PartialEq.eq self.old (λ s up happened. IsCastFault D.PartialEq.eq (setup_now S.Scheme s up (vote_round vote).view current) (happened (vote_round vote).view) vote e)) }
         ensures err { OnErr result (AtEach S.Scheme D.PartialEq.eq self.old (λ s up happened. Stand S.Scheme D.PartialEq.eq s self.new up happened)) }
     {
         let view = vote.view();
@@ -166,6 +167,7 @@ impl<S: Scheme<D> + Drop, D: Digest> Rounds<S, D> {
         ensures cast { IfOk result (λ report. AtEach S.Scheme D.PartialEq.eq self.old (λ s up happened. get nat_cmp self.old.by_view (vote_round vote).view ≡ None → contains nat_cmp self.old.touched (vote_round vote).view ≡ true
             → IsCast S.Scheme D.PartialEq.eq s up happened self.new current vote report)) }
         ensures refused { IfErr result (λ e. AtEach S.Scheme D.PartialEq.eq self.old (λ s up happened. get nat_cmp self.old.by_view (vote_round vote).view ≡ None → (vote_round vote).epoch ≡ s.epoch → AgreesWithOwn D.PartialEq.eq (happened (vote_round vote).view) vote → e ≡ Memory)) }
+        ensures why { IfErr result (λ e. AtEach S.Scheme D.PartialEq.eq self.old (λ s up happened. get nat_cmp self.old.by_view (vote_round vote).view ≡ None → IsCastFault D.PartialEq.eq (setup_now S.Scheme s up (vote_round vote).view current) (happened (vote_round vote).view) vote e)) }
         ensures err { OnErr result (AtEach S.Scheme D.PartialEq.eq self.old (λ s up happened. Stand S.Scheme D.PartialEq.eq s self.new up happened)) }
     {
         let view = vote.view();

@@ -23,8 +23,7 @@ use Rattle.simplex_member.specs.Packet.{Formats, of_certificate}
 use Rattle.simplex_member.specs.Point.{History, Point}
 use Rattle.simplex_member.specs.Recorded.{record_of, reported}
 use Rattle.simplex_member.specs.Setup.{Setup}
-use Rattle.simplex_node.specs.Handing.{HandsOut}
-use Rattle.simplex_node.proofs.Deeds.{both_more}
+use Rattle.simplex_exchange.specs.Handing.{HandsOut, both_more}
 
 module _ {S D P G C : Type 0} where
   -- a certificate that may be recorded is of a view with room
@@ -32,12 +31,6 @@ module _ {S D P G C : Type 0} where
   room_of length before (certificate.Notarization c) follows = follows.room
   room_of length before (certificate.Nullification c) follows = follows.room
   room_of length before (certificate.Finalization c) follows = follows.room
-
-  -- and none like it is recorded
-  pub first_of : (length : ℕ) (before : List (Entry D)) (c : Certificate S D P G C) → MayFollow length before (entry (certificate_artifact c)) → (y : Statement D) → AreAlike (certificate_statement c) y → HasTaken before y → ⊥
-  first_of length before (certificate.Notarization c) follows = follows.first
-  first_of length before (certificate.Nullification c) follows = follows.first
-  first_of length before (certificate.Finalization c) follows = follows.first
 
   -- of a certificate an artifact says no more than that it was handed out
   pub recalls_sent : (taken : Bool) (c : Certificate S D P G C) → recalls taken (certificate_artifact c) ≡ recalls false (certificate_artifact c)

@@ -32,7 +32,3 @@ module _ {S D P G C : Type 0} (g : Ghosts S D P G C) (f : Formats S D P G C) (s 
   pub left_at_rest : (h : History S D P G C) (p : Point S D P G C) (old new : List Call)
       → LeavesOnly old new (λ image. Reads image (map f.artifact (record_of h))) → LeavesOnly old new (IsLeftBy g f s h p)
   left_at_rest h p old new leaves = weaker (IsLeftBy g f s h p) leaves (λ image read. inl read)
-
--- where a crash leaves the record, it leaves it with one more artifact or without
-pub left_without : (old new : List Call) (bodies : List (List ℕ)) (body : List ℕ) → LeavesOnly old new (λ image. Reads image bodies) → LeavesOnly old new (IsWithOrWithout bodies body)
-left_without old new bodies body leaves = weaker (IsWithOrWithout bodies body) leaves (λ image read. inl read)

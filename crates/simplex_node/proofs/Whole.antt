@@ -12,11 +12,13 @@ use Rattle.simplex_member.specs.declared.action.Action.{Action}
 use Rattle.simplex_member.specs.Layers.{finalized_of}
 use Rattle.simplex_member.specs.Packet.{Formats}
 use Rattle.simplex_member.specs.Setup.{Setup, IsInTime, owner_of, setup_of}
-use Rattle.simplex_node.specs.declared.layers.Layers.{Layers}
+use Rattle.simplex_recalling.specs.declared.layers.Layers.{Layers}
 use Rattle.simplex_node.specs.declared.node.Node.{Node}
-use Rattle.simplex_node.specs.declared.settings.Settings.{Settings}
-use Rattle.simplex_node.specs.Keeps.{IsSetUp, NodeKeeps}
-use Rattle.simplex_node.specs.Opening.{HasBegun, IsOpen}
+use Rattle.simplex_recalling.specs.declared.settings.Settings.{Settings}
+use Rattle.simplex_recalling.specs.SettingUp.{IsSetUp}
+use Rattle.simplex_node.specs.Keeps.{NodeKeeps}
+use Rattle.simplex_recalling.specs.GoingThrough.{HasBegun}
+use Rattle.simplex_node.specs.Opening.{IsOpen}
 
 module _ {S L D P G C K : Type 0} (g : Ghosts S D P G C) (e : elector.Ghosts L S D P G C) (k : disk.Ghosts K) (f : Formats S D P G C) where
   -- once the record was gone through, the history and the ledger agree: the node of both stands there

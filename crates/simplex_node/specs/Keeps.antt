@@ -1,5 +1,5 @@
 -- At which history a node stands. Each part speaks of a field's value: what does not change needs no proof.
-use Rattle.std.specs.Prelude.{◌≡◌, ℕ, Bool, true, false, Some}
+use Rattle.std.specs.Prelude.{◌≡◌, ℕ, Bool, true, false}
 use Rattle.simplex_types.specs.declared.scheme.Scheme.{Ghosts}
 use Rattle.simplex_rules.specs.declared.elector.Elector as elector
 use Rattle.simplex_voter.specs.State as voting
@@ -14,9 +14,9 @@ use Rattle.simplex_member.specs.Layers.{finalized_of, is_begun, repair_of, voter
 use Rattle.simplex_member.specs.Packet.{Formats}
 use Rattle.simplex_member.specs.Point.{History}
 use Rattle.simplex_member.specs.Recorded.{record_of}
-use Rattle.simplex_member.specs.Setup.{Setup, longest_timeout, owner_of}
+use Rattle.simplex_member.specs.Setup.{Setup, owner_of}
+use Rattle.simplex_recalling.specs.SettingUp.{IsSetUp}
 use Rattle.simplex_node.specs.declared.node.Node.{Node}
-use Rattle.simplex_node.specs.declared.settings.Settings.{Settings}
 
 -- the disk that a node stands on
 abbrev pub disk_of : {S L D K P G C : Type 0} → Node S L D K P G C → K
@@ -25,16 +25,6 @@ disk_of node = ledgers.disk_of node.ledger
 -- a step of the node has failed
 abbrev pub has_failed : {S L D K P G C : Type 0} → Node S L D K P G C → Bool
 has_failed node = node.failed
-
-module _ {S D C : Type 0} where
-  -- a node is set up so: by the scheme's own member
-  pub record IsSetUp (s : Setup S D C) (settings : Settings S) : Type 0 where
-    pub scheme_is : settings.scheme.value ≡ s.voter.scheme
-    pub me_is : s.voter.me ≡ Some s.me
-    pub owner_is : settings.owner ≡ owner_of s
-    pub forward_is : settings.forward ≡ s.forward
-    pub silence_is : settings.silence ≡ s.silence
-    pub longest_is : settings.longest ≡ longest_timeout s
 
 module _ {S L D P G C K : Type 0} (g : Ghosts S D P G C) (e : elector.Ghosts L S D P G C) (k : disk.Ghosts K) where
   -- the node stands where this history leads: the record was gone through, each point was allowed, no step has failed, and each

@@ -1,13 +1,10 @@
 pub mod Entering
-pub mod Handing
 pub mod Keeps
-pub mod Learning
 pub mod Taking
 pub mod Answering
 pub mod Verdicts
 pub mod Opening
 pub mod Deciding
 pub mod Hearing
-pub mod Packets
 pub mod Refusing
 pub mod Stepping

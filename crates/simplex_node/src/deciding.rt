@@ -7,12 +7,12 @@ ghost use Rattle.simplex_member.specs.Packet.{formats};
 ghost use Rattle.simplex_member.specs.Refusals.{needs_nothing, packet_tests};
 ghost use Rattle.simplex_node.specs.Deciding.{IsDecided};
 ghost use Rattle.simplex_node.specs.Keeps.{AtAll, AtOwn};
-ghost use Rattle.simplex_node.specs.Packets.{as_packet};
+ghost use Rattle.simplex_exchange.specs.Packets.{as_packet};
 ghost use Rattle.simplex_node.specs.Refusing.{IsAnother, bytes_tests};
 
 use crate::node::Node;
-use crate::packets::{Message, message_in};
 use simplex_certificates::Certificate;
+use simplex_exchange::{Message, message_in};
 use simplex_journal::Disk;
 use simplex_member::{Channel, Refusal};
 use simplex_messages::Vote;

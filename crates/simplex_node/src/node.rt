@@ -4,9 +4,9 @@ ghost use Rattle.std.specs.Prelude.{◌≡◌, false};
 ghost use Rattle.simplex_member.specs.Layers.{current_of, finalized_of};
 ghost use Rattle.simplex_node.specs.Keeps.{AtAll, disk_of, has_failed};
 
-use crate::settings::Settings;
 use simplex_acceptance::Acceptance;
 use simplex_journal::Disk;
+use simplex_recalling::Settings;
 use simplex_recording::{Ledger, Tables};
 use simplex_resolver::State as Repair;
 use simplex_rules::Elector;

@@ -11,16 +11,16 @@ ghost use Rattle.simplex_member.specs.declared.fault.OpenFault.TheVariants as op
 ghost use Rattle.simplex_member.specs.First.{IsFirst};
 ghost use Rattle.simplex_member.specs.Packet.{formats};
 ghost use Rattle.simplex_member.specs.Setup.{IsInTime, owner_of, setup_of, silence_of};
-ghost use Rattle.simplex_node.specs.Keeps.{IsSetUp, disk_of};
+ghost use Rattle.simplex_recalling.specs.SettingUp.{IsSetUp};
+ghost use Rattle.simplex_node.specs.Keeps.{disk_of};
 ghost use Rattle.simplex_node.specs.Opening.{IsOpen, MayBeLeft, early, open_tests};
 
-use crate::layers::Layers;
 use crate::node::Node;
-use crate::settings::Settings;
 use simplex_certificates::Artifact;
 use simplex_decisions::config::{Config, SkipPolicy, check_config};
 use simplex_journal::{Disk, a_disk_reads_as_one_record};
 use simplex_member::{Action, OpenFault};
+use simplex_recalling::{Layers, Settings};
 use simplex_record::Owner;
 use simplex_recording::Ledger;
 use simplex_rules::{Elector, Terms};

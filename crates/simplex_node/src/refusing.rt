@@ -9,14 +9,14 @@ ghost use Rattle.simplex_member.specs.First.{IsFirst};
 ghost use Rattle.simplex_member.specs.Layers.{latest};
 ghost use Rattle.simplex_member.specs.Packet.{formats};
 ghost use Rattle.simplex_member.specs.Point.{Came};
-ghost use Rattle.simplex_member.specs.Refusals.{blocks_sender, certificate_tests, sender_tests, tests};
+ghost use Rattle.simplex_member.specs.Refusals.{certificate_tests, sender_tests, tests};
 ghost use Rattle.simplex_member.specs.Setup.{IsInTime};
 ghost use Rattle.simplex_node.specs.Keeps.{AtAll, AtOwn};
 ghost use Rattle.simplex_node.specs.Refusing.{IsAnother, MayBeHeard, first_vote_tests};
 
 use crate::node::Node;
-use crate::packets::{has_parent_below, vote_has_parent_below};
 use simplex_certificates::Certificate;
+use simplex_exchange::{has_parent_below, vote_has_parent_below};
 use simplex_journal::Disk;
 use simplex_member::Refusal;
 use simplex_messages::Vote;
@@ -144,18 +144,4 @@ impl<S: Scheme<D> + Drop, L: Elector<S, D>, D: Digest, K: Disk> Node<S, L, D, K>
         }
         None
     }
-}
-
-/// Whether the sender is blocked for this reason.
-pub(crate) const fn blocks(refusal: Refusal) -> bool
-    ensures { result ≡ blocks_sender refusal }
-{
-    matches!(
-        refusal,
-        Refusal::NotDecoded
-            | Refusal::ParentNotBelow
-            | Refusal::NotItsSigner
-            | Refusal::Contradiction
-            | Refusal::NotVerifying
-    )
 }

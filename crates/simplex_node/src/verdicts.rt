@@ -1,14 +1,7 @@
 //! The application's verdicts on what is notarized.
 
-ghost use Rattle.std.specs.Prelude.{◌≡◌, ◌≢◌, ◌∷◌, [], Some, false, if◌then◌else◌, IfOk, IfErr, OnOk, IsErrOf};
-ghost use Rattle.simplex_types.specs.Positions.{HasRoom};
-ghost use Rattle.simplex_certificates.specs.Certificate.{any_certificate_spelling, as_notarization};
+ghost use Rattle.std.specs.Prelude.{◌≡◌, ◌≢◌, ◌∷◌, [], false, if◌then◌else◌, IfErr, OnOk, IsErrOf};
 ghost use Rattle.simplex_messages.specs.declared.activity.Activity.TheVariants as activity;
-ghost use Rattle.simplex_history.specs.History.{judged, seen};
-ghost use Rattle.simplex_history.specs.Past as past;
-ghost use Rattle.simplex_voter.specs.State as voting;
-ghost use Rattle.simplex_resolver.specs.Keeps as repairing;
-ghost use Rattle.simplex_resolver.specs.History.{Judged as came_judged};
 ghost use Rattle.simplex_journal.specs.Disk.{LeavesOnly, counted};
 ghost use Rattle.simplex_member.specs.Asked.{IsAwaited};
 ghost use Rattle.simplex_member.specs.Deeds.{Reports};
@@ -17,49 +10,24 @@ ghost use Rattle.simplex_member.specs.declared.fault.NodeFault.TheVariants as st
 ghost use Rattle.simplex_member.specs.Packet.{Formats, formats};
 ghost use Rattle.simplex_member.specs.Point.{History, Judged};
 ghost use Rattle.simplex_member.specs.Setup.{Setup};
-ghost use Rattle.simplex_node.specs.Handing.{HandsOut};
+ghost use Rattle.simplex_exchange.specs.Handing.{HandsOut};
 ghost use Rattle.simplex_node.specs.Keeps.{AtOwn, disk_of};
 ghost use Rattle.simplex_node.specs.Taking.{IsLeftBy, IsTaken};
 ghost use Rattle.simplex_node.specs.Verdicts.{RecordIsAhead};
 
 use crate::entering::enter;
-use crate::handing::hand_out;
 use crate::node::Node;
-use crate::recording::record;
 use simplex_acceptance::silent_points_leave_votes;
 use simplex_certificates::{Artifact, Notarization};
+use simplex_exchange::{hand_out, record};
 use simplex_journal::Disk;
 use simplex_member::{Action, NodeFault, awaited_verdicts_may_be_taken};
 use simplex_messages::Activity;
+use simplex_recalling::{give_verdict, judge_repair};
 use simplex_recording::quiet_points_leave_the_tables;
-use simplex_resolver::State as Repair;
 use simplex_rules::Elector;
 use simplex_types::{Digest, Duplicate, Round, Scheme, View};
-use simplex_voter::State as Voter;
 use std::alloc::Global;
-
-/// Tells the voter of a verdict on the notarization of a view, and answers that notarization.
-///
-/// # Errors
-///
-/// [`NodeFault::Memory`], also where the voter has no such notarization.
-fn tell_voter<S: Scheme<D> + Drop, L: Elector<S, D>, D: Digest>(
-    alloc: Global,
-    now: u64,
-    view: View,
-    ok: bool,
-    voter: &mut Voter<S, L, D>,
-) -> Result<Notarization<S, D>, NodeFault>
-    ensures told { OnOk result (voting.AtEach S.Scheme L.Elector voter.old (λ s h. voting.Keeps S.Scheme L.Elector s voter.new (judged now view ok ∷ h))) }
-    ensures known { IfOk result (λ notarization. voting.AtEach S.Scheme L.Elector voter.old (λ s h. HasRoom s.length view → Some notarization ≡ past.notarization (seen s h view))) }
-    ensures fault { IfErr result (λ why. why ≡ step_fault.Memory) }
-{
-    match voter.certified(alloc, now, view, ok) {
-        Ok(Some(notarization)) => Ok(notarization),
-        Ok(None) => Err(NodeFault::Memory),
-        Err(_) => Err(NodeFault::Memory),
-    }
-}
 
 /// Reports a notarization on which the verdict is true, and one on which it is false not.
 fn report_verdict<S: Scheme<D>, D: Digest>(
@@ -78,22 +46,6 @@ fn report_verdict<S: Scheme<D>, D: Digest>(
         Ok(copy) => hand_out(Action::Report(Activity::Certification(copy)), out),
         Err(_) => Err(NodeFault::Memory),
     }
-}
-
-/// Tells the repair of a verdict on a notarization of a view with room.
-fn tell_repair<S: Scheme<D>, D: Digest>(
-    alloc: Global,
-    notarization: Notarization<S, D>,
-    ok: bool,
-    repair: &mut Repair,
-) -> Result<(), NodeFault>
-    ensures told { OnOk result (repairing.AtEach repair.old (λ views h. HasRoom views notarization.proposal.round.view → repairing.Keeps views repair.new (came_judged notarization.proposal.round.view (any_certificate_spelling D.spelling S.Certificate.spelling (as_notarization notarization)) ok ∷ h))) }
-    ensures fault { IfErr result (λ why. why ≡ step_fault.Memory) }
-{
-    let Ok(_) = repair.certified(alloc, notarization, ok) else {
-        return Err(NodeFault::Memory);
-    };
-    Ok(())
 }
 
 impl<S: Scheme<D> + Drop, L: Elector<S, D>, D: Digest, K: Disk> Node<S, L, D, K> {
@@ -146,9 +98,9 @@ impl<S: Scheme<D> + Drop, L: Elector<S, D>, D: Digest, K: Disk> Node<S, L, D, K>
         let alloc = self.settings.alloc;
         let now = self.tables.moment();
         let was = self.voter.current_view();
-        let notarization = tell_voter(alloc, now, view, ok, &mut self.voter)?;
+        let notarization = give_verdict(alloc, now, view, ok, &mut self.voter)?;
         report_verdict(alloc, &notarization, ok, out)?;
-        tell_repair(alloc, notarization, ok, &mut self.repair)?;
+        judge_repair(alloc, notarization, ok, &mut self.repair)?;
         enter(&self.voter, &mut self.acceptance)?;
         self.hand_on_at_entry(was, out)
     }

@@ -1,8 +1,8 @@
-use Rattle.std.proofs.Common.{◌≡◌, true, false}
+use Rattle.std.proofs.Common.{◌≡◌, true, false, refl}
 use Rattle.simplex_messages.specs.VoteParts.{vote_round}
 use Rattle.simplex_member.specs.Layers.{floor_of, stage, votes_of}
 use Rattle.simplex_acceptance.specs.Keeps.{Keeps, common_part}
-use Rattle.simplex_acceptance.proofs.Answering.{cast-found, cast-kept, cast-now, cast-unkept, found-unkept, low-where-shut, still}
+use Rattle.simplex_acceptance.proofs.Answering.{cast-found, cast-kept, cast-now, cast-unkept, found-unkept, low-where-shut, shut-open, still, why-now}
 use Rattle.simplex_acceptance.proofs.acceptance.Acceptance.cast.Goals as goal
 
 pub returns-then-not-is_open_to-clause-report : goal.returns-then-not-is_open_to-clause-report
@@ -39,3 +39,20 @@ returns-in-Err-clause-fault g c = λ s h k epoch agrees. c.in-Err.ensures.refuse
 pub returns-in-Err-clause-err : goal.returns-in-Err-clause-err
 unfolding Keeps
 returns-in-Err-clause-err g c = λ s h k. still g.S.Scheme g.D.PartialEq.eq s c.args.self.now h k c.cast.new.self (c.in-Err.ensures.err (common_part s) (stage s h) (votes_of s h) k.rounds)
+
+pub returns-then-not-is_open_to-clause-shut : goal.returns-then-not-is_open_to-clause-shut
+returns-then-not-is_open_to-clause-shut g c = λ s h k shut. (refl, k)
+
+pub returns-then-not-is_open_to-clause-agrees : goal.returns-then-not-is_open_to-clause-agrees
+returns-then-not-is_open_to-clause-agrees g c = λ s h k fits. absurd (cc ((c.is_open_to.ensures s h k).1 (rw c.view-view.ensures (fits.kept, fits.room)), c.if-not-is_open_to.true))
+
+pub returns-in-Ok-clause-shut : goal.returns-in-Ok-clause-shut
+returns-in-Ok-clause-shut g c = λ s h k shut. absurd (shut-open (floor_of s h) (vote_round c.args.vote).view shut (rw c.view-view.ensures at ((c.is_open_to.ensures s h k).0 c.if-not-is_open_to.false)))
+
+pub returns-in-Ok-clause-agrees : goal.returns-in-Ok-clause-agrees
+unfolding Keeps
+returns-in-Ok-clause-agrees g c = λ s h k fits. (cast-now g.S.Scheme g.D.PartialEq.eq s c.args.self.now h k c.cast.new.self c.args.vote c.in-Ok.report (c.in-Ok.ensures.cast (common_part s) (stage s h) (votes_of s h) k.rounds)).agrees
+
+pub returns-in-Err-clause-why : goal.returns-in-Err-clause-why
+unfolding Keeps
+returns-in-Err-clause-why g c = λ s h k. why-now g.S.Scheme g.D.PartialEq.eq s c.args.self.now h k c.cast.new.self c.args.vote c.in-Err.fault (c.in-Err.ensures.why (common_part s) (stage s h) (votes_of s h) k.rounds)

@@ -2,7 +2,7 @@ use Rattle.std.proofs.Common.{◌≡◌, true, false}
 use Rattle.simplex_certificates.specs.Certificate.{certificate_round}
 use Rattle.simplex_member.specs.Layers.{floor_of, stage, votes_of}
 use Rattle.simplex_acceptance.specs.Keeps.{Keeps, common_part}
-use Rattle.simplex_acceptance.proofs.Answering.{came-unkept, certificate-unkept, certified-ahead, certified-found, low-where-shut, still}
+use Rattle.simplex_acceptance.proofs.Answering.{came-unkept, certificate-unkept, certified-ahead, certified-found, low-where-shut, shut-open, still}
 use Rattle.simplex_acceptance.proofs.acceptance.Acceptance.record.Goals as goal
 
 pub returns-then-not-is_open_to-clause-came : goal.returns-then-not-is_open_to-clause-came
@@ -28,3 +28,9 @@ returns-in-Err-clause-fault g c = λ s h k epoch. c.in-Err.ensures.refused (comm
 pub returns-in-Err-clause-err : goal.returns-in-Err-clause-err
 unfolding Keeps
 returns-in-Err-clause-err g c = λ s h k. still g.S.Scheme g.D.PartialEq.eq s c.args.self.now h k c.certify.new.self (c.in-Err.ensures.err (common_part s) (stage s h) (votes_of s h) k.rounds)
+
+pub returns-then-not-is_open_to-clause-shut : goal.returns-then-not-is_open_to-clause-shut
+returns-then-not-is_open_to-clause-shut g c = λ s h k shut. k
+
+pub returns-in-Ok-clause-shut : goal.returns-in-Ok-clause-shut
+returns-in-Ok-clause-shut g c = λ s h k shut. absurd (shut-open (floor_of s h) (certificate_round c.args.certificate.now).view shut (rw c.view-view.ensures at ((c.is_open_to.ensures s h k).0 c.if-not-is_open_to.false)))

@@ -5,7 +5,7 @@ use Rattle.simplex_member.specs.Packet.{Packet, formats}
 use Rattle.simplex_member.specs.Point.{Came}
 use Rattle.simplex_codec.specs.Codec.{bounded-IsCodec}
 use Rattle.simplex_certificates.specs.Certificate.{any_certificate-IsCodec}
-use Rattle.simplex_node.proofs.Reading.{certificate-spelled}
+use Rattle.simplex_exchange.specs.Reading.{certificate-spelled}
 use Rattle.simplex_node.proofs.Replying.{from-nothing, none-due, point-reached, stepped}
 use Rattle.simplex_node.proofs.node.Node.answer_certificate.Goals as goal
 

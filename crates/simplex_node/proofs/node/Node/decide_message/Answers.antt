@@ -2,9 +2,9 @@ use Rattle.std.proofs.Common.{Some, refl, sym, subst}
 use Rattle.simplex_member.specs.Packet.{formats}
 use Rattle.simplex_member.specs.Refusals.{certificate_tests, packet_tests}
 use Rattle.simplex_node.specs.declared.deciding.Decided.TheVariants as decided
-use Rattle.simplex_node.specs.declared.packets.Message.{Message}
+use Rattle.simplex_exchange.specs.declared.packets.Message.{Message}
 use Rattle.simplex_node.specs.Deciding.{IsDecided}
-use Rattle.simplex_node.specs.Packets.{as_packet}
+use Rattle.simplex_exchange.specs.Packets.{as_packet}
 use Rattle.simplex_node.specs.Refusing.{first_vote_tests, last_vote_tests}
 use Rattle.simplex_node.proofs.Tests.{first-behind, first-has, first-in-front}
 use Rattle.simplex_node.proofs.Refusals.{is_other, other-is}

@@ -10,7 +10,8 @@ use Rattle.simplex_member.specs.Packet.{formats}
 use Rattle.simplex_member.specs.Point.{Came}
 use Rattle.simplex_member.specs.Recorded.{record_of}
 use Rattle.simplex_member.specs.Setup.{owner_of}
-use Rattle.simplex_node.proofs.Certifying.{begun_some, first_of, rises, room_of}
+use Rattle.simplex_recalling.specs.Learning.{first_of}
+use Rattle.simplex_node.proofs.Certifying.{begun_some, rises, room_of}
 use Rattle.simplex_node.proofs.Leaving.{left_at_rest, left_by}
 use Rattle.simplex_node.proofs.node.Node.learn.Goals as goal
 
@@ -26,8 +27,8 @@ returns-in-Err-clause-any_moment g c = λ s h k allowed keeps.
     let f = formats {S = g.row.S.Denot} {P = g.row.S-PublicKey.Denot} g.D.PartialEq.eq g.D.Write.spelling g.S.Signature.Write.spelling g.S.Certificate.Write.spelling g.D.Read.reading g.S.Signature.Read.reading g.S.Certificate.Read.reading (g.S.Scheme.size s.voter.scheme) in
     left_by g.S.Scheme f s h (Came c.args.certificate.now) c.in-Ok.artifact _ _ (ap Some (sym c.in-Ok.ensures.copy)) allowed (c.record.ensures.any_moment (owner_of s) (record_of h) k.ledger keeps)
 
-pub returns-in-Err-tell_repair-clause-any_moment : goal.returns-in-Err-tell_repair-clause-any_moment
-returns-in-Err-tell_repair-clause-any_moment g c = λ s h k allowed keeps.
+pub returns-in-Err-update_repair-clause-any_moment : goal.returns-in-Err-update_repair-clause-any_moment
+returns-in-Err-update_repair-clause-any_moment g c = λ s h k allowed keeps.
     let f = formats {S = g.row.S.Denot} {P = g.row.S-PublicKey.Denot} g.D.PartialEq.eq g.D.Write.spelling g.S.Signature.Write.spelling g.S.Certificate.Write.spelling g.D.Read.reading g.S.Signature.Read.reading g.S.Certificate.Read.reading (g.S.Scheme.size s.voter.scheme) in
     left_by g.S.Scheme f s h (Came c.args.certificate.now) c.in-Ok.artifact _ _ (ap Some (sym c.in-Ok.ensures.copy)) allowed (c.record.ensures.any_moment (owner_of s) (record_of h) k.ledger keeps)
 
@@ -59,7 +60,7 @@ returns-clause-taken g c = λ s h k allowed.
       set_up = k.set_up;
       voter = voter;
       votes = c.in-Ok-tell_votes.ensures.told s h k.votes room voter;
-      repair = c.in-Ok-tell_repair.ensures.told s.voter.length (repair_of f h) k.repair room;
+      repair = c.in-Ok-update_repair.ensures.told s.voter.length (repair_of f h) k.repair room;
       ledger = subst (λ (a : Artifact g.row.S.Denot g.row.D.Denot g.row.S-PublicKey.Denot g.row.S-Signature.Denot g.row.S-Certificate.Denot). KeepsRecord g.K.Disk f.artifact (owner_of s) c.record.new.ledger (record_of h ++ a ∷ [])) c.in-Ok.ensures.copy kept;
       tables = subst (λ (n : ℕ). KeepsTables n c.forget.new.self (Came x ∷ h)) final (c.forget.ensures (finalized_of s h) (Came x ∷ h) k.tables (subst (λ (n : ℕ). finalized_of s h ≤ n) (sym final) (rises (latest h) (finalized_of s h) x (voter_of s h))));
     }

@@ -10,8 +10,7 @@ use Rattle.simplex_member.specs.Deeds.{Deed, entered_deeds, report_deeds}
 use Rattle.simplex_member.specs.Layers.{finalized_of, latest, repair_of, voter_of}
 use Rattle.simplex_member.specs.Packet.{formats}
 use Rattle.simplex_member.specs.Point.{Judged}
-use Rattle.simplex_node.specs.Handing.{HandsOut}
-use Rattle.simplex_node.proofs.Deeds.{both_more}
+use Rattle.simplex_exchange.specs.Handing.{HandsOut, both_more}
 use Rattle.simplex_node.proofs.Judging.{behind_verdict, reports_are, verdict_allowed}
 use Rattle.simplex_node.proofs.node.Node.learn_verdict.Goals as goal
 
@@ -30,11 +29,11 @@ returns-clause-taken g c = on_ok_weaker c.hand_on_at_entry.result (λ acts. λ s
     let at : n.proposal.round.view ≡ c.args.view = subst (λ x. x.proposal.round.view ≡ c.args.view) (sym same) j.at in
     let may = verdict_allowed g.S.Scheme f s h r c.args.ok k.begun awaited j in
     let now : c.moment-now.result ≡ latest h = c.moment-now.ensures low h k.tables in
-    let voter = subst (λ (t : ℕ). voting.Keeps g.S.Scheme g.L.Elector s.voter c.tell_voter.new.voter (judged t c.args.view c.args.ok ∷ v)) now (c.in_ok-notarization.ensures.told s.voter v k.voter) in
+    let voter = subst (λ (t : ℕ). voting.Keeps g.S.Scheme g.L.Elector s.voter c.give_verdict.new.voter (judged t c.args.view c.args.ok ∷ v)) now (c.in_ok-notarization.ensures.told s.voter v k.voter) in
     let votes = c.in_ok-enter.ensures.entered s h p refl voter (c.silent_points_leave_votes.ensures.silent s c.args.self.now.acceptance h p (λ view. (refl, λ x. refl)) k.votes) in
-    let repair = c.in_ok-tell_repair.ensures.told s.voter.length (repair_of f h) k.repair (subst (λ (u : ℕ). HasRoom s.voter.length u) (sym at) j.room) in
+    let repair = c.in_ok-judge_repair.ensures.told s.voter.length (repair_of f h) k.repair (subst (λ (u : ℕ). HasRoom s.voter.length u) (sym at) j.room) in
     let tables = c.quiet_points_leave_the_tables.ensures low c.args.self.now.tables h p refl k.tables in
-    let keeps = behind_verdict g.S.Scheme g.L.Elector g.K.Disk f s c.args.self.now c.tell_voter.new.voter c.enter.new.acceptance c.tell_repair.new.repair h r c.args.ok n recorded may found at voter votes repair tables in
+    let keeps = behind_verdict g.S.Scheme g.L.Elector g.K.Disk f s c.args.self.now c.give_verdict.new.voter c.enter.new.acceptance c.judge_repair.new.repair h r c.args.ok n recorded may found at voter votes repair tables in
     let reported = subst (λ (deeds : List (Deed _ _ _ _ _)). HandsOut f c.args.out.now.items c.report_verdict.new.out.items deeds) (reports_are g.S.Scheme f s h r n c.args.ok found) (c.in_ok-report_verdict.ensures.acts f) in
     record {
       keeps = keeps;

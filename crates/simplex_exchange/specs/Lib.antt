@@ -1,0 +1,3 @@
+pub mod Handing
+pub mod Packets
+pub mod Reading

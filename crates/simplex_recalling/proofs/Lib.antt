@@ -1,0 +1,6 @@
+mod Going
+mod Unknown
+mod Finding
+mod Gone
+mod Recalled
+mod Owning

@@ -1,0 +1,3 @@
+pub mod SettingUp
+pub mod Learning
+pub mod GoingThrough
