@@ -5,6 +5,8 @@ ghost use Rattle.simplex_batcher.specs.Queries.{has_nullify, is_missing_voter, m
 ghost use Rattle.simplex_batcher.specs.Rounds.{AtEach};
 
 use crate::round::Round;
+use crate::votes::{is_backing, is_nullify};
+use simplex_messages::Vote;
 use simplex_types::{Digest, Participant, Proposal, Scheme};
 use std::alloc::{AllocError, Global};
 
@@ -13,14 +15,18 @@ impl<S: Scheme<D>, D: Digest> Round<S, D> {
     pub fn has_nullify(&self, signer: Participant) -> bool
         ensures { AtEach D.PartialEq.eq S.Scheme S.batchable self.now (λ s h. result ≡ has_nullify h signer) }
     {
-        self.tracker.has_nullify(signer)
+        match self.verifier.vote_of(signer, false) {
+            Some(vote) => is_nullify(vote),
+            None => false,
+        }
     }
 
     /// Whether no notarize and no finalize of this member for the proposal was accepted.
     pub fn is_missing_voter(&self, proposal: &Proposal<D>, signer: Participant) -> bool
         ensures { AtEach D.PartialEq.eq S.Scheme S.batchable self.now (λ s h. result ≡ is_missing_voter D.PartialEq.eq h proposal.now signer) }
     {
-        !self.tracker.has_backed(signer, proposal)
+        !is_for(self.verifier.vote_of(signer, true), proposal)
+            && !is_for(self.verifier.vote_of(signer, false), proposal)
     }
 
     /// The members of which no notarize and no finalize for the proposal was accepted, ascending.
@@ -39,5 +45,13 @@ impl<S: Scheme<D>, D: Digest> Round<S, D> {
             }
         }
         Ok(missing)
+    }
+}
+
+/// Whether there is a vote, and it is to notarize or to finalize the proposal.
+fn is_for<S: Scheme<D>, D: Digest>(vote: Option<&Vote<S, D>>, proposal: &Proposal<D>) -> bool {
+    match vote {
+        Some(vote) => is_backing(vote, proposal),
+        None => false,
     }
 }

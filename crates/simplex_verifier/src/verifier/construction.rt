@@ -10,11 +10,9 @@ ghost use Rattle.simplex_verifier.specs.Keeping.{VerifierKeeps, AtEachOf, select
 ghost use Rattle.simplex_verifier.specs.History.{proposal_of};
 
 use crate::batch::Batch;
-use crate::pool::attestations_of;
 use crate::verifier::Verifier;
 use crate::votes::{certificate_on, subject_of};
-use simplex_judging::{Judged, assemble_enough};
-use simplex_rules::Kind;
+use simplex_judging::{Judged, Kind, assemble_enough, judge};
 use simplex_messages::Certificate;
 use simplex_types::{Digest, Proposal, Round, Scheme, Subject};
 use std::alloc::{AllocError, Global};
@@ -126,18 +124,17 @@ impl<S: Scheme<D>, D: Digest> Verifier<S, D> {
     fn is_ready(&self, kind: Kind) -> bool
         ensures { AtEachOf D.PartialEq.eq S.Scheme S.batchable self.now (λ s h. result ≡ is_ready D.PartialEq.eq s kind h) }
     {
-        let pool = self.pools.of(kind);
-        self.needed as usize <= pool.verified.as_slice().len()
-            && (self.knows(kind) || pool.is_of_one())
+        self.needed as usize <= self.rows.tally(kind).verified
+            && (self.knows(kind) || self.rows.is_of_one(kind))
     }
 
     /// Whether the votes of the kind that wait are worth judging.
     fn is_worth_judging(&self, kind: Kind) -> bool
         ensures { AtEachOf D.PartialEq.eq S.Scheme S.batchable self.now (λ s h. result ≡ is_worth_judging D.PartialEq.eq s kind h) }
     {
-        let pool = self.pools.of(kind);
-        let waiting = pool.waiting.as_slice().len();
-        let missing = (self.needed as usize).saturating_sub(pool.verified.as_slice().len());
+        let tally = self.rows.tally(kind);
+        let waiting = tally.pending;
+        let missing = (self.needed as usize).saturating_sub(tally.verified);
         self.knows(kind) && 0 < waiting && (!self.scheme.is_batchable() || missing <= waiting)
     }
 
@@ -173,12 +170,11 @@ impl<S: Scheme<D>, D: Digest> Verifier<S, D> {
         ensures made { IfOk result (λ made. AtEachOf D.PartialEq.eq S.Scheme S.batchable self.now (λ s h. is_ready D.PartialEq.eq s kind h ≡ true → MatchOption made ⊥ (λ c. IsCertificateOf S.Scheme s kind (verified D.PartialEq.eq s kind h) c))) }
         ensures readable { IfOk result (λ made. IfSome made (λ c. AtEachOf D.PartialEq.eq S.Scheme S.batchable self.now (λ s h. IsReadable S.Certificate.within s.members c))) }
     {
-        let votes = self.pools.of(kind).verified.as_slice();
-        let [first, ..] = votes else {
+        let Some(first) = self.rows.first_verified(kind) else {
             return Ok(None);
         };
         let subject = subject_of(first);
-        let given = attestations_of(alloc, votes)?;
+        let given = self.rows.attestations(alloc, kind, true)?;
         match assemble_enough::<S, D>(
             alloc,
             &self.scheme,
@@ -225,13 +221,21 @@ impl<S: Scheme<D>, D: Digest> Verifier<S, D> {
         ensures keeps { IfOk result (λ batch. AtEachOf D.PartialEq.eq S.Scheme S.batchable self.old (λ s h. context s kind h ≡ Some (statement subject.now) → VerifierKeeps D.PartialEq.eq S.Scheme S.batchable s self.new (after kind (Some batch) h))) }
         ensures err { OnErr result (AtEachOf D.PartialEq.eq S.Scheme S.batchable self.old (λ s h. VerifierKeeps D.PartialEq.eq S.Scheme S.batchable s self.new h)) }
     {
-        let pool = self.pools.of(kind);
-        let processed = pool.waiting.as_slice().len();
+        let processed = self.rows.tally(kind).pending;
+        let verified = self.rows.attestations(alloc, kind, true)?;
+        let waiting = self.rows.attestations(alloc, kind, false)?;
         let Judged {
             certificate,
             invalid,
             fallback,
-        } = pool.judge(alloc, &self.scheme, subject, self.needed as usize)?;
+        } = judge::<S, D>(
+            alloc,
+            &self.scheme,
+            subject,
+            self.needed as usize,
+            &verified,
+            &waiting,
+        )?;
         match certificate {
             Some(certificate) => {
                 let certificate = certificate_on(subject, certificate);
@@ -244,7 +248,7 @@ impl<S: Scheme<D>, D: Digest> Verifier<S, D> {
                 })
             }
             None => {
-                self.pools.settle(kind, &invalid)?;
+                self.rows.settle(kind, &invalid);
                 Ok(Batch {
                     certificate: None,
                     invalid,
