@@ -17,7 +17,7 @@ ghost use Rattle.simplex_batcher.specs.Admission.{contradicts, IsBlocked, report
 ghost use Rattle.simplex_verifier.specs.ConstructionResult.{after, after_construction, kinds_left, HasFailed, IsBatch, IsReadable, IsVoted};
 ghost use Rattle.simplex_batcher.specs.Rounds.{RoundKeeps, AtEach};
 
-use crate::votes::{round_of, round_of_certificate};
+use crate::votes::{notarized_in, round_of, round_of_certificate};
 use simplex_admission::{Admission, are_against, copied, refusal, report};
 use simplex_judging::in_turn;
 use simplex_messages::{Activity, Certificate, Vote};
@@ -234,10 +234,7 @@ impl<S: Scheme<D>, D: Digest> Round<S, D> {
         ensures ok { OnOk result (AtEach D.PartialEq.eq S.Scheme S.batchable self.old (λ s h. RoundKeeps D.PartialEq.eq S.Scheme S.batchable s self.new (if is_none (leader_of h) then Led leader ∷ h else h))) }
         ensures err { OnErr result (AtEach D.PartialEq.eq S.Scheme S.batchable self.old (λ s h. RoundKeeps D.PartialEq.eq S.Scheme S.batchable s self.new h)) }
     {
-        let led = match self.verifier.vote_of(leader, true) {
-            Some(Vote::Notarize(vote)) => Some(vote.proposal),
-            _ => None,
-        };
+        let led = notarized_in(self.verifier.vote_of(leader, true));
         match self.verifier.lead(leader, led) {
             Ok(()) => Ok(()),
             Err(fault) => Err(fault),

@@ -1,14 +1,15 @@
 //! The votes of one round that count for certificates.
 
-ghost use Rattle.std.specs.Prelude.{◌≡◌, ◌↔◌, ◌++◌, ◌∷◌, ◌≤◌, [], ◌&&◌, ◌||◌, ℕ, List, Bool, not, filter, length, Option, Some, None, IsTrue, IfOk, IfErr, IfSome, Err, ◌≢◌, OnOk, OnErr, MatchOption, if◌then◌else◌, is_some, nat_le, max, true, false};
+ghost use Rattle.std.specs.Prelude.{◌≡◌, ◌<◌, All, find, ◌↔◌, ◌++◌, ◌∷◌, ◌≤◌, [], ◌&&◌, ◌||◌, ℕ, List, Bool, not, filter, length, Option, Some, None, IsTrue, IfOk, IfErr, IfSome, Err, ◌≢◌, OnOk, OnErr, MatchOption, if◌then◌else◌, is_some, nat_le, max, true, false};
 ghost use Rattle.std.specs.Option.{option_copied, option_map, option_or};
 ghost use Rattle.simplex_verifier.specs.declared.fault.BatcherFault.TheVariants.{OtherLeader};
 ghost use Rattle.simplex_committee.specs.Committee.{quorum};
 ghost use Rattle.simplex_certificates.specs.Certificate.{certificate_round};
-ghost use Rattle.simplex_verifier.specs.Votes.{vote_kind, fixed_proposal};
-ghost use Rattle.simplex_verifier.specs.History.{Taken, Cast, Certified, Led, History, Setup, select, proposal_of, selected, selection, leader_of, led, notarized_by, context, waiting, verified, is_candidate, is_complete, is_ready, is_due, next_kind};
+ghost use Rattle.simplex_verifier.specs.Votes.{is_of, vote_kind, fixed_proposal};
+ghost use Rattle.simplex_verifier.specs.History.{accepted, recorded, Taken, Cast, Certified, Led, History, Setup, select, proposal_of, selected, selection, leader_of, led, notarized_by, context, waiting, verified, is_candidate, is_complete, is_ready, is_due, next_kind};
 ghost use Rattle.simplex_verifier.specs.Lawful.{MayHappen};
-ghost use Rattle.simplex_verifier.specs.Pools.{PoolIs, PoolStays, pool_at};
+ghost use Rattle.simplex_messages.specs.VoteParts.{vote_signer};
+ghost use Rattle.simplex_verifier.specs.Rows.{tally_at};
 ghost use Rattle.simplex_verifier.specs.Keeping.{VerifierKeeps, AtEachOf, selection_of, IsChosen, held_by, led_by};
 
 use crate::fault::BatcherFault;
@@ -96,15 +97,22 @@ impl<S: Scheme<D>, D: Digest> Verifier<S, D> {
         self.proposal.proposal()
     }
 
-    /// This member's newest notarize, or its newest nullify or finalize.
-    pub fn vote_of(&self, signer: Participant, notarize: bool) -> Option<&Vote<S, D>> {
+    /// This signer's newest notarize, or its newest nullify or finalize, where members alone voted.
+    pub fn vote_of(&self, signer: Participant, notarize: bool) -> Option<&Vote<S, D>>
+        ensures { AtEachOf D.PartialEq.eq S.Scheme S.batchable self.now (λ s h. All (λ v. vote_signer v < s.members) (accepted h) → option_copied result ≡ find (is_of notarize signer) (accepted h)) }
+    {
         self.rows.vote_of(signer, notarize)
     }
 
-    /// The accepted vote that stands in the way of this one.
-    pub fn recorded(&self, vote: &Vote<S, D>) -> Option<&Vote<S, D>> {
-        let notarize = kind_of(vote) == Kind::Notarization;
-        self.rows.vote_of(vote.signer(), notarize)
+    /// The accepted vote that stands in the way of this one, where members alone voted.
+    pub fn recorded(&self, vote: &Vote<S, D>) -> Option<&Vote<S, D>>
+        ensures { AtEachOf D.PartialEq.eq S.Scheme S.batchable self.now (λ s h. All (λ v. vote_signer v < s.members) (accepted h) → option_copied result ≡ recorded h vote.now) }
+    {
+        match vote {
+            Vote::Notarize(vote) => self.vote_of(vote.attestation.signer, true),
+            Vote::Nullify(vote) => self.vote_of(vote.attestation.signer, false),
+            Vote::Finalize(vote) => self.vote_of(vote.attestation.signer, false),
+        }
     }
 
     /// Whether a certificate of this kind was recorded or made.
@@ -135,7 +143,7 @@ impl<S: Scheme<D>, D: Digest> Verifier<S, D> {
 
     /// Whether the vote counts for a certificate, where this is selected.
     fn counts(&self, next: &ProposalState<D>, vote: &Vote<S, D>) -> bool
-        ensures { result ≡ (not (self.now.skipped || (pool_at (vote_kind vote.now) self.now.pools).complete) && is_candidate D.PartialEq.eq (proposal_of (selection_of next.now)) vote.now) }
+        ensures { result ≡ (not (self.now.skipped || (tally_at (vote_kind vote.now) self.now.rows).complete) && is_candidate D.PartialEq.eq (proposal_of (selection_of next.now)) vote.now) }
     {
         if self.skipped || self.rows.tally(kind_of(vote)).complete {
             return false;

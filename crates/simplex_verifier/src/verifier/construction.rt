@@ -133,7 +133,7 @@ impl<S: Scheme<D>, D: Digest> Verifier<S, D> {
         ensures { AtEachOf D.PartialEq.eq S.Scheme S.batchable self.now (λ s h. result ≡ is_worth_judging D.PartialEq.eq s kind h) }
     {
         let tally = self.rows.tally(kind);
-        let waiting = tally.pending;
+        let waiting = tally.waiting;
         let missing = (self.needed as usize).saturating_sub(tally.verified);
         self.knows(kind) && 0 < waiting && (!self.scheme.is_batchable() || missing <= waiting)
     }
@@ -221,7 +221,7 @@ impl<S: Scheme<D>, D: Digest> Verifier<S, D> {
         ensures keeps { IfOk result (λ batch. AtEachOf D.PartialEq.eq S.Scheme S.batchable self.old (λ s h. context s kind h ≡ Some (statement subject.now) → VerifierKeeps D.PartialEq.eq S.Scheme S.batchable s self.new (after kind (Some batch) h))) }
         ensures err { OnErr result (AtEachOf D.PartialEq.eq S.Scheme S.batchable self.old (λ s h. VerifierKeeps D.PartialEq.eq S.Scheme S.batchable s self.new h)) }
     {
-        let processed = self.rows.tally(kind).pending;
+        let processed = self.rows.tally(kind).waiting;
         let verified = self.rows.attestations(alloc, kind, true)?;
         let waiting = self.rows.attestations(alloc, kind, false)?;
         let Judged {

@@ -18,7 +18,5 @@ returns-in-None-clause-chosen g c =
       skipped_stays = refl;
       leader_stays = refl;
       selects = refl;
-      notarizes = λ w v. none-goes same c.args.next c.args.self.now.pools.notarizes none;
-      nullifies = λ w v. none-goes same c.args.next c.args.self.now.pools.nullifies none;
-      finalizes = λ w v. none-goes same c.args.next c.args.self.now.pools.finalizes none;
+      keeps = none-goes same c.args.self.now.proposal c.args.next c.args.self.now.rows none;
     }
