@@ -163,7 +163,7 @@ module _ {S D P G C : Type 0} (same : D → D → Bool) (g : Ghosts S D P G C) (
   ready-one s h kind lawful ready u there = go (verified same s kind h) refl
     where
       go : (votes : List (Vote S D P G C)) → verified same s kind h ≡ votes → All (λ w. vote_statement w ≡ vote_statement u) (verified same s kind h)
-      go [] e = absurd (let none : Contains [] u = rw e at there in omega (arith, none.1.0))
+      go [] e = absurd (let none : Contains [] u = rw e at there in omega (arith, none.1))
       go (first ∷ votes) e =
           let all = ready-state same law g.attests s kind h lawful first votes e ready in
           let mine = All-contains (λ w. vote_statement w ≡ vote_statement first) (verified same s kind h) u all there in
@@ -246,10 +246,10 @@ module _ {S D P G C : Type 0} (same : D → D → Bool) (g : Ghosts S D P G C) (
       → IsVerifierKept same g batchable s v h → context s kind h ≡ Some x
       → (AreDistinct (map vote_attestation (votes_in true kind v.rows.rows.items) ++ map vote_attestation (votes_in false kind v.rows.rows.items)) → All (λ a. g.attests v.scheme.value a.signer x a.signature) (map vote_attestation (votes_in true kind v.rows.rows.items))
       → IsJudged (g.certifies v.scheme.value x) g.lists (batchable v.scheme.value) (g.may_decline v.scheme.value x) (λ i a. g.attests v.scheme.value i x a) g.enumerates v.needed (map vote_attestation (votes_in true kind v.rows.rows.items)) (map vote_attestation (votes_in false kind v.rows.rows.items)) judged)
-      → batch.processed ≡ (tally_at kind v.rows).waiting → judged_of batch ≡ judged → IfSome batch.certificate (λ c. certificate_statement c ≡ x)
+      → batch.processed ≡ length (waiting same s kind h) → judged_of batch ≡ judged → IfSome batch.certificate (λ c. certificate_statement c ≡ x)
       → IsOfWaiting g same s kind h batch
   of-waiting declines s h kind v x judged batch k on f processed is states = record {
-    processed_are = processed ∙ (k.rows.kinds kind).waiting_count;
+    processed_are = processed;
     states = x;
     context_is = on;
     certificate_is = some-more (λ c. certificate_statement c ≡ x) (λ c. IsCertificateOn s kind x c) batch.certificate (λ c e. judged-on s h kind c x k.lawful on e) states;

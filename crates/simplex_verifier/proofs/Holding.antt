@@ -1,9 +1,10 @@
 -- Rows of votes, one a signer.
-use Rattle.std.proofs.Common.{◌≡◌, ◌≤◌, ◌<◌, ◌+◌, ◌==◌, ◌&&◌, ◌⊎◌, inl, inr, ℕ, zero, suc, Bool, true, false, not, cond, List, [], ◌∷◌, ◌++◌, map, length, get_or, set, take, refl, ap, sym, ◌∙◌, arith, append-nil, length-append, length-set}
-use Rattle.std.specs.Prelude.{Option, None, Some, filter, find, if◌then◌else◌}
+use Rattle.std.proofs.Common.{◌≡◌, ◌≤◌, ◌<◌, ◌+◌, ◌==◌, ◌&&◌, ◌||◌, ◌⊎◌, inl, inr, ℕ, zero, suc, Bool, true, false, not, cond, List, [], ◌∷◌, ◌++◌, map, length, get_or, set, take, refl, ap, sym, ◌∙◌, arith, append-nil, length-append, length-set}
+use Rattle.std.specs.Prelude.{Vec, Option, None, Some, filter, find, if◌then◌else◌}
 use Rattle.std.specs.List.{filter_map, cons_option, slice_get, Contains}
 use Rattle.std.specs.List.Sorted.{IsPermutation}
 use Rattle.std.specs.Option.{option_map, option_and_then}
+use Rattle.std.proofs.lemmas.Bool.{cases_eq, cases_lt}
 use Rattle.std.proofs.lemmas.List.Elements.{filter_map-append, Contains-append_right}
 use Rattle.std.proofs.lemmas.List.Sorted.{IsPermutation-refl, IsPermutation-sym, IsPermutation-trans, IsPermutation-append, IsPermutation-append_left, IsPermutation-to_front, Contains-permutation, length_permutation}
 use Rattle.simplex_messages.specs.declared.vote.Vote.{Vote}
@@ -26,6 +27,37 @@ use Rattle.simplex_verifier.proofs.Shuffling.{IsPermutation-same, IsPermutation-
 
 itself : (i : ℕ) → (i == i) ≡ true
 itself i = grind arith
+
+apart-first : (i : ℕ) → (0 == suc i) ≡ false
+apart-first i = grind arith
+
+apart-last : (i : ℕ) → (suc i == 0) ≡ false
+apart-last i = grind arith
+
+same-suc : (k i : ℕ) → (suc k == suc i) ≡ (k == i)
+same-suc k i = elim (cases_eq k i) [
+  | inl e ↦ rw (e, itself i) (itself (suc i))
+  | inr n ↦
+      let a : (k == i) ≡ false = grind (arith, n) in
+      let b : (suc k == suc i) ≡ false = grind (arith, n) in
+      rw a b
+]
+
+-- none is none, whatever is asked
+none-if : {X : Type 0} (b : Bool) (o : Option X) → o ≡ None → o ≡ (if b then None else o)
+none-if true o e = e
+none-if false o e = refl
+
+module _ {S D P G C : Type 0} where
+  -- other rows beside the same counts
+  abbrev pub with_rows : Rows S D P G C → Vec (Row S D P G C) → Rows S D P G C
+  with_rows old rows = record { members = old.members; rows = rows; notarizes = old.notarizes; nullifies = old.nullifies; finalizes = old.finalizes }
+
+  -- the counts are one
+  pub tallies-as : (a b : Rows S D P G C) → a.notarizes ≡ b.notarizes → a.nullifies ≡ b.nullifies → a.finalizes ≡ b.finalizes → (kind : Kind) → tally_at kind a ≡ tally_at kind b
+  tallies-as a b n u f Notarization = n
+  tallies-as a b n u f Nullification = u
+  tallies-as a b n u f Finalization = f
 
 -- ---- rows that come, and rows that stay
 
@@ -115,12 +147,12 @@ module _ {S D P G C : Type 0} where
   vote-past false true v o = refl
   vote-past false false v o = refl
 
-  vote-set : (b side : Bool) (rows : List (Row S D P G C)) (k i : ℕ) (x : Held S D P G C) (d : Row S D P G C) → k < length rows → vote_at side (set rows k (with_cell b x (get_or rows k d))) i ≡ (if is_same b side && (k == i) then Some x.vote else vote_at side rows i)
-  vote-set b side [] k i x d l = absurd (omega arith)
-  vote-set b side (row ∷ rows) zero zero x d l = vote-with b side x row
-  vote-set b side (row ∷ rows) zero (suc i) x d l = vote-past b side x.vote (vote_at side rows i)
-  vote-set b side (row ∷ rows) (suc k) zero x d l = vote-past b side x.vote (vote_at side (row ∷ rows) zero)
-  vote-set b side (row ∷ rows) (suc k) (suc i) x d l = vote-set b side rows k i x d (omega arith)
+  vote-set : (b side : Bool) (rows : List (Row S D P G C)) (k i : ℕ) (x : Held S D P G C) (d : Row S D P G C) (t : Bool) → k < length rows → (k == i) ≡ t → vote_at side (set rows k (with_cell b x (get_or rows k d))) i ≡ (if is_same b side && t then Some x.vote else vote_at side rows i)
+  vote-set b side [] k i x d t l e = absurd (omega arith)
+  vote-set b side (row ∷ rows) zero zero x d t l e = let one : t ≡ true = sym e ∙ itself 0 in rw one (vote-with b side x row)
+  vote-set b side (row ∷ rows) zero (suc i) x d t l e = let one : t ≡ false = sym e ∙ apart-first i in rw one (vote-past b side x.vote (vote_at side rows i))
+  vote-set b side (row ∷ rows) (suc k) zero x d t l e = let one : t ≡ false = sym e ∙ apart-last k in rw one (vote-past b side x.vote (vote_at side (row ∷ rows) zero))
+  vote-set b side (row ∷ rows) (suc k) (suc i) x d t l e = vote-set b side rows k i x d t (omega arith) (sym (same-suc k i) ∙ e)
 
   vote-append : (side : Bool) (rows more : List (Row S D P G C)) (i : ℕ) → i < length rows → vote_at side (rows ++ more) i ≡ vote_at side rows i
   vote-append side [] more i l = absurd (omega arith)
@@ -153,21 +185,21 @@ module _ {S D P G C : Type 0} where
 -- what isn't found isn't there
 not-there : {X : Type 0} (p : X → Bool) (xs : List X) (x : X) → find p xs ≡ None → Contains xs x → p x ≡ false
 not-there p [] x none (k, l, e) = absurd (omega arith)
-not-there p (y ∷ ys) x none (k, l, e) = go (p y) refl none k l e
+not-there p (y ∷ ys) x none (k, l, e) = go (p y) refl none k l e (λ n i m f. not-there p ys x n (i, m, f))
   where
-    go : (b : Bool) → p y ≡ b → cond b (Some y) (find p ys) ≡ None → (k : ℕ) → k < length (y ∷ ys) → get_or (y ∷ ys) k x ≡ x → p x ≡ false
-    go true is none k l e = absurd (cc none)
-    go false is none zero l e = rw (← e) is
-    go false is none (suc k) l e = not-there p ys x none (k, omega arith, e)
+    go : (b : Bool) → p y ≡ b → cond b (Some y) (find p ys) ≡ None → (k : ℕ) → k < length (y ∷ ys) → get_or (y ∷ ys) k x ≡ x → (find p ys ≡ None → (i : ℕ) → i < length ys → get_or ys i x ≡ x → p x ≡ false) → p x ≡ false
+    go true is none k l e later = absurd (cc none)
+    go false is none zero l e later = rw (← e) is
+    go false is none (suc k) l e later = later none k (omega arith) e
 
 -- what is found passes
 found-passes : {X : Type 0} (p : X → Bool) (xs : List X) (x : X) → find p xs ≡ Some x → p x ≡ true
 found-passes p [] x e = absurd (cc e)
-found-passes p (y ∷ ys) x e = go (p y) refl e
+found-passes p (y ∷ ys) x e = go (p y) refl e (found-passes p ys x)
   where
-    go : (b : Bool) → p y ≡ b → cond b (Some y) (find p ys) ≡ Some x → p x ≡ true
-    go true is e = let one : y ≡ x = cc e in rw (← one) is
-    go false is e = found-passes p ys x e
+    go : (b : Bool) → p y ≡ b → cond b (Some y) (find p ys) ≡ Some x → (find p ys ≡ Some x → p x ≡ true) → p x ≡ true
+    go true is e later = let one : y ≡ x = cc e in rw (← one) is
+    go false is e later = later e
 
 mark-is : (sure counts verified : Bool) → is_marked sure (mark_of counts verified) ≡ counts && (if sure then verified else not verified)
 mark-is true true true = refl
@@ -316,7 +348,7 @@ module _ {S D P G C : Type 0} (same : D → D → Bool) (s : Setup S) (h : Histo
           others = others;
           newest = record {
             members_are = others.members_stay ∙ k.places.members_are;
-            newest = λ side i m. rw is (vote-set b side mid.rows.items (vote_signer v) i as-held d l ∙ rw (its-place v side i, k.places.newest side i m) refl);
+            newest = λ side i m. rw is (vote-set b side mid.rows.items (vote_signer v) i as-held d (vote_signer v == i) l refl ∙ rw (its-place v side i, k.places.newest side i m) refl);
           };
           votes = λ sure kind. rw is (written-over sure kind as-held mid.rows.items (vote_signer v) d l (free sure kind d member l));
           below = λ sure kind stands_.
@@ -374,8 +406,18 @@ module _ {S D P G C : Type 0} (same : D → D → Bool) (s : Setup S) (h : Histo
             last true xs = refl
             last false xs = append-nil xs
 
+    -- it is written down, a member's or a stranger's
+    pub written : (m : Mark) (new : Rows S D P G C) → m ≡ mark_of counts own → OthersStay mid new → mid.members ≤ length mid.rows.items
+        → (vote_signer v < mid.members → mid.members ≤ length mid.rows.items → (d : Row S D P G C) → new.rows.items ≡ set mid.rows.items (vote_signer v) (with_cell (is_kind Notarization (vote_kind v)) (record { vote = v; mark = m }) (get_or mid.rows.items (vote_signer v) d)))
+        → (mid.members ≤ vote_signer v → new.rows.items ≡ (if is_aside m then mid.rows.items else mid.rows.items ++ with_cell (is_kind Notarization (vote_kind v)) (record { vote = v; mark = m }) (record { notarize = None; other = None }) ∷ []))
+        → IsWritten mid new
+    written m new e others reached member stranger = elim (cases_lt (vote_signer v) mid.members) [
+      | inl low ↦ written-member (record { notarize = None; other = None }) new others (omega (arith, low, k.places.members_are)) (omega (arith, reached, k.places.members_are)) (rw e at (member low reached (record { notarize = None; other = None })))
+      | inr high ↦ written-stranger new others (omega (arith, high, k.places.members_are)) (omega (arith, reached, k.places.members_are)) (rw e at (stranger high))
+    ]
+
     -- and then it is counted, if it counts
-    abbrev IsTallied : Rows S D P G C → Rows S D P G C → Type 0
+    abbrev pub IsTallied : Rows S D P G C → Rows S D P G C → Type 0
     IsTallied wrote new = (counts ≡ true → (kind : Kind) → IsCounted own (is_kind kind (vote_kind v)) (length wrote.rows.items) (tally_at kind wrote) (tally_at kind new)) × (counts ≡ false → (kind : Kind) → tally_at kind new ≡ tally_at kind wrote)
 
     put-waits : (kind : Kind) (c o : Bool) (wrote new : Rows S D P G C) → counts ≡ c → own ≡ o → IsWritten mid wrote → IsTallied wrote new → (tally_at kind new).waiting ≡ length (pushed kind v (c && not o) (waiting same s kind h))
@@ -528,24 +570,12 @@ module _ {S D P G C : Type 0} where
   finished-in kind k sure o = kept-in (λ v. not (is_kind kind (vote_kind v))) sure k o ∙ go o
     where
       go : (o : Option (Held S D P G C)) → if_passes (λ v. not (is_kind kind (vote_kind v))) (counted_in sure k o) ≡ (if is_kind k kind then None else counted_in sure k o)
-      go None = none (is_kind k kind)
-        where
-          none : (b : Bool) → None ≡ (if b then None else None)
-          none true = refl
-          none false = refl
+      go None = none-if (is_kind k kind) None refl
       go (Some x) = mark (is_marked sure x.mark) (is_kind k (vote_kind x.vote)) refl
         where
           mark : (m c : Bool) → is_kind k (vote_kind x.vote) ≡ c → if_passes (λ v. not (is_kind kind (vote_kind v))) (if m && c then Some x.vote else None) ≡ (if is_kind k kind then None else (if m && c then Some x.vote else None))
-          mark false c e = none (is_kind k kind)
-            where
-              none : (b : Bool) → None ≡ (if b then None else None)
-              none true = refl
-              none false = refl
-          mark true false e = none (is_kind k kind)
-            where
-              none : (b : Bool) → None ≡ (if b then None else None)
-              none true = refl
-              none false = refl
+          mark false c e = none-if (is_kind k kind) None refl
+          mark true false e = none-if (is_kind k kind) None refl
           mark true true e = rw (one-kind k (vote_kind x.vote) kind e) (last (is_kind k kind))
             where
               last : (b : Bool) → cond (not b) (Some x.vote) None ≡ (if b then None else Some x.vote)
@@ -606,17 +636,33 @@ module _ {S D P G C : Type 0} (kind : Kind) (failing : List ℕ) where
       go true e = after (is_among failing (vote_signer x.vote))
       go false e = rw e refl
 
+  sure-not : (m : Mark) → is_marked false m ≡ true → is_marked true m ≡ false
+  sure-not Aside e = refl
+  sure-not Waiting e = refl
+  sure-not Verified e = absurd (cc e)
+
+  or-none : {Y : Type 0} (a : Option Y) → a ≡ or_else a None
+  or-none None = refl
+  or-none (Some y) = refl
+
+  -- one that waited, by whether it fails
+  settle-case : (fails mine known waits : Bool) (v : Vote S D P G C) → mine ≡ true → known ≡ false → waits ≡ true → others v ≡ not fails
+      → (if is_marked true (if fails then Aside else Verified) && mine then Some v else None) ≡ or_else (if known && mine then Some v else None) (if_passes others (if waits then Some v else None))
+  settle-case true true false true v m k w is = rw is refl
+  settle-case false true false true v m k w is = rw is refl
+  settle-case fails false known waits v m k w is = absurd (cc m)
+  settle-case fails true true waits v m k w is = absurd (cc k)
+  settle-case fails true false false v m k w is = absurd (cc w)
+
   settled-sure : (o : Option (Held S D P G C)) → counted_in true kind (option_map (settled kind failing) o) ≡ or_else (counted_in true kind o) (if_passes others (counted_in false kind o))
   settled-sure None = refl
-  settled-sure (Some x) = go x.mark (is_kind kind (vote_kind x.vote)) (is_among failing (vote_signer x.vote)) refl refl refl
+  settled-sure (Some x) = go (stands false kind x) refl
     where
-      go : (m : Mark) (c f : Bool) → x.mark ≡ m → is_kind kind (vote_kind x.vote) ≡ c → is_among failing (vote_signer x.vote) ≡ f → counted_in true kind (Some (settled kind failing x)) ≡ or_else (counted_in true kind (Some x)) (if_passes others (counted_in false kind (Some x)))
-      go Aside c f i j l = rw i refl
-      go Verified true f i j l = rw (i, j) refl
-      go Verified false f i j l = rw (i, j) refl
-      go Waiting true true i j l = rw (i, j, l) refl
-      go Waiting true false i j l = rw (i, j, l) refl
-      go Waiting false f i j l = rw (i, j) refl
+      go : (b : Bool) → stands false kind x ≡ b → counted_in true kind (Some (if b then record { vote = x.vote; mark = if is_among failing (vote_signer x.vote) then Aside else Verified } else x)) ≡ or_else (counted_in true kind (Some x)) (if_passes others (if b then Some x.vote else None))
+      go true e =
+          let both = both-true (is_marked false x.mark) (is_kind kind (vote_kind x.vote)) e in
+          settle-case (is_among failing (vote_signer x.vote)) (is_kind kind (vote_kind x.vote)) (is_marked true x.mark) true x.vote both.1 (sure-not x.mark both.0) refl refl
+      go false e = or-none (counted_in true kind (Some x))
 
   settled-apart : (o : Option (Held S D P G C)) → NotBoth (counted_in true kind o) (if_passes others (counted_in false kind o))
   settled-apart None = inl refl
@@ -692,3 +738,46 @@ module _ {S D P G C : Type 0} (kind : Kind) (failing : List ℕ) where
             waiting_count = rw stays is.waiting_count;
             verified_count = rw stays is.verified_count;
           }
+
+-- ---- counted anew
+
+module _ {S D P G C : Type 0} where
+  -- what counts of a kind, counted anew
+  abbrev pub anew : Kind → Rows S D P G C → Tally
+  anew kind rows = record { waiting = length (votes_in false kind rows.rows.items); verified = length (votes_in true kind rows.rows.items); complete = (tally_at kind rows).complete }
+
+  -- all three kinds were counted anew
+  pub anew-all : (r0 r1 r2 r3 : Rows S D P G C) → r1.rows ≡ r0.rows → r2.rows ≡ r1.rows → r3.rows ≡ r2.rows
+      → ((k : Kind) → tally_at k r1 ≡ (if is_kind Notarization k then anew Notarization r0 else tally_at k r0))
+      → ((k : Kind) → tally_at k r2 ≡ (if is_kind Nullification k then anew Nullification r1 else tally_at k r1))
+      → ((k : Kind) → tally_at k r3 ≡ (if is_kind Finalization k then anew Finalization r2 else tally_at k r2))
+      → (kind : Kind) → tally_at kind r3 ≡ record { waiting = length (votes_in false kind r3.rows.items); verified = length (votes_in true kind r3.rows.items); complete = (tally_at kind r0).complete }
+  anew-all r0 r1 r2 r3 a b c t1 t2 t3 Notarization = rw (c, b, a) (t3 Notarization ∙ t2 Notarization ∙ t1 Notarization)
+  anew-all r0 r1 r2 r3 a b c t1 t2 t3 Nullification = rw (c, b, ← t1 Nullification) (t3 Nullification ∙ t2 Nullification)
+  anew-all r0 r1 r2 r3 a b c t1 t2 t3 Finalization = rw (c, ← t1 Finalization, ← t2 Finalization) (t3 Finalization)
+
+  -- votes that pass count on, all kinds counted anew
+  pub kept-anew : (q : Vote S D P G C → Bool) (kind : Kind) (old r0 r1 r2 r3 : Rows S D P G C) (complete : Bool) (wait sure : List (Vote S D P G C)) → KindIs kind old complete wait sure
+      → r3.rows.items ≡ map (each_cell (kept q)) old.rows.items → r0.notarizes ≡ old.notarizes → r0.nullifies ≡ old.nullifies → r0.finalizes ≡ old.finalizes
+      → r1.rows ≡ r0.rows → r2.rows ≡ r1.rows → r3.rows ≡ r2.rows
+      → ((k : Kind) → tally_at k r1 ≡ (if is_kind Notarization k then anew Notarization r0 else tally_at k r0))
+      → ((k : Kind) → tally_at k r2 ≡ (if is_kind Nullification k then anew Nullification r1 else tally_at k r1))
+      → ((k : Kind) → tally_at k r3 ≡ (if is_kind Finalization k then anew Finalization r2 else tally_at k r2))
+      → KindIs kind r3 complete (filter q wait) (filter q sure)
+  kept-anew q kind old r0 r1 r2 r3 complete wait sure k items n u f a b c t1 t2 t3 =
+      kept-kind q kind old r3 complete wait sure k items (rw (← tallies-as r0 old n u f kind) (anew-all r0 r1 r2 r3 a b c t1 t2 t3 kind))
+
+  -- votes of a finished kind count no more
+  pub finished-anew : (kind k : Kind) (old r0 new : Rows S D P G C) (complete : Bool) (wait sure : List (Vote S D P G C)) → KindIs k old complete wait sure
+      → new.rows.items ≡ map (each_cell (kept (λ v. not (is_kind kind (vote_kind v))))) old.rows.items → r0.notarizes ≡ old.notarizes → r0.nullifies ≡ old.nullifies → r0.finalizes ≡ old.finalizes
+      → tally_at k new ≡ (if is_kind kind k then record { waiting = 0; verified = 0; complete = true } else tally_at k r0)
+      → KindIs k new (is_kind k kind || complete) (if is_kind k kind then [] else wait) (if is_kind k kind then [] else sure)
+  finished-anew kind k old r0 new complete wait sure is items n u f tally = finished-kind kind k old new complete wait sure is items (rw (← tallies-as r0 old n u f k) tally)
+
+  -- votes of a kind were judged, the kind counted anew
+  pub settled-anew : (kind : Kind) (failing : List ℕ) (k : Kind) (old r0 new : Rows S D P G C) (complete : Bool) (wait sure : List (Vote S D P G C)) → KindIs k old complete wait sure
+      → new.rows.items ≡ map (each_cell (settled kind failing)) old.rows.items → r0.notarizes ≡ old.notarizes → r0.nullifies ≡ old.nullifies → r0.finalizes ≡ old.finalizes
+      → new.rows ≡ r0.rows → tally_at k new ≡ (if is_kind kind k then anew kind r0 else tally_at k r0)
+      → KindIs k new complete (settled_waiting k kind wait) (settled_verified k kind failing wait sure)
+  settled-anew kind failing k old r0 new complete wait sure is items n u f same tally =
+      settled-kind kind failing k old new complete wait sure is items (rw (same, ← tallies-as r0 old n u f k, ← tallies-as r0 old n u f kind) tally)

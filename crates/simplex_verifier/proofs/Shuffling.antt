@@ -80,6 +80,25 @@ module _ {X : Type 0} (f : X → X) where
   walked-length (suc n) [] = refl
   walked-length (suc n) (x ∷ xs) = ap suc (walked-length n xs)
 
+module _ {X : Type 0} (f : X → X) where
+  -- one more was changed
+  pub walked-step : (xs ys : List X) (i : ℕ) (x y : X) → i < length ys → x ≡ get_or ys i x → y ≡ f x → ys ≡ walked f i xs → set ys i y ≡ walked f (i + 1) xs
+  walked-step xs ys i x y l at made same =
+      let next : i + 1 ≡ suc i = omega arith in
+      let low : i < length xs = omega (arith, l, ap length same, walked-length f i xs) in
+      let first : set ys i y ≡ set ys i (f (get_or ys i x)) = ap (set ys i) (made ∙ ap f at) in
+      rw next (first ∙ rw same (walked-more f i xs x low))
+
+  walked-past : (i : ℕ) (xs : List X) → length xs ≤ i → walked f i xs ≡ map f xs
+  walked-past zero [] l = refl
+  walked-past zero (x ∷ xs) l = absurd (omega (arith, l))
+  walked-past (suc i) [] l = refl
+  walked-past (suc i) (x ∷ xs) l = ap (λ ys. f x ∷ ys) (walked-past i xs (omega (arith, l)))
+
+  -- all were changed
+  pub walked-done : (xs ys : List X) (i : ℕ) → length ys ≤ i → ys ≡ walked f i xs → ys ≡ map f xs
+  walked-done xs ys i l same = same ∙ walked-past i xs (omega (arith, l, ap length same, walked-length f i xs))
+
 -- one that passes, if there is one
 abbrev pub if_passes : {Y : Type 0} → (Y → Bool) → Option Y → Option Y
 if_passes q None = None
@@ -175,3 +194,31 @@ module _ {X Y : Type 0} where
       go : (o : Option Y) → cons_option o (filter_map g (take i xs) ++ cons_option (g (get_or xs i d)) []) ≡ cons_option o (filter_map g (take i xs)) ++ cons_option (g (get_or xs i d)) []
       go None = refl
       go (Some y) = refl
+
+  -- a loop's step: what is picked of the rows so far, and of the next
+  pub picked-more : (g : X → Option Y) (xs ys : List X) (i : ℕ) (x : X) → ys ≡ xs → x ≡ get_or ys i x → i < length ys → filter_map g (take (i + 1) xs) ≡ filter_map g (take i xs) ++ cons_option (g x) []
+  picked-more g xs ys i x same at l =
+      let next : i + 1 ≡ suc i = omega arith in
+      let here : get_or xs i x ≡ x = sym (rw same at at) in
+      let low : i < length xs = omega (arith, l, ap length same) in
+      rw next (filter_map-take g xs i x low ∙ rw here refl)
+
+  -- the first that is picked, where nothing is picked before it
+  pub picked-first : (g : X → Option Y) (xs : List X) (i : ℕ) (x : X) (y : Y) → i < length xs → x ≡ get_or xs i x → g x ≡ Some y → filter_map g (take i xs) ≡ [] → (rest : List Y) × (filter_map g xs ≡ y ∷ rest)
+  picked-first g [] i x y l at some none = absurd (omega arith)
+  picked-first g (z ∷ xs) zero x y l at some none = (filter_map g xs, (let here : g z ≡ Some y = rw at at some in rw here refl))
+  picked-first g (z ∷ xs) (suc i) x y l at some none = go (g z) refl none (picked-first g xs i x y (omega arith) at some)
+    where
+      go : (o : Option Y) → g z ≡ o → cons_option o (filter_map g (take i xs)) ≡ [] → (filter_map g (take i xs) ≡ [] → (rest : List Y) × (filter_map g xs ≡ y ∷ rest)) → (rest : List Y) × (filter_map g (z ∷ xs) ≡ y ∷ rest)
+      go None e none later = let more = later none in (more.0, rw e more.1)
+      go (Some w) e none later = absurd (cc none)
+
+  -- what is picked of some is picked of all
+  pub picked-part : (g : X → Option Y) (xs : List X) (i : ℕ) (x : X) (y : Y) → i < length xs → x ≡ get_or xs i x → g x ≡ Some y → (k : ℕ) × (k < length (filter_map g xs)) × (get_or (filter_map g xs) k y ≡ y)
+  picked-part g [] i x y l at some = absurd (omega arith)
+  picked-part g (z ∷ xs) zero x y l at some = let here : g z ≡ Some y = rw at at some in rw here (zero, omega arith, refl)
+  picked-part g (z ∷ xs) (suc i) x y l at some = go (g z) (picked-part g xs i x y (omega arith) at some)
+    where
+      go : (o : Option Y) → ((k : ℕ) × (k < length (filter_map g xs)) × (get_or (filter_map g xs) k y ≡ y)) → (k : ℕ) × (k < length (cons_option o (filter_map g xs))) × (get_or (cons_option o (filter_map g xs)) k y ≡ y)
+      go None m = m
+      go (Some w) m = (suc m.0, omega (arith, m.1), m.2)

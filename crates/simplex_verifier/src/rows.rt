@@ -340,21 +340,21 @@ impl<S: Scheme<D>, D: Digest> Rows<S, D> {
     pub(crate) fn put(
         &mut self,
         vote: Vote<S, D>,
-        verified: bool,
+        own: bool,
         counts: bool,
     ) -> Result<(), AllocError>
         ensures places { OnOk result ((s : Setup S) (h : History S D S.PublicKey S.Signature S.Certificate) → RowsKeep D.PartialEq.eq s self.old h → MayBeAdded D.PartialEq.eq s h vote → AreNewest self.new s.members (vote ∷ accepted h)) }
-        ensures kinds { OnOk result ((s : Setup S) (h : History S D S.PublicKey S.Signature S.Certificate) → RowsKeep D.PartialEq.eq s self.old h → MayBeAdded D.PartialEq.eq s h vote → (kind : Kind) → KindIs kind self.new (is_complete kind h) (pushed kind vote (counts && not verified) (waiting D.PartialEq.eq s kind h)) (pushed kind vote (counts && verified) (verified D.PartialEq.eq s kind h))) }
+        ensures kinds { OnOk result ((s : Setup S) (h : History S D S.PublicKey S.Signature S.Certificate) → RowsKeep D.PartialEq.eq s self.old h → MayBeAdded D.PartialEq.eq s h vote → (kind : Kind) → KindIs kind self.new (is_complete kind h) (pushed kind vote (counts && not own) (waiting D.PartialEq.eq s kind h)) (pushed kind vote (counts && own) (verified D.PartialEq.eq s kind h))) }
         ensures err { OnErr result (RowsStay self.old self.new) }
     {
         self.reach()?;
         let kind = kind_of(&vote);
         self.write(Held {
             vote,
-            mark: Mark::new(counts, verified),
+            mark: Mark::new(counts, own),
         })?;
         if counts {
-            self.count(kind, verified);
+            self.count(kind, own);
         }
         Ok(())
     }

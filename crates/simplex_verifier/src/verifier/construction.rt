@@ -1,9 +1,9 @@
 //! Certificates from the votes that a verifier holds.
 
-ghost use Rattle.std.specs.Prelude.{◌≡◌, ◌∷◌, Bool, Option, Some, None, IfOk, IfSome, OnErr, MatchOption, is_some, true, false};
+ghost use Rattle.std.specs.Prelude.{◌≡◌, ◌∷◌, Bool, Option, Some, None, length, IfOk, IfSome, OnErr, MatchOption, is_some, true, false};
 ghost use Rattle.std.specs.Option.{option_map};
 ghost use Rattle.simplex_types.specs.Subject.{statement};
-ghost use Rattle.simplex_verifier.specs.History.{context, statement_for, waiting, verified, is_ready, is_worth_judging, is_due};
+ghost use Rattle.simplex_verifier.specs.History.{context, statement_for, waiting, verified, are_one, is_ready, is_worth_judging, is_due};
 ghost use Rattle.simplex_verifier.specs.ConstructionResult.{after, IsReadable, IsCertificateOf, IsOfVerified, IsOfWaiting, IsBatch};
 ghost use Rattle.simplex_rules.specs.declared.kind.Kind.TheVariants.{Notarization, Nullification, Finalization};
 ghost use Rattle.simplex_verifier.specs.Keeping.{VerifierKeeps, AtEachOf, selection_of};
@@ -120,21 +120,40 @@ impl<S: Scheme<D>, D: Digest> Verifier<S, D> {
         }
     }
 
+    /// How many votes of the kind wait.
+    fn waiting(&self, kind: Kind) -> usize
+        ensures { AtEachOf D.PartialEq.eq S.Scheme S.batchable self.now (λ s h. result ≡ length (waiting D.PartialEq.eq s kind h)) }
+    {
+        self.rows.tally(kind).waiting
+    }
+
+    /// How many votes of the kind are known to attest.
+    fn verified(&self, kind: Kind) -> usize
+        ensures { AtEachOf D.PartialEq.eq S.Scheme S.batchable self.now (λ s h. result ≡ length (verified D.PartialEq.eq s kind h)) }
+    {
+        self.rows.tally(kind).verified
+    }
+
+    /// Whether all verified votes of the kind are for what the first is for.
+    fn is_of_one(&self, kind: Kind) -> bool
+        ensures { AtEachOf D.PartialEq.eq S.Scheme S.batchable self.now (λ s h. result ≡ are_one D.PartialEq.eq (verified D.PartialEq.eq s kind h)) }
+    {
+        self.rows.is_of_one(kind)
+    }
+
     /// Whether the verified votes of the kind are enough for a certificate.
     fn is_ready(&self, kind: Kind) -> bool
         ensures { AtEachOf D.PartialEq.eq S.Scheme S.batchable self.now (λ s h. result ≡ is_ready D.PartialEq.eq s kind h) }
     {
-        self.needed as usize <= self.rows.tally(kind).verified
-            && (self.knows(kind) || self.rows.is_of_one(kind))
+        self.needed as usize <= self.verified(kind) && (self.knows(kind) || self.is_of_one(kind))
     }
 
     /// Whether the votes of the kind that wait are worth judging.
     fn is_worth_judging(&self, kind: Kind) -> bool
         ensures { AtEachOf D.PartialEq.eq S.Scheme S.batchable self.now (λ s h. result ≡ is_worth_judging D.PartialEq.eq s kind h) }
     {
-        let tally = self.rows.tally(kind);
-        let waiting = tally.waiting;
-        let missing = (self.needed as usize).saturating_sub(tally.verified);
+        let waiting = self.waiting(kind);
+        let missing = (self.needed as usize).saturating_sub(self.verified(kind));
         self.knows(kind) && 0 < waiting && (!self.scheme.is_batchable() || missing <= waiting)
     }
 
@@ -221,7 +240,7 @@ impl<S: Scheme<D>, D: Digest> Verifier<S, D> {
         ensures keeps { IfOk result (λ batch. AtEachOf D.PartialEq.eq S.Scheme S.batchable self.old (λ s h. context s kind h ≡ Some (statement subject.now) → VerifierKeeps D.PartialEq.eq S.Scheme S.batchable s self.new (after kind (Some batch) h))) }
         ensures err { OnErr result (AtEachOf D.PartialEq.eq S.Scheme S.batchable self.old (λ s h. VerifierKeeps D.PartialEq.eq S.Scheme S.batchable s self.new h)) }
     {
-        let processed = self.rows.tally(kind).waiting;
+        let processed = self.waiting(kind);
         let verified = self.rows.attestations(alloc, kind, true)?;
         let waiting = self.rows.attestations(alloc, kind, false)?;
         let Judged {
