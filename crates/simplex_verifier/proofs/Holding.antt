@@ -1,6 +1,8 @@
 -- Rows of votes, one a signer.
 use Rattle.std.proofs.Common.{◌≡◌, ◌≤◌, ◌<◌, ◌+◌, ◌==◌, ◌&&◌, ◌||◌, ◌⊎◌, inl, inr, ℕ, zero, suc, Bool, true, false, not, cond, List, [], ◌∷◌, ◌++◌, map, length, get_or, set, take, refl, ap, sym, ◌∙◌, arith, append-nil, length-append, length-set}
-use Rattle.std.specs.Prelude.{Vec, Option, None, Some, filter, find, if◌then◌else◌}
+use Rattle.std.specs.declared.vec.Vec.{Vec}
+use Rattle.std.specs.declared.alloc.Global.{Global}
+use Rattle.std.specs.Prelude.{Result, Ok, Err, OnErr, Option, None, Some, filter, find, if◌then◌else◌}
 use Rattle.std.specs.List.{filter_map, cons_option, slice_get, Contains}
 use Rattle.std.specs.List.Sorted.{IsPermutation}
 use Rattle.std.specs.Option.{option_map, option_and_then}
@@ -43,6 +45,11 @@ same-suc k i = elim (cases_eq k i) [
       rw a b
 ]
 
+-- what holds, holds of a failure
+pub on-err : {X E : Type 0} (r : Result X E) (P : Type 0) → P → OnErr r P
+on-err (Ok x) P p = tt
+on-err (Err e) P p = p
+
 -- none is none, whatever is asked
 none-if : {X : Type 0} (b : Bool) (o : Option X) → o ≡ None → o ≡ (if b then None else o)
 none-if true o e = e
@@ -50,7 +57,7 @@ none-if false o e = refl
 
 module _ {S D P G C : Type 0} where
   -- other rows beside the same counts
-  abbrev pub with_rows : Rows S D P G C → Vec (Row S D P G C) → Rows S D P G C
+  abbrev pub with_rows : Rows S D P G C → Vec (Row S D P G C) Global → Rows S D P G C
   with_rows old rows = record { members = old.members; rows = rows; notarizes = old.notarizes; nullifies = old.nullifies; finalizes = old.finalizes }
 
   -- the counts are one
@@ -619,6 +626,15 @@ module _ {S D P G C : Type 0} where
 
 -- ---- the votes that waited were judged
 
+sure-not : (m : Mark) → is_marked false m ≡ true → is_marked true m ≡ false
+sure-not Aside e = refl
+sure-not Waiting e = refl
+sure-not Verified e = absurd (cc e)
+
+or-none : {Y : Type 0} (a : Option Y) → a ≡ or_else a None
+or-none None = refl
+or-none (Some y) = refl
+
 module _ {S D P G C : Type 0} (kind : Kind) (failing : List ℕ) where
   -- the signer is none of those that fail
   abbrev others : Vote S D P G C → Bool
@@ -635,15 +651,6 @@ module _ {S D P G C : Type 0} (kind : Kind) (failing : List ℕ) where
       go : (b : Bool) → stands false kind x ≡ b → counted_in false kind (Some (if b then record { vote = x.vote; mark = if is_among failing (vote_signer x.vote) then Aside else Verified } else x)) ≡ None
       go true e = after (is_among failing (vote_signer x.vote))
       go false e = rw e refl
-
-  sure-not : (m : Mark) → is_marked false m ≡ true → is_marked true m ≡ false
-  sure-not Aside e = refl
-  sure-not Waiting e = refl
-  sure-not Verified e = absurd (cc e)
-
-  or-none : {Y : Type 0} (a : Option Y) → a ≡ or_else a None
-  or-none None = refl
-  or-none (Some y) = refl
 
   -- one that waited, by whether it fails
   settle-case : (fails mine known waits : Bool) (v : Vote S D P G C) → mine ≡ true → known ≡ false → waits ≡ true → others v ≡ not fails
@@ -780,4 +787,4 @@ module _ {S D P G C : Type 0} where
       → new.rows ≡ r0.rows → tally_at k new ≡ (if is_kind kind k then anew kind r0 else tally_at k r0)
       → KindIs k new complete (settled_waiting k kind wait) (settled_verified k kind failing wait sure)
   settled-anew kind failing k old r0 new complete wait sure is items n u f same tally =
-      settled-kind kind failing k old new complete wait sure is items (rw (same, ← tallies-as r0 old n u f k, ← tallies-as r0 old n u f kind) tally)
+      settled-kind kind failing k old new complete wait sure is items (tally ∙ rw (same, ← tallies-as r0 old n u f k, ← tallies-as r0 old n u f kind) refl)

@@ -82,11 +82,11 @@ module _ {X : Type 0} (f : X → X) where
 
 module _ {X : Type 0} (f : X → X) where
   -- one more was changed
-  pub walked-step : (xs ys : List X) (i : ℕ) (x y : X) → i < length ys → x ≡ get_or ys i x → y ≡ f x → ys ≡ walked f i xs → set ys i y ≡ walked f (i + 1) xs
-  walked-step xs ys i x y l at made same =
+  pub walked-step : (xs ys : List X) (i : ℕ) (x y : X) → i < length ys → y ≡ f (get_or ys i x) → ys ≡ walked f i xs → set ys i y ≡ walked f (i + 1) xs
+  walked-step xs ys i x y l made same =
       let next : i + 1 ≡ suc i = omega arith in
       let low : i < length xs = omega (arith, l, ap length same, walked-length f i xs) in
-      let first : set ys i y ≡ set ys i (f (get_or ys i x)) = ap (set ys i) (made ∙ ap f at) in
+      let first : set ys i y ≡ set ys i (f (get_or ys i x)) = ap (set ys i) made in
       rw next (first ∙ rw same (walked-more f i xs x low))
 
   walked-past : (i : ℕ) (xs : List X) → length xs ≤ i → walked f i xs ≡ map f xs
@@ -195,13 +195,12 @@ module _ {X Y : Type 0} where
       go None = refl
       go (Some y) = refl
 
-  -- a loop's step: what is picked of the rows so far, and of the next
-  pub picked-more : (g : X → Option Y) (xs ys : List X) (i : ℕ) (x : X) → ys ≡ xs → x ≡ get_or ys i x → i < length ys → filter_map g (take (i + 1) xs) ≡ filter_map g (take i xs) ++ cons_option (g x) []
-  picked-more g xs ys i x same at l =
+  -- a loop's step: what is picked of those so far, and of the next
+  pub picked-more : (g : X → Option Y) (xs ys : List X) (i : ℕ) (x : X) → ys ≡ xs → i < length ys → filter_map g (take (i + 1) xs) ≡ filter_map g (take i xs) ++ cons_option (g (get_or ys i x)) []
+  picked-more g xs ys i x same l =
       let next : i + 1 ≡ suc i = omega arith in
-      let here : get_or xs i x ≡ x = sym (rw same at at) in
       let low : i < length xs = omega (arith, l, ap length same) in
-      rw next (filter_map-take g xs i x low ∙ rw here refl)
+      rw (next, same) (filter_map-take g xs i x low)
 
   -- the first that is picked, where nothing is picked before it
   pub picked-first : (g : X → Option Y) (xs : List X) (i : ℕ) (x : X) (y : Y) → i < length xs → x ≡ get_or xs i x → g x ≡ Some y → filter_map g (take i xs) ≡ [] → (rest : List Y) × (filter_map g xs ≡ y ∷ rest)
@@ -222,3 +221,8 @@ module _ {X Y : Type 0} where
       go : (o : Option Y) → ((k : ℕ) × (k < length (filter_map g xs)) × (get_or (filter_map g xs) k y ≡ y)) → (k : ℕ) × (k < length (cons_option o (filter_map g xs))) × (get_or (cons_option o (filter_map g xs)) k y ≡ y)
       go None m = m
       go (Some w) m = (suc m.0, omega (arith, m.1), m.2)
+
+-- what is made of one more
+pub map-push : {X Y : Type 0} (h : X → Y) (xs : List X) (x : X) → map h (xs ++ x ∷ []) ≡ map h xs ++ h x ∷ []
+map-push h [] x = refl
+map-push h (y ∷ xs) x = ap (λ ys. h y ∷ ys) (map-push h xs x)

@@ -1,10 +1,10 @@
 use Rattle.std.proofs.Common.{◌≡◌, true, false, refl, sym, ◌∙◌}
-use Rattle.simplex_verifier.proofs.Holding.{stays-keep, stays-same, stays-again, written, put-kind, put-newest}
+use Rattle.simplex_verifier.proofs.Holding.{on-err, stays-keep, stays-same, stays-again, written, put-kind, put-newest}
 use Rattle.simplex_verifier.proofs.rows.Rows.put.Goals as goal
 
 pub returns-in_err-write-clause-err : goal.returns-in_err-write-clause-err
-returns-in_err-write-clause-err g c = stays-again c.args.self.now c.reach.new.self c.write.new.self c.in_ok-reach.ensures.stays
-    (stays-same c.reach.new.self c.write.new.self c.in_err-write.ensures.others.members_stay c.in_err-write.ensures.others.tallies_stay c.in_err-write.ensures.err)
+returns-in_err-write-clause-err g c = on-err _ _ (stays-again c.args.self.now c.reach.new.self c.write.new.self c.in_ok-reach.ensures.stays
+    (stays-same c.reach.new.self c.write.new.self c.in_err-write.ensures.others.members_stay c.in_err-write.ensures.others.tallies_stay c.in_err-write.ensures.err))
 
 pub returns-then-counts-clause-places : goal.returns-then-counts-clause-places
 returns-then-counts-clause-places g c = λ s h k may.

@@ -9,7 +9,7 @@ use Rattle.simplex_verifier.proofs.Holding.{each-stays, kept-vote, kept-anew}
 use Rattle.simplex_verifier.proofs.rows.Rows.retain_for.Goals as goal
 
 pub loop-row-preserved : goal.loop-row-preserved
-loop-row-preserved g c = let within : c.loop-row.row-index < length c.loop-row.row-items = omega arith in walked-step (each_cell (kept (is_candidate g.D.PartialEq.eq (Some c.args.proposal.now)))) c.args.self.now.rows.items c.loop-row.row-items c.loop-row.row-index c.row-item.result _ within c.row-item.is c.retain_for.ensures c.loop-row.invariant
+loop-row-preserved g c = let within : c.loop-row.row-index < length c.loop-row.row-items = omega arith in walked-step (each_cell (kept (is_candidate g.D.PartialEq.eq (Some c.args.proposal.now)))) c.args.self.now.rows.items c.loop-row.row-items c.loop-row.row-index c.row-item.result _ within c.retain_for.ensures c.loop-row.invariant
 
 pub returns-clause-places : goal.returns-clause-places
 returns-clause-places g c =

@@ -7,7 +7,7 @@ use Rattle.simplex_verifier.proofs.Holding.{each-stays, settled-vote, settled-an
 use Rattle.simplex_verifier.proofs.rows.Rows.settle.Goals as goal
 
 pub loop-row-preserved : goal.loop-row-preserved
-loop-row-preserved g c = λ ascending. let within : c.loop-row.row-index < length c.loop-row.row-items = omega arith in walked-step (each_cell (settled c.args.kind c.args.failing.now)) c.args.self.now.rows.items c.loop-row.row-items c.loop-row.row-index c.row-item.result _ within c.row-item.is (c.settle.ensures ascending) (c.loop-row.invariant ascending)
+loop-row-preserved g c = λ ascending. let within : c.loop-row.row-index < length c.loop-row.row-items = omega arith in walked-step (each_cell (settled c.args.kind c.args.failing.now)) c.args.self.now.rows.items c.loop-row.row-items c.loop-row.row-index c.row-item.result _ within (c.settle.ensures ascending) (c.loop-row.invariant ascending)
 
 pub returns-clause-places : goal.returns-clause-places
 returns-clause-places g c = λ ascending.
