@@ -1,6 +1,7 @@
 -- Lists that are one in another order, and lists of what is picked of a list.
-use Rattle.std.proofs.Common.{◌≡◌, ℕ, zero, suc, ◌<◌, ◌≤◌, ◌+◌, Bool, true, false, not, cond, ◌⊎◌, inl, inr, List, [], ◌∷◌, ◌++◌, map, length, get_or, set, swap, take, drop, refl, ap, sym, ◌∙◌, subst, arith, append_assoc, append-nil}
-use Rattle.std.specs.Prelude.{Option, None, Some, filter, find, if◌then◌else◌}
+use Rattle.std.proofs.Common.{◌≡◌, ℕ, zero, suc, ◌<◌, ◌≤◌, ◌+◌, Bool, true, false, not, cond, ◌⊎◌, inl, inr, List, [], ◌∷◌, ◌++◌, map, length, get_or, set, swap, take, drop, refl, ap, sym, ◌∙◌, subst, arith, append_assoc, append-nil, length-append, Bor}
+use Rattle.std.specs.Prelude.{Option, None, Some, is_some, filter, find, if◌then◌else◌}
+use Rattle.std.specs.Option.{option_copied}
 use Rattle.std.specs.List.{filter_map, cons_option}
 use Rattle.std.specs.List.Sorted.{IsPermutation}
 use Rattle.std.proofs.lemmas.List.Sorted.{IsPermutation-refl, IsPermutation-sym, IsPermutation-trans, IsPermutation-cons, IsPermutation-keeps, IsPermutation-middle, IsPermutation-append_left, IsPermutation-append_right, IsPermutation-to_front, length_permutation}
@@ -226,3 +227,22 @@ module _ {X Y : Type 0} where
 pub map-push : {X Y : Type 0} (h : X → Y) (xs : List X) (x : X) → map h (xs ++ x ∷ []) ≡ map h xs ++ h x ∷ []
 map-push h [] x = refl
 map-push h (y ∷ xs) x = ap (λ ys. h y ∷ ys) (map-push h xs x)
+
+module _ {X Y : Type 0} where
+  -- the same of the next as it stands
+  pub picked-item : (g : X → Option Y) (xs ys : List X) (i : ℕ) (x : X) → ys ≡ xs → x ≡ get_or ys i x → i < length ys → filter_map g (take (i + 1) xs) ≡ filter_map g (take i xs) ++ cons_option (g x) []
+  picked-item g xs ys i x same at l = picked-more g xs ys i x same l ∙ ap (λ (z : X). filter_map g (take i xs) ++ cons_option (g z) []) (sym at)
+
+-- one more, or none
+pub one-longer : {Y : Type 0} (ys : List Y) (o : Option Y) → is_some o ≡ true → length (ys ++ cons_option o []) ≡ length ys + 1
+one-longer ys None e = absurd (cc e)
+one-longer ys (Some y) e = length-append ys (y ∷ [])
+
+pub none-longer : {Y : Type 0} (ys : List Y) (o : Option Y) → is_some o ≡ false → length (ys ++ cons_option o []) ≡ length ys
+none-longer ys None e = ap length (append-nil ys)
+none-longer ys (Some y) e = absurd (cc e)
+
+-- it is there, if its copy is
+pub some-copied : {Y : Type 0} (o : Option (Bor Y)) → is_some (option_copied o) ≡ is_some o
+some-copied None = refl
+some-copied (Some r) = refl
