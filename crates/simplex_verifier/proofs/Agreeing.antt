@@ -34,16 +34,17 @@ none-fails p (x ∷ xs) all = let here : p x ≡ true = All-head (λ y. p y ≡ 
 
 all-pass : {X : Type 0} (p : X → Bool) (xs : List X) → is_none (find (λ x. not (p x)) xs) ≡ true → All (λ x. p x ≡ true) xs
 all-pass p [] none = All-nil (λ x. p x ≡ true)
-all-pass p (x ∷ xs) none = go (p x) refl none
+all-pass p (x ∷ xs) none = go (p x) refl none (all-pass p xs)
   where
-    go : (b : Bool) → p x ≡ b → is_none (cond (not b) (Some x) (find (λ y. not (p y)) xs)) ≡ true → All (λ y. p y ≡ true) (x ∷ xs)
-    go true e none = All-cons (λ y. p y ≡ true) x xs e (all-pass p xs none)
-    go false e none = absurd (cc none)
+    go : (b : Bool) → p x ≡ b → is_none (cond (not b) (Some x) (find (λ y. not (p y)) xs)) ≡ true → (is_none (find (λ y. not (p y)) xs) ≡ true → All (λ y. p y ≡ true) xs) → All (λ y. p y ≡ true) (x ∷ xs)
+    go true e none later = All-cons (λ y. p y ≡ true) x xs e (later none)
+    go false e none later = absurd (cc none)
 
-module _ {S D P G C : Type 0} (same : D → D → Bool) (law : (x y : D) → IsTrue (same x y) ↔ (x ≡ y)) where
+module _ {D : Type 0} (same : D → D → Bool) (law : (x y : D) → IsTrue (same x y) ↔ (x ≡ y)) where
   proposal-itself : (p : Proposal D) → is_proposal same p p ≡ true
   proposal-itself p = rw (itself p.round.epoch, itself p.round.view, itself p.parent, (law p.payload p.payload).1 refl) refl
 
+module _ {S D P G C : Type 0} (same : D → D → Bool) (law : (x y : D) → IsTrue (same x y) ↔ (x ≡ y)) where
   -- votes for what one vote is for are for what each of them is for
   through : (kind : Kind) (x u v : Vote S D P G C) → is_kind kind (vote_kind x) ≡ true → is_kind kind (vote_kind u) ≡ true → is_kind kind (vote_kind v) ≡ true
       → is_candidate same (vote_proposal x) u ≡ true → is_candidate same (vote_proposal x) v ≡ true → is_candidate same (vote_proposal u) v ≡ true
@@ -53,11 +54,11 @@ module _ {S D P G C : Type 0} (same : D → D → Bool) (law : (x y : D) → IsT
   through kind (vote.Notarize x) (vote.Notarize u) (vote.Notarize v) i j k a b =
       let one = one-proposal same law u.proposal x.proposal a in
       let two = one-proposal same law v.proposal x.proposal b in
-      rw (one, two) (proposal-itself x.proposal)
+      rw (one, two) (proposal-itself same law x.proposal)
   through kind (vote.Finalize x) (vote.Finalize u) (vote.Finalize v) i j k a b =
       let one = one-proposal same law u.proposal x.proposal a in
       let two = one-proposal same law v.proposal x.proposal b in
-      rw (one, two) (proposal-itself x.proposal)
+      rw (one, two) (proposal-itself same law x.proposal)
   through kind (vote.Nullify x) (vote.Notarize u) v i j k a b = absurd (cc (one-kind kind (vote_kind (vote.Nullify x)) (vote_kind (vote.Notarize u)) i, j))
   through kind (vote.Finalize x) (vote.Notarize u) v i j k a b = absurd (cc (one-kind kind (vote_kind (vote.Finalize x)) (vote_kind (vote.Notarize u)) i, j))
   through kind (vote.Nullify x) (vote.Finalize u) v i j k a b = absurd (cc (one-kind kind (vote_kind (vote.Nullify x)) (vote_kind (vote.Finalize u)) i, j))
@@ -67,9 +68,9 @@ module _ {S D P G C : Type 0} (same : D → D → Bool) (law : (x y : D) → IsT
 
   -- a vote is for what it is for
   for-itself : (v : Vote S D P G C) → is_candidate same (vote_proposal v) v ≡ true
-  for-itself (vote.Notarize v) = proposal-itself v.proposal
+  for-itself (vote.Notarize v) = proposal-itself same law v.proposal
   for-itself (vote.Nullify v) = refl
-  for-itself (vote.Finalize v) = proposal-itself v.proposal
+  for-itself (vote.Finalize v) = proposal-itself same law v.proposal
 
   -- all are for what this one is for
   abbrev AreFor : Vote S D P G C → List (Vote S D P G C) → Type 0

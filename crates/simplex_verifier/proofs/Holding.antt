@@ -788,3 +788,23 @@ module _ {S D P G C : Type 0} where
       → KindIs k new complete (settled_waiting k kind wait) (settled_verified k kind failing wait sure)
   settled-anew kind failing k old r0 new complete wait sure is items n u f same tally =
       settled-kind kind failing k old new complete wait sure is items (tally ∙ rw (same, ← tallies-as r0 old n u f k, ← tallies-as r0 old n u f kind) refl)
+
+-- ---- the beginning
+
+module _ {S D P G C : Type 0} where
+  tally-same : (rows : Rows S D P G C) (t : Tally) → rows.notarizes ≡ t → rows.nullifies ≡ t → rows.finalizes ≡ t → (kind : Kind) → tally_at kind rows ≡ t
+  tally-same rows t n u f Notarization = n
+  tally-same rows t n u f Nullification = u
+  tally-same rows t n u f Finalization = f
+
+  -- no votes, and no certificates
+  pub new-kind : (rows : Rows S D P G C) → rows.notarizes ≡ record { waiting = 0; verified = 0; complete = false } → rows.nullifies ≡ record { waiting = 0; verified = 0; complete = false } → rows.finalizes ≡ record { waiting = 0; verified = 0; complete = false }
+      → rows.rows.items ≡ [] → (kind : Kind) → KindIs kind rows false [] []
+  new-kind rows n u f none kind =
+      let at = tally-same rows (record { waiting = 0; verified = 0; complete = false }) n u f kind in record {
+        complete_is = rw at refl;
+        waiting_are = rw none (IsPermutation-refl []);
+        verified_are = rw none (IsPermutation-refl []);
+        waiting_count = rw at refl;
+        verified_count = rw at refl;
+      }
