@@ -16,7 +16,7 @@ ghost use Rattle.simplex_member.specs.Layers.{current_of, floor_of, may_enter, s
 ghost use Rattle.simplex_member.specs.Point.{Point, History, Came, Found, Heard, Leads, Votes};
 ghost use Rattle.simplex_member.specs.Setup.{Setup};
 ghost use Rattle.simplex_verifier.specs.History as votes;
-ghost use Rattle.simplex_acceptance.specs.Standing.{happened_from, up_from};
+ghost use Rattle.simplex_acceptance.specs.Standing.{AreLedFrom, IsFirstUnled, happened_from, up_from};
 ghost use Rattle.simplex_acceptance.specs.Keeps.{AtEach, Does, IsAt, IsNewVote, IsOpenTo, IsSetUp, Keeps, KeepsAhead, NoneIsDue};
 
 use crate::due::Due;
@@ -196,6 +196,14 @@ impl<S: Scheme<D> + Drop, D: Digest> Acceptance<S, D> {
             Ok(()) => Ok(()),
             Err(fault) => Err(fault),
         }
+    }
+
+    /// The first view from this one on whose votes came up and wait for the name of their leader.
+    pub fn first_unled(&self, from: View) -> Option<View>
+        ensures behind { IfSome result (λ view. from ≤ view) }
+        ensures first { AtEach S.Scheme D.PartialEq.eq self.now (λ s h. MatchOption result (AreLedFrom (stage s h) (votes_of s h) from) (λ view. IsFirstUnled (stage s h) (votes_of s h) from view)) }
+    {
+        self.rounds.first_unled(from)
     }
 
     /// Does what is due first of the votes of all views, and answers of which: forwards their proposal, or makes what it can of a

@@ -23,8 +23,8 @@ use Rattle.simplex_member.specs.Packet.{Formats, of_certificate}
 use Rattle.simplex_member.specs.Point.{History, Point}
 use Rattle.simplex_member.specs.Recorded.{record_of, reported}
 use Rattle.simplex_member.specs.Setup.{Setup}
-use Rattle.simplex_node.specs.Handing.{HandsOut}
-use Rattle.simplex_node.proofs.Deeds.{both_more}
+use Rattle.simplex_exchange.specs.Handing.{HandsOut}
+use Rattle.simplex_exchange.specs.Handing.{both_more}
 
 module _ {S D P G C : Type 0} where
   -- a certificate that may be recorded is of a view with room

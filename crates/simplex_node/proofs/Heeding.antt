@@ -25,7 +25,7 @@ use Rattle.simplex_member.specs.Packet.{Formats}
 use Rattle.simplex_member.specs.Point.{History, Heard, Wanted}
 use Rattle.simplex_member.specs.Setup.{Setup}
 use Rattle.simplex_node.specs.declared.node.Node.{Node}
-use Rattle.simplex_node.specs.Handing.{HandsOut}
+use Rattle.simplex_exchange.specs.Handing.{HandsOut}
 use Rattle.simplex_node.specs.Keeps.{NodeKeeps}
 use Rattle.simplex_node.specs.Refusing.{IsAnother, MayBeHeard, last_vote_tests}
 

@@ -27,8 +27,8 @@ use Rattle.simplex_member.specs.Packet.{Formats}
 use Rattle.simplex_member.specs.Point.{Counts, Falls, Passes, Built, History}
 use Rattle.simplex_member.specs.Setup.{Setup, member_of}
 use Rattle.simplex_node.specs.Answering.{TakesAnswer}
-use Rattle.simplex_node.specs.Handing.{HandsOut}
-use Rattle.simplex_node.proofs.Deeds.{nothing_more}
+use Rattle.simplex_exchange.specs.Handing.{HandsOut}
+use Rattle.simplex_exchange.specs.Handing.{nothing_more}
 
 -- something happened or someone is known, or neither
 something_or_nothing : {X Y : Type 0} (xs : List X) (o : Option Y) → ((xs ≢ []) ⊎ IsSome o) ⊎ (((xs ≢ []) ⊎ IsSome o) → ⊥)

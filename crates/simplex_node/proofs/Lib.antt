@@ -1,6 +1,5 @@
 mod Moments
 mod Leaving
-mod Deeds
 mod Going
 mod Unknown
 mod Certifying

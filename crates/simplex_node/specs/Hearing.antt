@@ -11,7 +11,7 @@ use Rattle.simplex_member.specs.Packet.{Formats, Packet, of_vote}
 use Rattle.simplex_member.specs.Point.{History, Heard}
 use Rattle.simplex_member.specs.Setup.{Setup}
 use Rattle.simplex_node.specs.declared.node.Node.{Node}
-use Rattle.simplex_node.specs.Handing.{HandsOut}
+use Rattle.simplex_exchange.specs.Handing.{HandsOut}
 use Rattle.simplex_node.specs.Keeps.{NodeKeeps}
 use Rattle.simplex_node.specs.Refusing.{last_vote_tests, packet_refused_deeds}
 use Rattle.simplex_node.specs.Taking.{IsTaken}

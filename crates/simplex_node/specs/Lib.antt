@@ -1,5 +1,4 @@
 pub mod Entering
-pub mod Handing
 pub mod Keeps
 pub mod Learning
 pub mod Taking

@@ -15,7 +15,7 @@ ghost use Rattle.simplex_recording.specs.Tables.{build_parts};
 ghost use Rattle.simplex_node.specs.Answering.{TakesAnswer, TakesEvent};
 ghost use Rattle.simplex_node.specs.Keeps.{AtOwn, disk_of};
 
-use crate::handing::hand_out;
+use simplex_exchange::hand_out;
 use crate::node::Node;
 use simplex_acceptance::silent_points_leave_votes;
 use simplex_history::TimeoutReason;

@@ -1,20 +1,20 @@
 //! Certificates that came.
 
-ghost use Rattle.std.specs.Prelude.{◌≡◌, ◌≢◌, ◌∷◌, false, map, option_to_list, IfErr, OnOk, IsErrOf};
+ghost use Rattle.std.specs.Prelude.{◌≡◌, ◌≢◌, ◌∷◌, false, IfErr, OnOk, IsErrOf};
 ghost use Rattle.simplex_journal.specs.Disk.{LeavesOnly, counted};
 ghost use Rattle.simplex_member.specs.Allowed.{Allowed};
 ghost use Rattle.simplex_member.specs.declared.fault.NodeFault.{NodeFault};
 ghost use Rattle.simplex_member.specs.declared.fault.NodeFault.TheVariants as step_fault;
-ghost use Rattle.simplex_member.specs.Deeds.{Finalizes, certificate_deeds};
+ghost use Rattle.simplex_member.specs.Deeds.{certificate_deeds};
 ghost use Rattle.simplex_member.specs.Layers.{current_of, finalized_of};
 ghost use Rattle.simplex_member.specs.Packet.{Formats, formats, of_certificate};
 ghost use Rattle.simplex_member.specs.Point.{History, Point, Came};
 ghost use Rattle.simplex_member.specs.Setup.{Setup};
-ghost use Rattle.simplex_node.specs.Handing.{HandsOut};
+ghost use Rattle.simplex_exchange.specs.Handing.{HandsOut};
 ghost use Rattle.simplex_node.specs.Keeps.{AtOwn, NodeKeeps, disk_of};
 ghost use Rattle.simplex_node.specs.Taking.{IsLeftBy, IsTaken};
 
-use crate::handing::hand_out;
+use simplex_exchange::{hand_out, hand_out_final};
 use crate::learning::{
     final_proposal, tell_repair, tell_voter, tell_votes, what_is_not_recorded_is_unknown,
 };
@@ -26,7 +26,7 @@ use simplex_member::{Action, Channel, NodeFault};
 use simplex_messages::Activity;
 use simplex_recording::a_ledger_at_rest_leaves_its_record;
 use simplex_rules::Elector;
-use simplex_types::{Digest, Proposal, Scheme, View};
+use simplex_types::{Digest, Scheme, View};
 
 impl<S: Scheme<D> + Drop, L: Elector<S, D>, D: Digest, K: Disk> Node<S, L, D, K> {
     /// Takes a certificate that passed all tests, and the bytes that it came as: all layers learn of it, it is recorded, and then it is
@@ -117,19 +117,5 @@ impl<S: Scheme<D> + Drop, L: Elector<S, D>, D: Digest, K: Disk> Node<S, L, D, K>
         hand_out(send, out)?;
         hand_out_final(finalized, out)?;
         self.hand_on_at_entry(was, out)
-    }
-}
-
-/// Tells that a proposal is final, if there is one.
-fn hand_out_final<S: Scheme<D>, D: Digest>(
-    finalized: Option<Proposal<D>>,
-    out: &mut Vec<Action<S, D>>,
-) -> Result<(), NodeFault>
-    ensures done { OnOk result ((f : Formats S D S.PublicKey S.Signature S.Certificate) → HandsOut f out.old.items out.new.items (map Finalizes (option_to_list finalized))) }
-    ensures fault { IfErr result (λ why. why ≡ step_fault.Memory) }
-{
-    match finalized {
-        Some(proposal) => hand_out(Action::Finalized(proposal), out),
-        None => Ok(()),
     }
 }

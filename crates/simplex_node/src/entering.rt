@@ -11,10 +11,10 @@ ghost use Rattle.simplex_member.specs.Packet.{Formats};
 ghost use Rattle.simplex_member.specs.Point.{History, Point};
 ghost use Rattle.simplex_member.specs.Setup.{Setup};
 ghost use Rattle.simplex_node.specs.Entering.{gets, serves};
-ghost use Rattle.simplex_node.specs.Handing.{HandsOut};
+ghost use Rattle.simplex_exchange.specs.Handing.{HandsOut};
 ghost use Rattle.simplex_node.specs.Keeps.{AtAll, NodeKeeps};
 
-use crate::handing::hand_out;
+use simplex_exchange::hand_out;
 use crate::node::Node;
 use simplex_acceptance::Acceptance;
 use simplex_decisions::config::ForwardPolicy;

@@ -1,20 +1,18 @@
 //! Votes of other members.
 
-ghost use Rattle.std.specs.Prelude.{◌≡◌, ◌++◌, map, option_to_list, IfErr, IfOk, OnOk};
+ghost use Rattle.std.specs.Prelude.{◌≡◌, IfErr, IfOk};
 ghost use Rattle.simplex_member.specs.declared.action.Action.TheVariants as action;
 ghost use Rattle.simplex_member.specs.declared.fault.NodeFault.TheVariants as step_fault;
-ghost use Rattle.simplex_member.specs.Packet.{Formats, formats};
-ghost use Rattle.simplex_member.specs.Deeds.{Reports};
-ghost use Rattle.simplex_node.specs.Handing.{HandsOut};
+ghost use Rattle.simplex_member.specs.Packet.{formats};
 ghost use Rattle.simplex_node.specs.Hearing.{IsHeard};
 ghost use Rattle.simplex_node.specs.Keeps.{AtOwn, disk_of};
 ghost use Rattle.simplex_node.specs.Refusing.{IsAnother, MayBeHeard};
 
-use crate::handing::hand_out;
+use simplex_exchange::{hand_out, report_if};
 use crate::node::Node;
 use simplex_journal::Disk;
 use simplex_member::{Action, NodeFault, Refusal};
-use simplex_messages::{Activity, Vote};
+use simplex_messages::Vote;
 use simplex_rules::Elector;
 use simplex_types::{Digest, Participant, Scheme};
 
@@ -52,23 +50,5 @@ impl<S: Scheme<D> + Drop, L: Elector<S, D>, D: Digest, K: Disk> Node<S, L, D, K>
         hand_out(Action::Block(sender), out)?;
         report_if(admission.report, out)?;
         Ok(Some(Refusal::Contradiction))
-    }
-}
-
-/// Reports this, where there is anything to report.
-///
-/// # Errors
-///
-/// [`NodeFault::Memory`].
-fn report_if<S: Scheme<D>, D: Digest>(
-    report: Option<Activity<S, D>>,
-    out: &mut Vec<Action<S, D>>,
-) -> Result<(), NodeFault>
-    ensures done { OnOk result ((f : Formats S D S.PublicKey S.Signature S.Certificate) → HandsOut f out.old.items out.new.items (map Reports (option_to_list report))) }
-    ensures fault { IfErr result (λ why. why ≡ step_fault.Memory) }
-{
-    match report {
-        Some(report) => hand_out(Action::Report(report), out),
-        None => Ok(()),
     }
 }

@@ -1,12 +1,14 @@
 //! The node of one member.
 #![tactic(auto)]
 
+mod acting;
 mod answering;
 mod certificates;
+mod constructing;
 mod deciding;
 mod entering;
-mod handing;
 mod hearing;
+mod latching;
 mod layers;
 mod learning;
 mod node;
@@ -21,6 +23,7 @@ mod settings;
 mod stepping;
 mod telling;
 mod verdicts;
+mod voting;
 
 pub use node::Node;
 pub use simplex_network::{accountability, agreement};

@@ -20,7 +20,7 @@ use crate::settings::Settings;
 use simplex_certificates::Artifact;
 use simplex_decisions::config::{Config, SkipPolicy, check_config};
 use simplex_journal::{Disk, a_disk_reads_as_one_record};
-use simplex_member::{Action, OpenFault};
+use simplex_member::{Action, NodeFault, OpenFault};
 use simplex_record::Owner;
 use simplex_recording::Ledger;
 use simplex_rules::{Elector, Terms};
@@ -72,7 +72,7 @@ impl<S: Scheme<D> + Drop, L: Elector<S, D>, D: Digest, K: Disk> Node<S, L, D, K>
         let settings = settings_of(alloc, &config, scheme, &elector, me);
         match Ledger::open(alloc, &*settings.scheme, settings.owner, disk) {
             Ok(ledger) => match open_over(settings, &config, elector, ledger, now) {
-                Ok(opened) => Ok(opened),
+                Ok((node, actions)) => begin(node, actions),
                 Err(refused) => Err(refused),
             },
             Err(refused) => Err(refused),
@@ -98,6 +98,20 @@ fn open_over<S: Scheme<D> + Drop, L: Elector<S, D>, D: Digest, K: Disk>(
     match Layers::begin(&settings, config, elector, now, ledger.recorded()) {
         Ok((layers, actions)) => Ok((node_of(settings, layers, ledger), actions)),
         Err(_) => Err((OpenFault::Memory, ledger.close())),
+    }
+}
+
+/// Does all that is due once a record was gone through; or gives the disk back.
+fn begin<S: Scheme<D> + Drop, L: Elector<S, D>, D: Digest, K: Disk>(
+    node: Node<S, L, D, K>,
+    actions: Vec<Action<S, D>>,
+) -> Result<(Node<S, L, D, K>, Vec<Action<S, D>>), (OpenFault, K)> {
+    let mut node = node;
+    let mut actions = actions;
+    match node.settle(&mut actions) {
+        Ok(()) => Ok((node, actions)),
+        Err(NodeFault::Device) => Err((OpenFault::Device, node.close())),
+        Err(_) => Err((OpenFault::Memory, node.close())),
     }
 }
 

@@ -14,7 +14,7 @@ ghost use Rattle.simplex_node.specs.Refusing.{bytes_tests};
 ghost use Rattle.simplex_node.specs.Stepping.{IsAnswered, TellsOfDisk};
 
 use crate::deciding::Decided;
-use crate::handing::hand_out;
+use simplex_exchange::hand_out;
 use crate::node::Node;
 use crate::refusing::blocks;
 use simplex_certificates::Certificate;

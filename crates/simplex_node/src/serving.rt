@@ -8,7 +8,7 @@ ghost use Rattle.simplex_member.specs.Point.{Wanted};
 ghost use Rattle.simplex_node.specs.Keeps.{AtOwn};
 ghost use Rattle.simplex_node.specs.Taking.{IsTaken};
 
-use crate::handing::hand_out;
+use simplex_exchange::hand_out;
 use crate::node::Node;
 use simplex_acceptance::silent_points_leave_votes;
 use simplex_journal::Disk;

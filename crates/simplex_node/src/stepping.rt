@@ -44,7 +44,7 @@ impl<S: Scheme<D> + Drop, L: Elector<S, D>, D: Digest, K: Disk> Node<S, L, D, K>
         if self.failed {
             return Err(NodeFault::Failed);
         }
-        match self.answer(event) {
+        match self.answer_whole(event) {
             Ok(reply) => Ok(reply),
             Err(fault) => {
                 self.failed = true;
@@ -53,7 +53,30 @@ impl<S: Scheme<D> + Drop, L: Elector<S, D>, D: Digest, K: Disk> Node<S, L, D, K>
         }
     }
 
-    /// The reply to an event, of a node of which no step has failed.
+    /// The reply to an event, of a node of which no step has failed, with all that is due behind it.
+    fn answer_whole(&mut self, event: Event<D>) -> Result<Reply<S, D>, NodeFault> {
+        match self.answer(event) {
+            Ok(reply) => self.go_on(reply),
+            Err(fault) => Err(fault),
+        }
+    }
+
+    /// Does all that is due behind an event that was taken; behind one that was refused nothing is.
+    fn go_on(&mut self, reply: Reply<S, D>) -> Result<Reply<S, D>, NodeFault> {
+        let Reply {
+            refused,
+            mut actions,
+        } = reply;
+        if refused.is_some() {
+            return Ok(Reply { refused, actions });
+        }
+        match self.settle(&mut actions) {
+            Ok(()) => Ok(Reply { refused, actions }),
+            Err(fault) => Err(fault),
+        }
+    }
+
+    /// The reply to an event: it is refused or taken, and what it brings is handed out.
     fn answer(&mut self, event: Event<D>) -> Result<Reply<S, D>, NodeFault>
         ensures answered { AtOwn S.Scheme L.Elector K.Disk (formats D.PartialEq.eq D.spelling S.Signature.spelling S.Certificate.spelling D.reading S.Signature.reading S.Certificate.reading) self.old (λ f s h. IsAnswered S.Scheme L.Elector K.Disk f s self.old self.new h event result) }
         ensures faults { TellsOfDisk K.Disk (disk_of self.old) (disk_of self.new) result }

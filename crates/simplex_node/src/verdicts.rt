@@ -17,13 +17,13 @@ ghost use Rattle.simplex_member.specs.declared.fault.NodeFault.TheVariants as st
 ghost use Rattle.simplex_member.specs.Packet.{Formats, formats};
 ghost use Rattle.simplex_member.specs.Point.{History, Judged};
 ghost use Rattle.simplex_member.specs.Setup.{Setup};
-ghost use Rattle.simplex_node.specs.Handing.{HandsOut};
+ghost use Rattle.simplex_exchange.specs.Handing.{HandsOut};
 ghost use Rattle.simplex_node.specs.Keeps.{AtOwn, disk_of};
 ghost use Rattle.simplex_node.specs.Taking.{IsLeftBy, IsTaken};
 ghost use Rattle.simplex_node.specs.Verdicts.{RecordIsAhead};
 
 use crate::entering::enter;
-use crate::handing::hand_out;
+use simplex_exchange::hand_out;
 use crate::node::Node;
 use crate::recording::record;
 use simplex_acceptance::silent_points_leave_votes;

@@ -2,7 +2,7 @@ use Rattle.std.proofs.Common.{ap}
 use Rattle.std.proofs.lemmas.Result.{on_ok_weaker}
 use Rattle.simplex_messages.specs.declared.activity.Activity.TheVariants as activity
 use Rattle.simplex_member.specs.Deeds.{Reports}
-use Rattle.simplex_node.proofs.Deeds.{nothing_more}
+use Rattle.simplex_exchange.specs.Handing.{nothing_more}
 use Rattle.simplex_node.proofs.verdicts.report_verdict.Goals as goal
 
 pub returns-then-not-ok-clause-acts : goal.returns-then-not-ok-clause-acts

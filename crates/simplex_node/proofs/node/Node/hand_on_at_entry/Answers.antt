@@ -8,7 +8,7 @@ use Rattle.simplex_history.specs.Past.{forwardable_proposal}
 use Rattle.simplex_history.specs.History.{seen}
 use Rattle.simplex_member.specs.Deeds.{HandsOn, HandsTo, hands_on}
 use Rattle.simplex_member.specs.Layers.{current_of, voter_of}
-use Rattle.simplex_node.proofs.Deeds.{hands_as, nothing_more}
+use Rattle.simplex_exchange.specs.Handing.{hands_as, nothing_more}
 use Rattle.simplex_node.proofs.Recipients.{above_from, handed_to, not_entered, nothing_held, some_handed}
 use Rattle.simplex_node.proofs.node.Node.hand_on_at_entry.Goals as goal
 

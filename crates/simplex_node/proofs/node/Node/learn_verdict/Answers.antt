@@ -10,8 +10,8 @@ use Rattle.simplex_member.specs.Deeds.{Deed, entered_deeds, report_deeds}
 use Rattle.simplex_member.specs.Layers.{finalized_of, latest, repair_of, voter_of}
 use Rattle.simplex_member.specs.Packet.{formats}
 use Rattle.simplex_member.specs.Point.{Judged}
-use Rattle.simplex_node.specs.Handing.{HandsOut}
-use Rattle.simplex_node.proofs.Deeds.{both_more}
+use Rattle.simplex_exchange.specs.Handing.{HandsOut}
+use Rattle.simplex_exchange.specs.Handing.{both_more}
 use Rattle.simplex_node.proofs.Judging.{behind_verdict, reports_are, verdict_allowed}
 use Rattle.simplex_node.proofs.node.Node.learn_verdict.Goals as goal
 

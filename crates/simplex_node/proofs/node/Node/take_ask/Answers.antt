@@ -5,7 +5,7 @@ use Rattle.simplex_member.specs.Deeds.{Serves}
 use Rattle.simplex_member.specs.Layers.{finalized_of, repair_of}
 use Rattle.simplex_member.specs.Packet.{formats}
 use Rattle.simplex_member.specs.Point.{Wanted}
-use Rattle.simplex_node.specs.Handing.{HandsOut}
+use Rattle.simplex_exchange.specs.Handing.{HandsOut}
 use Rattle.simplex_node.proofs.Heeding.{wanted-keeps}
 use Rattle.simplex_node.proofs.node.Node.take_ask.Goals as goal
 

@@ -4,7 +4,7 @@ use Rattle.simplex_member.specs.Layers.{finalized_of, latest, takes_outcome, vot
 use Rattle.simplex_member.specs.Packet.{formats}
 use Rattle.simplex_member.specs.Point.{Checked}
 use Rattle.simplex_node.proofs.Behind.{behind_answer}
-use Rattle.simplex_node.proofs.Deeds.{nothing_more}
+use Rattle.simplex_exchange.specs.Handing.{nothing_more}
 use Rattle.simplex_node.proofs.node.Node.take_checked.Goals as goal
 
 pub returns-clause-taken : goal.returns-clause-taken

@@ -4,7 +4,7 @@ use Rattle.simplex_member.specs.Layers.{finalized_of, voter_of}
 use Rattle.simplex_member.specs.Packet.{formats}
 use Rattle.simplex_member.specs.Point.{Built}
 use Rattle.simplex_node.proofs.Behind.{behind_none}
-use Rattle.simplex_node.proofs.Deeds.{nothing_more}
+use Rattle.simplex_exchange.specs.Handing.{nothing_more}
 use Rattle.simplex_node.proofs.Latching.{latched_or_not}
 use Rattle.simplex_node.proofs.node.Node.take_no_payload.Goals as goal
 

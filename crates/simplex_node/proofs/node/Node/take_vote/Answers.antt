@@ -6,7 +6,7 @@ use Rattle.simplex_acceptance.specs.Keeps.{IsOpenTo}
 use Rattle.simplex_member.specs.Deeds.{Blocks, Reports}
 use Rattle.simplex_member.specs.Layers.{finalized_of, votes_of, votes_setup}
 use Rattle.simplex_member.specs.Packet.{formats}
-use Rattle.simplex_node.proofs.Deeds.{both_more, nothing_more}
+use Rattle.simplex_exchange.specs.Handing.{both_more, nothing_more}
 use Rattle.simplex_node.proofs.Heeding.{heard-keeps, is-contradiction, is-repeated, its-report, none-applies, reports-as, still-keeps}
 use Rattle.simplex_node.proofs.node.Node.take_vote.Goals as goal
 

@@ -1,9 +1,13 @@
--- What is handed out, one thing behind the other.
-use Rattle.std.proofs.Common.{◌≡◌, List, [], ◌∷◌, ◌++◌, sym, subst, append-nil, append_assoc}
+-- What is handed out behind what was handed out before.
+use Rattle.std.specs.Prelude.{◌≡◌, ◌++◌, List, [], ◌∷◌}
+use Rattle.std.proofs.Common.{sym, subst, append-nil, append_assoc}
 use Rattle.simplex_member.specs.declared.action.Action.{Action}
 use Rattle.simplex_member.specs.Deeds.{Deed, AreActions, IsAction}
 use Rattle.simplex_member.specs.Packet.{Formats}
-use Rattle.simplex_node.specs.Handing.{HandsOut}
+
+-- behind the actions before these deeds are handed out, and nothing else
+abbrev pub HandsOut : {S D P G C : Type 0} → Formats S D P G C → List (Action S D P G C) → List (Action S D P G C) → List (Deed S D P G C) → Type 0
+HandsOut {S} {D} {P} {G} {C} f before after more = (deeds : List (Deed S D P G C)) → AreActions f before deeds → AreActions f after (deeds ++ more)
 
 module _ {S D P G C : Type 0} (f : Formats S D P G C) where
   -- one action more is one deed more

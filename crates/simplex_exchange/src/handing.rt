@@ -1,0 +1,65 @@
+//! What is handed out.
+
+ghost use Rattle.std.specs.Prelude.{◌≡◌, ◌∷◌, [], map, option_to_list, IfErr, OnOk};
+ghost use Rattle.simplex_member.specs.declared.fault.NodeFault.TheVariants as step_fault;
+ghost use Rattle.simplex_member.specs.Deeds.{Deed, Finalizes, IsAction, Reports};
+ghost use Rattle.simplex_member.specs.Packet.{Formats};
+ghost use Rattle.simplex_exchange.specs.Handing.{HandsOut};
+
+use simplex_member::{Action, NodeFault};
+use simplex_messages::Activity;
+use simplex_types::{Digest, Proposal, Scheme};
+
+/// Hands an action out, behind those before.
+///
+/// # Errors
+///
+/// [`NodeFault::Memory`].
+pub fn hand_out<S: Scheme<D>, D: Digest>(
+    action: Action<S, D>,
+    out: &mut Vec<Action<S, D>>,
+) -> Result<(), NodeFault>
+    ensures done { OnOk result ((f : Formats S D S.PublicKey S.Signature S.Certificate) (deed : Deed S D S.PublicKey S.Signature S.Certificate) → IsAction f action deed → HandsOut f out.old.items out.new.items (deed ∷ [])) }
+    ensures fault { IfErr result (λ why. why ≡ step_fault.Memory) }
+{
+    let Ok(()) = out.push(action) else {
+        return Err(NodeFault::Memory);
+    };
+    Ok(())
+}
+
+/// Reports this, where there is anything to report.
+///
+/// # Errors
+///
+/// [`NodeFault::Memory`].
+pub fn report_if<S: Scheme<D>, D: Digest>(
+    report: Option<Activity<S, D>>,
+    out: &mut Vec<Action<S, D>>,
+) -> Result<(), NodeFault>
+    ensures done { OnOk result ((f : Formats S D S.PublicKey S.Signature S.Certificate) → HandsOut f out.old.items out.new.items (map Reports (option_to_list report))) }
+    ensures fault { IfErr result (λ why. why ≡ step_fault.Memory) }
+{
+    match report {
+        Some(report) => hand_out(Action::Report(report), out),
+        None => Ok(()),
+    }
+}
+
+/// Tells that a proposal is final, if there is one.
+///
+/// # Errors
+///
+/// [`NodeFault::Memory`].
+pub fn hand_out_final<S: Scheme<D>, D: Digest>(
+    finalized: Option<Proposal<D>>,
+    out: &mut Vec<Action<S, D>>,
+) -> Result<(), NodeFault>
+    ensures done { OnOk result ((f : Formats S D S.PublicKey S.Signature S.Certificate) → HandsOut f out.old.items out.new.items (map Finalizes (option_to_list finalized))) }
+    ensures fault { IfErr result (λ why. why ≡ step_fault.Memory) }
+{
+    match finalized {
+        Some(proposal) => hand_out(Action::Finalized(proposal), out),
+        None => Ok(()),
+    }
+}
