@@ -7,11 +7,12 @@ mod spelling;
 use crate::setup::Setup;
 use crate::spelling::{read_event, write_reply};
 use script_words::{Committee, Layer, Say, Trouble, Words, play};
-use simplex_journal::MemoryDisk;
+use simplex_certificates::Artifact;
+use simplex_journal::{Journal, MemoryDisk};
 use simplex_member::{NodeFault, OpenFault, Reply};
 use simplex_node::Node;
 use simplex_rules::{RoundRobinElector, SaltedScheme};
-use simplex_types::{PlainScheme, Sha256Digest};
+use simplex_types::{PlainScheme, Sha256Digest, Write};
 use std::alloc::Global;
 use std::io;
 use std::process::ExitCode;
@@ -93,6 +94,7 @@ impl<S: Committee> Member<S> {
         match name {
             "open" => self.open(words, say),
             "event" => self.event(words, say),
+            "record" => self.record(words, say),
             _ => Err(Trouble::Unreadable),
         }
     }
@@ -126,6 +128,38 @@ impl<S: Committee> Member<S> {
                 self.state = State::Closed(disk);
                 say_open_fault(fault, say)
             }
+        }
+    }
+
+    fn record(&mut self, words: &mut Words<'_>, say: &mut Say) -> Result<(), Trouble> {
+        let alloc = say.alloc;
+        words.end()?;
+        let state = std::mem::replace(&mut self.state, State::Nowhere);
+        let disk = match state {
+            State::Closed(disk) => disk,
+            State::Open(node) => node.close(),
+            State::Nowhere => return Err(Trouble::Condition),
+        };
+        let copy = MemoryDisk::with(alloc, disk.bytes())?;
+        self.state = State::Closed(disk);
+        match Journal::<Artifact<S, Sha256Digest>, MemoryDisk>::open(alloc, copy) {
+            Ok((_journal, found)) => {
+                if found.is_empty() {
+                    return say.none();
+                }
+                let mut is_first = true;
+                for artifact in &found {
+                    if !is_first {
+                        say.text(",")?;
+                    }
+                    is_first = false;
+                    let mut bytes = Vec::new(alloc);
+                    artifact.write(&mut bytes)?;
+                    say.bytes(&bytes)?;
+                }
+                Ok(())
+            }
+            Err(_) => Err(Trouble::Condition),
         }
     }
 

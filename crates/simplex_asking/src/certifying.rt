@@ -1,5 +1,21 @@
 //! Verdicts that are asked for.
 
+ghost use Rattle.std.specs.Prelude.{◌≡◌, ◌<◌, ◌∷◌, [], IfErr, IfOk, OnOk};
+ghost use Rattle.simplex_voter.specs.State as voting;
+ghost use Rattle.simplex_voter.specs.Known.{AddsIfTracked};
+ghost use Rattle.simplex_history.specs.History.{certify_asked};
+ghost use Rattle.simplex_member.specs.Deeds.{Certifies};
+ghost use Rattle.simplex_member.specs.declared.fault.NodeFault.TheVariants as step_fault;
+ghost use Rattle.simplex_member.specs.Packet.{Formats, formats};
+ghost use Rattle.simplex_member.specs.Point.{AsksCertify};
+ghost use Rattle.simplex_recording.specs.Tables.{KeepsTables};
+ghost use Rattle.simplex_recording.specs.Tables as tabled;
+ghost use Rattle.simplex_exchange.specs.Handing.{HandsOut};
+ghost use Rattle.simplex_asking.specs.Asking.{AtAnyAsker, AtAsker, ComesToAsk, WasAsked, is_put_off};
+ghost use Rattle.simplex_asking.specs.Certifying.{AreDueVerdicts};
+ghost use Rattle.simplex_asking.specs.Fetching.{AreAllWanted, AtRepairer, FetchesParents};
+ghost use Rattle.simplex_asking.specs.NoneDue.{NoVerdictToAsk};
+
 use crate::acted::Acted;
 use crate::fetching::fetch;
 use simplex_decisions::CertificateFetch;
@@ -24,7 +40,10 @@ pub fn ask_for_verdicts<S: Scheme<D> + Drop, L: Elector<S, D>, D: Digest>(
     repair: &Repair,
     tables: &mut Tables<S, D>,
     out: &mut Vec<Action<S, D>>,
-) -> Result<Acted, NodeFault> {
+) -> Result<Acted, NodeFault>
+    ensures acts { IfOk result (λ acted. AtAsker S.Scheme L.Elector (formats D.PartialEq.eq D.spelling S.Signature.spelling S.Certificate.spelling D.reading S.Signature.reading S.Certificate.reading) voter.old repair.now tables.old (λ f s h. ComesToAsk S.Scheme L.Elector f s is_put_off (NoVerdictToAsk S.Scheme f s) voter.new tables.new h out.old.items out.new.items acted)) }
+    ensures fault { IfErr result (λ why. why ≡ step_fault.Memory) }
+{
     match voter.certify_candidates(alloc) {
         Ok((ready, fetches)) => {
             if ready.is_empty() && fetches.is_empty() {
@@ -45,7 +64,10 @@ fn fetch_parents<S: Scheme<D>, D: Digest>(
     repair: &Repair,
     tables: &mut Tables<S, D>,
     out: &mut Vec<Action<S, D>>,
-) -> Result<(), NodeFault> {
+) -> Result<(), NodeFault>
+    ensures fetched { OnOk result (AtRepairer S.Scheme (formats D.PartialEq.eq D.spelling S.Signature.spelling S.Certificate.spelling D.reading S.Signature.reading S.Certificate.reading) repair.now tables.old (λ f s h. AreAllWanted S.Scheme f s h fetches.now → FetchesParents S.Scheme f s tables.new h fetches.now out.old.items out.new.items)) }
+    ensures fault { IfErr result (λ why. why ≡ step_fault.Memory) }
+{
     for wanted in fetches {
         let asked = Asked {
             view: wanted.view,
@@ -66,7 +88,10 @@ fn ask_each<S: Scheme<D> + Drop, L: Elector<S, D>, D: Digest>(
     voter: &mut Voter<S, L, D>,
     tables: &mut Tables<S, D>,
     out: &mut Vec<Action<S, D>>,
-) -> Result<(), NodeFault> {
+) -> Result<(), NodeFault>
+    ensures asked { OnOk result (AtAnyAsker S.Scheme L.Elector (formats D.PartialEq.eq D.spelling S.Signature.spelling S.Certificate.spelling D.reading S.Signature.reading S.Certificate.reading) voter.old tables.old (λ f s h. AreDueVerdicts s h ready.now → WasAsked S.Scheme L.Elector f s voter.new tables.new h out.old.items out.new.items)) }
+    ensures fault { IfErr result (λ why. why ≡ step_fault.Memory) }
+{
     for proposal in ready {
         match ask_one(*proposal, voter, tables, out) {
             Ok(()) => {}
@@ -82,7 +107,12 @@ fn ask_one<S: Scheme<D> + Drop, L: Elector<S, D>, D: Digest>(
     voter: &mut Voter<S, L, D>,
     tables: &mut Tables<S, D>,
     out: &mut Vec<Action<S, D>>,
-) -> Result<(), NodeFault> {
+) -> Result<(), NodeFault>
+    ensures asked { OnOk result (voting.AtEach S.Scheme L.Elector voter.old (λ s h. AddsIfTracked S.Scheme L.Elector s voter.new h proposal.round.view (certify_asked proposal.round.view (record { 0 = proposal.round.view })))) }
+    ensures keeps { OnOk result (tabled.AtEach tables.old (λ low h. low < proposal.round.view → KeepsTables low tables.new (AsksCertify proposal ∷ h))) }
+    ensures acts { OnOk result ((f : Formats S D S.PublicKey S.Signature S.Certificate) → HandsOut f out.old.items out.new.items (Certifies proposal ∷ [])) }
+    ensures fault { IfErr result (λ why. why ≡ step_fault.Memory) }
+{
     let view = proposal.view();
     let Ok(()) = voter.set_certify_handle(view, Token(view.get())) else {
         return Err(NodeFault::Memory);

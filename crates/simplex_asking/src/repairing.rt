@@ -1,5 +1,11 @@
 //! Views that lack a certificate, which all are asked for.
 
+ghost use Rattle.std.specs.Prelude.{◌≡◌, IfErr, IfOk};
+ghost use Rattle.simplex_member.specs.declared.fault.NodeFault.TheVariants as step_fault;
+ghost use Rattle.simplex_member.specs.Packet.{formats};
+ghost use Rattle.simplex_asking.specs.Fetching.{AtRepairer, ComesToFetch};
+ghost use Rattle.simplex_asking.specs.NoneDue.{NoViewToAsk};
+
 use crate::acted::Acted;
 use crate::fetching::fetch;
 use simplex_member::{Action, Asked, NodeFault};
@@ -18,7 +24,10 @@ pub fn ask_for_views<S: Scheme<D>, D: Digest>(
     repair: &Repair,
     tables: &mut Tables<S, D>,
     out: &mut Vec<Action<S, D>>,
-) -> Result<Acted, NodeFault> {
+) -> Result<Acted, NodeFault>
+    ensures acts { IfOk result (λ acted. AtRepairer S.Scheme (formats D.PartialEq.eq D.spelling S.Signature.spelling S.Certificate.spelling D.reading S.Signature.reading S.Certificate.reading) repair.now tables.old (λ f s h. ComesToFetch S.Scheme f s (NoViewToAsk S.Scheme f s) tables.new h out.old.items out.new.items acted)) }
+    ensures fault { IfErr result (λ why. why ≡ step_fault.Memory) }
+{
     let mut acted = Acted::Nothing;
     'views: for view in repair.outstanding() {
         let asked = Asked {

@@ -1,5 +1,13 @@
 //! Leaders that are silent.
 
+ghost use Rattle.std.specs.Prelude.{List, ◌≡◌, IfErr, IfOk};
+ghost use Rattle.simplex_member.specs.declared.action.Action.{Action};
+ghost use Rattle.simplex_member.specs.declared.fault.NodeFault.TheVariants as step_fault;
+ghost use Rattle.simplex_member.specs.Packet.{formats};
+ghost use Rattle.simplex_asking.specs.Asking.{AtAnyAsker, ComesToAsk, is_none};
+ghost use Rattle.simplex_asking.specs.NoneDue.{NoSilence};
+ghost use Rattle.simplex_asking.specs.Silence.{IsSilenceOf, IsSilentFrom};
+
 use crate::acted::Acted;
 use simplex_history::TimeoutReason;
 use simplex_member::NodeFault;
@@ -22,7 +30,9 @@ pub(crate) fn silent_from<S: Scheme<D> + Drop, L: Elector<S, D>, D: Digest>(
     silence: Silence,
     voter: &Voter<S, L, D>,
     tables: &Tables<S, D>,
-) -> Option<u64> {
+) -> Option<u64>
+    ensures { AtAnyAsker S.Scheme L.Elector (formats D.PartialEq.eq D.spelling S.Signature.spelling S.Certificate.spelling D.reading S.Signature.reading S.Certificate.reading) voter.now tables.now (λ f s h. IsSilenceOf s silence → IsSilentFrom S.Scheme f s h result) }
+{
     let Some(time) = silence.time else {
         return None;
     };
@@ -44,7 +54,10 @@ pub fn give_silent_leader_up<S: Scheme<D> + Drop, L: Elector<S, D>, D: Digest>(
     silence: Silence,
     voter: &mut Voter<S, L, D>,
     tables: &Tables<S, D>,
-) -> Result<Acted, NodeFault> {
+) -> Result<Acted, NodeFault>
+    ensures acts { IfOk result (λ acted. AtAnyAsker S.Scheme L.Elector (formats D.PartialEq.eq D.spelling S.Signature.spelling S.Certificate.spelling D.reading S.Signature.reading S.Certificate.reading) voter.old tables.now (λ f s h. IsSilenceOf s silence → (actions : List (Action S D S.PublicKey S.Signature S.Certificate)) → ComesToAsk S.Scheme L.Elector f s is_none (NoSilence S.Scheme f s) voter.new tables.now h actions actions acted)) }
+    ensures fault { IfErr result (λ why. why ≡ step_fault.Memory) }
+{
     let Some(moment) = silent_from(silence, voter, tables) else {
         return Ok(Acted::Nothing);
     };

@@ -1,5 +1,20 @@
 //! Verifications that are asked for, and what proposals lack to be verified.
 
+ghost use Rattle.std.specs.Prelude.{◌≡◌, ◌∷◌, [], IfErr, IfOk};
+ghost use Rattle.simplex_history.specs.Leaders.{leader};
+ghost use Rattle.simplex_voter.specs.State as voting;
+ghost use Rattle.simplex_member.specs.declared.fault.NodeFault.TheVariants as step_fault;
+ghost use Rattle.simplex_member.specs.Asked.{HasNumber, ancestry, next_number};
+ghost use Rattle.simplex_member.specs.Deeds.{Verifies};
+ghost use Rattle.simplex_member.specs.Packet.{Formats, formats};
+ghost use Rattle.simplex_member.specs.Point.{AsksVerify};
+ghost use Rattle.simplex_recording.specs.Tables.{KeepsTables};
+ghost use Rattle.simplex_recording.specs.Tables as tabled;
+ghost use Rattle.simplex_exchange.specs.Handing.{HandsOut};
+ghost use Rattle.simplex_asking.specs.declared.acted.Acted.TheVariants as acted;
+ghost use Rattle.simplex_asking.specs.Asking.{AtAsker, ComesToAsk, is_latch};
+ghost use Rattle.simplex_asking.specs.NoneDue.{NoVerificationToAsk};
+
 use crate::acted::Acted;
 use crate::fetching::fetch;
 use simplex_exchange::hand_out;
@@ -23,7 +38,10 @@ pub fn ask_for_verification<S: Scheme<D> + Drop, L: Elector<S, D>, D: Digest>(
     repair: &Repair,
     tables: &mut Tables<S, D>,
     out: &mut Vec<Action<S, D>>,
-) -> Result<Acted, NodeFault> {
+) -> Result<Acted, NodeFault>
+    ensures acts { IfOk result (λ acted. AtAsker S.Scheme L.Elector (formats D.PartialEq.eq D.spelling S.Signature.spelling S.Certificate.spelling D.reading S.Signature.reading S.Certificate.reading) voter.old repair.now tables.old (λ f s h. ComesToAsk S.Scheme L.Elector f s is_latch (λ end. HasNumber end → NoVerificationToAsk S.Scheme f s end) voter.new tables.new h out.old.items out.new.items acted)) }
+    ensures fault { IfErr result (λ why. why ≡ step_fault.Memory) }
+{
     if !tables.has_number() {
         return Ok(Acted::Nothing);
     }
@@ -52,7 +70,11 @@ fn lacked_by<S: Scheme<D> + Drop, L: Elector<S, D>, D: Digest>(
     proposal: View,
     view: View,
     kind: Kind,
-) -> Asked {
+) -> Asked
+    ensures view { result.view ≡ view }
+    ensures ask { result.ask ≡ ancestry kind }
+    ensures to { voting.AtEach S.Scheme L.Elector voter.now (λ s h. result.to ≡ leader s h proposal) }
+{
     Asked {
         view,
         ask: Ask::ancestry(kind),
@@ -66,7 +88,13 @@ fn hand_check_out<S: Scheme<D>, D: Digest>(
     proposal: Proposal<D>,
     tables: &mut Tables<S, D>,
     out: &mut Vec<Action<S, D>>,
-) -> Result<Acted, NodeFault> {
+) -> Result<Acted, NodeFault>
+    requires { tabled.AtEach tables.old (λ low h. HasNumber h) }
+    ensures did { IfOk result (λ done. done ≡ acted.Did) }
+    ensures keeps { IfOk result (λ done. tabled.AtEach tables.old (λ low h. KeepsTables low tables.new (AsksVerify (next_number h) context proposal ∷ h))) }
+    ensures acts { IfOk result (λ done. tabled.AtEach tables.old (λ low h. (f : Formats S D S.PublicKey S.Signature S.Certificate) → HandsOut f out.old.items out.new.items (Verifies (next_number h) context proposal ∷ []))) }
+    ensures fault { IfErr result (λ why. why ≡ step_fault.Memory) }
+{
     let Ok(number) = tables.add_check(context.round.view) else {
         return Err(NodeFault::Memory);
     };
