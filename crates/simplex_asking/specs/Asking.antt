@@ -50,6 +50,13 @@ module _ {S D P G C : Type 0} where
   is_latch (Latches view why) = true
   is_latch p = false
 
+  -- a verdict is put off, a reason to give a view up counts, or the next timeout is looked at: nothing is handed out
+  abbrev pub is_silent : Point S D P G C → Bool
+  is_silent (Latches view why) = true
+  is_silent Looks = true
+  is_silent (PutsOff view) = true
+  is_silent p = false
+
   -- the next timeout is looked at
   abbrev pub is_look : Point S D P G C → Bool
   is_look Looks = true

@@ -9,4 +9,9 @@ pub mod Deciding
 pub mod Hearing
 pub mod Packets
 pub mod Refusing
+pub mod Acting
+pub mod Ahead
+pub mod Following
+pub mod Leading
+pub mod NoneDue
 pub mod Stepping

@@ -1,5 +1,5 @@
 -- How a record is opened: what is wrong with the arguments, how far the record was gone through, and what comes of it.
-use Rattle.std.specs.Prelude.{◌≡◌, ◌++◌, ℕ, List, [], ◌∷◌, map, Option, Some, None, true}
+use Rattle.std.specs.Prelude.{◌≡◌, ◌⊎◌, ◌++◌, ℕ, List, [], ◌∷◌, map, Option, Some, None, true}
 use Rattle.simplex_types.specs.declared.scheme.Scheme.{Ghosts}
 use Rattle.simplex_certificates.specs.declared.artifact.Artifact.{Artifact}
 use Rattle.simplex_rules.specs.declared.elector.Elector as elector
@@ -22,7 +22,8 @@ use Rattle.simplex_member.specs.declared.fault.OpenFault.TheVariants as open_fau
 use Rattle.simplex_member.specs.Allowed.{AreAllowed}
 use Rattle.simplex_member.specs.Deeds.{Deed, AreActions, all_deeds, deeds_of}
 use Rattle.simplex_member.specs.Layers.{is_begun, repair_of, voter_of}
-use Rattle.simplex_member.specs.Member.{AreOpening, Goes}
+use Rattle.simplex_member.specs.Member as whole
+use Rattle.simplex_member.specs.Member.{AreOpening, Goes, IsOpened}
 use Rattle.simplex_member.specs.Packet.{Formats}
 use Rattle.simplex_member.specs.Point.{Point, Opened, Found, History}
 use Rattle.simplex_member.specs.Recorded.{record_of}
@@ -112,6 +113,19 @@ module _ {S L D P G C : Type 0} (g : Ghosts S D P G C) (e : elector.Ghosts L S D
     pub opens : Opens g f s now found actions end
 
 module _ {S L D P G C K : Type 0} (g : Ghosts S D P G C) (e : elector.Ghosts L S D P G C) (k : disk.Ghosts K) (f : Formats S D P G C) (s : Setup S D C) where
+  -- the node was opened on what was found on a disk, all that was due then was done, and these actions are out
+  pub record IsOpenAndSettled (Readable : Artifact S D P G C → Type 0) (on : K) (now : ℕ) (node : Node S L D K P G C) (actions : List (Action S D P G C)) : Type 0 where
+    pub found : List (Artifact S D P G C)
+    pub are_found : AreFoundOn k f.artifact Readable on found
+    pub end : History S D P G C
+    pub opens : whole.Opens g f s now found actions end
+    pub keeps : NodeKeeps g e k f s node end
+
+  -- what may be left by a crash while a record is opened: what one before it might have left, or what acts behind the reading leave
+  abbrev pub MayBeLeftOpen : (Artifact S D P G C → Type 0) → K → ℕ → List ℕ → Type 0
+  MayBeLeftOpen Readable on now image = MayBeLeft k on image
+      ⊎ ((found : List (Artifact S D P G C)) × AreFoundOn k f.artifact Readable on found × IsOpened g f s now found image)
+
   -- the node was opened on what was found on a disk, and these actions are out
   pub record IsOpen (Readable : Artifact S D P G C → Type 0) (on : K) (now : ℕ) (node : Node S L D K P G C) (actions : List (Action S D P G C)) : Type 0 where
     pub found : List (Artifact S D P G C)

@@ -1,13 +1,15 @@
 //! What the node does of its own: all that is due, one act after the other, until nothing is.
 
-use crate::constructing::name_leader;
-use crate::latching::follow_leader;
+ghost use Rattle.simplex_asking.specs.Asking.{is_look, is_none, is_silent};
+ghost use Rattle.simplex_member.specs.Member.{NoneDue};
+ghost use Rattle.simplex_member.specs.Packet.{formats};
+ghost use Rattle.simplex_node.specs.Acting.{WasSettled, WasTried};
+ghost use Rattle.simplex_node.specs.Keeps.{AtOwn, disk_of};
+ghost use Rattle.simplex_node.specs.NoneDue.{NoVoteToCast, NothingByVotes, NothingMoreToAsk, NothingToAskOnProposals};
+ghost use Rattle.simplex_node.specs.Stepping.{TellsOfDisk};
+
 use crate::node::Node;
-use simplex_asking::{
-    Acted, Silence, ask_for_build, ask_for_verdicts, ask_for_verification, ask_for_views,
-    give_build_back, give_silent_leader_up, next_wake,
-};
-use simplex_exchange::hand_out;
+use simplex_asking::Acted;
 use simplex_journal::Disk;
 use simplex_member::{Action, NodeFault};
 use simplex_rules::Elector;
@@ -20,7 +22,10 @@ impl<S: Scheme<D> + Drop, L: Elector<S, D>, D: Digest, K: Disk> Node<S, L, D, K>
     /// # Errors
     ///
     /// [`NodeFault::Memory`] and [`NodeFault::Device`].
-    pub(crate) fn settle(&mut self, out: &mut Vec<Action<S, D>>) -> Result<(), NodeFault> {
+    pub(crate) fn settle(&mut self, out: &mut Vec<Action<S, D>>) -> Result<(), NodeFault>
+        ensures settled { AtOwn S.Scheme L.Elector K.Disk (formats D.PartialEq.eq D.spelling S.Signature.spelling S.Certificate.spelling D.reading S.Signature.reading S.Certificate.reading) self.old (λ f s h. WasSettled S.Scheme L.Elector K.Disk f s self.old self.new h out.old.items out.new.items result) }
+        ensures faults { TellsOfDisk K.Disk (disk_of self.old) (disk_of self.new) result }
+    {
         'acts: for _ in 0..u64::MAX {
             match self.act(out) {
                 Ok(Acted::Did) => {}
@@ -32,8 +37,11 @@ impl<S: Scheme<D> + Drop, L: Elector<S, D>, D: Digest, K: Disk> Node<S, L, D, K>
     }
 
     /// Does the first thing that is due. Where it did nothing, nothing is.
-    fn act(&mut self, out: &mut Vec<Action<S, D>>) -> Result<Acted, NodeFault> {
-        match self.ask_the_application(out) {
+    fn act(&mut self, out: &mut Vec<Action<S, D>>) -> Result<Acted, NodeFault>
+        ensures tried { AtOwn S.Scheme L.Elector K.Disk (formats D.PartialEq.eq D.spelling S.Signature.spelling S.Certificate.spelling D.reading S.Signature.reading S.Certificate.reading) self.old (λ f s h. WasTried S.Scheme L.Elector K.Disk f s is_silent (NoneDue S.Scheme f s) self.old self.new h out.old.items out.new.items result) }
+        ensures faults { TellsOfDisk K.Disk (disk_of self.old) (disk_of self.new) result }
+    {
+        match self.ask_on_proposals(out) {
             Ok(Acted::Nothing) => {}
             done => return done,
         }
@@ -48,29 +56,24 @@ impl<S: Scheme<D> + Drop, L: Elector<S, D>, D: Digest, K: Disk> Node<S, L, D, K>
         self.vote(out)
     }
 
-    /// Asks the application for verdicts and builds, and gives builds back.
-    fn ask_the_application(&mut self, out: &mut Vec<Action<S, D>>) -> Result<Acted, NodeFault> {
-        let alloc = self.settings.alloc;
-        match ask_for_verdicts(
-            alloc,
-            &mut self.voter,
-            &self.repair,
-            &mut self.tables,
-            out,
-        ) {
+    /// Asks what is to be known of others' proposals: for verdicts, and for verifications or what these lack.
+    fn ask_on_proposals(&mut self, out: &mut Vec<Action<S, D>>) -> Result<Acted, NodeFault>
+        ensures tried { AtOwn S.Scheme L.Elector K.Disk (formats D.PartialEq.eq D.spelling S.Signature.spelling S.Certificate.spelling D.reading S.Signature.reading S.Certificate.reading) self.old (λ f s h. WasTried S.Scheme L.Elector K.Disk f s is_silent (NothingToAskOnProposals S.Scheme f s) self.old self.new h out.old.items out.new.items result) }
+        ensures faults { TellsOfDisk K.Disk (disk_of self.old) (disk_of self.new) result }
+    {
+        match self.try_verdicts(out) {
             Ok(Acted::Nothing) => {}
             done => return done,
         }
-        match give_build_back(&mut self.voter, &mut self.tables) {
-            Ok(Acted::Nothing) => {}
-            done => return done,
-        }
-        ask_for_build(&mut self.voter, &mut self.tables, out)
+        self.try_verification(out)
     }
 
     /// Does what is due of the votes of all views.
-    fn go_by_votes(&mut self, out: &mut Vec<Action<S, D>>) -> Result<Acted, NodeFault> {
-        match name_leader(&self.voter, &mut self.acceptance) {
+    fn go_by_votes(&mut self, out: &mut Vec<Action<S, D>>) -> Result<Acted, NodeFault>
+        ensures tried { AtOwn S.Scheme L.Elector K.Disk (formats D.PartialEq.eq D.spelling S.Signature.spelling S.Certificate.spelling D.reading S.Signature.reading S.Certificate.reading) self.old (λ f s h. WasTried S.Scheme L.Elector K.Disk f s is_none (NothingByVotes S.Scheme f s) self.old self.new h out.old.items out.new.items result) }
+        ensures faults { TellsOfDisk K.Disk (disk_of self.old) (disk_of self.new) result }
+    {
+        match self.try_leader() {
             Ok(Acted::Nothing) => {}
             done => return done,
         }
@@ -78,33 +81,34 @@ impl<S: Scheme<D> + Drop, L: Elector<S, D>, D: Digest, K: Disk> Node<S, L, D, K>
             Ok(Acted::Nothing) => {}
             done => return done,
         }
-        let me = self.settings.owner.signer;
-        let now = self.tables.moment();
-        follow_leader(me, now, &mut self.voter, &self.acceptance)
+        self.try_to_follow()
     }
 
-    /// Asks for verifications, and other members for what is missing; gives a silent leader up.
-    fn ask_for_more(&mut self, out: &mut Vec<Action<S, D>>) -> Result<Acted, NodeFault> {
-        let alloc = self.settings.alloc;
-        match ask_for_verification(
-            alloc,
-            &mut self.voter,
-            &self.repair,
-            &mut self.tables,
-            out,
-        ) {
+    /// Gives builds back and asks for others, asks other members for views, and gives a silent leader up.
+    fn ask_for_more(&mut self, out: &mut Vec<Action<S, D>>) -> Result<Acted, NodeFault>
+        ensures tried { AtOwn S.Scheme L.Elector K.Disk (formats D.PartialEq.eq D.spelling S.Signature.spelling S.Certificate.spelling D.reading S.Signature.reading S.Certificate.reading) self.old (λ f s h. WasTried S.Scheme L.Elector K.Disk f s is_none (NothingMoreToAsk S.Scheme f s) self.old self.new h out.old.items out.new.items result) }
+        ensures faults { TellsOfDisk K.Disk (disk_of self.old) (disk_of self.new) result }
+    {
+        match self.try_return() {
             Ok(Acted::Nothing) => {}
             done => return done,
         }
-        match ask_for_views(alloc, &self.repair, &mut self.tables, out) {
+        match self.try_build(out) {
             Ok(Acted::Nothing) => {}
             done => return done,
         }
-        give_silent_leader_up(self.silence(), &mut self.voter, &self.tables)
+        match self.try_views(out) {
+            Ok(Acted::Nothing) => {}
+            done => return done,
+        }
+        self.try_silence()
     }
 
     /// Casts one vote that is due.
-    fn vote(&mut self, out: &mut Vec<Action<S, D>>) -> Result<Acted, NodeFault> {
+    fn vote(&mut self, out: &mut Vec<Action<S, D>>) -> Result<Acted, NodeFault>
+        ensures tried { AtOwn S.Scheme L.Elector K.Disk (formats D.PartialEq.eq D.spelling S.Signature.spelling S.Certificate.spelling D.reading S.Signature.reading S.Certificate.reading) self.old (λ f s h. WasTried S.Scheme L.Elector K.Disk f s is_look (NoVoteToCast S.Scheme f s) self.old self.new h out.old.items out.new.items result) }
+        ensures faults { TellsOfDisk K.Disk (disk_of self.old) (disk_of self.new) result }
+    {
         match self.try_notarize(out) {
             Ok(Acted::Nothing) => {}
             done => return done,
@@ -114,22 +118,5 @@ impl<S: Scheme<D> + Drop, L: Elector<S, D>, D: Digest, K: Disk> Node<S, L, D, K>
             done => return done,
         }
         self.try_nullify(out)
-    }
-
-    /// How long another leader may be silent.
-    fn silence(&self) -> Silence {
-        Silence {
-            me: self.settings.owner.signer,
-            time: self.settings.silence,
-        }
-    }
-
-    /// Says when the node wants to be told the time, if ever.
-    fn say_when(&mut self, out: &mut Vec<Action<S, D>>) -> Result<(), NodeFault> {
-        match next_wake(self.silence(), &mut self.voter, &self.tables) {
-            Ok(Some(moment)) => hand_out(Action::Wake(moment), out),
-            Ok(None) => Ok(()),
-            Err(fault) => Err(fault),
-        }
     }
 }

@@ -1,5 +1,31 @@
 //! What is due of the votes of all views: they learn who leads, their proposals go to the voter, certificates are made.
 
+ghost use Rattle.std.specs.Prelude.{◌≡◌, ◌∷◌, ℕ, List, Some, map, IfErr, IfOk, OnOk, MatchOption};
+ghost use Rattle.simplex_certificates.specs.declared.certificate.Certificate.{Certificate};
+ghost use Rattle.simplex_rules.specs.declared.kind.Kind.{Kind};
+ghost use Rattle.simplex_verifier.specs.declared.batch.Batch.{Batch};
+ghost use Rattle.simplex_voter.specs.State as voting;
+ghost use Rattle.simplex_acceptance.specs.Keeps as accepting;
+ghost use Rattle.simplex_journal.specs.Disk.{LeavesOnly};
+ghost use Rattle.simplex_asking.specs.Asking.{is_none};
+ghost use Rattle.simplex_asking.specs.declared.acted.Acted.TheVariants as acted;
+ghost use Rattle.simplex_exchange.specs.Handing.{HandsOut};
+ghost use Rattle.simplex_member.specs.declared.action.Action.{Action};
+ghost use Rattle.simplex_member.specs.declared.fault.NodeFault.TheVariants as step_fault;
+ghost use Rattle.simplex_member.specs.Allowed.{Allowed};
+ghost use Rattle.simplex_member.specs.Deeds.{Blocks, certificate_deeds};
+ghost use Rattle.simplex_member.specs.Layers.{voter_of};
+ghost use Rattle.simplex_member.specs.Packet.{Formats, formats};
+ghost use Rattle.simplex_member.specs.Point.{History, Constructs, Forwards};
+ghost use Rattle.simplex_member.specs.Setup.{Setup};
+ghost use Rattle.simplex_node.specs.Acting.{WasTried};
+ghost use Rattle.simplex_node.specs.Ahead.{VotesAreAhead, VotesGoAhead};
+ghost use Rattle.simplex_node.specs.Keeps.{AtOwn, NodeKeeps, disk_of};
+ghost use Rattle.simplex_node.specs.Leading.{LeaderIsToName, NamesLeader, NoLeaderToName};
+ghost use Rattle.simplex_node.specs.NoneDue.{NoConstructionToMake};
+ghost use Rattle.simplex_node.specs.Stepping.{TellsOfDisk};
+ghost use Rattle.simplex_node.specs.Taking.{IsLeftBy, IsTaken};
+
 use crate::entering::enter;
 use crate::learning::{tell_repair, tell_voter};
 use crate::node::Node;
@@ -20,10 +46,13 @@ use simplex_voter::State as Voter;
 /// # Errors
 ///
 /// [`NodeFault::Memory`].
-pub(crate) fn name_leader<S: Scheme<D> + Drop, L: Elector<S, D>, D: Digest>(
+fn name_leader<S: Scheme<D> + Drop, L: Elector<S, D>, D: Digest>(
     voter: &Voter<S, L, D>,
     acceptance: &mut Acceptance<S, D>,
-) -> Result<Acted, NodeFault> {
+) -> Result<Acted, NodeFault>
+    ensures named { IfOk result (λ acted. (s : Setup S D S.Certificate) (h : History S D S.PublicKey S.Signature S.Certificate) → voting.Keeps S.Scheme L.Elector s.voter voter.now (voter_of s h) → accepting.Keeps S.Scheme D.PartialEq.eq s acceptance.old h → NamesLeader s S.Scheme D.PartialEq.eq acceptance.new h acted) }
+    ensures fault { IfErr result (λ why. why ≡ step_fault.Memory) }
+{
     match first_led(voter, acceptance) {
         Some((view, leader)) => match acceptance.lead(view, leader) {
             Ok(()) => Ok(Acted::Did),
@@ -37,7 +66,9 @@ pub(crate) fn name_leader<S: Scheme<D> + Drop, L: Elector<S, D>, D: Digest>(
 fn first_led<S: Scheme<D> + Drop, L: Elector<S, D>, D: Digest>(
     voter: &Voter<S, L, D>,
     acceptance: &Acceptance<S, D>,
-) -> Option<(View, Participant)> {
+) -> Option<(View, Participant)>
+    ensures { (s : Setup S D S.Certificate) (h : History S D S.PublicKey S.Signature S.Certificate) → voting.Keeps S.Scheme L.Elector s.voter voter.now (voter_of s h) → accepting.Keeps S.Scheme D.PartialEq.eq s acceptance.now h → MatchOption result (NoLeaderToName s h) (λ led. LeaderIsToName s h led.0 led.1) }
+{
     let mut next = View::zero();
     'views: while let Some(view) = acceptance.first_unled(next) {
         if let Some(leader) = voter.views().leader_index(view) {
@@ -52,6 +83,18 @@ fn first_led<S: Scheme<D> + Drop, L: Elector<S, D>, D: Digest>(
 }
 
 impl<S: Scheme<D> + Drop, L: Elector<S, D>, D: Digest, K: Disk> Node<S, L, D, K> {
+    /// Tells the votes of a view who leads it, where they wait for that and the voter knows it.
+    ///
+    /// # Errors
+    ///
+    /// [`NodeFault::Memory`].
+    pub(crate) fn try_leader(&mut self) -> Result<Acted, NodeFault>
+        ensures tried { AtOwn S.Scheme L.Elector K.Disk (formats D.PartialEq.eq D.spelling S.Signature.spelling S.Certificate.spelling D.reading S.Signature.reading S.Certificate.reading) self.old (λ f s h. (actions : List (Action S D S.PublicKey S.Signature S.Certificate)) → WasTried S.Scheme L.Elector K.Disk f s is_none (NoLeaderToName s) self.old self.new h actions actions result) }
+        ensures faults { TellsOfDisk K.Disk (disk_of self.old) (disk_of self.new) result }
+    {
+        name_leader(&self.voter, &mut self.acceptance)
+    }
+
     /// Does what is due first of the votes of all views: their proposal goes to the voter, or a construction is made.
     ///
     /// # Errors
@@ -60,7 +103,10 @@ impl<S: Scheme<D> + Drop, L: Elector<S, D>, D: Digest, K: Disk> Node<S, L, D, K>
     pub(crate) fn try_votes_of_views(
         &mut self,
         out: &mut Vec<Action<S, D>>,
-    ) -> Result<Acted, NodeFault> {
+    ) -> Result<Acted, NodeFault>
+        ensures tried { AtOwn S.Scheme L.Elector K.Disk (formats D.PartialEq.eq D.spelling S.Signature.spelling S.Certificate.spelling D.reading S.Signature.reading S.Certificate.reading) self.old (λ f s h. WasTried S.Scheme L.Elector K.Disk f s is_none (NoConstructionToMake S.Scheme f s) self.old self.new h out.old.items out.new.items result) }
+        ensures faults { TellsOfDisk K.Disk (disk_of self.old) (disk_of self.new) result }
+    {
         match self.acceptance.next_due() {
             Ok(Some((view, Due::Forwards(proposal)))) => self.take_proposal(view, &proposal),
             Ok(Some((_, Due::Made(batch)))) => self.take_batch(batch, out),
@@ -70,7 +116,13 @@ impl<S: Scheme<D> + Drop, L: Elector<S, D>, D: Digest, K: Disk> Node<S, L, D, K>
     }
 
     /// Tells the voter of a proposal that the votes of its view forward.
-    fn take_proposal(&mut self, view: View, proposal: &Proposal<D>) -> Result<Acted, NodeFault> {
+    fn take_proposal(&mut self, view: View, proposal: &Proposal<D>) -> Result<Acted, NodeFault>
+        ensures did { IfOk result (λ done. done ≡ acted.Did) }
+        ensures taken { OnOk result ((s : Setup S D S.Certificate) (h : History S D S.PublicKey S.Signature S.Certificate) → let f = (formats D.PartialEq.eq D.spelling S.Signature.spelling S.Certificate.spelling D.reading S.Signature.reading S.Certificate.reading (S.size s.voter.scheme)) in
+            VotesAreAhead S.Scheme L.Elector K.Disk f s self.old h (Forwards view proposal.now) → Allowed S.Scheme f s h (Forwards view proposal.now) → NodeKeeps S.Scheme L.Elector K.Disk f s self.new (Forwards view proposal.now ∷ h)) }
+        ensures disk { disk_of self.new ≡ disk_of self.old }
+        ensures fault { IfErr result (λ why. why ≡ step_fault.Memory) }
+    {
         match self.voter.set_proposal(view, proposal) {
             Ok(_) => Ok(Acted::Did),
             Err(_) => Err(NodeFault::Memory),
@@ -82,7 +134,14 @@ impl<S: Scheme<D> + Drop, L: Elector<S, D>, D: Digest, K: Disk> Node<S, L, D, K>
         &mut self,
         batch: Batch<Certificate<S, D>>,
         out: &mut Vec<Action<S, D>>,
-    ) -> Result<Acted, NodeFault> {
+    ) -> Result<Acted, NodeFault>
+        ensures did { IfOk result (λ done. done ≡ acted.Did) }
+        ensures taken { OnOk result ((s : Setup S D S.Certificate) (h : History S D S.PublicKey S.Signature S.Certificate) (view : ℕ) (kind : Kind) → let f = (formats D.PartialEq.eq D.spelling S.Signature.spelling S.Certificate.spelling D.reading S.Signature.reading S.Certificate.reading (S.size s.voter.scheme)) in
+            VotesGoAhead S.Scheme L.Elector K.Disk f s self.old h (Constructs view kind batch) → Allowed S.Scheme f s h (Constructs view kind batch) → IsTaken S.Scheme L.Elector K.Disk f s self.new h (Constructs view kind batch) out.old.items out.new.items) }
+        ensures any_moment { (s : Setup S D S.Certificate) (h : History S D S.PublicKey S.Signature S.Certificate) (view : ℕ) (kind : Kind) → let f = (formats D.PartialEq.eq D.spelling S.Signature.spelling S.Certificate.spelling D.reading S.Signature.reading S.Certificate.reading (S.size s.voter.scheme)) in
+            VotesGoAhead S.Scheme L.Elector K.Disk f s self.old h (Constructs view kind batch) → Allowed S.Scheme f s h (Constructs view kind batch) → K.keeps → LeavesOnly (K.calls (disk_of self.old)) (K.calls (disk_of self.new)) (IsLeftBy S.Scheme f s h (Constructs view kind batch)) }
+        ensures faults { TellsOfDisk K.Disk (disk_of self.old) (disk_of self.new) result }
+    {
         match block_all(&batch.invalid, out) {
             Ok(()) => {}
             Err(fault) => return Err(fault),
@@ -103,7 +162,15 @@ impl<S: Scheme<D> + Drop, L: Elector<S, D>, D: Digest, K: Disk> Node<S, L, D, K>
         &mut self,
         certificate: Certificate<S, D>,
         out: &mut Vec<Action<S, D>>,
-    ) -> Result<(), NodeFault> {
+    ) -> Result<(), NodeFault>
+        ensures keeps { OnOk result ((s : Setup S D S.Certificate) (h : History S D S.PublicKey S.Signature S.Certificate) (view : ℕ) (kind : Kind) (batch : Batch (Certificate S D S.PublicKey S.Signature S.Certificate)) → let f = (formats D.PartialEq.eq D.spelling S.Signature.spelling S.Certificate.spelling D.reading S.Signature.reading S.Certificate.reading (S.size s.voter.scheme)) in
+            VotesGoAhead S.Scheme L.Elector K.Disk f s self.old h (Constructs view kind batch) → Allowed S.Scheme f s h (Constructs view kind batch) → batch.certificate ≡ Some certificate → NodeKeeps S.Scheme L.Elector K.Disk f s self.new (Constructs view kind batch ∷ h)) }
+        ensures acts { OnOk result ((s : Setup S D S.Certificate) (h : History S D S.PublicKey S.Signature S.Certificate) (view : ℕ) (kind : Kind) (batch : Batch (Certificate S D S.PublicKey S.Signature S.Certificate)) → let f = (formats D.PartialEq.eq D.spelling S.Signature.spelling S.Certificate.spelling D.reading S.Signature.reading S.Certificate.reading (S.size s.voter.scheme)) in
+            VotesGoAhead S.Scheme L.Elector K.Disk f s self.old h (Constructs view kind batch) → Allowed S.Scheme f s h (Constructs view kind batch) → batch.certificate ≡ Some certificate → HandsOut f out.old.items out.new.items (certificate_deeds S.Scheme f s h (Constructs view kind batch) certificate)) }
+        ensures any_moment { (s : Setup S D S.Certificate) (h : History S D S.PublicKey S.Signature S.Certificate) (view : ℕ) (kind : Kind) (batch : Batch (Certificate S D S.PublicKey S.Signature S.Certificate)) → let f = (formats D.PartialEq.eq D.spelling S.Signature.spelling S.Certificate.spelling D.reading S.Signature.reading S.Certificate.reading (S.size s.voter.scheme)) in
+            VotesGoAhead S.Scheme L.Elector K.Disk f s self.old h (Constructs view kind batch) → Allowed S.Scheme f s h (Constructs view kind batch) → batch.certificate ≡ Some certificate → K.keeps → LeavesOnly (K.calls (disk_of self.old)) (K.calls (disk_of self.new)) (IsLeftBy S.Scheme f s h (Constructs view kind batch)) }
+        ensures faults { TellsOfDisk K.Disk (disk_of self.old) (disk_of self.new) result }
+    {
         let was = self.voter.current_view();
         let low = self.voter.last_finalized();
         match self.learn_made(&certificate) {
@@ -118,7 +185,13 @@ impl<S: Scheme<D> + Drop, L: Elector<S, D>, D: Digest, K: Disk> Node<S, L, D, K>
     }
 
     /// All layers but the votes of its view learn of a certificate that was made, and it is recorded.
-    fn learn_made(&mut self, certificate: &Certificate<S, D>) -> Result<(), NodeFault> {
+    fn learn_made(&mut self, certificate: &Certificate<S, D>) -> Result<(), NodeFault>
+        ensures keeps { OnOk result ((s : Setup S D S.Certificate) (h : History S D S.PublicKey S.Signature S.Certificate) (view : ℕ) (kind : Kind) (batch : Batch (Certificate S D S.PublicKey S.Signature S.Certificate)) → let f = (formats D.PartialEq.eq D.spelling S.Signature.spelling S.Certificate.spelling D.reading S.Signature.reading S.Certificate.reading (S.size s.voter.scheme)) in
+            VotesGoAhead S.Scheme L.Elector K.Disk f s self.old h (Constructs view kind batch) → Allowed S.Scheme f s h (Constructs view kind batch) → batch.certificate ≡ Some certificate.now → NodeKeeps S.Scheme L.Elector K.Disk f s self.new (Constructs view kind batch ∷ h)) }
+        ensures any_moment { (s : Setup S D S.Certificate) (h : History S D S.PublicKey S.Signature S.Certificate) (view : ℕ) (kind : Kind) (batch : Batch (Certificate S D S.PublicKey S.Signature S.Certificate)) → let f = (formats D.PartialEq.eq D.spelling S.Signature.spelling S.Certificate.spelling D.reading S.Signature.reading S.Certificate.reading (S.size s.voter.scheme)) in
+            VotesGoAhead S.Scheme L.Elector K.Disk f s self.old h (Constructs view kind batch) → Allowed S.Scheme f s h (Constructs view kind batch) → batch.certificate ≡ Some certificate.now → K.keeps → LeavesOnly (K.calls (disk_of self.old)) (K.calls (disk_of self.new)) (IsLeftBy S.Scheme f s h (Constructs view kind batch)) }
+        ensures faults { TellsOfDisk K.Disk (disk_of self.old) (disk_of self.new) result }
+    {
         let alloc = self.settings.alloc;
         let now = self.tables.moment();
         let Ok(artifact) = tell_voter(alloc, now, certificate, &mut self.voter) else {
@@ -149,7 +222,10 @@ impl<S: Scheme<D> + Drop, L: Elector<S, D>, D: Digest, K: Disk> Node<S, L, D, K>
 fn block_all<S: Scheme<D>, D: Digest>(
     members: &[Participant],
     out: &mut Vec<Action<S, D>>,
-) -> Result<(), NodeFault> {
+) -> Result<(), NodeFault>
+    ensures done { OnOk result ((f : Formats S D S.PublicKey S.Signature S.Certificate) → HandsOut f out.old.items out.new.items (map Blocks members.now)) }
+    ensures fault { IfErr result (λ why. why ≡ step_fault.Memory) }
+{
     for member in members {
         match hand_out(Action::Block(*member), out) {
             Ok(()) => {}

@@ -3,6 +3,7 @@
 
 mod acting;
 mod answering;
+mod asking;
 mod certificates;
 mod constructing;
 mod deciding;
