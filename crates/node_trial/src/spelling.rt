@@ -150,7 +150,10 @@ fn write_plan(out: &mut Vec<u8>, plan: &Plan<Participant>) -> Result<(), AllocEr
             out.push(1)?;
             round.write(out)
         }
-        Plan::Forward { round, recipients: members } => {
+        Plan::Forward {
+            round,
+            recipients: members,
+        } => {
             out.push(2)?;
             round.write(out)?;
             write_number(out, members.len() as u64)?;

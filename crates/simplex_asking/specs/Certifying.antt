@@ -1,12 +1,9 @@
 -- Verdicts that are asked for.
-use Rattle.std.specs.Prelude.{◌≡◌, ◌<◌, ◌∷◌, [], ℕ, List, All, AllPairs, map}
+use Rattle.std.specs.Prelude.{◌<◌, List, All, AllPairs}
 use Rattle.simplex_types.specs.declared.proposal.Proposal.{Proposal}
-use Rattle.simplex_types.specs.declared.scheme.Scheme.{Ghosts}
-use Rattle.simplex_rules.specs.declared.elector.Elector as elector
 use Rattle.simplex_decisions.specs.Requests.{CertifyIsDue}
 use Rattle.simplex_member.specs.Layers.{known_of}
-use Rattle.simplex_member.specs.Packet.{Formats}
-use Rattle.simplex_member.specs.Point.{History, AsksCertify}
+use Rattle.simplex_member.specs.Point.{History}
 use Rattle.simplex_member.specs.Setup.{Setup, member_of}
 
 module _ {S D C : Type 0} (s : Setup S D C) where

@@ -5,12 +5,11 @@ use Rattle.simplex_types.specs.declared.proposal.Proposal.{Proposal}
 use Rattle.simplex_types.specs.declared.scheme.Scheme.{Ghosts}
 use Rattle.simplex_history.specs.declared.timeout_reason.TimeoutReason.TheVariants as reason
 use Rattle.simplex_decisions.specs.Requests.{NoBuildIsDue, VerifyIsDue, CertifyIsDue, IsPutOff}
-use Rattle.simplex_decisions.specs.GivingUp.{NullifyIsDue}
 use Rattle.simplex_laws.specs.Missing.{IsMissing}
 use Rattle.simplex_resolver.specs.declared.ask.Kind as repair
 use Rattle.simplex_member.specs.Allowed.{AskIsDue, IsGivenBack}
 use Rattle.simplex_member.specs.Asked.{HasNumber, backfill, build_at}
-use Rattle.simplex_member.specs.Layers.{current_of, known_of, latest, voter_of}
+use Rattle.simplex_member.specs.Layers.{current_of, known_of}
 use Rattle.simplex_member.specs.Member.{LatchIsDue}
 use Rattle.simplex_member.specs.Packet.{Formats}
 use Rattle.simplex_member.specs.Point.{History}

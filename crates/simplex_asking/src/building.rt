@@ -1,7 +1,7 @@
 //! Builds that are asked for, and those that are given back.
 
 ghost use Rattle.std.specs.Prelude.{◌≡◌, ◌∷◌, ◌↔◌, [], ℕ, Bool, true, List, Some, IsTrue, IfErr, IfOk, OnOk};
-ghost use Rattle.simplex_decisions.specs.ProposalRequest.{IsPrepared, context_of};
+ghost use Rattle.simplex_decisions.specs.Building.{IsPrepared, context_of};
 ghost use Rattle.simplex_history.specs.History.{build_released};
 ghost use Rattle.simplex_voter.specs.Known.{AddsIfTracked};
 ghost use Rattle.simplex_voter.specs.State as voting;
@@ -135,7 +135,10 @@ fn stops<S: Scheme<D> + Drop, L: Elector<S, D>, D: Digest>(
 ) -> bool
     ensures { (f : Formats S D S.PublicKey S.Signature S.Certificate) (s : Setup S D S.Certificate) (h : History S D S.PublicKey S.Signature S.Certificate) → voting.Keeps S.Scheme L.Elector s.voter voter.now (voter_of s h) → IsTrue result ↔ ((building.now.handoff ≡ true) × IsStopped S.Scheme f s h building.now.context) }
 {
-    building.handoff && voter.pending_handoff_abandonment(&building.context).is_some()
+    building.handoff
+        && voter
+            .pending_handoff_abandonment(&building.context)
+            .is_some()
 }
 
 /// Gives the build in a view back.

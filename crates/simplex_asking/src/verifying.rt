@@ -48,12 +48,14 @@ pub fn ask_for_verification<S: Scheme<D> + Drop, L: Elector<S, D>, D: Digest>(
     match voter.try_verify(tables.moment()) {
         Ok(Verify::Wait) => Ok(Acted::Nothing),
         Ok(Verify::Ready(context, proposal)) => hand_check_out(context, proposal, tables, out),
-        Ok(Verify::Resolve {
-            proposal,
-            view,
-            kind,
-            ..
-        }) => {
+        Ok(
+            Verify::Resolve {
+                proposal,
+                view,
+                kind,
+                ..
+            },
+        ) => {
             let lacked = lacked_by(voter, proposal, view, kind);
             match fetch(alloc, lacked, repair, tables, out) {
                 Ok(_) => Ok(Acted::Did),

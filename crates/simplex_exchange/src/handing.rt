@@ -2,13 +2,13 @@
 
 ghost use Rattle.std.specs.Prelude.{◌≡◌, ◌∷◌, [], map, option_to_list, IfErr, OnOk};
 ghost use Rattle.simplex_member.specs.declared.fault.NodeFault.TheVariants as step_fault;
-ghost use Rattle.simplex_member.specs.Deeds.{Deed, Finalizes, IsAction, Reports};
+ghost use Rattle.simplex_member.specs.Deeds.{Blocks, Deed, Finalizes, IsAction, Reports};
 ghost use Rattle.simplex_member.specs.Packet.{Formats};
 ghost use Rattle.simplex_exchange.specs.Handing.{HandsOut};
 
 use simplex_member::{Action, NodeFault};
 use simplex_messages::Activity;
-use simplex_types::{Digest, Proposal, Scheme};
+use simplex_types::{Digest, Participant, Proposal, Scheme};
 
 /// Hands an action out, behind those before.
 ///
@@ -62,4 +62,25 @@ pub fn hand_out_final<S: Scheme<D>, D: Digest>(
         Some(proposal) => hand_out(Action::Finalized(proposal), out),
         None => Ok(()),
     }
+}
+
+/// Blocks these members.
+///
+/// # Errors
+///
+/// [`NodeFault::Memory`].
+pub fn block_all<S: Scheme<D>, D: Digest>(
+    members: &[Participant],
+    out: &mut Vec<Action<S, D>>,
+) -> Result<(), NodeFault>
+    ensures done { OnOk result ((f : Formats S D S.PublicKey S.Signature S.Certificate) → HandsOut f out.old.items out.new.items (map Blocks members.now)) }
+    ensures fault { IfErr result (λ why. why ≡ step_fault.Memory) }
+{
+    for member in members {
+        match hand_out(Action::Block(*member), out) {
+            Ok(()) => {}
+            Err(fault) => return Err(fault),
+        }
+    }
+    Ok(())
 }

@@ -2,5 +2,7 @@
 #![tactic(auto)]
 
 mod handing;
+mod sending;
 
-pub use handing::{hand_out, hand_out_final, report_if};
+pub use handing::{block_all, hand_out, hand_out_final, report_if};
+pub use sending::{hand_vote_out, send_again, spelled_vote};

@@ -1,5 +1,5 @@
 -- The node while one of its layers is a point ahead of the others.
-use Rattle.std.specs.Prelude.{◌≡◌, ◌∷◌, ℕ, Bool, Some, None, IsSome}
+use Rattle.std.specs.Prelude.{◌∷◌}
 use Rattle.simplex_types.specs.declared.scheme.Scheme.{Ghosts}
 use Rattle.simplex_rules.specs.declared.elector.Elector as elector
 use Rattle.simplex_journal.specs.declared.disk.Disk as disk

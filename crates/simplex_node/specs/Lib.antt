@@ -11,7 +11,5 @@ pub mod Packets
 pub mod Refusing
 pub mod Acting
 pub mod Ahead
-pub mod Following
-pub mod Leading
 pub mod NoneDue
 pub mod Stepping

@@ -15,9 +15,9 @@ ghost use Rattle.simplex_recording.specs.Tables.{build_parts};
 ghost use Rattle.simplex_node.specs.Answering.{TakesAnswer, TakesEvent};
 ghost use Rattle.simplex_node.specs.Keeps.{AtOwn, disk_of};
 
-use simplex_exchange::hand_out;
 use crate::node::Node;
 use simplex_acceptance::silent_points_leave_votes;
+use simplex_exchange::hand_out;
 use simplex_history::TimeoutReason;
 use simplex_journal::Disk;
 use simplex_member::{Action, NodeFault};

@@ -28,10 +28,7 @@ impl<S: Scheme<D> + Drop, L: Elector<S, D>, D: Digest, K: Disk> Node<S, L, D, K>
     /// # Errors
     ///
     /// [`NodeFault::Memory`].
-    pub(crate) fn try_verdicts(
-        &mut self,
-        out: &mut Vec<Action<S, D>>,
-    ) -> Result<Acted, NodeFault>
+    pub(crate) fn try_verdicts(&mut self, out: &mut Vec<Action<S, D>>) -> Result<Acted, NodeFault>
         ensures tried { AtOwn S.Scheme L.Elector K.Disk (formats D.PartialEq.eq D.spelling S.Signature.spelling S.Certificate.spelling D.reading S.Signature.reading S.Certificate.reading) self.old (λ f s h. WasTried S.Scheme L.Elector K.Disk f s is_put_off (NoVerdictToAsk S.Scheme f s) self.old self.new h out.old.items out.new.items result) }
         ensures faults { TellsOfDisk K.Disk (disk_of self.old) (disk_of self.new) result }
     {

@@ -14,13 +14,13 @@ ghost use Rattle.simplex_exchange.specs.Handing.{HandsOut};
 ghost use Rattle.simplex_node.specs.Keeps.{AtOwn, NodeKeeps, disk_of};
 ghost use Rattle.simplex_node.specs.Taking.{IsLeftBy, IsTaken};
 
-use simplex_exchange::{hand_out, hand_out_final};
 use crate::learning::{
     final_proposal, tell_repair, tell_voter, tell_votes, what_is_not_recorded_is_unknown,
 };
 use crate::node::Node;
 use crate::recording::record;
 use simplex_certificates::Certificate;
+use simplex_exchange::{hand_out, hand_out_final};
 use simplex_journal::Disk;
 use simplex_member::{Action, Channel, NodeFault};
 use simplex_messages::Activity;

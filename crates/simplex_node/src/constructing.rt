@@ -1,11 +1,9 @@
 //! What is due of the votes of all views: they learn who leads, their proposals go to the voter, certificates are made.
 
-ghost use Rattle.std.specs.Prelude.{◌≡◌, ◌∷◌, ℕ, List, Some, map, IfErr, IfOk, OnOk, MatchOption};
+ghost use Rattle.std.specs.Prelude.{◌≡◌, ◌∷◌, ℕ, List, Some, IfErr, IfOk, OnOk};
 ghost use Rattle.simplex_certificates.specs.declared.certificate.Certificate.{Certificate};
 ghost use Rattle.simplex_rules.specs.declared.kind.Kind.{Kind};
 ghost use Rattle.simplex_verifier.specs.declared.batch.Batch.{Batch};
-ghost use Rattle.simplex_voter.specs.State as voting;
-ghost use Rattle.simplex_acceptance.specs.Keeps as accepting;
 ghost use Rattle.simplex_journal.specs.Disk.{LeavesOnly};
 ghost use Rattle.simplex_asking.specs.Asking.{is_none};
 ghost use Rattle.simplex_asking.specs.declared.acted.Acted.TheVariants as acted;
@@ -13,15 +11,14 @@ ghost use Rattle.simplex_exchange.specs.Handing.{HandsOut};
 ghost use Rattle.simplex_member.specs.declared.action.Action.{Action};
 ghost use Rattle.simplex_member.specs.declared.fault.NodeFault.TheVariants as step_fault;
 ghost use Rattle.simplex_member.specs.Allowed.{Allowed};
-ghost use Rattle.simplex_member.specs.Deeds.{Blocks, certificate_deeds};
-ghost use Rattle.simplex_member.specs.Layers.{voter_of};
-ghost use Rattle.simplex_member.specs.Packet.{Formats, formats};
+ghost use Rattle.simplex_member.specs.Deeds.{certificate_deeds};
+ghost use Rattle.simplex_member.specs.Packet.{formats};
 ghost use Rattle.simplex_member.specs.Point.{History, Constructs, Forwards};
 ghost use Rattle.simplex_member.specs.Setup.{Setup};
 ghost use Rattle.simplex_node.specs.Acting.{WasTried};
 ghost use Rattle.simplex_node.specs.Ahead.{VotesAreAhead, VotesGoAhead};
 ghost use Rattle.simplex_node.specs.Keeps.{AtOwn, NodeKeeps, disk_of};
-ghost use Rattle.simplex_node.specs.Leading.{LeaderIsToName, NamesLeader, NoLeaderToName};
+ghost use Rattle.simplex_leading.specs.Leading.{NoLeaderToName};
 ghost use Rattle.simplex_node.specs.NoneDue.{NoConstructionToMake};
 ghost use Rattle.simplex_node.specs.Stepping.{TellsOfDisk};
 ghost use Rattle.simplex_node.specs.Taking.{IsLeftBy, IsTaken};
@@ -30,57 +27,16 @@ use crate::entering::enter;
 use crate::learning::{tell_repair, tell_voter};
 use crate::node::Node;
 use crate::recording::record;
-use simplex_acceptance::{Acceptance, Due};
+use simplex_acceptance::Due;
 use simplex_asking::Acted;
 use simplex_batcher::Batch;
 use simplex_certificates::Certificate;
-use simplex_exchange::hand_out;
+use simplex_exchange::block_all;
 use simplex_journal::Disk;
+use simplex_leading::name_leader;
 use simplex_member::{Action, NodeFault};
 use simplex_rules::Elector;
-use simplex_types::{Digest, Participant, Proposal, Scheme, View, Write};
-use simplex_voter::State as Voter;
-
-/// Tells the votes of the first view that wait for it who leads, where the voter knows that.
-///
-/// # Errors
-///
-/// [`NodeFault::Memory`].
-fn name_leader<S: Scheme<D> + Drop, L: Elector<S, D>, D: Digest>(
-    voter: &Voter<S, L, D>,
-    acceptance: &mut Acceptance<S, D>,
-) -> Result<Acted, NodeFault>
-    ensures named { IfOk result (λ acted. (s : Setup S D S.Certificate) (h : History S D S.PublicKey S.Signature S.Certificate) → voting.Keeps S.Scheme L.Elector s.voter voter.now (voter_of s h) → accepting.Keeps S.Scheme D.PartialEq.eq s acceptance.old h → NamesLeader s S.Scheme D.PartialEq.eq acceptance.new h acted) }
-    ensures fault { IfErr result (λ why. why ≡ step_fault.Memory) }
-{
-    match first_led(voter, acceptance) {
-        Some((view, leader)) => match acceptance.lead(view, leader) {
-            Ok(()) => Ok(Acted::Did),
-            Err(_) => Err(NodeFault::Memory),
-        },
-        None => Ok(Acted::Nothing),
-    }
-}
-
-/// The first view whose votes wait for the name of their leader, which the voter knows.
-fn first_led<S: Scheme<D> + Drop, L: Elector<S, D>, D: Digest>(
-    voter: &Voter<S, L, D>,
-    acceptance: &Acceptance<S, D>,
-) -> Option<(View, Participant)>
-    ensures { (s : Setup S D S.Certificate) (h : History S D S.PublicKey S.Signature S.Certificate) → voting.Keeps S.Scheme L.Elector s.voter voter.now (voter_of s h) → accepting.Keeps S.Scheme D.PartialEq.eq s acceptance.now h → MatchOption result (NoLeaderToName s h) (λ led. LeaderIsToName s h led.0 led.1) }
-{
-    let mut next = View::zero();
-    'views: while let Some(view) = acceptance.first_unled(next) {
-        if let Some(leader) = voter.views().leader_index(view) {
-            return Some((view, leader));
-        }
-        if view.get() == u64::MAX {
-            return None;
-        }
-        next = view.next();
-    }
-    None
-}
+use simplex_types::{Digest, Proposal, Scheme, View, Write};
 
 impl<S: Scheme<D> + Drop, L: Elector<S, D>, D: Digest, K: Disk> Node<S, L, D, K> {
     /// Tells the votes of a view who leads it, where they wait for that and the voter knows it.
@@ -212,25 +168,4 @@ impl<S: Scheme<D> + Drop, L: Elector<S, D>, D: Digest, K: Disk> Node<S, L, D, K>
         self.tables.forget(self.voter.last_finalized());
         Ok(())
     }
-}
-
-/// Blocks these members.
-///
-/// # Errors
-///
-/// [`NodeFault::Memory`].
-fn block_all<S: Scheme<D>, D: Digest>(
-    members: &[Participant],
-    out: &mut Vec<Action<S, D>>,
-) -> Result<(), NodeFault>
-    ensures done { OnOk result ((f : Formats S D S.PublicKey S.Signature S.Certificate) → HandsOut f out.old.items out.new.items (map Blocks members.now)) }
-    ensures fault { IfErr result (λ why. why ≡ step_fault.Memory) }
-{
-    for member in members {
-        match hand_out(Action::Block(*member), out) {
-            Ok(()) => {}
-            Err(fault) => return Err(fault),
-        }
-    }
-    Ok(())
 }

@@ -14,10 +14,10 @@ ghost use Rattle.simplex_node.specs.Entering.{gets, serves};
 ghost use Rattle.simplex_exchange.specs.Handing.{HandsOut};
 ghost use Rattle.simplex_node.specs.Keeps.{AtAll, NodeKeeps};
 
-use simplex_exchange::hand_out;
 use crate::node::Node;
 use simplex_acceptance::Acceptance;
 use simplex_decisions::config::ForwardPolicy;
+use simplex_exchange::hand_out;
 use simplex_journal::Disk;
 use simplex_member::{Action, NodeFault};
 use simplex_rules::{Elector, Plan};

@@ -8,8 +8,8 @@ ghost use Rattle.simplex_node.specs.Hearing.{IsHeard};
 ghost use Rattle.simplex_node.specs.Keeps.{AtOwn, disk_of};
 ghost use Rattle.simplex_node.specs.Refusing.{IsAnother, MayBeHeard};
 
-use simplex_exchange::{hand_out, report_if};
 use crate::node::Node;
+use simplex_exchange::{hand_out, report_if};
 use simplex_journal::Disk;
 use simplex_member::{Action, NodeFault, Refusal};
 use simplex_messages::Vote;

@@ -14,10 +14,10 @@ ghost use Rattle.simplex_node.specs.Refusing.{bytes_tests};
 ghost use Rattle.simplex_node.specs.Stepping.{IsAnswered, TellsOfDisk};
 
 use crate::deciding::Decided;
-use simplex_exchange::hand_out;
 use crate::node::Node;
 use crate::refusing::blocks;
 use simplex_certificates::Certificate;
+use simplex_exchange::hand_out;
 use simplex_journal::Disk;
 use simplex_member::{Action, Channel, NodeFault, Refusal, Reply};
 use simplex_messages::Vote;

@@ -8,9 +8,9 @@ ghost use Rattle.simplex_member.specs.Point.{Wanted};
 ghost use Rattle.simplex_node.specs.Keeps.{AtOwn};
 ghost use Rattle.simplex_node.specs.Taking.{IsTaken};
 
-use simplex_exchange::hand_out;
 use crate::node::Node;
 use simplex_acceptance::silent_points_leave_votes;
+use simplex_exchange::hand_out;
 use simplex_journal::Disk;
 use simplex_member::{Action, Channel, NodeFault};
 use simplex_recording::quiet_points_leave_the_tables;

@@ -23,11 +23,11 @@ ghost use Rattle.simplex_node.specs.Taking.{IsLeftBy, IsTaken};
 ghost use Rattle.simplex_node.specs.Verdicts.{RecordIsAhead};
 
 use crate::entering::enter;
-use simplex_exchange::hand_out;
 use crate::node::Node;
 use crate::recording::record;
 use simplex_acceptance::silent_points_leave_votes;
 use simplex_certificates::{Artifact, Notarization};
+use simplex_exchange::hand_out;
 use simplex_journal::Disk;
 use simplex_member::{Action, NodeFault, awaited_verdicts_may_be_taken};
 use simplex_messages::Activity;
