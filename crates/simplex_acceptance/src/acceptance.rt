@@ -181,7 +181,7 @@ impl<S: Scheme<D> + Drop, D: Digest> Acceptance<S, D> {
         self.floor = floor;
     }
 
-    /// Names the leader of a view, whose votes wait for it.
+    /// Names the leader of a view, whose votes wait for it. The same leader again changes nothing.
     ///
     /// # Errors
     ///
@@ -189,6 +189,7 @@ impl<S: Scheme<D> + Drop, D: Digest> Acceptance<S, D> {
     /// then.
     pub fn lead(&mut self, view: View, leader: Participant) -> Result<(), BatcherFault>
         ensures led { OnOk result (AtEach S.Scheme D.PartialEq.eq self.old (λ s h. IsSome (stage s h view) → leader_of (votes_of s h view) ≡ None → Keeps S.Scheme D.PartialEq.eq s self.new (Leads view leader ∷ h))) }
+        ensures again { OnOk result (AtEach S.Scheme D.PartialEq.eq self.old (λ s h. leader_of (votes_of s h view) ≢ None → Keeps S.Scheme D.PartialEq.eq s self.new h)) }
         ensures fault { IfErr result (λ e. AtEach S.Scheme D.PartialEq.eq self.old (λ s h. leader_of (votes_of s h view) ≡ None → e ≡ Memory)) }
         ensures err { OnErr result (AtEach S.Scheme D.PartialEq.eq self.old (λ s h. Keeps S.Scheme D.PartialEq.eq s self.new h)) }
     {
@@ -198,7 +199,7 @@ impl<S: Scheme<D> + Drop, D: Digest> Acceptance<S, D> {
         }
     }
 
-    /// The first view from this one on whose votes came up and wait for the name of their leader.
+    /// The first view from this one on whose votes came up and may wait for the name of their leader.
     pub fn first_unled(&self, from: View) -> Option<View>
         ensures behind { IfSome result (λ view. from ≤ view) }
         ensures first { AtEach S.Scheme D.PartialEq.eq self.now (λ s h. MatchOption result (AreLedFrom (stage s h) (votes_of s h) from) (λ view. IsFirstUnled (stage s h) (votes_of s h) from view)) }

@@ -240,6 +240,7 @@ impl<S: Scheme<D> + Drop, D: Digest> Rounds<S, D> {
     /// Names the leader of a view.
     pub(crate) fn lead(&mut self, view: View, leader: Participant) -> Result<(), BatcherFault>
         ensures led { OnOk result (AtEach S.Scheme D.PartialEq.eq self.old (λ s up happened. IsSome (up view) → leader_of (happened view) ≡ None → Stand S.Scheme D.PartialEq.eq s self.new up (put view (Led leader) happened))) }
+        ensures again { OnOk result (AtEach S.Scheme D.PartialEq.eq self.old (λ s up happened. leader_of (happened view) ≢ None → Stand S.Scheme D.PartialEq.eq s self.new up happened)) }
         ensures refused { IfErr result (λ e. AtEach S.Scheme D.PartialEq.eq self.old (λ s up happened. leader_of (happened view) ≡ None → e ≡ Memory)) }
         ensures err { OnErr result (AtEach S.Scheme D.PartialEq.eq self.old (λ s up happened. Stand S.Scheme D.PartialEq.eq s self.new up happened)) }
     {
@@ -256,7 +257,7 @@ impl<S: Scheme<D> + Drop, D: Digest> Rounds<S, D> {
         }
     }
 
-    /// The first view from this one on whose votes came up and wait for the name of their leader.
+    /// The first view from this one on whose votes came up and may wait for the name of their leader.
     pub(crate) fn first_unled(&self, from: View) -> Option<View>
         ensures behind { IfSome result (λ view. from ≤ view) }
         ensures first { AtEach S.Scheme D.PartialEq.eq self.now (λ s up happened. MatchOption result (AreLedFrom up happened from) (λ view. IsFirstUnled up happened from view)) }
@@ -278,7 +279,6 @@ impl<S: Scheme<D> + Drop, D: Digest> Rounds<S, D> {
     fn next_unled(&self, from: View) -> Option<View>
         ensures behind { IfSome result (λ view. from ≤ view) }
         ensures none { is_none result ≡ true → (u : ℕ) → from ≤ u → contains nat_cmp self.now.unled u ≡ false }
-        ensures there { IfSome result (λ view. contains nat_cmp self.now.unled view ≡ true) }
         ensures first { IfSome result (λ view. (u : ℕ) → from ≤ u → u < view → contains nat_cmp self.now.unled u ≡ false) }
     {
         match self

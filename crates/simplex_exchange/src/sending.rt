@@ -6,7 +6,7 @@ ghost use Rattle.simplex_messages.specs.declared.vote.Vote.TheVariants as vote;
 ghost use Rattle.simplex_messages.specs.Vote.{any_vote_spelling};
 ghost use Rattle.simplex_messages.specs.VoteParts.{vote_artifact};
 ghost use Rattle.simplex_member.specs.declared.fault.NodeFault.TheVariants as step_fault;
-ghost use Rattle.simplex_member.specs.Deeds.{Reports, Sends};
+ghost use Rattle.simplex_member.specs.Deeds.{IsAction, Reports, Sends};
 ghost use Rattle.simplex_member.specs.Packet.{Formats, Packet, formats, of_certificate, of_vote, packet_channel};
 ghost use Rattle.simplex_exchange.specs.Handing.{HandsOut};
 
@@ -97,7 +97,9 @@ fn send<S: Scheme<D>, D: Digest, M: Write>(
 }
 
 /// What sends these bytes to all.
-fn to_all<S: Scheme<D>, D: Digest>(channel: Channel, bytes: Vec<u8>) -> Action<S, D> {
+fn to_all<S: Scheme<D>, D: Digest>(channel: Channel, bytes: Vec<u8>) -> Action<S, D>
+    ensures { (f : Formats S D S.PublicKey S.Signature S.Certificate) (packet : Packet S D S.PublicKey S.Signature S.Certificate) → packet_channel packet ≡ channel → f.packet packet ≡ bytes.items → IsAction f result (Sends None packet) }
+{
     Action::Send {
         to: None,
         channel,

@@ -7,7 +7,7 @@ ghost use Rattle.simplex_member.specs.declared.fault.NodeFault.TheVariants as st
 ghost use Rattle.simplex_member.specs.Layers.{voter_of};
 ghost use Rattle.simplex_member.specs.Point.{History};
 ghost use Rattle.simplex_member.specs.Setup.{Setup};
-ghost use Rattle.simplex_leading.specs.Leading.{LeaderIsToName, NamesLeader, NoLeaderToName};
+ghost use Rattle.simplex_leading.specs.Leading.{MayBeNamed, NamesLeader, NoLeaderToName};
 
 use simplex_acceptance::Acceptance;
 use simplex_asking::Acted;
@@ -16,7 +16,7 @@ use simplex_rules::Elector;
 use simplex_types::{Digest, Participant, Scheme, View};
 use simplex_voter::State as Voter;
 
-/// Tells the votes of the first view that wait for it who leads, where the voter knows that.
+/// Tells the votes of the first view that may wait for it who leads, where the voter knows that.
 ///
 /// # Errors
 ///
@@ -37,12 +37,12 @@ pub fn name_leader<S: Scheme<D> + Drop, L: Elector<S, D>, D: Digest>(
     }
 }
 
-/// The first view whose votes wait for the name of their leader, which the voter knows.
+/// The first view whose votes may wait for the name of their leader, which the voter knows.
 fn first_led<S: Scheme<D> + Drop, L: Elector<S, D>, D: Digest>(
     voter: &Voter<S, L, D>,
     acceptance: &Acceptance<S, D>,
 ) -> Option<(View, Participant)>
-    ensures { (s : Setup S D S.Certificate) (h : History S D S.PublicKey S.Signature S.Certificate) → voting.Keeps S.Scheme L.Elector s.voter voter.now (voter_of s h) → accepting.Keeps S.Scheme D.PartialEq.eq s acceptance.now h → MatchOption result (NoLeaderToName s h) (λ led. LeaderIsToName s h led.0 led.1) }
+    ensures { (s : Setup S D S.Certificate) (h : History S D S.PublicKey S.Signature S.Certificate) → voting.Keeps S.Scheme L.Elector s.voter voter.now (voter_of s h) → accepting.Keeps S.Scheme D.PartialEq.eq s acceptance.now h → MatchOption result (NoLeaderToName s h) (λ led. MayBeNamed s h led.0 led.1) }
 {
     let mut next = View::zero();
     'views: while let Some(view) = acceptance.first_unled(next) {

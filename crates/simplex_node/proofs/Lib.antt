@@ -19,3 +19,4 @@ mod Tests
 mod Refusals
 mod Heeding
 mod Replying
+mod Acts
