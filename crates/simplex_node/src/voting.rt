@@ -4,12 +4,17 @@ ghost use Rattle.std.specs.Prelude.{◌≡◌, ◌∷◌, true, IfErr, IfOk, OnO
 ghost use Rattle.simplex_admission.specs.Evidence.{as_report};
 ghost use Rattle.simplex_decisions.specs.GivingUp.{MayGiveUp, NullifyIsDue};
 ghost use Rattle.simplex_acceptance.specs.Keeps as accepting;
-ghost use Rattle.simplex_acceptance.specs.Keeps.{IsNewVote};
+ghost use Rattle.simplex_acceptance.specs.Keeps.{IsOpenTo};
+ghost use Rattle.simplex_messages.specs.VoteParts.{vote_round, vote_signer};
+ghost use Rattle.simplex_verifier.specs.Votes.{vote_attestation, vote_statement};
 ghost use Rattle.simplex_journal.specs.Disk.{LeavesOnly};
 ghost use Rattle.simplex_asking.specs.Asking.{is_look, is_none};
 ghost use Rattle.simplex_asking.specs.declared.acted.Acted.TheVariants as acted;
 ghost use Rattle.simplex_member.specs.declared.fault.NodeFault.TheVariants as step_fault;
-ghost use Rattle.simplex_member.specs.Allowed.{Allowed, GivesUp};
+ghost use Rattle.simplex_history.specs.History.{seen};
+ghost use Rattle.simplex_history.specs.Past as past;
+ghost use Rattle.simplex_member.specs.Allowed.{Allowed};
+ghost use Rattle.simplex_member.specs.Member.{IsLooked};
 ghost use Rattle.simplex_member.specs.Layers.{current_of, latest, voter_of};
 ghost use Rattle.simplex_member.specs.Packet.{formats};
 ghost use Rattle.simplex_member.specs.Point.{History, Votes};
@@ -89,7 +94,7 @@ impl<S: Scheme<D> + Drop, L: Elector<S, D>, D: Digest, K: Disk> Node<S, L, D, K>
 
     /// Gives the current view up, where it may be: by a new vote, or by the recorded one once more.
     fn give_up(&mut self, out: &mut Vec<Action<S, D>>) -> Result<Acted, NodeFault>
-        ensures tried { AtOwn S.Scheme L.Elector K.Disk (formats D.PartialEq.eq D.spelling S.Signature.spelling S.Certificate.spelling D.reading S.Signature.reading S.Certificate.reading) self.old (λ f s h. (MayGiveUp s.voter (voter_of s h) (current_of s h) → NullifyIsDue s.voter (voter_of s h) (latest h)) → WasTried S.Scheme L.Elector K.Disk f s is_none (NoNullifyToCast S.Scheme f s) self.old self.new h out.old.items out.new.items result) }
+        ensures tried { AtOwn S.Scheme L.Elector K.Disk (formats D.PartialEq.eq D.spelling S.Signature.spelling S.Certificate.spelling D.reading S.Signature.reading S.Certificate.reading) self.old (λ f s h. (MayGiveUp s.voter (voter_of s h) (current_of s h) → NullifyIsDue s.voter (voter_of s h) (latest h)) → IsLooked S.Scheme f s h → WasTried S.Scheme L.Elector K.Disk f s is_none (NoNullifyToCast S.Scheme f s) self.old self.new h out.old.items out.new.items result) }
         ensures faults { TellsOfDisk K.Disk (disk_of self.old) (disk_of self.new) result }
     {
         let view = self.voter.current_view();
@@ -113,7 +118,7 @@ impl<S: Scheme<D> + Drop, L: Elector<S, D>, D: Digest, K: Disk> Node<S, L, D, K>
         view: View,
         out: &mut Vec<Action<S, D>>,
     ) -> Result<Acted, NodeFault>
-        ensures tried { AtOwn S.Scheme L.Elector K.Disk (formats D.PartialEq.eq D.spelling S.Signature.spelling S.Certificate.spelling D.reading S.Signature.reading S.Certificate.reading) self.old (λ f s h. GivesUp S.Scheme f s h view true → WasTried S.Scheme L.Elector K.Disk f s is_none (NoNullifyToCast S.Scheme f s) self.old self.new h out.old.items out.new.items result) }
+        ensures tried { AtOwn S.Scheme L.Elector K.Disk (formats D.PartialEq.eq D.spelling S.Signature.spelling S.Certificate.spelling D.reading S.Signature.reading S.Certificate.reading) self.old (λ f s h. view ≡ current_of s h → past.has_nullified (seen s.voter (voter_of s h) view) ≡ true → (MayGiveUp s.voter (voter_of s h) (current_of s h) → NullifyIsDue s.voter (voter_of s h) (latest h)) → IsLooked S.Scheme f s h → WasTried S.Scheme L.Elector K.Disk f s is_none (NoNullifyToCast S.Scheme f s) self.old self.new h out.old.items out.new.items result) }
         ensures faults { TellsOfDisk K.Disk (disk_of self.old) (disk_of self.new) result }
     {
         let alloc = self.settings.alloc;
@@ -141,7 +146,7 @@ impl<S: Scheme<D> + Drop, L: Elector<S, D>, D: Digest, K: Disk> Node<S, L, D, K>
     fn cast(&mut self, vote: Vote<S, D>, out: &mut Vec<Action<S, D>>) -> Result<Acted, NodeFault>
         ensures did { IfOk result (λ done. done ≡ acted.Did) }
         ensures taken { OnOk result ((s : Setup S D S.Certificate) (h : History S D S.PublicKey S.Signature S.Certificate) → let f = (formats D.PartialEq.eq D.spelling S.Signature.spelling S.Certificate.spelling D.reading S.Signature.reading S.Certificate.reading (S.size s.voter.scheme)) in
-            VoterIsAhead S.Scheme L.Elector K.Disk f s self.old h (Votes vote) → Allowed S.Scheme f s h (Votes vote) → IsTaken S.Scheme L.Elector K.Disk f s self.new h (Votes vote) out.old.items out.new.items) }
+            VoterIsAhead S.Scheme L.Elector K.Disk f s self.old h (Votes vote) → Allowed S.Scheme f s h (Votes vote) → IsOpenTo s h (vote_round vote) → IsTaken S.Scheme L.Elector K.Disk f s self.new h (Votes vote) out.old.items out.new.items) }
         ensures any_moment { (s : Setup S D S.Certificate) (h : History S D S.PublicKey S.Signature S.Certificate) → let f = (formats D.PartialEq.eq D.spelling S.Signature.spelling S.Certificate.spelling D.reading S.Signature.reading S.Certificate.reading (S.size s.voter.scheme)) in
             VoterIsAhead S.Scheme L.Elector K.Disk f s self.old h (Votes vote) → Allowed S.Scheme f s h (Votes vote) → K.keeps → LeavesOnly (K.calls (disk_of self.old)) (K.calls (disk_of self.new)) (IsLeftBy S.Scheme f s h (Votes vote)) }
         ensures faults { TellsOfDisk K.Disk (disk_of self.old) (disk_of self.new) result }
@@ -169,7 +174,7 @@ fn tell_votes<S: Scheme<D> + Drop, D: Digest>(
     vote: Vote<S, D>,
     acceptance: &mut Acceptance<S, D>,
 ) -> Result<Activity<S, D>, NodeFault>
-    ensures told { IfOk result (λ report. accepting.AtEach S.Scheme D.PartialEq.eq acceptance.old (λ s h. IsNewVote S.Scheme s h vote → (report ≡ as_report vote) × accepting.Keeps S.Scheme D.PartialEq.eq s acceptance.new (Votes vote ∷ h))) }
+    ensures told { IfOk result (λ report. accepting.AtEach S.Scheme D.PartialEq.eq acceptance.old (λ s h. IsOpenTo s h (vote_round vote) → S.attests s.voter.scheme (vote_signer vote) (vote_statement vote) (vote_attestation vote).signature → (report ≡ as_report vote) × accepting.Keeps S.Scheme D.PartialEq.eq s acceptance.new (Votes vote ∷ h))) }
     ensures fault { IfErr result (λ why. why ≡ step_fault.Memory) }
 {
     match acceptance.cast(vote) {
