@@ -44,9 +44,9 @@ module _ {S L D P G C : Type 0} (g : Ghosts S D P G C) (e : elector.Ghosts L S D
   }
 
   -- nothing was left to be asked
-  pub nothing_asked : (is_kind : Point S D P G C → Bool) (None : History S D P G C → Type 0) (voter : State S L D P G C) (tables : Tables S D P G C) (h : History S D P G C) (actions : List (Action S D P G C))
-      → None h → voting.Keeps g e s.voter voter (voter_of s h) → KeepsTables (finalized_of s h) tables h → HadNothingToAsk g e f s is_kind None voter tables h actions actions
-  nothing_asked is_kind None voter tables h actions none voter_is tables_are = record {
+  pub nothing_asked : (is_kind : Point S D P G C → Bool) (Done : History S D P G C → Type 0) (voter : State S L D P G C) (tables : Tables S D P G C) (h : History S D P G C) (actions : List (Action S D P G C))
+      → Done h → voting.Keeps g e s.voter voter (voter_of s h) → KeepsTables (finalized_of s h) tables h → HadNothingToAsk g e f s is_kind Done voter tables h actions actions
+  nothing_asked is_kind Done voter tables h actions none voter_is tables_are = record {
     points = [];
     end = h;
     are_kind = All-nil (λ (q : Point S D P G C). is_kind q ≡ true);

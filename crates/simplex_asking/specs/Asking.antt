@@ -18,7 +18,7 @@ use Rattle.simplex_member.specs.Point.{Point, Latches, Looks, AsksBuild, AsksVer
 use Rattle.simplex_member.specs.Setup.{Setup}
 use Rattle.simplex_exchange.specs.Handing.{HandsOut}
 use Rattle.simplex_asking.specs.declared.acted.Acted.{Acted}
-use Rattle.simplex_asking.specs.declared.acted.Acted.TheVariants as acted
+use Rattle.simplex_asking.specs.declared.acted.Acted.TheVariants as came
 
 module _ {S D P G C : Type 0} where
   -- a point is an ask, or is about one, about a reason to give a view up, or about when that is due: nothing is recorded at it, and it
@@ -88,17 +88,17 @@ module _ {S L D P G C : Type 0} (g : Ghosts S D P G C) (e : elector.Ghosts L S D
     pub asked : HasAsked voter tables h points end before after
 
   -- nothing was left to be asked, behind points of this kind alone: this holds where they led
-  pub record HadNothingToAsk (is_kind : Point S D P G C → Bool) (None : History S D P G C → Type 0) (voter : State S L D P G C) (tables : Tables S D P G C) (h : History S D P G C) (before after : List (Action S D P G C)) : Type 0 where
+  pub record HadNothingToAsk (is_kind : Point S D P G C → Bool) (Done : History S D P G C → Type 0) (voter : State S L D P G C) (tables : Tables S D P G C) (h : History S D P G C) (before after : List (Action S D P G C)) : Type 0 where
     pub points : List (Point S D P G C)
     pub end : History S D P G C
     pub are_kind : All (λ p. is_kind p ≡ true) points
     pub asked : HasAsked voter tables h points end before after
-    pub none : None end
+    pub none : Done end
 
   -- what comes of an act that asks
   abbrev pub ComesToAsk : (Point S D P G C → Bool) → (History S D P G C → Type 0) → State S L D P G C → Tables S D P G C → History S D P G C → List (Action S D P G C) → List (Action S D P G C) → Acted → Type 0
-  ComesToAsk is_kind None voter tables h before after acted.Did = WasAsked voter tables h before after
-  ComesToAsk is_kind None voter tables h before after acted.Nothing = HadNothingToAsk is_kind None voter tables h before after
+  ComesToAsk is_kind Done voter tables h before after came.Did = WasAsked voter tables h before after
+  ComesToAsk is_kind Done voter tables h before after came.Nothing = HadNothingToAsk is_kind Done voter tables h before after
 
 module _ {S L D P G C : Type 0} (g : Ghosts S D P G C) (e : elector.Ghosts L S D P G C) (formats : ℕ → Formats S D P G C) where
   -- what holds of each history that leads here, where values are compared, spelled and read as in a committee of its size

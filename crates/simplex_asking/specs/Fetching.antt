@@ -20,7 +20,7 @@ use Rattle.simplex_member.specs.Point.{Point, Asks, History}
 use Rattle.simplex_member.specs.Setup.{Setup, member_of}
 use Rattle.simplex_exchange.specs.Handing.{HandsOut}
 use Rattle.simplex_asking.specs.declared.acted.Acted.{Acted}
-use Rattle.simplex_asking.specs.declared.acted.Acted.TheVariants as acted
+use Rattle.simplex_asking.specs.declared.acted.Acted.TheVariants as came
 
 module _ {S D P G C : Type 0} where
   -- a view is asked for
@@ -59,8 +59,8 @@ module _ {S D P G C : Type 0} (g : Ghosts S D P G C) (f : Formats S D P G C) (s 
 
   -- what comes of an act that asks for views: some were asked for; or nothing changed, and this holds
   abbrev pub ComesToFetch : (History S D P G C → Type 0) → Tables S D P G C → History S D P G C → List (Action S D P G C) → List (Action S D P G C) → Acted → Type 0
-  ComesToFetch None tables h before after acted.Did = WasFetched tables h before after
-  ComesToFetch None tables h before after acted.Nothing = None h × KeepsTables (finalized_of s h) tables h × (after ≡ before)
+  ComesToFetch Done tables h before after came.Did = WasFetched tables h before after
+  ComesToFetch Done tables h before after came.Nothing = Done h × KeepsTables (finalized_of s h) tables h × (after ≡ before)
 
   -- for each of these verdicts the notarization that it waits for was asked for of all, where it isn't settled
   pub record FetchesParents (tables : Tables S D P G C) (h : History S D P G C) (wanted : List CertificateFetch) (before after : List (Action S D P G C)) : Type 0 where

@@ -11,7 +11,7 @@ ghost use Rattle.simplex_member.specs.Point.{AsksVerify};
 ghost use Rattle.simplex_recording.specs.Tables.{KeepsTables};
 ghost use Rattle.simplex_recording.specs.Tables as tabled;
 ghost use Rattle.simplex_exchange.specs.Handing.{HandsOut};
-ghost use Rattle.simplex_asking.specs.declared.acted.Acted.TheVariants as acted;
+ghost use Rattle.simplex_asking.specs.declared.acted.Acted.TheVariants as came;
 ghost use Rattle.simplex_asking.specs.Asking.{AtAsker, ComesToAsk, is_latch};
 ghost use Rattle.simplex_asking.specs.NoneDue.{NoVerificationToAsk};
 
@@ -92,7 +92,7 @@ fn hand_check_out<S: Scheme<D>, D: Digest>(
     out: &mut Vec<Action<S, D>>,
 ) -> Result<Acted, NodeFault>
     requires { tabled.AtEach tables.old (λ low h. HasNumber h) }
-    ensures did { IfOk result (λ done. done ≡ acted.Did) }
+    ensures did { IfOk result (λ done. done ≡ came.Did) }
     ensures keeps { IfOk result (λ done. tabled.AtEach tables.old (λ low h. KeepsTables low tables.new (AsksVerify (next_number h) context proposal ∷ h))) }
     ensures acts { IfOk result (λ done. tabled.AtEach tables.old (λ low h. (f : Formats S D S.PublicKey S.Signature S.Certificate) → HandsOut f out.old.items out.new.items (Verifies (next_number h) context proposal ∷ []))) }
     ensures fault { IfErr result (λ why. why ≡ step_fault.Memory) }

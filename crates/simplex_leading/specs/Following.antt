@@ -12,7 +12,7 @@ use Rattle.simplex_member.specs.Packet.{Formats}
 use Rattle.simplex_member.specs.Point.{History}
 use Rattle.simplex_member.specs.Setup.{Setup}
 use Rattle.simplex_asking.specs.declared.acted.Acted.{Acted}
-use Rattle.simplex_asking.specs.declared.acted.Acted.TheVariants as acted
+use Rattle.simplex_asking.specs.declared.acted.Acted.TheVariants as came
 
 module _ {S L D P G C : Type 0} (g : Ghosts S D P G C) (e : elector.Ghosts L S D P G C) (f : Formats S D P G C) (s : Setup S D C) where
   -- that its leader gave the view up was a reason that is due, and counts now; or it is none
@@ -22,5 +22,5 @@ module _ {S L D P G C : Type 0} (g : Ghosts S D P G C) (e : elector.Ghosts L S D
 
   -- the same of a view; or of none it is
   abbrev pub FollowsLeader : State S L D P G C → History S D P G C → Acted → Type 0
-  FollowsLeader new h acted.Did = (view : ℕ) × FollowsIn new h view true
-  FollowsLeader new h acted.Nothing = ((view : ℕ) → ¬ LatchIsDue g f s h view reason.LeaderNullify) × voting.Keeps g e s.voter new (voter_of s h)
+  FollowsLeader new h came.Did = (view : ℕ) × FollowsIn new h view true
+  FollowsLeader new h came.Nothing = ((view : ℕ) → ¬ LatchIsDue g f s h view reason.LeaderNullify) × voting.Keeps g e s.voter new (voter_of s h)

@@ -9,7 +9,7 @@ use Rattle.simplex_member.specs.Layers.{stage, voter_of, votes_of}
 use Rattle.simplex_member.specs.Point.{History, Leads}
 use Rattle.simplex_member.specs.Setup.{Setup}
 use Rattle.simplex_asking.specs.declared.acted.Acted.{Acted}
-use Rattle.simplex_asking.specs.declared.acted.Acted.TheVariants as acted
+use Rattle.simplex_asking.specs.declared.acted.Acted.TheVariants as came
 
 module _ {S D P G C : Type 0} (s : Setup S D C) where
   -- the votes of each view know who leads it, as far as the voter does
@@ -23,6 +23,6 @@ module _ {S D P G C : Type 0} (s : Setup S D C) where
 
   -- a leader was named to the votes of a view, which waited for it or knew it; or none is to name
   abbrev pub NamesLeader : Ghosts S D P G C → (D → D → Bool) → Acceptance S D P G C → History S D P G C → Acted → Type 0
-  NamesLeader g same new h acted.Did = (view : ℕ) × (index : ℕ) × MayBeNamed h view index
+  NamesLeader g same new h came.Did = (view : ℕ) × (index : ℕ) × MayBeNamed h view index
       × (((leader_of (votes_of s h view) ≡ None) × accepting.Keeps g same s new (Leads view index ∷ h)) ⊎ accepting.Keeps g same s new h)
-  NamesLeader g same new h acted.Nothing = NoLeaderToName h × accepting.Keeps g same s new h
+  NamesLeader g same new h came.Nothing = NoLeaderToName h × accepting.Keeps g same s new h

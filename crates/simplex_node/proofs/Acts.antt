@@ -52,9 +52,9 @@ module _ {S L D P G C K : Type 0} (g : Ghosts S D P G C) (e : elector.Ghosts L S
   }
 
   -- nothing was left to be done
-  pub did_nothing : (is_kind : Point S D P G C → Bool) (None : History S D P G C → Type 0) (new : Node S L D K P G C) (h : History S D P G C) (actions : List (Action S D P G C))
-      → None h → NodeKeeps g e k f s new h → DidNothing g e k f s is_kind None new h actions actions
-  did_nothing is_kind None new h actions none keeps = record {
+  pub did_nothing : (is_kind : Point S D P G C → Bool) (Done : History S D P G C → Type 0) (new : Node S L D K P G C) (h : History S D P G C) (actions : List (Action S D P G C))
+      → Done h → NodeKeeps g e k f s new h → DidNothing g e k f s is_kind Done new h actions actions
+  did_nothing is_kind Done new h actions none keeps = record {
     points = [];
     end = h;
     are_kind = All-nil (λ (q : Point S D P G C). is_kind q ≡ true);

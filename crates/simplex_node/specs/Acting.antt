@@ -16,7 +16,7 @@ use Rattle.simplex_member.specs.Point.{Point, AreActs, History}
 use Rattle.simplex_member.specs.Setup.{Setup}
 use Rattle.simplex_exchange.specs.Handing.{HandsOut}
 use Rattle.simplex_asking.specs.declared.acted.Acted.{Acted}
-use Rattle.simplex_asking.specs.declared.acted.Acted.TheVariants as acted
+use Rattle.simplex_asking.specs.declared.acted.Acted.TheVariants as came
 use Rattle.simplex_node.specs.declared.node.Node.{Node}
 use Rattle.simplex_node.specs.Keeps.{NodeKeeps, disk_of}
 
@@ -41,21 +41,21 @@ module _ {S L D P G C K : Type 0} (g : Ghosts S D P G C) (e : elector.Ghosts L S
     pub acted : HasActed new h points end before after
 
   -- nothing of a kind was left to be done, behind points of this kind alone, which hand out nothing: this holds where they led
-  pub record DidNothing (is_kind : Point S D P G C → Bool) (None : History S D P G C → Type 0) (new : Node S L D K P G C) (h : History S D P G C) (before after : List (Action S D P G C)) : Type 0 where
+  pub record DidNothing (is_kind : Point S D P G C → Bool) (Done : History S D P G C → Type 0) (new : Node S L D K P G C) (h : History S D P G C) (before after : List (Action S D P G C)) : Type 0 where
     pub points : List (Point S D P G C)
     pub end : History S D P G C
     pub are_kind : All (λ p. is_kind p ≡ true) points
     pub acted : HasActed new h points end before after
-    pub none : None end
+    pub none : Done end
 
   -- what comes of an act
   abbrev pub ComesTo : (Point S D P G C → Bool) → (History S D P G C → Type 0) → Node S L D K P G C → History S D P G C → List (Action S D P G C) → List (Action S D P G C) → Acted → Type 0
-  ComesTo is_kind None new h before after acted.Did = DidSomething new h before after
-  ComesTo is_kind None new h before after acted.Nothing = DidNothing is_kind None new h before after
+  ComesTo is_kind Done new h before after came.Did = DidSomething new h before after
+  ComesTo is_kind Done new h before after came.Nothing = DidNothing is_kind Done new h before after
 
   -- an act was tried: what came of it, and what a crash at any moment leaves
-  pub record WasTried (is_kind : Point S D P G C → Bool) (None : History S D P G C → Type 0) (old new : Node S L D K P G C) (h : History S D P G C) (before after : List (Action S D P G C)) (answer : Result Acted NodeFault) : Type 0 where
-    pub ok : IfOk answer (ComesTo is_kind None new h before after)
+  pub record WasTried (is_kind : Point S D P G C → Bool) (Done : History S D P G C → Type 0) (old new : Node S L D K P G C) (h : History S D P G C) (before after : List (Action S D P G C)) (answer : Result Acted NodeFault) : Type 0 where
+    pub ok : IfOk answer (ComesTo is_kind Done new h before after)
     pub any_moment : k.keeps → LeavesOnly (k.calls (disk_of old)) (k.calls (disk_of new)) (IsLeftByActs g f s h)
 
   -- all that was due was done, and when the node wants to be told the time is the last that is handed out

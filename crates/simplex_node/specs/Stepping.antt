@@ -35,13 +35,6 @@ module _ {S D P G C : Type 0} (g : Ghosts S D P G C) (f : Formats S D P G C) (s 
       (TakesAtOnce h e reply.actions.items end)
       (λ r. (end ≡ h) × AreActions f reply.actions.items (refused_deeds g f s h e r))
 
--- what a call tells of a disk: it has failed once more exactly where that is told. None tells that a step failed before
-pub record TellsOfDisk {K A : Type 0} (k : disk.Ghosts K) (old new : K) (answer : Result A NodeFault) : Type 0 where
-  pub device : IsErrOf answer step_fault.Device → k.failed new ≡ counted false (k.failed old)
-  pub no_device : IfErr answer (λ why. why ≢ step_fault.Device → k.failed new ≡ k.failed old)
-  pub no_fault : OnOk answer (k.failed new ≡ k.failed old)
-  pub not_failed : ¬ IsErrOf answer step_fault.Failed
-
   -- an event is taken, and acts of the node's own behind it, of which each was due
   pub record TakesSoFar (h : History S D P G C) (e : Event D) (actions : List (Action S D P G C)) (end : History S D P G C) : Type 0 where
     pub points : List (Point S D P G C)
@@ -55,6 +48,13 @@ pub record TellsOfDisk {K A : Type 0} (k : disk.Ghosts K) (old new : K) (answer 
   StepsSoFar h e reply end = IsFirst (tests g f s h e) reply.refused × MatchOption reply.refused
       (TakesSoFar h e reply.actions.items end)
       (λ r. (end ≡ h) × AreActions f reply.actions.items (refused_deeds g f s h e r))
+
+-- what a call tells of a disk: it has failed once more exactly where that is told. None tells that a step failed before
+pub record TellsOfDisk {K A : Type 0} (k : disk.Ghosts K) (old new : K) (answer : Result A NodeFault) : Type 0 where
+  pub device : IsErrOf answer step_fault.Device → k.failed new ≡ counted false (k.failed old)
+  pub no_device : IfErr answer (λ why. why ≢ step_fault.Device → k.failed new ≡ k.failed old)
+  pub no_fault : OnOk answer (k.failed new ≡ k.failed old)
+  pub not_failed : ¬ IsErrOf answer step_fault.Failed
 
 module _ {S L D P G C K : Type 0} (g : Ghosts S D P G C) (e : elector.Ghosts L S D P G C) (k : disk.Ghosts K) (f : Formats S D P G C) (s : Setup S D C) where
   -- an event was answered, with all that is due behind it: the node made a step, a crash at any moment leaves a point of it, and what

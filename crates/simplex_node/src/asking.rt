@@ -12,6 +12,7 @@ ghost use Rattle.simplex_node.specs.Keeps.{AtAll, AtOwn, disk_of};
 ghost use Rattle.simplex_node.specs.Stepping.{TellsOfDisk};
 
 use crate::node::Node;
+use simplex_acceptance::silent_points_leave_votes;
 use simplex_asking::{
     Acted, Silence, ask_for_build, ask_for_verdicts, ask_for_verification, ask_for_views,
     give_build_back, give_silent_leader_up, next_wake,
@@ -19,6 +20,7 @@ use simplex_asking::{
 use simplex_exchange::hand_out;
 use simplex_journal::Disk;
 use simplex_member::{Action, NodeFault};
+use simplex_recording::a_ledger_at_rest_leaves_its_record;
 use simplex_rules::Elector;
 use simplex_types::{Digest, Scheme};
 
@@ -32,6 +34,8 @@ impl<S: Scheme<D> + Drop, L: Elector<S, D>, D: Digest, K: Disk> Node<S, L, D, K>
         ensures tried { AtOwn S.Scheme L.Elector K.Disk (formats D.PartialEq.eq D.spelling S.Signature.spelling S.Certificate.spelling D.reading S.Signature.reading S.Certificate.reading) self.old (λ f s h. WasTried S.Scheme L.Elector K.Disk f s is_put_off (NoVerdictToAsk S.Scheme f s) self.old self.new h out.old.items out.new.items result) }
         ensures faults { TellsOfDisk K.Disk (disk_of self.old) (disk_of self.new) result }
     {
+        a_ledger_at_rest_leaves_its_record::<S, D, K>();
+        silent_points_leave_votes::<S, D>();
         let alloc = self.settings.alloc;
         ask_for_verdicts(alloc, &mut self.voter, &self.repair, &mut self.tables, out)
     }
@@ -48,6 +52,8 @@ impl<S: Scheme<D> + Drop, L: Elector<S, D>, D: Digest, K: Disk> Node<S, L, D, K>
         ensures tried { AtOwn S.Scheme L.Elector K.Disk (formats D.PartialEq.eq D.spelling S.Signature.spelling S.Certificate.spelling D.reading S.Signature.reading S.Certificate.reading) self.old (λ f s h. WasTried S.Scheme L.Elector K.Disk f s is_latch (λ end. HasNumber end → NoVerificationToAsk S.Scheme f s end) self.old self.new h out.old.items out.new.items result) }
         ensures faults { TellsOfDisk K.Disk (disk_of self.old) (disk_of self.new) result }
     {
+        a_ledger_at_rest_leaves_its_record::<S, D, K>();
+        silent_points_leave_votes::<S, D>();
         let alloc = self.settings.alloc;
         ask_for_verification(alloc, &mut self.voter, &self.repair, &mut self.tables, out)
     }
@@ -61,6 +67,8 @@ impl<S: Scheme<D> + Drop, L: Elector<S, D>, D: Digest, K: Disk> Node<S, L, D, K>
         ensures tried { AtOwn S.Scheme L.Elector K.Disk (formats D.PartialEq.eq D.spelling S.Signature.spelling S.Certificate.spelling D.reading S.Signature.reading S.Certificate.reading) self.old (λ f s h. (actions : List (Action S D S.PublicKey S.Signature S.Certificate)) → WasTried S.Scheme L.Elector K.Disk f s is_none (NoBuildToGiveBack S.Scheme f s) self.old self.new h actions actions result) }
         ensures faults { TellsOfDisk K.Disk (disk_of self.old) (disk_of self.new) result }
     {
+        a_ledger_at_rest_leaves_its_record::<S, D, K>();
+        silent_points_leave_votes::<S, D>();
         give_build_back(&mut self.voter, &mut self.tables)
     }
 
@@ -73,6 +81,8 @@ impl<S: Scheme<D> + Drop, L: Elector<S, D>, D: Digest, K: Disk> Node<S, L, D, K>
         ensures tried { AtOwn S.Scheme L.Elector K.Disk (formats D.PartialEq.eq D.spelling S.Signature.spelling S.Certificate.spelling D.reading S.Signature.reading S.Certificate.reading) self.old (λ f s h. WasTried S.Scheme L.Elector K.Disk f s is_none (NoBuildToAsk S.Scheme f s) self.old self.new h out.old.items out.new.items result) }
         ensures faults { TellsOfDisk K.Disk (disk_of self.old) (disk_of self.new) result }
     {
+        a_ledger_at_rest_leaves_its_record::<S, D, K>();
+        silent_points_leave_votes::<S, D>();
         ask_for_build(&mut self.voter, &mut self.tables, out)
     }
 
@@ -85,6 +95,8 @@ impl<S: Scheme<D> + Drop, L: Elector<S, D>, D: Digest, K: Disk> Node<S, L, D, K>
         ensures tried { AtOwn S.Scheme L.Elector K.Disk (formats D.PartialEq.eq D.spelling S.Signature.spelling S.Certificate.spelling D.reading S.Signature.reading S.Certificate.reading) self.old (λ f s h. WasTried S.Scheme L.Elector K.Disk f s is_none (NoViewToAsk S.Scheme f s) self.old self.new h out.old.items out.new.items result) }
         ensures faults { TellsOfDisk K.Disk (disk_of self.old) (disk_of self.new) result }
     {
+        a_ledger_at_rest_leaves_its_record::<S, D, K>();
+        silent_points_leave_votes::<S, D>();
         let alloc = self.settings.alloc;
         ask_for_views(alloc, &self.repair, &mut self.tables, out)
     }
@@ -98,6 +110,8 @@ impl<S: Scheme<D> + Drop, L: Elector<S, D>, D: Digest, K: Disk> Node<S, L, D, K>
         ensures tried { AtOwn S.Scheme L.Elector K.Disk (formats D.PartialEq.eq D.spelling S.Signature.spelling S.Certificate.spelling D.reading S.Signature.reading S.Certificate.reading) self.old (λ f s h. (actions : List (Action S D S.PublicKey S.Signature S.Certificate)) → WasTried S.Scheme L.Elector K.Disk f s is_none (NoSilence S.Scheme f s) self.old self.new h actions actions result) }
         ensures faults { TellsOfDisk K.Disk (disk_of self.old) (disk_of self.new) result }
     {
+        a_ledger_at_rest_leaves_its_record::<S, D, K>();
+        silent_points_leave_votes::<S, D>();
         let silence = self.silence();
         give_silent_leader_up(silence, &mut self.voter, &self.tables)
     }
@@ -111,6 +125,8 @@ impl<S: Scheme<D> + Drop, L: Elector<S, D>, D: Digest, K: Disk> Node<S, L, D, K>
         ensures settled { AtOwn S.Scheme L.Elector K.Disk (formats D.PartialEq.eq D.spelling S.Signature.spelling S.Certificate.spelling D.reading S.Signature.reading S.Certificate.reading) self.old (λ f s h. NoneDue S.Scheme f s h → WasSettled S.Scheme L.Elector K.Disk f s self.old self.new h out.old.items out.new.items result) }
         ensures faults { TellsOfDisk K.Disk (disk_of self.old) (disk_of self.new) result }
     {
+        a_ledger_at_rest_leaves_its_record::<S, D, K>();
+        silent_points_leave_votes::<S, D>();
         let silence = self.silence();
         match next_wake(silence, &mut self.voter, &self.tables) {
             Ok(Some(moment)) => hand_out(Action::Wake(moment), out),

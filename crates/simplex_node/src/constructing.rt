@@ -6,7 +6,7 @@ ghost use Rattle.simplex_rules.specs.declared.kind.Kind.{Kind};
 ghost use Rattle.simplex_verifier.specs.declared.batch.Batch.{Batch};
 ghost use Rattle.simplex_journal.specs.Disk.{LeavesOnly};
 ghost use Rattle.simplex_asking.specs.Asking.{is_none};
-ghost use Rattle.simplex_asking.specs.declared.acted.Acted.TheVariants as acted;
+ghost use Rattle.simplex_asking.specs.declared.acted.Acted.TheVariants as came;
 ghost use Rattle.simplex_exchange.specs.Handing.{HandsOut};
 ghost use Rattle.simplex_member.specs.declared.action.Action.{Action};
 ghost use Rattle.simplex_member.specs.declared.fault.NodeFault.TheVariants as step_fault;
@@ -24,7 +24,7 @@ ghost use Rattle.simplex_node.specs.Stepping.{TellsOfDisk};
 ghost use Rattle.simplex_node.specs.Taking.{IsLeftBy, IsTaken};
 
 use crate::entering::enter;
-use crate::learning::{tell_repair, tell_voter};
+use crate::learning::{tell_repair, tell_voter, what_is_not_recorded_is_unknown};
 use crate::node::Node;
 use crate::recording::record;
 use simplex_acceptance::Due;
@@ -35,6 +35,7 @@ use simplex_exchange::block_all;
 use simplex_journal::Disk;
 use simplex_leading::name_leader;
 use simplex_member::{Action, NodeFault};
+use simplex_recording::{a_ledger_at_rest_leaves_its_record, quiet_points_leave_the_tables};
 use simplex_rules::Elector;
 use simplex_types::{Digest, Proposal, Scheme, View, Write};
 
@@ -48,6 +49,8 @@ impl<S: Scheme<D> + Drop, L: Elector<S, D>, D: Digest, K: Disk> Node<S, L, D, K>
         ensures tried { AtOwn S.Scheme L.Elector K.Disk (formats D.PartialEq.eq D.spelling S.Signature.spelling S.Certificate.spelling D.reading S.Signature.reading S.Certificate.reading) self.old (λ f s h. (actions : List (Action S D S.PublicKey S.Signature S.Certificate)) → WasTried S.Scheme L.Elector K.Disk f s is_none (NoLeaderToName s) self.old self.new h actions actions result) }
         ensures faults { TellsOfDisk K.Disk (disk_of self.old) (disk_of self.new) result }
     {
+        a_ledger_at_rest_leaves_its_record::<S, D, K>();
+        quiet_points_leave_the_tables::<S, D>();
         name_leader(&self.voter, &mut self.acceptance)
     }
 
@@ -63,6 +66,8 @@ impl<S: Scheme<D> + Drop, L: Elector<S, D>, D: Digest, K: Disk> Node<S, L, D, K>
         ensures tried { AtOwn S.Scheme L.Elector K.Disk (formats D.PartialEq.eq D.spelling S.Signature.spelling S.Certificate.spelling D.reading S.Signature.reading S.Certificate.reading) self.old (λ f s h. WasTried S.Scheme L.Elector K.Disk f s is_none (NoConstructionToMake S.Scheme f s) self.old self.new h out.old.items out.new.items result) }
         ensures faults { TellsOfDisk K.Disk (disk_of self.old) (disk_of self.new) result }
     {
+        a_ledger_at_rest_leaves_its_record::<S, D, K>();
+        quiet_points_leave_the_tables::<S, D>();
         match self.acceptance.next_due() {
             Ok(Some((view, Due::Forwards(proposal)))) => self.take_proposal(view, &proposal),
             Ok(Some((_, Due::Made(batch)))) => self.take_batch(batch, out),
@@ -73,7 +78,7 @@ impl<S: Scheme<D> + Drop, L: Elector<S, D>, D: Digest, K: Disk> Node<S, L, D, K>
 
     /// Tells the voter of a proposal that the votes of its view forward.
     fn take_proposal(&mut self, view: View, proposal: &Proposal<D>) -> Result<Acted, NodeFault>
-        ensures did { IfOk result (λ done. done ≡ acted.Did) }
+        ensures did { IfOk result (λ done. done ≡ came.Did) }
         ensures taken { OnOk result ((s : Setup S D S.Certificate) (h : History S D S.PublicKey S.Signature S.Certificate) → let f = (formats D.PartialEq.eq D.spelling S.Signature.spelling S.Certificate.spelling D.reading S.Signature.reading S.Certificate.reading (S.size s.voter.scheme)) in
             VotesAreAhead S.Scheme L.Elector K.Disk f s self.old h (Forwards view proposal.now) → Allowed S.Scheme f s h (Forwards view proposal.now) → NodeKeeps S.Scheme L.Elector K.Disk f s self.new (Forwards view proposal.now ∷ h)) }
         ensures disk { disk_of self.new ≡ disk_of self.old }
@@ -91,7 +96,7 @@ impl<S: Scheme<D> + Drop, L: Elector<S, D>, D: Digest, K: Disk> Node<S, L, D, K>
         batch: Batch<Certificate<S, D>>,
         out: &mut Vec<Action<S, D>>,
     ) -> Result<Acted, NodeFault>
-        ensures did { IfOk result (λ done. done ≡ acted.Did) }
+        ensures did { IfOk result (λ done. done ≡ came.Did) }
         ensures taken { OnOk result ((s : Setup S D S.Certificate) (h : History S D S.PublicKey S.Signature S.Certificate) (view : ℕ) (kind : Kind) → let f = (formats D.PartialEq.eq D.spelling S.Signature.spelling S.Certificate.spelling D.reading S.Signature.reading S.Certificate.reading (S.size s.voter.scheme)) in
             VotesGoAhead S.Scheme L.Elector K.Disk f s self.old h (Constructs view kind batch) → Allowed S.Scheme f s h (Constructs view kind batch) → IsTaken S.Scheme L.Elector K.Disk f s self.new h (Constructs view kind batch) out.old.items out.new.items) }
         ensures any_moment { (s : Setup S D S.Certificate) (h : History S D S.PublicKey S.Signature S.Certificate) (view : ℕ) (kind : Kind) → let f = (formats D.PartialEq.eq D.spelling S.Signature.spelling S.Certificate.spelling D.reading S.Signature.reading S.Certificate.reading (S.size s.voter.scheme)) in
@@ -127,6 +132,7 @@ impl<S: Scheme<D> + Drop, L: Elector<S, D>, D: Digest, K: Disk> Node<S, L, D, K>
             VotesGoAhead S.Scheme L.Elector K.Disk f s self.old h (Constructs view kind batch) → Allowed S.Scheme f s h (Constructs view kind batch) → batch.certificate ≡ Some certificate → K.keeps → LeavesOnly (K.calls (disk_of self.old)) (K.calls (disk_of self.new)) (IsLeftBy S.Scheme f s h (Constructs view kind batch)) }
         ensures faults { TellsOfDisk K.Disk (disk_of self.old) (disk_of self.new) result }
     {
+        quiet_points_leave_the_tables::<S, D>();
         let was = self.voter.current_view();
         let low = self.voter.last_finalized();
         match self.learn_made(&certificate) {
@@ -148,6 +154,9 @@ impl<S: Scheme<D> + Drop, L: Elector<S, D>, D: Digest, K: Disk> Node<S, L, D, K>
             VotesGoAhead S.Scheme L.Elector K.Disk f s self.old h (Constructs view kind batch) → Allowed S.Scheme f s h (Constructs view kind batch) → batch.certificate ≡ Some certificate.now → K.keeps → LeavesOnly (K.calls (disk_of self.old)) (K.calls (disk_of self.new)) (IsLeftBy S.Scheme f s h (Constructs view kind batch)) }
         ensures faults { TellsOfDisk K.Disk (disk_of self.old) (disk_of self.new) result }
     {
+        what_is_not_recorded_is_unknown::<S, D>();
+        a_ledger_at_rest_leaves_its_record::<S, D, K>();
+        quiet_points_leave_the_tables::<S, D>();
         let alloc = self.settings.alloc;
         let now = self.tables.moment();
         let Ok(artifact) = tell_voter(alloc, now, certificate, &mut self.voter) else {

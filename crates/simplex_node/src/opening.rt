@@ -108,8 +108,8 @@ fn begin<S: Scheme<D> + Drop, L: Elector<S, D>, D: Digest, K: Disk>(
     node: Node<S, L, D, K>,
     actions: Vec<Action<S, D>>,
 ) -> Result<(Node<S, L, D, K>, Vec<Action<S, D>>), (OpenFault, K)>
-    ensures opened { IfOk result (λ r. (n : ℕ) (s : Setup S D S.Certificate) (Readable : Artifact S D S.PublicKey S.Signature S.Certificate → Type 0) (on : K) (now : ℕ) → n ≡ S.size s.voter.scheme → let f = formats D.PartialEq.eq D.spelling S.Signature.spelling S.Certificate.spelling D.reading S.Signature.reading S.Certificate.reading n in
-        IsOpen S.Scheme L.Elector K.Disk f s Readable on now node actions.items → IsOpenAndSettled S.Scheme L.Elector K.Disk f s Readable on now r.0 r.1.items) }
+    ensures opened { IfOk result (λ r. (n : ℕ) (s : Setup S D S.Certificate) (Fits : Artifact S D S.PublicKey S.Signature S.Certificate → Type 0) (on : K) (now : ℕ) → n ≡ S.size s.voter.scheme → let f = formats D.PartialEq.eq D.spelling S.Signature.spelling S.Certificate.spelling D.reading S.Signature.reading S.Certificate.reading n in
+        IsOpen S.Scheme L.Elector K.Disk f s Fits on now node actions.items → IsOpenAndSettled S.Scheme L.Elector K.Disk f s Fits on now r.0 r.1.items) }
     ensures memory { IfErr result (λ r. (r.0 ≡ open_fault.Memory) ⊎ (r.0 ≡ open_fault.Device)) }
     ensures device { IfErr result (λ r. r.0 ≡ open_fault.Device → K.failed r.1 ≡ counted false (K.failed (disk_of node))) }
     ensures no_device { IfErr result (λ r. r.0 ≢ open_fault.Device → K.failed r.1 ≡ K.failed (disk_of node)) }
