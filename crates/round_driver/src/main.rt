@@ -6,22 +6,22 @@ mod views;
 
 use crate::slots::call_slot;
 use crate::views::ViewRound;
-use script_words::{Layer, Say, Trouble, Words, play};
+use script_words::{Committee, Layer, Say, Trouble, Words, play};
 use simplex_round::Slot;
-use simplex_types::Sha256Digest;
+use simplex_types::{PlainKey, PlainScheme, Scheme, Sha256Digest};
 use std::alloc::Global;
 use std::io;
 use std::process::ExitCode;
 
 /// What a script plays on.
 #[derive(Drop)]
-enum Layers {
+enum Layers<S: Scheme<Sha256Digest>> {
     Nothing,
     Slot(Slot<Sha256Digest>),
-    View(ViewRound),
+    View(ViewRound<S>),
 }
 
-impl Layer for Layers {
+impl<S: Committee + Scheme<Sha256Digest, PublicKey = PlainKey>> Layer for Layers<S> {
     fn reset(&mut self, words: &mut Words<'_>, alloc: Global) -> Result<(), Trouble> {
         match words.word() {
             "slot" => {
@@ -46,8 +46,12 @@ impl Layer for Layers {
     }
 }
 
+/// Plays the script of standard input, whose committees have this scheme.
+fn play_with<S: Committee + Scheme<Sha256Digest, PublicKey = PlainKey>>(rt: &HostRuntime) -> u8 {
+    let mut layers = Layers::<S>::Nothing;
+    play(rt.alloc(), &mut layers, rt.reader(), &mut io::writer(rt))
+}
+
 fn main(rt: HostRuntime) -> ExitCode {
-    let mut layers = Layers::Nothing;
-    let status = play(rt.alloc(), &mut layers, rt.reader(), &mut io::writer(&rt));
-    ExitCode::from(status)
+    ExitCode::from(play_with::<PlainScheme>(&rt))
 }

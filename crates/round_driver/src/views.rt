@@ -1,10 +1,11 @@
-//! Calls on the round of a view.
+//! Calls on the round of a view, whatever its scheme: at one scheme they would cost the prover several times as much.
 
 use script_certificates::{CertificateWords, SayCertificates};
 use script_words::{Committee, Say, Trouble, Words};
+use simplex_certificates::{Finalization, Notarization, Nullification};
 use simplex_history::{TimeoutReason, Token};
 use simplex_round::{Leader, Round};
-use simplex_types::{Duplicate, PlainKey, PlainScheme, Sha256Digest};
+use simplex_types::{Duplicate, PlainKey, Scheme, Sha256Digest};
 use std::alloc::Global;
 use std::rc::Rc;
 
@@ -24,9 +25,9 @@ const REASONS: [TimeoutReason; 10] = [
 
 /// A round, and the size of its committee.
 #[derive(Drop)]
-pub(crate) struct ViewRound {
+pub(crate) struct ViewRound<S: Scheme<Sha256Digest>> {
     n: u32,
-    round: Round<PlainScheme, Sha256Digest>,
+    round: Round<S, Sha256Digest>,
 }
 
 /// Says when and why the view is given up, if it is.
@@ -41,14 +42,38 @@ fn say_timeout(next: Option<(u64, TimeoutReason)>, say: &mut Say) -> Result<(), 
     }
 }
 
-impl ViewRound {
+/// Says a notarization that was handed out.
+fn say_notarization<S: Committee>(
+    sent: Option<Notarization<S, Sha256Digest>>,
+    say: &mut Say,
+) -> Result<(), Trouble> {
+    say.notarization_or(sent.as_ref())
+}
+
+/// Says a nullification that was handed out.
+fn say_nullification<S: Committee>(
+    sent: Option<Nullification<S, Sha256Digest>>,
+    say: &mut Say,
+) -> Result<(), Trouble> {
+    say.nullification_or(sent.as_ref())
+}
+
+/// Says a finalization that was handed out.
+fn say_finalization<S: Committee>(
+    sent: Option<Finalization<S, Sha256Digest>>,
+    say: &mut Say,
+) -> Result<(), Trouble> {
+    say.finalization_or(sent.as_ref())
+}
+
+impl<S: Committee + Scheme<Sha256Digest, PublicKey = PlainKey>> ViewRound<S> {
     /// `N ME EPOCH VIEW`.
     pub(crate) fn new(alloc: Global, words: &mut Words<'_>) -> Result<Self, Trouble> {
         let n = words.index()?;
         let me = words.optional_member()?;
         let at = words.round()?;
         words.end()?;
-        let scheme = PlainScheme::member_of(alloc, n, me, 0)?;
+        let scheme = S::member_of(alloc, n, me, 0)?;
         let scheme = Rc::new(alloc, scheme)?;
         Ok(ViewRound {
             n,
@@ -271,7 +296,7 @@ impl ViewRound {
     }
 
     fn replay(&mut self, words: &mut Words<'_>, say: &mut Say) -> Result<(), Trouble> {
-        let artifact = words.artifact::<PlainScheme>(say.alloc, self.n)?;
+        let artifact = words.artifact::<S>(say.alloc, self.n)?;
         words.end()?;
         self.round.replay(&artifact);
         say.ok()
@@ -281,7 +306,7 @@ impl ViewRound {
         if words.word() != "notarization" {
             return Err(Trouble::Unreadable);
         }
-        let certificate = words.notarization::<PlainScheme>(say.alloc, self.n)?;
+        let certificate = words.notarization::<S>(say.alloc, self.n)?;
         words.end()?;
         say_added(self.round.add_notarization(certificate), say)
     }
@@ -290,7 +315,7 @@ impl ViewRound {
         if words.word() != "nullification" {
             return Err(Trouble::Unreadable);
         }
-        let certificate = words.nullification::<PlainScheme>(say.alloc, self.n)?;
+        let certificate = words.nullification::<S>(say.alloc, self.n)?;
         words.end()?;
         say.truth(self.round.add_nullification(certificate))
     }
@@ -299,7 +324,7 @@ impl ViewRound {
         if words.word() != "finalization" {
             return Err(Trouble::Unreadable);
         }
-        let certificate = words.finalization::<PlainScheme>(say.alloc, self.n)?;
+        let certificate = words.finalization::<S>(say.alloc, self.n)?;
         words.end()?;
         say_added(self.round.add_finalization(certificate), say)
     }
@@ -350,13 +375,13 @@ impl ViewRound {
     fn hand_out(&mut self, name: &str, say: &mut Say) -> Result<(), Trouble> {
         match name {
             "broadcast_notarization" => {
-                say.notarization_or(self.round.broadcast_notarization(say.alloc)?.as_ref())
+                say_notarization(self.round.broadcast_notarization(say.alloc)?, say)
             }
             "broadcast_nullification" => {
-                say.nullification_or(self.round.broadcast_nullification(say.alloc)?.as_ref())
+                say_nullification(self.round.broadcast_nullification(say.alloc)?, say)
             }
             "broadcast_finalization" => {
-                say.finalization_or(self.round.broadcast_finalization(say.alloc)?.as_ref())
+                say_finalization(self.round.broadcast_finalization(say.alloc)?, say)
             }
             _ => self.ask_of_proposal(name, say),
         }
