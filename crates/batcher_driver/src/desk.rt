@@ -1,29 +1,31 @@
-//! Calls on the votes of a round that count for certificates.
+//! Calls on the votes of a round that count for certificates, whatever the scheme: at one scheme they would cost the
+//! prover several times as much.
 
 use crate::answers::{say_batch, say_fault};
-use script_messages::{CertificateWords, MessageWords};
+use crate::reading::last_vote;
+use script_messages::CertificateWords;
 use script_words::{Committee, Say, Trouble, Words};
 use simplex_batcher::Verifier;
 use simplex_messages::Notarize;
-use simplex_types::{PlainScheme, Sha256Digest};
+use simplex_types::{Participant, Scheme, Sha256Digest};
 use std::alloc::Global;
 use std::rc::Rc;
 
 /// A verifier, and the size of its committee.
 #[derive(Drop)]
-pub(crate) struct Desk {
+pub(crate) struct Desk<S: Scheme<Sha256Digest>> {
     n: u32,
-    verifier: Verifier<PlainScheme, Sha256Digest>,
+    verifier: Verifier<S, Sha256Digest>,
 }
 
-impl Desk {
+impl<S: Committee> Desk<S> {
     /// `N NEEDED EPOCH VIEW`.
     pub(crate) fn new(alloc: Global, words: &mut Words<'_>) -> Result<Self, Trouble> {
         let n = words.index()?;
         let needed = words.index()?;
         let at = words.round()?;
         words.end()?;
-        let scheme = PlainScheme::member_of(alloc, n, None, 0)?;
+        let scheme = S::member_of(alloc, n, None, 0)?;
         let scheme = Rc::new(alloc, scheme)?;
         Ok(Desk {
             n,
@@ -51,8 +53,7 @@ impl Desk {
     /// `add VERIFIED VOTE`: one that is known to attest, or one that waits to be judged.
     fn add(&mut self, words: &mut Words<'_>, say: &mut Say) -> Result<(), Trouble> {
         let is_verified = words.truth()?;
-        let vote = words.vote(say.alloc, self.n)?;
-        words.end()?;
+        let vote = last_vote(words, say.alloc, self.n)?;
         self.verifier.add(vote, is_verified)?;
         say.ok()
     }
@@ -60,13 +61,27 @@ impl Desk {
     /// `set_leader I -`, or `set_leader I VOTE` with the leader's notarize.
     fn set_leader(&mut self, words: &mut Words<'_>, say: &mut Say) -> Result<(), Trouble> {
         let leader = words.member()?;
-        let notarize: Option<Notarize<PlainScheme, Sha256Digest>> = match words.word() {
-            "-" => None,
-            "notarize" => Some(words.notarize(say.alloc, self.n)?),
-            _ => return Err(Trouble::Unreadable),
-        };
-        words.end()?;
-        match self.verifier.set_leader(leader, notarize.as_ref()) {
+        match words.word() {
+            "-" => {
+                words.end()?;
+                self.lead(leader, None, say)
+            }
+            "notarize" => {
+                let notarize = words.notarize(say.alloc, self.n)?;
+                words.end()?;
+                self.lead(leader, Some(&notarize), say)
+            }
+            _ => Err(Trouble::Unreadable),
+        }
+    }
+
+    fn lead(
+        &mut self,
+        leader: Participant,
+        notarize: Option<&Notarize<S, Sha256Digest>>,
+        say: &mut Say,
+    ) -> Result<(), Trouble> {
+        match self.verifier.set_leader(leader, notarize) {
             Ok(()) => say.ok(),
             Err(fault) => say_fault(fault, say),
         }

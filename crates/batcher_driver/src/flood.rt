@@ -1,7 +1,7 @@
 //! A flood of votes.
 
 use script_words::{Committee, Say, Signing, Trouble, attest};
-use simplex_batcher::{BatcherFault, Round};
+use simplex_batcher::{Admission, BatcherFault, Round};
 use simplex_messages::{Nullify, ProposalVote, Vote};
 use simplex_types::{Participant, Proposal, Round as Position, Sha256Digest, Subject, View};
 use std::alloc::Global;
@@ -29,6 +29,16 @@ struct Counts {
     accepted: u64,
     blocked: u64,
     reported: u64,
+}
+
+impl Counts {
+    /// Counts what came of a vote.
+    fn add<S: Committee>(&mut self, admission: &Admission<S, Sha256Digest>) {
+        self.accepted = self.accepted.saturating_add(u64::from(admission.added));
+        self.blocked = self.blocked.saturating_add(u64::from(admission.block));
+        let is_reported = admission.report.is_some();
+        self.reported = self.reported.saturating_add(u64::from(is_reported));
+    }
 }
 
 /// Each of so many members hands in its votes so many times, each vote signed well: `ACCEPTED BLOCKED REPORTED`.
@@ -68,17 +78,26 @@ fn pour_each<S: Committee>(
 ) -> Result<(), Trouble> {
     for sent in EACH {
         let vote = vote_of::<S>(alloc, n, signer, *at, sent)?;
-        let admission = match round.add_network(signer, vote) {
-            Ok(admission) => admission,
-            Err(BatcherFault::Memory) => return Err(Trouble::Memory),
-            Err(_) => return Err(Trouble::Condition),
-        };
-        counts.accepted = counts.accepted.saturating_add(u64::from(admission.added));
-        counts.blocked = counts.blocked.saturating_add(u64::from(admission.block));
-        let is_reported = admission.report.is_some();
-        counts.reported = counts.reported.saturating_add(u64::from(is_reported));
+        pour_one(round, signer, vote, counts)?;
     }
     Ok(())
+}
+
+/// A member hands in a vote.
+fn pour_one<S: Committee>(
+    round: &mut Round<S, Sha256Digest>,
+    signer: Participant,
+    vote: Vote<S, Sha256Digest>,
+    counts: &mut Counts,
+) -> Result<(), Trouble> {
+    match round.add_network(signer, vote) {
+        Ok(admission) => {
+            counts.add(&admission);
+            Ok(())
+        }
+        Err(BatcherFault::Memory) => Err(Trouble::Memory),
+        Err(_) => Err(Trouble::Condition),
+    }
 }
 
 /// A member's vote of this round.

@@ -4,6 +4,7 @@
 mod answers;
 mod desk;
 mod flood;
+mod reading;
 mod rounds;
 
 use crate::desk::Desk;
@@ -23,7 +24,7 @@ enum Layers {
     Plain(Votes<PlainScheme>),
     Salted(Votes<SaltedScheme>),
     Serial(Votes<OneByOne>),
-    Desk(Desk),
+    Desk(Desk<PlainScheme>),
 }
 
 /// A round under the scheme of the next word.
@@ -38,12 +39,11 @@ fn opened(alloc: Global, words: &mut Words<'_>) -> Result<Layers, Trouble> {
 
 impl Layer for Layers {
     fn reset(&mut self, words: &mut Words<'_>, alloc: Global) -> Result<(), Trouble> {
-        let next = match words.word() {
-            "batcher" => opened(alloc, words)?,
-            "verifier" => Layers::Desk(Desk::new(alloc, words)?),
+        match words.word() {
+            "batcher" => *self = opened(alloc, words)?,
+            "verifier" => *self = Layers::Desk(Desk::new(alloc, words)?),
             _ => return Err(Trouble::Unreadable),
-        };
-        *self = next;
+        }
         Ok(())
     }
 

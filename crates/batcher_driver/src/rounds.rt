@@ -2,12 +2,44 @@
 
 use crate::answers::{kind_of, say_admission, say_batch, say_cast, say_fault};
 use crate::flood::pour;
-use script_messages::{CertificateWords, MessageWords};
+use crate::reading::{last_certificate, last_vote};
 use script_words::{Committee, Say, Trouble, Words};
 use simplex_batcher::Round;
-use simplex_types::Sha256Digest;
+use simplex_types::{Round as Position, Sha256Digest};
 use std::alloc::Global;
 use std::rc::Rc;
+
+/// What a round is made for.
+#[derive(Clone, Copy)]
+enum Mode {
+    New,
+    Track,
+    Skipped,
+}
+
+/// `new`, `track` or `skipped`.
+fn mode_of(words: &mut Words<'_>) -> Result<Mode, Trouble> {
+    match words.word() {
+        "new" => Ok(Mode::New),
+        "track" => Ok(Mode::Track),
+        "skipped" => Ok(Mode::Skipped),
+        _ => Err(Trouble::Unreadable),
+    }
+}
+
+/// A round to which nothing has happened.
+fn begun<S: Committee>(
+    alloc: Global,
+    at: Position,
+    scheme: Rc<S>,
+    mode: Mode,
+) -> Round<S, Sha256Digest> {
+    match mode {
+        Mode::New => Round::new(alloc, at, scheme, false),
+        Mode::Track => Round::new(alloc, at, scheme, true),
+        Mode::Skipped => Round::skipped(alloc, at, scheme),
+    }
+}
 
 /// A round, and the size of its committee.
 #[derive(Drop)]
@@ -22,17 +54,14 @@ impl<S: Committee> Votes<S> {
         let n = words.index()?;
         let me = words.optional_member()?;
         let at = words.round()?;
-        let mode = words.word();
+        let mode = mode_of(words)?;
         words.end()?;
         let scheme = S::member_of(alloc, n, me, 0)?;
         let scheme = Rc::new(alloc, scheme)?;
-        let round = match mode {
-            "new" => Round::new(alloc, at, scheme, false),
-            "track" => Round::new(alloc, at, scheme, true),
-            "skipped" => Round::skipped(alloc, at, scheme),
-            _ => return Err(Trouble::Unreadable),
-        };
-        Ok(Votes { n, round })
+        Ok(Votes {
+            n,
+            round: begun(alloc, at, scheme, mode),
+        })
     }
 
     /// Makes the call of this name.
@@ -56,8 +85,7 @@ impl<S: Committee> Votes<S> {
 
     fn add_network(&mut self, words: &mut Words<'_>, say: &mut Say) -> Result<(), Trouble> {
         let sender = words.member()?;
-        let vote = words.vote(say.alloc, self.n)?;
-        words.end()?;
+        let vote = last_vote(words, say.alloc, self.n)?;
         match self.round.add_network(sender, vote) {
             Ok(admission) => say_admission(&admission, say),
             Err(fault) => say_fault(fault, say),
@@ -65,8 +93,7 @@ impl<S: Committee> Votes<S> {
     }
 
     fn accept_vote(&mut self, words: &mut Words<'_>, say: &mut Say) -> Result<(), Trouble> {
-        let vote = words.vote(say.alloc, self.n)?;
-        words.end()?;
+        let vote = last_vote(words, say.alloc, self.n)?;
         match self.round.accept_vote(vote) {
             Ok(report) => say_cast(&report, say),
             Err(fault) => say_fault(fault, say),
@@ -74,8 +101,7 @@ impl<S: Committee> Votes<S> {
     }
 
     fn record_certificate(&mut self, words: &mut Words<'_>, say: &mut Say) -> Result<(), Trouble> {
-        let certificate = words.certificate(say.alloc, self.n)?;
-        words.end()?;
+        let certificate = last_certificate(words, say.alloc, self.n)?;
         match self.round.record_certificate(&certificate) {
             Ok(selects) => say.truth(selects),
             Err(fault) => say_fault(fault, say),
@@ -153,14 +179,12 @@ impl<S: Committee> Votes<S> {
     }
 
     fn belongs(&self, words: &mut Words<'_>, say: &mut Say) -> Result<(), Trouble> {
-        let vote = words.vote(say.alloc, self.n)?;
-        words.end()?;
+        let vote = last_vote(words, say.alloc, self.n)?;
         say.truth(self.round.belongs(&vote))
     }
 
     fn belongs_certificate(&self, words: &mut Words<'_>, say: &mut Say) -> Result<(), Trouble> {
-        let certificate = words.certificate(say.alloc, self.n)?;
-        words.end()?;
+        let certificate = last_certificate(words, say.alloc, self.n)?;
         say.truth(self.round.belongs_certificate(&certificate))
     }
 }
