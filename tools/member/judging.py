@@ -16,7 +16,6 @@ stand as words (see words.py) or as the hexadecimal digits of their spelling.
     event EVENT                   => REPLY, fault NUMBER, or crash
     current_view, last_finalized  => NUMBER
     record                        => the artifacts, as behind found
-    close, is_failed              => ok; true or false
     fuse K, fail_at K             => ok      calls of the disk fail from now on, which says nothing of a node
 
 Before the first `open` of a case the disk is empty, unless a line tells what it holds. A later `open` finds what the node
@@ -72,18 +71,18 @@ def reset_line(setup):
     return "reset node " + " ".join("-" if it is None else str(it) for it in of)
 
 
-def artifacts_of(text, scheme, sums=False):
+def artifacts_of(text, scheme):
     if text == "-":
         return ()
     parts = text.split(" , ") if " " in text else text.split(",")
-    return tuple(words.artifact_of(part.strip(), scheme, sums) for part in parts)
+    return tuple(words.artifact_of(part.strip(), scheme) for part in parts)
 
 
 class Case:
-    """A node as far as its answers tell, in words with sums where a driver wrote them."""
+    """A node as far as its answers tell."""
 
-    def __init__(self, setup, sums=False):
-        self.sums, self.setup, self.found, self.disk, self.foreign = sums, setup, (), None, None
+    def __init__(self, setup):
+        self.setup, self.found, self.disk, self.foreign = setup, (), None, None
         self.h, self.has_failed, self.may_hold, self.told = None, False, None, []
 
     # ---- what the disk holds
@@ -136,7 +135,7 @@ class Case:
             if answer != f"fault {fault}":
                 raise Disagreement(f"an opening answers {'a reply' if fault is None else f'fault {fault}'}")
             return
-        self.h = opening(self.setup, now, self.found, words.reply_of(answer, self.setup.scheme, self.sums).actions)
+        self.h = opening(self.setup, now, self.found, words.reply_of(answer, self.setup.scheme).actions)
         self.has_failed = False
 
     def event(self, text, answer):
@@ -150,7 +149,7 @@ class Case:
             return
         if answer.startswith("fault"):
             raise Disagreement("no such fault")
-        self.h = step(self.h, event, words.reply_of(answer, self.setup.scheme, self.sums))
+        self.h = step(self.h, event, words.reply_of(answer, self.setup.scheme))
 
     def cut(self, event):
         """The step ends somewhere, and hands nothing out."""
@@ -175,13 +174,7 @@ class Case:
             if answer != str(right):
                 raise Disagreement(f"it is {right}")
         elif name == "record":
-            self.tell_record(artifacts_of(answer, self.setup.scheme, self.sums))
-        elif name == "close":
-            if self.h is not None:
-                self.hold(record(self.h))
-        elif name == "is_failed":
-            if answer != str(self.has_failed).lower():
-                raise Disagreement(f"it is {str(self.has_failed).lower()}")
+            self.tell_record(artifacts_of(answer, self.setup.scheme))
         elif name in ("fuse", "fail_at"):
             int(rest)
         else:
@@ -203,9 +196,9 @@ class Case:
             elif name == "found":
                 call = f"found {artifacts_as(artifacts_of(rest, self.setup.scheme))}"
             if name in ("event", "open"):
-                answer = reply_as(words.reply_of(answer, self.setup.scheme, self.sums))
+                answer = reply_as(words.reply_of(answer, self.setup.scheme))
             elif name == "record":
-                answer = artifacts_as(artifacts_of(answer, self.setup.scheme, self.sums))
+                answer = artifacts_as(artifacts_of(answer, self.setup.scheme))
         except (Unreadable, words.Unclear, ValueError):
             pass
         return f"{call} => {answer}"
@@ -256,9 +249,9 @@ def in_bytes(lines):
 class Judgement:
     """What came of judging lines: how many cases and lines, and the disagreements."""
 
-    def __init__(self, say=None, sums=False):
+    def __init__(self, say=None):
         self.cases, self.lines, self.troubles, self.say = 0, 0, [], say or (lambda *told: None)
-        self.case, self.sums = None, sums
+        self.case = None
 
     def trouble(self, number, call, answer, why):
         said = self.case.in_words(call, answer) if self.case else f"{call} => {answer}"
@@ -270,7 +263,7 @@ class Judgement:
         call = call.removeprefix("not ")
         if call.startswith("reset "):
             self.cases += 1
-            self.case = Case(setup_of(call.removeprefix("reset ")), self.sums)
+            self.case = Case(setup_of(call.removeprefix("reset ")))
             return
         if self.case is None:
             return

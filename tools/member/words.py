@@ -19,13 +19,11 @@
 SIGNERS and MEMBERS are numbers with commas; a signer whose attestation is spoiled has a `!` behind it, and one that salts by s
 has `/s`. ATT is twice the salt of a signature, and one more where its first byte is spoiled.
 """
-from script_rows import sum_of
-
 from . import codec
 from .codec import EVIDENCE, FETCH_CHANNEL, PAYLOAD, VOTE_TAGS, Reader, whole
 from .scheme import key
 from .values import (
-    CERTIFICATE_CHANNEL, CHANNELS, NOTARIZATION, NULLIFICATION, NULLIFY, VOTE_CHANNEL, VOTES_OF, Block, Build, BuiltAnswer,
+    CERTIFICATE_CHANNEL, CHANNELS, NULLIFICATION, NULLIFY, VOTE_CHANNEL, VOTES_OF, Block, Build, BuiltAnswer,
     Certificate, Certified, Certify, CheckedAnswer, Context, Evidence, Finalized, Forward, Moment, Packet, Proposal, Reply, Report,
     Round, Send, Verdict, VerdictAnswer, Verify, Vote, Wake,
 )
@@ -33,27 +31,18 @@ from .values import (
 TRUTHS = {"0": False, "1": True, "-": None}
 
 
-# up to which salt a signature is looked for that a sum tells
-MOST_SALTS = 32
-
-
 class Unclear(Exception):
     """Words that say nothing."""
-
-
-def signatures(it):
-    """The bytes of all signatures of a vote or a certificate."""
-    return it.signature if isinstance(it, Vote) else b"".join(signature for _, signature in it.attestations)
 
 
 # ---- reading
 
 
 class Words:
-    """Words that are read from left to right, for a committee's scheme; with sums where a driver wrote them."""
+    """Words that are read from left to right, for a committee's scheme."""
 
-    def __init__(self, text, scheme, sums=False):
-        self.words, self.scheme, self.sums = text.split(), scheme, sums
+    def __init__(self, text, scheme):
+        self.words, self.scheme = text.split(), scheme
 
     def word(self):
         if not self.words:
@@ -93,28 +82,16 @@ class Words:
 
     def vote(self, kind):
         signer, attestation = self.number(), self.number()
-        on = self.on(kind)
-        if self.sums:
-            return self.summed(attestation, (self.sign(kind, on, signer, it // 2, it % 2) for it in range(2 * MOST_SALTS)))
-        return self.sign(kind, on, signer, attestation // 2, attestation % 2)
-
-    def summed(self, told, likely):
-        """Of these votes or certificates the one whose signatures have this sum."""
-        found = next((it for it in likely if sum_of(signatures(it)) == told), None)
-        if found is None:
-            raise Unclear(f"of what is likely nothing has the sum {told}")
-        return found
+        return self.sign(kind, self.on(kind), signer, attestation // 2, attestation % 2)
 
     def certificate(self, kind):
         signers, listed = self.word(), []
-        told = self.number() if self.sums else None
         on = self.on(kind)
         for signer in signers.split(",") if signers != "-" else ():
             index, _, salt = signer.rstrip("!").partition("/")
             vote = self.sign(VOTES_OF[kind], on, int(index), int(salt or 0), signer.endswith("!"))
             listed.append((vote.signer, vote.signature))
-        certificate = Certificate(kind, on, tuple(listed))
-        return self.summed(told, [certificate]) if self.sums else certificate
+        return Certificate(kind, on, tuple(listed))
 
     def message(self, kind):
         if kind in VOTE_TAGS:
@@ -130,7 +107,7 @@ class Words:
     def report(self):
         kind = self.word()
         if kind == "certification":
-            return Certified(self.certificate(self.word() if self.sums else NOTARIZATION))
+            return Certified(self.certificate("notarization"))
         if kind in EVIDENCE:
             return Evidence(kind, self.message(self.word()), self.message(self.word()))
         return self.message(kind)
@@ -199,10 +176,10 @@ def is_hexadecimal(text):
     return " " not in text and len(text) % 2 == 0 and all(digit in "0123456789abcdef" for digit in text)
 
 
-def _either(text, scheme, by_bytes, by_words, sums=False):
+def _either(text, scheme, by_bytes, by_words):
     if is_hexadecimal(text):
         return whole(bytes.fromhex(text), scheme.signature_size, scheme.members, by_bytes)
-    words = Words(text, scheme, sums)
+    words = Words(text, scheme)
     return words.end(by_words(words))
 
 
@@ -211,13 +188,13 @@ def event_of(text, scheme):
     return _either(text, scheme, Reader.event, Words.event)
 
 
-def artifact_of(text, scheme, sums=False):
+def artifact_of(text, scheme):
     if is_hexadecimal(text):
         return whole(bytes.fromhex(text), scheme.signature_size, 65_535, Reader.artifact)
-    return _either(text, scheme, None, Words.artifact, sums)
+    return _either(text, scheme, None, Words.artifact)
 
 
-def reply_of(text, scheme, sums=False):
+def reply_of(text, scheme):
     """A reply by its bytes in hexadecimal digits, or by words."""
     if is_hexadecimal(text):
         return whole(bytes.fromhex(text), scheme.signature_size, scheme.members, Reader.reply)
@@ -228,7 +205,7 @@ def reply_of(text, scheme, sums=False):
         parts = []
     actions = []
     for part in (one for part in parts for one in each_view(part)):
-        words = Words(part, scheme, sums)
+        words = Words(part, scheme)
         actions.append(words.end(words.action()))
     return Reply(refused, tuple(actions))
 
@@ -276,19 +253,7 @@ def message(it, scheme):
     return f"{it.kind} {message(it.first, scheme)} {message(it.second, scheme)}"
 
 
-def with_sums(it, scheme):
-    """The same, as the drivers of the layers write it: with the sum of the signatures in place of ATT, or behind SIGNERS."""
-    if isinstance(it, Vote):
-        return f"{it.kind} {it.signer} {sum_of(signatures(it))} {on(it.on)}"
-    if isinstance(it, Certificate):
-        signers = ",".join(str(signer) for signer, _ in it.attestations) or "-"
-        return f"{it.kind} {signers} {sum_of(signatures(it))} {on(it.on)}"
-    if isinstance(it, Certified):
-        return "certification " + with_sums(it.notarization, scheme)
-    return message(it, scheme) if isinstance(it, Verdict) else f"{it.kind} {with_sums(it.first, scheme)} {with_sums(it.second, scheme)}"
-
-
-def packet(channel, data, scheme, message=message):
+def packet(channel, data, scheme):
     try:
         got = whole(data, scheme.signature_size, scheme.members, lambda reader: Reader.packet(reader, channel))
     except codec.Unreadable:
@@ -317,10 +282,10 @@ def leader(context):
     return int.from_bytes(context.leader, "big")
 
 
-def action(it, scheme, message=message):
+def action(it, scheme):
     match it:
         case Send(to, channel, data):
-            return f"send {'all' if to is None else to} {packet(channel, data, scheme, message)}"
+            return f"send {'all' if to is None else to} {packet(channel, data, scheme)}"
         case Block(member):
             return f"block {member}"
         case Build(number, handoff, c):
@@ -339,9 +304,11 @@ def action(it, scheme, message=message):
             return f"wake {moment}"
 
 
-def reply(it, scheme, message=message):
+def reply(it, scheme):
     parts = [f"refused {it.refused}"] if it.refused else []
-    return " , ".join([*parts, *(action(one, scheme, message) for one in it.actions)]) or "nothing"
+    return " , ".join([*parts, *(action(one, scheme) for one in it.actions)]) or "nothing"
+
+
 
 
 def point(it, scheme):
