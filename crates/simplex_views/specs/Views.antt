@@ -56,15 +56,6 @@ module _ {S D P G C : Type 0} where
     pub there : nullification s h at ≡ Some c
     pub highest : (u : ℕ) → at < u → u ≤ view → nullification s h u ≡ None
 
-  -- a view is tracked: something happened to it, or its leader is known
-  abbrev pub IsTracked : Setup S C → List (Point S D P G C) → ℕ → Type 0
-  IsTracked s h view = (seen s h view ≢ []) ⊎ IsSome (leader s h view)
-
-  -- the views that are dropped by a prune: those that are tracked and need not be kept
-  pub record AreDropped (s : Setup S C) (h : List (Point S D P G C)) (views : List ℕ) : Type 0 where
-    pub exact : (view : ℕ) → Contains views view ↔ ((view < min_active s h) × IsTracked s h view)
-    pub ascend : AllPairs (λ (u w : ℕ). u < w) views
-
   -- these are the views below the floor that are tracked
   pub record AreTrackedBelow (t : Tables S D P G C) (floor : ℕ) (views : List ℕ) : Type 0 where
     pub exact : (view : ℕ) → Contains views view ↔ ((view < floor) × tracking.IsTracked (t.past view) (t.led view))

@@ -21,7 +21,8 @@ ghost use Rattle.simplex_history.specs.Pasts.{bears};
 ghost use Rattle.simplex_tracking.specs.Rounds.{AreUntracked, IsFirstTracked};
 ghost use Rattle.simplex_history.specs.History.{current, last_finalized, min_active, nullification, scheduled_leader, seen};
 ghost use Rattle.simplex_history.specs.Leaders.{handoff_leader, leader};
-ghost use Rattle.simplex_views.specs.Views.{Keeps, AtEach, built, IsHighestCovering, IsTracked, noticed, round_of};
+ghost use Rattle.simplex_decisions.specs.GivingUp.{IsTracked};
+ghost use Rattle.simplex_views.specs.Views.{Keeps, AtEach, built, IsHighestCovering, noticed, round_of};
 
 use crate::progress::Progress;
 use simplex_certificates::{Finalization, Notarization, Nullification};

@@ -10,7 +10,8 @@ ghost use Rattle.simplex_types.specs.Positions.{term_end};
 ghost use Rattle.simplex_history.specs.History.{last_finalized, pruned};
 ghost use Rattle.simplex_tracking.specs.Tracked as many;
 ghost use Rattle.simplex_tracking.specs.Tracked.{Holds, forgotten};
-ghost use Rattle.simplex_views.specs.Views.{Keeps, AreDropped, AreTrackedBelow, AtEach, kept_from};
+ghost use Rattle.simplex_decisions.specs.Answers.{AreDropped};
+ghost use Rattle.simplex_views.specs.Views.{Keeps, AreTrackedBelow, AtEach, kept_from};
 
 use crate::views::Views;
 use simplex_certificates::Nullification;

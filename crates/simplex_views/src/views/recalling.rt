@@ -14,10 +14,10 @@ use simplex_types::{Digest, Proposal, Scheme, View, Viewable};
 use std::alloc::AllocError;
 
 impl<S: Scheme<D> + Drop, L: Elector<S, D>, D: Digest> Views<S, L, D> {
-    /// Takes in an artifact of this member's record, in the order of the record. No view is entered. A vote counts as its
-    /// own: a notarize offers its proposal, where none or the same is held, binds it to the payload that its parent holds,
-    /// where that has no certificate, and names who leads the next view as one that is voted does. Of a certificate it only takes in that it was handed out: the certificate
-    /// itself comes by its `add_` call, and a verdict by `certified`.
+    /// Takes in an artifact of this member's record, in the order of the record. No view is entered. A vote counts as its own: a
+    /// notarize offers its proposal, where none or the same is held, binds it to the payload that its parent holds, where that has
+    /// no certificate, and names who leads the next view as one that is voted does. Of a certificate it only takes in that it was
+    /// handed out: the certificate itself comes by its `add_` call, and a verdict by `certified`.
     ///
     /// # Errors
     ///

@@ -3,7 +3,8 @@
 ghost use Rattle.std.specs.Prelude.{◌≡◌, ◌↔◌, Bool, ◌∷◌, IfOk, IsTrue, OnOk};
 ghost use Rattle.simplex_tracking.specs.Rounds.{Takes};
 ghost use Rattle.simplex_history.specs.History.{pruned, seen};
-ghost use Rattle.simplex_views.specs.Views.{AreDropped, recalls};
+ghost use Rattle.simplex_decisions.specs.Answers.{AreDropped};
+ghost use Rattle.simplex_views.specs.Views.{recalls};
 ghost use Rattle.simplex_voter.specs.LowestDue.{IsTrueVerdict};
 ghost use Rattle.simplex_voter.specs.State.{AtEach, Keeps};
 

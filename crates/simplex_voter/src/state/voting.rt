@@ -24,8 +24,8 @@ use simplex_types::{Digest, Round, Scheme, View};
 use std::alloc::AllocError;
 
 impl<S: Scheme<D> + Drop, L: Elector<S, D>, D: Digest> State<S, L, D> {
-    /// Votes to notarize the held proposal of the view, where that is due. Else nothing changes. Without a key nothing is voted. Where
-    /// each proposal that came was of its view and the epoch, the vote is of this view and the epoch.
+    /// Votes to notarize the held proposal of the view, where that is due. Else nothing changes. Without a key nothing is voted.
+    /// Where each proposal that came was of its view and the epoch, the vote is of this view and the epoch.
     ///
     /// # Errors
     ///
@@ -49,8 +49,8 @@ impl<S: Scheme<D> + Drop, L: Elector<S, D>, D: Digest> State<S, L, D> {
         Ok(Notarize::sign(&*self.scheme, proposal))
     }
 
-    /// Votes to finalize the held proposal of the view, where that is due. Else nothing changes. Without a key nothing is voted. Where
-    /// each proposal that came was of its view and the epoch, the vote is of this view and the epoch.
+    /// Votes to finalize the held proposal of the view, where that is due. Else nothing changes. Without a key nothing is voted.
+    /// Where each proposal that came was of its view and the epoch, the vote is of this view and the epoch.
     pub fn construct_finalize(&mut self, view: View) -> Option<Finalize<S, D>>
         ensures keeps { AtEach S.Scheme L.Elector self.old (λ s h. MatchOption result (Keeps S.Scheme L.Elector s self.new h) (λ v. Keeps S.Scheme L.Elector s self.new (voted_finalize view v.proposal ∷ h))) }
         ensures answer { AtEach S.Scheme L.Elector self.old (λ s h. MatchOption result (IsSome s.me → ¬ FinalizeIsDue (member s) (known s h) view) (λ v. FinalizeIsDue (member s) (known s h) view × (held_at (member s) (known s h) view ≡ Some v.proposal) × IsOwn S.Scheme s finalize v)) }
@@ -70,8 +70,9 @@ impl<S: Scheme<D> + Drop, L: Elector<S, D>, D: Digest> State<S, L, D> {
         Finalize::sign(&*self.scheme, proposal)
     }
 
-    /// Votes to give the view up, where it is the current one and this member voted no finalize for it: whether it voted so before, with the
-    /// vote. Else nothing changes. Without a key nothing is voted. The reason, as `next_timeout` tells it, decides nothing.
+    /// Votes to give the view up, where it is the current one and this member voted no finalize for it: whether it voted so before,
+    /// with the vote. Else nothing changes. Without a key nothing is voted. The reason, as `next_timeout` tells it, decides
+    /// nothing.
     ///
     /// # Errors
     ///
