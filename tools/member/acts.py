@@ -70,6 +70,11 @@ def point_of(h, event):
             return Told(now)
 
 
+def while_numbers_last(h, found):
+    """What is looked for only while a number is left to ask the application by."""
+    return found if has_number(h) else ()
+
+
 # ---- acts that hand nothing out
 
 
@@ -84,7 +89,7 @@ def tellings(h):
     for view, required in put_offs(h):
         if at(h, required).notarization or is_answered(h, required, NOTARIZATION, ANCESTRY, None):
             yield PutsOff(view)
-    for view, kind, lacks in missing(h):
+    for view, kind, lacks in while_numbers_last(h, missing(h)):
         if is_answered(h, lacks, kind, ANCESTRY, leader(h, view)):
             yield Resolves(view, kind, lacks)
 
@@ -104,7 +109,7 @@ def reasons(h):
             yield view, LEADER_NULLIFY
     if is_silent(h, latest(h)):
         yield current(h), INACTIVITY
-    for view in invalid_views(h):
+    for view in while_numbers_last(h, invalid_views(h)):
         yield view, INVALID
 
 
@@ -142,12 +147,12 @@ def certifies(h):
 
 
 def asked_builds(h):
-    for view, parent, payload, handoff in due_builds(h) if has_number(h) else ():
+    for view, parent, payload, handoff in while_numbers_last(h, due_builds(h)):
         yield AsksBuild(next_number(h), handoff, Context(h.setup.epoch, view, key(h.setup.me), parent, payload))
 
 
 def asked_verifications(h):
-    for view, proposal, payload in due_verifications(h) if has_number(h) else ():
+    for view, proposal, payload in while_numbers_last(h, due_verifications(h)):
         context = Context(h.setup.epoch, view, key(leader(h, view)), proposal.parent, payload)
         yield AsksVerify(next_number(h), context, proposal)
 
@@ -157,7 +162,7 @@ def asks(h):
     a leader for what its proposal lacks."""
     sought = [(view, NULLIFICATION, BACKFILL, None) for view in outstanding(h)]
     sought += [(view, NOTARIZATION, ANCESTRY, None) for view in wanted_certificates(h)]
-    sought += [(lacks, kind, ANCESTRY, leader(h, view)) for view, kind, lacks in missing(h)]
+    sought += [(lacks, kind, ANCESTRY, leader(h, view)) for view, kind, lacks in while_numbers_last(h, missing(h))]
     for ask in sought:
         if not is_answered(h, *ask):
             yield Asks(*ask)
