@@ -131,7 +131,7 @@ module _ {S D P G C : Type 0} (g : Ghosts S D P G C) (f : Formats S D P G C) (s 
       go false e = e
       go true e = absurd (none-some b e)
 
-  kept-all : (h : History S D P G C) (view : ℕ) → nat_lt view (floor_of s h) ≡ false → votes_of s h view ≡ all_votes view h
+  pub kept-all : (h : History S D P G C) (view : ℕ) → nat_lt view (floor_of s h) ≡ false → votes_of s h view ≡ all_votes view h
   kept-all h view e = ap (λ (c : Bool). if c then [] else all_votes view h) e
 
   pub some-from : {X : Type 0} (o : Option X) (x : X) → o ≡ Some x → IsSome o
@@ -152,7 +152,7 @@ module _ {S D P G C : Type 0} (g : Ghosts S D P G C) (f : Formats S D P G C) (s 
   own-attests h (vote.Nullify v) may = may.verifies.verifies
   own-attests h (vote.Finalize v) may = may.verifies.verifies
 
-  certificate-epoch : (h : History S D P G C) (c : Certificate S D P G C) → MayRecord g f s h (certificate_artifact c) → (certificate_round c).epoch ≡ s.voter.epoch
+  pub certificate-epoch : (h : History S D P G C) (c : Certificate S D P G C) → MayRecord g f s h (certificate_artifact c) → (certificate_round c).epoch ≡ s.voter.epoch
   certificate-epoch h (certificate.Notarization c) may = may.verifies.epoch
   certificate-epoch h (certificate.Nullification c) may = may.verifies.epoch
   certificate-epoch h (certificate.Finalization c) may = may.verifies.epoch

@@ -47,7 +47,7 @@ differ a b e is = apart (sym e ∙ same-number a b is)
 
 module _ {X : Type 0} where
   -- under a number stands what was put there, or what stood there
-  under : (n m : ℕ) (x y : X) (o : Option X) → (if n == m then Some x else o) ≡ Some y → ((n ≡ m) × (x ≡ y)) ⊎ (o ≡ Some y)
+  pub under : (n m : ℕ) (x y : X) (o : Option X) → (if n == m then Some x else o) ≡ Some y → ((n ≡ m) × (x ≡ y)) ⊎ (o ≡ Some y)
   under n m x y o e = go (n == m) (eqb-true n m) e
     where
       go : (b : Bool) → (b ≡ true → n ≡ m) → (if b then Some x else o) ≡ Some y → ((n ≡ m) × (x ≡ y)) ⊎ (o ≡ Some y)
@@ -55,7 +55,7 @@ module _ {X : Type 0} where
       go false is e = inr e
 
   -- or nothing any more
-  gone : (n m : ℕ) (y : X) (o : Option X) → (if n == m then None else o) ≡ Some y → (n ≢ m) × (o ≡ Some y)
+  pub gone : (n m : ℕ) (y : X) (o : Option X) → (if n == m then None else o) ≡ Some y → (n ≢ m) × (o ≡ Some y)
   gone n m y o e = go (n == m) refl e
     where
       go : (b : Bool) → (n == m) ≡ b → (if b then None else o) ≡ Some y → (n ≢ m) × (o ≡ Some y)
@@ -199,12 +199,13 @@ module _ {S D P G C : Type 0} (g : Ghosts S D P G C) (f : Formats S D P G C) (s 
   -- ---- all points
 
   module _ (laws : RoundLaws g f.same) where
-    -- what is forwarded lies in its view
+    -- what is forwarded lies in its view, and in the epoch
+    pub forwarded-round : (h : History S D P G C) → AreAllowed g f s h → (at : ℕ) (p : Proposal D) → Allowed g f s h (Forwards at p) → p.round ≡ record { epoch = s.voter.epoch; view = at }
+    forwarded-round h all at p a = if-some (λ (q : Proposal D). q.round ≡ (votes_setup s g h at).round) (selected (votes_of s h at)) p
+        (laws.selected (votes_setup s g h at) (votes_of s h at) (votes-lawful g f s laws h all at a.due.0)) (selected-of (votes_of s h at) s.me p a.due.1)
+
     forwarded-in : (h : History S D P G C) → AreAllowed g f s h → (at : ℕ) (p : Proposal D) → Allowed g f s h (Forwards at p) → p.round.view ≡ at
-    forwarded-in h all at p a =
-        let ours = if-some (λ (q : Proposal D). q.round ≡ (votes_setup s g h at).round) (selected (votes_of s h at)) p
-        (laws.selected (votes_setup s g h at) (votes_of s h at) (votes-lawful g f s laws h all at a.due.0)) (selected-of (votes_of s h at) s.me p a.due.1) in
-        ap (λ (r : Round). r.view) ours
+    forwarded-in h all at p a = ap (λ (r : Round). r.view) (forwarded-round h all at p a)
 
     step : (p : Point S D P G C) (h : History S D P G C) (view : ℕ) → floor_of s (p ∷ h) ≤ view → Allowed g f s h p → AreAllowed g f s h → AtView h view → AtView (p ∷ h) view
     step (Opened t) h view kept a all i = plainly (Opened t) h view kept (λ k v e. e) (λ k b e. e) (tt, tt) i

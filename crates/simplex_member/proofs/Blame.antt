@@ -112,7 +112,8 @@ module _ {S D P G C : Type 0} (g : Ghosts S D P G C) (f : Formats S D P G C) (s 
   own-signed before (vote.Nullify v) fits = fits.verifies.own
   own-signed before (vote.Finalize v) fits = fits.verifies.own
 
-  parent-below : (r : List (Artifact S D P G C)) → Lawful g f s r → (v : Vote S D P G C) → Contains r (vote_artifact v) → HasParentBelow (vote_statement v)
+  -- so a vote of it names a parent below
+  pub parent-below : (r : List (Artifact S D P G C)) → Lawful g f s r → (v : Vote S D P G C) → Contains r (vote_artifact v) → HasParentBelow (vote_statement v)
   parent-below r lawful (vote.Notarize v) here = (placed r lawful (vote_artifact (vote.Notarize v)) here).3.follows.parent_below
   parent-below r lawful (vote.Nullify v) here = tt
   parent-below r lawful (vote.Finalize v) here =

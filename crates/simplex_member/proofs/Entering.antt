@@ -100,14 +100,14 @@ module _ {S D P G C : Type 0} (s : views.Setup S C) where
     puts-from (views.certify_asked at handle) view = none-new (views.certify_asked at handle ∷ h) (past.certifying handle) refl
     puts-from (views.certify_waited at) view = tt
     puts-from (views.voted_notarize at p) view = none-new (views.voted_notarize at p ∷ h) past.voted_notarize refl
-    puts-from (views.voted_nullify at) view = none-new (views.voted_nullify at ∷ h) past.voted_nullify refl
+    puts-from (views.voted_nullify at) view = λ e. none-new (views.voted_nullify at ∷ h) past.voted_nullify refl
     puts-from (views.voted_finalize at p) view = none-new (views.voted_finalize at p ∷ h) past.voted_finalize refl
     puts-from (views.recalled_notarize p taken) view = (
       none-new (views.recalled_notarize p taken ∷ h) past.voted_notarize refl,
       none-new (views.recalled_notarize p taken ∷ h) (past.offered (offer.recorded p)) refl,
       λ payload. none-new (views.recalled_notarize p taken ∷ h) (past.bound p payload) refl,
     )
-    puts-from (views.recalled_nullify at) view = none-new (views.recalled_nullify at ∷ h) past.voted_nullify refl
+    puts-from (views.recalled_nullify at) view = λ e. none-new (views.recalled_nullify at ∷ h) past.voted_nullify refl
     puts-from (views.recalled_finalize p) view = none-new (views.recalled_finalize p ∷ h) past.voted_finalize refl
     puts-from (views.recalled_verdict at ok) view = none-new (views.recalled_verdict at ok ∷ h) (past.judged ok) refl
     puts-from (views.sent kind.Notarization at) view = none-new (views.sent kind.Notarization at ∷ h) past.sent_notarization refl

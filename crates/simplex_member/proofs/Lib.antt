@@ -44,3 +44,9 @@ mod Asking
 mod Blameless
 mod Awaiting
 mod Certified
+mod Abreast
+mod Placing
+mod Nullified
+mod Coming
+mod Completing
+mod Constructing

@@ -1,5 +1,5 @@
 -- Lists: what of their elements a function gives nothing of, what stands in them, one more element or none behind them.
-use Rattle.std.proofs.Common.{◌≡◌, ◌⊎◌, inl, inr, ⊎_elim, ℕ, ◌==◌, Bool, true, false, List, [], ◌∷◌, ◌++◌, map, Option, Some, None, refl, sym, ◌∙◌, ap, subst, arith}
+use Rattle.std.proofs.Common.{◌≡◌, ◌⊎◌, inl, inr, ⊎_elim, ℕ, ◌≤◌, ◌==◌, Bool, true, false, List, [], ◌∷◌, ◌++◌, length, map, Option, Some, None, refl, sym, ◌∙◌, ap, subst, arith}
 use Rattle.std.specs.Prelude.{All, Contains, IfSome, if◌then◌else◌, option_map, option_to_list, unwrap_or}
 use Rattle.std.proofs.lemmas.List.{append-nil, map-append}
 use Rattle.std.proofs.lemmas.List.Elements.{All-append, All-cons, All-contains, All-nil, Contains-append_left, Contains-push, Contains-push_cases}
@@ -12,6 +12,11 @@ some-is {X} x y e = ap (λ (o : Option X). unwrap_or o x) e
 
 pub same-number : (a b : ℕ) → a ≡ b → (a == b) ≡ true
 same-number a b e = grind (arith, e)
+
+-- a list that isn't empty has an element
+pub some-of : {X : Type 0} (xs : List X) → 1 ≤ length xs → (x : X) × Contains xs x
+some-of [] some = absurd (omega (arith, some))
+some-of (x ∷ xs) some = (x, Contains-head x xs)
 
 module _ {X Y : Type 0} (f : X → Option Y) where
   -- a function gives nothing of each of the elements

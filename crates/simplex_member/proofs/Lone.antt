@@ -1,6 +1,6 @@
 -- How often a step of a member alone raises its current view: by views that it gave up, each of which was kept before, or is where the event led.
 use Rattle.std.proofs.Common.{◌≡◌, ◌≢◌, ◌⊎◌, inl, inr, ⊎_elim, ℕ, zero, suc, ◌+◌, ◌≤◌, ◌<◌, ◌==◌, Bool, true, false, List, [], ◌∷◌, ◌++◌, length, Option, Some, None, refl, sym, ◌∙◌, ap, subst, arith}
-use Rattle.std.specs.Prelude.{◌-◌, Contains, IfSome, IsSome, nat_eq, ◌&&◌, ◌||◌, find, if◌then◌else◌, is_some, max, nat_lt, option_map, unwrap_or}
+use Rattle.std.specs.Prelude.{◌-◌, Contains, IfSome, IsSome, nat_eq, ◌&&◌, find, if◌then◌else◌, is_some, max, nat_lt, option_map, unwrap_or}
 use Rattle.std.specs.Option.{option_eq, option_or}
 use Rattle.std.proofs.lemmas.Bool.{cases_lt, eqb-true, le-ltb, ltb-false, ltb-true}
 use Rattle.std.proofs.lemmas.Grind.{common_steps}
@@ -50,7 +50,7 @@ use Rattle.simplex_member.specs.declared.event.Event.{Event}
 use Rattle.simplex_member.specs.declared.event.Event.TheVariants as event
 use Rattle.simplex_member.specs.Allowed.{Allowed, AreAllowed, HasReason}
 use Rattle.simplex_member.specs.Laws.{IsKeptView, RecordLaws, RoundLaws, raises}
-use Rattle.simplex_member.specs.Layers.{all_votes, concerns, current_of, finalized_of, finalizes_above, floor_of, has_room, known_of, latest, may_enter, opened, opens, passes_over, stage, takes_certificate, voter_of, voter_points, votes_of}
+use Rattle.simplex_member.specs.Layers.{all_votes, current_of, finalized_of, finalizes_above, floor_of, has_room, known_of, latest, opened, opens, passes_over, stage, takes_certificate, voter_of, voter_points, votes_of}
 use Rattle.simplex_member.specs.Member.{AreStep, Goes, IsPacketPoint, IsPointOf}
 use Rattle.simplex_member.specs.Packet.{Formats, Packet, of_ask, of_certificate, of_vote}
 use Rattle.simplex_member.specs.Point.{Counts, Falls, Passes, AreActs, Point, Opened, Found, Began, Told, Heard, Came, Wanted, Built, Checked, Judged, Leads, Forwards, Constructs, Latches, Looks, AsksBuild, AsksVerify, AsksCertify, GivesBack, LeavesBehind, PutsOff, Asks, Resolves, Votes, Repeats, History, is_act}
@@ -58,10 +58,11 @@ use Rattle.simplex_member.specs.Recorded.{record_of, recorded_by}
 use Rattle.simplex_member.specs.Setup.{Setup, DeadlinesLieAhead, GoesByMembers, IsInTime, member_of}
 use Rattle.simplex_member.proofs.Ballots.{some-from, stage-kept}
 use Rattle.simplex_member.proofs.Blame.{placed}
+use Rattle.simplex_member.proofs.Coming.{staged-room}
 use Rattle.simplex_member.proofs.Going.{allowed-lawful}
 use Rattle.simplex_member.proofs.Judgeable.{asked-taken}
 use Rattle.simplex_member.proofs.Listed.{accepted-known, kept-only}
-use Rattle.simplex_member.proofs.Lists.{Contains-map, Contains-mapped, put-cases, same-number, some-is}
+use Rattle.simplex_member.proofs.Lists.{Contains-map, Contains-mapped, put-cases, same-number, some-is, some-of}
 use Rattle.simplex_member.proofs.Peace.{find-there}
 use Rattle.simplex_member.proofs.Raising.{acts-head, acts-rest, leads_on, listed, of-view, rise-of, some-either, some-first, step-few, view_of, voted, way-cases, ways}
 use Rattle.simplex_member.proofs.Raising as raising
@@ -105,10 +106,6 @@ next-starts views u = ⊎_elim
     (cases_lt 0 views)
 
 -- ---- lists
-
-some-of : {X : Type 0} (xs : List X) → 1 ≤ length xs → (x : X) × Contains xs x
-some-of [] some = absurd (omega (arith, some))
-some-of (x ∷ xs) some = (x, Contains-head x xs)
 
 left-true : (b c : Bool) → (b && c) ≡ true → b ≡ true
 left-true true c e = refl
@@ -288,20 +285,6 @@ module _ {S D P G C : Type 0} (g : Ghosts S D P G C) (f : Formats S D P G C) (s 
 
   -- ---- views whose votes came up
 
-  staged : (b : Bool) (o : Option Bool) → IsSome (if b then None else o) → IsSome o
-  staged true o some = absurd (apart some)
-  staged false o some = some
-
-  -- they have room
-  opened-room : (h : History S D P G C) (view : ℕ) → IsSome (opened s h view) → has_room s.voter.length view ≡ true
-  opened-room [] view some = absurd (apart some)
-  opened-room (p ∷ h) view some = new (concerns view p || (may_enter p && (current_of s (p ∷ h) == view))) (has_room s.voter.length view) some (λ before. opened-room h view before)
-    where
-      new : (b c : Bool) → IsSome (if b && c then option_or (opened s h view) (Some (passes_over s h view)) else opened s h view) → (IsSome (opened s h view) → c ≡ true) → c ≡ true
-      new true true there before = refl
-      new true false there before = before there
-      new false c there before = before there
-
   -- an own nullify of a view with room brought them up
   opened-here : (p : Point S D P G C) (h : History S D P G C) (view : ℕ) → opens s h p view ≡ true → IsSome (opened s (p ∷ h) view)
   opened-here p h view is = subst (λ (b : Bool). IsSome (if b then option_or (opened s h view) (Some (passes_over s h view)) else opened s h view)) (sym is) (some-first (opened s h view) (passes_over s h view))
@@ -463,9 +446,9 @@ module _ {S D P G C : Type 0} (g : Ghosts S D P G C) (f : Formats S D P G C) (s 
         act-puts (Asks at ask to) h all q act now low view enters_so = tt
         act-puts (Resolves at kind u) h all q act now low view enters_so = (tt, tt)
         act-puts (Votes (vote.Notarize v)) h all q act now low view enters_so = (tt, tt)
-        act-puts (Votes (vote.Nullify v)) h all q act now low view enters_so = (tt, tt)
+        act-puts (Votes (vote.Nullify v)) h all q act now low view enters_so = (λ e. tt, tt)
         act-puts (Votes (vote.Finalize v)) h all q act now low view enters_so = (tt, tt)
-        act-puts (Repeats v best) h all q act now low view enters_so = (tt, tt)
+        act-puts (Repeats v best) h all q act now low view enters_so = (λ e. tt, tt)
 
         -- a view that is judged was tracked
         judged-tracked : (r : Round) (ok : Bool) → Allowed g f s start (Judged r ok) → IsTracked s.voter (voter_of s start) r.view
@@ -585,7 +568,7 @@ module _ {S D P G C : Type 0} (g : Ghosts S D P G C) (f : Formats S D P G C) (s 
         given-kept : (h : History S D P G C) (w : Nullify S D P G C) → finalized_of s start ≤ finalized_of s h → IsSome (stage s h w.round.view) → Contains (record_of start) (artifact.Nullify w) → Contains these w.round.view
         given-kept h w final up here =
             let high = ltb-false w.round.view (floor_of s h) (stage-kept g f s h w.round.view up) in
-            let room = opened-room h w.round.view (staged (nat_lt w.round.view (floor_of s h)) (opened s h w.round.view) up) in
+            let room = staged-room s h w.round.view up in
             let low : floor_of s start ≤ w.round.view = omega (arith, high, final) in
             let up_before : IsSome (stage s start w.round.view) = rw (le-ltb w.round.view (floor_of s start) low) (own-opened start w room here) in
             kept w.round.view (inl up_before)

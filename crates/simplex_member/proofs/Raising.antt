@@ -101,7 +101,7 @@ module _ {S D P G C : Type 0} where
   leads-other (certificate.Nullification c) leads = leads
   leads-other (certificate.Finalization c) leads = leads
 
-  certificate-entry : (c : Certificate S D P G C) → entry (certificate_artifact c) ≡ recorded.taken (certificate_statement c)
+  pub certificate-entry : (c : Certificate S D P G C) → entry (certificate_artifact c) ≡ recorded.taken (certificate_statement c)
   certificate-entry (certificate.Notarization c) = refl
   certificate-entry (certificate.Nullification c) = refl
   certificate-entry (certificate.Finalization c) = refl
@@ -111,7 +111,7 @@ module _ {S D P G C : Type 0} where
   vote-stated (vote.Nullify v) = refl
   vote-stated (vote.Finalize v) = refl
 
-  certificate-stated : (c : Certificate S D P G C) → statement_round (certificate_statement c) ≡ certificate_round c
+  pub certificate-stated : (c : Certificate S D P G C) → statement_round (certificate_statement c) ≡ certificate_round c
   certificate-stated (certificate.Notarization c) = refl
   certificate-stated (certificate.Nullification c) = refl
   certificate-stated (certificate.Finalization c) = refl

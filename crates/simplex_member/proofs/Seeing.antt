@@ -66,10 +66,10 @@ module _ {S D P G C : Type 0} (Good : past.Item S D P G C → Type 0) where
     Puts (views.certify_asked at handle) view = Good (past.certifying handle)
     Puts (views.certify_waited at) view = ⊤
     Puts (views.voted_notarize at p) view = Good past.voted_notarize
-    Puts (views.voted_nullify at) view = Good past.voted_nullify
+    Puts (views.voted_nullify at) view = at ≡ view → Good past.voted_nullify
     Puts (views.voted_finalize at p) view = Good past.voted_finalize
     Puts (views.recalled_notarize p taken) view = Good past.voted_notarize × Good (past.offered (offer.recorded p)) × ((payload : D) → Good (past.bound p payload))
-    Puts (views.recalled_nullify at) view = Good past.voted_nullify
+    Puts (views.recalled_nullify at) view = at ≡ view → Good past.voted_nullify
     Puts (views.recalled_finalize p) view = Good past.voted_finalize
     Puts (views.recalled_verdict at ok) view = Good (past.judged ok)
     Puts (views.sent k at) view = Good (sent_item k)
@@ -114,13 +114,13 @@ module _ {S D P G C : Type 0} (Good : past.Item S D P G C → Type 0) where
     seen-good (views.certify_asked at handle) h view new good = put-good at (past.certifying handle) (seen s h) view (λ e. new) good
     seen-good (views.certify_waited at) h view new good = good
     seen-good (views.voted_notarize at p) h view new good = put-good at past.voted_notarize (seen s h) view (λ e. new) good
-    seen-good (views.voted_nullify at) h view new good = put-good at past.voted_nullify (seen s h) view (λ e. new) good
+    seen-good (views.voted_nullify at) h view new good = put-good at past.voted_nullify (seen s h) view new good
     seen-good (views.voted_finalize at p) h view new good = put-good at past.voted_finalize (seen s h) view (λ e. new) good
     seen-good (views.recalled_notarize p true) h view new good = bind-good (undecided_payload (seen s h p.parent)) p (put p.round.view past.voted_notarize (put p.round.view (past.offered (offer.recorded p)) (seen s h))) view new.2
         (put-good p.round.view past.voted_notarize (put p.round.view (past.offered (offer.recorded p)) (seen s h)) view (λ e. new.0) (put-good p.round.view (past.offered (offer.recorded p)) (seen s h) view (λ e. new.1) good))
     seen-good (views.recalled_notarize p false) h view new good = bind-good (undecided_payload (seen s h p.parent)) p (put p.round.view past.voted_notarize (seen s h)) view new.2
         (put-good p.round.view past.voted_notarize (seen s h) view (λ e. new.0) good)
-    seen-good (views.recalled_nullify at) h view new good = put-good at past.voted_nullify (seen s h) view (λ e. new) good
+    seen-good (views.recalled_nullify at) h view new good = put-good at past.voted_nullify (seen s h) view new good
     seen-good (views.recalled_finalize p) h view new good = put-good p.round.view past.voted_finalize (seen s h) view (λ e. new) good
     seen-good (views.recalled_verdict at ok) h view new good = put-good at (past.judged ok) (seen s h) view (λ e. new) good
     seen-good (views.sent k at) h view new good = put-good at (sent_item k) (seen s h) view (λ e. new) good

@@ -46,7 +46,8 @@ use Rattle.simplex_decisions.specs.Ancestry.{held_at}
 use Rattle.simplex_decisions.specs.VotesDue.{NotarizeIsDue}
 use Rattle.simplex_decisions.specs.GivingUp.{IsTracked}
 use Rattle.simplex_laws.specs.Matching as voter
-use Rattle.simplex_laws.specs.Matching.{IsOrderly, IsBound}
+use Rattle.simplex_laws.specs.Matching.{IsOrderly, IsBound, round_of}
+use Rattle.simplex_laws.specs.Placing.{AreOfTheirViews}
 use Rattle.simplex_journal.specs.Record.{Reads}
 use Rattle.simplex_member.specs.declared.action.Reply.{Reply}
 use Rattle.simplex_member.specs.declared.event.Channel.{Channel}
@@ -60,6 +61,7 @@ use Rattle.simplex_member.specs.Refusals.{refused_deeds, tests}
 use Rattle.simplex_admission.specs.Evidence.{as_report}
 use Rattle.simplex_resolver.specs.declared.ask.Ask.{Ask}
 use Rattle.simplex_resolver.specs.Answers.{produced}
+use Rattle.simplex_resolver.specs.History as repair
 use Rattle.simplex_member.specs.Deeds.{Deed, Sends, Serves, Blocks, Reports, all_deeds, deeds_of}
 use Rattle.simplex_member.specs.Layers.{current_of, finalized_of, floor_of, is_begun, known_of, repair_of, stage, voter_of, votes_of, votes_setup}
 use Rattle.simplex_member.specs.Lives.{Life, Lives, Members, AreMembers, IsWorldOfLives, AreFaithful, HandedOut, CameIn, IsHonestVote, WasHanded, points_of}
@@ -80,6 +82,11 @@ pub record RoundLaws {S D P G C : Type 0} (g : Ghosts S D P G C) (same : D → D
   pub founded : (s : votes.Setup S) (h : votes.History S D P G C) (kind : Kind) (batch : Batch (Certificate S D P G C)) → lawful.IsLawful same g.attests s h → IsBatch g same s kind h batch → IfSome batch.certificate (IsFounded g s kind h)
   pub failed : (s : votes.Setup S) (h : votes.History S D P G C) (kind : Kind) (batch : Batch (Certificate S D P G C)) → lawful.IsLawful same g.attests s h → IsBatch g same s kind h batch → All (HasFailed g.attests s kind h) batch.invalid.items
   pub selected : (s : votes.Setup S) (h : votes.History S D P G C) → lawful.IsLawful same g.attests s h → IfSome (votes.selected h) (λ p. p.round ≡ s.round)
+  pub unfinished : (s : votes.Setup S) (h : votes.History S D P G C) (kind : Kind) → 0 < s.needed → votes.is_due same s kind h ≡ true → votes.is_complete kind h ≡ false
+  pub waiting : (s : votes.Setup S) (h : votes.History S D P G C) (kind : Kind) (v : Vote S D P G C) → Contains (votes.waiting same s kind h) v → Contains (votes.accepted h) v
+  pub verified : (s : votes.Setup S) (h : votes.History S D P G C) (kind : Kind) (v : Vote S D P G C) → Contains (votes.verified same s kind h) v → Contains (votes.accepted h) v
+  pub stated : (s : votes.Setup S) (h : votes.History S D P G C) (kind : Kind) (x : Statement D) → lawful.IsLawful same g.attests s h → votes.context s kind h ≡ Some x
+      → All (λ v. vote_statement v ≡ x) (votes.waiting same s kind h)
   pub no_quorum_lost : (s : votes.Setup S) (h : votes.History S D P G C) → s.is_skipped ≡ false → lawful.IsLawful same g.attests s h → votes.next_kind same s h ≡ None → AllCertified g.attests s h
 
 -- what they take from the laws of records: an empty one is lawful, and one more artifact that fits keeps a lawful one so
@@ -98,6 +105,10 @@ pub record AreUncut {S D C : Type 0} (s : Setup S D C) (now : ℕ) : Type 0 wher
 -- so it is for a moment early enough
 abbrev pub EarlyIsInTime : {S D C : Type 0} → Setup S D C → Type 0
 EarlyIsInTime s = (now : ℕ) → IsInTime s now → AreUncut s now
+
+-- the repair has the last finalized view that the voter has
+abbrev pub FinalizeAlike : {S D P G C : Type 0} → Formats S D P G C → Setup S D C → Type 0
+FinalizeAlike {S} {D} {P} {G} {C} f s = (h : History S D P G C) → repair.finalized (repair_of f h) ≡ finalized_of s h
 
 module _ {S D P G C : Type 0} (g : Ghosts S D P G C) (f : Formats S D P G C) (s : Setup S D C) where
   -- ---- of one opening
@@ -212,6 +223,12 @@ module _ {S D P G C : Type 0} (g : Ghosts S D P G C) (f : Formats S D P G C) (s 
   MadeListVotes = (h : History S D P G C) (points : List (Point S D P G C)) (view : ℕ) (kind : Kind) (batch : Batch (Certificate S D P G C)) (c : Certificate S D P G C) → Goes g f s [] points h
       → Allowed g f s h (Constructs view kind batch) → batch.certificate ≡ Some c → (a : Attestation G) → Contains (g.lists (certified_by c)) a → IsOfVote h (certificate_statement c) a
 
+  -- what a construction gives that is due may be taken, its certificate recorded: nothing more is asked of it than that
+  abbrev pub MadeIsAllowed : Type 0
+  MadeIsAllowed = (h : History S D P G C) (view : ℕ) (kind : Kind) (batch : Batch (Certificate S D P G C)) → 0 < g.size s.voter.scheme → AreAllowed g f s h → is_begun h ≡ true
+      → IsSome (stage s h view) → votes.next_kind f.same (votes_setup s g h view) (votes_of s h view) ≡ Some kind → IsBatch g f.same (votes_setup s g h view) kind (votes_of s h view) batch
+      → Allowed g f s h (Constructs view kind batch)
+
   -- ---- how the layers' words meet, of a history that points led to
 
   -- the voter's history is orderly once the record was gone through, and says what is recorded
@@ -220,6 +237,20 @@ module _ {S D P G C : Type 0} (g : Ghosts S D P G C) (f : Formats S D P G C) (s 
 
   abbrev pub VotersTellTheRecord : Type 0
   VotersTellTheRecord = (h : History S D P G C) (points : List (Point S D P G C)) → Goes g f s [] points h → voter.record_of s.voter (voter_of s h) ≡ entries (record_of h)
+
+  -- each proposal that came to the voter is of the epoch, and of the view for which it came
+  abbrev pub ProposalsLieInTheirViews : Type 0
+  ProposalsLieInTheirViews = (h : History S D P G C) → AreAllowed g f s h → AreOfTheirViews s.voter (voter_of s h)
+
+  -- an own nullify of the view is recorded
+  pub record HasNullified (h : History S D P G C) (view : ℕ) : Type 0 where
+    pub nullify : Nullify S D P G C
+    pub round_is : nullify.round ≡ round_of s.voter view
+    pub recorded : Contains (record_of h) (vote_artifact (vote.Nullify nullify))
+
+  -- so is each that the voter knows
+  abbrev pub KnownNullifiesAreRecorded : Type 0
+  KnownNullifiesAreRecorded = (h : History S D P G C) (view : ℕ) → AreAllowed g f s h → past.has_nullified (seen s.voter (voter_of s h) view) ≡ true → HasNullified h view
 
   -- the votes of each view are lawful
   abbrev pub VotesAreLawful : Type 0

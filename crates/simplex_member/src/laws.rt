@@ -3,7 +3,7 @@
 ghost use Rattle.std.specs.Prelude.{◌≡◌, ◌<◌, ◌^◌, ℕ};
 ghost use Rattle.simplex_codec.specs.Codec.{Readable};
 ghost use Rattle.simplex_certificates.specs.Artifact.{artifact_fits, artifact_spelling, artifact_within};
-ghost use Rattle.simplex_member.specs.Laws.{AcceptedAreKnown, Agree, AgreeIfHonest, AreReadBack, AwaitedIsJudgeable, AwaitedMayBeRecorded, BlockedByRefusalAlone, CanBeSent, ConstructionsBlockNone, CorrectVotesAreSound, CorrectVotesContradictNone, DeedsAreDone, DeedsAreOfPoints, DueFinalizeMayBeRecorded, DueIsBound, DueMayBeRecorded, DueNullifyMayBeRecorded, EarlyIsInTime, EmptyIsOpened, HandedCertificatesAreSound, IsExact, LeftStandsOnGround, LieOnOneChain, LivesLeaveLawful, MadeAreHonest, MadeAreSound, MadeListVotes, NeverContradicts, NextStandsOnGround, NoQuorumIsLost, NoneIsBlamed, OneIsRead, OwnVotesAgree, ReachedAreGoneTo, RecordLaws, RecordsGrow, RecordsStandOnGround, RecordsStayLawful, ReportedCertify, ReportsAreHonest, RequestsAreTracked, RoundLaws, RunsAreStretches, StepsOfSeveralRaiseLittle, StepsRaiseLittle, ViewsNeverFall, VotersAreOrderly, VotersTellTheRecord, VotesAreLawful, VotesAreRecorded, VotesWereDue};
+ghost use Rattle.simplex_member.specs.Laws.{AcceptedAreKnown, Agree, AgreeIfHonest, AreReadBack, AwaitedIsJudgeable, AwaitedMayBeRecorded, BlockedByRefusalAlone, CanBeSent, ConstructionsBlockNone, CorrectVotesAreSound, CorrectVotesContradictNone, DeedsAreDone, DeedsAreOfPoints, DueFinalizeMayBeRecorded, DueIsBound, DueMayBeRecorded, DueNullifyMayBeRecorded, EarlyIsInTime, EmptyIsOpened, FinalizeAlike, HandedCertificatesAreSound, IsExact, KnownNullifiesAreRecorded, LeftStandsOnGround, LieOnOneChain, LivesLeaveLawful, MadeAreHonest, MadeAreSound, MadeIsAllowed, MadeListVotes, NeverContradicts, NextStandsOnGround, NoQuorumIsLost, NoneIsBlamed, OneIsRead, OwnVotesAgree, ProposalsLieInTheirViews, ReachedAreGoneTo, RecordLaws, RecordsGrow, RecordsStandOnGround, RecordsStayLawful, ReportedCertify, ReportsAreHonest, RequestsAreTracked, RoundLaws, RunsAreStretches, StepsOfSeveralRaiseLittle, StepsRaiseLittle, ViewsNeverFall, VotersAreOrderly, VotersTellTheRecord, VotesAreLawful, VotesAreRecorded, VotesWereDue};
 ghost use Rattle.simplex_member.specs.Packet.{Formats, formats};
 ghost use Rattle.simplex_member.specs.Setup.{Setup};
 
@@ -23,7 +23,8 @@ use simplex_types::{Digest, Listing, Scheme};
 use simplex_verifier::{
     batches_rest_on_accepted_votes, lawful_histories_are_consistent,
     no_quorum_is_lost as no_quorum_of_a_round_is_lost, verdicts_on_attestations_are_right,
-    votes_are_of_the_round,
+    votes_are_of_the_round, votes_that_count_state_it, votes_that_count_were_accepted,
+    what_is_due_has_no_certificate,
 };
 
 /// What the laws below take from those of the votes of a round.
@@ -34,6 +35,9 @@ pub(crate) fn rounds_obey<S: Scheme<D>, D: Digest>()
     verdicts_on_attestations_are_right::<S, D>();
     batches_rest_on_accepted_votes::<S, D>();
     votes_are_of_the_round::<S, D>();
+    what_is_due_has_no_certificate::<S, D>();
+    votes_that_count_were_accepted::<S, D>();
+    votes_that_count_state_it::<S, D>();
     no_quorum_of_a_round_is_lost::<S, D>();
 }
 
@@ -128,6 +132,23 @@ pub fn voters_tell_the_record<S: Scheme<D>, D: Digest>()
     ensures { (f : Formats S D S.PublicKey S.Signature S.Certificate) (s : Setup S D S.Certificate) → VotersTellTheRecord S.Scheme f s }
 {}
 
+/// Each proposal that came to the voter is of the epoch, and of the view for which it came: so are those that it votes on.
+pub fn proposals_lie_in_their_views<S: Scheme<D>, D: Digest>()
+    ensures { (f : Formats S D S.PublicKey S.Signature S.Certificate) (s : Setup S D S.Certificate) → IsExact f → ProposalsLieInTheirViews S.Scheme f s }
+{
+    rounds_obey::<S, D>();
+}
+
+/// An own nullify that the voter knows of a view is recorded.
+pub fn known_nullifies_are_recorded<S: Scheme<D>, D: Digest>()
+    ensures { (f : Formats S D S.PublicKey S.Signature S.Certificate) (s : Setup S D S.Certificate) → KnownNullifiesAreRecorded S.Scheme f s }
+{}
+
+/// The repair has the last finalized view that the voter has.
+pub fn repair_and_voter_finalize_alike<S: Scheme<D>, D: Digest>()
+    ensures { (f : Formats S D S.PublicKey S.Signature S.Certificate) (s : Setup S D S.Certificate) → FinalizeAlike f s }
+{}
+
 /// A proposal on which a notarize is due was bound to its parent's payload.
 pub fn due_is_bound<S: Scheme<D>, D: Digest>()
     ensures { (f : Formats S D S.PublicKey S.Signature S.Certificate) (s : Setup S D S.Certificate) → IsExact f → DueIsBound S.Scheme f s }
@@ -213,6 +234,15 @@ pub fn accepted_votes_are_known<S: Scheme<D>, D: Digest>()
 pub fn made_certificates_list_votes<S: Scheme<D>, D: Digest>()
     ensures { (f : Formats S D S.PublicKey S.Signature S.Certificate) (s : Setup S D S.Certificate) → IsExact f → MadeListVotes S.Scheme f s }
 {
+    rounds_obey::<S, D>();
+}
+
+/// What a construction gives of a kind that is due, where the votes of a view are kept, may be taken: the record may take its
+/// certificate, which certifies, of a view with room, the first of its kind there, with its parent below.
+pub fn what_is_made_may_be_recorded<S: Scheme<D>, D: Digest>()
+    ensures { (f : Formats S D S.PublicKey S.Signature S.Certificate) (s : Setup S D S.Certificate) → IsExact f → MadeIsAllowed S.Scheme f s }
+{
+    records_obey::<S, D>();
     rounds_obey::<S, D>();
 }
 
