@@ -109,7 +109,7 @@ def reasons(h):
             yield view, LEADER_NULLIFY
     if is_silent(h, latest(h)):
         yield current(h), INACTIVITY
-    for view in while_numbers_last(h, invalid_views(h)):
+    for view in invalid_views(h):
         yield view, INVALID
 
 

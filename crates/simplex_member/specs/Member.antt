@@ -47,11 +47,6 @@ module _ {S D P G C : Type 0} where
   IsPacketPoint sender (Some (of_ask view)) (Wanted member asked) = (sender ≡ member) × (view ≡ asked)
   IsPacketPoint sender x p = ⊥
 
-  -- a reason to give a view up is looked for: that a proposal can never stand only while a number is left to ask for a verification
-  abbrev pub IsLookedFor : History S D P G C → TimeoutReason → Type 0
-  IsLookedFor h reason.InvalidProposal = HasNumber h
-  IsLookedFor h why = ⊤
-
   -- from a history points lead here
   abbrev pub after : History S D P G C → List (Point S D P G C) → History S D P G C
   after h [] = h
@@ -120,7 +115,7 @@ module _ {S D P G C : Type 0} (g : Ghosts S D P G C) (f : Formats S D P G C) (s 
     pub requests : NoRequestIsDue h
     pub asks : NoAskIsDue h
     pub constructions : NoConstructionIsDue h
-    pub no_reason : (view : ℕ) (why : TimeoutReason) → IsLookedFor h why → ¬ LatchIsDue h view why
+    pub no_reason : (view : ℕ) (why : TimeoutReason) → ¬ LatchIsDue h view why
 
   -- ---- when the node wants to be told the time
 

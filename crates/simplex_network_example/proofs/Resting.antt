@@ -188,7 +188,7 @@ module _ {S D P G C : Type 0} (g : Ghosts S D P G C) (f : Formats S D P G C) (ow
         no_leader = λ view index up none is. no-leader view index none is;
         no_forward = λ view up. stays-none (not (has_forwarded (votes_of s h view)) && is_another (leader_of (votes_of s h view)) i) (selected (votes_of s h view)) (q.unselected view);
       };
-      no_reason = λ view why looked due. no-reason view why due.there;
+      no_reason = λ view why due. no-reason view why due.there;
     }
 
   module _ (signed : ℕ → G) (size : g.size (own i) ≡ 4) where
