@@ -1,28 +1,25 @@
 //! What each layer of a node is told of an artifact that the record has.
 
-ghost use Rattle.std.specs.Prelude.{◌≡◌, ◌++◌, ◌∷◌, ℕ, Bool, List, None, Some, IfOk, OnOk, is_some, map, option_map, option_to_list, if◌then◌else◌};
+ghost use Rattle.std.specs.Prelude.{◌≡◌, ◌++◌, ◌∷◌, ℕ, Bool, List, None, Some, IfOk, OnOk, map, option_map, option_to_list, if◌then◌else◌};
 ghost use Rattle.simplex_types.specs.Positions.{HasRoom};
 ghost use Rattle.simplex_certificates.specs.declared.artifact.Artifact.{Artifact};
 ghost use Rattle.simplex_certificates.specs.ProposalCertificate.{Finalization, Notarization};
-ghost use Rattle.simplex_certificates.specs.Artifact.{artifact_round, certificate_artifact};
+ghost use Rattle.simplex_certificates.specs.Artifact.{artifact_round};
 ghost use Rattle.simplex_certificates.specs.Certificate.{any_certificate_spelling, as_notarization, certificate_round};
 ghost use Rattle.simplex_messages.specs.declared.activity.Activity.TheVariants as activity;
-ghost use Rattle.simplex_messages.specs.VoteParts.{vote_artifact, vote_round};
 ghost use Rattle.simplex_record.specs.declared.owner.Owner.{Owner};
-ghost use Rattle.simplex_record.specs.Lawful.{Verifies};
 ghost use Rattle.simplex_history.specs.History.{judged, seen};
 ghost use Rattle.simplex_tracking.specs.Rounds.{Takes};
 ghost use Rattle.simplex_voter.specs.State as voting;
-ghost use Rattle.simplex_acceptance.specs.Keeps as accepting;
 ghost use Rattle.simplex_resolver.specs.History.{Judged, item_of};
 ghost use Rattle.simplex_resolver.specs.Keeps as repairing;
 ghost use Rattle.simplex_recording.specs.Recorded.{HoldsRecord};
 ghost use Rattle.simplex_member.specs.Deeds.{AreActions, Deed, Finalizes, Reports};
-ghost use Rattle.simplex_member.specs.Layers.{finds, floor_of, repair_found, repair_of};
+ghost use Rattle.simplex_member.specs.Layers.{finds, repair_found, repair_of};
 ghost use Rattle.simplex_member.specs.Packet.{Formats, formats};
-ghost use Rattle.simplex_member.specs.Point.{History, Found};
+ghost use Rattle.simplex_member.specs.Point.{History};
 ghost use Rattle.simplex_member.specs.Recorded.{finalization_in, notarization_in, record_of, reported};
-ghost use Rattle.simplex_member.specs.Setup.{Setup, owner_of};
+ghost use Rattle.simplex_member.specs.Setup.{Setup};
 ghost use Rattle.simplex_recalling.specs.GoingThrough.{IsRecordOf};
 ghost use Rattle.simplex_recalling.specs.Learning.{IsNew};
 
@@ -30,15 +27,14 @@ use crate::learning::{
     give_finalization, give_notarization, give_nullification, give_verdict, judge_repair,
     update_repair,
 };
-use simplex_acceptance::{Acceptance, silent_points_leave_votes};
 use simplex_certificates::{Artifact, Certificate};
 use simplex_exchange::{hand_out, report_if};
 use simplex_member::Action;
-use simplex_messages::{Activity, Vote};
+use simplex_messages::Activity;
 use simplex_recording::Recorded;
 use simplex_resolver::State as Repair;
 use simplex_rules::Elector;
-use simplex_types::{Digest, Duplicate, Scheme, View, Viewable};
+use simplex_types::{Digest, Duplicate, Scheme, View};
 use simplex_voter::State as Voter;
 use std::alloc::{AllocError, Global};
 
@@ -79,89 +75,6 @@ fn judge_voter<S: Scheme<D> + Drop, L: Elector<S, D>, D: Digest>(
 {
     match give_verdict(alloc, now, view, ok, voter) {
         Ok(_) => Ok(()),
-        Err(_) => Err(AllocError),
-    }
-}
-
-/// Tells the votes of all views, before what need not be kept behind it is dropped: at this floor.
-///
-/// # Errors
-///
-/// `AllocError` where memory ran out; and where an accepted vote stands in the way of an own one, as in no lawful record.
-pub(crate) fn tell_votes<S: Scheme<D> + Drop, D: Digest>(
-    acceptance: &mut Acceptance<S, D>,
-    alloc: Global,
-    floor: View,
-    artifact: &Artifact<S, D>,
-) -> Result<(), AllocError>
-    ensures { OnOk result (accepting.AtEach S.Scheme D.PartialEq.eq acceptance.old (λ s h. (taken : Bool) → floor ≡ floor_of s h → HasRoom s.voter.length (artifact_round artifact.now).view → Verifies (S.attests s.voter.scheme) (S.certifies s.voter.scheme) (owner_of s) artifact.now → accepting.KeepsAhead S.Scheme D.PartialEq.eq s acceptance.new h (Found artifact.now taken))) }
-{
-    silent_points_leave_votes::<S, D>();
-    match artifact {
-        Artifact::Notarize(vote) => cast(acceptance, floor, Vote::Notarize(vote.duplicate(alloc)?)),
-        Artifact::Notarization(certificate) => {
-            certify(
-                acceptance,
-                &Certificate::Notarization(certificate.duplicate(alloc)?),
-            )
-        }
-        Artifact::Certification(..) => Ok(()),
-        Artifact::Nullify(vote) => cast(acceptance, floor, Vote::Nullify(vote.duplicate(alloc)?)),
-        Artifact::Nullification(certificate) => {
-            certify(
-                acceptance,
-                &Certificate::Nullification(certificate.duplicate(alloc)?),
-            )
-        }
-        Artifact::Finalize(vote) => cast(acceptance, floor, Vote::Finalize(vote.duplicate(alloc)?)),
-        Artifact::Finalization(certificate) => {
-            certify(
-                acceptance,
-                &Certificate::Finalization(certificate.duplicate(alloc)?),
-            )
-        }
-    }
-}
-
-/// Tells the votes of all views of an own vote. From the floor on none may stand in its way.
-fn cast<S: Scheme<D> + Drop, D: Digest>(
-    acceptance: &mut Acceptance<S, D>,
-    floor: View,
-    vote: Vote<S, D>,
-) -> Result<(), AllocError>
-    ensures { OnOk result (accepting.AtEach S.Scheme D.PartialEq.eq acceptance.old (λ s h. (taken : Bool) → floor ≡ floor_of s h → HasRoom s.voter.length (vote_round vote).view → Verifies (S.attests s.voter.scheme) (S.certifies s.voter.scheme) (owner_of s) (vote_artifact vote) → accepting.KeepsAhead S.Scheme D.PartialEq.eq s acceptance.new h (Found (vote_artifact vote) taken))) }
-{
-    let view = vote.view();
-    match acceptance.cast(vote) {
-        Ok(report) => {
-            if is_told(report) {
-                return Ok(());
-            }
-            if view < floor {
-                return Ok(());
-            }
-            Err(AllocError)
-        }
-        Err(_) => Err(AllocError),
-    }
-}
-
-/// Whether there is a report, which is let go.
-fn is_told<S: Scheme<D>, D: Digest>(report: Option<Activity<S, D>>) -> bool
-    ensures { result ≡ is_some report }
-{
-    report.is_some()
-}
-
-/// Tells the votes of all views of a certificate.
-fn certify<S: Scheme<D> + Drop, D: Digest>(
-    acceptance: &mut Acceptance<S, D>,
-    certificate: &Certificate<S, D>,
-) -> Result<(), AllocError>
-    ensures { OnOk result (accepting.AtEach S.Scheme D.PartialEq.eq acceptance.old (λ s h. (taken : Bool) → HasRoom s.voter.length (certificate_round certificate.now).view → accepting.KeepsAhead S.Scheme D.PartialEq.eq s acceptance.new h (Found (certificate_artifact certificate.now) taken))) }
-{
-    match acceptance.record(certificate) {
-        Ok(()) => Ok(()),
         Err(_) => Err(AllocError),
     }
 }
