@@ -3,4 +3,3 @@ mod Unknown
 mod Finding
 mod Gone
 mod Recalled
-mod Owning

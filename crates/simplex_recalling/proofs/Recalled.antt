@@ -13,9 +13,13 @@ use Rattle.simplex_certificates.specs.ProposalCertificate.{Notarization}
 use Rattle.simplex_certificates.specs.declared.certificate.Certificate.{Certificate}
 use Rattle.simplex_certificates.specs.declared.certificate.Certificate.TheVariants as certificate
 use Rattle.simplex_certificates.specs.Artifact.{artifact_round, certificate_artifact}
-use Rattle.simplex_certificates.specs.Certificate.{as_notarization, certificate_round}
+use Rattle.simplex_certificates.specs.Certificate.{as_notarization}
 use Rattle.simplex_messages.specs.declared.activity.Activity.{Activity}
 use Rattle.simplex_messages.specs.declared.activity.Activity.TheVariants as activity
+use Rattle.simplex_messages.specs.declared.vote.Vote.{Vote}
+use Rattle.simplex_messages.specs.declared.vote.Vote.TheVariants as vote
+use Rattle.simplex_messages.specs.Activity.{certificate_activity, vote_activity}
+use Rattle.simplex_messages.specs.VoteParts.{vote_artifact}
 use Rattle.simplex_resolver.specs.History.{Item, Judged, item_of}
 use Rattle.simplex_record.specs.Record.{entries, judged, taken, voted}
 use Rattle.simplex_recording.specs.declared.recorded.Recorded.{Recorded}
@@ -104,6 +108,23 @@ module _ {S D P G C : Type 0} where
   reported-so g s recorded before rest r true report is told = ap option_to_list (told ∙ ap (option_map activity.Certification) (notarization-before g s recorded before rest r true is))
   reported-so g s recorded before rest r false report is told = ap option_to_list told
 
+  -- a vote is reported as it is, and so is a certificate
+  vote-as : (before : List (Artifact S D P G C)) (v : Vote S D P G C) → vote_activity v ∷ [] ≡ reported before (vote_artifact v)
+  vote-as before (vote.Notarize v) = refl
+  vote-as before (vote.Nullify v) = refl
+  vote-as before (vote.Finalize v) = refl
+
+  certificate-as : (before : List (Artifact S D P G C)) (c : Certificate S D P G C) → certificate_activity c ∷ [] ≡ reported before (certificate_artifact c)
+  certificate-as before (certificate.Notarization c) = refl
+  certificate-as before (certificate.Nullification c) = refl
+  certificate-as before (certificate.Finalization c) = refl
+
+  pub vote-reported : (before : List (Artifact S D P G C)) (x : Artifact S D P G C) (v : Vote S D P G C) (a : Activity S D P G C) → x ≡ vote_artifact v → a ≡ vote_activity v → a ∷ [] ≡ reported before x
+  vote-reported before x v a is told = ap (λ (b : Activity S D P G C). b ∷ []) told ∙ (vote-as before v ∙ ap (reported before) (sym is))
+
+  pub certificate-reported : (before : List (Artifact S D P G C)) (x : Artifact S D P G C) (c : Certificate S D P G C) (a : Activity S D P G C) → x ≡ certificate_artifact c → a ≡ certificate_activity c → a ∷ [] ≡ reported before x
+  certificate-reported before x c a is told = ap (λ (b : Activity S D P G C). b ∷ []) told ∙ (certificate-as before c ∙ ap (reported before) (sym is))
+
   -- a verdict is reported as it is to be
   pub verdict-reported : (g : Ghosts S D P G C) (s : Setup S D C) (recorded : Recorded S D P G C) (before rest : List (Artifact S D P G C)) (x : Artifact S D P G C) (r : Round) (ok : Bool) (report : Option (Activity S D P G C)) → x ≡ artifact.Certification r ok
       → IsRecordOf g s recorded (before ++ x ∷ rest) → report ≡ (if ok then option_map activity.Certification (notarization_in (before ++ x ∷ rest) r.view) else None) → option_to_list report ≡ reported before x
@@ -111,17 +132,23 @@ module _ {S D P G C : Type 0} where
       subst (λ (y : Artifact S D P G C). IsRecordOf g s recorded (before ++ y ∷ rest) → report ≡ (if ok then option_map activity.Certification (notarization_in (before ++ y ∷ rest) r.view) else None) → option_to_list report ≡ reported before y)
       (sym e) (reported-so g s recorded before rest r ok report)
 
-  -- what the repair is told of a certificate
-  certificate-told : (Q : List Item → Type 0) (R : ℕ → Type 0) (f : Formats S D P G C) (h : History S D P G C) (c copy : Certificate S D P G C) → copy ≡ c → R (artifact_round (certificate_artifact c)).view
-      → (R (certificate_round copy).view → Q (item_of f.certificate copy ∷ repair_of f h)) → Q (repair_found f h (certificate_artifact c) ++ repair_of f h)
-  certificate-told Q R f h (certificate.Notarization c) copy same room told = subst (λ (y : Certificate S D P G C). Q (item_of f.certificate y ∷ repair_of f h)) same (told (subst (λ (y : Certificate S D P G C). R (certificate_round y).view) (sym same) room))
-  certificate-told Q R f h (certificate.Nullification c) copy same room told = subst (λ (y : Certificate S D P G C). Q (item_of f.certificate y ∷ repair_of f h)) same (told (subst (λ (y : Certificate S D P G C). R (certificate_round y).view) (sym same) room))
-  certificate-told Q R f h (certificate.Finalization c) copy same room told = subst (λ (y : Certificate S D P G C). Q (item_of f.certificate y ∷ repair_of f h)) same (told (subst (λ (y : Certificate S D P G C). R (certificate_round y).view) (sym same) room))
+  -- the repair is told nothing of a vote
+  nothing-told : (Q : List Item → Type 0) (f : Formats S D P G C) (h : History S D P G C) (v : Vote S D P G C) → Q (repair_of f h) → Q (repair_found f h (vote_artifact v) ++ repair_of f h)
+  nothing-told Q f h (vote.Notarize v) q = q
+  nothing-told Q f h (vote.Nullify v) q = q
+  nothing-told Q f h (vote.Finalize v) q = q
 
-  pub given-found : (Q : List Item → Type 0) (R : ℕ → Type 0) (f : Formats S D P G C) (h : History S D P G C) (x : Artifact S D P G C) (c copy : Certificate S D P G C) → x ≡ certificate_artifact c → copy ≡ c → R (artifact_round x).view
-      → (R (certificate_round copy).view → Q (item_of f.certificate copy ∷ repair_of f h)) → Q (repair_found f h x ++ repair_of f h)
-  given-found Q R f h x c copy is same =
-      subst (λ (y : Artifact S D P G C). R (artifact_round y).view → (R (certificate_round copy).view → Q (item_of f.certificate copy ∷ repair_of f h)) → Q (repair_found f h y ++ repair_of f h)) (sym is) (certificate-told Q R f h c copy same)
+  pub vote-found : (Q : List Item → Type 0) (f : Formats S D P G C) (h : History S D P G C) (x : Artifact S D P G C) (v : Vote S D P G C) → x ≡ vote_artifact v → Q (repair_of f h) → Q (repair_found f h x ++ repair_of f h)
+  vote-found Q f h x v is q = subst (λ (y : Artifact S D P G C). Q (repair_found f h y ++ repair_of f h)) (sym is) (nothing-told Q f h v q)
+
+  -- what it is told of a certificate
+  certificate-told : (Q : List Item → Type 0) (f : Formats S D P G C) (h : History S D P G C) (c : Certificate S D P G C) → Q (item_of f.certificate c ∷ repair_of f h) → Q (repair_found f h (certificate_artifact c) ++ repair_of f h)
+  certificate-told Q f h (certificate.Notarization c) q = q
+  certificate-told Q f h (certificate.Nullification c) q = q
+  certificate-told Q f h (certificate.Finalization c) q = q
+
+  pub certificate-found : (Q : List Item → Type 0) (f : Formats S D P G C) (h : History S D P G C) (x : Artifact S D P G C) (c : Certificate S D P G C) → x ≡ certificate_artifact c → Q (item_of f.certificate c ∷ repair_of f h) → Q (repair_found f h x ++ repair_of f h)
+  certificate-found Q f h x c is q = subst (λ (y : Artifact S D P G C). Q (repair_found f h y ++ repair_of f h)) (sym is) (certificate-told Q f h c q)
 
   -- what it is told of a verdict
   verdict-told : (Q : List Item → Type 0) (g : Ghosts S D P G C) (s : Setup S D C) (recorded : Recorded S D P G C) (f : Formats S D P G C) (h : History S D P G C) (rest : List (Artifact S D P G C)) (r : Round) (ok : Bool)

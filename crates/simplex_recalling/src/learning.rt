@@ -39,7 +39,7 @@ pub fn what_is_not_recorded_is_unknown<S: Scheme<D>, D: Digest>()
 }
 
 /// Gives the voter a notarization, of whose view it knows none.
-pub(crate) fn give_notarization<S: Scheme<D> + Drop, L: Elector<S, D>, D: Digest>(
+fn give_notarization<S: Scheme<D> + Drop, L: Elector<S, D>, D: Digest>(
     alloc: Global,
     certificate: &Notarization<S, D>,
     voter: &mut Voter<S, L, D>,
@@ -52,7 +52,7 @@ pub(crate) fn give_notarization<S: Scheme<D> + Drop, L: Elector<S, D>, D: Digest
 }
 
 /// Gives the voter a nullification, of whose view it knows none.
-pub(crate) fn give_nullification<S: Scheme<D> + Drop, L: Elector<S, D>, D: Digest>(
+fn give_nullification<S: Scheme<D> + Drop, L: Elector<S, D>, D: Digest>(
     alloc: Global,
     now: u64,
     certificate: &Nullification<S, D>,
@@ -66,7 +66,7 @@ pub(crate) fn give_nullification<S: Scheme<D> + Drop, L: Elector<S, D>, D: Diges
 }
 
 /// Gives the voter a finalization, of whose view it knows none.
-pub(crate) fn give_finalization<S: Scheme<D> + Drop, L: Elector<S, D>, D: Digest>(
+fn give_finalization<S: Scheme<D> + Drop, L: Elector<S, D>, D: Digest>(
     alloc: Global,
     now: u64,
     certificate: &Finalization<S, D>,

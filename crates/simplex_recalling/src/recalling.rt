@@ -1,44 +1,38 @@
 //! What each layer of a node is told of an artifact that the record has.
 
-ghost use Rattle.std.specs.Prelude.{◌≡◌, ◌++◌, ◌∷◌, ℕ, Bool, List, None, Some, IfOk, OnOk, is_some, map, option_map, option_to_list, if◌then◌else◌};
+ghost use Rattle.std.specs.Prelude.{◌≡◌, ◌++◌, ◌∷◌, ℕ, Bool, List, None, Some, IfOk, OnOk, map, option_map, option_to_list, if◌then◌else◌};
 ghost use Rattle.simplex_types.specs.Positions.{HasRoom};
 ghost use Rattle.simplex_certificates.specs.declared.artifact.Artifact.{Artifact};
 ghost use Rattle.simplex_certificates.specs.ProposalCertificate.{Finalization, Notarization};
-ghost use Rattle.simplex_certificates.specs.Artifact.{artifact_round, certificate_artifact};
-ghost use Rattle.simplex_certificates.specs.Certificate.{any_certificate_spelling, as_notarization, certificate_round};
+ghost use Rattle.simplex_certificates.specs.Artifact.{artifact_round};
+ghost use Rattle.simplex_certificates.specs.Certificate.{any_certificate_spelling, as_notarization};
 ghost use Rattle.simplex_messages.specs.declared.activity.Activity.TheVariants as activity;
-ghost use Rattle.simplex_messages.specs.VoteParts.{vote_artifact, vote_round};
 ghost use Rattle.simplex_record.specs.declared.owner.Owner.{Owner};
-ghost use Rattle.simplex_record.specs.Lawful.{Verifies};
-ghost use Rattle.simplex_history.specs.History.{judged, seen};
+ghost use Rattle.simplex_history.specs.History.{seen};
 ghost use Rattle.simplex_tracking.specs.Rounds.{Takes};
 ghost use Rattle.simplex_voter.specs.State as voting;
-ghost use Rattle.simplex_acceptance.specs.Keeps as accepting;
-ghost use Rattle.simplex_resolver.specs.History.{Judged, item_of};
+ghost use Rattle.simplex_resolver.specs.History.{Judged};
 ghost use Rattle.simplex_resolver.specs.Keeps as repairing;
 ghost use Rattle.simplex_recording.specs.Recorded.{HoldsRecord};
 ghost use Rattle.simplex_member.specs.Deeds.{AreActions, Deed, Finalizes, Reports};
-ghost use Rattle.simplex_member.specs.Layers.{finds, floor_of, repair_found, repair_of};
+ghost use Rattle.simplex_member.specs.Layers.{finds, repair_found, repair_of};
 ghost use Rattle.simplex_member.specs.Packet.{Formats, formats};
-ghost use Rattle.simplex_member.specs.Point.{History, Found};
+ghost use Rattle.simplex_member.specs.Point.{History};
 ghost use Rattle.simplex_member.specs.Recorded.{finalization_in, notarization_in, record_of, reported};
-ghost use Rattle.simplex_member.specs.Setup.{Setup, owner_of};
+ghost use Rattle.simplex_member.specs.Setup.{Setup};
 ghost use Rattle.simplex_recalling.specs.GoingThrough.{IsRecordOf};
 ghost use Rattle.simplex_recalling.specs.Learning.{IsNew};
 
-use crate::learning::{
-    give_finalization, give_notarization, give_nullification, give_verdict, judge_repair,
-    update_repair,
-};
-use simplex_acceptance::{Acceptance, silent_points_leave_votes};
-use simplex_certificates::{Artifact, Certificate};
+use crate::learning::{give, give_verdict, judge_repair, update_repair};
+use simplex_certificates::Artifact;
 use simplex_exchange::{hand_out, report_if};
 use simplex_member::Action;
-use simplex_messages::{Activity, Vote};
+use simplex_messages::Activity;
 use simplex_recording::Recorded;
+use simplex_recounting::Said;
 use simplex_resolver::State as Repair;
 use simplex_rules::Elector;
-use simplex_types::{Digest, Duplicate, Scheme, View, Viewable};
+use simplex_types::{Digest, Duplicate, Scheme, View};
 use simplex_voter::State as Voter;
 use std::alloc::{AllocError, Global};
 
@@ -56,113 +50,13 @@ pub(crate) fn tell_voter<S: Scheme<D> + Drop, L: Elector<S, D>, D: Digest>(
     ensures { OnOk result (voting.AtEach S.Scheme L.Elector voter.old (λ s h. HasRoom s.length (artifact_round artifact.now).view → IsNew s h artifact.now → (taken : Bool) × Takes (seen s h) artifact.now taken × voting.Keeps S.Scheme L.Elector s voter.new (finds now artifact.now taken ++ h))) }
 {
     voter.replay(artifact)?;
-    match artifact {
-        Artifact::Notarize(_) => Ok(()),
-        Artifact::Notarization(certificate) => give_notarization(alloc, certificate, voter),
-        Artifact::Certification(round, ok) => judge_voter(voter, alloc, now, round.view, *ok),
-        Artifact::Nullify(_) => Ok(()),
-        Artifact::Nullification(certificate) => give_nullification(alloc, now, certificate, voter),
-        Artifact::Finalize(_) => Ok(()),
-        Artifact::Finalization(certificate) => give_finalization(alloc, now, certificate, voter),
-    }
-}
-
-/// Tells the voter of a verdict on a notarization that it knows.
-fn judge_voter<S: Scheme<D> + Drop, L: Elector<S, D>, D: Digest>(
-    voter: &mut Voter<S, L, D>,
-    alloc: Global,
-    now: u64,
-    view: View,
-    ok: bool,
-) -> Result<(), AllocError>
-    ensures { OnOk result (voting.AtEach S.Scheme L.Elector voter.old (λ s h. voting.Keeps S.Scheme L.Elector s voter.new (judged now view ok ∷ h))) }
-{
-    match give_verdict(alloc, now, view, ok, voter) {
-        Ok(_) => Ok(()),
-        Err(_) => Err(AllocError),
-    }
-}
-
-/// Tells the votes of all views, before what need not be kept behind it is dropped: at this floor.
-///
-/// # Errors
-///
-/// `AllocError` where memory ran out; and where an accepted vote stands in the way of an own one, as in no lawful record.
-pub(crate) fn tell_votes<S: Scheme<D> + Drop, D: Digest>(
-    acceptance: &mut Acceptance<S, D>,
-    alloc: Global,
-    floor: View,
-    artifact: &Artifact<S, D>,
-) -> Result<(), AllocError>
-    ensures { OnOk result (accepting.AtEach S.Scheme D.PartialEq.eq acceptance.old (λ s h. (taken : Bool) → floor ≡ floor_of s h → HasRoom s.voter.length (artifact_round artifact.now).view → Verifies (S.attests s.voter.scheme) (S.certifies s.voter.scheme) (owner_of s) artifact.now → accepting.KeepsAhead S.Scheme D.PartialEq.eq s acceptance.new h (Found artifact.now taken))) }
-{
-    silent_points_leave_votes::<S, D>();
-    match artifact {
-        Artifact::Notarize(vote) => cast(acceptance, floor, Vote::Notarize(vote.duplicate(alloc)?)),
-        Artifact::Notarization(certificate) => {
-            certify(
-                acceptance,
-                &Certificate::Notarization(certificate.duplicate(alloc)?),
-            )
-        }
-        Artifact::Certification(..) => Ok(()),
-        Artifact::Nullify(vote) => cast(acceptance, floor, Vote::Nullify(vote.duplicate(alloc)?)),
-        Artifact::Nullification(certificate) => {
-            certify(
-                acceptance,
-                &Certificate::Nullification(certificate.duplicate(alloc)?),
-            )
-        }
-        Artifact::Finalize(vote) => cast(acceptance, floor, Vote::Finalize(vote.duplicate(alloc)?)),
-        Artifact::Finalization(certificate) => {
-            certify(
-                acceptance,
-                &Certificate::Finalization(certificate.duplicate(alloc)?),
-            )
-        }
-    }
-}
-
-/// Tells the votes of all views of an own vote. From the floor on none may stand in its way.
-fn cast<S: Scheme<D> + Drop, D: Digest>(
-    acceptance: &mut Acceptance<S, D>,
-    floor: View,
-    vote: Vote<S, D>,
-) -> Result<(), AllocError>
-    ensures { OnOk result (accepting.AtEach S.Scheme D.PartialEq.eq acceptance.old (λ s h. (taken : Bool) → floor ≡ floor_of s h → HasRoom s.voter.length (vote_round vote).view → Verifies (S.attests s.voter.scheme) (S.certifies s.voter.scheme) (owner_of s) (vote_artifact vote) → accepting.KeepsAhead S.Scheme D.PartialEq.eq s acceptance.new h (Found (vote_artifact vote) taken))) }
-{
-    let view = vote.view();
-    match acceptance.cast(vote) {
-        Ok(report) => {
-            if is_told(report) {
-                return Ok(());
-            }
-            if view < floor {
-                return Ok(());
-            }
-            Err(AllocError)
-        }
-        Err(_) => Err(AllocError),
-    }
-}
-
-/// Whether there is a report, which is let go.
-fn is_told<S: Scheme<D>, D: Digest>(report: Option<Activity<S, D>>) -> bool
-    ensures { result ≡ is_some report }
-{
-    report.is_some()
-}
-
-/// Tells the votes of all views of a certificate.
-fn certify<S: Scheme<D> + Drop, D: Digest>(
-    acceptance: &mut Acceptance<S, D>,
-    certificate: &Certificate<S, D>,
-) -> Result<(), AllocError>
-    ensures { OnOk result (accepting.AtEach S.Scheme D.PartialEq.eq acceptance.old (λ s h. (taken : Bool) → HasRoom s.voter.length (certificate_round certificate.now).view → accepting.KeepsAhead S.Scheme D.PartialEq.eq s acceptance.new h (Found (certificate_artifact certificate.now) taken))) }
-{
-    match acceptance.record(certificate) {
-        Ok(()) => Ok(()),
-        Err(_) => Err(AllocError),
+    match Said::from(artifact.duplicate(alloc)?) {
+        Said::Vote(_) => Ok(()),
+        Said::Certificate(certificate) => give(alloc, now, &certificate, voter),
+        Said::Verdict(round, ok) => match give_verdict(alloc, now, round.view, ok, voter) {
+            Ok(_) => Ok(()),
+            Err(_) => Err(AllocError),
+        },
     }
 }
 
@@ -181,46 +75,13 @@ pub(crate) fn tell_repair<S: Scheme<D>, D: Digest>(
         → repairing.Keeps s.voter.length repair.old (repair_of (formats D.PartialEq.eq D.spelling S.Signature.spelling S.Certificate.spelling D.reading S.Signature.reading S.Certificate.reading n) h)
         → repairing.Keeps s.voter.length repair.new (repair_found (formats D.PartialEq.eq D.spelling S.Signature.spelling S.Certificate.spelling D.reading S.Signature.reading S.Certificate.reading n) h artifact.now ++ repair_of (formats D.PartialEq.eq D.spelling S.Signature.spelling S.Certificate.spelling D.reading S.Signature.reading S.Certificate.reading n) h)) }
 {
-    match artifact {
-        Artifact::Notarize(_) => Ok(()),
-        Artifact::Notarization(certificate) => {
-            update(
-                repair,
-                alloc,
-                &Certificate::Notarization(certificate.duplicate(alloc)?),
-            )
-        }
-        Artifact::Certification(round, ok) => judge(repair, alloc, recorded, round.view, *ok),
-        Artifact::Nullify(_) => Ok(()),
-        Artifact::Nullification(certificate) => {
-            update(
-                repair,
-                alloc,
-                &Certificate::Nullification(certificate.duplicate(alloc)?),
-            )
-        }
-        Artifact::Finalize(_) => Ok(()),
-        Artifact::Finalization(certificate) => {
-            update(
-                repair,
-                alloc,
-                &Certificate::Finalization(certificate.duplicate(alloc)?),
-            )
-        }
-    }
-}
-
-/// Tells the repair of a certificate. What would follow from it is not asked for before the end of the record.
-fn update<S: Scheme<D>, D: Digest>(
-    repair: &mut Repair,
-    alloc: Global,
-    certificate: &Certificate<S, D>,
-) -> Result<(), AllocError>
-    ensures { OnOk result (repairing.AtEach repair.old (λ views items. HasRoom views (certificate_round certificate.now).view → repairing.Keeps views repair.new (item_of (any_certificate_spelling D.spelling S.Certificate.spelling) certificate.now ∷ items))) }
-{
-    match update_repair(alloc, certificate, repair) {
-        Ok(()) => Ok(()),
-        Err(_) => Err(AllocError),
+    match Said::from(artifact.duplicate(alloc)?) {
+        Said::Vote(_) => Ok(()),
+        Said::Certificate(certificate) => match update_repair(alloc, &certificate, repair) {
+            Ok(()) => Ok(()),
+            Err(_) => Err(AllocError),
+        },
+        Said::Verdict(round, ok) => judge(repair, alloc, recorded, round.view, ok),
     }
 }
 
@@ -276,20 +137,10 @@ fn report_of<S: Scheme<D>, D: Digest>(
 ) -> Result<Option<Activity<S, D>>, AllocError>
     ensures { IfOk result (λ report. (s : Setup S D S.Certificate) (before rest : List (Artifact S D S.PublicKey S.Signature S.Certificate)) → IsRecordOf S.Scheme s recorded.now (before ++ artifact.now ∷ rest) → option_to_list report ≡ reported before artifact.now) }
 {
-    match artifact {
-        Artifact::Notarize(vote) => Ok(Some(Activity::Notarize(vote.duplicate(alloc)?))),
-        Artifact::Notarization(certificate) => Ok(Some(Activity::Notarization(certificate.duplicate(
-            alloc,
-        )?))),
-        Artifact::Certification(round, ok) => report_of_verdict(alloc, recorded, round.view, *ok),
-        Artifact::Nullify(vote) => Ok(Some(Activity::Nullify(vote.duplicate(alloc)?))),
-        Artifact::Nullification(certificate) => Ok(Some(Activity::Nullification(
-            certificate.duplicate(alloc)?,
-        ))),
-        Artifact::Finalize(vote) => Ok(Some(Activity::Finalize(vote.duplicate(alloc)?))),
-        Artifact::Finalization(certificate) => Ok(Some(Activity::Finalization(certificate.duplicate(
-            alloc,
-        )?))),
+    match Said::from(artifact.duplicate(alloc)?) {
+        Said::Vote(vote) => Ok(Some(Activity::from(vote))),
+        Said::Certificate(certificate) => Ok(Some(Activity::from(certificate))),
+        Said::Verdict(round, ok) => report_of_verdict(alloc, recorded, round.view, ok),
     }
 }
 

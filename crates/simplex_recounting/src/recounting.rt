@@ -1,0 +1,83 @@
+//! What the votes of all views are told of an artifact that the record has.
+
+ghost use Rattle.std.specs.Prelude.{◌≡◌, Bool, OnOk, is_some};
+ghost use Rattle.simplex_types.specs.Positions.{HasRoom};
+ghost use Rattle.simplex_certificates.specs.Artifact.{artifact_round, certificate_artifact};
+ghost use Rattle.simplex_certificates.specs.Certificate.{certificate_round};
+ghost use Rattle.simplex_messages.specs.VoteParts.{vote_artifact, vote_round};
+ghost use Rattle.simplex_record.specs.Lawful.{Verifies};
+ghost use Rattle.simplex_acceptance.specs.Keeps as accepting;
+ghost use Rattle.simplex_member.specs.Layers.{floor_of};
+ghost use Rattle.simplex_member.specs.Point.{Found};
+ghost use Rattle.simplex_member.specs.Setup.{owner_of};
+
+use crate::saying::Said;
+use simplex_acceptance::{Acceptance, silent_points_leave_votes};
+use simplex_certificates::{Artifact, Certificate};
+use simplex_messages::{Activity, Vote};
+use simplex_types::{Digest, Duplicate, Scheme, View, Viewable};
+use std::alloc::{AllocError, Global};
+
+/// Tells the votes of all views, before what need not be kept behind it is dropped: at this floor.
+///
+/// # Errors
+///
+/// `AllocError` where memory ran out; and where an accepted vote stands in the way of an own one, as in no lawful record.
+pub fn tell_votes<S: Scheme<D> + Drop, D: Digest>(
+    acceptance: &mut Acceptance<S, D>,
+    alloc: Global,
+    floor: View,
+    artifact: &Artifact<S, D>,
+) -> Result<(), AllocError>
+    ensures { OnOk result (accepting.AtEach S.Scheme D.PartialEq.eq acceptance.old (λ s h. (taken : Bool) → floor ≡ floor_of s h → HasRoom s.voter.length (artifact_round artifact.now).view → Verifies (S.attests s.voter.scheme) (S.certifies s.voter.scheme) (owner_of s) artifact.now → accepting.KeepsAhead S.Scheme D.PartialEq.eq s acceptance.new h (Found artifact.now taken))) }
+{
+    silent_points_leave_votes::<S, D>();
+    match Said::from(artifact.duplicate(alloc)?) {
+        Said::Vote(vote) => cast(acceptance, floor, vote),
+        Said::Certificate(certificate) => certify(acceptance, &certificate),
+        Said::Verdict(..) => Ok(()),
+    }
+}
+
+/// Tells the votes of all views of an own vote. From the floor on none may stand in its way.
+fn cast<S: Scheme<D> + Drop, D: Digest>(
+    acceptance: &mut Acceptance<S, D>,
+    floor: View,
+    vote: Vote<S, D>,
+) -> Result<(), AllocError>
+    ensures { OnOk result (accepting.AtEach S.Scheme D.PartialEq.eq acceptance.old (λ s h. (taken : Bool) → floor ≡ floor_of s h → HasRoom s.voter.length (vote_round vote).view → Verifies (S.attests s.voter.scheme) (S.certifies s.voter.scheme) (owner_of s) (vote_artifact vote) → accepting.KeepsAhead S.Scheme D.PartialEq.eq s acceptance.new h (Found (vote_artifact vote) taken))) }
+{
+    let view = vote.view();
+    match acceptance.cast(vote) {
+        Ok(report) => {
+            if is_told(report) {
+                return Ok(());
+            }
+            if view < floor {
+                return Ok(());
+            }
+            Err(AllocError)
+        }
+        Err(_) => Err(AllocError),
+    }
+}
+
+/// Whether there is a report, which is let go.
+fn is_told<S: Scheme<D>, D: Digest>(report: Option<Activity<S, D>>) -> bool
+    ensures { result ≡ is_some report }
+{
+    report.is_some()
+}
+
+/// Tells the votes of all views of a certificate.
+fn certify<S: Scheme<D> + Drop, D: Digest>(
+    acceptance: &mut Acceptance<S, D>,
+    certificate: &Certificate<S, D>,
+) -> Result<(), AllocError>
+    ensures { OnOk result (accepting.AtEach S.Scheme D.PartialEq.eq acceptance.old (λ s h. (taken : Bool) → HasRoom s.voter.length (certificate_round certificate.now).view → accepting.KeepsAhead S.Scheme D.PartialEq.eq s acceptance.new h (Found (certificate_artifact certificate.now) taken))) }
+{
+    match acceptance.record(certificate) {
+        Ok(()) => Ok(()),
+        Err(_) => Err(AllocError),
+    }
+}
