@@ -6,6 +6,7 @@ programs taking turns, less that of a run with no repetition, for each repetitio
 """
 
 import argparse
+import re
 import resource
 import statistics
 import subprocess
@@ -14,6 +15,8 @@ import sys
 SIZES = [4, 100, 1000]
 RUNS = 7
 QUICK_RUNS = 3
+COUNTED = 40_000
+CALLGRIND = ["valgrind", "--tool=callgrind", "--callgrind-out-file=/dev/null"]
 # How many votes each member hands in, and how many one run goes through.
 PHASES = {
     "add": (4, 8_000_000),
@@ -26,6 +29,7 @@ def arguments():
     parser = argparse.ArgumentParser(prog="batcher.sh", description="Measures a round of votes.")
     parser.add_argument("--quick", action="store_true", help=f"{QUICK_RUNS} runs")
     parser.add_argument("--runs", type=int, default=RUNS)
+    parser.add_argument("--instructions", action="store_true", help="count instructions, which no load moves, in place of times")
     parser.add_argument("--baseline", help=argparse.SUPPRESS)
     parser.add_argument("--simplex", help=argparse.SUPPRESS)
     return parser.parse_args()
@@ -71,9 +75,35 @@ def measure(programs, phase, members, runs):
     return each, statistics.median(ratios)
 
 
+def instructions(program, phase, members, repetitions):
+    """How many instructions such a run takes."""
+    command = [*CALLGRIND, program, phase, str(members), str(repetitions)]
+    done = subprocess.run(command, check=True, capture_output=True)
+    if done.stdout.decode() != expected(phase, members, repetitions):
+        sys.exit(f"disagreement: {program} answers {done.stdout} of {phase}, {members}")
+    return int(re.search(r"Collected : (\d+)", done.stderr.decode()).group(1))
+
+
+def count(programs):
+    """Prints the instructions for a vote of each program, less those of a run of no round."""
+    print("Instructions for one vote.\n")
+    print("| Phase | Members | Baseline | `simplex` | Ratio |")
+    print("|---|---:|---:|---:|---:|")
+    for phase, (votes, _) in PHASES.items():
+        for members in SIZES:
+            rounds = max(2, COUNTED // (votes * members))
+            each = [
+                (instructions(program, phase, members, rounds) - instructions(program, phase, members, 0)) / (rounds * votes * members)
+                for program in programs
+            ]
+            print(f"| {phase} | {members:,} | {each[0]:,.0f} | {each[1]:,.0f} | {each[1] / each[0]:.2f} |")
+
+
 def main():
     given = arguments()
     programs = [given.baseline, given.simplex]
+    if given.instructions:
+        return count(programs)
     runs = QUICK_RUNS if given.quick else given.runs
     costs = {}
     for phase in PHASES:

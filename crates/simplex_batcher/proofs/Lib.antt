@@ -1,6 +1,5 @@
 pub mod Admitting
 pub mod Single
-pub mod Rows
 pub mod Reaching
 pub mod Summing
 pub mod Ending

@@ -9,8 +9,7 @@ use Rattle.simplex_messages.specs.VoteParts.{vote_signer}
 use Rattle.simplex_verifier.specs.Votes.{is_in_way, is_notarize_of, is_other_of}
 use Rattle.simplex_verifier.specs.History.{History, accepted, Taken, Cast, Certified, Led, Judged, Forwarded, Setup}
 use Rattle.simplex_verifier.specs.Lawful.{IsLawful}
-use Rattle.simplex_batcher.specs.Queries.{is_nullify, has_nullify, is_backing, is_missing_voter}
-use Rattle.simplex_batcher.specs.Tracking.{passes}
+use Rattle.simplex_batcher.specs.Queries.{passes, is_nullify, has_nullify, is_backing, is_missing_voter}
 
 module _ {X : Type 0} where
   -- of these at most one passes

@@ -1,5 +1,4 @@
 pub mod Queries
 pub mod Admission
-pub mod Tracking
 pub mod Rounds
 pub mod Run

@@ -1,5 +1,5 @@
 -- What can be asked about the accepted votes, own ones among them.
-use Rattle.std.specs.Prelude.{◌==◌, ◌&&◌, ℕ, Bool, false, List, find, filter, is_none, is_some}
+use Rattle.std.specs.Prelude.{◌==◌, ◌&&◌, ℕ, Bool, false, List, Option, None, Some, find, filter, is_none, is_some}
 use Rattle.std.specs.List.{range_with_len}
 use Rattle.simplex_types.specs.declared.proposal.Proposal.{Proposal}
 use Rattle.simplex_messages.specs.declared.vote.Vote.{Vote}
@@ -8,6 +8,11 @@ use Rattle.simplex_messages.specs.VoteParts.{vote_signer}
 use Rattle.simplex_rules.specs.declared.kind.Kind.TheVariants.{Nullification}
 use Rattle.simplex_verifier.specs.Votes.{is_kind, is_proposal, vote_kind}
 use Rattle.simplex_verifier.specs.History.{History, Setup, accepted}
+
+-- there is one, and it passes
+abbrev pub passes : {X : Type 0} → (X → Bool) → Option X → Bool
+passes p None = false
+passes p (Some x) = p x
 
 module _ {S D P G C : Type 0} where
   -- the vote is a nullify

@@ -1,11 +1,11 @@
 -- What a round keeps of a history.
-use Rattle.std.specs.Prelude.{◌≡◌, ℕ, Bool, None, [], ◌∷◌, ⊤}
+use Rattle.std.specs.Prelude.{◌≡◌, ◌<◌, All, ℕ, Bool, None, [], ◌∷◌, ⊤}
 use Rattle.simplex_types.specs.Subject.{Statement}
 use Rattle.simplex_types.specs.declared.scheme.Scheme.{Ghosts}
 use Rattle.simplex_batcher.specs.declared.round.Round.{Round}
 use Rattle.simplex_verifier.specs.History.{History, Taken, Cast, Certified, Led, Judged, Forwarded, Setup, accepted, recorded, has_forwarded}
 use Rattle.simplex_verifier.specs.Lawful.{IsLawful, IsConsistent}
-use Rattle.simplex_batcher.specs.Tracking.{TrackerKeeps}
+use Rattle.simplex_messages.specs.VoteParts.{vote_signer}
 use Rattle.simplex_verifier.specs.Keeping.{VerifierKeeps, kept-consistent}
 
 -- nothing stood in the way of any accepted vote when it came
@@ -30,9 +30,8 @@ module _ {S D P G C : Type 0} (same : D → D → Bool) (g : Ghosts S D P G C) (
   -- the round stands where this history leads
   pub record IsRoundKept (s : Setup S) (r : Round S D P G C) (h : History S D P G C) : Type 0 where
     pub verifier : VerifierKeeps same g batchable s r.verifier h
-    pub tracker : TrackerKeeps r.tracker (accepted h)
+    pub of_members : All (λ v. vote_signer v < s.members) (accepted h)
     pub are_new : AreNew h
-    pub members_are : r.tracker.members ≡ s.members
     pub tracks_is : r.tracks ≡ s.tracks
     pub forwarded_is : r.forwarded ≡ has_forwarded h
 

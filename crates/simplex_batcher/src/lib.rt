@@ -4,7 +4,6 @@
 mod call;
 mod round;
 mod running;
-mod tracker;
 mod votes;
 
 pub use call::{Answer, Call, Question};

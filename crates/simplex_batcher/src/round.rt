@@ -17,8 +17,7 @@ ghost use Rattle.simplex_batcher.specs.Admission.{contradicts, IsBlocked, report
 ghost use Rattle.simplex_verifier.specs.ConstructionResult.{after, after_construction, kinds_left, HasFailed, IsBatch, IsReadable, IsVoted};
 ghost use Rattle.simplex_batcher.specs.Rounds.{RoundKeeps, AtEach};
 
-use crate::tracker::VoteTracker;
-use crate::votes::{round_of, round_of_certificate};
+use crate::votes::{notarized_in, round_of, round_of_certificate};
 use simplex_admission::{Admission, are_against, copied, refusal, report};
 use simplex_judging::in_turn;
 use simplex_messages::{Activity, Certificate, Vote};
@@ -38,7 +37,6 @@ mod queries;
 pub struct Round<S: Scheme<D>, D: Digest> {
     tracks: bool,
     forwarded: bool,
-    tracker: VoteTracker<S, D>,
     verifier: Verifier<S, D>,
 }
 
@@ -51,7 +49,6 @@ impl<S: Scheme<D>, D: Digest> Round<S, D> {
         Round {
             tracks: track_historical_votes,
             forwarded: false,
-            tracker: VoteTracker::new(alloc, scheme.participants()),
             verifier: Verifier::open(alloc, round, scheme, 0, false),
         }
     }
@@ -63,7 +60,6 @@ impl<S: Scheme<D>, D: Digest> Round<S, D> {
         Round {
             tracks: false,
             forwarded: false,
-            tracker: VoteTracker::new(alloc, scheme.participants()),
             verifier: Verifier::open(alloc, round, scheme, 0, true),
         }
     }
@@ -103,7 +99,7 @@ impl<S: Scheme<D>, D: Digest> Round<S, D> {
         ensures block { IfSome result (λ a. AtEach D.PartialEq.eq S.Scheme S.batchable self.now (λ s h. IsTrue a.block ↔ IsBlocked s h sender vote.now)) }
         ensures report { IfSome result (λ a. AtEach D.PartialEq.eq S.Scheme S.batchable self.now (λ s h. a.report ≡ report_of D.PartialEq.eq s h sender vote.now)) }
     {
-        let recorded = self.tracker.recorded(vote);
+        let recorded = self.verifier.recorded(vote);
         let in_full = self.holds_in_full(recorded);
         refusal(
             self.verifier.participants(),
@@ -166,15 +162,13 @@ impl<S: Scheme<D>, D: Digest> Round<S, D> {
         ensures err { OnErr result (AtEach D.PartialEq.eq S.Scheme S.batchable self.old (λ s h. RoundKeeps D.PartialEq.eq S.Scheme S.batchable s self.new h)) }
     {
         what_is_new_may_be_added::<S, D>();
-        self.tracker.reach()?;
         self.verifier.add(copied(vote), own)?;
-        self.tracker.put(vote);
         Ok(())
     }
 
-    /// Takes an own vote, which attests: its report where it is new, and nothing where one of its kind, or of nullify and
-    /// finalize the other, was given before; then nothing is changed, also where it does not attest. An own vote of a member that never contradicts itself is refused for want of
-    /// memory alone.
+    /// Takes an own vote, which attests: its report where it is new, and nothing where one of its kind, or of nullify
+    /// and finalize the other, was given before; then nothing is changed, also where it does not attest. An own vote of
+    /// a member that never contradicts itself is refused for want of memory alone.
     ///
     /// # Errors
     ///
@@ -195,7 +189,7 @@ impl<S: Scheme<D>, D: Digest> Round<S, D> {
         if !self.belongs(&vote) {
             return Err(BatcherFault::WrongRound);
         }
-        if let Some(recorded) = self.tracker.recorded(&vote) {
+        if let Some(recorded) = self.verifier.recorded(&vote) {
             if are_against(recorded, &vote) {
                 return Err(BatcherFault::Contradicts);
             }
@@ -240,19 +234,19 @@ impl<S: Scheme<D>, D: Digest> Round<S, D> {
         ensures ok { OnOk result (AtEach D.PartialEq.eq S.Scheme S.batchable self.old (λ s h. RoundKeeps D.PartialEq.eq S.Scheme S.batchable s self.new (if is_none (leader_of h) then Led leader ∷ h else h))) }
         ensures err { OnErr result (AtEach D.PartialEq.eq S.Scheme S.batchable self.old (λ s h. RoundKeeps D.PartialEq.eq S.Scheme S.batchable s self.new h)) }
     {
-        let led = self.tracker.notarized_by(leader);
+        let led = notarized_in(self.verifier.vote_of(leader, true));
         match self.verifier.lead(leader, led) {
             Ok(()) => Ok(()),
             Err(fault) => Err(fault),
         }
     }
 
-    /// Makes a certificate, or judges the votes that wait, of the first kind of which one of the two is due: notarization,
-    /// nullification, finalization. A certificate is the first of its kind, is of the round, certifies what it states, can
-    /// be read again in the committee, and lists attestations alone of accepted votes that state the same. Of each signer
-    /// that is called invalid a vote was accepted that does not attest what it states. Where nothing is due, each kind with a valid quorum has its certificate. Where something
-    /// was, a later kind is due, or none: three calls one after the other are enough. After an `Err` the call counts as not
-    /// made.
+    /// Makes a certificate, or judges the votes that wait, of the first kind of which one of the two is due:
+    /// notarization, nullification, finalization. A certificate is the first of its kind, is of the round, certifies
+    /// what it states, can be read again in the committee, and lists attestations alone of accepted votes that state
+    /// the same. Of each signer that is called invalid a vote was accepted that does not attest what it states. Where
+    /// nothing is due, each kind with a valid quorum has its certificate. Where something was, a later kind is due, or
+    /// none: three calls one after the other are enough. After an `Err` the call counts as not made.
     pub fn try_construct(
         &mut self,
         alloc: Global,

@@ -1,9 +1,10 @@
 //! What a vote or a certificate of any kind is for.
 
 ghost use Rattle.std.specs.Prelude.{◌≡◌};
-ghost use Rattle.simplex_messages.specs.VoteParts.{vote_round, vote_signer};
+ghost use Rattle.simplex_messages.specs.VoteParts.{vote_round};
 ghost use Rattle.simplex_certificates.specs.Certificate.{certificate_round};
-ghost use Rattle.simplex_verifier.specs.Votes.{is_notarize_of};
+ghost use Rattle.simplex_verifier.specs.Votes.{notarized_proposal};
+ghost use Rattle.std.specs.Option.{option_and_then, option_copied};
 ghost use Rattle.simplex_batcher.specs.Queries.{is_nullify, is_backing};
 
 use simplex_messages::{Certificate, Vote};
@@ -20,14 +21,17 @@ pub(crate) fn round_of<S: Scheme<D>, D: Digest>(vote: &Vote<S, D>) -> Round
     }
 }
 
-/// Whether the vote is a notarize.
-pub(crate) fn is_notarize<S: Scheme<D>, D: Digest>(vote: &Vote<S, D>) -> bool
-    ensures { result ≡ is_notarize_of (vote_signer vote.now) vote.now }
+/// The proposal of a notarize, if there is one.
+pub(crate) fn notarized_in<S: Scheme<D>, D: Digest>(
+    vote: Option<&Vote<S, D>>,
+) -> Option<Proposal<D>>
+    ensures { result ≡ option_and_then notarized_proposal (option_copied vote.entry) }
 {
     match vote {
-        Vote::Notarize(_) => true,
-        Vote::Nullify(_) => false,
-        Vote::Finalize(_) => false,
+        Some(Vote::Notarize(vote)) => Some(vote.proposal),
+        Some(Vote::Nullify(_)) => None,
+        Some(Vote::Finalize(_)) => None,
+        None => None,
     }
 }
 

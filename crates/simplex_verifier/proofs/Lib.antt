@@ -1,8 +1,11 @@
+pub mod Shuffling
+pub mod Holding
 pub mod Folding
 pub mod Choosing
 pub mod Adding
 pub mod Lawfully
 pub mod Stating
+pub mod Agreeing
 pub mod Kept
 pub mod Rightly
 pub mod Constructing

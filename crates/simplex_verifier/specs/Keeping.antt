@@ -7,14 +7,13 @@ use Rattle.simplex_messages.specs.declared.vote.Vote.TheVariants as vote
 use Rattle.simplex_committee.specs.Committee.{quorum}
 use Rattle.simplex_types.specs.declared.scheme.Scheme.{Ghosts}
 use Rattle.simplex_rules.specs.declared.kind.Kind.{Kind}
-use Rattle.simplex_rules.specs.declared.kind.Kind.TheVariants.{Notarization, Nullification, Finalization}
 use Rattle.simplex_verifier.specs.declared.proposal_state.ProposalState.{ProposalState}
 use Rattle.simplex_verifier.specs.declared.proposal_state.ProposalState.TheVariants as state
-use Rattle.simplex_verifier.specs.declared.pool.Pool.{Pool}
+use Rattle.simplex_verifier.specs.declared.rows.Rows.{Rows}
 use Rattle.simplex_verifier.specs.declared.verifier.Verifier.{Verifier}
-use Rattle.simplex_verifier.specs.History.{History, Setup, Selection, Unknown, Leads, Fixed, proposal_of, selection, leader_of, is_complete, is_candidate, waiting, verified}
+use Rattle.simplex_verifier.specs.History.{History, Setup, Selection, Unknown, Leads, Fixed, proposal_of, selection, leader_of, is_candidate}
 use Rattle.simplex_verifier.specs.Lawful.{IsConsistent}
-use Rattle.simplex_verifier.specs.Pools.{PoolIs}
+use Rattle.simplex_verifier.specs.Rows.{KindIs, PlacesStay, RowsKeep}
 
 -- the selection that a state stands for
 abbrev pub selection_of : {D : Type 0} → ProposalState D → Selection D
@@ -23,10 +22,6 @@ selection_of (state.Leader p) = Leads p
 selection_of (state.Certificate p) = Fixed p
 
 module _ {S D P G C : Type 0} (same : D → D → Bool) where
-  -- the pool of a kind stands where this history leads
-  abbrev pub PoolKeeps : Setup S → Kind → Pool S D P G C → History S D P G C → Type 0
-  PoolKeeps s kind pool h = PoolIs pool (is_complete kind h) (waiting same s kind h) (verified same s kind h)
-
   module _ (g : Ghosts S D P G C) (batchable : S → Bool) where
     -- the verifier stands where this history leads
     pub record IsVerifierKept (s : Setup S) (v : Verifier S D P G C) (h : History S D P G C) : Type 0 where
@@ -40,9 +35,7 @@ module _ {S D P G C : Type 0} (same : D → D → Bool) where
       pub skipped_is : v.skipped ≡ s.is_skipped
       pub leader_is : v.leader ≡ leader_of h
       pub selection_is : selection_of v.proposal ≡ selection h
-      pub notarizes : PoolKeeps s Notarization v.pools.notarizes h
-      pub nullifies : PoolKeeps s Nullification v.pools.nullifies h
-      pub finalizes : PoolKeeps s Finalization v.pools.finalizes h
+      pub rows : RowsKeep same s v.rows h
       pub lawful : IsConsistent same g.attests s h
 
     -- the same, closed for those who stand above
@@ -82,10 +75,11 @@ module _ {S D P G C : Type 0} where
   abbrev pub Counts : (D → D → Bool) → ProposalState D → ProposalState D → List (Vote S D P G C) → Type 0
   Counts same old next votes = proposal_of (selection_of next) ≡ proposal_of (selection_of old) → filter (is_candidate same (proposal_of (selection_of next))) votes ≡ votes
 
-  -- a pool from which the votes for other proposals than the next were dropped
-  abbrev pub KeepsFor : (D → D → Bool) → ProposalState D → ProposalState D → Pool S D P G C → Pool S D P G C → Type 0
-  KeepsFor same old next before after =
-      Counts same old next before.waiting.items → Counts same old next before.verified.items → PoolIs after before.complete (filter (is_candidate same (proposal_of (selection_of next))) before.waiting.items) (filter (is_candidate same (proposal_of (selection_of next))) before.verified.items)
+  -- rows in which the votes for other proposals than the next count no more
+  pub record KeepsFor (same : D → D → Bool) (old next : ProposalState D) (before after : Rows S D P G C) : Type 0 where
+    pub places : PlacesStay before after
+    pub kinds : (kind : Kind) (complete : Bool) (wait sure : List (Vote S D P G C)) → KindIs kind before complete wait sure → Counts same old next wait → Counts same old next sure
+        → KindIs kind after complete (filter (is_candidate same (proposal_of (selection_of next))) wait) (filter (is_candidate same (proposal_of (selection_of next))) sure)
 
   -- a verifier that selects what comes next, and is else as it was but for votes for other proposals
   pub record IsChosen (same : D → D → Bool) (next : ProposalState D) (old new : Verifier S D P G C) : Type 0 where
@@ -95,6 +89,4 @@ module _ {S D P G C : Type 0} where
     pub skipped_stays : new.skipped ≡ old.skipped
     pub leader_stays : new.leader ≡ old.leader
     pub selects : selection_of new.proposal ≡ selection_of next
-    pub notarizes : KeepsFor same old.proposal next old.pools.notarizes new.pools.notarizes
-    pub nullifies : KeepsFor same old.proposal next old.pools.nullifies new.pools.nullifies
-    pub finalizes : KeepsFor same old.proposal next old.pools.finalizes new.pools.finalizes
+    pub keeps : KeepsFor same old.proposal next old.rows new.rows

@@ -1,7 +1,7 @@
 pub mod Votes
 pub mod History
 pub mod Lawful
-pub mod Pools
+pub mod Rows
 pub mod Keeping
 pub mod ConstructionResult
 pub mod Quorums

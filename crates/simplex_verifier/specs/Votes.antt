@@ -57,6 +57,11 @@ module _ {S D P G C : Type 0} where
   is_other_of signer (vote.Nullify v) = v.attestation.signer == signer
   is_other_of signer (vote.Finalize v) = v.attestation.signer == signer
 
+  -- the vote is a notarize of this signer, or a nullify or finalize of it
+  abbrev pub is_of : Bool → ℕ → Vote S D P G C → Bool
+  is_of true signer = is_notarize_of signer
+  is_of false signer = is_other_of signer
+
   -- an accepted vote that stands in the way of this one: of its signer, and of its kind or, of nullify and finalize, of
   -- either
   abbrev pub is_in_way : Vote S D P G C → Vote S D P G C → Bool

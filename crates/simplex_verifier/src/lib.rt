@@ -4,9 +4,8 @@
 mod batch;
 mod fault;
 mod laws;
-mod pool;
-mod pools;
 mod proposal_state;
+mod rows;
 mod verifier;
 mod votes;
 

@@ -1,19 +1,20 @@
 //! The votes of one round that count for certificates.
 
-ghost use Rattle.std.specs.Prelude.{◌≡◌, ◌↔◌, ◌++◌, ◌∷◌, ◌≤◌, [], ◌&&◌, ◌||◌, ℕ, List, Bool, not, filter, length, Option, Some, None, IsTrue, IfOk, IfErr, IfSome, Err, ◌≢◌, OnOk, OnErr, MatchOption, if◌then◌else◌, is_some, nat_le, max, true, false};
+ghost use Rattle.std.specs.Prelude.{◌≡◌, ◌<◌, All, find, ◌↔◌, ◌++◌, ◌∷◌, ◌≤◌, [], ◌&&◌, ◌||◌, ℕ, List, Bool, not, filter, length, Option, Some, None, IsTrue, IfOk, IfErr, IfSome, Err, ◌≢◌, OnOk, OnErr, MatchOption, if◌then◌else◌, is_some, nat_le, max, true, false};
 ghost use Rattle.std.specs.Option.{option_copied, option_map, option_or};
 ghost use Rattle.simplex_verifier.specs.declared.fault.BatcherFault.TheVariants.{OtherLeader};
 ghost use Rattle.simplex_committee.specs.Committee.{quorum};
 ghost use Rattle.simplex_certificates.specs.Certificate.{certificate_round};
-ghost use Rattle.simplex_verifier.specs.Votes.{vote_kind, fixed_proposal};
-ghost use Rattle.simplex_verifier.specs.History.{Taken, Cast, Certified, Led, History, Setup, select, proposal_of, selected, selection, leader_of, led, notarized_by, context, waiting, verified, is_candidate, is_complete, is_ready, is_due, next_kind};
+ghost use Rattle.simplex_verifier.specs.Votes.{is_of, vote_kind, fixed_proposal};
+ghost use Rattle.simplex_verifier.specs.History.{accepted, recorded, Taken, Cast, Certified, Led, History, Setup, select, proposal_of, selected, selection, leader_of, led, notarized_by, context, waiting, verified, is_candidate, is_complete, is_ready, is_due, next_kind};
 ghost use Rattle.simplex_verifier.specs.Lawful.{MayHappen};
-ghost use Rattle.simplex_verifier.specs.Pools.{PoolIs, PoolStays, pool_at};
+ghost use Rattle.simplex_messages.specs.VoteParts.{vote_signer};
+ghost use Rattle.simplex_verifier.specs.Rows.{tally_at};
 ghost use Rattle.simplex_verifier.specs.Keeping.{VerifierKeeps, AtEachOf, selection_of, IsChosen, held_by, led_by};
 
 use crate::fault::BatcherFault;
-use crate::pools::Pools;
 use crate::proposal_state::ProposalState;
+use crate::rows::Rows;
 use crate::votes::{fixed_by, is_for, kind_of, kind_of_certificate, proposal_of_certificate};
 use simplex_messages::{Certificate, Notarize, Vote};
 use simplex_rules::Kind;
@@ -32,7 +33,7 @@ pub struct Verifier<S: Scheme<D>, D: Digest> {
     skipped: bool,
     leader: Option<Participant>,
     proposal: ProposalState<D>,
-    pools: Pools<S, D>,
+    rows: Rows<S, D>,
 }
 
 impl<S: Scheme<D>, D: Digest> Verifier<S, D> {
@@ -47,7 +48,8 @@ impl<S: Scheme<D>, D: Digest> Verifier<S, D> {
     pub fn open(alloc: Global, round: Round, scheme: Rc<S>, needed: u32, skipped: bool) -> Self
         ensures { (tracks : Bool) → VerifierKeeps D.PartialEq.eq S.Scheme S.batchable (record { round = round; scheme = scheme.value; members = S.size scheme.value; needed = max needed (quorum (S.size scheme.value)); batchable = S.batchable scheme.value; tracks = tracks; is_skipped = skipped }) result [] }
     {
-        let needed = needed.max(quorum(scheme.participants()));
+        let members = scheme.participants();
+        let needed = needed.max(quorum(members));
         Verifier {
             round,
             scheme,
@@ -55,7 +57,7 @@ impl<S: Scheme<D>, D: Digest> Verifier<S, D> {
             skipped,
             leader: None,
             proposal: ProposalState::Unknown,
-            pools: Pools::new(alloc),
+            rows: Rows::new(alloc, members),
         }
     }
 
@@ -95,11 +97,29 @@ impl<S: Scheme<D>, D: Digest> Verifier<S, D> {
         self.proposal.proposal()
     }
 
+    /// This signer's newest notarize, or its newest nullify or finalize, where members alone voted.
+    pub fn vote_of(&self, signer: Participant, notarize: bool) -> Option<&Vote<S, D>>
+        ensures { AtEachOf D.PartialEq.eq S.Scheme S.batchable self.now (λ s h. All (λ v. vote_signer v < s.members) (accepted h) → option_copied result ≡ find (is_of notarize signer) (accepted h)) }
+    {
+        self.rows.vote_of(signer, notarize)
+    }
+
+    /// The accepted vote that stands in the way of this one, where members alone voted.
+    pub fn recorded(&self, vote: &Vote<S, D>) -> Option<&Vote<S, D>>
+        ensures { AtEachOf D.PartialEq.eq S.Scheme S.batchable self.now (λ s h. All (λ v. vote_signer v < s.members) (accepted h) → option_copied result ≡ recorded h vote.now) }
+    {
+        match vote {
+            Vote::Notarize(vote) => self.vote_of(vote.attestation.signer, true),
+            Vote::Nullify(vote) => self.vote_of(vote.attestation.signer, false),
+            Vote::Finalize(vote) => self.vote_of(vote.attestation.signer, false),
+        }
+    }
+
     /// Whether a certificate of this kind was recorded or made.
     pub fn has_certificate(&self, kind: Kind) -> bool
         ensures { AtEachOf D.PartialEq.eq S.Scheme S.batchable self.now (λ s h. result ≡ is_complete kind h) }
     {
-        self.pools.of(kind).complete
+        self.rows.tally(kind).complete
     }
 
     /// The leader's proposal, where the vote is the leader's notarize.
@@ -123,9 +143,9 @@ impl<S: Scheme<D>, D: Digest> Verifier<S, D> {
 
     /// Whether the vote counts for a certificate, where this is selected.
     fn counts(&self, next: &ProposalState<D>, vote: &Vote<S, D>) -> bool
-        ensures { result ≡ (not (self.now.skipped || (pool_at (vote_kind vote.now) self.now.pools).complete) && is_candidate D.PartialEq.eq (proposal_of (selection_of next.now)) vote.now) }
+        ensures { result ≡ (not (self.now.skipped || (tally_at (vote_kind vote.now) self.now.rows).complete) && is_candidate D.PartialEq.eq (proposal_of (selection_of next.now)) vote.now) }
     {
-        if self.skipped || self.pools.of(kind_of(vote)).complete {
+        if self.skipped || self.rows.tally(kind_of(vote)).complete {
             return false;
         }
         match next.proposal() {
@@ -146,7 +166,7 @@ impl<S: Scheme<D>, D: Digest> Verifier<S, D> {
         }
         match self.proposal.proposal() {
             Some(proposal) => {
-                self.pools.retain_for(proposal);
+                self.rows.retain_for(proposal);
                 true
             }
             None => true,
@@ -169,7 +189,7 @@ impl<S: Scheme<D>, D: Digest> Verifier<S, D> {
             .proposal
             .select(fixed_by(&vote, verified), self.led_by(&vote));
         let held = self.counts(&next, &vote);
-        self.pools.push(vote, verified, held)?;
+        self.rows.put(vote, verified, held)?;
         let _changed = self.choose(next);
         Ok(())
     }
@@ -188,7 +208,7 @@ impl<S: Scheme<D>, D: Digest> Verifier<S, D> {
         ensures err { OnErr result (AtEachOf D.PartialEq.eq S.Scheme S.batchable self.old (λ s h. VerifierKeeps D.PartialEq.eq S.Scheme S.batchable s self.new h)) }
     {
         let held = self.counts(&self.proposal, &vote);
-        self.pools.push(vote, verified, held)?;
+        self.rows.put(vote, verified, held)?;
         Ok(())
     }
 
@@ -200,7 +220,7 @@ impl<S: Scheme<D>, D: Digest> Verifier<S, D> {
         let next = self
             .proposal
             .select(proposal_of_certificate(certificate), None);
-        self.pools.finish(kind_of_certificate(certificate));
+        self.rows.finish(kind_of_certificate(certificate));
         self.choose(next)
     }
 

@@ -1,19 +1,18 @@
 //! Certificates from the votes that a verifier holds.
 
-ghost use Rattle.std.specs.Prelude.{◌≡◌, ◌∷◌, Bool, Option, Some, None, IfOk, IfSome, OnErr, MatchOption, is_some, true, false};
+ghost use Rattle.std.specs.Prelude.{◌≡◌, ◌∷◌, Bool, Option, Some, None, length, IfOk, IfSome, OnErr, MatchOption, is_some, true, false};
 ghost use Rattle.std.specs.Option.{option_map};
 ghost use Rattle.simplex_types.specs.Subject.{statement};
-ghost use Rattle.simplex_verifier.specs.History.{context, statement_for, waiting, verified, is_ready, is_worth_judging, is_due};
+ghost use Rattle.simplex_verifier.specs.History.{context, statement_for, waiting, verified, are_one, is_ready, is_worth_judging, is_due};
 ghost use Rattle.simplex_verifier.specs.ConstructionResult.{after, IsReadable, IsCertificateOf, IsOfVerified, IsOfWaiting, IsBatch};
 ghost use Rattle.simplex_rules.specs.declared.kind.Kind.TheVariants.{Notarization, Nullification, Finalization};
 ghost use Rattle.simplex_verifier.specs.Keeping.{VerifierKeeps, AtEachOf, selection_of};
 ghost use Rattle.simplex_verifier.specs.History.{proposal_of};
 
 use crate::batch::Batch;
-use crate::pool::attestations_of;
 use crate::verifier::Verifier;
 use crate::votes::{certificate_on, subject_of};
-use simplex_judging::{Judged, assemble_enough};
+use simplex_judging::{Judged, assemble_enough, judge};
 use simplex_messages::Certificate;
 use simplex_rules::Kind;
 use simplex_types::{Digest, Proposal, Round, Scheme, Subject};
@@ -122,22 +121,40 @@ impl<S: Scheme<D>, D: Digest> Verifier<S, D> {
         }
     }
 
+    /// How many votes of the kind wait.
+    fn waiting(&self, kind: Kind) -> usize
+        ensures { AtEachOf D.PartialEq.eq S.Scheme S.batchable self.now (λ s h. result ≡ length (waiting D.PartialEq.eq s kind h)) }
+    {
+        self.rows.tally(kind).waiting
+    }
+
+    /// How many votes of the kind are known to attest.
+    fn verified(&self, kind: Kind) -> usize
+        ensures { AtEachOf D.PartialEq.eq S.Scheme S.batchable self.now (λ s h. result ≡ length (verified D.PartialEq.eq s kind h)) }
+    {
+        self.rows.tally(kind).verified
+    }
+
+    /// Whether all verified votes of the kind are for what the first is for.
+    fn is_of_one(&self, kind: Kind) -> bool
+        ensures { AtEachOf D.PartialEq.eq S.Scheme S.batchable self.now (λ s h. result ≡ are_one D.PartialEq.eq (verified D.PartialEq.eq s kind h)) }
+    {
+        self.rows.is_of_one(kind)
+    }
+
     /// Whether the verified votes of the kind are enough for a certificate.
     fn is_ready(&self, kind: Kind) -> bool
         ensures { AtEachOf D.PartialEq.eq S.Scheme S.batchable self.now (λ s h. result ≡ is_ready D.PartialEq.eq s kind h) }
     {
-        let pool = self.pools.of(kind);
-        self.needed as usize <= pool.verified.as_slice().len()
-            && (self.knows(kind) || pool.is_of_one())
+        self.needed as usize <= self.verified(kind) && (self.knows(kind) || self.is_of_one(kind))
     }
 
     /// Whether the votes of the kind that wait are worth judging.
     fn is_worth_judging(&self, kind: Kind) -> bool
         ensures { AtEachOf D.PartialEq.eq S.Scheme S.batchable self.now (λ s h. result ≡ is_worth_judging D.PartialEq.eq s kind h) }
     {
-        let pool = self.pools.of(kind);
-        let waiting = pool.waiting.as_slice().len();
-        let missing = (self.needed as usize).saturating_sub(pool.verified.as_slice().len());
+        let waiting = self.waiting(kind);
+        let missing = (self.needed as usize).saturating_sub(self.verified(kind));
         self.knows(kind) && 0 < waiting && (!self.scheme.is_batchable() || missing <= waiting)
     }
 
@@ -173,12 +190,11 @@ impl<S: Scheme<D>, D: Digest> Verifier<S, D> {
         ensures made { IfOk result (λ made. AtEachOf D.PartialEq.eq S.Scheme S.batchable self.now (λ s h. is_ready D.PartialEq.eq s kind h ≡ true → MatchOption made ⊥ (λ c. IsCertificateOf S.Scheme s kind (verified D.PartialEq.eq s kind h) c))) }
         ensures readable { IfOk result (λ made. IfSome made (λ c. AtEachOf D.PartialEq.eq S.Scheme S.batchable self.now (λ s h. IsReadable S.Certificate.within s.members c))) }
     {
-        let votes = self.pools.of(kind).verified.as_slice();
-        let [first, ..] = votes else {
+        let Some(first) = self.rows.first_verified(kind) else {
             return Ok(None);
         };
         let subject = subject_of(first);
-        let given = attestations_of(alloc, votes)?;
+        let given = self.rows.attestations(alloc, kind, true)?;
         match assemble_enough::<S, D>(
             alloc,
             &self.scheme,
@@ -225,13 +241,21 @@ impl<S: Scheme<D>, D: Digest> Verifier<S, D> {
         ensures keeps { IfOk result (λ batch. AtEachOf D.PartialEq.eq S.Scheme S.batchable self.old (λ s h. context s kind h ≡ Some (statement subject.now) → VerifierKeeps D.PartialEq.eq S.Scheme S.batchable s self.new (after kind (Some batch) h))) }
         ensures err { OnErr result (AtEachOf D.PartialEq.eq S.Scheme S.batchable self.old (λ s h. VerifierKeeps D.PartialEq.eq S.Scheme S.batchable s self.new h)) }
     {
-        let pool = self.pools.of(kind);
-        let processed = pool.waiting.as_slice().len();
+        let processed = self.waiting(kind);
+        let verified = self.rows.attestations(alloc, kind, true)?;
+        let waiting = self.rows.attestations(alloc, kind, false)?;
         let Judged {
             certificate,
             invalid,
             fallback,
-        } = pool.judge(alloc, &self.scheme, subject, self.needed as usize)?;
+        } = judge::<S, D>(
+            alloc,
+            &self.scheme,
+            subject,
+            self.needed as usize,
+            &verified,
+            &waiting,
+        )?;
         match certificate {
             Some(certificate) => {
                 let certificate = certificate_on(subject, certificate);
@@ -244,7 +268,7 @@ impl<S: Scheme<D>, D: Digest> Verifier<S, D> {
                 })
             }
             None => {
-                self.pools.settle(kind, &invalid)?;
+                self.rows.settle(kind, &invalid);
                 Ok(Batch {
                     certificate: None,
                     invalid,

@@ -39,9 +39,8 @@ returns-in-Some-clause-ok g c = λ s h k.
     let next : next_kind g.D.PartialEq.eq s h ≡ Some kind = now.1 ∙ turn-here (λ kind. is_due g.D.PartialEq.eq s kind h) c.in_turn-kind-items.result c.loop-kind.kind-index Notarization c.in_turn-kind-items.ensures c.loop-kind-test.true due in
     match-at _ (λ kind. RoundKeeps g.D.PartialEq.eq g.S.Scheme g.S.Scheme.batchable s _ (after kind made h)) (next_kind g.D.PartialEq.eq s h) kind next (record {
       verifier = (rw c.in-Some.is at c.in_ok-batch.ensures.keeps) s h now.0.verifier;
-      tracker = rw (← after-accepted kind made h) now.0.tracker;
+      of_members = rw (← after-accepted kind made h) now.0.of_members;
       are_new = after-new kind made h now.0.are_new;
-      members_are = now.0.members_are;
       tracks_is = now.0.tracks_is;
       forwarded_is = rw (← after-forwarded kind made h) now.0.forwarded_is;
     })
@@ -53,9 +52,8 @@ loop-kind-preserved g c = λ s h k.
     let over = sym (c.in_ok-batch.ensures.due s h now.0.verifier) ∙ rw c.in_default.is refl in (
       record {
         verifier = (rw c.in_default.is at c.in_ok-batch.ensures.keeps) s h now.0.verifier;
-        tracker = now.0.tracker;
+        of_members = now.0.of_members;
         are_new = now.0.are_new;
-        members_are = now.0.members_are;
         tracks_is = now.0.tracks_is;
         forwarded_is = now.0.forwarded_is;
       },

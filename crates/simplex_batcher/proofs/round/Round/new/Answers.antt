@@ -1,5 +1,6 @@
 use Rattle.std.proofs.Common.{◌≡◌, ◌∙◌, refl, arith, max}
 use Rattle.simplex_committee.specs.Committee.{quorum}
+use Rattle.std.proofs.lemmas.List.Elements.{All-nil}
 use Rattle.simplex_batcher.specs.Rounds.{RoundKeeps}
 use Rattle.simplex_batcher.proofs.round.Round.new.Goals as goal
 
@@ -8,9 +9,8 @@ unfolding RoundKeeps
 returns g c =
     let e : max 0 (quorum (g.S.Scheme.size c.args.scheme.value)) ≡ quorum (g.S.Scheme.size c.args.scheme.value) = grind arith in record {
       verifier = rw e at (c.open.ensures c.args.track_historical_votes);
-      tracker = c.new.ensures.keeps;
+      of_members = All-nil _;
       are_new = tt;
-      members_are = rw c.deref.ensures at (c.new.ensures.members ∙ c.participants.ensures.value);
       tracks_is = refl;
       forwarded_is = refl;
     }

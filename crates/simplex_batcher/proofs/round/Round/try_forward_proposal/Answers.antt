@@ -11,9 +11,8 @@ returns-in-Some-clause-keeps g c = λ s h k.
     let e : forwardable h c.args.me ≡ Some c.in-Some.proposal = sym (c.forwardable.ensures s h k) ∙ c.in-Some.is in
     rw e (record {
       verifier = c.forwarding_changes_no_votes.ensures s c.args.self.now.verifier h k.verifier (not-yet h c.args.me c.in-Some.proposal e);
-      tracker = k.tracker;
+      of_members = k.of_members;
       are_new = k.are_new;
-      members_are = k.members_are;
       tracks_is = k.tracks_is;
       forwarded_is = refl;
     })

@@ -1,10 +1,10 @@
 use Rattle.std.proofs.Common.{◌≡◌, ◌∙◌, refl, sym, ap}
-use Rattle.std.specs.Prelude.{Option, None}
+use Rattle.std.specs.Prelude.{Option, None, Some}
 use Rattle.std.specs.Option.{option_copied}
 use Rattle.simplex_types.specs.declared.proposal.Proposal.{Proposal}
 use Rattle.simplex_verifier.specs.History.{proposal_of}
 use Rattle.simplex_verifier.specs.Keeping.{selection_of}
-use Rattle.simplex_verifier.proofs.Choosing.{none-goes}
+use Rattle.simplex_verifier.proofs.Choosing.{none-goes, some-go}
 use Rattle.simplex_verifier.proofs.verifier.Verifier.choose.Goals as goal
 
 pub returns-in-None-clause-chosen : goal.returns-in-None-clause-chosen
@@ -18,7 +18,18 @@ returns-in-None-clause-chosen g c =
       skipped_stays = refl;
       leader_stays = refl;
       selects = refl;
-      notarizes = λ w v. none-goes same c.args.next c.args.self.now.pools.notarizes none;
-      nullifies = λ w v. none-goes same c.args.next c.args.self.now.pools.nullifies none;
-      finalizes = λ w v. none-goes same c.args.next c.args.self.now.pools.finalizes none;
+      keeps = none-goes same c.args.self.now.proposal c.args.next c.args.self.now.rows none;
+    }
+
+pub returns-in-Some-clause-chosen : goal.returns-in-Some-clause-chosen
+returns-in-Some-clause-chosen g c =
+    let one : proposal_of (selection_of c.args.next) ≡ Some c.in-Some.proposal.now = sym c.proposal.ensures ∙ ap option_copied c.in-Some.is in
+    let same = g.D.PartialEq.eq in record {
+      round_stays = refl;
+      scheme_stays = refl;
+      needed_stays = refl;
+      skipped_stays = refl;
+      leader_stays = refl;
+      selects = refl;
+      keeps = some-go same c.args.self.now.proposal c.args.next c.in-Some.proposal.now c.args.self.now.rows c.retain_for.new.self one c.retain_for.ensures.places c.retain_for.ensures.kinds;
     }

@@ -1,4 +1,4 @@
-use Rattle.std.proofs.Common.{◌≡◌, refl, ap, length}
+use Rattle.std.proofs.Common.{◌≡◌, refl}
 use Rattle.std.specs.Prelude.{Some, None}
 use Rattle.simplex_types.specs.Subject.{statement}
 use Rattle.simplex_verifier.proofs.Constructing.{judged-of, judged-on, judged-failing, of-waiting, settled-keeps}
@@ -9,37 +9,36 @@ pub returns-in-Some-clause-batch : goal.returns-in-Some-clause-batch
 unfolding VerifierKeeps
 returns-in-Some-clause-batch g c = λ s h k on.
     let made : c.in_ok-certificate.field-0.certificate ≡ Some c.in-Some.certificate = c.in-Some.is in
-    of-waiting g.D.PartialEq.eq g.S.Scheme g.S.Scheme.batchable g.met.D.Digest.equal_is_same s h c.args.kind c.args.self.now c.of-pool.result.now (statement c.args.subject.now) c.in_ok-certificate.field-0 _ k c.of-pool.ensures on
-    (rw c.deref.ensures at c.in_ok-certificate.ensures.verdict) (ap length c.as_slice-processed.ensures.value) (rw (c.certificate_on-certificate.ensures.made, ← made) refl) c.certificate_on-certificate.ensures.states
+    let verdict = rw (c.deref.ensures, c.deref-2.ensures.value, c.deref-3.ensures.value, c.in_ok-verified.ensures, c.in_ok-waiting.ensures) at c.in_ok-certificate.ensures.verdict in
+    of-waiting g.D.PartialEq.eq g.S.Scheme g.S.Scheme.batchable g.met.D.Digest.equal_is_same g.met.S.Scheme.declined_in_each_order s h c.args.kind c.args.self.now (statement c.args.subject.now) c.in_ok-certificate.field-0 _ k on verdict
+    (c.waiting-processed.ensures s h k) (rw (c.certificate_on-certificate.ensures.made, ← made) refl) c.certificate_on-certificate.ensures.states
 
 pub returns-in-Some-clause-keeps : goal.returns-in-Some-clause-keeps
 unfolding VerifierKeeps
 returns-in-Some-clause-keeps g c = λ s h k on.
-    let same = g.D.PartialEq.eq in
-    let law = g.met.D.Digest.equal_is_same in
-    let batchable = g.S.Scheme.batchable in
-    let here = judged-on same g.S.Scheme batchable law s h c.args.kind c.certificate_on-certificate.result (statement c.args.subject.now) k.lawful on c.certificate_on-certificate.ensures.states in
+    let here = judged-on g.D.PartialEq.eq g.S.Scheme g.S.Scheme.batchable g.met.D.Digest.equal_is_same s h c.args.kind c.certificate_on-certificate.result (statement c.args.subject.now) k.lawful on c.certificate_on-certificate.ensures.states in
     c.record-changed.ensures.keeps s h k here.round_is
 
-pub returns-in_ok-settle-in-None-clause-batch : goal.returns-in_ok-settle-in-None-clause-batch
+pub returns-clause-batch : goal.returns-clause-batch
 unfolding VerifierKeeps
-returns-in_ok-settle-in-None-clause-batch g c = λ s h k on.
+returns-clause-batch g c = λ s h k on.
     let none : c.in_ok-certificate.field-0.certificate ≡ None = c.in-None.is in
-    of-waiting g.D.PartialEq.eq g.S.Scheme g.S.Scheme.batchable g.met.D.Digest.equal_is_same s h c.args.kind c.args.self.now c.of-pool.result.now (statement c.args.subject.now) c.in_ok-certificate.field-0 _ k c.of-pool.ensures on
-    (rw c.deref.ensures at c.in_ok-certificate.ensures.verdict) (ap length c.as_slice-processed.ensures.value) (rw (← none) refl) tt
+    let verdict = rw (c.deref.ensures, c.deref-2.ensures.value, c.deref-3.ensures.value, c.in_ok-verified.ensures, c.in_ok-waiting.ensures) at c.in_ok-certificate.ensures.verdict in
+    of-waiting g.D.PartialEq.eq g.S.Scheme g.S.Scheme.batchable g.met.D.Digest.equal_is_same g.met.S.Scheme.declined_in_each_order s h c.args.kind c.args.self.now (statement c.args.subject.now) c.in_ok-certificate.field-0 _ k on verdict
+    (c.waiting-processed.ensures s h k) (rw (← none) refl) tt
 
-pub returns-in_ok-settle-in-None-clause-keeps : goal.returns-in_ok-settle-in-None-clause-keeps
+pub returns-clause-keeps : goal.returns-clause-keeps
 unfolding VerifierKeeps
-returns-in_ok-settle-in-None-clause-keeps g c = λ s h k on.
+returns-clause-keeps g c = λ s h k on.
     let same = g.D.PartialEq.eq in
     let law = g.met.D.Digest.equal_is_same in
     let batchable = g.S.Scheme.batchable in
     let x = statement c.args.subject.now in
-    let f = rw c.deref.ensures at c.in_ok-certificate.ensures.verdict in
-    let verdict = judged-of same g.S.Scheme batchable law s h c.args.kind c.args.self.now c.of-pool.result.now x c.in_ok-certificate.field-0 k c.of-pool.ensures on f in
-    let failing = judged-failing _ _ _ _ _ _ _ _ _ c.in_ok-certificate.field-0 verdict c.in-None.is in
+    let verdict = rw (c.deref.ensures, c.deref-2.ensures.value, c.deref-3.ensures.value, c.in_ok-verified.ensures, c.in_ok-waiting.ensures) at c.in_ok-certificate.ensures.verdict in
+    let judged = judged-of same g.S.Scheme batchable law g.met.S.Scheme.declined_in_each_order s h c.args.kind c.args.self.now x c.in_ok-certificate.field-0 k on verdict in
+    let failing = judged-failing _ _ _ _ _ _ _ _ _ c.in_ok-certificate.field-0 judged c.in-None.is in
     settled-keeps same g.S.Scheme batchable law s h c.args.kind c.in_ok-certificate.field-0.invalid.items x c.args.self.now _ k refl refl refl refl refl refl
-    (rw c.deref-in-None.ensures.value at c.in_ok-settle-in-None.ensures.notarizes failing.ascending) (rw c.deref-in-None.ensures.value at c.in_ok-settle-in-None.ensures.nullifies failing.ascending) (rw c.deref-in-None.ensures.value at c.in_ok-settle-in-None.ensures.finalizes failing.ascending) on failing
+    (rw c.deref-in-None.ensures.value at c.settle.ensures.places failing.ascending) (rw c.deref-in-None.ensures.value at c.settle.ensures.kinds failing.ascending) on failing
 
 pub returns-in-Some-clause-readable : goal.returns-in-Some-clause-readable
 unfolding VerifierKeeps

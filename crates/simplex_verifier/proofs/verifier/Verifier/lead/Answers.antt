@@ -1,6 +1,5 @@
 use Rattle.std.proofs.Common.{◌≡◌, ◌∷◌, refl, ap, ◌∙◌}
-use Rattle.simplex_rules.specs.declared.kind.Kind.TheVariants.{Notarization, Nullification, Finalization}
-use Rattle.simplex_verifier.specs.History.{Led, selection, proposal_of, notarized_by}
+use Rattle.simplex_verifier.specs.History.{accepted, Led, selection, proposal_of, notarized_by}
 use Rattle.simplex_verifier.specs.Keeping.{selection_of, held_by, VerifierKeeps}
 use Rattle.simplex_verifier.proofs.Choosing.{select-led, select-or, chosen-keeps, keeps-led}
 use Rattle.simplex_verifier.proofs.verifier.Verifier.lead.Goals as goal
@@ -13,10 +12,8 @@ returns-in-None-clause-first g c = λ s h k none led.
     let old = c.args.self.now in
     let one : selection_of c.select-next.result ≡ selection (e ∷ h) = c.select-next.ensures ∙ rw k.selection_is (select-led (selection h) c.args.led (notarized_by h c.args.leader) led) in
     let is = c.choose-changed.ensures.chosen in
-    chosen-keeps same g.S.Scheme g.S.Scheme.batchable s h e c.select-next.result old _ c.choose-changed.new.self k refl refl refl refl refl is one none
-    (keeps-led same s Notarization h c.args.leader old.proposal c.select-next.result old.pools.notarizes _ k.notarizes is.notarizes k.selection_is one)
-    (keeps-led same s Nullification h c.args.leader old.proposal c.select-next.result old.pools.nullifies _ k.nullifies is.nullifies k.selection_is one)
-    (keeps-led same s Finalization h c.args.leader old.proposal c.select-next.result old.pools.finalizes _ k.finalizes is.finalizes k.selection_is one)
+    chosen-keeps same g.S.Scheme g.S.Scheme.batchable s h e (accepted h) c.select-next.result old _ c.choose-changed.new.self k refl refl refl refl refl is one none refl k.rows.places
+    (λ kind. keeps-led same s kind h c.args.leader old.proposal c.select-next.result old.rows _ (k.rows.kinds kind) is.keeps k.selection_is one)
 
 pub returns-in-None-clause-holds : goal.returns-in-None-clause-holds
 unfolding VerifierKeeps held_by

@@ -1,8 +1,8 @@
 use Rattle.std.proofs.Common.{◌≡◌, ◌∷◌, refl, sym, ◌∙◌}
-use Rattle.simplex_rules.specs.declared.kind.Kind.TheVariants.{Notarization, Nullification, Finalization}
-use Rattle.simplex_verifier.specs.History.{Certified, selection}
+use Rattle.simplex_verifier.specs.History.{accepted, Certified, selection}
 use Rattle.simplex_verifier.specs.Keeping.{selection_of, VerifierKeeps}
 use Rattle.simplex_verifier.proofs.Folding.{selection-certified}
+use Rattle.simplex_verifier.proofs.Holding.{places-newest}
 use Rattle.simplex_verifier.proofs.Choosing.{chosen-keeps, keeps-certified}
 use Rattle.simplex_verifier.proofs.verifier.Verifier.record.Goals as goal
 
@@ -21,8 +21,6 @@ returns-clause-keeps g c = λ s h k ours.
     let old = c.args.self.now in
     let one : selection_of c.select-next.result ≡ selection (e ∷ h) = c.select-next.ensures ∙ rw (c.proposal_of_certificate.ensures, k.selection_is) (sym (selection-certified h x)) in
     let is = c.choose.ensures.chosen in
-    let kind = c.kind_of_certificate.ensures in
-    chosen-keeps same g.S.Scheme g.S.Scheme.batchable s h e c.select-next.result old _ c.choose.new.self k refl refl refl refl k.leader_is is one ours
-    (keeps-certified same s Notarization h x old.proposal c.select-next.result old.pools.notarizes _ _ k.notarizes (rw kind at c.finish.ensures.notarizes) is.notarizes k.selection_is one)
-    (keeps-certified same s Nullification h x old.proposal c.select-next.result old.pools.nullifies _ _ k.nullifies (rw kind at c.finish.ensures.nullifies) is.nullifies k.selection_is one)
-    (keeps-certified same s Finalization h x old.proposal c.select-next.result old.pools.finalizes _ _ k.finalizes (rw kind at c.finish.ensures.finalizes) is.finalizes k.selection_is one)
+    let made = c.kind_of_certificate.ensures in
+    chosen-keeps same g.S.Scheme g.S.Scheme.batchable s h e (accepted h) c.select-next.result old _ c.choose.new.self k refl refl refl refl k.leader_is is one ours refl (places-newest s.members (accepted h) old.rows _ c.finish.ensures.places k.rows.places)
+    (λ kind. keeps-certified same s kind h x old.proposal c.select-next.result _ _ (rw made at (c.finish.ensures.kinds kind _ _ _ (k.rows.kinds kind))) is.keeps k.selection_is one)
