@@ -1,9 +1,8 @@
 -- What comes of the calls on a member's votes.
-use Rattle.std.proofs.Common.{◌≡◌, ◌⊎◌, ℕ, ◌==◌, ◌-◌, ◌≤◌, ◌<◌, Bool, true, false, List, [], ◌∷◌, ⊎_elim, refl, sym, ◌∙◌, ap, subst, arith, if◌then◌else◌}
-use Rattle.std.specs.Prelude.{◌↔◌, nat_lt, Option, Some, None, IfSome, IsSome, IsTrue, MatchOption, is_none, is_some, unwrap_or}
-use Rattle.std.proofs.lemmas.Bool.{cases_Bool, cases_lt, le-ltb, ltb-false, lt-ltb, ne_eqb}
+use Rattle.std.proofs.Common.{◌≡◌, ◌⊎◌, ℕ, ◌-◌, ◌≤◌, ◌<◌, Bool, true, false, [], ◌∷◌, ⊎_elim, refl, sym, ◌∙◌, subst, arith, if◌then◌else◌}
+use Rattle.std.specs.Prelude.{◌↔◌, nat_lt, Option, None, IsSome, IsTrue}
+use Rattle.std.proofs.lemmas.Bool.{cases_lt, lt-ltb}
 use Rattle.simplex_types.specs.Positions.{HasRoom}
-use Rattle.simplex_types.specs.declared.proposal.Proposal.{Proposal}
 use Rattle.simplex_types.specs.declared.scheme.Scheme.{Ghosts}
 use Rattle.simplex_certificates.specs.declared.certificate.Certificate.{Certificate}
 use Rattle.simplex_certificates.specs.Artifact.{certificate_artifact}
@@ -13,19 +12,18 @@ use Rattle.simplex_messages.specs.declared.vote.Vote.{Vote}
 use Rattle.simplex_messages.specs.VoteParts.{vote_artifact, vote_round}
 use Rattle.simplex_admission.specs.declared.admission.Admission.{Admission}
 use Rattle.simplex_verifier.specs.declared.fault.BatcherFault.{BatcherFault}
-use Rattle.simplex_verifier.specs.History as votes
-use Rattle.simplex_verifier.specs.History.{Taken, Cast, Certified, Led, Forwarded, forwardable, leader_of, next_kind, recorded}
-use Rattle.simplex_member.specs.Layers.{all_votes, current_of, floor_of, has_room, may_enter, stage, votes_of, votes_setup}
-use Rattle.simplex_member.specs.Point.{History, Point, Came, Found, Heard, Leads, Forwards, Constructs, Votes}
+use Rattle.simplex_verifier.specs.History.{Taken, Cast, Certified, Led}
+use Rattle.simplex_member.specs.Layers.{all_votes, current_of, floor_of, stage, votes_of, votes_setup}
+use Rattle.simplex_member.specs.Point.{History, Came, Found, Heard, Leads, Votes}
 use Rattle.simplex_member.specs.Setup.{Setup}
 use Rattle.simplex_batcher.specs.Admission.{IsCastFault}
 use Rattle.simplex_acceptance.specs.declared.acceptance.Acceptance.{Acceptance}
 use Rattle.simplex_acceptance.specs.declared.rounds.Rounds.{Rounds}
-use Rattle.simplex_acceptance.specs.Standing.{Common, IsAdmitted, IsCast, Stand, come_up, happened_from, is_passed, put, setup_now, up_from}
-use Rattle.simplex_acceptance.specs.Keeps.{Keeps, KeepsAhead, IsSetUp, common_part, stage_ahead, votes_ahead}
+use Rattle.simplex_acceptance.specs.Standing.{Common, IsAdmitted, IsCast, Stand, come_up, is_passed, put, setup_now}
+use Rattle.simplex_acceptance.specs.Keeps.{Keeps, KeepsAhead, IsSetUp, common_part}
 use Rattle.simplex_acceptance.proofs.Changing.{alike}
 use Rattle.simplex_acceptance.proofs.Pieces.{happened-brought}
-use Rattle.simplex_acceptance.proofs.Pointing.{below-floor, brought, brought-ahead, entered, found-certificate, found-certificate-adds, found-vote, found-vote-adds, roomless, unkept, unkept-ahead, vote-current, vote-floor}
+use Rattle.simplex_acceptance.proofs.Pointing.{brought, brought-ahead, found-certificate, found-certificate-adds, found-vote, found-vote-adds, unkept, unkept-ahead, vote-current, vote-floor}
 
 pub bare-floor : (r : ℕ) → 0 ≡ 0 - r
 bare-floor r = omega arith

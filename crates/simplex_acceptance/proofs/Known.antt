@@ -1,6 +1,6 @@
 -- What comes of a view whose votes came up before.
-use Rattle.std.proofs.Common.{◌≡◌, ◌≢◌, ℕ, ◌==◌, Bool, true, false, List, [], ◌∷◌, ⊎_elim, refl, sym, ◌∙◌, ap, subst, arith}
-use Rattle.std.specs.Prelude.{◌↔◌, Option, Some, None, IfOk, IfErr, OnOk, OnErr, Result, Ok, Err, IfSome, IsSome, IsTrue, MatchOption, if◌then◌else◌, is_none, is_some, unwrap_or}
+use Rattle.std.proofs.Common.{◌≡◌, ◌≢◌, ℕ, ◌==◌, Bool, true, false, ◌∷◌, ⊎_elim, refl, sym, ◌∙◌, subst, arith}
+use Rattle.std.specs.Prelude.{◌↔◌, Option, Some, None, IfOk, IfErr, OnOk, OnErr, Result, Ok, Err, IfSome, IsSome, IsTrue, if◌then◌else◌, is_none, is_some}
 use Rattle.std.specs.BTreeMap.{BTreeMap, UpdatesBy, get}
 use Rattle.std.specs.BTreeSet.{BTreeSet, contains}
 use Rattle.std.specs.BTreeSet as sorted
@@ -13,20 +13,20 @@ use Rattle.simplex_types.specs.declared.scheme.Scheme.{Ghosts}
 use Rattle.simplex_certificates.specs.declared.certificate.Certificate.{Certificate}
 use Rattle.simplex_messages.specs.declared.vote.Vote.{Vote}
 use Rattle.simplex_messages.specs.declared.activity.Activity.{Activity}
-use Rattle.simplex_messages.specs.VoteParts.{vote_round, vote_signer}
+use Rattle.simplex_messages.specs.VoteParts.{vote_round}
 use Rattle.simplex_certificates.specs.Certificate.{certificate_round}
 use Rattle.simplex_admission.specs.declared.admission.Admission.{Admission}
 use Rattle.simplex_admission.specs.Evidence.{as_report}
 use Rattle.simplex_verifier.specs.declared.fault.BatcherFault.{BatcherFault}
 use Rattle.simplex_verifier.specs.declared.fault.BatcherFault.TheVariants.{WrongRound, OtherLeader, Contradicts, Memory}
-use Rattle.simplex_verifier.specs.History.{Event, Taken, Cast, Certified, Led, History, Setup, leader_of, recorded, takes}
+use Rattle.simplex_verifier.specs.History.{Event, Taken, Cast, Certified, History, Setup, leader_of, recorded, takes}
 use Rattle.simplex_verifier.specs.Lawful.{VoteAttests}
 use Rattle.simplex_batcher.specs.declared.round.Round.{Round}
 use Rattle.simplex_batcher.specs.Admission.{AgreesWithOwn, IsAdmissionFault, IsBlocked, IsCastFault, contradicts, report_of}
 use Rattle.simplex_batcher.specs.Rounds.{RoundKeeps}
 use Rattle.simplex_batcher.specs.Rounds as one
 use Rattle.simplex_acceptance.specs.declared.rounds.Rounds.{Rounds}
-use Rattle.simplex_acceptance.specs.Standing.{AtEach, Common, IsAdmitted, IsAtRest, IsCast, IsKept, Stand, come_up, is_passed, put, set_at, setup_at, setup_now}
+use Rattle.simplex_acceptance.specs.Standing.{AtEach, Common, IsAdmitted, IsAtRest, IsCast, IsKept, Stand, come_up, is_passed, put, set_at, setup_now}
 use Rattle.simplex_acceptance.proofs.Changing.{apart-at, changed, itself, kept-still, kept-up, known}
 
 -- a round is its epoch and its view

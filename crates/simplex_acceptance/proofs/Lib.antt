@@ -10,3 +10,4 @@ pub mod Answering
 pub mod Entering
 pub mod Advancing
 pub mod Silent
+pub mod Unled

@@ -1,14 +1,12 @@
 -- What comes of opening a view, and of what is done of one.
-use Rattle.std.proofs.Common.{◌≡◌, ◌≢◌, ℕ, ◌==◌, ◌≤◌, ◌<◌, Bool, true, false, List, [], ◌∷◌, ⊎_elim, refl, sym, ◌∙◌, ap, subst, arith}
-use Rattle.std.specs.Prelude.{Option, Some, None, IfSome, IsSome, MatchOption, if◌then◌else◌, is_none, is_some, unwrap_or}
+use Rattle.std.proofs.Common.{◌≡◌, ◌≢◌, ℕ, ◌==◌, Bool, true, false, [], ◌∷◌, ⊎_elim, refl, sym, ◌∙◌, subst, arith}
+use Rattle.std.specs.Prelude.{◌↔◌, IsTrue, Option, Some, None, IfSome, IsSome, MatchOption, if◌then◌else◌, is_none, is_some, unwrap_or}
 use Rattle.std.specs.BTreeMap.{BTreeMap, UpdatesBy, get}
 use Rattle.std.specs.BTreeSet.{BTreeSet, contains}
 use Rattle.std.specs.BTreeSet as sorted
-use Rattle.std.specs.Option.{option_or}
 use Rattle.std.specs.Ordering.{nat_cmp}
 use Rattle.std.proofs.lemmas.Bool.{cases_eq, eq-eqb}
 use Rattle.std.proofs.lemmas.Bool.Decides.{nat_tests}
-use Rattle.simplex_types.specs.declared.proposal.Proposal.{Proposal}
 use Rattle.simplex_types.specs.declared.scheme.Scheme.{Ghosts}
 use Rattle.simplex_certificates.specs.declared.certificate.Certificate.{Certificate}
 use Rattle.simplex_rules.specs.declared.kind.Kind.{Kind}
@@ -21,9 +19,13 @@ use Rattle.simplex_batcher.specs.Rounds as one
 use Rattle.simplex_acceptance.specs.declared.due.Due.{Due}
 use Rattle.simplex_acceptance.specs.declared.due.Due.TheVariants as due
 use Rattle.simplex_acceptance.specs.declared.rounds.Rounds.{Rounds}
-use Rattle.simplex_acceptance.specs.Standing.{AtEach, Common, IsAtRest, IsDone, IsKept, IsRoundDone, Stand, come_up, is_passed, put, set_at, setup_at, setup_now}
+use Rattle.simplex_acceptance.specs.Standing.{Common, IsAtRest, IsDone, IsKept, IsRoundDone, Stand, come_up, is_passed, put, set_at, setup_at, setup_now}
 use Rattle.simplex_acceptance.proofs.Changing.{alike, apart-at, changed, itself, kept-still, unknown}
 use Rattle.simplex_acceptance.proofs.Known.{came-up, kept-here, moved, moved-set, moved-still, option-some, rested, stands-here}
+
+not-none : {A : Type 0} (o : Option A) → o ≢ None → is_none o ≡ false
+not-none None known = absurd (known refl)
+not-none (Some x) known = refl
 
 module _ {S D P G C : Type 0} (g : Ghosts S D P G C) (same : D → D → Bool) where
   -- a round is there exactly where votes came up
@@ -31,6 +33,18 @@ module _ {S D P G C : Type 0} (g : Ghosts S D P G C) (same : D → D → Bool) w
   there-up s view None up h some k = absurd (cc some)
   there-up s view (Some r) None h some k = absurd k
   there-up s view (Some r) (Some x) h some k = refl
+
+  -- and the other way round
+  pub both-there : (s : Common S) (view : ℕ) (o : Option (Round S D P G C)) (up : Option Bool) (h : History S D P G C) → IsKept g same s view o up h → IsTrue (is_some o) ↔ IsSome up
+  both-there s view None up h k = (λ some. absurd (cc some), λ some. absurd (cc (k.0, some)))
+  both-there s view (Some r) None h k = absurd k
+  both-there s view (Some r) (Some x) h k = (λ some. refl, λ some. refl)
+
+  -- something happened to those votes alone that came up
+  pub came-where-kept : (s : Common S) (view : ℕ) (o : Option (Round S D P G C)) (up : Option Bool) (h : History S D P G C) → IsKept g same s view o up h → h ≢ [] → IsSome up
+  came-where-kept s view None up h k some = absurd (some k.1)
+  came-where-kept s view (Some r) None h k some = absurd k
+  came-where-kept s view (Some r) (Some x) h k some = refl
 
   pub kept-none : (s : Common S) (view : ℕ) (o : Option (Round S D P G C)) (up : Option Bool) (h : History S D P G C) → up ≡ None → IsKept g same s view o up h → o ≡ None
   kept-none s view None up h none k = refl
@@ -78,6 +92,22 @@ module _ {S D P G C : Type 0} (g : Ghosts S D P G C) (same : D → D → Bool) w
       (subst (λ (o : Option ℕ). RoundKeeps same g g.batchable (setup_now g s up view 0) round' (if is_none o then Led leader ∷ happened view else happened view)) none stands))))
       (λ no. absurd (cc (touched, no)))
       (λ no some. rw (itself view) (λ never. absurd (cc never)))
+
+  -- or it is named again
+  pub known-again : (s : Common S) (mid : Rounds S D P G C) (up : ℕ → Option Bool) (happened : ℕ → History S D P G C) (view leader : ℕ) (round round' : Round S D P G C) (m : BTreeMap ℕ (Round S D P G C)) (t : BTreeSet ℕ)
+      → Some round ≡ get nat_cmp mid.by_view view → UpdatesBy nat_cmp (nat_cmp view) mid.by_view m (Some round') → contains nat_cmp mid.touched view ≡ true → sorted.UpdatesBy nat_cmp (nat_cmp view) mid.unled t false
+      → one.AtEach same g g.batchable round (λ st h. RoundKeeps same g g.batchable st round' (if is_none (leader_of h) then Led leader ∷ h else h)) → leader_of (happened view) ≢ None → Stand g same s mid up happened
+      → Stand g same s (record mid { by_view = m; unled = t }) up happened
+  known-again s mid up happened view leader round round' m t there updates touched led ok known k =
+      let stands = ok (setup_now g s up view 0) (happened view) (stands-here g same s mid up happened view k 0 round there) in
+      changed g same s mid (record mid { by_view = m; unled = t }) view up up happened happened k refl
+      (λ u ne. updates.2 u (apart-at view u ne)) (λ u ne. (refl, refl)) (λ u ne no. no)
+      (λ u ne no. sym (led.2 u (apart-at view u ne)) ∙ no)
+      (subst (λ (o : Option (Round S D P G C)). IsKept g same s view o (up view) (happened view)) (sym updates.1)
+      (kept-still g same s view round round' (up view) (is_passed s view 0) (happened view) (happened view) (kept-here g same s mid up happened view k 0 round there)
+      (subst (λ (b : Bool). RoundKeeps same g g.batchable (setup_now g s up view 0) round' (if b then Led leader ∷ happened view else happened view)) (not-none (leader_of (happened view)) known) stands)))
+      (λ no. absurd (cc (touched, no)))
+      (λ no some. known)
 
   -- what follows of the kind that is due
   pub at-due : {P Q : Kind → Type 0} (next : Option Kind) → ((kind : Kind) → P kind → Q kind) → MatchOption next ⊥ P → MatchOption next ⊥ Q

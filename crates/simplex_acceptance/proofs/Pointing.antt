@@ -1,10 +1,9 @@
 -- Where the votes of all views stand behind a point.
-use Rattle.std.proofs.Common.{◌≡◌, ℕ, ◌==◌, ◌+◌, ◌-◌, ◌≤◌, ◌<◌, ◌++◌, Bool, true, false, List, [], ◌∷◌, ⊎_elim, refl, sym, ◌∙◌, ap, subst, arith}
-use Rattle.std.specs.Prelude.{◌||◌, ◌&&◌, nat_lt, max, if◌then◌else◌, Option, Some, None, IsSome, IsTrue, MatchOption, is_some, unwrap_or, ◌↔◌}
-use Rattle.std.proofs.lemmas.Bool.{cases_lt, le-ltb, lt-ltb, ltb-false, cases_Bool}
-use Rattle.simplex_types.specs.Positions.{HasRoom, next_term_start}
+use Rattle.std.proofs.Common.{◌≡◌, ℕ, ◌==◌, ◌-◌, ◌≤◌, ◌<◌, ◌++◌, Bool, true, false, List, [], ◌∷◌, refl, arith}
+use Rattle.std.specs.Prelude.{max, if◌then◌else◌}
+use Rattle.std.proofs.lemmas.Bool.{lt-ltb}
+use Rattle.simplex_types.specs.Positions.{HasRoom}
 use Rattle.simplex_types.specs.declared.scheme.Scheme.{Ghosts}
-use Rattle.simplex_certificates.specs.declared.artifact.Artifact.TheVariants as artifact
 use Rattle.simplex_certificates.specs.declared.certificate.Certificate.{Certificate}
 use Rattle.simplex_certificates.specs.declared.certificate.Certificate.TheVariants as certificate
 use Rattle.simplex_certificates.specs.Artifact.{certificate_artifact}
@@ -20,7 +19,7 @@ use Rattle.simplex_member.specs.Layers.{add_point, all_votes, concerns, current_
 use Rattle.simplex_member.specs.Point.{History, Point, Found, Votes}
 use Rattle.simplex_member.specs.Setup.{Setup}
 use Rattle.simplex_acceptance.specs.declared.rounds.Rounds.{Rounds}
-use Rattle.simplex_acceptance.specs.Standing.{Stand, come_up, happened_from, put, set_at, up_from}
+use Rattle.simplex_acceptance.specs.Standing.{Stand, come_up, happened_from, put, up_from}
 use Rattle.simplex_acceptance.specs.Keeps.{common_part, stage_ahead, votes_ahead}
 use Rattle.simplex_acceptance.proofs.Changing.{alike}
 use Rattle.simplex_acceptance.proofs.Pieces.{ahead-brought, ahead-unkept, happened-brought, happened-later, happened-unkept, up-below, up-brought, up-entered, up-roomless, up-unkept}

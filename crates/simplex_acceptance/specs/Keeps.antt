@@ -1,17 +1,16 @@
 -- At which history of its node the votes of all views stand.
-use Rattle.std.specs.Prelude.{◌≡◌, ◌≢◌, ◌⊎◌, ◌<◌, ◌≤◌, ◌&&◌, nat_lt, ℕ, Bool, List, [], ◌∷◌, Option, Some, None, IsSome, MatchOption, if◌then◌else◌, is_none, true, false}
+use Rattle.std.specs.Prelude.{◌≡◌, ◌≢◌, ◌⊎◌, ◌<◌, ◌≤◌, ◌&&◌, nat_lt, ℕ, Bool, [], ◌∷◌, Option, Some, None, IsSome, MatchOption, if◌then◌else◌, is_none, true, false}
 use Rattle.std.specs.Option.{option_or}
 use Rattle.simplex_types.specs.declared.position.Round.{Round}
 use Rattle.simplex_types.specs.declared.scheme.Scheme.{Ghosts}
 use Rattle.simplex_types.specs.Positions.{HasRoom}
-use Rattle.simplex_history.specs.Leaders.{leader}
 use Rattle.simplex_verifier.specs.History as votes
 use Rattle.simplex_messages.specs.declared.vote.Vote.{Vote}
 use Rattle.simplex_messages.specs.VoteParts.{vote_round, vote_signer}
 use Rattle.simplex_verifier.specs.ConstructionResult.{IsBatch}
 use Rattle.simplex_verifier.specs.History.{forwardable, leader_of, next_kind, recorded}
 use Rattle.simplex_verifier.specs.Votes.{vote_attestation, vote_statement}
-use Rattle.simplex_member.specs.Layers.{add_point, all_votes, concerns, current_of, floor_of, has_room, may_enter, opened, passes_over, stage, voter_of, votes_of, votes_setup}
+use Rattle.simplex_member.specs.Layers.{add_point, all_votes, concerns, current_of, floor_of, has_room, may_enter, opened, passes_over, stage, votes_of, votes_setup}
 use Rattle.simplex_member.specs.Point.{History, Point, Constructs, Forwards}
 use Rattle.simplex_member.specs.Setup.{Setup}
 use Rattle.simplex_acceptance.specs.declared.acceptance.Acceptance.{Acceptance}
@@ -102,3 +101,7 @@ module _ {S D P G C : Type 0} (g : Ghosts S D P G C) (same : D → D → Bool) w
   -- a point ahead they do for any point that says nothing of them
   abbrev pub SilentStays : Type 0
   SilentStays = (s : Setup S D C) (a : Acceptance S D P G C) (h : History S D P G C) (p : Point S D P G C) → SaysNothing p → Keeps g same s a h → KeepsAhead g same s a h p
+
+  -- something happened to the votes of those views alone whose votes came up
+  abbrev pub KeptCameUp : Type 0
+  KeptCameUp = (s : Setup S D C) (a : Acceptance S D P G C) (h : History S D P G C) (view : ℕ) → Keeps g same s a h → votes_of s h view ≢ [] → IsSome (stage s h view)

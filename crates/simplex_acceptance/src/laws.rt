@@ -1,6 +1,6 @@
 //! What follows of the votes of all views.
 
-ghost use Rattle.simplex_acceptance.specs.Keeps.{QuietStays, SilentStays};
+ghost use Rattle.simplex_acceptance.specs.Keeps.{KeptCameUp, QuietStays, SilentStays};
 
 use simplex_types::{Digest, Scheme};
 
@@ -9,4 +9,9 @@ use simplex_types::{Digest, Scheme};
 pub fn silent_points_leave_votes<S: Scheme<D>, D: Digest>()
     ensures quiet { QuietStays S.Scheme D.PartialEq.eq }
     ensures silent { SilentStays S.Scheme D.PartialEq.eq }
+{}
+
+/// Something happened to the votes of those views alone whose votes came up: of views with room, that is.
+pub fn kept_votes_came_up<S: Scheme<D>, D: Digest>()
+    ensures { KeptCameUp S.Scheme D.PartialEq.eq }
 {}

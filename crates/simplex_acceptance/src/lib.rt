@@ -8,4 +8,4 @@ mod rounds;
 
 pub use acceptance::Acceptance;
 pub use due::Due;
-pub use laws::silent_points_leave_votes;
+pub use laws::{kept_votes_came_up, silent_points_leave_votes};

@@ -2,12 +2,16 @@ use Rattle.std.proofs.Common.{refl, sym}
 use Rattle.simplex_acceptance.specs.Standing.{setup_now}
 use Rattle.simplex_acceptance.proofs.Changing.{no-some, some-is, unknown}
 use Rattle.simplex_acceptance.proofs.Known.{known-same, stands-here}
-use Rattle.simplex_acceptance.proofs.Opening.{known-led}
+use Rattle.simplex_acceptance.proofs.Opening.{known-again, known-led}
 use Rattle.simplex_acceptance.proofs.rounds.Rounds.lead.Goals as goal
 
 pub returns-in-Ok-clause-led : goal.returns-in-Ok-clause-led
 returns-in-Ok-clause-led g c = λ s up happened k some none. known-led g.S.Scheme g.D.PartialEq.eq s c.touch.new.self up happened c.args.view c.args.leader c.in-Some.round.now c.set_leader.new.self (c.get_mut.follows.lender c.set_leader.new.self) c.remove.new.self
     c.in-Some.ensures.value ((c.get_mut.follows.holds c.set_leader.new.self).3 (some-is c.in-Some.ensures.value)) c.in_ok-touch.ensures.touched c.remove.ensures.updates c.in-Ok.ensures.ok none (c.touch.ensures.stands s up happened k)
+
+pub returns-in-Ok-clause-again : goal.returns-in-Ok-clause-again
+returns-in-Ok-clause-again g c = λ s up happened k known. known-again g.S.Scheme g.D.PartialEq.eq s c.touch.new.self up happened c.args.view c.args.leader c.in-Some.round.now c.set_leader.new.self (c.get_mut.follows.lender c.set_leader.new.self) c.remove.new.self
+    c.in-Some.ensures.value ((c.get_mut.follows.holds c.set_leader.new.self).3 (some-is c.in-Some.ensures.value)) c.in_ok-touch.ensures.touched c.remove.ensures.updates c.in-Ok.ensures.ok known (c.touch.ensures.stands s up happened k)
 
 pub returns-in-Err-clause-refused : goal.returns-in-Err-clause-refused
 returns-in-Err-clause-refused g c = λ s up happened k none.
@@ -21,3 +25,8 @@ pub returns-in-None-clause-led : goal.returns-in-None-clause-led
 returns-in-None-clause-led g c = λ s up happened k some none.
     let bare = unknown g.S.Scheme g.D.PartialEq.eq s c.args.view _ (up c.args.view) (happened c.args.view) (sym c.in-None.ensures.value) ((c.touch.ensures.stands s up happened k).kept c.args.view) in
     absurd (no-some bare.0 some)
+
+pub returns-in-None-clause-again : goal.returns-in-None-clause-again
+returns-in-None-clause-again g c = λ s up happened k known.
+    let bare = unknown g.S.Scheme g.D.PartialEq.eq s c.args.view _ (up c.args.view) (happened c.args.view) (sym c.in-None.ensures.value) ((c.touch.ensures.stands s up happened k).kept c.args.view) in
+    absurd (known (rw bare.1 refl))

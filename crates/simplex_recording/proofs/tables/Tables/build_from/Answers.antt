@@ -4,8 +4,13 @@ use Rattle.simplex_recording.specs.Tables.{build_parts}
 use Rattle.simplex_recording.proofs.Firsts.{first_behind, first_there, none_before}
 use Rattle.simplex_recording.proofs.tables.Tables.build_from.Goals as goal
 
-pub returns-in-Some : goal.returns-in-Some
-returns-in-Some g c = λ low h k.
+pub returns-in-Some-clause-behind : goal.returns-in-Some-clause-behind
+returns-in-Some-clause-behind g c =
+    let range = c.range.ensures.in_range tt in
+    first_behind c.args.self.now.builds c.args.from c.range.result range c.in-Some.number.now c.in-Some.building.now _ c.in-Some.ensures.steps
+
+pub returns-in-Some-clause-first : goal.returns-in-Some-clause-first
+returns-in-Some-clause-first g c = λ low h k.
     let range = c.range.ensures.in_range tt in
     let number = c.in-Some.number.now in
     let building = c.in-Some.building.now in

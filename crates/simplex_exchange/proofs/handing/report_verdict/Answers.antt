@@ -3,7 +3,7 @@ use Rattle.std.proofs.lemmas.Result.{on_ok_weaker}
 use Rattle.simplex_messages.specs.declared.activity.Activity.TheVariants as activity
 use Rattle.simplex_member.specs.Deeds.{Reports}
 use Rattle.simplex_exchange.specs.Handing.{nothing_more}
-use Rattle.simplex_node.proofs.verdicts.report_verdict.Goals as goal
+use Rattle.simplex_exchange.proofs.handing.report_verdict.Goals as goal
 
 pub returns-then-not-ok-clause-acts : goal.returns-then-not-ok-clause-acts
 returns-then-not-ok-clause-acts g c = λ f. rw c.if-not-ok.true (nothing_more f c.args.out.now.items)

@@ -1,5 +1,5 @@
 use Rattle.std.proofs.Common.{refl}
-use Rattle.simplex_node.proofs.answering.own_plan.Goals as goal
+use Rattle.simplex_exchange.proofs.handing.own_plan.Goals as goal
 
 pub returns-then-handoff : goal.returns-then-handoff
 returns-then-handoff c = rw c.if-handoff.true refl

@@ -1,0 +1,17 @@
+use Rattle.std.proofs.Common.{◌≡◌, ◌∷◌, ◌++◌, ◌∙◌, [], ap, sym, refl, ℕ, ◌+◌, map, take}
+use Rattle.std.proofs.lemmas.List.{map-append, take_more}
+use Rattle.simplex_member.specs.Deeds.{Blocks}
+use Rattle.simplex_exchange.specs.Handing.{both_more, hands_as, nothing_more}
+use Rattle.simplex_exchange.proofs.handing.block_all.Goals as goal
+
+pub loop-member-init : goal.loop-member-init
+loop-member-init g c = λ f. nothing_more f c.args.out.now.items
+
+pub loop-member-preserved : goal.loop-member-preserved
+loop-member-preserved g c = λ f.
+    let members = c.args.members.now in
+    let i = c.loop-member.member-index in
+    let member = c.member-item.result in
+    let more : take (i + 1) members ≡ take i members ++ member ∷ [] = take_more members i member c.loop-member-test.true ∙ ap (λ (m : ℕ). take i members ++ m ∷ []) (sym c.member-item.is) in
+    hands_as f c.args.out.now.items c.hand_out.new.out.items (map Blocks (take (i + 1) members)) (map Blocks (take i members) ++ Blocks member ∷ []) (ap (map Blocks) more ∙ map-append Blocks (take i members) (member ∷ []))
+    (both_more f c.args.out.now.items c.loop-member.out.items c.hand_out.new.out.items (map Blocks (take i members)) (Blocks member ∷ []) (c.loop-member.invariant f) (c.in-Ok.ensures.done f (Blocks member) refl))
