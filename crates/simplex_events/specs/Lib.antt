@@ -1,0 +1,9 @@
+pub mod Event
+pub mod EventCodec
+pub mod Parts
+pub mod PartsCodec
+pub mod Plan
+pub mod Reply
+pub mod ReplyCodec
+pub mod Stream
+pub mod Taken

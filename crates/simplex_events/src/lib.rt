@@ -1,0 +1,9 @@
+//! Events and replies as bytes, and the events of an input.
+#![tactic(auto)]
+
+mod event;
+mod input;
+mod parts;
+
+pub use event::{read_event, write_event};
+pub use input::EventInput;
