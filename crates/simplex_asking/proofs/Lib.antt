@@ -1,0 +1,11 @@
+mod Acts
+mod Builds
+mod Ending
+mod Gaps
+mod Moments
+mod Seeking
+mod Silences
+mod Verdicts
+mod Waits
+mod Wakes
+mod Wanted
