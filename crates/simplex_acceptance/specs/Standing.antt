@@ -1,5 +1,5 @@
 -- What is kept of the votes of all views.
-use Rattle.std.specs.Prelude.{◌≡◌, ◌≢◌, ◌↔◌, ◌==◌, ◌&&◌, nat_lt, not, ℕ, Bool, true, false, List, [], ◌∷◌, Option, Some, None, IfSome, IsSome, IsTrue, MatchOption, if◌then◌else◌, is_none, unwrap_or}
+use Rattle.std.specs.Prelude.{◌≡◌, ◌≢◌, ◌↔◌, ◌≤◌, ◌<◌, ◌==◌, ◌&&◌, nat_lt, not, ℕ, Bool, true, false, List, [], ◌∷◌, Option, Some, None, IfSome, IsSome, IsTrue, MatchOption, if◌then◌else◌, is_none, unwrap_or}
 use Rattle.std.specs.BTreeMap.{get}
 use Rattle.std.specs.BTreeSet.{contains}
 use Rattle.std.specs.Option.{option_or}
@@ -66,6 +66,17 @@ module _ {S D P G C : Type 0} where
     pub rounds : get nat_cmp new.by_view view ≡ get nat_cmp old.by_view view
     pub touched : contains nat_cmp new.touched view ≡ contains nat_cmp old.touched view
     pub unled : contains nat_cmp new.unled view ≡ contains nat_cmp old.unled view
+
+module _ {S D P G C : Type 0} where
+  -- of each view from this one on whose votes came up they know who leads
+  abbrev pub AreLedFrom : (ℕ → Option Bool) → (ℕ → History S D P G C) → ℕ → Type 0
+  AreLedFrom up happened from = (view : ℕ) → from ≤ view → IsSome (up view) → leader_of (happened view) ≢ None
+
+  -- this is the first view from that one on whose votes came up and may not know who leads
+  pub record IsFirstUnled (up : ℕ → Option Bool) (happened : ℕ → History S D P G C) (from view : ℕ) : Type 0 where
+    pub behind : from ≤ view
+    pub there : IsSome (up view)
+    pub first : (u : ℕ) → from ≤ u → u < view → IsSome (up u) → leader_of (happened u) ≢ None
 
 module _ {S D P G C : Type 0} (g : Ghosts S D P G C) where
   -- what stays the same of the votes of one view, passed over or not

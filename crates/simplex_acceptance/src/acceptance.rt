@@ -16,7 +16,7 @@ ghost use Rattle.simplex_member.specs.Layers.{current_of, floor_of, may_enter, s
 ghost use Rattle.simplex_member.specs.Point.{Point, History, Came, Found, Heard, Leads, Votes};
 ghost use Rattle.simplex_member.specs.Setup.{Setup};
 ghost use Rattle.simplex_verifier.specs.History as votes;
-ghost use Rattle.simplex_acceptance.specs.Standing.{happened_from, up_from};
+ghost use Rattle.simplex_acceptance.specs.Standing.{AreLedFrom, IsFirstUnled, happened_from, up_from};
 ghost use Rattle.simplex_acceptance.specs.Keeps.{AtEach, Does, IsAt, IsNewVote, IsOpenTo, IsSetUp, IsShut, Keeps, KeepsAhead, NoneIsDue};
 
 use crate::due::Due;
@@ -186,7 +186,7 @@ impl<S: Scheme<D> + Drop, D: Digest> Acceptance<S, D> {
         self.floor = floor;
     }
 
-    /// Names the leader of a view, whose votes wait for it.
+    /// Names the leader of a view, whose votes wait for it. The same leader again changes nothing.
     ///
     /// # Errors
     ///
@@ -194,6 +194,7 @@ impl<S: Scheme<D> + Drop, D: Digest> Acceptance<S, D> {
     /// then.
     pub fn lead(&mut self, view: View, leader: Participant) -> Result<(), BatcherFault>
         ensures led { OnOk result (AtEach S.Scheme D.PartialEq.eq self.old (λ s h. IsSome (stage s h view) → leader_of (votes_of s h view) ≡ None → Keeps S.Scheme D.PartialEq.eq s self.new (Leads view leader ∷ h))) }
+        ensures again { OnOk result (AtEach S.Scheme D.PartialEq.eq self.old (λ s h. leader_of (votes_of s h view) ≢ None → Keeps S.Scheme D.PartialEq.eq s self.new h)) }
         ensures fault { IfErr result (λ e. AtEach S.Scheme D.PartialEq.eq self.old (λ s h. leader_of (votes_of s h view) ≡ None → e ≡ Memory)) }
         ensures err { OnErr result (AtEach S.Scheme D.PartialEq.eq self.old (λ s h. Keeps S.Scheme D.PartialEq.eq s self.new h)) }
     {
@@ -201,6 +202,14 @@ impl<S: Scheme<D> + Drop, D: Digest> Acceptance<S, D> {
             Ok(()) => Ok(()),
             Err(fault) => Err(fault),
         }
+    }
+
+    /// The first view from this one on whose votes came up and may wait for the name of their leader.
+    pub fn first_unled(&self, from: View) -> Option<View>
+        ensures behind { IfSome result (λ view. from ≤ view) }
+        ensures first { AtEach S.Scheme D.PartialEq.eq self.now (λ s h. MatchOption result (AreLedFrom (stage s h) (votes_of s h) from) (λ view. IsFirstUnled (stage s h) (votes_of s h) from view)) }
+    {
+        self.rounds.first_unled(from)
     }
 
     /// Does what is due first of the votes of all views, and answers of which: forwards their proposal, or makes what it can of a

@@ -12,7 +12,7 @@ ghost use Rattle.simplex_batcher.specs.Queries.{has_nullify, is_missing_voter};
 ghost use Rattle.simplex_batcher.specs.Admission.{AgreesWithOwn, IsCastFault};
 ghost use Rattle.simplex_batcher.specs.Rounds.{RoundKeeps};
 ghost use Rattle.simplex_batcher.specs.Rounds as one;
-ghost use Rattle.simplex_acceptance.specs.Standing.{AreAlike, AreAtRest, AtEach, Common, IsAdmitted, IsCast, IsDone, IsRoundDone, Stand, come_up, common_of, happened_from, is_passed, put, set_at, setup_at, setup_now, up_from};
+ghost use Rattle.simplex_acceptance.specs.Standing.{AreAlike, AreAtRest, AreLedFrom, AtEach, Common, IsAdmitted, IsFirstUnled, IsCast, IsDone, IsRoundDone, Stand, come_up, common_of, happened_from, is_passed, put, set_at, setup_at, setup_now, up_from};
 
 use crate::due::Due;
 use simplex_batcher::{Admission, BatcherFault, Round};
@@ -22,6 +22,7 @@ use simplex_types::{
 };
 use std::alloc::{AllocError, Global};
 use std::collections::{BTreeMap, BTreeSet};
+use std::ops::Bound;
 use std::rc::Rc;
 
 /// The rounds of votes of all views.
@@ -241,6 +242,7 @@ impl<S: Scheme<D> + Drop, D: Digest> Rounds<S, D> {
     /// Names the leader of a view.
     pub(crate) fn lead(&mut self, view: View, leader: Participant) -> Result<(), BatcherFault>
         ensures led { OnOk result (AtEach S.Scheme D.PartialEq.eq self.old (λ s up happened. IsSome (up view) → leader_of (happened view) ≡ None → Stand S.Scheme D.PartialEq.eq s self.new up (put view (Led leader) happened))) }
+        ensures again { OnOk result (AtEach S.Scheme D.PartialEq.eq self.old (λ s up happened. leader_of (happened view) ≢ None → Stand S.Scheme D.PartialEq.eq s self.new up happened)) }
         ensures refused { IfErr result (λ e. AtEach S.Scheme D.PartialEq.eq self.old (λ s up happened. leader_of (happened view) ≡ None → e ≡ Memory)) }
         ensures err { OnErr result (AtEach S.Scheme D.PartialEq.eq self.old (λ s up happened. Stand S.Scheme D.PartialEq.eq s self.new up happened)) }
     {
@@ -255,6 +257,47 @@ impl<S: Scheme<D> + Drop, D: Digest> Rounds<S, D> {
             },
             None => Ok(()),
         }
+    }
+
+    /// The first view from this one on whose votes came up and may wait for the name of their leader.
+    pub(crate) fn first_unled(&self, from: View) -> Option<View>
+        ensures behind { IfSome result (λ view. from ≤ view) }
+        ensures first { AtEach S.Scheme D.PartialEq.eq self.now (λ s up happened. MatchOption result (AreLedFrom up happened from) (λ view. IsFirstUnled up happened from view)) }
+    {
+        let mut next = from;
+        'views: while let Some(view) = self.next_unled(next) {
+            if self.is_up(view) {
+                return Some(view);
+            }
+            if view.get() == u64::MAX {
+                return None;
+            }
+            next = view.next();
+        }
+        None
+    }
+
+    /// The first view from this one on whose leader may not be named yet.
+    fn next_unled(&self, from: View) -> Option<View>
+        ensures behind { IfSome result (λ view. from ≤ view) }
+        ensures none { is_none result ≡ true → (u : ℕ) → from ≤ u → contains nat_cmp self.now.unled u ≡ false }
+        ensures first { IfSome result (λ view. (u : ℕ) → from ≤ u → u < view → contains nat_cmp self.now.unled u ≡ false) }
+    {
+        match self
+            .unled
+            .range((Bound::Included(from), Bound::Unbounded))
+            .next()
+        {
+            Some(view) => Some(*view),
+            None => None,
+        }
+    }
+
+    /// Whether the votes of the view came up.
+    fn is_up(&self, view: View) -> bool
+        ensures { AtEach S.Scheme D.PartialEq.eq self.now (λ s up happened. IsTrue result ↔ IsSome (up view)) }
+    {
+        self.by_view.contains_key(&view)
     }
 
     /// Does what is due of a view. Where nothing is, the view rests until it is touched again.

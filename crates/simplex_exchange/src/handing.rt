@@ -1,14 +1,18 @@
 //! What is handed out.
 
-ghost use Rattle.std.specs.Prelude.{◌≡◌, ◌∷◌, [], map, option_to_list, IfErr, OnOk};
+ghost use Rattle.std.specs.Prelude.{◌≡◌, ◌∷◌, [], map, option_to_list, if◌then◌else◌, IfErr, OnOk};
+ghost use Rattle.simplex_messages.specs.declared.activity.Activity.TheVariants as activity;
 ghost use Rattle.simplex_member.specs.declared.fault.NodeFault.TheVariants as step_fault;
-ghost use Rattle.simplex_member.specs.Deeds.{Deed, Finalizes, IsAction, Reports};
+ghost use Rattle.simplex_member.specs.Deeds.{Blocks, Deed, Finalizes, IsAction, IsPlan, Reports, own_way};
 ghost use Rattle.simplex_member.specs.Packet.{Formats};
 ghost use Rattle.simplex_exchange.specs.Handing.{HandsOut};
 
+use simplex_certificates::Notarization;
 use simplex_member::{Action, NodeFault};
 use simplex_messages::Activity;
-use simplex_types::{Digest, Proposal, Scheme};
+use simplex_rules::Plan;
+use simplex_types::{Digest, Duplicate, Participant, Proposal, Round, Scheme};
+use std::alloc::Global;
 
 /// Hands an action out, behind those before.
 ///
@@ -62,4 +66,58 @@ pub fn hand_out_final<S: Scheme<D>, D: Digest>(
         Some(proposal) => hand_out(Action::Finalized(proposal), out),
         None => Ok(()),
     }
+}
+
+/// Blocks these members.
+///
+/// # Errors
+///
+/// [`NodeFault::Memory`].
+pub fn block_all<S: Scheme<D>, D: Digest>(
+    members: &[Participant],
+    out: &mut Vec<Action<S, D>>,
+) -> Result<(), NodeFault>
+    ensures done { OnOk result ((f : Formats S D S.PublicKey S.Signature S.Certificate) → HandsOut f out.old.items out.new.items (map Blocks members.now)) }
+    ensures fault { IfErr result (λ why. why ≡ step_fault.Memory) }
+{
+    for member in members {
+        match hand_out(Action::Block(*member), out) {
+            Ok(()) => {}
+            Err(fault) => return Err(fault),
+        }
+    }
+    Ok(())
+}
+
+/// Reports a notarization on which the verdict is true, and one on which it is false not.
+///
+/// # Errors
+///
+/// [`NodeFault::Memory`].
+pub fn report_verdict<S: Scheme<D>, D: Digest>(
+    alloc: Global,
+    notarization: &Notarization<S, D>,
+    ok: bool,
+    out: &mut Vec<Action<S, D>>,
+) -> Result<(), NodeFault>
+    ensures acts { OnOk result ((f : Formats S D S.PublicKey S.Signature S.Certificate) → HandsOut f out.old.items out.new.items (if ok then Reports (activity.Certification notarization.now) ∷ [] else [])) }
+    ensures fault { IfErr result (λ why. why ≡ step_fault.Memory) }
+{
+    if !ok {
+        return Ok(());
+    }
+    match notarization.duplicate(alloc) {
+        Ok(copy) => hand_out(Action::Report(Activity::Certification(copy)), out),
+        Err(_) => Err(NodeFault::Memory),
+    }
+}
+
+/// How an own payload is handed on: as the application will for a handoff, and else to all.
+pub fn own_plan(handoff: bool, round: Round) -> Plan<Participant>
+    ensures { IsPlan result (own_way handoff round) }
+{
+    if handoff {
+        return Plan::Prepare { round };
+    }
+    Plan::Propose { round }
 }

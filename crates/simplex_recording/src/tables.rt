@@ -1,6 +1,6 @@
 //! What a node remembers of what it asked for, of when members were heard, and of the time.
 
-ghost use Rattle.std.specs.Prelude.{◌≡◌, ◌↔◌, ◌⊎◌, ◌≤◌, ◌<◌, ◌∷◌, [], ℕ, Bool, Option, Some, None, false, option_map, Contains, IsTrue, IfOk, OnOk, OnErr, MatchOption};
+ghost use Rattle.std.specs.Prelude.{◌≡◌, ◌↔◌, ◌⊎◌, ◌≤◌, ◌<◌, ◌∷◌, [], ℕ, Bool, Option, Some, None, false, option_map, Contains, IsTrue, IfOk, IfSome, OnOk, OnErr, MatchOption};
 ghost use Rattle.std.specs.BTreeSet.{contains};
 ghost use Rattle.std.specs.Ordering.{nat_cmp};
 ghost use Rattle.simplex_types.specs.declared.context.Context.{Context};
@@ -132,7 +132,8 @@ impl<S: Scheme<D>, D: Digest> Tables<S, D> {
 
     /// The first build that stands under this number or a later one.
     pub fn build_from(&self, from: u64) -> Option<(u64, Building<D, S::PublicKey>)>
-        ensures { AtEach self.now (λ low h. MatchOption result ((n : ℕ) → from ≤ n → build_at h n ≡ None) (λ p. IsFirstBuild h from p.0 (build_parts p.1))) }
+        ensures behind { IfSome result (λ p. from ≤ p.0) }
+        ensures first { AtEach self.now (λ low h. MatchOption result ((n : ℕ) → from ≤ n → build_at h n ≡ None) (λ p. IsFirstBuild h from p.0 (build_parts p.1))) }
     {
         match self
             .builds
