@@ -1,12 +1,11 @@
 //! What the application answers: what it built, and whether a proposal is good.
 
-ghost use Rattle.std.specs.Prelude.{◌≡◌, ◌≢◌, Bool, List, None, Some, IfErr, OnOk};
+ghost use Rattle.std.specs.Prelude.{◌≡◌, ◌≢◌, List, None, Some, IfErr, OnOk};
 ghost use Rattle.simplex_voter.specs.State as voting;
 ghost use Rattle.simplex_member.specs.declared.action.Action.{Action};
 ghost use Rattle.simplex_member.specs.declared.event.Event.TheVariants as event;
 ghost use Rattle.simplex_member.specs.declared.fault.NodeFault.TheVariants as step_fault;
 ghost use Rattle.simplex_member.specs.Asked.{build_at, check_at};
-ghost use Rattle.simplex_member.specs.Deeds.{IsPlan, own_way};
 ghost use Rattle.simplex_member.specs.Layers.{voter_of};
 ghost use Rattle.simplex_member.specs.Packet.{Formats, formats};
 ghost use Rattle.simplex_member.specs.Point.{History};
@@ -17,24 +16,14 @@ ghost use Rattle.simplex_node.specs.Keeps.{AtOwn, disk_of};
 
 use crate::node::Node;
 use simplex_acceptance::silent_points_leave_votes;
-use simplex_exchange::hand_out;
+use simplex_exchange::{hand_out, own_plan};
 use simplex_history::TimeoutReason;
 use simplex_journal::Disk;
 use simplex_member::{Action, NodeFault};
 use simplex_recording::Building;
-use simplex_rules::{Elector, Plan};
-use simplex_types::{Digest, Participant, Round, Scheme, View};
+use simplex_rules::Elector;
+use simplex_types::{Digest, Scheme, View};
 use simplex_voter::State as Voter;
-
-/// How an own payload is handed on: as the application will for a handoff, and else to all.
-fn own_plan(handoff: bool, round: Round) -> Plan<Participant>
-    ensures { IsPlan result (own_way handoff round) }
-{
-    if handoff {
-        return Plan::Prepare { round };
-    }
-    Plan::Propose { round }
-}
 
 /// Tells the voter what was found of the proposal of a view.
 ///

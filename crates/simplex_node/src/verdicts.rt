@@ -1,52 +1,28 @@
 //! The application's verdicts on what is notarized.
 
-ghost use Rattle.std.specs.Prelude.{◌≡◌, ◌≢◌, ◌∷◌, [], false, if◌then◌else◌, IfErr, OnOk, IsErrOf};
-ghost use Rattle.simplex_messages.specs.declared.activity.Activity.TheVariants as activity;
+ghost use Rattle.std.specs.Prelude.{◌≡◌, ◌≢◌, false, IfErr, OnOk, IsErrOf};
 ghost use Rattle.simplex_journal.specs.Disk.{LeavesOnly, counted};
 ghost use Rattle.simplex_member.specs.Asked.{IsAwaited};
-ghost use Rattle.simplex_member.specs.Deeds.{Reports};
 ghost use Rattle.simplex_member.specs.declared.fault.NodeFault.{NodeFault};
 ghost use Rattle.simplex_member.specs.declared.fault.NodeFault.TheVariants as step_fault;
-ghost use Rattle.simplex_member.specs.Packet.{Formats, formats};
+ghost use Rattle.simplex_member.specs.Packet.{formats};
 ghost use Rattle.simplex_member.specs.Point.{History, Judged};
 ghost use Rattle.simplex_member.specs.Setup.{Setup};
-ghost use Rattle.simplex_exchange.specs.Handing.{HandsOut};
 ghost use Rattle.simplex_node.specs.Keeps.{AtOwn, disk_of};
 ghost use Rattle.simplex_node.specs.Taking.{IsLeftBy, IsTaken};
 ghost use Rattle.simplex_node.specs.Verdicts.{RecordIsAhead};
 
-use crate::entering::enter;
 use crate::node::Node;
 use simplex_acceptance::silent_points_leave_votes;
-use simplex_certificates::{Artifact, Notarization};
-use simplex_exchange::{hand_out, record};
+use simplex_certificates::Artifact;
+use simplex_exchange::{record, report_verdict};
 use simplex_journal::Disk;
+use simplex_learning::enter;
 use simplex_member::{Action, NodeFault, awaited_verdicts_may_be_taken};
-use simplex_messages::Activity;
 use simplex_recalling::{give_verdict, judge_repair};
 use simplex_recording::quiet_points_leave_the_tables;
 use simplex_rules::Elector;
-use simplex_types::{Digest, Duplicate, Round, Scheme, View};
-use std::alloc::Global;
-
-/// Reports a notarization on which the verdict is true, and one on which it is false not.
-fn report_verdict<S: Scheme<D>, D: Digest>(
-    alloc: Global,
-    notarization: &Notarization<S, D>,
-    ok: bool,
-    out: &mut Vec<Action<S, D>>,
-) -> Result<(), NodeFault>
-    ensures acts { OnOk result ((f : Formats S D S.PublicKey S.Signature S.Certificate) → HandsOut f out.old.items out.new.items (if ok then Reports (activity.Certification notarization.now) ∷ [] else [])) }
-    ensures fault { IfErr result (λ why. why ≡ step_fault.Memory) }
-{
-    if !ok {
-        return Ok(());
-    }
-    match notarization.duplicate(alloc) {
-        Ok(copy) => hand_out(Action::Report(Activity::Certification(copy)), out),
-        Err(_) => Err(NodeFault::Memory),
-    }
-}
+use simplex_types::{Digest, Round, Scheme, View};
 
 impl<S: Scheme<D> + Drop, L: Elector<S, D>, D: Digest, K: Disk> Node<S, L, D, K> {
     /// Takes a verdict on the view that is awaited: it is recorded, then voter, repair and votes learn of it; a true one is reported with
