@@ -5,7 +5,8 @@ use script_values as values;
 use script_words::{Committee, Say, Trouble, Words};
 use simplex_fakes::OneByOne;
 use simplex_types::{
-    AssemblyError, Attestation, Listing, PlainScheme, Sha256Digest, are_of_distinct_members,
+    AssemblyError, Attestation, Listing, Participant, PlainScheme, Sha256Digest, Subject,
+    are_of_distinct_members,
 };
 
 /// `scheme KIND MEMBERS ME CALL ..`, where KIND is `plain` or `serial`, and ME is `-` for nobody of it.
@@ -65,12 +66,17 @@ fn ask_at_once<S: Listing<Sha256Digest>>(
 fn shown<S: Listing<Sha256Digest>>(scheme: &S, say: &mut Say) -> Result<(), Trouble> {
     say.number(u64::from(scheme.participants()))?;
     say.gap()?;
-    match scheme.me() {
-        Some(me) => say.number(u64::from(me.get()))?,
-        None => say.none()?,
-    }
+    say_me(scheme.me(), say)?;
     say.gap()?;
     say.truth(scheme.is_batchable())
+}
+
+/// Who sees the committee.
+fn say_me(me: Option<Participant>, say: &mut Say) -> Result<(), Trouble> {
+    match me {
+        Some(me) => say.member(me),
+        None => say.none(),
+    }
 }
 
 /// `key INDEX`.
@@ -132,8 +138,15 @@ fn assemble<S: Listing<Sha256Digest>>(
     }
     match scheme.assemble(say.alloc, &given) {
         Ok(certificate) => say.value(&certificate),
-        Err(AssemblyError::Memory) => Err(Trouble::Memory),
-        Err(error) => say.text(&format!(in say.alloc; "{error}")?),
+        Err(error) => say_refused(error, say),
+    }
+}
+
+/// Why there is no certificate.
+fn say_refused(error: AssemblyError, say: &mut Say) -> Result<(), Trouble> {
+    match error {
+        AssemblyError::Memory => Err(Trouble::Memory),
+        error => say.text(&format!(in say.alloc; "{error}")?),
     }
 }
 
@@ -146,10 +159,15 @@ fn failing<S: Listing<Sha256Digest>>(
     let stated = Stated::read(words)?;
     let given = values::all::<Attestation<S::Signature>>(words, say.alloc)?;
     let failing = scheme.verify_attestations(say.alloc, &stated.subject(), &given)?;
-    say.number(failing.len() as u64)?;
-    for member in &failing {
+    say_members(&failing, say)
+}
+
+/// How many members they are, and which.
+fn say_members(members: &[Participant], say: &mut Say) -> Result<(), Trouble> {
+    say.number(members.len() as u64)?;
+    for member in members {
         say.gap()?;
-        say.number(u64::from(member.get()))?;
+        say.member(*member)?;
     }
     Ok(())
 }
@@ -164,11 +182,19 @@ fn optimistic<S: Listing<Sha256Digest>>(
     let given = values::all::<Attestation<S::Signature>>(words, say.alloc)?;
     let subject = stated.subject();
     match scheme.optimistic_assemble(say.alloc, &subject, &given)? {
-        Some(certificate) => {
-            say.value(&certificate)?;
-            say.gap()?;
-            say.truth(scheme.verify_certificate(&subject, &certificate))
-        }
+        Some(certificate) => say_checked(scheme, &subject, &certificate, say),
         None => say.none(),
     }
+}
+
+/// The certificate, and whether it certifies.
+fn say_checked<S: Listing<Sha256Digest>>(
+    scheme: &S,
+    subject: &Subject<'_, Sha256Digest>,
+    certificate: &S::Certificate,
+    say: &mut Say,
+) -> Result<(), Trouble> {
+    say.value(certificate)?;
+    say.gap()?;
+    say.truth(scheme.verify_certificate(subject, certificate))
 }

@@ -36,6 +36,20 @@ impl Stated {
     }
 }
 
+/// Says the subject's namespace.
+fn say_namespace(
+    names: &Namespace,
+    subject: &Subject<'_, Sha256Digest>,
+    say: &mut Say,
+) -> Result<(), Trouble> {
+    say.bytes(&names.of(say.alloc, subject)?)
+}
+
+/// Says the subject's message.
+fn say_message(subject: &Subject<'_, Sha256Digest>, say: &mut Say) -> Result<(), Trouble> {
+    say.bytes(&subject.message(say.alloc)?)
+}
+
 /// Says the name of the subject's kind, its namespace and its message.
 fn say_signed(
     names: &Namespace,
@@ -44,9 +58,9 @@ fn say_signed(
 ) -> Result<(), Trouble> {
     say.bytes(subject.kind_name())?;
     say.gap()?;
-    say.bytes(&names.of(say.alloc, subject)?)?;
+    say_namespace(names, subject, say)?;
     say.gap()?;
-    say.bytes(&subject.message(say.alloc)?)
+    say_message(subject, say)
 }
 
 /// Says the hash that signs the subject in the name of an index.
@@ -86,19 +100,23 @@ fn say_subject(
 /// signs it in the name of any index.
 pub fn subject(words: &mut Words<'_>, say: &mut Say) -> Result<(), Trouble> {
     let names = Namespace::new(say.alloc, &words.bytes(say.alloc)?)?;
+    subject_in(&names, words, say)
+}
+
+fn subject_in(names: &Namespace, words: &mut Words<'_>, say: &mut Say) -> Result<(), Trouble> {
     let index = words.member()?;
     match words.word() {
         "notarize" => {
             let proposal = words.proposal()?;
-            say_subject(&names, index, &Subject::Notarize(&proposal), say)
+            say_subject(names, index, &Subject::Notarize(&proposal), say)
         }
         "nullify" => {
             let round = words.round()?;
-            say_subject(&names, index, &Subject::Nullify(round), say)
+            say_subject(names, index, &Subject::Nullify(round), say)
         }
         "finalize" => {
             let proposal = words.proposal()?;
-            say_subject(&names, index, &Subject::Finalize(&proposal), say)
+            say_subject(names, index, &Subject::Finalize(&proposal), say)
         }
         _ => Err(Trouble::Unreadable),
     }
