@@ -1,6 +1,6 @@
 //! Reports, and what an audit finds in them.
 
-use crate::bytes::bytes_of;
+use crate::bytes::last_bytes;
 use script_messages::SayMessages;
 use script_words::{Committee, Say, Trouble, Words};
 use simplex_audit::{Audit, a_contradicted_round_names_enough, audit, names_rest_on_the_reports};
@@ -42,19 +42,23 @@ impl Pieces {
         Ok(bytes)
     }
 
+    /// `LIST`, which ends the line: the pieces of these numbers, one behind the other.
+    fn listed(&self, words: &mut Words<'_>, alloc: Global) -> Result<Vec<u8>, Trouble> {
+        let numbers = words.numbers(alloc)?;
+        words.end()?;
+        self.joined(alloc, &numbers)
+    }
+
     /// `keep HEX`.
     pub(crate) fn keep(&mut self, words: &mut Words<'_>, say: &mut Say) -> Result<(), Trouble> {
-        let piece = bytes_of(words, say.alloc)?;
-        words.end()?;
+        let piece = last_bytes(words, say.alloc)?;
         self.push(piece, say)
     }
 
     /// `repeat TIMES LIST`.
     pub(crate) fn repeat(&mut self, words: &mut Words<'_>, say: &mut Say) -> Result<(), Trouble> {
         let times = words.index()?;
-        let numbers = words.numbers(say.alloc)?;
-        words.end()?;
-        let once = self.joined(say.alloc, &numbers)?;
+        let once = self.listed(words, say.alloc)?;
         let piece = repeated(say.alloc, &once, times)?;
         self.push(piece, say)
     }
@@ -62,9 +66,7 @@ impl Pieces {
     /// `front LENGTH LIST`.
     pub(crate) fn front(&mut self, words: &mut Words<'_>, say: &mut Say) -> Result<(), Trouble> {
         let length = words.index()?;
-        let numbers = words.numbers(say.alloc)?;
-        words.end()?;
-        let mut piece = self.joined(say.alloc, &numbers)?;
+        let mut piece = self.listed(words, say.alloc)?;
         piece.truncate(length as usize);
         self.push(piece, say)
     }
@@ -90,17 +92,9 @@ impl Pieces {
         say: &mut Say,
     ) -> Result<(), Trouble> {
         let members = words.index()?;
-        let numbers = words.numbers(say.alloc)?;
-        words.end()?;
-        let bytes = self.joined(say.alloc, &numbers)?;
+        let bytes = self.listed(words, say.alloc)?;
         let scheme = S::member_of(say.alloc, members, None, 0)?;
-        let found: Audit<S, Sha256Digest> = audit(say.alloc, &scheme, &bytes)?;
-        say_place(found.fault, say)?;
-        if is_sum {
-            say_sum(&found.evidence, say)
-        } else {
-            say_evidence(found.evidence, say)
-        }
+        say_audit(&scheme, &bytes, is_sum, say)
     }
 
     /// `right N NUMBER`.
@@ -110,13 +104,37 @@ impl Pieces {
         words.end()?;
         let bytes = self.joined(say.alloc, &[number])?;
         let scheme = PlainScheme::member_of(say.alloc, members, None, 0)?;
-        let mut rest = bytes.as_slice();
-        let read = Activity::<PlainScheme, Sha256Digest>::read_cfg(say.alloc, &mut rest, members);
-        match read {
-            Ok(report) => say.truth(report.verify(&scheme)),
-            Err(error) => say.fault(error),
-        }
+        say_right(&scheme, members, &bytes, say)
     }
+}
+
+/// Whether the report at the front of the bytes verifies.
+fn say_right<S: Committee>(
+    scheme: &S,
+    members: u32,
+    bytes: &[u8],
+    say: &mut Say,
+) -> Result<(), Trouble> {
+    let mut rest = bytes;
+    match Activity::<S, Sha256Digest>::read_cfg(say.alloc, &mut rest, members) {
+        Ok(report) => say.truth(report.verify(scheme)),
+        Err(error) => say.fault(error),
+    }
+}
+
+/// What an audit of the bytes finds.
+fn say_audit<S: Committee>(
+    scheme: &S,
+    bytes: &[u8],
+    is_sum: bool,
+    say: &mut Say,
+) -> Result<(), Trouble> {
+    let found: Audit<S, Sha256Digest> = audit(say.alloc, scheme, bytes)?;
+    say_place(found.fault, say)?;
+    if is_sum {
+        return say_sum(&found.evidence, say);
+    }
+    say_evidence(found.evidence, say)
 }
 
 /// The bytes so many times, one behind the other.
@@ -144,13 +162,21 @@ fn say_evidence<S: Committee>(
     if evidence.is_empty() {
         return say.text(" -");
     }
-    let mut is_first = true;
+    let mut gap = " ";
     for piece in evidence {
-        say.text(if is_first { " " } else { " , " })?;
-        say.report(&Some(piece))?;
-        is_first = false;
+        say_piece(gap, &Some(piece), say)?;
+        gap = " , ";
     }
     Ok(())
+}
+
+fn say_piece<S: Committee>(
+    gap: &str,
+    piece: &Option<Activity<S, Sha256Digest>>,
+    say: &mut Say,
+) -> Result<(), Trouble> {
+    say.text(gap)?;
+    say.report(piece)
 }
 
 /// The length and the sum of the evidence's spelling.

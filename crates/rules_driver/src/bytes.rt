@@ -10,3 +10,10 @@ pub(crate) fn bytes_of(words: &mut Words<'_>, alloc: Global) -> Result<Vec<u8>, 
     }
     words.bytes(alloc)
 }
+
+/// The same, and the word ends the line.
+pub(crate) fn last_bytes(words: &mut Words<'_>, alloc: Global) -> Result<Vec<u8>, Trouble> {
+    let bytes = bytes_of(words, alloc)?;
+    words.end()?;
+    Ok(bytes)
+}

@@ -1,7 +1,9 @@
 //! Who leads.
 
+ghost use Rattle.std.specs.Prelude.{◌<◌};
+
 use crate::by_count::ByCount;
-use crate::bytes::bytes_of;
+use crate::bytes::{bytes_of, last_bytes};
 use script_words::{Say, Trouble, Words};
 use simplex_rules::elector::{Config, Elector, Mode};
 use simplex_rules::{
@@ -10,7 +12,7 @@ use simplex_rules::{
 };
 use simplex_types::{
     AttestationList, Digest, Duplicate, Epoch, PlainScheme, PlainSignature, Round, Scheme,
-    Sha256Digest, View, ViewDelta, decode_cfg,
+    Sha256Digest, TermLength, View, ViewDelta, decode_cfg,
 };
 use std::alloc::Global;
 
@@ -20,9 +22,10 @@ pub(crate) fn ask(words: &mut Words<'_>, say: &mut Say) -> Result<(), Trouble> {
     if asked == "by_count" {
         return by_count(words, say);
     }
-    let mut rotation = rotation(words, say.alloc)?;
+    let rotation = rotation(words, say.alloc)?;
     if asked == "copies_lead" {
-        rotation = rotation.duplicate(say.alloc)?;
+        let copy = rotation.duplicate(say.alloc)?;
+        return ask_built::<PlainScheme, Sha256Digest, RoundRobin>(asked, &copy, words, say);
     }
     ask_built::<PlainScheme, Sha256Digest, RoundRobin>(asked, &rotation, words, say)
 }
@@ -39,21 +42,47 @@ fn order(words: &mut Words<'_>, alloc: Global) -> Result<RoundRobin, Trouble> {
     }
 }
 
+/// Terms of several views.
+#[derive(Clone, Copy)]
+struct Stable {
+    length: TermLength,
+    stall_timeout: u64,
+    views: ViewDelta,
+    ghost stalls: { 0 < stall_timeout },
+}
+
+impl Stable {
+    /// `LENGTH STALL VIEWS`.
+    fn read(words: &mut Words<'_>) -> Result<Self, Trouble> {
+        let length = words.term_length()?;
+        let stall_timeout = words.number()?;
+        let views = ViewDelta::new(words.number()?);
+        if stall_timeout == 0 {
+            return Err(Trouble::Condition);
+        }
+        Ok(Stable {
+            length,
+            stall_timeout,
+            views,
+        })
+    }
+}
+
+/// `rotating`, or `stable LENGTH STALL VIEWS`.
+fn stable_or_not(word: &str, words: &mut Words<'_>) -> Result<Option<Stable>, Trouble> {
+    match word {
+        "rotating" => Ok(None),
+        "stable" => Ok(Some(Stable::read(words)?)),
+        _ => Err(Trouble::Unreadable),
+    }
+}
+
 /// `ORDER TERMS`.
 fn rotation(words: &mut Words<'_>, alloc: Global) -> Result<RoundRobin, Trouble> {
     let order = order(words, alloc)?;
-    match words.word() {
-        "rotating" => Ok(order),
-        "stable" => {
-            let length = words.term_length()?;
-            let stall_timeout = words.number()?;
-            let views = ViewDelta::new(words.number()?);
-            if stall_timeout == 0 {
-                return Err(Trouble::Condition);
-            }
-            Ok(order.with_term(length, stall_timeout, views))
-        }
-        _ => Err(Trouble::Unreadable),
+    match stable_or_not(words.word(), words)? {
+        Some(terms) => Ok(order.with_term(terms.length, terms.stall_timeout, terms.views)),
+        None => Ok(order),
     }
 }
 
@@ -93,13 +122,22 @@ fn ask_built<S: Scheme<D>, D: Digest, C: Config<S, D>>(
         return Err(Trouble::Condition);
     }
     let elector = config.build(say.alloc, members)?;
+    ask_elector::<S, D, C::Elector>(asked, &elector, &views, say)
+}
+
+fn ask_elector<S: Scheme<D>, D: Digest, E: Elector<S, D>>(
+    asked: &str,
+    elector: &E,
+    views: &Views,
+    say: &mut Say,
+) -> Result<(), Trouble> {
     match asked {
-        "leads" => say_leaders::<S, D, C::Elector>(&elector, &views, say),
+        "leads" => say_leaders::<S, D, E>(elector, views, say),
         "copies_lead" => {
             let copy = elector.duplicate(say.alloc)?;
-            say_leaders::<S, D, C::Elector>(&copy, &views, say)
+            say_leaders::<S, D, E>(&copy, views, say)
         }
-        "sets" => say_set::<S, D, C::Elector>(&elector, say),
+        "sets" => say_set::<S, D, E>(elector, say),
         _ => Err(Trouble::Unreadable),
     }
 }
@@ -151,22 +189,20 @@ fn say_terms(terms: &Terms, say: &mut Say) -> Result<(), Trouble> {
 
 /// `terms default`, `terms rotating` or `terms stable LENGTH STALL VIEWS`.
 pub(crate) fn terms(words: &mut Words<'_>, say: &mut Say) -> Result<(), Trouble> {
-    let terms = match words.word() {
-        "default" => Terms::default(),
-        "rotating" => Terms::rotating(),
-        "stable" => {
-            let length = words.term_length()?;
-            let stall_timeout = words.number()?;
-            let views = ViewDelta::new(words.number()?);
-            if stall_timeout == 0 {
-                return Err(Trouble::Condition);
-            }
-            Terms::stable(length, stall_timeout, views)
-        }
-        _ => return Err(Trouble::Unreadable),
-    };
+    let terms = read_terms(words)?;
     words.end()?;
     say_terms(&terms, say)
+}
+
+fn read_terms(words: &mut Words<'_>) -> Result<Terms, Trouble> {
+    let word = words.word();
+    if word == "default" {
+        return Ok(Terms::default());
+    }
+    match stable_or_not(word, words)? {
+        Some(terms) => Ok(Terms::stable(terms.length, terms.stall_timeout, terms.views)),
+        None => Ok(Terms::rotating()),
+    }
 }
 
 /// `elector by_count MEMBERS EPOCH VIEW HEX`.
@@ -174,36 +210,30 @@ fn by_count(words: &mut Words<'_>, say: &mut Say) -> Result<(), Trouble> {
     let participants = words.index()?;
     let round = words.round()?;
     let certificate = certificate(participants, words, say.alloc)?;
-    words.end()?;
-    if participants == 0 {
+    say_elected(participants, round, certificate.as_ref(), say)
+}
+
+/// Who leads a round behind this certificate. Without one only the first views have a leader.
+fn say_elected(
+    participants: u32,
+    round: Round,
+    certificate: Option<&AttestationList<PlainSignature>>,
+    say: &mut Say,
+) -> Result<(), Trouble> {
+    if participants == 0 || certificate.is_none() && round.view.get() > 1 {
         return Err(Trouble::Condition);
     }
     let elector = ByCount { participants };
-    match &certificate {
-        Some(made) => say.member(Elector::<PlainScheme, Sha256Digest>::elect(
-            &elector,
-            round,
-            Some(made),
-        )),
-        None => say_without(&elector, round, say),
-    }
+    say.member(Elector::<PlainScheme, Sha256Digest>::elect(&elector, round, certificate))
 }
 
-/// Who leads a round that no certificate was given for.
-fn say_without(elector: &ByCount, round: Round, say: &mut Say) -> Result<(), Trouble> {
-    if round.view.get() > 1 {
-        return Err(Trouble::Condition);
-    }
-    say.member(Elector::<PlainScheme, Sha256Digest>::elect(elector, round, None))
-}
-
-/// A list of attestations, or `-`.
+/// A list of attestations, or `-`, which ends the line.
 fn certificate(
     bound: u32,
     words: &mut Words<'_>,
     alloc: Global,
 ) -> Result<Option<AttestationList<PlainSignature>>, Trouble> {
-    let bytes = bytes_of(words, alloc)?;
+    let bytes = last_bytes(words, alloc)?;
     if bytes.is_empty() {
         return Ok(None);
     }

@@ -16,12 +16,12 @@
 //! duplicate is equal, and how many bytes are left, or by why none was read, `taken HEX` by the signature that is taken
 //! off the bytes, or `-`, and how many are left.
 
-use crate::bytes::bytes_of;
+use crate::bytes::last_bytes;
 use script_words::{Committee, Say, Trouble, Words};
 use simplex_rules::{SaltedScheme, SaltedSignature, signatures_of_two_counters_differ};
 use simplex_types::{
-    AssemblyError, Attestation, AttestationList, Duplicate, EncodeSize, MaxEncodeSize, Read,
-    Scheme, Sha256Digest, Signature, Subject, Write, are_of_distinct_members,
+    AssemblyError, Attestation, Duplicate, EncodeSize, MaxEncodeSize, Participant, Read, Scheme,
+    Sha256Digest, Signature, Subject, Write, are_of_distinct_members,
 };
 use std::alloc::Global;
 
@@ -31,18 +31,22 @@ pub(crate) fn ask(words: &mut Words<'_>, say: &mut Say) -> Result<(), Trouble> {
     let me = words.optional_member()?;
     let counter = words.number()?;
     let scheme = SaltedScheme::member_of(say.alloc, members, me, counter)?;
+    ask_by(&scheme, words, say)
+}
+
+fn ask_by(scheme: &SaltedScheme, words: &mut Words<'_>, say: &mut Say) -> Result<(), Trouble> {
     match words.word() {
         "notarize" => {
             let proposal = words.proposal()?;
-            ask_of(&scheme, &Subject::Notarize(&proposal), words, say)
+            ask_of(scheme, &Subject::Notarize(&proposal), words, say)
         }
         "finalize" => {
             let proposal = words.proposal()?;
-            ask_of(&scheme, &Subject::Finalize(&proposal), words, say)
+            ask_of(scheme, &Subject::Finalize(&proposal), words, say)
         }
         "nullify" => {
             let round = words.round()?;
-            ask_of(&scheme, &Subject::Nullify(round), words, say)
+            ask_of(scheme, &Subject::Nullify(round), words, say)
         }
         _ => Err(Trouble::Unreadable),
     }
@@ -66,8 +70,8 @@ fn ask_of(
     }
 }
 
-fn sign(
-    scheme: &SaltedScheme,
+fn sign<S: Committee>(
+    scheme: &S,
     subject: &Subject<'_, Sha256Digest>,
     words: &mut Words<'_>,
     say: &mut Say,
@@ -82,8 +86,8 @@ fn sign(
 }
 
 /// Appends what the scheme signs next, if it has a key.
-fn push_signed(
-    scheme: &SaltedScheme,
+fn push_signed<S: Committee>(
+    scheme: &S,
     subject: &Subject<'_, Sha256Digest>,
     bytes: &mut Vec<u8>,
 ) -> Result<(), Trouble> {
@@ -109,36 +113,42 @@ fn sign_with(
     say.bytes(&bytes)
 }
 
-fn verify(
-    scheme: &SaltedScheme,
+fn verify<S: Committee>(
+    scheme: &S,
     subject: &Subject<'_, Sha256Digest>,
     words: &mut Words<'_>,
     say: &mut Say,
 ) -> Result<(), Trouble> {
-    let attestation: Attestation<SaltedSignature> = words.value(say.alloc, u32::MAX)?;
+    let attestation: Attestation<S::Signature> = words.value(say.alloc, u32::MAX)?;
     words.end()?;
     say.truth(scheme.verify_attestation(subject, &attestation))
 }
 
-fn certifies(
-    scheme: &SaltedScheme,
+fn certifies<S: Committee>(
+    scheme: &S,
     subject: &Subject<'_, Sha256Digest>,
     words: &mut Words<'_>,
     say: &mut Say,
 ) -> Result<(), Trouble> {
-    let certificate: AttestationList<SaltedSignature> = words.value(say.alloc, u32::MAX)?;
+    let certificate: S::Certificate = words.value(say.alloc, u32::MAX)?;
     words.end()?;
     say.truth(scheme.verify_certificate(subject, &certificate))
 }
 
-/// Attestations, one behind the other.
-fn attestations(
+/// Attestations, one behind the other, which end the line.
+fn attestations<G: Signature>(
     words: &mut Words<'_>,
     alloc: Global,
-) -> Result<Vec<Attestation<SaltedSignature>>, Trouble> {
-    let bytes = bytes_of(words, alloc)?;
-    words.end()?;
-    let mut rest = bytes.as_slice();
+) -> Result<Vec<Attestation<G>>, Trouble> {
+    let bytes = last_bytes(words, alloc)?;
+    attestations_of(alloc, &bytes)
+}
+
+fn attestations_of<G: Signature>(
+    alloc: Global,
+    bytes: &[u8],
+) -> Result<Vec<Attestation<G>>, Trouble> {
+    let mut rest = bytes;
     let mut attestations = Vec::new(alloc);
     for _ in 0..bytes.len() {
         if rest.is_empty() {
@@ -152,8 +162,8 @@ fn attestations(
     Ok(attestations)
 }
 
-fn failing(
-    scheme: &SaltedScheme,
+fn failing<S: Committee>(
+    scheme: &S,
     subject: &Subject<'_, Sha256Digest>,
     words: &mut Words<'_>,
     say: &mut Say,
@@ -163,8 +173,8 @@ fn failing(
     say.members(&failing)
 }
 
-fn assemble_at_once(
-    scheme: &SaltedScheme,
+fn assemble_at_once<S: Committee>(
+    scheme: &S,
     subject: &Subject<'_, Sha256Digest>,
     words: &mut Words<'_>,
     say: &mut Say,
@@ -182,14 +192,22 @@ pub(crate) fn seat(words: &mut Words<'_>, say: &mut Say) -> Result<(), Trouble> 
     let me = words.optional_member()?;
     words.end()?;
     let scheme = SaltedScheme::member_of(say.alloc, members, me, 0)?;
-    say.number(u64::from(Scheme::<Sha256Digest>::participants(&scheme)))?;
+    say_seat(&scheme, say)
+}
+
+fn say_seat<S: Committee>(scheme: &S, say: &mut Say) -> Result<(), Trouble> {
+    say.number(u64::from(scheme.participants()))?;
     say.gap()?;
-    match Scheme::<Sha256Digest>::me(&scheme) {
-        Some(me) => say.member(me)?,
-        None => say.none()?,
+    say_me(scheme.me(), say)?;
+    say.gap()?;
+    say.truth(scheme.is_batchable())
+}
+
+fn say_me(me: Option<Participant>, say: &mut Say) -> Result<(), Trouble> {
+    match me {
+        Some(me) => say.member(me),
+        None => say.none(),
     }
-    say.gap()?;
-    say.truth(Scheme::<Sha256Digest>::is_batchable(&scheme))
 }
 
 /// `key N INDEX`.
@@ -206,37 +224,53 @@ pub(crate) fn assemble(words: &mut Words<'_>, say: &mut Say) -> Result<(), Troub
     let members = words.index()?;
     let given = attestations(words, say.alloc)?;
     let scheme = SaltedScheme::member_of(say.alloc, members, None, 0)?;
-    let members = Scheme::<Sha256Digest>::participants(&scheme);
-    if !are_of_distinct_members(say.alloc, members, &given)? {
+    assemble_by(&scheme, &given, say)
+}
+
+fn assemble_by<S: Committee>(
+    scheme: &S,
+    given: &[Attestation<S::Signature>],
+    say: &mut Say,
+) -> Result<(), Trouble> {
+    if !are_of_distinct_members(say.alloc, scheme.participants(), given)? {
         return Err(Trouble::Condition);
     }
-    match Scheme::<Sha256Digest>::assemble(&scheme, say.alloc, &given) {
+    match scheme.assemble(say.alloc, given) {
         Ok(list) => say.value(&list),
-        Err(AssemblyError::InsufficientAttestations(needed, count)) => {
+        Err(error) => say_refused(error, say),
+    }
+}
+
+/// Why there is no certificate.
+fn say_refused(error: AssemblyError, say: &mut Say) -> Result<(), Trouble> {
+    match error {
+        AssemblyError::InsufficientAttestations(needed, count) => {
             say.text("insufficient ")?;
             say.number(u64::from(needed))?;
             say.gap()?;
             say.number(u64::from(count))
         }
-        Err(AssemblyError::Memory) => Err(Trouble::Memory),
+        AssemblyError::Memory => Err(Trouble::Memory),
     }
 }
 
 /// `signature HEX`.
 pub(crate) fn signature(words: &mut Words<'_>, say: &mut Say) -> Result<(), Trouble> {
-    let bytes = bytes_of(words, say.alloc)?;
-    words.end()?;
+    let bytes = last_bytes(words, say.alloc)?;
     let mut rest = bytes.as_slice();
     match SaltedSignature::read_cfg(say.alloc, &mut rest, 4) {
-        Ok(signature) => {
-            say.value(&signature)?;
-            say.gap()?;
-            say_sizes(&signature, say)?;
-            say.gap()?;
-            say.number(rest.len() as u64)
-        }
+        Ok(signature) => say_signature(&signature, rest.len(), say),
         Err(error) => say.fault(error),
     }
+}
+
+/// The signature, its sizes, and how many bytes are left.
+fn say_signature(signature: &SaltedSignature, left: usize, say: &mut Say) -> Result<(), Trouble> {
+    say.value(signature)?;
+    say.gap()?;
+    say_sizes(signature, say)?;
+    say.gap()?;
+    say.number(left as u64)
 }
 
 /// The size, the greatest size, and whether a duplicate is equal.
@@ -251,10 +285,13 @@ fn say_sizes(signature: &SaltedSignature, say: &mut Say) -> Result<(), Trouble> 
 
 /// `taken HEX`.
 pub(crate) fn taken(words: &mut Words<'_>, say: &mut Say) -> Result<(), Trouble> {
-    let bytes = bytes_of(words, say.alloc)?;
-    words.end()?;
-    let mut rest = bytes.as_slice();
-    match SaltedSignature::take(&mut rest, 4) {
+    let bytes = last_bytes(words, say.alloc)?;
+    say_taken::<SaltedSignature>(&bytes, say)
+}
+
+fn say_taken<G: Signature>(bytes: &[u8], say: &mut Say) -> Result<(), Trouble> {
+    let mut rest = bytes;
+    match G::take(&mut rest, 4) {
         Some(signature) => say.value(&signature)?,
         None => say.none()?,
     }
