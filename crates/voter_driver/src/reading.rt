@@ -41,6 +41,12 @@ const ABANDONED: [(&str, HandoffAbandonedReason); 7] = [
     ),
 ];
 
+/// What was read, where it ends the line.
+pub fn last<T: Drop>(read: T, words: &Words<'_>) -> Result<T, Trouble> {
+    words.end()?;
+    Ok(read)
+}
+
 /// A number that ends the line.
 pub fn last_number(words: &mut Words<'_>) -> Result<u64, Trouble> {
     let number = words.number()?;
@@ -107,8 +113,7 @@ pub fn last_floor<S: Committee>(
         "genesis" => Ok(Floor::Genesis(last_payload(words)?)),
         "finalization" => {
             let finalization = words.finalization::<S>(alloc, participants)?;
-            words.end()?;
-            Ok(Floor::Finalized(finalization))
+            Ok(Floor::Finalized(last(finalization, words)?))
         }
         _ => Err(Trouble::Unreadable),
     }

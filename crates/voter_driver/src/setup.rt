@@ -97,8 +97,19 @@ fn leading<'a>(words: &mut Words<'a>) -> Result<(Mode, Option<&'a str>), Trouble
 pub fn found(alloc: Global, words: &mut Words<'_>) -> Result<Voter<PlainScheme, Turns>, Trouble> {
     let setup = Setup::read(words)?;
     let (mode, seed) = leading(words)?;
+    made(alloc, &setup, mode, seed)
+}
+
+/// The voter of this setup, with who leads.
+fn made(
+    alloc: Global,
+    setup: &Setup,
+    mode: Mode,
+    seed: Option<&str>,
+) -> Result<Voter<PlainScheme, Turns>, Trouble> {
     let scheme = PlainScheme::member_of(alloc, setup.participants, setup.me, 0)?;
     let participants = Scheme::<Sha256Digest>::participants(&scheme);
+    let scheme = Rc::new(alloc, scheme)?;
     let turns = Turns::new(alloc, mode, seed, setup.terms, participants)?;
-    Ok(Voter::new(alloc, &setup, Rc::new(alloc, scheme)?, turns)?)
+    Ok(Voter::new(alloc, setup, scheme, turns)?)
 }

@@ -1,13 +1,13 @@
 //! What a voter learns.
 
-use crate::reading::{kind, last_floor, last_payload, last_truth};
+use crate::reading::{kind, last, last_floor, last_payload, last_truth};
 use crate::voter::Voter;
 use crate::voter::knowing::{finalized, notarized};
 use script_certificates::CertificateWords;
 use script_words::{Committee, Say, Trouble, Words};
 use simplex_certificates::{Artifact, Finalization, Notarization, Nullification};
 use simplex_rules::Elector;
-use simplex_types::{PlainKey, Scheme, Sha256Digest};
+use simplex_types::{PlainKey, Scheme, Sha256Digest, View};
 use std::alloc::Global;
 
 /// Says whether a certificate is the first of its view, and whose proposal it took the place of.
@@ -18,6 +18,19 @@ fn added(say: &mut Say, added: (bool, Option<PlainKey>)) -> Result<(), Trouble> 
     say.key_or(leader)
 }
 
+/// Says views with a comma between two, or `-`.
+fn dropped(say: &mut Say, views: &[View]) -> Result<(), Trouble> {
+    let Some((first, rest)) = views.split_first() else {
+        return say.none();
+    };
+    say.view(*first)?;
+    for view in rest {
+        say.text(",")?;
+        say.view(*view)?;
+    }
+    Ok(())
+}
+
 /// `notarization ..` of a committee of so many, which ends the line.
 fn notarization<S: Committee>(
     alloc: Global,
@@ -26,8 +39,7 @@ fn notarization<S: Committee>(
 ) -> Result<Notarization<S, Sha256Digest>, Trouble> {
     kind(words, "notarization")?;
     let certificate = words.notarization::<S>(alloc, participants)?;
-    words.end()?;
-    Ok(certificate)
+    last(certificate, words)
 }
 
 /// `nullification ..` of a committee of so many, which ends the line.
@@ -38,8 +50,7 @@ fn nullification<S: Committee>(
 ) -> Result<Nullification<S, Sha256Digest>, Trouble> {
     kind(words, "nullification")?;
     let certificate = words.nullification::<S>(alloc, participants)?;
-    words.end()?;
-    Ok(certificate)
+    last(certificate, words)
 }
 
 /// `finalization ..` of a committee of so many, which ends the line.
@@ -50,8 +61,7 @@ fn finalization<S: Committee>(
 ) -> Result<Finalization<S, Sha256Digest>, Trouble> {
     kind(words, "finalization")?;
     let certificate = words.finalization::<S>(alloc, participants)?;
-    words.end()?;
-    Ok(certificate)
+    last(certificate, words)
 }
 
 /// An artifact of a committee of so many, which ends the line.
@@ -61,8 +71,7 @@ fn artifact<S: Committee>(
     participants: u32,
 ) -> Result<Artifact<S, Sha256Digest>, Trouble> {
     let artifact = words.artifact::<S>(alloc, participants)?;
-    words.end()?;
-    Ok(artifact)
+    last(artifact, words)
 }
 
 impl<S: Committee + Scheme<Sha256Digest, PublicKey = PlainKey>, L: Elector<S, Sha256Digest>> Voter<
@@ -143,15 +152,6 @@ impl<S: Committee + Scheme<Sha256Digest, PublicKey = PlainKey>, L: Elector<S, Sh
     /// The views that a prune drops.
     fn pruned(&mut self, words: &mut Words<'_>, say: &mut Say) -> Result<(), Trouble> {
         words.end()?;
-        let views = self.state.prune(say.alloc)?;
-        let Some((first, rest)) = views.split_first() else {
-            return say.none();
-        };
-        say.view(*first)?;
-        for view in rest {
-            say.text(",")?;
-            say.view(*view)?;
-        }
-        Ok(())
+        dropped(say, &self.state.prune(say.alloc)?)
     }
 }

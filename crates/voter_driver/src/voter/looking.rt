@@ -72,6 +72,18 @@ fn fetches(say: &mut Say, fetches: &[CertificateFetch]) -> Result<(), Trouble> {
     Ok(())
 }
 
+/// Says both.
+fn candidates(
+    say: &mut Say,
+    proposals: &[Proposal<Sha256Digest>],
+    certificates: &[CertificateFetch],
+) -> Result<(), Trouble> {
+    say.text("ready ")?;
+    ready(say, proposals)?;
+    say.text(" fetch ")?;
+    fetches(say, certificates)
+}
+
 impl<S: Committee + Scheme<Sha256Digest, PublicKey = PlainKey>, L: Elector<S, Sha256Digest>> Voter<
     S,
     L,
@@ -117,9 +129,6 @@ impl<S: Committee + Scheme<Sha256Digest, PublicKey = PlainKey>, L: Elector<S, Sh
     fn candidates(&mut self, words: &mut Words<'_>, say: &mut Say) -> Result<(), Trouble> {
         words.end()?;
         let (proposals, certificates) = self.state.certify_candidates(say.alloc)?;
-        say.text("ready ")?;
-        ready(say, &proposals)?;
-        say.text(" fetch ")?;
-        fetches(say, &certificates)
+        candidates(say, &proposals, &certificates)
     }
 }

@@ -45,6 +45,21 @@ fn bound(
     say.payload(&payload)
 }
 
+/// Says what a round answers to the call of this name, `stall_deadline` where it is none of the others.
+fn of_round<S: Committee>(
+    say: &mut Say,
+    round: &Round<S, Sha256Digest>,
+    name: &str,
+) -> Result<(), Trouble> {
+    match name {
+        "proposal" => say.proposal_or(round.proposal()),
+        "verifying" => bound(say, round.verifying()),
+        "certified_proposal" => say.proposal_or(round.certified_proposal()),
+        "pending_certification" => say.proposal_or(round.pending_certification()),
+        _ => say.optional(round.stall_deadline()),
+    }
+}
+
 impl<S: Committee + Scheme<Sha256Digest, PublicKey = PlainKey>, L: Elector<S, Sha256Digest>> Voter<
     S,
     L,
@@ -98,35 +113,26 @@ impl<S: Committee + Scheme<Sha256Digest, PublicKey = PlainKey>, L: Elector<S, Sh
     ) -> Result<(), Trouble> {
         match name {
             "known" => self.known(words, say),
-            "proposal" => match self.state.views().round(last_view(words)?) {
-                Some(round) => say.proposal_or(round.proposal()),
-                None => say.none(),
-            },
-            "verifying" => match self.state.views().round(last_view(words)?) {
-                Some(round) => bound(say, round.verifying()),
-                None => say.none(),
-            },
-            "is_requested" => {
-                let view = words.view()?;
-                let missing = last_view(words)?;
-                match self.state.views().round(view) {
-                    Some(round) => say.truth(round.is_requested(missing)),
-                    None => say.none(),
-                }
-            }
-            "certified_proposal" => match self.state.views().round(last_view(words)?) {
-                Some(round) => say.proposal_or(round.certified_proposal()),
-                None => say.none(),
-            },
-            "pending_certification" => match self.state.views().round(last_view(words)?) {
-                Some(round) => say.proposal_or(round.pending_certification()),
-                None => say.none(),
-            },
-            "stall_deadline" => match self.state.views().round(last_view(words)?) {
-                Some(round) => say.optional(round.stall_deadline()),
+            "is_requested" => self.requested(words, say),
+            "proposal"
+            | "verifying"
+            | "certified_proposal"
+            | "pending_certification"
+            | "stall_deadline" => match self.state.views().round(last_view(words)?) {
+                Some(round) => of_round(say, round, name),
                 None => say.none(),
             },
             _ => Err(Trouble::Unreadable),
+        }
+    }
+
+    /// `VIEW MISSING`: whether the view's parent is asked for.
+    fn requested(&self, words: &mut Words<'_>, say: &mut Say) -> Result<(), Trouble> {
+        let view = words.view()?;
+        let missing = last_view(words)?;
+        match self.state.views().round(view) {
+            Some(round) => say.truth(round.is_requested(missing)),
+            None => say.none(),
         }
     }
 
