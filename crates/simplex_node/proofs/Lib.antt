@@ -9,5 +9,6 @@ mod Testing
 mod Whole
 mod Tests
 mod Refusals
+mod Placing
 mod Heeding
 mod Replying

@@ -1,6 +1,6 @@
 -- The first test that applies.
 use Rattle.std.proofs.Common.{◌≡◌, ⊎_elim, inl, inr, Bool, true, List, [], ◌∷◌, ◌++◌, Option, Some, None, sym, ◌∙◌, subst}
-use Rattle.std.specs.Prelude.{◌&&◌}
+use Rattle.std.specs.Prelude.{◌&&◌, ◌↔◌}
 use Rattle.std.proofs.lemmas.Bool.{and_parts}
 use Rattle.std.proofs.lemmas.Option.{none-some, same_Some}
 use Rattle.simplex_member.specs.First.{IsFirst}
@@ -45,3 +45,7 @@ module _ {A : Type 0} where
   first-has test ((b, Applies) ∷ tests) a all first =
       let both = and_parts (test b) (all-have test tests) all in
       ⊎_elim (λ hit. subst (λ (x : A). test x ≡ true) (sym (same_Some a b hit.1)) both.0) (λ miss. first-has test tests a both.1 miss.1) first
+
+  -- a test that applies just where another does may stand for it
+  pub first-as : {P Q : Type 0} {tests others : List (A × Type 0)} {answer : Option A} (a : A) → P ↔ Q → (IsFirst tests answer → IsFirst others answer) → IsFirst ((a, P) ∷ tests) answer → IsFirst ((a, Q) ∷ others) answer
+  first-as a same step first = ⊎_elim (λ hit. inl (same.0 hit.0, hit.1)) (λ miss. inr (λ is. miss.0 (same.1 is), step miss.1)) first

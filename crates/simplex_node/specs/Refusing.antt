@@ -1,9 +1,10 @@
 -- Why something is refused: the tests, in parts.
-use Rattle.std.specs.Prelude.{◌≡◌, ◌≢◌, ◌<◌, ◌++◌, ℕ, false, List, [], ◌∷◌, Option, if◌then◌else◌}
+use Rattle.std.specs.Prelude.{◌≡◌, ◌≢◌, ◌<◌, ◌≤◌, ◌++◌, ℕ, Bool, false, List, [], ◌∷◌, Option, if◌then◌else◌}
 use Rattle.simplex_types.specs.declared.scheme.Scheme.{Ghosts}
 use Rattle.simplex_types.specs.Positions.{HasRoom}
 use Rattle.simplex_messages.specs.declared.vote.Vote.{Vote}
 use Rattle.simplex_messages.specs.VoteParts.{vote_round, vote_signer}
+use Rattle.simplex_record.specs.declared.owner.Owner.{Owner}
 use Rattle.simplex_record.specs.Rules.{HasParentBelow}
 use Rattle.simplex_verifier.specs.Votes.{vote_statement}
 use Rattle.simplex_verifier.specs.History.{takes}
@@ -17,6 +18,23 @@ use Rattle.simplex_member.specs.Packet.{Formats, Packet}
 use Rattle.simplex_member.specs.Point.{History}
 use Rattle.simplex_member.specs.Refusals.{AdmitsVote, blocks_sender, evidence_deeds, packet_tests, refusal_report, sender_tests}
 use Rattle.simplex_member.specs.Setup.{Setup}
+
+module _ (owner : Owner) (epoch view : ℕ) where
+  -- the tests of the round and the parent of a vote or a certificate, whose view is listened to or not, and whose parent is below or not
+  abbrev pub round_tests : Bool → Bool → List (Refusal × Type 0)
+  round_tests is_heard is_above =
+      (refusal.WrongEpoch, epoch ≢ owner.epoch)
+      ∷ (refusal.ViewZero, view ≡ 0)
+      ∷ (refusal.OutsideWindow, is_heard ≡ false)
+      ∷ (refusal.NoRoom, HasRoom owner.term_length view → ⊥)
+      ∷ (refusal.ParentNotBelow, is_above ≡ false)
+      ∷ []
+
+  -- it is of the owner's epoch, and of a view from 1 on, which has room
+  pub record IsPlaced : Type 0 where
+    pub epoch_is : epoch ≡ owner.epoch
+    pub from_one : 1 ≤ view
+    pub room : HasRoom owner.term_length view
 
 module _ {S D P G C : Type 0} (g : Ghosts S D P G C) (f : Formats S D P G C) (s : Setup S D C) where
   -- the tests of a packet of these bytes

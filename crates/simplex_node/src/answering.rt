@@ -6,12 +6,13 @@ ghost use Rattle.simplex_member.specs.declared.action.Action.{Action};
 ghost use Rattle.simplex_member.specs.declared.event.Event.TheVariants as event;
 ghost use Rattle.simplex_member.specs.declared.fault.NodeFault.TheVariants as step_fault;
 ghost use Rattle.simplex_member.specs.Asked.{build_at, check_at};
-ghost use Rattle.simplex_member.specs.Deeds.{IsPlan, own_way};
+ghost use Rattle.simplex_member.specs.Deeds.{IsPlan, built_deeds, own_way};
 ghost use Rattle.simplex_member.specs.Layers.{voter_of};
 ghost use Rattle.simplex_member.specs.Packet.{Formats, formats};
 ghost use Rattle.simplex_member.specs.Point.{History};
 ghost use Rattle.simplex_member.specs.Setup.{Setup};
 ghost use Rattle.simplex_recording.specs.Tables.{build_parts};
+ghost use Rattle.simplex_exchange.specs.Handing.{HandsOut};
 ghost use Rattle.simplex_node.specs.Answering.{TakesAnswer, TakesEvent};
 ghost use Rattle.simplex_node.specs.Keeps.{AtOwn, disk_of};
 
@@ -34,6 +35,24 @@ fn own_plan(handoff: bool, round: Round) -> Plan<Participant>
         return Plan::Prepare { round };
     }
     Plan::Propose { round }
+}
+
+/// Hands an own payload on that is proposed in a round, and nothing where it isn't.
+fn hand_own<S: Scheme<D>, D: Digest>(
+    took: bool,
+    handoff: bool,
+    round: Round,
+    payload: D,
+    out: &mut Vec<Action<S, D>>,
+) -> Result<(), NodeFault>
+    ensures acts { OnOk result ((f : Formats S D S.PublicKey S.Signature S.Certificate) → HandsOut f out.old.items out.new.items (built_deeds round handoff (Some payload) took)) }
+    ensures fault { IfErr result (λ why. why ≡ step_fault.Memory) }
+{
+    if !took {
+        return Ok(());
+    }
+    let plan = own_plan(handoff, round);
+    hand_out(Action::Forward { payload, plan }, out)
 }
 
 /// Tells the voter what was found of the proposal of a view.
@@ -109,11 +128,7 @@ impl<S: Scheme<D> + Drop, L: Elector<S, D>, D: Digest, K: Disk> Node<S, L, D, K>
             return Err(NodeFault::Memory);
         };
         self.tables.end_build(number);
-        if !took {
-            return Ok(());
-        }
-        let plan = own_plan(building.handoff, building.context.round);
-        hand_out(Action::Forward { payload, plan }, out)
+        hand_own(took, building.handoff, building.context.round, payload, out)
     }
 
     /// Takes it that nothing was built under a number: a reason to give its view up.

@@ -5,7 +5,7 @@ ghost use Rattle.simplex_voter.specs.State as voting;
 ghost use Rattle.simplex_acceptance.specs.Keeps as accepting;
 ghost use Rattle.simplex_member.specs.declared.fault.NodeFault.TheVariants as step_fault;
 ghost use Rattle.simplex_history.specs.Leaders.{leader};
-ghost use Rattle.simplex_member.specs.Deeds.{entered_deeds, recipients, silent};
+ghost use Rattle.simplex_member.specs.Deeds.{entered_deeds, hands_on, recipients, silent};
 ghost use Rattle.simplex_member.specs.Layers.{current_of, may_enter, voter_of, votes_of};
 ghost use Rattle.simplex_member.specs.Packet.{Formats};
 ghost use Rattle.simplex_member.specs.Point.{History, Point};
@@ -47,6 +47,26 @@ pub(crate) fn enter<S: Scheme<D> + Drop, L: Elector<S, D>, D: Digest>(
     }
 }
 
+/// Hands the payload of a proposal on to these members, if there are any.
+fn hand_to<S: Scheme<D>, D: Digest>(
+    proposal: &Proposal<D>,
+    recipients: Vec<Participant>,
+    out: &mut Vec<Action<S, D>>,
+) -> Result<(), NodeFault>
+    ensures acts { OnOk result ((f : Formats S D S.PublicKey S.Signature S.Certificate) → HandsOut f out.old.items out.new.items (hands_on proposal.now recipients.items)) }
+    ensures fault { IfErr result (λ why. why ≡ step_fault.Memory) }
+{
+    if recipients.is_empty() {
+        return Ok(());
+    }
+    let plan = Plan::Forward {
+        round: proposal.round,
+        recipients,
+    };
+    let payload = proposal.payload;
+    hand_out(Action::Forward { payload, plan }, out)
+}
+
 impl<S: Scheme<D> + Drop, L: Elector<S, D>, D: Digest, K: Disk> Node<S, L, D, K> {
     /// Where a view was entered since this one was the current one, hands the payload of the view before it on to those who may lack
     /// it: once the node stands behind the point that entered it.
@@ -76,15 +96,7 @@ impl<S: Scheme<D> + Drop, L: Elector<S, D>, D: Digest, K: Disk> Node<S, L, D, K>
         let Ok(recipients) = self.recipients(current, before, &proposal) else {
             return Err(NodeFault::Memory);
         };
-        if recipients.is_empty() {
-            return Ok(());
-        }
-        let plan = Plan::Forward {
-            round: proposal.round,
-            recipients,
-        };
-        let payload = proposal.payload;
-        hand_out(Action::Forward { payload, plan }, out)
+        hand_to(&proposal, recipients, out)
     }
 
     /// Who gets the proposal of the view before the entered one, ascending.

@@ -1,7 +1,7 @@
 //! The first reason for which an event is not taken, where that asks for neither memory nor the disk. The votes of a view tell the
 //! last two reasons for which a vote is not.
 
-ghost use Rattle.std.specs.Prelude.{◌≡◌, ◌≤◌, Bool, Option, IfNone, ◌<◌, ◌^◌};
+ghost use Rattle.std.specs.Prelude.{◌≡◌, ◌≤◌, Bool, Option, IfNone, IsTrue, ◌<◌, ◌^◌};
 ghost use Rattle.simplex_member.specs.declared.event.Event.TheVariants as event;
 ghost use Rattle.simplex_member.specs.Allowed.{Allowed};
 ghost use Rattle.simplex_member.specs.Asked.{IsAwaited};
@@ -12,7 +12,7 @@ ghost use Rattle.simplex_member.specs.Point.{Came};
 ghost use Rattle.simplex_member.specs.Refusals.{certificate_tests, sender_tests, tests};
 ghost use Rattle.simplex_member.specs.Setup.{IsInTime};
 ghost use Rattle.simplex_node.specs.Keeps.{AtAll, AtOwn};
-ghost use Rattle.simplex_node.specs.Refusing.{IsAnother, MayBeHeard, first_vote_tests};
+ghost use Rattle.simplex_node.specs.Refusing.{IsAnother, IsPlaced, MayBeHeard, first_vote_tests, round_tests};
 
 use crate::node::Node;
 use simplex_certificates::Certificate;
@@ -20,8 +20,9 @@ use simplex_exchange::{has_parent_below, vote_has_parent_below};
 use simplex_journal::Disk;
 use simplex_member::Refusal;
 use simplex_messages::Vote;
+use simplex_record::Owner;
 use simplex_rules::Elector;
-use simplex_types::{Attributable, Digest, Epochable, Participant, Scheme, View, Viewable};
+use simplex_types::{Attributable, Digest, Epoch, Epochable, Participant, Scheme, View, Viewable};
 
 impl<S: Scheme<D> + Drop, L: Elector<S, D>, D: Digest, K: Disk> Node<S, L, D, K> {
     /// The first reason for which nothing of a sender is taken.
@@ -45,20 +46,11 @@ impl<S: Scheme<D> + Drop, L: Elector<S, D>, D: Digest, K: Disk> Node<S, L, D, K>
         ensures may { IfNone result (AtAll S.Scheme L.Elector K.Disk self.now (λ f s h. MayBeHeard S.Scheme f s h sender vote.now)) }
     {
         let view = vote.view();
-        if vote.epoch() != self.settings.owner.epoch {
-            return Some(Refusal::WrongEpoch);
-        }
-        if view.is_zero() {
-            return Some(Refusal::ViewZero);
-        }
-        if !self.voter.views().admits_vote(view) {
-            return Some(Refusal::OutsideWindow);
-        }
-        if !view.has_room(self.settings.owner.term_length) {
-            return Some(Refusal::NoRoom);
-        }
-        if !vote_has_parent_below(vote) {
-            return Some(Refusal::ParentNotBelow);
+        let is_heard = self.voter.views().admits_vote(view);
+        let is_above = vote_has_parent_below(vote);
+        let owner = self.settings.owner;
+        if let Some(refusal) = round_refusal(owner, vote.epoch(), view, is_heard, is_above) {
+            return Some(refusal);
         }
         if vote.signer() != sender {
             return Some(Refusal::NotItsSigner);
@@ -72,20 +64,11 @@ impl<S: Scheme<D> + Drop, L: Elector<S, D>, D: Digest, K: Disk> Node<S, L, D, K>
         ensures may { IfNone result (AtOwn S.Scheme L.Elector K.Disk (formats D.PartialEq.eq D.spelling S.Signature.spelling S.Certificate.spelling D.reading S.Signature.reading S.Certificate.reading) self.now (λ f s h. Allowed S.Scheme f s h (Came certificate.now))) }
     {
         let view = certificate.view();
-        if certificate.epoch() != self.settings.owner.epoch {
-            return Some(Refusal::WrongEpoch);
-        }
-        if view.is_zero() {
-            return Some(Refusal::ViewZero);
-        }
-        if !self.voter.views().admits_certificate(view) {
-            return Some(Refusal::OutsideWindow);
-        }
-        if !view.has_room(self.settings.owner.term_length) {
-            return Some(Refusal::NoRoom);
-        }
-        if !has_parent_below(certificate) {
-            return Some(Refusal::ParentNotBelow);
+        let is_heard = self.voter.views().admits_certificate(view);
+        let is_above = has_parent_below(certificate);
+        let owner = self.settings.owner;
+        if let Some(refusal) = round_refusal(owner, certificate.epoch(), view, is_heard, is_above) {
+            return Some(refusal);
         }
         if self.ledger.recorded().has_like(certificate) {
             return Some(Refusal::Repeated);
@@ -144,4 +127,35 @@ impl<S: Scheme<D> + Drop, L: Elector<S, D>, D: Digest, K: Disk> Node<S, L, D, K>
         }
         None
     }
+}
+
+/// The first reason by its round and its parent for which neither a vote nor a certificate is taken by the owner of a record, where it
+/// is known whether its view is listened to and whether the parent lies below it.
+fn round_refusal(
+    owner: Owner,
+    epoch: Epoch,
+    view: View,
+    is_heard: bool,
+    is_above: bool,
+) -> Option<Refusal>
+    ensures first { IsFirst (round_tests owner epoch view is_heard is_above) result }
+    ensures placed { IfNone result (IsPlaced owner epoch view) }
+    ensures heard { IfNone result (IsTrue is_heard × IsTrue is_above) }
+{
+    if epoch != owner.epoch {
+        return Some(Refusal::WrongEpoch);
+    }
+    if view.is_zero() {
+        return Some(Refusal::ViewZero);
+    }
+    if !is_heard {
+        return Some(Refusal::OutsideWindow);
+    }
+    if !view.has_room(owner.term_length) {
+        return Some(Refusal::NoRoom);
+    }
+    if !is_above {
+        return Some(Refusal::ParentNotBelow);
+    }
+    None
 }
