@@ -17,6 +17,7 @@ use Rattle.simplex_verifier.specs.declared.batch.Batch.{Batch}
 use Rattle.simplex_verifier.specs.Votes.{is_kind, vote_kind, vote_statement, vote_attestation}
 use Rattle.simplex_verifier.specs.History.{History, Setup, accepted, is_complete, waiting, verified, context, is_ready, is_due, are_one}
 use Rattle.simplex_verifier.specs.Lawful.{IsConsistent}
+use Rattle.simplex_verifier.specs.Certifying.{IsCertifying}
 use Rattle.simplex_verifier.specs.ConstructionResult.{IsVoted, HasFailed, IsFounded, IsOfVerified, IsOfWaiting, IsBatch}
 use Rattle.simplex_verifier.proofs.Folding.{waiting-count, verified-count, counting-complete}
 use Rattle.simplex_verifier.proofs.Lawfully.{each-counted}
@@ -45,6 +46,33 @@ module _ {S D P G C : Type 0} (same : D → D → Bool) (s : Setup S) (kind : Ki
           let none : is_due same s kind h ≡ false = not-due s.needed (length (verified same s kind h)) (length (waiting same s kind h)) (is_some (context s kind h)) (are_one same (verified same s kind h)) s.batchable (rw v some) (ap length w) in
           absurd (cc (none, due))
 
+module _ {S D P G C : Type 0} (g : Ghosts S D P G C) (same : D → D → Bool) (s : Setup S) (kind : Kind) (h : History S D P G C) where
+  certifying-verified : (batch : Batch (Certificate S D P G C)) (c : Certificate S D P G C) → IsOfVerified g same s kind h batch → batch.certificate ≡ Some c → IsCertifying g s kind c
+  certifying-verified batch c v e =
+      let one : v.certificate ≡ c = cc (v.made, e) in
+      let is = rw one at v.certificate_is in
+      record { kind_is = is.kind_is; round_is = is.round_is; does_certify = is.whole.sound.does_certify }
+
+  certifying-waiting : (batch : Batch (Certificate S D P G C)) (c : Certificate S D P G C) → IsOfWaiting g same s kind h batch → batch.certificate ≡ Some c → IsCertifying g s kind c
+  certifying-waiting batch c w e =
+      let on = rw e at w.certificate_is in
+      let does : g.certifies s.scheme w.states (certified_by c) = elim w.judged [
+        | inl a ↦ let one : a.certificate ≡ certified_by c = cc (rw e at a.made) in rw one at a.sound.does_certify
+        | inr b ↦ let whole = (rw e at b.made).1 in whole.sound.does_certify
+      ] in
+      record { kind_is = on.kind_is; round_is = on.round_is; does_certify = rw on.states does }
+
+  -- the certificate of a batch certifies what it states
+  pub certifying : (batch : Batch (Certificate S D P G C)) → IsBatch g same s kind h batch → IfSome batch.certificate (IsCertifying g s kind)
+  certifying batch is = go batch.certificate refl
+    where
+      go : (o : Option (Certificate S D P G C)) → batch.certificate ≡ o → IfSome o (IsCertifying g s kind)
+      go None e = tt
+      go (Some c) e = elim (either (is_ready same s kind h) is) [
+        | inl v ↦ certifying-verified batch c v.1 e
+        | inr w ↦ certifying-waiting batch c w e
+      ]
+
 module _ {S D P G C : Type 0} (g : Ghosts S D P G C) (same : D → D → Bool) (law : (x y : D) → IsTrue (same x y) ↔ (x ≡ y)) (s : Setup S) (kind : Kind) (h : History S D P G C) where
   -- the attestations of accepted votes of the kind that all state one thing
   voted : (x : Statement D) (votes : List (Vote S D P G C)) → All (WasAccepted same s kind h) votes → All (λ v. vote_statement v ≡ x) votes → (a : Attestation G) → Contains (map vote_attestation votes) a → IsVoted kind h x a
@@ -66,11 +94,12 @@ module _ {S D P G C : Type 0} (g : Ghosts S D P G C) (same : D → D → Bool) (
   module _ (lawful : IsConsistent same g.attests s h) where
     founded-verified : (batch : Batch (Certificate S D P G C)) (c : Certificate S D P G C) → IsOfVerified g same s kind h batch → batch.certificate ≡ Some c → IsFounded g s kind h c
     founded-verified batch c v e =
+        let certifies = certifying-verified g same s kind h batch c v e in
         let one : v.certificate ≡ c = cc (v.made, e) in
         let is = rw one at v.certificate_is in record {
-          kind_is = is.kind_is;
-          round_is = is.round_is;
-          does_certify = is.whole.sound.does_certify;
+          kind_is = certifies.kind_is;
+          round_is = certifies.round_is;
+          does_certify = certifies.does_certify;
           listed = λ a there. voted (certificate_statement c) (verified same s kind h) (counted-accepted same s kind h).1 is.states a (is.whole.sound.only_given a there);
         }
 
@@ -82,10 +111,11 @@ module _ {S D P G C : Type 0} (g : Ghosts S D P G C) (same : D → D → Bool) (
         let sound : IsSound (g.certifies s.scheme w.states) g.lists (sure ++ wait) (certified_by c) = elim w.judged [
           | inl a ↦ let one : a.certificate ≡ certified_by c = cc (rw e at a.made) in rw one at a.sound
           | inr b ↦ let whole = (rw e at b.made).1 in record { does_certify = whole.sound.does_certify; only_given = λ a there. fewer-there batch.invalid.items sure wait a (whole.sound.only_given a there) }
-        ] in record {
-          kind_is = on.kind_is;
-          round_is = on.round_is;
-          does_certify = rw on.states sound.does_certify;
+        ] in
+        let certifies = certifying-waiting g same s kind h batch c w e in record {
+          kind_is = certifies.kind_is;
+          round_is = certifies.round_is;
+          does_certify = certifies.does_certify;
           listed = λ a there. rw on.states (elim (Contains-append_cases sure wait a (sound.only_given a there)) [
             | inl at ↦ voted w.states (verified same s kind h) (counted-accepted same s kind h).1 (verified-state same law g.attests s kind h lawful w.states w.context_is) a at
             | inr at ↦ voted w.states (waiting same s kind h) (counted-accepted same s kind h).0 (waiting-state same law g.attests s kind h lawful w.states w.context_is) a at

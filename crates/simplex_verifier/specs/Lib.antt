@@ -4,5 +4,6 @@ pub mod Lawful
 pub mod Rows
 pub mod Keeping
 pub mod ConstructionResult
+pub mod Certifying
 pub mod Quorums
 pub mod Spending

@@ -15,6 +15,7 @@ ghost use Rattle.simplex_verifier.specs.Votes.{is_kind, vote_kind, vote_statemen
 ghost use Rattle.simplex_verifier.specs.History.{Event, Forwarded, History, Setup, accepted, context, counting, has_forwarded, is_candidate, is_complete, is_due, next_kind, selected, statement_for, taken, verified, waiting};
 ghost use Rattle.simplex_verifier.specs.Lawful.{IsConsistent, IsLawful, IsNew, IsRight, MayBeAdded};
 ghost use Rattle.simplex_verifier.specs.Keeping.{VerifierKeeps};
+ghost use Rattle.simplex_verifier.specs.Certifying.{IsCertifying};
 ghost use Rattle.simplex_verifier.specs.ConstructionResult.{after, kinds_left, HasFailed, IsBatch, IsFounded};
 ghost use Rattle.simplex_verifier.specs.Quorums.{AllCertified};
 ghost use Rattle.simplex_verifier.specs.Spending.{waits, Spends};
@@ -51,6 +52,12 @@ pub fn forwarding_changes_no_votes<S: Scheme<D>, D: Digest>()
 pub fn batches_rest_on_accepted_votes<S: Scheme<D>, D: Digest>()
     ensures certificates { (s : Setup S) (h : History S D S.PublicKey S.Signature S.Certificate) (kind : Kind) (batch : Batch (Certificate S D S.PublicKey S.Signature S.Certificate)) → IsConsistent D.PartialEq.eq S.attests s h → IsBatch S.Scheme D.PartialEq.eq s kind h batch → IfSome batch.certificate (IsFounded S.Scheme s kind h) }
     ensures invalid { (s : Setup S) (h : History S D S.PublicKey S.Signature S.Certificate) (kind : Kind) (batch : Batch (Certificate S D S.PublicKey S.Signature S.Certificate)) → IsConsistent D.PartialEq.eq S.attests s h → IsBatch S.Scheme D.PartialEq.eq s kind h batch → All (HasFailed S.attests s kind h) batch.invalid.items }
+{}
+
+/// What comes of a construction may be recorded, whatever happened before it: its certificate is of the kind and of the
+/// round, and certifies what it states.
+pub fn batches_certify<S: Scheme<D>, D: Digest>()
+    ensures { (s : Setup S) (h : History S D S.PublicKey S.Signature S.Certificate) (kind : Kind) (batch : Batch (Certificate S D S.PublicKey S.Signature S.Certificate)) → IsBatch S.Scheme D.PartialEq.eq s kind h batch → IfSome batch.certificate (IsCertifying S.Scheme s kind) }
 {}
 
 /// A construction is due of a kind alone that has no certificate.
