@@ -1,6 +1,6 @@
 #!/bin/sh
-# batcher.sh [--quick] [--runs N] [--instructions]: measures a round of votes against the baseline; --quick makes few runs,
-# --instructions counts instructions in place of times, which needs valgrind.
+# batcher.sh [--quick] [--runs N] [--instructions] [--memory]: measures a round of votes against the baseline; --quick makes few
+# runs, --instructions counts instructions and --memory the bytes of the heap in place of times, which need valgrind.
 # BATCHER may name the program of batcher/main.rt.txt, else it is proved and built here, which takes minutes to hours.
 . "$(dirname "$0")/common.sh"
 

@@ -11,12 +11,14 @@ import resource
 import statistics
 import subprocess
 import sys
+import tempfile
 
 SIZES = [4, 100, 1000]
 RUNS = 7
 QUICK_RUNS = 3
 COUNTED = 40_000
 CALLGRIND = ["valgrind", "--tool=callgrind", "--callgrind-out-file=/dev/null"]
+HELD = [1000, 4000, 16000]
 # How many votes each member hands in, and how many one run goes through.
 PHASES = {
     "add": (4, 8_000_000),
@@ -30,6 +32,7 @@ def arguments():
     parser.add_argument("--quick", action="store_true", help=f"{QUICK_RUNS} runs")
     parser.add_argument("--runs", type=int, default=RUNS)
     parser.add_argument("--instructions", action="store_true", help="count instructions, which no load moves, in place of times")
+    parser.add_argument("--memory", action="store_true", help="the greatest heap of a round that holds all three kinds, in place of times")
     parser.add_argument("--baseline", help=argparse.SUPPRESS)
     parser.add_argument("--simplex", help=argparse.SUPPRESS)
     return parser.parse_args()
@@ -99,11 +102,34 @@ def count(programs):
             print(f"| {phase} | {members:,} | {each[0]:,.0f} | {each[1]:,.0f} | {each[1] / each[0]:.2f} |")
 
 
+def heap(program, members, repetitions):
+    """The most bytes that such a run has on its heap."""
+    with tempfile.NamedTemporaryFile() as out:
+        command = ["valgrind", "--tool=massif", f"--massif-out-file={out.name}", program, "hold", str(members), str(repetitions)]
+        done = subprocess.run(command, check=True, capture_output=True)
+        told = f"{2 * members * repetitions} 0 {2 * members * repetitions} 0 0 0\n"
+        if done.stdout.decode() != told:
+            sys.exit(f"disagreement: {program} answers {done.stdout} of hold, {members}")
+        return max(int(it) for it in re.findall(r"mem_heap_B=(\d+)", out.read().decode()))
+
+
+def weigh(programs):
+    """Prints the heap that a round takes with two votes of each member, less that of a run of no round."""
+    print("Heap of a round that holds two votes of each member, of all three kinds, in bytes for one vote.\n")
+    print("| Members | Baseline | `simplex` | Ratio |")
+    print("|---:|---:|---:|---:|")
+    for members in HELD:
+        each = [(heap(program, members, 1) - heap(program, members, 0)) / (2 * members) for program in programs]
+        print(f"| {members:,} | {each[0]:,.0f} | {each[1]:,.0f} | {each[1] / each[0]:.2f} |")
+
+
 def main():
     given = arguments()
     programs = [given.baseline, given.simplex]
     if given.instructions:
         return count(programs)
+    if given.memory:
+        return weigh(programs)
     runs = QUICK_RUNS if given.quick else given.runs
     costs = {}
     for phase in PHASES:

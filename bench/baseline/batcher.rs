@@ -34,6 +34,7 @@ enum Phase {
     Add,
     Construct,
     Fallback,
+    Hold,
 }
 
 #[derive(Default)]
@@ -55,7 +56,8 @@ fn run() -> io::Result<String> {
         "add" => Phase::Add,
         "construct" => Phase::Construct,
         "fallback" => Phase::Fallback,
-        _ => return Err(io::Error::other("a phase is add, construct or fallback")),
+        "hold" => Phase::Hold,
+        _ => return Err(io::Error::other("a phase is add, construct, fallback or hold")),
     };
     let members: u32 = members.parse().map_err(io::Error::other)?;
     let repetitions: u32 = repetitions.parse().map_err(io::Error::other)?;
@@ -88,7 +90,7 @@ fn play(phase: Phase, members: u32, votes: &[Vote], total: &mut Total) {
         total.blocked += usize::from(admission.block);
         total.reported += usize::from(black_box(admission.report).is_some());
     }
-    if phase == Phase::Add {
+    if matches!(phase, Phase::Add | Phase::Hold) {
         return;
     }
     round.set_leader(0);
@@ -121,6 +123,15 @@ fn votes_of(phase: Phase, members: u32) -> Vec<Vote> {
             (0..members)
                 .map(|signer| Vote::Finalize(proposal(), attestation(Kind::Finalize, signer))),
         );
+    }
+    if phase == Phase::Hold {
+        votes.extend((0..members).map(|signer| {
+            if signer % 2 == 0 {
+                Vote::Nullify(position(), attestation(Kind::Nullify, signer))
+            } else {
+                Vote::Finalize(proposal(), attestation(Kind::Finalize, signer))
+            }
+        }));
     }
     votes
 }
