@@ -11,3 +11,10 @@ mod Tests
 mod Refusals
 mod Heeding
 mod Replying
+mod Looking
+mod Trying
+mod Making
+mod Casting
+mod Lasting
+mod Settling
+mod Stepped
