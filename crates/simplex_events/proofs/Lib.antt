@@ -1,2 +1,3 @@
 mod Reading
 pub mod Taking
+pub mod Written

@@ -137,6 +137,14 @@ module _ {S D P G C : Type 0} where
   action_within W (Report activity) = activity_within W activity
   action_within W (Wake now) = ⊤
 
+  -- the bytes of an action that is kept somewhere
+  unfoldable pub spelled_action : (P → List ℕ) → (D → List ℕ) → (G → List ℕ) → (C → List ℕ) → Action S D P G C → List ℕ
+  spelled_action k p f g a = action_spelling k p f g (action_value a)
+
+  -- such an action can be spelled
+  unfoldable pub fitting_action : (D → D → Bool) → (P → Type 0) → (D → Type 0) → (G → Type 0) → (C → Type 0) → Action S D P G C → Type 0
+  fitting_action same K Q F H a = action_fits same K Q F H (action_value a)
+
   -- a reply as bytes: why the event was refused, how many actions, each of them
   unfoldable pub reply_spelling : (P → List ℕ) → (D → List ℕ) → (G → List ℕ) → (C → List ℕ) → ReplyValue S D P G C → List ℕ
   reply_spelling k p f g reply = (refusal_byte reply.refused ∷ []) ++ listed_spelling (action_spelling k p f g) reply.actions
