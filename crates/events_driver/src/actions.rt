@@ -23,39 +23,54 @@ pub(crate) fn reply(words: &mut Words<'_>, say: &mut Say) -> Result<(), Trouble>
 
 /// The number of a refusal, or `-`.
 fn refusal_of(words: &mut Words<'_>) -> Result<Option<Refusal>, Trouble> {
-    match words.optional()? {
-        None => Ok(None),
-        Some(1) => Ok(Some(Refusal::UnknownSender)),
-        Some(2) => Ok(Some(Refusal::OwnName)),
-        Some(3) => Ok(Some(Refusal::NotDecoded)),
-        Some(4) => Ok(Some(Refusal::WrongEpoch)),
-        Some(5) => Ok(Some(Refusal::ViewZero)),
-        Some(6) => Ok(Some(Refusal::OutsideWindow)),
-        Some(7) => Ok(Some(Refusal::NoRoom)),
-        Some(8) => Ok(Some(Refusal::ParentNotBelow)),
-        Some(number) => later_refusal(number),
+    let Some(number) = words.optional()? else {
+        return Ok(None);
+    };
+    match number {
+        1..=6 => Ok(Some(first_refusal(number))),
+        7..=11 => Ok(Some(second_refusal(number))),
+        12..=16 => Ok(Some(last_refusal(number))),
+        _ => Err(Trouble::Unreadable),
     }
 }
 
-/// A refusal from 9 on.
-fn later_refusal(number: u64) -> Result<Option<Refusal>, Trouble> {
+/// A refusal from 1 to 6.
+fn first_refusal(number: u64) -> Refusal {
     match number {
-        9 => Ok(Some(Refusal::NotItsSigner)),
-        10 => Ok(Some(Refusal::Contradiction)),
-        11 => Ok(Some(Refusal::Repeated)),
-        12 => Ok(Some(Refusal::NotVerifying)),
-        13 => Ok(Some(Refusal::UnknownAnswer)),
-        14 => Ok(Some(Refusal::SecondVerdict)),
-        15 => Ok(Some(Refusal::MomentFell)),
-        16 => Ok(Some(Refusal::MomentTooLate)),
-        _ => Err(Trouble::Unreadable),
+        1 => Refusal::UnknownSender,
+        2 => Refusal::OwnName,
+        3 => Refusal::NotDecoded,
+        4 => Refusal::WrongEpoch,
+        5 => Refusal::ViewZero,
+        _ => Refusal::OutsideWindow,
+    }
+}
+
+/// One from 7 to 11.
+fn second_refusal(number: u64) -> Refusal {
+    match number {
+        7 => Refusal::NoRoom,
+        8 => Refusal::ParentNotBelow,
+        9 => Refusal::NotItsSigner,
+        10 => Refusal::Contradiction,
+        _ => Refusal::Repeated,
+    }
+}
+
+/// One from 12 on.
+fn last_refusal(number: u64) -> Refusal {
+    match number {
+        12 => Refusal::NotVerifying,
+        13 => Refusal::UnknownAnswer,
+        14 => Refusal::SecondVerdict,
+        15 => Refusal::MomentFell,
+        _ => Refusal::MomentTooLate,
     }
 }
 
 /// Actions with `,` between two, to the end of the line.
 fn actions_of(words: &mut Words<'_>, alloc: Global) -> Result<Vec<PlainAction>, Trouble> {
     let mut actions = Vec::new(alloc);
-    // An action has two words at least.
     for _ in 0..usize::MAX {
         if !words.more() {
             return Ok(actions);

@@ -5,7 +5,7 @@
 //! | `reset` | `ok`: an input without bytes, of which a read gives all at once |
 //! | `append TIMES HEX` | how many bytes the input has with these behind it, so many times |
 //! | `reader SIZE CALLS` | `ok`: a read gives so many bytes at most; the one behind so many fails, or none (`-`) |
-//! | `events BOUND` | the input's events, then `end`, `bad PLACE`, `read` or `memory` |
+//! | `events BOUND` | the input's events, then `end`, `bad PLACE` or `read` |
 //! | `read BOUND HEX` | the event at the front and how many bytes are left, or `End`, `Invalid`, `TooLong` |
 //! | `write EVENT`, `reply REFUSED ACTION , ..` | the spelling |
 //!
