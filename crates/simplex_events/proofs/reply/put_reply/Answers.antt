@@ -1,4 +1,5 @@
-use Rattle.simplex_events.proofs.Written.{reply_fitting, reply_written}
+use Rattle.std.proofs.Common.{◌∷◌, []}
+use Rattle.simplex_events.proofs.Written.{front_stays, reply_fitting, reply_written}
 use Rattle.simplex_events.proofs.reply.put_reply.Goals as goal
 
 pub returns-clause-ok : goal.returns-clause-ok
@@ -10,3 +11,7 @@ pub returns-clause-readable : goal.returns-clause-readable
 returns-clause-readable g c =
     reply_fitting g.D.PartialEq.eq g.S.PublicKey.Write.fits g.D.Write.fits g.S.Signature.Write.fits g.S.Certificate.Write.fits c.put_listed.result c.args.reply.now
     (rw c.deref.ensures.value at c.put_listed.ensures.readable)
+
+pub returns-clause-err : goal.returns-clause-err
+returns-clause-err g c =
+    front_stays c.put_listed.result _ _ c.args.out.now.items c.push.new.self.items (c.byte_of.result ∷ []) c.put_listed.new.out.items c.args.out.now.ok.0 c.in_ok-push.ensures.items c.put_listed.ensures.err
