@@ -39,9 +39,9 @@ front : (n : ℕ) (old more new : List ℕ) → n ≡ length old → new ≡ old
 front n old more new size is = ap (λ (k : ℕ). take k new) size ∙ ap (λ (t : List ℕ). take (length old) t) is ∙ take-append_seam old more
 
 -- so after a refusal, whatever was written before it
-pub front_kept : {A E : Type 0} (r : Result A E) (n : ℕ) (old more new : List ℕ) → n ≡ length old → new ≡ old ++ more → OnErr r (take n new ≡ old)
-front_kept (Ok x) n old more new size is = tt
-front_kept (Err e) n old more new size is = front n old more new size is
+pub front_kept : {A E : Type 0} (r : Result A E) (n : ℕ) (old more mid new : List ℕ) → n ≡ length old → new ≡ mid → mid ≡ old ++ more → OnErr r (take n new ≡ old)
+front_kept (Ok x) n old more mid new size kept is = tt
+front_kept (Err e) n old more mid new size kept is = front n old more new size (kept ∙ is)
 
 -- and where what stood at the front then had more behind it already
 pub front_stays : {A E : Type 0} (r : Result A E) (n m : ℕ) (old mid more new : List ℕ) → n ≡ length old → mid ≡ old ++ more → OnErr r (take m new ≡ mid) → OnErr r (take n new ≡ old)

@@ -1,4 +1,4 @@
-use Rattle.std.proofs.Common.{◌∙◌, arith, take}
+use Rattle.std.proofs.Common.{arith, take}
 use Rattle.std.specs.List.{flat_map}
 use Rattle.simplex_events.specs.Reply.{fitting_action, spelled_action}
 use Rattle.simplex_events.proofs.Written.{each_next, front_kept, written_all, written_next}
@@ -7,7 +7,7 @@ use Rattle.simplex_events.proofs.reply.put_actions.Goals as goal
 pub returns-in_err-write_action-clause-err : goal.returns-in_err-write_action-clause-err
 returns-in_err-write_action-clause-err g c =
     let spelled = spelled_action g.S.PublicKey.Write.spelling g.D.Write.spelling g.S.Signature.Write.spelling g.S.Certificate.Write.spelling in
-    front_kept c.from_residual.result _ c.args.out.now.items (flat_map spelled (take c.loop-action.action-index c.args.actions.now)) c.write_action.new.out.items c.args.out.now.ok.0 (c.in_err-write_action.ensures.err ∙ c.loop-action.invariant.0)
+    front_kept c.from_residual.result _ c.args.out.now.items (flat_map spelled (take c.loop-action.action-index c.args.actions.now)) c.loop-action.out.items c.write_action.new.out.items c.args.out.now.ok.0 c.in_err-write_action.ensures.err c.loop-action.invariant.0
 
 pub loop-action-preserved : goal.loop-action-preserved
 loop-action-preserved g c =

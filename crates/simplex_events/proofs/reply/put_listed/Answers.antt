@@ -6,8 +6,8 @@ use Rattle.simplex_events.proofs.reply.put_listed.Goals as goal
 
 pub returns-clause-readable : goal.returns-clause-readable
 returns-clause-readable g c =
-    let fitting = fitting_action g.D.PartialEq.eq g.S.PublicKey.Write.fits g.D.Write.fits g.S.Signature.Write.fits g.S.Certificate.Write.fits in
     let few : length c.args.actions.now ≤ max_u64 = search rules in
+    let fitting = fitting_action g.D.PartialEq.eq g.S.PublicKey.Write.fits g.D.Write.fits g.S.Signature.Write.fits g.S.Certificate.Write.fits in
     beside c.put_actions.result (All fitting c.args.actions.now) (length c.args.actions.now ≤ max_u64) c.put_actions.ensures.readable few
 
 pub returns-clause-err : goal.returns-clause-err
