@@ -30,11 +30,11 @@ use std::process::ExitCode;
 
 /// What the calls are made on.
 #[derive(Drop)]
-struct Events {
+struct Calls {
     input: Input,
 }
 
-impl Layer for Events {
+impl Layer for Calls {
     fn reset(&mut self, words: &mut Words<'_>, alloc: Global) -> Result<(), Trouble> {
         words.end()?;
         self.input = Input::new(alloc);
@@ -56,8 +56,8 @@ impl Layer for Events {
 
 fn main(rt: HostRuntime) -> ExitCode {
     let alloc = rt.alloc();
-    let mut events = Events {
+    let mut calls = Calls {
         input: Input::new(alloc),
     };
-    ExitCode::from(play(alloc, &mut events, rt.reader(), &mut io::writer(&rt)))
+    ExitCode::from(play(alloc, &mut calls, rt.reader(), &mut io::writer(&rt)))
 }
