@@ -7,4 +7,7 @@ pub mod Opening
 pub mod Deciding
 pub mod Hearing
 pub mod Refusing
+pub mod Acting
+pub mod Ahead
+pub mod NoneDue
 pub mod Stepping

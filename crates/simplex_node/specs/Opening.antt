@@ -1,5 +1,5 @@
 -- How a record is opened: what is wrong with the arguments, and what comes of it.
-use Rattle.std.specs.Prelude.{◌≡◌, ◌++◌, ℕ, List, [], ◌∷◌, map, Option, Some, None}
+use Rattle.std.specs.Prelude.{◌≡◌, ◌⊎◌, ◌++◌, ℕ, List, [], ◌∷◌, map, Option, Some, None}
 use Rattle.simplex_types.specs.declared.scheme.Scheme.{Ghosts}
 use Rattle.simplex_certificates.specs.declared.artifact.Artifact.{Artifact}
 use Rattle.simplex_rules.specs.declared.elector.Elector as elector
@@ -12,6 +12,8 @@ use Rattle.simplex_recording.specs.Ledger.{AreFoundOn}
 use Rattle.simplex_member.specs.declared.action.Action.{Action}
 use Rattle.simplex_member.specs.declared.fault.OpenFault.{OpenFault}
 use Rattle.simplex_member.specs.declared.fault.OpenFault.TheVariants as open_fault
+use Rattle.simplex_member.specs.Member as whole
+use Rattle.simplex_member.specs.Member.{IsOpened}
 use Rattle.simplex_member.specs.Packet.{Formats}
 use Rattle.simplex_member.specs.Point.{History}
 use Rattle.simplex_member.specs.Setup.{Setup, IsInTime}
@@ -41,6 +43,19 @@ module _ {S D P G C : Type 0} (g : Ghosts S D P G C) (s : Setup S D C) where
       ++ (open_fault.MomentTooLate, IsInTime s now → ⊥) ∷ []
 
 module _ {S L D P G C K : Type 0} (g : Ghosts S D P G C) (e : elector.Ghosts L S D P G C) (k : disk.Ghosts K) (f : Formats S D P G C) (s : Setup S D C) where
+  -- the node was opened on what was found on a disk, all that was due then was done, and these actions are out
+  pub record IsOpenAndSettled (Readable : Artifact S D P G C → Type 0) (on : K) (now : ℕ) (node : Node S L D K P G C) (actions : List (Action S D P G C)) : Type 0 where
+    pub found : List (Artifact S D P G C)
+    pub are_found : AreFoundOn k f.artifact Readable on found
+    pub end : History S D P G C
+    pub opens : whole.Opens g f s now found actions end
+    pub keeps : NodeKeeps g e k f s node end
+
+  -- what may be left by a crash while a record is opened: what one before it might have left, or what acts behind the reading leave
+  abbrev pub MayBeLeftOpen : (Artifact S D P G C → Type 0) → K → ℕ → List ℕ → Type 0
+  MayBeLeftOpen Readable on now image = MayBeLeft k on image
+      ⊎ ((found : List (Artifact S D P G C)) × AreFoundOn k f.artifact Readable on found × IsOpened g f s now found image)
+
   -- the node was opened on what was found on a disk, and these actions are out
   pub record IsOpen (Readable : Artifact S D P G C → Type 0) (on : K) (now : ℕ) (node : Node S L D K P G C) (actions : List (Action S D P G C)) : Type 0 where
     pub found : List (Artifact S D P G C)

@@ -12,12 +12,13 @@ use Rattle.simplex_member.specs.declared.fault.NodeFault.TheVariants as step_fau
 use Rattle.simplex_member.specs.declared.refusal.Refusal.{Refusal}
 use Rattle.simplex_member.specs.Deeds.{AreActions, all_deeds}
 use Rattle.simplex_member.specs.First.{IsFirst}
-use Rattle.simplex_member.specs.Member.{AreStep, Goes, IsReached}
+use Rattle.simplex_member.specs.Member.{AreStep, Goes, IsReached, Steps}
 use Rattle.simplex_member.specs.Packet.{Formats}
 use Rattle.simplex_member.specs.Point.{Point, History}
 use Rattle.simplex_member.specs.Refusals.{needs_nothing, refused_deeds, tests}
 use Rattle.simplex_member.specs.Setup.{Setup}
 use Rattle.simplex_node.specs.declared.node.Node.{Node}
+use Rattle.simplex_node.specs.Acting.{IsLeftByActs}
 use Rattle.simplex_node.specs.Keeps.{NodeKeeps, disk_of}
 
 module _ {S D P G C : Type 0} (g : Ghosts S D P G C) (f : Formats S D P G C) (s : Setup S D C) where
@@ -42,6 +43,18 @@ pub record TellsOfDisk {K A : Type 0} (k : disk.Ghosts K) (old new : K) (answer 
   pub not_failed : ¬ IsErrOf answer step_fault.Failed
 
 module _ {S L D P G C K : Type 0} (g : Ghosts S D P G C) (e : elector.Ghosts L S D P G C) (k : disk.Ghosts K) (f : Formats S D P G C) (s : Setup S D C) where
+  -- an event was answered, with all that is due behind it: the node made a step, a crash at any moment leaves a point of it, and what
+  -- needs neither memory nor the disk was told where it is the first reason
+  pub record IsAnsweredWhole (old new : Node S L D K P G C) (h : History S D P G C) (event : Event D) (answer : Result (Reply S D P G C) NodeFault) : Type 0 where
+    pub ok : IfOk answer (λ reply. (end : History S D P G C) × Steps g f s h event reply end × NodeKeeps g e k f s new end)
+    pub any_moment : k.keeps → LeavesOnly (k.calls (disk_of old)) (k.calls (disk_of new)) (IsReached g f s h event)
+    pub without_memory : (r : Refusal) → IsFirst (tests g f s h event) (Some r) → needs_nothing r ≡ true → IsOk answer
+
+  -- behind a reply by which the node came from one history to another it goes on until nothing is due
+  pub record GoesOn (old new : Node S L D K P G C) (h mid : History S D P G C) (event : Event D) (answer : Result (Reply S D P G C) NodeFault) : Type 0 where
+    pub ok : IfOk answer (λ reply. (end : History S D P G C) × Steps g f s h event reply end × NodeKeeps g e k f s new end)
+    pub any_moment : k.keeps → LeavesOnly (k.calls (disk_of old)) (k.calls (disk_of new)) (IsLeftByActs g f s mid)
+
   -- an event was answered: the node made a step, a crash at any moment leaves a point of it, and what needs neither memory nor the disk was
   -- told where it is the first reason
   pub record IsAnswered (old new : Node S L D K P G C) (h : History S D P G C) (event : Event D) (answer : Result (Reply S D P G C) NodeFault) : Type 0 where

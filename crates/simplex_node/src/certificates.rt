@@ -14,11 +14,11 @@ ghost use Rattle.simplex_exchange.specs.Handing.{HandsOut};
 ghost use Rattle.simplex_node.specs.Keeps.{AtOwn, NodeKeeps, disk_of};
 ghost use Rattle.simplex_node.specs.Taking.{IsLeftBy, IsTaken};
 
-use crate::learning::{final_proposal, tell_voter, tell_votes};
 use crate::node::Node;
 use simplex_certificates::Certificate;
 use simplex_exchange::{hand_out, hand_out_final, record};
 use simplex_journal::Disk;
+use simplex_learning::{final_proposal, tell_voter, tell_votes};
 use simplex_member::{Action, Channel, NodeFault};
 use simplex_messages::Activity;
 use simplex_recalling::{update_repair, what_is_not_recorded_is_unknown};

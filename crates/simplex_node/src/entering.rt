@@ -1,12 +1,10 @@
 //! What entering a view brings.
 
-ghost use Rattle.std.specs.Prelude.{◌≡◌, ◌∷◌, true, IfOk, IfErr, OnOk};
-ghost use Rattle.simplex_voter.specs.State as voting;
-ghost use Rattle.simplex_acceptance.specs.Keeps as accepting;
+ghost use Rattle.std.specs.Prelude.{◌≡◌, ◌∷◌, IfOk, IfErr, OnOk};
 ghost use Rattle.simplex_member.specs.declared.fault.NodeFault.TheVariants as step_fault;
 ghost use Rattle.simplex_history.specs.Leaders.{leader};
 ghost use Rattle.simplex_member.specs.Deeds.{entered_deeds, recipients, silent};
-ghost use Rattle.simplex_member.specs.Layers.{current_of, may_enter, voter_of, votes_of};
+ghost use Rattle.simplex_member.specs.Layers.{current_of, voter_of, votes_of};
 ghost use Rattle.simplex_member.specs.Packet.{Formats};
 ghost use Rattle.simplex_member.specs.Point.{History, Point};
 ghost use Rattle.simplex_member.specs.Setup.{Setup};
@@ -15,37 +13,13 @@ ghost use Rattle.simplex_exchange.specs.Handing.{HandsOut};
 ghost use Rattle.simplex_node.specs.Keeps.{AtAll, NodeKeeps};
 
 use crate::node::Node;
-use simplex_acceptance::Acceptance;
 use simplex_decisions::config::ForwardPolicy;
 use simplex_exchange::hand_out;
 use simplex_journal::Disk;
 use simplex_member::{Action, NodeFault};
 use simplex_rules::{Elector, Plan};
 use simplex_types::{Digest, Participant, Proposal, Scheme, View};
-use simplex_voter::State as Voter;
 use std::alloc::AllocError;
-
-/// Enters the current view, where it wasn't entered before, and drops the votes of views that need not be kept: behind each point by
-/// which a view may be entered, once the voter stands there.
-///
-/// # Errors
-///
-/// [`NodeFault::Memory`].
-pub(crate) fn enter<S: Scheme<D> + Drop, L: Elector<S, D>, D: Digest>(
-    voter: &Voter<S, L, D>,
-    acceptance: &mut Acceptance<S, D>,
-) -> Result<(), NodeFault>
-    ensures entered { OnOk result ((s : Setup S D S.Certificate) (h : History S D S.PublicKey S.Signature S.Certificate) (p : Point S D S.PublicKey S.Signature S.Certificate) → may_enter p ≡ true
-        → voting.Keeps S.Scheme L.Elector s.voter voter.now (voter_of s (p ∷ h)) → accepting.KeepsAhead S.Scheme D.PartialEq.eq s acceptance.old h p → accepting.Keeps S.Scheme D.PartialEq.eq s acceptance.new (p ∷ h)) }
-    ensures fault { IfErr result (λ why. why ≡ step_fault.Memory) }
-{
-    let current = voter.current_view();
-    let floor = voter.views().min_active();
-    match acceptance.enter(current, floor) {
-        Ok(()) => Ok(()),
-        Err(_) => Err(NodeFault::Memory),
-    }
-}
 
 impl<S: Scheme<D> + Drop, L: Elector<S, D>, D: Digest, K: Disk> Node<S, L, D, K> {
     /// Where a view was entered since this one was the current one, hands the payload of the view before it on to those who may lack

@@ -1,12 +1,15 @@
 //! The node of one member.
 #![tactic(auto)]
 
+mod acting;
 mod answering;
+mod asking;
 mod certificates;
+mod constructing;
 mod deciding;
 mod entering;
 mod hearing;
-mod learning;
+mod latching;
 mod node;
 mod opening;
 mod receiving;
@@ -15,6 +18,7 @@ mod serving;
 mod stepping;
 mod telling;
 mod verdicts;
+mod voting;
 
 pub use node::Node;
 pub use simplex_network::{accountability, agreement};

@@ -1,6 +1,6 @@
 //! Opening a record.
 
-ghost use Rattle.std.specs.Prelude.{◌≡◌, ◌≢◌, ℕ, [], None, Some, IfOk, IfErr, IfSome, OnOk, false, max, unwrap_or};
+ghost use Rattle.std.specs.Prelude.{◌≡◌, ◌≢◌, ◌⊎◌, ℕ, [], None, Some, IfOk, IfErr, IfSome, OnOk, false, max, unwrap_or};
 ghost use Rattle.simplex_codec.specs.Codec.{Readable};
 ghost use Rattle.simplex_certificates.specs.Artifact.{artifact_spelling};
 ghost use Rattle.simplex_journal.specs.Disk.{LeavesOnly, counted};
@@ -10,16 +10,18 @@ ghost use Rattle.simplex_recording.specs.Ledger.{IsContradiction, OpensOver};
 ghost use Rattle.simplex_member.specs.declared.fault.OpenFault.TheVariants as open_fault;
 ghost use Rattle.simplex_member.specs.First.{IsFirst};
 ghost use Rattle.simplex_member.specs.Packet.{formats};
-ghost use Rattle.simplex_member.specs.Setup.{IsInTime, owner_of, setup_of, silence_of};
+ghost use Rattle.simplex_certificates.specs.declared.artifact.Artifact.{Artifact};
+ghost use Rattle.simplex_member.specs.Setup.{Setup, IsInTime, owner_of, setup_of, silence_of};
 ghost use Rattle.simplex_recalling.specs.SettingUp.{IsSetUp};
-ghost use Rattle.simplex_node.specs.Keeps.{disk_of};
-ghost use Rattle.simplex_node.specs.Opening.{IsOpen, MayBeLeft, early, open_tests};
+ghost use Rattle.simplex_node.specs.Acting.{IsLeftByActs};
+ghost use Rattle.simplex_node.specs.Keeps.{AtOwn, disk_of};
+ghost use Rattle.simplex_node.specs.Opening.{IsOpen, IsOpenAndSettled, MayBeLeftOpen, early, open_tests};
 
 use crate::node::Node;
 use simplex_certificates::Artifact;
 use simplex_decisions::config::{Config, SkipPolicy, check_config};
 use simplex_journal::{Disk, a_disk_reads_as_one_record};
-use simplex_member::{Action, OpenFault};
+use simplex_member::{Action, NodeFault, OpenFault};
 use simplex_recalling::{Layers, Settings};
 use simplex_record::Owner;
 use simplex_recording::Ledger;
@@ -46,7 +48,7 @@ impl<S: Scheme<D> + Drop, L: Elector<S, D>, D: Digest, K: Disk> Node<S, L, D, K>
         requires { L.built_for elector (S.size scheme.value) }
 
         // What was found on the disk was gone through, and the node stands behind it; the actions are what that hands out.
-        ensures opened { IfOk result (λ r. (index : ℕ) × (S.own scheme.value ≡ Some index) × IsOpen S.Scheme L.Elector K.Disk (formats D.PartialEq.eq D.spelling S.Signature.spelling S.Certificate.spelling D.reading S.Signature.reading S.Certificate.reading (S.size scheme.value)) (setup_of S.Scheme L.Elector config scheme.value elector index) (Readable ⟦<Artifact<S, D> as Write>⟧.fits (⟦<Artifact<S, D> as Read>⟧.within 65535)) disk now r.0 r.1.items) }
+        ensures opened { IfOk result (λ r. (index : ℕ) × (S.own scheme.value ≡ Some index) × IsOpenAndSettled S.Scheme L.Elector K.Disk (formats D.PartialEq.eq D.spelling S.Signature.spelling S.Certificate.spelling D.reading S.Signature.reading S.Certificate.reading (S.size scheme.value)) (setup_of S.Scheme L.Elector config scheme.value elector index) (Readable ⟦<Artifact<S, D> as Write>⟧.fits (⟦<Artifact<S, D> as Read>⟧.within 65535)) disk now r.0 r.1.items) }
 
         // What is wrong with the arguments is told first, the first that applies, and the disk was not touched.
         ensures early { IfErr result (λ r. IfSome (early r.0) (λ x. IsFirst (open_tests S.Scheme (setup_of S.Scheme L.Elector config scheme.value elector 0) config now) (Some x) × (r.1 ≡ disk))) }
@@ -61,8 +63,8 @@ impl<S: Scheme<D> + Drop, L: Elector<S, D>, D: Digest, K: Disk> Node<S, L, D, K>
         ensures no_fault { IfOk result (λ r. K.failed (disk_of r.0) ≡ K.failed disk) }
 
         // What a crash at any moment of the call may leave.
-        ensures any_moment { IfOk result (λ r. K.keeps → LeavesOnly (K.calls disk) (K.calls (disk_of r.0)) (MayBeLeft K.Disk disk)) }
-        ensures any_moment_of_a_fault { IfErr result (λ r. K.keeps → LeavesOnly (K.calls disk) (K.calls r.1) (MayBeLeft K.Disk disk)) }
+        ensures any_moment { IfOk result (λ r. (index : ℕ) → S.own scheme.value ≡ Some index → K.keeps → LeavesOnly (K.calls disk) (K.calls (disk_of r.0)) (MayBeLeftOpen S.Scheme L.Elector K.Disk (formats D.PartialEq.eq D.spelling S.Signature.spelling S.Certificate.spelling D.reading S.Signature.reading S.Certificate.reading (S.size scheme.value)) (setup_of S.Scheme L.Elector config scheme.value elector index) (Readable ⟦<Artifact<S, D> as Write>⟧.fits (⟦<Artifact<S, D> as Read>⟧.within 65535)) disk now)) }
+        ensures any_moment_of_a_fault { IfErr result (λ r. (index : ℕ) → S.own scheme.value ≡ Some index → K.keeps → LeavesOnly (K.calls disk) (K.calls r.1) (MayBeLeftOpen S.Scheme L.Elector K.Disk (formats D.PartialEq.eq D.spelling S.Signature.spelling S.Certificate.spelling D.reading S.Signature.reading S.Certificate.reading (S.size scheme.value)) (setup_of S.Scheme L.Elector config scheme.value elector index) (Readable ⟦<Artifact<S, D> as Write>⟧.fits (⟦<Artifact<S, D> as Read>⟧.within 65535)) disk now)) }
     {
         a_disk_reads_as_one_record::<Artifact<S, D>>();
         let me = match member_of(&config, &*scheme, &elector, now) {
@@ -72,7 +74,7 @@ impl<S: Scheme<D> + Drop, L: Elector<S, D>, D: Digest, K: Disk> Node<S, L, D, K>
         let settings = settings_of(alloc, &config, scheme, &elector, me);
         match Ledger::open(alloc, &*settings.scheme, settings.owner, disk) {
             Ok(ledger) => match open_over(settings, &config, elector, ledger, now) {
-                Ok(opened) => Ok(opened),
+                Ok((node, actions)) => begin(node, actions),
                 Err(refused) => Err(refused),
             },
             Err(refused) => Err(refused),
@@ -98,6 +100,29 @@ fn open_over<S: Scheme<D> + Drop, L: Elector<S, D>, D: Digest, K: Disk>(
     match Layers::begin(&settings, config, elector, now, ledger.recorded()) {
         Ok((layers, actions)) => Ok((node_of(settings, layers, ledger), actions)),
         Err(_) => Err((OpenFault::Memory, ledger.close())),
+    }
+}
+
+/// Does all that is due once a record was gone through; or gives the disk back.
+fn begin<S: Scheme<D> + Drop, L: Elector<S, D>, D: Digest, K: Disk>(
+    node: Node<S, L, D, K>,
+    actions: Vec<Action<S, D>>,
+) -> Result<(Node<S, L, D, K>, Vec<Action<S, D>>), (OpenFault, K)>
+    ensures opened { IfOk result (λ r. (n : ℕ) (s : Setup S D S.Certificate) (Fits : Artifact S D S.PublicKey S.Signature S.Certificate → Type 0) (on : K) (now : ℕ) → n ≡ S.size s.voter.scheme → let f = formats D.PartialEq.eq D.spelling S.Signature.spelling S.Certificate.spelling D.reading S.Signature.reading S.Certificate.reading n in
+        IsOpen S.Scheme L.Elector K.Disk f s Fits on now node actions.items → IsOpenAndSettled S.Scheme L.Elector K.Disk f s Fits on now r.0 r.1.items) }
+    ensures memory { IfErr result (λ r. (r.0 ≡ open_fault.Memory) ⊎ (r.0 ≡ open_fault.Device)) }
+    ensures device { IfErr result (λ r. r.0 ≡ open_fault.Device → K.failed r.1 ≡ counted false (K.failed (disk_of node))) }
+    ensures no_device { IfErr result (λ r. r.0 ≢ open_fault.Device → K.failed r.1 ≡ K.failed (disk_of node)) }
+    ensures no_fault { IfOk result (λ r. K.failed (disk_of r.0) ≡ K.failed (disk_of node)) }
+    ensures any_moment { IfOk result (λ r. AtOwn S.Scheme L.Elector K.Disk (formats D.PartialEq.eq D.spelling S.Signature.spelling S.Certificate.spelling D.reading S.Signature.reading S.Certificate.reading) node (λ f s h. K.keeps → LeavesOnly (K.calls (disk_of node)) (K.calls (disk_of r.0)) (IsLeftByActs S.Scheme f s h))) }
+    ensures any_moment_of_a_fault { IfErr result (λ r. AtOwn S.Scheme L.Elector K.Disk (formats D.PartialEq.eq D.spelling S.Signature.spelling S.Certificate.spelling D.reading S.Signature.reading S.Certificate.reading) node (λ f s h. K.keeps → LeavesOnly (K.calls (disk_of node)) (K.calls r.1) (IsLeftByActs S.Scheme f s h))) }
+{
+    let mut node = node;
+    let mut actions = actions;
+    match node.settle(&mut actions) {
+        Ok(()) => Ok((node, actions)),
+        Err(NodeFault::Device) => Err((OpenFault::Device, node.close())),
+        Err(_) => Err((OpenFault::Memory, node.close())),
     }
 }
 

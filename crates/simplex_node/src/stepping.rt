@@ -1,15 +1,16 @@
 //! Steps: an event is refused or taken, and what it brings is done.
 
-ghost use Rattle.std.specs.Prelude.{◌≡◌, Some, true, false, IfOk, OnErr, OnOk, IsErrOf, IsOk};
+ghost use Rattle.std.specs.Prelude.{◌≡◌, Some, true, false, IfOk, OnErr, OnOk, IsErrOf, IsOk, IsSome};
 ghost use Rattle.simplex_journal.specs.Disk.{LeavesOnly, counted};
+ghost use Rattle.simplex_member.specs.declared.event.Event.{Event};
 ghost use Rattle.simplex_member.specs.declared.event.Event.TheVariants as event;
 ghost use Rattle.simplex_member.specs.First.{IsFirst};
-ghost use Rattle.simplex_member.specs.Member.{IsReached};
+ghost use Rattle.simplex_member.specs.Member.{IsReached, Steps};
 ghost use Rattle.simplex_member.specs.Packet.{formats};
 ghost use Rattle.simplex_member.specs.Point.{History};
 ghost use Rattle.simplex_member.specs.Refusals.{needs_nothing, tests};
 ghost use Rattle.simplex_node.specs.Keeps.{AtOwn, NodeKeeps, disk_of, has_failed};
-ghost use Rattle.simplex_node.specs.Stepping.{IsAnswered, StepsAtOnce, TellsOfDisk};
+ghost use Rattle.simplex_node.specs.Stepping.{GoesOn, IsAnswered, IsAnsweredWhole, StepsAtOnce, TellsOfDisk};
 
 use crate::node::Node;
 use simplex_journal::Disk;
@@ -25,7 +26,7 @@ impl<S: Scheme<D> + Drop, L: Elector<S, D>, D: Digest, K: Disk> Node<S, L, D, K>
     ///
     /// [`NodeFault::Memory`] and [`NodeFault::Device`]: then the node has failed, and each later step answers [`NodeFault::Failed`].
     pub fn step(&mut self, event: Event<D>) -> Result<Reply<S, D>, NodeFault>
-        ensures ok { IfOk result (λ reply. AtOwn S.Scheme L.Elector K.Disk (formats D.PartialEq.eq D.spelling S.Signature.spelling S.Certificate.spelling D.reading S.Signature.reading S.Certificate.reading) self.old (λ f s h. (end : History S D S.PublicKey S.Signature S.Certificate) × StepsAtOnce S.Scheme f s h event reply end × NodeKeeps S.Scheme L.Elector K.Disk f s self.new end)) }
+        ensures ok { IfOk result (λ reply. AtOwn S.Scheme L.Elector K.Disk (formats D.PartialEq.eq D.spelling S.Signature.spelling S.Certificate.spelling D.reading S.Signature.reading S.Certificate.reading) self.old (λ f s h. (end : History S D S.PublicKey S.Signature S.Certificate) × Steps S.Scheme f s h event reply end × NodeKeeps S.Scheme L.Elector K.Disk f s self.new end)) }
         ensures failed { OnErr result (has_failed self.new ≡ true) }
         ensures refused_if_failed { has_failed self.old ≡ true → IsErrOf result NodeFault.Failed × (self.new ≡ self.old) }
         ensures failed_before { IsErrOf result NodeFault.Failed → has_failed self.old ≡ true }
@@ -44,7 +45,7 @@ impl<S: Scheme<D> + Drop, L: Elector<S, D>, D: Digest, K: Disk> Node<S, L, D, K>
         if self.failed {
             return Err(NodeFault::Failed);
         }
-        match self.answer(event) {
+        match self.answer_whole(event) {
             Ok(reply) => Ok(reply),
             Err(fault) => {
                 self.failed = true;
@@ -53,7 +54,37 @@ impl<S: Scheme<D> + Drop, L: Elector<S, D>, D: Digest, K: Disk> Node<S, L, D, K>
         }
     }
 
-    /// The reply to an event, of a node of which no step has failed.
+    /// The reply to an event, of a node of which no step has failed, with all that is due behind it.
+    fn answer_whole(&mut self, event: Event<D>) -> Result<Reply<S, D>, NodeFault>
+        ensures answered { AtOwn S.Scheme L.Elector K.Disk (formats D.PartialEq.eq D.spelling S.Signature.spelling S.Certificate.spelling D.reading S.Signature.reading S.Certificate.reading) self.old (λ f s h. IsAnsweredWhole S.Scheme L.Elector K.Disk f s self.old self.new h event result) }
+        ensures faults { TellsOfDisk K.Disk (disk_of self.old) (disk_of self.new) result }
+    {
+        match self.answer(event) {
+            Ok(reply) => self.go_on(reply),
+            Err(fault) => Err(fault),
+        }
+    }
+
+    /// Does all that is due behind an event that was taken; behind one that was refused nothing is.
+    fn go_on(&mut self, reply: Reply<S, D>) -> Result<Reply<S, D>, NodeFault>
+        ensures goes_on { AtOwn S.Scheme L.Elector K.Disk (formats D.PartialEq.eq D.spelling S.Signature.spelling S.Certificate.spelling D.reading S.Signature.reading S.Certificate.reading) self.old (λ f s mid. (h : History S D S.PublicKey S.Signature S.Certificate) (event : Event D) → StepsAtOnce S.Scheme f s h event reply mid → GoesOn S.Scheme L.Elector K.Disk f s self.old self.new h mid event result) }
+        ensures refused { IsSome reply.refused → IsOk result }
+        ensures faults { TellsOfDisk K.Disk (disk_of self.old) (disk_of self.new) result }
+    {
+        let Reply {
+            refused,
+            mut actions,
+        } = reply;
+        if refused.is_some() {
+            return Ok(Reply { refused, actions });
+        }
+        match self.settle(&mut actions) {
+            Ok(()) => Ok(Reply { refused, actions }),
+            Err(fault) => Err(fault),
+        }
+    }
+
+    /// The reply to an event: it is refused or taken, and what it brings is handed out.
     fn answer(&mut self, event: Event<D>) -> Result<Reply<S, D>, NodeFault>
         ensures answered { AtOwn S.Scheme L.Elector K.Disk (formats D.PartialEq.eq D.spelling S.Signature.spelling S.Certificate.spelling D.reading S.Signature.reading S.Certificate.reading) self.old (λ f s h. IsAnswered S.Scheme L.Elector K.Disk f s self.old self.new h event result) }
         ensures faults { TellsOfDisk K.Disk (disk_of self.old) (disk_of self.new) result }

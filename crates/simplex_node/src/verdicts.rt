@@ -12,12 +12,12 @@ ghost use Rattle.simplex_node.specs.Keeps.{AtOwn, disk_of};
 ghost use Rattle.simplex_node.specs.Taking.{IsLeftBy, IsTaken};
 ghost use Rattle.simplex_node.specs.Verdicts.{RecordIsAhead};
 
-use crate::entering::enter;
 use crate::node::Node;
 use simplex_acceptance::silent_points_leave_votes;
 use simplex_certificates::Artifact;
 use simplex_exchange::{record, report_verdict};
 use simplex_journal::Disk;
+use simplex_learning::enter;
 use simplex_member::{Action, NodeFault, awaited_verdicts_may_be_taken};
 use simplex_recalling::{give_verdict, judge_repair};
 use simplex_recording::quiet_points_leave_the_tables;

@@ -24,7 +24,7 @@ use simplex_voter::State as Voter;
 use std::alloc::{AllocError, Global};
 
 /// The proposal that a certificate makes final, where it lies above this view.
-pub(crate) fn final_proposal<S: Scheme<D>, D: Digest>(
+pub fn final_proposal<S: Scheme<D>, D: Digest>(
     certificate: &Certificate<S, D>,
     low: View,
 ) -> Option<Proposal<D>>
@@ -48,7 +48,7 @@ pub(crate) fn final_proposal<S: Scheme<D>, D: Digest>(
 /// # Errors
 ///
 /// `AllocError` where memory ran out.
-pub(crate) fn tell_voter<S: Scheme<D> + Drop, L: Elector<S, D>, D: Digest>(
+pub fn tell_voter<S: Scheme<D> + Drop, L: Elector<S, D>, D: Digest>(
     alloc: Global,
     now: u64,
     certificate: &Certificate<S, D>,
@@ -74,7 +74,7 @@ pub(crate) fn tell_voter<S: Scheme<D> + Drop, L: Elector<S, D>, D: Digest>(
 /// # Errors
 ///
 /// [`NodeFault::Memory`].
-pub(crate) fn tell_votes<S: Scheme<D> + Drop, L: Elector<S, D>, D: Digest>(
+pub fn tell_votes<S: Scheme<D> + Drop, L: Elector<S, D>, D: Digest>(
     voter: &Voter<S, L, D>,
     certificate: &Certificate<S, D>,
     acceptance: &mut Acceptance<S, D>,

@@ -1,0 +1,39 @@
+//! Views that are given up since their leader gave them up.
+
+ghost use Rattle.std.specs.Prelude.{List};
+ghost use Rattle.simplex_asking.specs.Asking.{is_none};
+ghost use Rattle.simplex_member.specs.declared.action.Action.{Action};
+ghost use Rattle.simplex_member.specs.Packet.{formats};
+ghost use Rattle.simplex_node.specs.Acting.{WasTried};
+ghost use Rattle.simplex_node.specs.Keeps.{AtOwn, disk_of};
+ghost use Rattle.simplex_node.specs.NoneDue.{NoLeaderToFollow};
+ghost use Rattle.simplex_node.specs.Stepping.{TellsOfDisk};
+
+use crate::node::Node;
+use simplex_acceptance::silent_points_leave_votes;
+use simplex_asking::Acted;
+use simplex_journal::Disk;
+use simplex_leading::follow_leader;
+use simplex_member::NodeFault;
+use simplex_recording::{a_ledger_at_rest_leaves_its_record, quiet_points_leave_the_tables};
+use simplex_rules::Elector;
+use simplex_types::{Digest, Scheme};
+
+impl<S: Scheme<D> + Drop, L: Elector<S, D>, D: Digest, K: Disk> Node<S, L, D, K> {
+    /// Gives a view up that its leader gave up, where that is due.
+    ///
+    /// # Errors
+    ///
+    /// [`NodeFault::Memory`].
+    pub(crate) fn try_to_follow(&mut self) -> Result<Acted, NodeFault>
+        ensures tried { AtOwn S.Scheme L.Elector K.Disk (formats D.PartialEq.eq D.spelling S.Signature.spelling S.Certificate.spelling D.reading S.Signature.reading S.Certificate.reading) self.old (λ f s h. (actions : List (Action S D S.PublicKey S.Signature S.Certificate)) → WasTried S.Scheme L.Elector K.Disk f s is_none (NoLeaderToFollow S.Scheme f s) self.old self.new h actions actions result) }
+        ensures faults { TellsOfDisk K.Disk (disk_of self.old) (disk_of self.new) result }
+    {
+        a_ledger_at_rest_leaves_its_record::<S, D, K>();
+        silent_points_leave_votes::<S, D>();
+        quiet_points_leave_the_tables::<S, D>();
+        let me = self.settings.owner.signer;
+        let now = self.tables.moment();
+        follow_leader(me, now, &mut self.voter, &self.acceptance)
+    }
+}
