@@ -1,4 +1,5 @@
--- At which history a node stands, while no step of it has failed. Each part speaks of a field's value: what does not change needs no proof.
+-- At which history a node stands, while no step of it has failed. Each part speaks of a field's value: what does not change needs no
+-- proof.
 use Rattle.std.specs.Prelude.{◌≡◌, ℕ, true}
 use Rattle.simplex_types.specs.declared.scheme.Scheme.{Ghosts}
 use Rattle.simplex_rules.specs.declared.elector.Elector as elector
@@ -23,7 +24,8 @@ abbrev pub disk_of : {S L D K P G C : Type 0} → Core S L D K P G C → K
 disk_of node = ledgers.disk_of node.ledger
 
 module _ {S L D P G C K : Type 0} (g : Ghosts S D P G C) (e : elector.Ghosts L S D P G C) (k : disk.Ghosts K) where
-  -- the node stands where this history leads: the record was gone through, each point was allowed, and each layer stands where its part of the history leads
+  -- the node stands where this history leads: the record was gone through, each point was allowed, and each layer
+  -- stands where its part of the history leads
   pub record CoreKeeps (f : Formats S D P G C) (s : Setup S D C) (node : Core S L D K P G C) (h : History S D P G C) : Type 0 where
     pub begun : is_begun h ≡ true
     pub allowed : AreAllowed g f s h

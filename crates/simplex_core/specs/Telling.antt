@@ -6,7 +6,7 @@ use Rattle.simplex_journal.specs.Disk.{counted}
 use Rattle.simplex_member.specs.declared.fault.NodeFault.{NodeFault}
 use Rattle.simplex_member.specs.declared.fault.NodeFault.TheVariants as step_fault
 
--- a call of a disk, or more of them, told what came of it: it has failed once more exactly where that is told. None tells that a step failed before
+-- what a call tells of a disk: it has failed once more exactly where that is told. None tells that a step failed before
 pub record TellsOfDisk {K A : Type 0} (k : disk.Ghosts K) (old new : K) (answer : Result A NodeFault) : Type 0 where
   pub device : IsErrOf answer step_fault.Device → k.failed new ≡ counted false (k.failed old)
   pub no_device : IfErr answer (λ why. why ≢ step_fault.Device → k.failed new ≡ k.failed old)

@@ -21,6 +21,7 @@ use Rattle.simplex_member.specs.declared.fault.OpenFault.TheVariants as open_fau
 use Rattle.simplex_member.specs.declared.refusal.Refusal.{Refusal}
 use Rattle.simplex_member.specs.Deeds.{Deed, AreActions, all_deeds}
 use Rattle.simplex_member.specs.Member.{AreOpening, AreStep, Goes, IsOpened, IsPointOf, IsReached, Opens, Takes}
+use Rattle.simplex_member.specs.First.{IsFirst}
 use Rattle.simplex_member.specs.Packet.{Formats}
 use Rattle.simplex_member.specs.Point.{Point, AreActs, Began, Opened, History}
 use Rattle.simplex_member.specs.Recorded.{record_of}
@@ -30,12 +31,20 @@ use Rattle.simplex_recalling.specs.GoingThrough as reading
 use Rattle.simplex_core.specs.declared.node_core.Core.{Core}
 use Rattle.simplex_acting.specs.Acting.{HasSettled, IsLeftByActs, WasSettled}
 use Rattle.simplex_core.specs.Keeps.{CoreKeeps, disk_of}
+use Rattle.simplex_node.specs.declared.node.Node.{Node}
 use Rattle.simplex_node.specs.Opening.{IsOpen, IsOpenAndSettled, MayBeLeft, MayBeLeftOpen, early}
 use Rattle.simplex_node.specs.Stepping.{GoesOn, IsAnsweredWhole}
 use Rattle.simplex_taking.specs.Stepping.{IsAnswered, StepsAtOnce, TakesAtOnce}
 use Rattle.simplex_acting.specs.ActsBehind.{are_acts, goes_behind, last_behind}
 use Rattle.simplex_node.proofs.Testing.{late}
-use Rattle.simplex_taking.proofs.Tests.{first-is-one}
+
+-- of tests the first that applies is one
+first-is-one : {A : Type 0} (tests : List (A × Type 0)) (x y : Option A) → IsFirst tests x → IsFirst tests y → x ≡ y
+first-is-one [] x y p q = p ∙ sym q
+first-is-one ((a, Applies) ∷ tests) x y p q = ⊎_elim
+    (λ hit. ⊎_elim (λ also. hit.1 ∙ sym also.1) (λ miss. absurd (miss.0 hit.0)) q)
+    (λ miss. ⊎_elim (λ hit. absurd (miss.0 hit.0)) (λ also. first-is-one tests x y miss.1 also.1) q)
+    p
 
 -- ---- an event that is taken, and acts behind it
 
@@ -157,17 +166,17 @@ module _ {S D P G C : Type 0} (g : Ghosts S D P G C) (f : Formats S D P G C) (s 
     };
   }
 
-module _ {S L D P G C K : Type 0} (g : Ghosts S D P G C) (e : elector.Ghosts L S D P G C) (k : disk.Ghosts K) (f : Formats S D P G C) (s : Setup S D C) (Readable : Artifact S D P G C → Type 0) (on : K) (now : ℕ) (node : Core S L D K P G C) (actions : List (Action S D P G C)) (open_is : IsOpen g e k f s Readable on now node actions) where
+module _ {S L D P G C K : Type 0} (g : Ghosts S D P G C) (e : elector.Ghosts L S D P G C) (k : disk.Ghosts K) (f : Formats S D P G C) (s : Setup S D C) (Readable : Artifact S D P G C → Type 0) (on : K) (now : ℕ) (node : Node S L D K P G C) (actions : List (Action S D P G C)) (open_is : IsOpen g e k f s Readable on now node actions) where
   -- a node that is open settles
-  pub open_settled : (new : Core S L D K P G C) (after : List (Action S D P G C)) → ((h : History S D P G C) → CoreKeeps g e k f s node h → HasSettled g e k f s new h actions after) → IsOpenAndSettled g e k f s Readable on now new after
+  pub open_settled : (new : Core S L D K P G C) (after : List (Action S D P G C)) → ((h : History S D P G C) → CoreKeeps g e k f s node.core h → HasSettled g e k f s new h actions after) → IsOpenAndSettled g e k f s Readable on now (record node { core = new }) after
   open_settled new after settles =
-      let settled = settles open_is.end open_is.keeps in
+      let settled = settles open_is.end open_is.keeps.core in
       record {
         found = open_is.found;
         are_found = open_is.are_found;
         end = settled.end;
         opens = opens_whole g f s now open_is.found actions open_is.end open_is.opens e k new after settled;
-        keeps = settled.keeps;
+        keeps = record { running = open_is.keeps.running; core = settled.keeps };
       }
 
   -- what a crash leaves through both
@@ -177,14 +186,14 @@ module _ {S L D P G C K : Type 0} (g : Ghosts S D P G C) (e : elector.Ghosts L S
       (weaker (MayBeLeftOpen g e k f s Readable on now) other (λ image left. inr (open_is.found, open_is.are_found, opened_by_acts g f s now open_is.found actions open_is.end open_is.opens image left)))
 
 -- the same of formats that are those of the committee's size
-pub settled_at_size : {S L D P G C K : Type 0} {g : Ghosts S D P G C} {e : elector.Ghosts L S D P G C} {k : disk.Ghosts K} {s : Setup S D C} {Readable : Artifact S D P G C → Type 0} {on : K} {now : ℕ} {node new : Core S L D K P G C} {actions after : List (Action S D P G C)} {n size : ℕ} (f : ℕ → Formats S D P G C) → n ≡ size
-    → ((h : History S D P G C) → CoreKeeps g e k (f size) s node h → HasSettled g e k (f size) s new h actions after) → IsOpen g e k (f n) s Readable on now node actions → IsOpenAndSettled g e k (f n) s Readable on now new after
+pub settled_at_size : {S L D P G C K : Type 0} {g : Ghosts S D P G C} {e : elector.Ghosts L S D P G C} {k : disk.Ghosts K} {s : Setup S D C} {Readable : Artifact S D P G C → Type 0} {on : K} {now : ℕ} {node : Node S L D K P G C} {new : Core S L D K P G C} {actions after : List (Action S D P G C)} {n size : ℕ} (f : ℕ → Formats S D P G C) → n ≡ size
+    → ((h : History S D P G C) → CoreKeeps g e k (f size) s node.core h → HasSettled g e k (f size) s new h actions after) → IsOpen g e k (f n) s Readable on now node actions → IsOpenAndSettled g e k (f n) s Readable on now (record node { core = new }) after
 settled_at_size {g = g} {e = e} {k = k} {s = s} {Readable = Readable} {on = on} {now = now} {node = node} {new = new} {actions = actions} {after = after} {n = n} {size = size} f is settles =
-    subst (λ (m : ℕ). IsOpen g e k (f m) s Readable on now node actions → IsOpenAndSettled g e k (f m) s Readable on now new after) (sym is)
+    subst (λ (m : ℕ). IsOpen g e k (f m) s Readable on now node actions → IsOpenAndSettled g e k (f m) s Readable on now (record node { core = new }) after) (sym is)
     (λ open_is. open_settled g e k (f size) s Readable on now node actions open_is new after settles)
 
 -- an index that the scheme has is the one that it has
-pub left_at_index : {S L D P G C K : Type 0} {g : Ghosts S D P G C} {e : elector.Ghosts L S D P G C} {k : disk.Ghosts K} {f : Formats S D P G C} {Readable : Artifact S D P G C → Type 0} {on : K} {now : ℕ} {node : Core S L D K P G C} {actions : List (Action S D P G C)} {own : Option ℕ} {me index : ℕ} {old mid new : List Call}
+pub left_at_index : {S L D P G C K : Type 0} {g : Ghosts S D P G C} {e : elector.Ghosts L S D P G C} {k : disk.Ghosts K} {f : Formats S D P G C} {Readable : Artifact S D P G C → Type 0} {on : K} {now : ℕ} {node : Node S L D K P G C} {actions : List (Action S D P G C)} {own : Option ℕ} {me index : ℕ} {old mid new : List Call}
     (setup : ℕ → Setup S D C) → own ≡ Some me → own ≡ Some index → (open_is : IsOpen g e k f (setup me) Readable on now node actions) → LeavesOnly old mid (MayBeLeft k on) → LeavesOnly mid new (IsLeftByActs g f (setup me) open_is.end)
     → LeavesOnly old new (MayBeLeftOpen g e k f (setup index) Readable on now)
 left_at_index {g = g} {e = e} {k = k} {f = f} {Readable = Readable} {on = on} {now = now} {node = node} {actions = actions} {me = me} {index = index} {old = old} {mid = mid} {new = new} setup is same open_is one other =
