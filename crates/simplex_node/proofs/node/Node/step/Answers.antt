@@ -12,3 +12,7 @@ returns-in-Ok-clause-any_moment g c = λ s h k.
 pub returns-in-Err-clause-any_moment : goal.returns-in-Err-clause-any_moment
 returns-in-Err-clause-any_moment g c = λ s h k.
     (c.in-Err.ensures.answered s h k.core).any_moment
+
+pub returns-in-Err-clause-without_memory : goal.returns-in-Err-clause-without_memory
+returns-in-Err-clause-without_memory g c = λ s h k.
+    (c.in-Err.ensures.answered s h k.core).without_memory
