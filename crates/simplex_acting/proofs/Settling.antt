@@ -36,7 +36,7 @@ use Rattle.simplex_acting.specs.ActsBehind.{are_acts, deeds_behind, goes_behind,
 module _ {S D P G C : Type 0} (g : Ghosts S D P G C) (f : Formats S D P G C) (s : Setup S D C) where
   -- what acts leave behind acts is left by acts
   pub left_behind : (h mid : History S D P G C) (xs : List (Point S D P G C)) → AreActs xs → Goes g f s h xs mid → (image : List ℕ) → IsLeftByActs g f s mid image → IsLeftByActs g f s h image
-  left_behind h mid xs own goes image left = (xs ++ left.0, left.1, are_acts xs left.0 own left.2, goes_behind h mid left.1 xs left.0 goes left.3, left.4)
+  left_behind h mid xs own goes image left = (xs ++ left.0, left.1, are_acts g f s xs left.0 own left.2, goes_behind g f s h mid left.1 xs left.0 goes left.3, left.4)
 
   -- what holds stays so behind points of a kind behind which it does
   pub lasts_behind : (is_kind : Point S D P G C → Bool) (Done : History S D P G C → Type 0) → Lasts is_kind Done → (h end : History S D P G C) (points : List (Point S D P G C)) → All (λ p. is_kind p ≡ true) points → Goes g f s h points end → Done h → Done end
