@@ -43,6 +43,7 @@ impl<S: Scheme<D> + Drop, L: Elector<S, D>, D: Digest, K: Disk> Node<S, L, D, K>
     pub fn close(self) -> K
         ensures { result ≡ disk_of self }
     {
-        self.core.ledger.close()
+        let core = self.core;
+        core.ledger.close()
     }
 }
