@@ -53,7 +53,7 @@ fn terms(words: &mut Words<'_>) -> Result<TermWords, Trouble> {
 }
 
 /// `RETENTION LEADER CERTIFICATION RETRY`.
-fn times(words: &mut Words<'_>) -> Result<Times, Trouble> {
+fn read_times(words: &mut Words<'_>) -> Result<Times, Trouble> {
     let retention = words.number()?;
     let leader = words.number()?;
     let certification = words.number()?;
@@ -109,7 +109,7 @@ impl Setup {
         let me = words.optional_member()?;
         let epoch = words.epoch()?;
         let terms = terms(words)?;
-        let times = times(words)?;
+        let times = read_times(words)?;
         let skip = skip(words)?;
         let forward = forward(words)?;
         let tracks = words.truth()?;
