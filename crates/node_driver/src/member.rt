@@ -104,7 +104,7 @@ impl<S: Committee, L: Turns<S>, K: Medium> Member<S, L, K> {
         now: u64,
         say: &mut Say,
     ) -> Result<(), Trouble>
-        requires { L.Elector.built_for elector (S.size scheme.value) }
+        requires { L.built_for elector (S.size scheme.value) }
     {
         let Some(disk) = self.disk.take() else {
             return Err(Trouble::Condition);

@@ -13,7 +13,7 @@ pub(crate) trait Turns<S: Scheme<Sha256Digest>>: Elector<S, Sha256Digest> {
     /// What decides among so many members that are set up so.
     fn among(alloc: Global, setup: &Setup, participants: u32) -> Result<Self, AllocError>
         requires { 0 < participants }
-        ensures { IfOk result (λ e. Self.Elector.built_for e participants) };
+        ensures { IfOk result (λ e. Self.built_for e participants) };
 }
 
 impl<S: Scheme<Sha256Digest>> Turns<S> for RoundRobinElector {
