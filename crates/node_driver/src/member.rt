@@ -206,10 +206,17 @@ impl<S: Committee, L: Turns<S>, K: Medium> Member<S, L, K> {
             "open" => self.open(words, say),
             "event" => self.event(words, say),
             "times" => self.times(words, say),
+            "disk" | "bytes" | "fuse" | "fail_at" => self.hold(name, words, say),
+            _ => self.ask(name, words, say),
+        }
+    }
+
+    /// The calls on the disk.
+    fn hold(&mut self, name: &str, words: &mut Words<'_>, say: &mut Say) -> Result<(), Trouble> {
+        match name {
             "disk" => self.put_disk(words, say),
             "bytes" => self.bytes(words, say),
-            "fuse" | "fail_at" => self.fail(name, words, say),
-            _ => self.ask(name, words, say),
+            _ => self.fail(name, words, say),
         }
     }
 
