@@ -1,9 +1,9 @@
 #!/usr/bin/env python3
 """Runs the baseline and simplex over the same views of one member's node, compares what they answer and prints what they cost.
 
-Started by node.sh, which builds both. Each program takes its own time of chunks of 12 views, without that of making packets, and
-tells the median chunk, which a load that now and then takes the processor away hardly moves. The two take turns; the least of the
-runs counts, and the median of the runs' ratios stands beside it.
+Started by node.sh, which builds both. Each program takes its own time of chunks of twelve views (of one with 1,000 members), without
+that of making packets, and tells the median chunk, which a load that now and then takes the processor away hardly moves. The two take
+turns; the least of the runs counts, and the median of the runs' ratios stands beside it.
 """
 
 import argparse
@@ -24,13 +24,14 @@ QUICK_RUNS = 5
 MEMBERS = [4, 100, 1000]
 BEHIND = [10**2, 10**3, 10**4, 10**5]
 # How many views a chunk has, and how many chunks are measured, by the size of the committee.
-CHUNK = 12
-CHUNKS = {4: 200, 100: 50, 1000: 10}
+CHUNK = {4: 12, 100: 12, 1000: 1}
+CHUNKS = {4: 200, 100: 50, 1000: 100}
 SHAPES = {
     "finalized": "each view finalized by all votes",
     "terms": "the same in terms of four views, of which two are optimistic",
 }
-# How many views are counted, and how many are weighed at least.
+# How many views are counted, behind a few.
+FEW = 12
 COUNTED = {4: 240, 100: 48, 1000: 12}
 DISK_VIEWS = 240
 NAMES = ("plain Rust", "`simplex_node`")
@@ -59,14 +60,12 @@ class Answer(NamedTuple):
     syncs: int
     length: int
     record: int
-    taken: float
-
+    taken: int
 
 
 def answer_of(text, shape, members, views):
     """What a run says, where it went as it has to: each view finalized, by ten syncs."""
-    numbers = [int(word) for word in text.split()]
-    answer = Answer(*numbers[:-1], numbers[-1] / CHUNK)
+    answer = Answer(*map(int, text.split()))
     passed = 0 if shape == "packets" else views
     if (answer.current, answer.finalized, answer.syncs) != (passed + 1, passed, 10 * passed):
         sys.exit(f"not all views were finalized: {shape}, {members} members, {views} views: {answer}")
@@ -77,7 +76,7 @@ def run(program, shape, members, behind, chunks, disk="memory", wrapper=()):
     """What a run came to, and what it said beside that."""
     command = [*wrapper, program, shape, str(members), str(behind), str(chunks), disk]
     done = subprocess.run(command, check=True, capture_output=True, text=True)
-    return answer_of(done.stdout, shape, members, behind + CHUNK * chunks), done.stderr
+    return answer_of(done.stdout, shape, members, behind + CHUNK[members] * chunks), done.stderr
 
 
 def compare(answers, what):
@@ -138,12 +137,10 @@ def count(programs):
             print(f"counting {shape}: {members} members", file=sys.stderr)
             views, each, answers = COUNTED[members], [], []
             for program in programs:
-                first, few = instructions(program, shape, members, CHUNK)
-                answer, many = instructions(program, shape, members, CHUNK + views)
-                _, made_few = instructions(program, "packets", members, CHUNK)
-                _, made = instructions(program, "packets", members, CHUNK + views)
-                answers.append(answer)
-                each.append((many - few - made + made_few) / views)
+                few, many = (instructions(program, shape, members, it) for it in (FEW, FEW + views))
+                made_few, made = (instructions(program, "packets", members, it) for it in (FEW, FEW + views))
+                answers.append(many[0])
+                each.append((many[1] - few[1] - made[1] + made_few[1]) / views)
             compare(answers, f"{shape}, {members} members")
             print(f"| {meaning} | {members:,} | {each[0]:,.0f} | {each[1]:,.0f} | {each[1] / each[0]:.2f} |")
 

@@ -1,7 +1,7 @@
 //! A member's node in plain Rust: what `simplex_node` is measured against.
 //!
 //! Takes the words that `../node/main.rt.txt` takes, hands the same events to a node of the same rules, and prints the same of
-//! what came of them, and the nanoseconds of its own median chunk. Like the other baselines it is good portable code: no crates,
+//! what came of them, and the nanoseconds of a view of its own median chunk. Like the other baselines it is good portable code: no crates,
 //! no intrinsics. Its votes stand in rows, its voter is that of `voter.rs`, its repair that of `resolver.rs`, and its record is
 //! spelled into one buffer. It opens an empty record alone, forwards no payload at an entry, and sends no certificate beside a
 //! nullify that it sends once more: no measured view asks for these.
@@ -27,8 +27,8 @@ use node_votes::{Kind, Made, Vote, EPOCH, SIGNED};
 use voter_round::{Attestation, Digest, Proposal, View};
 use voter_state::{Config, Context};
 
-/// So many views are measured at once, with their packets made before the clock goes on.
-const CHUNK: u64 = 12;
+/// So many packets are handed in at once at most, made before the clock goes on, but of one view at least and of twelve at most.
+const PACKETS: u64 = 2400;
 /// How many milliseconds a view takes.
 const VIEW_TIME: u64 = 100;
 /// The index of the member.
@@ -190,6 +190,11 @@ struct Course {
 }
 
 impl Course {
+    /// How many views are measured at once.
+    fn chunk(&self) -> u64 {
+        (PACKETS / (2 * u64::from(self.members))).clamp(1, 12)
+    }
+
     fn leader(&self, view: View) -> u32 {
         let term = (view - 1) / self.shape.term_length() + 1;
         (term % u64::from(self.members)) as u32
@@ -278,18 +283,20 @@ impl Play {
     }
 
     fn pass(&mut self, course: &mut Course, count: u64) -> io::Result<()> {
-        for _ in 0..count / CHUNK {
-            self.go(course, CHUNK)?;
+        let mut left = count;
+        while left > 0 {
+            let some = left.min(course.chunk());
+            self.go(course, some)?;
+            left -= some;
         }
-        self.go(course, count % CHUNK)?;
         Ok(())
     }
 
-    /// The nanoseconds of the median of so many chunks.
+    /// The nanoseconds of a whole chunk: the median of so many.
     fn median(&mut self, course: &mut Course, chunks: u64) -> io::Result<u128> {
         let mut taken = Vec::new();
         for _ in 0..chunks {
-            taken.push(self.go(course, CHUNK)?);
+            taken.push(self.go(course, course.chunk())?);
         }
         taken.sort_unstable();
         Ok(taken.get(taken.len() / 2).copied().unwrap_or(0))
@@ -322,7 +329,7 @@ fn run(shape: Shape, members: u32, behind: u64, chunks: u64, disk: Disk) -> io::
         next: 1,
     };
     play.pass(&mut course, behind)?;
-    let taken = play.median(&mut course, chunks)?;
+    let taken = play.median(&mut course, chunks)? / u128::from(course.chunk());
     let Play { node, answers } = play;
     let (current, finalized) = (node.current_view(), node.last_finalized());
     let syncs = node.disk().syncs;

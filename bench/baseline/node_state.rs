@@ -541,19 +541,15 @@ impl Node {
 
     /// A view whose leader gave it up is given up too.
     fn follow_leader(&mut self) -> bool {
-        let mut from = self.voter.current_view();
-        while let Some(view) = self.voter.first_tracked(from) {
-            from = view + 1;
-            let is_left = self
-                .voter
-                .leader(view)
-                .is_some_and(|leader| leader != self.me && self.votes.has_nullify(view, leader));
+        let is_left = |(view, leader): &(View, u32)| {
+            *leader != self.me && self.votes.has_nullify(*view, *leader)
+        };
+        let left: Vec<_> = self.voter.leaders().filter(is_left).collect();
+        let mut views = left.into_iter();
+        views.any(|(view, _)| {
             let reason = Reason::LeaderNullify;
-            if is_left && self.voter.trigger_timeout(self.moment, view, reason) {
-                return true;
-            }
-        }
-        false
+            self.voter.trigger_timeout(self.moment, view, reason)
+        })
     }
 
     fn give_build_back(&mut self) -> bool {

@@ -424,8 +424,14 @@ impl State {
 
     // Builds and verifications
 
+    /// The views from the current one on whose leaders are known.
+    pub fn leaders(&self) -> impl Iterator<Item = (View, u32)> + '_ {
+        let known = self.rounds.range(self.view..);
+        known.filter_map(|(view, round)| Some((*view, round.leader?)))
+    }
+
     /// The first view from this one on of which something is known.
-    pub fn first_tracked(&self, from: View) -> Option<View> {
+    fn first_tracked(&self, from: View) -> Option<View> {
         self.rounds.range(from..).next().map(|(view, _)| *view)
     }
 
