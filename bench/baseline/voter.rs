@@ -6,7 +6,10 @@
 use std::process::ExitCode;
 use std::time::Instant;
 
+// A node asks more of them.
+#[allow(dead_code)]
 mod voter_round;
+#[allow(dead_code)]
 mod voter_state;
 
 use voter_round::{Attestation, Certificate, Digest, Nullification, Proposal, Reason, View};

@@ -11,7 +11,7 @@ pub struct Proposal {
     pub payload: Digest,
 }
 
-#[derive(Clone, Copy)]
+#[derive(Clone, Copy, PartialEq, Eq)]
 pub struct Attestation {
     pub signer: u32,
     pub signature: [u8; 32],
@@ -38,6 +38,10 @@ pub enum Reason {
     StallTimeout,
     InvalidProposal,
     FailedCertification,
+    LeaderNullify,
+    Inactivity,
+    MissingProposal,
+    IgnoredProposal,
 }
 
 impl Reason {
@@ -49,6 +53,10 @@ impl Reason {
             Reason::StallTimeout => "StallTimeout",
             Reason::InvalidProposal => "InvalidProposal",
             Reason::FailedCertification => "FailedCertification",
+            Reason::LeaderNullify => "LeaderNullify",
+            Reason::Inactivity => "Inactivity",
+            Reason::MissingProposal => "MissingProposal",
+            Reason::IgnoredProposal => "IgnoredProposal",
         }
     }
 }
@@ -152,6 +160,10 @@ impl Round {
         self.proposal.is_some() && self.status == Status::Verified
     }
 
+    pub fn has_unequivocated_proposal(&self) -> bool {
+        self.proposal.is_some() && self.status != Status::Equivocated
+    }
+
     pub fn is_certified(&self) -> bool {
         self.verdict == Verdict::Given(true)
     }
@@ -238,6 +250,10 @@ impl Round {
 
     pub fn request_build(&mut self) {
         self.requested_build = true;
+    }
+
+    pub fn release_build(&mut self) {
+        self.requested_build = false;
     }
 
     /// An own build: whether it is held.
@@ -335,9 +351,14 @@ impl Round {
         }
     }
 
-    pub fn latch(&mut self, now: u64, reason: Reason) {
-        if let Decision::Open { latch, .. } = &mut self.decision {
-            latch.get_or_insert((now, reason));
+    /// Whether this is the first reason.
+    pub fn latch(&mut self, now: u64, reason: Reason) -> bool {
+        match &mut self.decision {
+            Decision::Open { latch, .. } if latch.is_none() => {
+                *latch = Some((now, reason));
+                true
+            }
+            _ => false,
         }
     }
 

@@ -24,12 +24,14 @@ pub struct Config {
     pub skip_budget: u64,
 }
 
+#[derive(Clone, Copy)]
 pub struct Context {
     pub view: View,
     pub leader: u32,
     pub parent: (View, Digest),
 }
 
+#[derive(Clone, Copy, PartialEq, Eq, PartialOrd, Ord)]
 pub enum Kind {
     Nullification,
     Notarization,
@@ -116,21 +118,21 @@ impl State {
 
     // Positions and windows
 
-    fn term_index(&self, view: View) -> u64 {
+    pub fn term_index(&self, view: View) -> u64 {
         if view == 0 {
             return 0;
         }
         (view - 1) / self.config.length + 1
     }
 
-    fn term_start(&self, view: View) -> View {
+    pub fn term_start(&self, view: View) -> View {
         if view == 0 {
             return 0;
         }
         view - (view - 1) % self.config.length
     }
 
-    fn term_end(&self, view: View) -> View {
+    pub fn term_end(&self, view: View) -> View {
         if view == 0 {
             return 0;
         }
@@ -141,7 +143,7 @@ impl State {
         self.term_start(view) == view
     }
 
-    fn has_room(&self, view: View) -> bool {
+    pub fn has_room(&self, view: View) -> bool {
         let length = u128::from(self.config.length);
         u128::from(view) + 4 * length < u128::from(u64::MAX)
     }
@@ -152,6 +154,24 @@ impl State {
         }
         let (end, reach) = (self.term_end(self.view), self.view + self.config.optimistic);
         view <= self.view || view <= end.min(reach) || view == end + 1 && end <= reach
+    }
+
+    /// Whether votes of the view are listened to, and its certificates taken.
+    pub fn admits_vote(&self, view: View) -> bool {
+        if !self.admits_certificate(view) {
+            return false;
+        }
+        let (end, optimistic) = (self.term_end(self.view), self.config.optimistic);
+        let (next, later) = (end + 1, end + 1 + self.config.length);
+        view <= self.view
+            || view <= end.min(self.view + 2 * optimistic + 1)
+            || next <= view && view < next + optimistic.max(1).min(self.config.length)
+            || view == later
+            || view == later + 1
+    }
+
+    pub fn admits_certificate(&self, view: View) -> bool {
+        view > 0 && self.min_active() <= view
     }
 
     fn issuance_floor(&self, view: View) -> Option<View> {
@@ -172,13 +192,17 @@ impl State {
                 .any(|(_, round)| round.is_direct())
     }
 
-    fn min_active(&self) -> View {
+    pub fn last_finalized(&self) -> View {
+        self.last_finalized
+    }
+
+    pub fn min_active(&self) -> View {
         self.last_finalized.saturating_sub(self.config.retention)
     }
 
     // Leaders
 
-    fn elect(&self, view: View) -> u32 {
+    pub fn elect(&self, view: View) -> u32 {
         (EPOCH.wrapping_add(self.term_index(view)) % u64::from(self.config.participants)) as u32
     }
 
@@ -186,7 +210,7 @@ impl State {
         Some(self.elect(view)) == self.config.me
     }
 
-    fn leader(&self, view: View) -> Option<u32> {
+    pub fn leader(&self, view: View) -> Option<u32> {
         self.rounds.get(&view)?.leader
     }
 
@@ -281,7 +305,10 @@ impl State {
                 .certificate_payload()
                 .filter(|_| !self.has_failed(view));
         }
-        if !round.has_notarized() || !round.is_verified() || !self.is_in_window(view + 1) {
+        if !round.has_notarized() || !round.is_verified() {
+            return None;
+        }
+        if !self.is_in_window(view + 1) && !self.is_handoff_parent(view) {
             return None;
         }
         let held = round.proposal?;
@@ -327,6 +354,10 @@ impl State {
             let parent = view - 1;
             return Some((parent, self.supported_payload(view, parent)?));
         }
+        self.explicit_parent(view).or_else(|| self.handed_over(view))
+    }
+
+    fn explicit_parent(&self, view: View) -> Option<(View, Digest)> {
         let parent = self
             .certified
             .range(..view)
@@ -337,6 +368,23 @@ impl State {
             return None;
         }
         Some((parent, self.explicit_payload(parent)?))
+    }
+
+    /// The view before a term's start, where this member may build on it before it is decided.
+    fn handed_over(&self, view: View) -> Option<(View, Digest)> {
+        let parent = view - 1;
+        if !self.is_handoff_parent(parent) {
+            return None;
+        }
+        Some((parent, self.optimistic_payload(parent)?))
+    }
+
+    /// Whether this member leads the term behind the view, which isn't covered.
+    fn is_handoff_parent(&self, view: View) -> bool {
+        view > 0
+            && self.is_term_start(view + 1)
+            && self.leads_by_schedule(view + 1)
+            && self.first_uncovered(view - 1, view + 1).is_some()
     }
 
     fn allows(&self, view: View, parent: (View, Digest)) -> bool {
@@ -376,13 +424,21 @@ impl State {
 
     // Builds and verifications
 
+    /// The views from the current one on whose leaders are known.
+    pub fn leaders(&self) -> impl Iterator<Item = (View, u32)> + '_ {
+        let known = self.rounds.range(self.view..);
+        known.filter_map(|(view, round)| Some((*view, round.leader?)))
+    }
+
+    /// The first view from this one on of which something is known.
+    fn first_tracked(&self, from: View) -> Option<View> {
+        self.rounds.range(from..).next().map(|(view, _)| *view)
+    }
+
     /// The views from the current one on of which something may be asked.
     fn next_open(&self, from: View) -> Option<View> {
-        let (&view, _) = self
-            .rounds
-            .range(from..=self.term_end(self.view) + 1)
-            .next()?;
-        Some(view)
+        let last = self.term_end(self.view) + 1;
+        self.first_tracked(from).filter(|view| *view <= last)
     }
 
     pub fn try_propose(&mut self) -> Option<Context> {
@@ -397,6 +453,9 @@ impl State {
             let Some(parent) = self.find_parent(view) else {
                 continue;
             };
+            if self.is_handoff(view, parent) && self.has_given_up(self.view) {
+                continue;
+            }
             let round = self.rounds.get_mut(&view)?;
             round.request_build();
             return Some(Context {
@@ -408,9 +467,42 @@ impl State {
         None
     }
 
+    /// Whether a build on this parent is for a term's start, and ahead of the view before.
+    pub fn is_handoff(&self, view: View, parent: (View, Digest)) -> bool {
+        self.is_term_start(view) && self.explicit_payload(parent.0) != Some(parent.1)
+    }
+
+    pub fn has_given_up(&self, view: View) -> bool {
+        self.rounds.get(&view).is_some_and(Round::has_nullified)
+    }
+
+    /// Whether a build on this parent may still be used.
+    fn is_captured(&self, view: View, parent: (View, Digest)) -> bool {
+        self.find_parent(view) == Some(parent) || self.allows(view, parent)
+    }
+
+    /// Gives a build back where it can't be used any more: whether it is, or its view is behind.
+    pub fn falls(&mut self, context: &Context, is_handoff: bool) -> bool {
+        let Context { view, parent, .. } = *context;
+        if view < self.view {
+            return true;
+        }
+        let is_captured = self.is_captured(view, parent);
+        let stops = is_handoff
+            && self.explicit_payload(parent.0) != Some(parent.1)
+            && (self.has_given_up(self.view) || !is_captured);
+        if !stops && (is_captured || self.find_parent(view).is_none()) {
+            return false;
+        }
+        if let Some(round) = self.rounds.get_mut(&view) {
+            round.release_build();
+        }
+        true
+    }
+
     pub fn proposed(&mut self, now: u64, context: &Context, payload: Digest) -> bool {
         let Context { view, parent, .. } = *context;
-        if self.find_parent(view) != Some(parent) && !self.allows(view, parent) {
+        if !self.is_captured(view, parent) {
             return false;
         }
         let proposal = Proposal {
@@ -484,6 +576,17 @@ impl State {
             parent: (proposal.parent, payload),
         };
         Verify::Ready(context, proposal)
+    }
+
+    /// Takes it that the view's proposal wasn't found good: whether that is the first reason to give the view up.
+    pub fn verification_failed(&mut self, now: u64, view: View, reason: Reason) -> bool {
+        if self.is_steady(view) {
+            return self.trigger_timeout(now, view, reason);
+        }
+        if let Some(round) = self.rounds.get_mut(&view) {
+            round.binding = None;
+        }
+        false
     }
 
     pub fn verified(&mut self, view: View) -> bool {
@@ -685,7 +788,15 @@ impl State {
         round.notarize();
         let proposal = round.proposal?;
         self.prepare_successor(view);
+        self.prepare_handoff(view);
         self.vote(proposal)
+    }
+
+    /// This member leads the next term, where a schedule says so and nobody is known to.
+    fn prepare_handoff(&mut self, view: View) {
+        if self.is_term_start(view + 1) && self.leads_by_schedule(view + 1) {
+            self.set_leader(view + 1);
+        }
     }
 
     pub fn construct_finalize(&mut self, view: View) -> Option<Vote> {
@@ -802,8 +913,23 @@ impl State {
         let Some(round) = self.rounds.get_mut(&view) else {
             return false;
         };
-        round.latch(now, reason);
-        true
+        round.latch(now, reason)
+    }
+
+    /// Whether it would count now that the current view's leader is silent.
+    pub fn counts_silence(&self) -> bool {
+        self.has_budget() && self.may_be_silent()
+    }
+
+    fn may_be_silent(&self) -> bool {
+        self.rounds
+            .get(&self.view)
+            .is_some_and(|round| !round.has_unequivocated_proposal())
+    }
+
+    /// The current view is given up for its leader's silence: whether that is the first reason.
+    pub fn trigger_silence(&mut self, now: u64) -> bool {
+        self.may_be_silent() && self.trigger_timeout(now, self.view, Reason::Inactivity)
     }
 
     // What is dropped

@@ -1,0 +1,14 @@
+#!/bin/sh
+# node.sh [--quick] [--runs N] [--instructions | --memory | --disk FOLDER]: measures a member's node against the baseline; --quick
+# makes few runs over shorter histories. In place of times, --instructions counts instructions and --memory weighs the heap, which
+# need valgrind, and --disk keeps the record in a file of that folder, beside what as many bare syncs cost there.
+# NODE may name the program of node/main.rt.txt, else it is proved and built here, which takes minutes to hours.
+. "$(dirname "$0")/common.sh"
+
+rustc -O --edition 2021 -o "$folder/baseline" "$here/baseline/node.rs"
+if [ -z "${NODE:-}" ]; then
+    lay_out node simplex_node simplex_member simplex_decisions simplex_journal simplex_rules simplex_messages simplex_types
+    build finalized 4 1 1 memory
+fi
+python3 -B "$here/measure_node.py" --baseline "$folder/baseline" \
+    --simplex "${NODE:-$folder/node}" "$@"
