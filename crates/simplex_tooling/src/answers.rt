@@ -253,7 +253,7 @@ pub fn answer_to(
     bytes: &[u8],
 ) -> Result<(Vec<u8>, Option<usize>), AllocError>
     requires { IsAsked request }
-    ensures { IfOk result (λ answer. IsAnswerTo style request bytes.now answer.0.items answer.1) }
+    ensures { IfOk result (λ answer. IsAnswerTo style request.entry bytes.now answer.0.items answer.1) }
 {
     match request {
         Request::Evidence { count } => evidence_in(alloc, count, bytes),

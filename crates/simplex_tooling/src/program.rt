@@ -24,7 +24,7 @@ fn asked_about<R: Read>(
     request: Request<'_>,
     input: &mut R,
 ) -> Result<Vec<u8>, InputError>
-    ensures { IfOk result (λ all. NeedsInput request → IfSome (R.remaining input.old) (λ bytes. all.items ≡ bytes)) }
+    ensures { IfOk result (λ all. NeedsInput request.entry → IfSome (R.remaining input.old) (λ bytes. all.items ≡ bytes)) }
 {
     match request {
         Request::Help | Request::Version => Ok(Vec::new(alloc)),
@@ -46,9 +46,9 @@ pub fn write_answer<R: Read, W: Write>(
     output: &mut W,
 ) -> Result<Option<usize>, Trouble>
     requires { IsAsked call.request }
-    ensures written { IfOk result (λ named. IfSome (R.remaining input.old) (λ bytes. AnswersOver call bytes named (W.contents output.old) (W.contents output.new))) }
+    ensures written { IfOk result (λ named. IfSome (R.remaining input.old) (λ bytes. AnswersOver call.entry bytes named (W.contents output.old) (W.contents output.new))) }
     ensures unwritten { IfErr result (λ trouble. trouble ≢ Write → output.new ≡ output.old) }
-    ensures broken_off { IfErr result (λ trouble. trouble ≡ Write → IfSome (R.remaining input.old) (λ bytes. BreaksOff call bytes (W.contents output.old) (W.contents output.new))) }
+    ensures broken_off { IfErr result (λ trouble. trouble ≡ Write → IfSome (R.remaining input.old) (λ bytes. BreaksOff call.entry bytes (W.contents output.old) (W.contents output.new))) }
 {
     let bytes = asked_about(alloc, call.request, input)?;
     let (text, named) = answer_to(alloc, call.style, call.request, &bytes)?;
@@ -69,8 +69,8 @@ pub fn run_request<R: Read, W: Write, F: Write>(
 ) -> u8
     requires { IsAsked call.request }
     ensures statuses { (result ≡ 0) ⊎ ((result ≡ 1) ⊎ (result ≡ 3)) }
-    ensures whole { result ≡ 0 → IfSome (R.remaining input.old) (λ bytes. AnswersOver call bytes None (W.contents output.old) (W.contents output.new)) }
-    ensures named { result ≡ 3 → IfSome (R.remaining input.old) (λ bytes. (place : ℕ) × AnswersOver call bytes (Some place) (W.contents output.old) (W.contents output.new)) }
+    ensures whole { result ≡ 0 → IfSome (R.remaining input.old) (λ bytes. AnswersOver call.entry bytes None (W.contents output.old) (W.contents output.new)) }
+    ensures named { result ≡ 3 → IfSome (R.remaining input.old) (λ bytes. (place : ℕ) × AnswersOver call.entry bytes (Some place) (W.contents output.old) (W.contents output.new)) }
     ensures silent { result ≢ 1 → faults.new ≡ faults.old }
     ensures troubled { result ≡ 1 → (trouble : Trouble) × (trouble ≢ Write → output.new ≡ output.old) × AppendsFront (F.contents faults.old) (F.contents faults.new) (trouble_line trouble) }
 {
