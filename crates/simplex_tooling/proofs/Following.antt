@@ -1,11 +1,10 @@
 -- Reports that are read one behind the other.
-use Rattle.std.proofs.Common.{◌≡◌, ◌<◌, ℕ, List, [], ◌∷◌, ◌++◌, length, length-append, refl, sym, ap, ◌∙◌, append_assoc, arith}
-use Rattle.std.specs.Prelude.{◌≢◌, ◌+◌, All, Result, Option, Some, None, IsErr}
+use Rattle.std.proofs.Common.{◌≡◌, ◌<◌, ℕ, List, [], ◌∷◌, ◌++◌, length, length-append, sym, ap, ◌∙◌, append_assoc, arith}
+use Rattle.std.specs.Prelude.{All, OnOk, Result, Ok, Err}
 use Rattle.std.specs.List.{flat_map}
 use Rattle.std.proofs.lemmas.List.{append-nil}
 use Rattle.std.proofs.lemmas.List.Concat.{flat_map-append}
 use Rattle.std.proofs.lemmas.List.Elements.{All-nil, All-cons, All-append}
-use Rattle.simplex_codec.specs.declared.codec.CodecError.{CodecError}
 use Rattle.simplex_messages.specs.declared.activity.Activity.{Activity}
 use Rattle.simplex_messages.specs.Activity.{activity_spelling}
 
@@ -24,3 +23,8 @@ one_more spelling read x bytes rest after whole spelled =
 -- of one more each fits
 pub All-more : {A : Type 0} (P : A → Type 0) (read : List A) (x : A) → All P read → P x → All P (read ++ x ∷ [])
 All-more P read x all p = All-append P read (x ∷ []) all (All-cons P x [] p (All-nil P))
+
+-- what two steps wrote, one behind the other
+pub OnOk-more : {A E : Type 0} (r : Result A E) (old mid new a b : List ℕ) → mid ≡ old ++ a → OnOk r (new ≡ mid ++ b) → OnOk r (new ≡ old ++ (a ++ b))
+OnOk-more (Ok x) old mid new a b first second = second ∙ ap (λ (l : List ℕ). l ++ b) first ∙ append_assoc old a b
+OnOk-more (Err e) old mid new a b first second = tt

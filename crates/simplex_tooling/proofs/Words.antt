@@ -1,5 +1,5 @@
 -- The texts of lists of one to four words, and of a list with a first word.
-use Rattle.std.proofs.Common.{◌≡◌, ◌<◌, List, [], ◌∷◌, length, get_or, map, drop, arith}
+use Rattle.std.proofs.Common.{◌≡◌, ◌<◌, ◌-◌, List, [], ◌∷◌, length, get_or, map, take, drop, take_all, arith}
 
 pub map_one : {X Y : Type 0} (f : X → Y) (xs : List X) (a : X) → length xs ≡ 1 → a ≡ get_or xs 0 a → map f xs ≡ f a ∷ []
 map_one f [] a e p = absurd (omega arith)
@@ -27,6 +27,8 @@ map_four f (x ∷ y ∷ z ∷ []) a b c d e p q r s = absurd (omega arith)
 map_four f (x ∷ y ∷ z ∷ w ∷ []) a b c d e p q r s = cc
 map_four f (x ∷ y ∷ z ∷ w ∷ v ∷ xs) a b c d e p q r s = absurd (omega arith)
 
-pub map_behind : {X Y : Type 0} (f : X → Y) (xs : List X) (a : X) → 0 < length xs → a ≡ get_or xs 0 a → map f xs ≡ f a ∷ map f (drop 1 xs)
+pub map_behind : {X Y : Type 0} (f : X → Y) (xs : List X) (a : X) → 0 < length xs → a ≡ get_or xs 0 a → map f xs ≡ f a ∷ map f (take (length xs - 1) (drop 1 xs))
 map_behind f [] a e p = absurd (omega arith)
-map_behind f (x ∷ xs) a e p = cc
+map_behind f (x ∷ xs) a e p =
+    let all : take (length (x ∷ xs) - 1) xs ≡ xs = take_all (length (x ∷ xs) - 1) xs (omega arith) in
+    cc (p, all)

@@ -18,13 +18,13 @@ use Rattle.simplex_messages.specs.declared.activity.Activity.TheVariants as acti
 use Rattle.simplex_tooling.specs.declared.style.Style.{Style}
 use Rattle.simplex_tooling.specs.Parts.{kind_words, field, line_end, round_fields, signature_field, truth_word}
 
--- what a proposal says beside its round
-unfoldable pub choice_fields : Style → Proposal (List ℕ) → List ℕ
-choice_fields style p = field style (codes "parent") (decimal p.parent) ++ field style (codes "payload") (encode_lower p.payload)
+-- what a proposal says beside its round, under these names
+unfoldable pub named_choice : Style → List ℕ → List ℕ → Proposal (List ℕ) → List ℕ
+named_choice style parent payload p = field style parent (decimal p.parent) ++ field style payload (encode_lower p.payload)
 
 -- a proposal
 unfoldable pub proposal_fields : Style → Proposal (List ℕ) → List ℕ
-proposal_fields style p = round_fields style p.round ++ choice_fields style p
+proposal_fields style p = round_fields style p.round ++ named_choice style (codes "parent") (codes "payload") p
 
 -- who signed, and the signature
 unfoldable pub signed_fields : Style → Attestation (List ℕ) → List ℕ
@@ -32,7 +32,7 @@ signed_fields style a = field style (codes "signer") (decimal a.signer) ++ field
 
 -- what the second of two votes says beside the round and the signer
 unfoldable pub other_fields : Style → Proposal (List ℕ) → List ℕ → List ℕ
-other_fields style p signature = field style (codes "other-parent") (decimal p.parent) ++ (field style (codes "other-payload") (encode_lower p.payload) ++ field style (codes "other-signature") (encode_lower signature))
+other_fields style p signature = named_choice style (codes "other-parent") (codes "other-payload") p ++ field style (codes "other-signature") (encode_lower signature)
 
 -- the line of a verdict
 unfoldable pub verdict_line : Style → Round → Bool → List ℕ

@@ -1,6 +1,6 @@
 //! The words of the command line.
 
-ghost use Rattle.std.specs.Prelude.{◌≡◌, ◌<◌, [], ◌∷◌, ℕ, codes, IsNone, IfSome, map, string_bytes};
+ghost use Rattle.std.specs.Prelude.{◌<◌, [], ◌∷◌, codes, IfSome, map, string_bytes};
 ghost use Rattle.simplex_cli.specs.Command.{SpellsNumber};
 ghost use Rattle.simplex_tooling.specs.Command.{IsAsked, SpellsCall, SpellsRequest};
 
@@ -60,7 +60,6 @@ pub const VERSION: &str = "simplex_tool: version 1 of the formats\n";
 fn count_of(word: &str) -> Option<u16>
     ensures spelled { IfSome result (SpellsNumber word.now) }
     ensures some { IfSome result (λ count. 0 < count) }
-    ensures refused { IsNone result → (n : ℕ) → 0 < n → ¬ SpellsNumber word.now n }
 {
     match number_of(word) {
         Some(0) => None,

@@ -3,7 +3,7 @@
 ghost use Rattle.std.specs.Prelude.{◌≡◌, ◌++◌, OnOk, codes, string_bytes};
 ghost use Rattle.std.specs.List.{flat_map};
 ghost use Rattle.simplex_tooling.specs.Parts.{round_fields, signature_field};
-ghost use Rattle.simplex_tooling.specs.Lines.{artifact_line, beside_line, certificate_line, choice_fields, conflicting_line, nullification_line, nullify_line, other_fields, proposal_fields, report_line, signed_fields, verdict_line, vote_line};
+ghost use Rattle.simplex_tooling.specs.Lines.{artifact_line, beside_line, certificate_line, conflicting_line, named_choice, nullification_line, nullify_line, other_fields, proposal_fields, report_line, signed_fields, verdict_line, vote_line};
 
 use crate::parts::{
     push_attestation, push_end, push_kind, push_number, push_payload, push_round, push_signature,
@@ -19,17 +19,19 @@ use simplex_types::{
 };
 use std::alloc::{AllocError, Global};
 
-/// Ends the text with what a proposal says beside its round.
-#[tactic(auto, unfolding(crate::specs::Lines::choice_fields))]
+/// Ends the text with what a proposal says beside its round, under these names.
+#[tactic(auto, unfolding(crate::specs::Lines::named_choice))]
 fn push_choice(
     text: &mut String,
     style: Style,
+    parent: &str,
+    payload: &str,
     proposal: &Proposal<Sha256Digest>,
 ) -> Result<(), AllocError>
-    ensures { OnOk result (string_bytes text.new ≡ string_bytes text.old ++ choice_fields style proposal.now) }
+    ensures { OnOk result (string_bytes text.new ≡ string_bytes text.old ++ named_choice style parent.now payload.now proposal.now) }
 {
-    push_number(text, style, "parent", proposal.parent.get())?;
-    push_payload(text, style, "payload", proposal.payload)
+    push_number(text, style, parent, proposal.parent.get())?;
+    push_payload(text, style, payload, proposal.payload)
 }
 
 /// Ends the text with what the second of two votes says beside its round and its signer.
@@ -43,8 +45,7 @@ fn push_other(
 ) -> Result<(), AllocError>
     ensures { OnOk result (string_bytes text.new ≡ string_bytes text.old ++ other_fields style proposal.now signature.now) }
 {
-    push_number(text, style, "other-parent", proposal.parent.get())?;
-    push_payload(text, style, "other-payload", proposal.payload)?;
+    push_choice(text, style, "other-parent", "other-payload", proposal)?;
     push_signature(alloc, text, style, "other-signature", signature)
 }
 
@@ -58,7 +59,7 @@ fn push_proposal(
     ensures { OnOk result (string_bytes text.new ≡ string_bytes text.old ++ proposal_fields style proposal.now) }
 {
     push_round(text, style, proposal.round)?;
-    push_choice(text, style, proposal)
+    push_choice(text, style, "parent", "payload", proposal)
 }
 
 /// Ends the text with who signed a vote, and the signature.
