@@ -14,21 +14,25 @@ stand as words (see words.py) or as the hexadecimal digits of their spelling.
     disk HEX                      => ok      the disk holds these bytes
     open NOW                      => REPLY, fault NUMBER, fault NUMBER PLACE, or crash
     event EVENT                   => REPLY, fault NUMBER, or crash
+    stream HEX                    => HEX, and behind it bad PLACE or fault NUMBER where that ends early: the replies to the
+                                     events that the bytes spell, one behind the other
     current_view, last_finalized  => NUMBER
     record                        => the artifacts, as behind found
+    bytes                         => HEX     closes the node that is open: the disk holds these bytes
+    is_failed                     => false, or true behind a fault of a step
     fuse K, fail_at K             => ok      calls of the disk fail from now on, which says nothing of a node
 
 Before the first `open` of a case the disk is empty, unless a line tells what it holds. A later `open` finds what the node
 recorded; behind a fault or crash a line has to tell what the disk holds (found, disk, or what record answers), and that is
-judged too. A line that begins with `not`
-holds an answer that isn't allowed; the node stays where it was. One that begins with `times N` stands for so many. One that
-begins with `#` says something to readers.
+judged too. What asks for a node where none is open is answered by `condition`. A line that begins with `not` holds an answer
+that isn't allowed; the node stays where it was. One that begins with `times N` stands for so many. One that begins with `#`
+says something to readers.
 """
 from . import words
 from .acts import point_of
 from .codec import Reader, Unreadable, artifact_bytes, event_bytes, reply_bytes, whole
 from .member import Disagreement, may_be_left, opening, read_record, step
-from .record import bodies, first_refused, record
+from .record import bodies, first_refused, record, spelled_record
 from .refusals import refusal_of
 from .scheme import SCHEMES
 from .setup import FORWARDS, Setup
@@ -91,17 +95,22 @@ class Case:
         """The disk holds these; behind a crash only what may be left."""
         if self.may_hold is not None and not self.may_hold(artifacts):
             raise Disagreement("the disk may not be left so")
-        self.found, self.foreign, self.may_hold, self.h = artifacts, None, None, None
+        self.found, self.foreign, self.may_hold, self.h, self.has_failed = artifacts, None, None, None, False
 
-    def hold_bytes(self, data):
+    def read(self, data):
+        """The artifacts of a disk's bytes, and the place of the first entry that is none, if one isn't."""
         artifacts = []
         for place, body in bodies(data):
             try:
                 artifacts.append(whole(body, self.setup.scheme.signature_size, 65_535, Reader.artifact))
             except Unreadable:
-                self.foreign = place
-                return
-        self.hold(tuple(artifacts))
+                return tuple(artifacts), place
+        return tuple(artifacts), None
+
+    def hold_bytes(self, data):
+        artifacts, foreign = self.read(data)
+        self.hold(artifacts)
+        self.foreign = foreign
 
     # ---- calls
 
@@ -140,9 +149,10 @@ class Case:
 
     def event(self, text, answer):
         event = words.event_of(text, self.setup.scheme)
-        if self.has_failed or self.h is None:
-            if answer != f"fault {STEP_FAILED}":
-                raise Disagreement(f"a node that has failed answers fault {STEP_FAILED}")
+        if self.h is None:
+            right = f"fault {STEP_FAILED}" if self.has_failed else "condition"
+            if answer != right:
+                raise Disagreement(f"a node that {'has failed' if self.has_failed else 'is not open'} answers {right}")
             return
         if answer == "crash" or answer in (f"fault {STEP_MEMORY}", f"fault {STEP_DEVICE}"):
             self.cut(event)
@@ -150,6 +160,32 @@ class Case:
         if answer.startswith("fault"):
             raise Disagreement("no such fault")
         self.h = step(self.h, event, words.reply_of(answer, self.setup.scheme))
+
+    def stream(self, text, answer):
+        """Each of the events is answered, until a step fails or no event stands at a place."""
+        if self.h is None and not self.has_failed:
+            if answer != "condition":
+                raise Disagreement("no node is open")
+            return
+        spelled_replies, _, told = answer.partition(" ")
+        size, members = self.setup.scheme.signature_size, self.setup.scheme.members
+        events, replies = (Reader(bytes.fromhex(it.replace("-", "")), size, members) for it in (text, spelled_replies))
+        right = ""
+        while events.place < len(events.data):
+            place = events.place
+            try:
+                events.event()
+            except Unreadable:
+                right = f"bad {place}"
+                break
+            event, first = events.data[place : events.place].hex(), replies.place
+            if first == len(replies.data):
+                self.event(event, told)
+                return
+            replies.reply()
+            self.event(event, replies.data[first : replies.place].hex())
+        if replies.place < len(replies.data) or told != right:
+            raise Disagreement(f"it ends behind {replies.place} bytes{right and ' with ' + right}")
 
     def cut(self, event):
         """The step ends somewhere, and hands nothing out."""
@@ -169,12 +205,18 @@ class Case:
             self.open(rest, answer)
         elif name == "event":
             self.event(rest, answer)
+        elif name == "stream":
+            self.stream(rest, answer)
         elif name in ("current_view", "last_finalized") and self.h is not None:
             right = {"current_view": current, "last_finalized": last_finalized}[name](self.h)
             if answer != str(right):
                 raise Disagreement(f"it is {right}")
         elif name == "record":
             self.tell_record(artifacts_of(answer, self.setup.scheme))
+        elif name == "bytes":
+            self.tell_bytes(bytes.fromhex(answer.replace("-", "")))
+        elif name == "is_failed":
+            self.tell_whether_failed(answer)
         elif name in ("fuse", "fail_at"):
             int(rest)
         else:
@@ -186,6 +228,22 @@ class Case:
         right = self.found if self.h is None else record(self.h)
         if artifacts != right:
             raise Disagreement("it holds " + (" , ".join(words.message(it, self.setup.scheme) for it in right) or "-"))
+
+    def tell_bytes(self, data):
+        """Of a node at rest the bytes are those of its record; else they read as what the disk holds, or may hold."""
+        if self.h is not None:
+            if data != bytes_of(record(self.h)):
+                raise Disagreement(f"it holds {bytes_of(record(self.h)).hex()}")
+            self.hold(record(self.h))
+        elif self.may_hold is not None:
+            self.hold_bytes(data)
+        elif self.read(data) != (self.found, self.foreign):
+            raise Disagreement("it holds something else")
+
+    def tell_whether_failed(self, answer):
+        right = "true" if self.has_failed else "false" if self.h is not None else "condition"
+        if answer != right:
+            raise Disagreement(f"it is {right}")
 
     def told_as(self, call, answer, event_as, reply_as, artifacts_as):
         """A line with its event, reply and artifacts written so, where they can be read."""
@@ -218,6 +276,11 @@ class Case:
 def spelled(artifacts):
     """Artifacts as a word of bytes."""
     return ",".join(artifact_bytes(it).hex() for it in artifacts) or "-"
+
+
+def bytes_of(artifacts):
+    """The bytes of a disk at rest whose record is this."""
+    return spelled_record([artifact_bytes(it) for it in artifacts])
 
 
 def lines_of(text, answers=None):

@@ -202,3 +202,8 @@ def bodies(disk):
         found.append((place, disk[place + 5 : end]))
         place = end
     return found
+
+
+def spelled_record(spellings):
+    """The bytes of a disk at rest whose entries are these: each behind an open gate and its length, and a closed gate."""
+    return b"".join(b"\1" + len(it).to_bytes(4, "big") + it for it in spellings) + b"\0"

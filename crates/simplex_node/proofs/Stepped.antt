@@ -1,5 +1,5 @@
 -- Steps and openings, with all that is due behind them.
-use Rattle.std.proofs.Common.{◌≡◌, ◌⊎◌, ⊎_elim, inl, inr, ℕ, true, false, List, [], ◌∷◌, ◌++◌, Option, Some, None, Result, Ok, Err, map, refl, sym, ◌∙◌, ap, subst, append_assoc, append-nil}
+use Rattle.std.proofs.Common.{◌≡◌, ◌⊎◌, ⊎_elim, inl, inr, ℕ, true, false, List, [], ◌∷◌, ◌++◌, Option, Some, None, Result, Ok, Err, map, refl, sym, ◌∙◌, ap, subst, append_assoc}
 use Rattle.std.specs.Prelude.{IfSome, IsOk, IsSome, is_some}
 use Rattle.std.specs.declared.alloc.Global.{Global}
 use Rattle.std.specs.declared.vec.Vec.{Vec}
@@ -12,7 +12,6 @@ use Rattle.simplex_journal.specs.declared.disk.Disk as disk
 use Rattle.simplex_journal.specs.Disk.{Call, LeavesOnly}
 use Rattle.simplex_journal.specs.Moments.{and_then, weaker}
 use Rattle.simplex_journal.specs.Record.{Reads}
-use Rattle.simplex_recording.specs.Ledger.{AreFoundOn}
 use Rattle.simplex_member.specs.declared.action.Action.{Action}
 use Rattle.simplex_member.specs.declared.action.Reply.{Reply}
 use Rattle.simplex_member.specs.declared.event.Event.{Event}
@@ -20,23 +19,32 @@ use Rattle.simplex_member.specs.declared.fault.NodeFault.{NodeFault}
 use Rattle.simplex_member.specs.declared.fault.OpenFault.{OpenFault}
 use Rattle.simplex_member.specs.declared.fault.OpenFault.TheVariants as open_fault
 use Rattle.simplex_member.specs.declared.refusal.Refusal.{Refusal}
-use Rattle.simplex_member.specs.Deeds.{Deed, AreActions, all_deeds, deeds_of}
+use Rattle.simplex_member.specs.Deeds.{Deed, AreActions, all_deeds}
+use Rattle.simplex_member.specs.Member.{AreOpening, AreStep, Goes, IsOpened, IsPointOf, IsReached, Opens, Takes}
 use Rattle.simplex_member.specs.First.{IsFirst}
-use Rattle.simplex_member.specs.Member.{AreOpening, AreStep, Goes, HandsOut, IsOpened, IsPointOf, IsReached, Opens, Rests, Steps, Takes}
 use Rattle.simplex_member.specs.Packet.{Formats}
 use Rattle.simplex_member.specs.Point.{Point, AreActs, Began, Opened, History}
 use Rattle.simplex_member.specs.Recorded.{record_of}
-use Rattle.simplex_member.specs.Refusals.{needs_nothing, tests}
+use Rattle.simplex_member.specs.Refusals.{tests}
 use Rattle.simplex_member.specs.Setup.{Setup}
 use Rattle.simplex_recalling.specs.GoingThrough as reading
+use Rattle.simplex_core.specs.declared.node_core.Core.{Core}
+use Rattle.simplex_acting.specs.Acting.{HasSettled, IsLeftByActs, WasSettled}
+use Rattle.simplex_core.specs.Keeps.{CoreKeeps, disk_of}
 use Rattle.simplex_node.specs.declared.node.Node.{Node}
-use Rattle.simplex_node.specs.Acting.{HasSettled, IsLeftByActs, WasSettled}
-use Rattle.simplex_node.specs.Keeps.{NodeKeeps, disk_of}
 use Rattle.simplex_node.specs.Opening.{IsOpen, IsOpenAndSettled, MayBeLeft, MayBeLeftOpen, early}
-use Rattle.simplex_node.specs.Stepping.{GoesOn, IsAnswered, IsAnsweredWhole, StepsAtOnce, TakesAtOnce}
-use Rattle.simplex_node.proofs.Settling.{are_acts, goes_behind, last_behind}
+use Rattle.simplex_node.specs.Stepping.{GoesOn, IsAnsweredWhole}
+use Rattle.simplex_taking.specs.Stepping.{IsAnswered, StepsAtOnce, TakesAtOnce}
+use Rattle.simplex_acting.specs.ActsBehind.{are_acts, goes_behind, last_behind}
 use Rattle.simplex_node.proofs.Testing.{late}
-use Rattle.simplex_node.proofs.Tests.{first-is-one}
+
+-- of tests the first that applies is one
+first-is-one : {A : Type 0} (tests : List (A × Type 0)) (x y : Option A) → IsFirst tests x → IsFirst tests y → x ≡ y
+first-is-one [] x y p q = p ∙ sym q
+first-is-one ((a, Applies) ∷ tests) x y p q = ⊎_elim
+    (λ hit. ⊎_elim (λ also. hit.1 ∙ sym also.1) (λ miss. absurd (miss.0 hit.0)) q)
+    (λ miss. ⊎_elim (λ hit. absurd (miss.0 hit.0)) (λ also. first-is-one tests x y miss.1 also.1) q)
+    p
 
 -- ---- an event that is taken, and acts behind it
 
@@ -62,7 +70,7 @@ module _ {S D P G C : Type 0} (g : Ghosts S D P G C) (f : Formats S D P G C) (s 
   reached_by_acts image left = inr (taken.point ∷ left.0, left.1, step_on left.0 left.2, goes_on left.0 left.1 left.3, left.4)
 
   -- once nothing is due the event is taken whole
-  takes_whole : {L K : Type 0} (e : elector.Ghosts L S D P G C) (k : disk.Ghosts K) (new : Node S L D K P G C) (after : List (Action S D P G C)) (settled : HasSettled g e k f s new mid actions after) → Takes g f s h event after settled.end
+  takes_whole : {L K : Type 0} (e : elector.Ghosts L S D P G C) (k : disk.Ghosts K) (new : Core S L D K P G C) (after : List (Action S D P G C)) (settled : HasSettled g e k f s new mid actions after) → Takes g f s h event after settled.end
   takes_whole e k new after settled = record {
     points = taken.point ∷ settled.points;
     step = step_on settled.points settled.own;
@@ -79,16 +87,16 @@ module _ {S D P G C : Type 0} (g : Ghosts S D P G C) (f : Formats S D P G C) (s 
 
 module _ {S L D P G C K : Type 0} (g : Ghosts S D P G C) (e : elector.Ghosts L S D P G C) (k : disk.Ghosts K) (f : Formats S D P G C) (s : Setup S D C) (h mid : History S D P G C) (event : Event D) where
   -- behind an event that was refused nothing is due
-  pub refused_goes_on : (node : Node S L D K P G C) (refused : Option Refusal) (actions : Vec (Action S D P G C) Global) → IsSome refused → StepsAtOnce g f s h event (record { refused = refused; actions = actions }) mid → NodeKeeps g e k f s node mid
+  pub refused_goes_on : (node : Core S L D K P G C) (refused : Option Refusal) (actions : Vec (Action S D P G C) Global) → IsSome refused → StepsAtOnce g f s h event (record { refused = refused; actions = actions }) mid → CoreKeeps g e k f s node mid
       → (k.keeps → LeavesOnly (k.calls (disk_of node)) (k.calls (disk_of node)) (λ image. Reads image (map f.artifact (record_of mid))))
       → GoesOn g e k f s node node h mid event (Ok (record { refused = refused; actions = actions }))
   refused_goes_on node None actions is steps keeps rests = absurd (false≢true is)
   refused_goes_on node (Some r) actions is steps keeps rests = record {
-    ok = (h, (steps.0, (refl, steps.1.1)), subst (λ (m : History S D P G C). NodeKeeps g e k f s node m) steps.1.0 keeps);
+    ok = (h, (steps.0, (refl, steps.1.1)), subst (λ (m : History S D P G C). CoreKeeps g e k f s node m) steps.1.0 keeps);
     any_moment = λ it. weaker (IsReached g f s h event) (rests it) (λ image reads. inl (subst (λ (m : History S D P G C). Reads image (map f.artifact (record_of m))) steps.1.0 reads));
   }
 
-  module _ (old new : Node S L D K P G C) (refused : Option Refusal) (actions : Vec (Action S D P G C) Global) where
+  module _ (old new : Core S L D K P G C) (refused : Option Refusal) (actions : Vec (Action S D P G C) Global) where
     -- behind one that was taken the node settles
     pub settled_goes_on : {A : Type 0} (x : A) (after : Vec (Action S D P G C) Global) → is_some refused ≡ false → StepsAtOnce g f s h event (record { refused = refused; actions = actions }) mid
         → WasSettled g e k f s old new mid actions.items after.items (Ok x) → GoesOn g e k f s old new h mid event (Ok (record { refused = refused; actions = after }))
@@ -112,11 +120,11 @@ module _ {S L D P G C K : Type 0} (g : Ghosts S D P G C) (e : elector.Ghosts L S
 
 module _ {S L D P G C K : Type 0} (g : Ghosts S D P G C) (e : elector.Ghosts L S D P G C) (k : disk.Ghosts K) (f : Formats S D P G C) (s : Setup S D C) (h : History S D P G C) (event : Event D) where
   -- an event was answered, and the node went on behind it
-  pub answered_whole : (old mid new : Node S L D K P G C) (reply : Reply S D P G C) (answer : Result (Reply S D P G C) NodeFault) → IsAnswered g e k f s old mid h event (Ok reply)
-      → ((at : History S D P G C) → NodeKeeps g e k f s mid at → StepsAtOnce g f s h event reply at → GoesOn g e k f s mid new h at event answer) → (IsSome reply.refused → IsOk answer)
+  pub answered_whole : (old mid new : Core S L D K P G C) (reply : Reply S D P G C) (answer : Result (Reply S D P G C) NodeFault) → IsAnswered g e k f s old mid h event (Ok reply)
+      → ((at : History S D P G C) → CoreKeeps g e k f s mid at → StepsAtOnce g f s h event reply at → GoesOn g e k f s mid new h at event answer) → (IsSome reply.refused → IsOk answer)
       → IsAnsweredWhole g e k f s old new h event answer
   answered_whole old mid new reply answer answered next refused =
-      let here : (end : History S D P G C) × StepsAtOnce g f s h event reply end × NodeKeeps g e k f s mid end = answered.ok in
+      let here : (end : History S D P G C) × StepsAtOnce g f s h event reply end × CoreKeeps g e k f s mid end = answered.ok in
       let on = next here.0 here.2 here.1 in
       record {
         ok = on.ok;
@@ -125,7 +133,7 @@ module _ {S L D P G C K : Type 0} (g : Ghosts S D P G C) (e : elector.Ghosts L S
       }
 
   -- or it was not answered
-  pub failed_whole : (old new : Node S L D K P G C) (why : NodeFault) → IsAnswered g e k f s old new h event (Err why) → IsAnsweredWhole g e k f s old new h event (Err why)
+  pub failed_whole : (old new : Core S L D K P G C) (why : NodeFault) → IsAnswered g e k f s old new h event (Err why) → IsAnsweredWhole g e k f s old new h event (Err why)
   failed_whole old new why answered = record { ok = tt; any_moment = answered.any_moment; without_memory = answered.without_memory }
 
 -- ---- openings
@@ -145,7 +153,7 @@ module _ {S D P G C : Type 0} (g : Ghosts S D P G C) (f : Formats S D P G C) (s 
   opened_by_acts image left = (opens.points ++ left.0, left.1, opening_on left.0 left.2, goes_behind g f s [] end left.1 opens.points left.0 opens.goes left.3, left.4)
 
   -- once nothing is due the record is open whole
-  opens_whole : {L K : Type 0} (e : elector.Ghosts L S D P G C) (k : disk.Ghosts K) (new : Node S L D K P G C) (after : List (Action S D P G C)) (settled : HasSettled g e k f s new end actions after) → Opens g f s now found after settled.end
+  opens_whole : {L K : Type 0} (e : elector.Ghosts L S D P G C) (k : disk.Ghosts K) (new : Core S L D K P G C) (after : List (Action S D P G C)) (settled : HasSettled g e k f s new end actions after) → Opens g f s now found after settled.end
   opens_whole e k new after settled = record {
     points = opens.points ++ settled.points;
     opening = opening_on settled.points settled.own;
@@ -160,15 +168,15 @@ module _ {S D P G C : Type 0} (g : Ghosts S D P G C) (f : Formats S D P G C) (s 
 
 module _ {S L D P G C K : Type 0} (g : Ghosts S D P G C) (e : elector.Ghosts L S D P G C) (k : disk.Ghosts K) (f : Formats S D P G C) (s : Setup S D C) (Readable : Artifact S D P G C → Type 0) (on : K) (now : ℕ) (node : Node S L D K P G C) (actions : List (Action S D P G C)) (open_is : IsOpen g e k f s Readable on now node actions) where
   -- a node that is open settles
-  pub open_settled : (new : Node S L D K P G C) (after : List (Action S D P G C)) → ((h : History S D P G C) → NodeKeeps g e k f s node h → HasSettled g e k f s new h actions after) → IsOpenAndSettled g e k f s Readable on now new after
+  pub open_settled : (new : Core S L D K P G C) (after : List (Action S D P G C)) → ((h : History S D P G C) → CoreKeeps g e k f s node.core h → HasSettled g e k f s new h actions after) → IsOpenAndSettled g e k f s Readable on now (record node { core = new }) after
   open_settled new after settles =
-      let settled = settles open_is.end open_is.keeps in
+      let settled = settles open_is.end open_is.keeps.core in
       record {
         found = open_is.found;
         are_found = open_is.are_found;
         end = settled.end;
         opens = opens_whole g f s now open_is.found actions open_is.end open_is.opens e k new after settled;
-        keeps = settled.keeps;
+        keeps = record { running = open_is.keeps.running; core = settled.keeps };
       }
 
   -- what a crash leaves through both
@@ -178,10 +186,10 @@ module _ {S L D P G C K : Type 0} (g : Ghosts S D P G C) (e : elector.Ghosts L S
       (weaker (MayBeLeftOpen g e k f s Readable on now) other (λ image left. inr (open_is.found, open_is.are_found, opened_by_acts g f s now open_is.found actions open_is.end open_is.opens image left)))
 
 -- the same of formats that are those of the committee's size
-pub settled_at_size : {S L D P G C K : Type 0} {g : Ghosts S D P G C} {e : elector.Ghosts L S D P G C} {k : disk.Ghosts K} {s : Setup S D C} {Readable : Artifact S D P G C → Type 0} {on : K} {now : ℕ} {node new : Node S L D K P G C} {actions after : List (Action S D P G C)} {n size : ℕ} (f : ℕ → Formats S D P G C) → n ≡ size
-    → ((h : History S D P G C) → NodeKeeps g e k (f size) s node h → HasSettled g e k (f size) s new h actions after) → IsOpen g e k (f n) s Readable on now node actions → IsOpenAndSettled g e k (f n) s Readable on now new after
+pub settled_at_size : {S L D P G C K : Type 0} {g : Ghosts S D P G C} {e : elector.Ghosts L S D P G C} {k : disk.Ghosts K} {s : Setup S D C} {Readable : Artifact S D P G C → Type 0} {on : K} {now : ℕ} {node : Node S L D K P G C} {new : Core S L D K P G C} {actions after : List (Action S D P G C)} {n size : ℕ} (f : ℕ → Formats S D P G C) → n ≡ size
+    → ((h : History S D P G C) → CoreKeeps g e k (f size) s node.core h → HasSettled g e k (f size) s new h actions after) → IsOpen g e k (f n) s Readable on now node actions → IsOpenAndSettled g e k (f n) s Readable on now (record node { core = new }) after
 settled_at_size {g = g} {e = e} {k = k} {s = s} {Readable = Readable} {on = on} {now = now} {node = node} {new = new} {actions = actions} {after = after} {n = n} {size = size} f is settles =
-    subst (λ (m : ℕ). IsOpen g e k (f m) s Readable on now node actions → IsOpenAndSettled g e k (f m) s Readable on now new after) (sym is)
+    subst (λ (m : ℕ). IsOpen g e k (f m) s Readable on now node actions → IsOpenAndSettled g e k (f m) s Readable on now (record node { core = new }) after) (sym is)
     (λ open_is. open_settled g e k (f size) s Readable on now node actions open_is new after settles)
 
 -- an index that the scheme has is the one that it has

@@ -23,7 +23,7 @@ use Rattle.simplex_node.specs.Opening.{IsOpen}
 module _ {S L D P G C K : Type 0} (g : Ghosts S D P G C) (e : elector.Ghosts L S D P G C) (k : disk.Ghosts K) (f : Formats S D P G C) where
   -- once the record was gone through, the history and the ledger agree: the node of both stands there
   pub is-open : (s : Setup S D C) (Readable : Artifact S D P G C → Type 0) (on : K) (now : ℕ) (settings : Settings S) (layers : Layers S L D P G C) (ledger : Ledger S D K P G C) (node : Node S L D K P G C) (found : List (Artifact S D P G C)) (actions : List (Action S D P G C))
-      → node ≡ record { settings = settings; voter = layers.voter; acceptance = layers.acceptance; repair = layers.repair; ledger = ledger; tables = layers.tables; failed = false }
+      → node ≡ record { core = record { settings = settings; voter = layers.voter; acceptance = layers.acceptance; repair = layers.repair; ledger = ledger; tables = layers.tables }; failed = false }
       → IsSetUp s settings → HasBegun g e f s now found layers actions → AreFoundOn k f.artifact Readable on found → KeepsRecord k f.artifact (owner_of s) ledger found → IsOpen g e k f s Readable on now node actions
   is-open s Readable on now settings layers ledger node found actions is set_up begun are keeps = record {
     found = found;
@@ -31,15 +31,17 @@ module _ {S L D P G C K : Type 0} (g : Ghosts S D P G C) (e : elector.Ghosts L S
     end = begun.end;
     opens = begun.opens;
     keeps = subst (λ (n : Node S L D K P G C). NodeKeeps g e k f s n begun.end) (sym is) (record {
-      begun = begun.begun;
-      allowed = begun.allowed;
       running = refl;
-      set_up = set_up;
-      voter = begun.stand.voter;
-      votes = begun.stand.votes;
-      repair = begun.stand.repair;
-      ledger = subst (λ (xs : List (Artifact S D P G C)). KeepsRecord k f.artifact (owner_of s) ledger xs) (sym begun.whole) keeps;
-      tables = begun.stand.tables (finalized_of s begun.end);
+      core = record {
+        begun = begun.begun;
+        allowed = begun.allowed;
+        set_up = set_up;
+        voter = begun.stand.voter;
+        votes = begun.stand.votes;
+        repair = begun.stand.repair;
+        ledger = subst (λ (xs : List (Artifact S D P G C)). KeepsRecord k f.artifact (owner_of s) ledger xs) (sym begun.whole) keeps;
+        tables = begun.stand.tables (finalized_of s begun.end);
+      };
     });
   }
 

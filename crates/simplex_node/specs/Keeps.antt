@@ -1,44 +1,28 @@
--- At which history a node stands. Each part speaks of a field's value: what does not change needs no proof.
-use Rattle.std.specs.Prelude.{◌≡◌, ℕ, Bool, true, false}
+-- At which history a node stands.
+use Rattle.std.specs.Prelude.{◌≡◌, ℕ, Bool, false}
 use Rattle.simplex_types.specs.declared.scheme.Scheme.{Ghosts}
 use Rattle.simplex_rules.specs.declared.elector.Elector as elector
-use Rattle.simplex_voter.specs.State as voting
-use Rattle.simplex_acceptance.specs.Keeps as accepting
-use Rattle.simplex_resolver.specs.Keeps as repairing
 use Rattle.simplex_journal.specs.declared.disk.Disk as disk
-use Rattle.simplex_recording.specs.Ledger as ledgers
-use Rattle.simplex_recording.specs.Ledger.{KeepsRecord}
-use Rattle.simplex_recording.specs.Tables.{KeepsTables}
-use Rattle.simplex_member.specs.Allowed.{AreAllowed}
-use Rattle.simplex_member.specs.Layers.{finalized_of, is_begun, repair_of, voter_of}
 use Rattle.simplex_member.specs.Packet.{Formats}
 use Rattle.simplex_member.specs.Point.{History}
-use Rattle.simplex_member.specs.Recorded.{record_of}
-use Rattle.simplex_member.specs.Setup.{Setup, owner_of}
-use Rattle.simplex_recalling.specs.SettingUp.{IsSetUp}
+use Rattle.simplex_member.specs.Setup.{Setup}
+use Rattle.simplex_core.specs.Keeps as cores
+use Rattle.simplex_core.specs.Keeps.{CoreKeeps}
 use Rattle.simplex_node.specs.declared.node.Node.{Node}
 
 -- the disk that a node stands on
 abbrev pub disk_of : {S L D K P G C : Type 0} → Node S L D K P G C → K
-disk_of node = ledgers.disk_of node.ledger
+disk_of node = cores.disk_of node.core
 
 -- a step of the node has failed
 abbrev pub has_failed : {S L D K P G C : Type 0} → Node S L D K P G C → Bool
 has_failed node = node.failed
 
 module _ {S L D P G C K : Type 0} (g : Ghosts S D P G C) (e : elector.Ghosts L S D P G C) (k : disk.Ghosts K) where
-  -- the node stands where this history leads: the record was gone through, each point was allowed, no step has failed, and each
-  -- layer stands where its part of the history leads
+  -- the node stands where this history leads: no step has failed, and all that it holds stands there
   pub record NodeKeeps (f : Formats S D P G C) (s : Setup S D C) (node : Node S L D K P G C) (h : History S D P G C) : Type 0 where
-    pub begun : is_begun h ≡ true
-    pub allowed : AreAllowed g f s h
     pub running : node.failed ≡ false
-    pub set_up : IsSetUp s node.settings
-    pub voter : voting.Keeps g e s.voter node.voter (voter_of s h)
-    pub votes : accepting.Keeps g f.same s node.acceptance h
-    pub repair : repairing.Keeps s.voter.length node.repair (repair_of f h)
-    pub ledger : KeepsRecord k f.artifact (owner_of s) node.ledger (record_of h)
-    pub tables : KeepsTables (finalized_of s h) node.tables h
+    pub core : CoreKeeps g e k f s node.core h
 
   -- what holds of each history that leads here, however values are compared and spelled
   abbrev pub AtAll : Node S L D K P G C → (Formats S D P G C → Setup S D C → History S D P G C → Type 0) → Type 0

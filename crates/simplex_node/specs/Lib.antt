@@ -1,13 +1,3 @@
-pub mod Entering
 pub mod Keeps
-pub mod Taking
-pub mod Answering
-pub mod Verdicts
 pub mod Opening
-pub mod Deciding
-pub mod Hearing
-pub mod Refusing
-pub mod Acting
-pub mod Ahead
-pub mod NoneDue
 pub mod Stepping

@@ -1,63 +1,32 @@
 -- What is answered to an event.
-use Rattle.std.specs.Prelude.{◌≡◌, ◌≢◌, ◌∷◌, [], true, List, Some, Result, IfErr, IfOk, IsErrOf, IsOk, MatchOption, OnOk, false}
+use Rattle.std.specs.Prelude.{◌≡◌, true, Some, Result, IfOk, IsOk}
 use Rattle.simplex_types.specs.declared.scheme.Scheme.{Ghosts}
 use Rattle.simplex_rules.specs.declared.elector.Elector as elector
 use Rattle.simplex_journal.specs.declared.disk.Disk as disk
-use Rattle.simplex_journal.specs.Disk.{LeavesOnly, counted}
-use Rattle.simplex_member.specs.declared.action.Action.{Action}
+use Rattle.simplex_journal.specs.Disk.{LeavesOnly}
 use Rattle.simplex_member.specs.declared.action.Reply.{Reply}
 use Rattle.simplex_member.specs.declared.event.Event.{Event}
 use Rattle.simplex_member.specs.declared.fault.NodeFault.{NodeFault}
-use Rattle.simplex_member.specs.declared.fault.NodeFault.TheVariants as step_fault
 use Rattle.simplex_member.specs.declared.refusal.Refusal.{Refusal}
-use Rattle.simplex_member.specs.Deeds.{AreActions, all_deeds}
 use Rattle.simplex_member.specs.First.{IsFirst}
-use Rattle.simplex_member.specs.Member.{AreStep, Goes, IsReached, Steps}
+use Rattle.simplex_member.specs.Member.{IsReached, Steps}
 use Rattle.simplex_member.specs.Packet.{Formats}
-use Rattle.simplex_member.specs.Point.{Point, History}
-use Rattle.simplex_member.specs.Refusals.{needs_nothing, refused_deeds, tests}
+use Rattle.simplex_member.specs.Point.{History}
+use Rattle.simplex_member.specs.Refusals.{needs_nothing, tests}
 use Rattle.simplex_member.specs.Setup.{Setup}
-use Rattle.simplex_node.specs.declared.node.Node.{Node}
-use Rattle.simplex_node.specs.Keeps.{NodeKeeps, disk_of}
-
-module _ {S D P G C : Type 0} (g : Ghosts S D P G C) (f : Formats S D P G C) (s : Setup S D C) where
-  -- an event is taken, and what it brings is done and handed out; of what is due behind it nothing is yet
-  pub record TakesAtOnce (h : History S D P G C) (e : Event D) (actions : List (Action S D P G C)) (end : History S D P G C) : Type 0 where
-    pub point : Point S D P G C
-    pub step : AreStep g f s h e (point ∷ [])
-    pub goes : Goes g f s h (point ∷ []) end
-    pub are : AreActions f actions (all_deeds g f s h (point ∷ []))
-
-  -- one step: the first test that applies refuses the event, or it is taken
-  abbrev pub StepsAtOnce : History S D P G C → Event D → Reply S D P G C → History S D P G C → Type 0
-  StepsAtOnce h e reply end = IsFirst (tests g f s h e) reply.refused × MatchOption reply.refused
-      (TakesAtOnce h e reply.actions.items end)
-      (λ r. (end ≡ h) × AreActions f reply.actions.items (refused_deeds g f s h e r))
-
--- what a call tells of a disk: it has failed once more exactly where that is told. None tells that a step failed before
-pub record TellsOfDisk {K A : Type 0} (k : disk.Ghosts K) (old new : K) (answer : Result A NodeFault) : Type 0 where
-  pub device : IsErrOf answer step_fault.Device → k.failed new ≡ counted false (k.failed old)
-  pub no_device : IfErr answer (λ why. why ≢ step_fault.Device → k.failed new ≡ k.failed old)
-  pub no_fault : OnOk answer (k.failed new ≡ k.failed old)
-  pub not_failed : ¬ IsErrOf answer step_fault.Failed
+use Rattle.simplex_core.specs.declared.node_core.Core.{Core}
+use Rattle.simplex_core.specs.Keeps.{CoreKeeps, disk_of}
 
 module _ {S L D P G C K : Type 0} (g : Ghosts S D P G C) (e : elector.Ghosts L S D P G C) (k : disk.Ghosts K) (f : Formats S D P G C) (s : Setup S D C) where
   -- an event was answered, with all that is due behind it: the node made a step, a crash at any moment leaves a point of it, and what
   -- needs neither memory nor the disk was told where it is the first reason
-  pub record IsAnsweredWhole (old new : Node S L D K P G C) (h : History S D P G C) (event : Event D) (answer : Result (Reply S D P G C) NodeFault) : Type 0 where
-    pub ok : IfOk answer (λ reply. (end : History S D P G C) × Steps g f s h event reply end × NodeKeeps g e k f s new end)
+  pub record IsAnsweredWhole (old new : Core S L D K P G C) (h : History S D P G C) (event : Event D) (answer : Result (Reply S D P G C) NodeFault) : Type 0 where
+    pub ok : IfOk answer (λ reply. (end : History S D P G C) × Steps g f s h event reply end × CoreKeeps g e k f s new end)
     pub any_moment : k.keeps → LeavesOnly (k.calls (disk_of old)) (k.calls (disk_of new)) (IsReached g f s h event)
     pub without_memory : (r : Refusal) → IsFirst (tests g f s h event) (Some r) → needs_nothing r ≡ true → IsOk answer
 
   -- behind a reply by which the node came from one history to another it goes on until nothing is due. A crash at any moment leaves a
   -- point of the whole step
-  pub record GoesOn (old new : Node S L D K P G C) (h mid : History S D P G C) (event : Event D) (answer : Result (Reply S D P G C) NodeFault) : Type 0 where
-    pub ok : IfOk answer (λ reply. (end : History S D P G C) × Steps g f s h event reply end × NodeKeeps g e k f s new end)
+  pub record GoesOn (old new : Core S L D K P G C) (h mid : History S D P G C) (event : Event D) (answer : Result (Reply S D P G C) NodeFault) : Type 0 where
+    pub ok : IfOk answer (λ reply. (end : History S D P G C) × Steps g f s h event reply end × CoreKeeps g e k f s new end)
     pub any_moment : k.keeps → LeavesOnly (k.calls (disk_of old)) (k.calls (disk_of new)) (IsReached g f s h event)
-
-  -- an event was answered: the node made a step, a crash at any moment leaves a point of it, and what needs neither memory nor the disk was
-  -- told where it is the first reason
-  pub record IsAnswered (old new : Node S L D K P G C) (h : History S D P G C) (event : Event D) (answer : Result (Reply S D P G C) NodeFault) : Type 0 where
-    pub ok : IfOk answer (λ reply. (end : History S D P G C) × StepsAtOnce g f s h event reply end × NodeKeeps g e k f s new end)
-    pub any_moment : k.keeps → LeavesOnly (k.calls (disk_of old)) (k.calls (disk_of new)) (IsReached g f s h event)
-    pub without_memory : (r : Refusal) → IsFirst (tests g f s h event) (Some r) → needs_nothing r ≡ true → IsOk answer

@@ -1,158 +1,56 @@
-//! What the application answers: what it built, and whether a proposal is good.
+//! The answer to an event, with all that is due behind it.
 
-ghost use Rattle.std.specs.Prelude.{◌≡◌, ◌≢◌, List, None, Some, IfErr, OnOk};
-ghost use Rattle.simplex_voter.specs.State as voting;
-ghost use Rattle.simplex_member.specs.declared.action.Action.{Action};
-ghost use Rattle.simplex_member.specs.declared.event.Event.TheVariants as event;
-ghost use Rattle.simplex_member.specs.declared.fault.NodeFault.TheVariants as step_fault;
-ghost use Rattle.simplex_member.specs.Asked.{build_at, check_at};
-ghost use Rattle.simplex_member.specs.Layers.{voter_of};
-ghost use Rattle.simplex_member.specs.Packet.{Formats, formats};
+ghost use Rattle.std.specs.Prelude.{IsOk, IsSome};
+ghost use Rattle.simplex_member.specs.declared.event.Event.{Event};
+ghost use Rattle.simplex_member.specs.Packet.{formats};
 ghost use Rattle.simplex_member.specs.Point.{History};
-ghost use Rattle.simplex_member.specs.Setup.{Setup};
-ghost use Rattle.simplex_recording.specs.Tables.{build_parts};
-ghost use Rattle.simplex_node.specs.Answering.{TakesAnswer, TakesEvent};
-ghost use Rattle.simplex_node.specs.Keeps.{AtOwn, disk_of};
+ghost use Rattle.simplex_core.specs.Keeps.{AtOwn, disk_of};
+ghost use Rattle.simplex_core.specs.Telling.{TellsOfDisk};
+ghost use Rattle.simplex_taking.specs.Stepping.{StepsAtOnce};
+ghost use Rattle.simplex_node.specs.Stepping.{GoesOn, IsAnsweredWhole};
 
-use crate::node::Node;
-use simplex_acceptance::silent_points_leave_votes;
-use simplex_exchange::{hand_out, own_plan};
-use simplex_history::TimeoutReason;
+use simplex_acting::settle;
+use simplex_core::Core;
 use simplex_journal::Disk;
-use simplex_member::{Action, NodeFault};
-use simplex_recording::Building;
+use simplex_member::{Event, NodeFault, Reply};
+use simplex_recording::a_ledger_at_rest_leaves_its_record;
 use simplex_rules::Elector;
-use simplex_types::{Digest, Scheme, View};
-use simplex_voter::State as Voter;
+use simplex_taking::answer;
+use simplex_types::{Digest, Scheme};
 
-/// Tells the voter what was found of the proposal of a view.
-///
-/// # Errors
-///
-/// [`NodeFault::Memory`].
-fn tell_answer<S: Scheme<D> + Drop, L: Elector<S, D>, D: Digest>(
-    now: u64,
-    view: View,
-    answer: Option<bool>,
-    voter: &mut Voter<S, L, D>,
-) -> Result<(), NodeFault>
-    ensures told { OnOk result ((f : Formats S D S.PublicKey S.Signature S.Certificate) (s : Setup S D S.Certificate) (h : History S D S.PublicKey S.Signature S.Certificate) → voting.Keeps S.Scheme L.Elector s.voter voter.old (voter_of s h) → TakesAnswer S.Scheme L.Elector f s voter.new h now view answer) }
-    ensures fault { IfErr result (λ why. why ≡ step_fault.Memory) }
+/// The reply to an event, of a node of which no step has failed, with all that is due behind it.
+pub(crate) fn answer_whole<S: Scheme<D> + Drop, L: Elector<S, D>, D: Digest, K: Disk>(
+    core: &mut Core<S, L, D, K>,
+    event: Event<D>,
+) -> Result<Reply<S, D>, NodeFault>
+    ensures answered { AtOwn S.Scheme L.Elector K.Disk (formats D.PartialEq.eq D.spelling S.Signature.spelling S.Certificate.spelling D.reading S.Signature.reading S.Certificate.reading) core.old (λ f s h. IsAnsweredWhole S.Scheme L.Elector K.Disk f s core.old core.new h event result) }
+    ensures faults { TellsOfDisk K.Disk (disk_of core.old) (disk_of core.new) result }
 {
-    match answer {
-        Some(true) => match voter.verified(view) {
-            Ok(_) => Ok(()),
-            Err(_) => Err(NodeFault::Memory),
-        },
-        Some(false) => match voter.verification_failed(now, view, TimeoutReason::InvalidProposal) {
-            Ok(_) => Ok(()),
-            Err(_) => Err(NodeFault::Memory),
-        },
-        None => match voter.verification_failed(now, view, TimeoutReason::IgnoredProposal) {
-            Ok(_) => Ok(()),
-            Err(_) => Err(NodeFault::Memory),
-        },
+    match answer(core, event) {
+        Ok(reply) => go_on(core, reply),
+        Err(fault) => Err(fault),
     }
 }
 
-impl<S: Scheme<D> + Drop, L: Elector<S, D>, D: Digest, K: Disk> Node<S, L, D, K> {
-    /// Takes what was built under a number that stands, or that nothing was.
-    ///
-    /// # Errors
-    ///
-    /// [`NodeFault::Memory`].
-    pub(crate) fn take_built(
-        &mut self,
-        number: u64,
-        payload: Option<D>,
-        out: &mut Vec<Action<S, D>>,
-    ) -> Result<(), NodeFault>
-        ensures taken { OnOk result (AtOwn S.Scheme L.Elector K.Disk (formats D.PartialEq.eq D.spelling S.Signature.spelling S.Certificate.spelling D.reading S.Signature.reading S.Certificate.reading) self.old (λ f s h. build_at h number ≢ None → TakesEvent S.Scheme L.Elector K.Disk f s self.new h (event.Built number payload) out.old.items out.new.items)) }
-        ensures disk { disk_of self.new ≡ disk_of self.old }
-        ensures fault { IfErr result (λ why. why ≡ step_fault.Memory) }
-    {
-        match self.tables.build(number) {
-            Some(building) => match payload {
-                Some(payload) => self.take_payload(number, building, payload, out),
-                None => self.take_no_payload(number, building),
-            },
-            None => Ok(()),
-        }
+/// Does all that is due behind an event that was taken; behind one that was refused nothing is.
+fn go_on<S: Scheme<D> + Drop, L: Elector<S, D>, D: Digest, K: Disk>(
+    core: &mut Core<S, L, D, K>,
+    reply: Reply<S, D>,
+) -> Result<Reply<S, D>, NodeFault>
+    ensures goes_on { AtOwn S.Scheme L.Elector K.Disk (formats D.PartialEq.eq D.spelling S.Signature.spelling S.Certificate.spelling D.reading S.Signature.reading S.Certificate.reading) core.old (λ f s mid. (h : History S D S.PublicKey S.Signature S.Certificate) (event : Event D) → StepsAtOnce S.Scheme f s h event reply mid → GoesOn S.Scheme L.Elector K.Disk f s core.old core.new h mid event result) }
+    ensures refused { IsSome reply.refused → IsOk result }
+    ensures faults { TellsOfDisk K.Disk (disk_of core.old) (disk_of core.new) result }
+{
+    a_ledger_at_rest_leaves_its_record::<S, D, K>();
+    let Reply {
+        refused,
+        mut actions,
+    } = reply;
+    if refused.is_some() {
+        return Ok(Reply { refused, actions });
     }
-
-    /// Takes the payload that was built under a number: where it is proposed, it is handed on.
-    fn take_payload(
-        &mut self,
-        number: u64,
-        building: Building<D, S::PublicKey>,
-        payload: D,
-        out: &mut Vec<Action<S, D>>,
-    ) -> Result<(), NodeFault>
-        ensures taken { OnOk result (AtOwn S.Scheme L.Elector K.Disk (formats D.PartialEq.eq D.spelling S.Signature.spelling S.Certificate.spelling D.reading S.Signature.reading S.Certificate.reading) self.old (λ f s h. build_at h number ≡ Some (build_parts building) → TakesEvent S.Scheme L.Elector K.Disk f s self.new h (event.Built number (Some payload)) out.old.items out.new.items)) }
-        ensures disk { disk_of self.new ≡ disk_of self.old }
-        ensures fault { IfErr result (λ why. why ≡ step_fault.Memory) }
-    {
-        silent_points_leave_votes::<S, D>();
-        let now = self.tables.moment();
-        let Ok(took) = self.voter.proposed(now, &building.context, payload) else {
-            return Err(NodeFault::Memory);
-        };
-        self.tables.end_build(number);
-        if !took {
-            return Ok(());
-        }
-        let plan = own_plan(building.handoff, building.context.round);
-        hand_out(Action::Forward { payload, plan }, out)
-    }
-
-    /// Takes it that nothing was built under a number: a reason to give its view up.
-    fn take_no_payload(
-        &mut self,
-        number: u64,
-        building: Building<D, S::PublicKey>,
-    ) -> Result<(), NodeFault>
-        ensures taken { OnOk result (AtOwn S.Scheme L.Elector K.Disk (formats D.PartialEq.eq D.spelling S.Signature.spelling S.Certificate.spelling D.reading S.Signature.reading S.Certificate.reading) self.old (λ f s h. build_at h number ≡ Some (build_parts building) → (actions : List (Action S D S.PublicKey S.Signature S.Certificate)) → TakesEvent S.Scheme L.Elector K.Disk f s self.new h (event.Built number None) actions actions)) }
-        ensures disk { disk_of self.new ≡ disk_of self.old }
-        ensures fault { IfErr result (λ why. why ≡ step_fault.Memory) }
-    {
-        silent_points_leave_votes::<S, D>();
-        let now = self.tables.moment();
-        let view = building.context.round.view;
-        match self
-            .voter
-            .trigger_timeout(now, view, TimeoutReason::MissingProposal)
-        {
-            Ok(_) => {}
-            Err(_) => return Err(NodeFault::Memory),
-        }
-        self.tables.end_build(number);
-        Ok(())
-    }
-
-    /// Takes what was found of the proposal that was to be verified under a number that stands.
-    ///
-    /// # Errors
-    ///
-    /// [`NodeFault::Memory`].
-    pub(crate) fn take_checked(
-        &mut self,
-        number: u64,
-        answer: Option<bool>,
-    ) -> Result<(), NodeFault>
-        ensures taken { OnOk result (AtOwn S.Scheme L.Elector K.Disk (formats D.PartialEq.eq D.spelling S.Signature.spelling S.Certificate.spelling D.reading S.Signature.reading S.Certificate.reading) self.old (λ f s h. check_at h number ≢ None → (actions : List (Action S D S.PublicKey S.Signature S.Certificate)) → TakesEvent S.Scheme L.Elector K.Disk f s self.new h (event.Checked number answer) actions actions)) }
-        ensures disk { disk_of self.new ≡ disk_of self.old }
-        ensures fault { IfErr result (λ why. why ≡ step_fault.Memory) }
-    {
-        silent_points_leave_votes::<S, D>();
-        let Some(view) = self.tables.check(number) else {
-            return Ok(());
-        };
-        let now = self.tables.moment();
-        match tell_answer(now, view, answer, &mut self.voter) {
-            Ok(()) => {}
-            Err(fault) => return Err(fault),
-        }
-        self.tables.end_check(number);
-        Ok(())
+    match settle(core, &mut actions) {
+        Ok(()) => Ok(Reply { refused, actions }),
+        Err(fault) => Err(fault),
     }
 }

@@ -4,24 +4,15 @@ ghost use Rattle.std.specs.Prelude.{◌≡◌, false};
 ghost use Rattle.simplex_member.specs.Layers.{current_of, finalized_of};
 ghost use Rattle.simplex_node.specs.Keeps.{AtAll, disk_of, has_failed};
 
-use simplex_acceptance::Acceptance;
+use simplex_core::Core;
 use simplex_journal::Disk;
-use simplex_recalling::Settings;
-use simplex_recording::{Ledger, Tables};
-use simplex_resolver::State as Repair;
 use simplex_rules::Elector;
 use simplex_types::{Digest, Scheme, View};
-use simplex_voter::State as Voter;
 
 /// One member of a committee: what it knows, which votes it accepted, what it recorded on its disk, and what it asked for.
 #[derive(Drop)]
 pub struct Node<S: Scheme<D>, L: Elector<S, D>, D: Digest, K: Disk> {
-    pub(crate) settings: Settings<S>,
-    pub(crate) voter: Voter<S, L, D>,
-    pub(crate) acceptance: Acceptance<S, D>,
-    pub(crate) repair: Repair,
-    pub(crate) ledger: Ledger<S, D, K>,
-    pub(crate) tables: Tables<S, D>,
+    pub(crate) core: Core<S, L, D, K>,
     pub(crate) failed: bool,
 }
 
@@ -30,14 +21,14 @@ impl<S: Scheme<D> + Drop, L: Elector<S, D>, D: Digest, K: Disk> Node<S, L, D, K>
     pub fn current_view(&self) -> View
         ensures { AtAll S.Scheme L.Elector K.Disk self.now (λ f s h. result ≡ current_of s h) }
     {
-        self.voter.current_view()
+        self.core.voter.current_view()
     }
 
     /// The last finalized view, or 0.
     pub fn last_finalized(&self) -> View
         ensures { AtAll S.Scheme L.Elector K.Disk self.now (λ f s h. result ≡ finalized_of s h) }
     {
-        self.voter.last_finalized()
+        self.core.voter.last_finalized()
     }
 
     /// Whether a step has failed. Then the record has to be opened again.
@@ -52,6 +43,7 @@ impl<S: Scheme<D> + Drop, L: Elector<S, D>, D: Digest, K: Disk> Node<S, L, D, K>
     pub fn close(self) -> K
         ensures { result ≡ disk_of self }
     {
-        self.ledger.close()
+        let core = self.core;
+        core.ledger.close()
     }
 }

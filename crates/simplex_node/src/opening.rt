@@ -13,12 +13,14 @@ ghost use Rattle.simplex_member.specs.First.{IsFirst};
 ghost use Rattle.simplex_member.specs.Packet.{formats};
 ghost use Rattle.simplex_member.specs.Setup.{Setup, IsInTime, owner_of, setup_of, silence_of};
 ghost use Rattle.simplex_recalling.specs.SettingUp.{IsSetUp};
-ghost use Rattle.simplex_node.specs.Acting.{IsLeftByActs};
+ghost use Rattle.simplex_acting.specs.Acting.{IsLeftByActs};
 ghost use Rattle.simplex_node.specs.Keeps.{AtOwn, disk_of};
 ghost use Rattle.simplex_node.specs.Opening.{IsOpen, IsOpenAndSettled, MayBeLeftOpen, early, open_tests};
 
 use crate::node::Node;
+use simplex_acting::settle;
 use simplex_certificates::Artifact;
+use simplex_core::Core;
 use simplex_decisions::config::{Config, SkipPolicy, check_config};
 use simplex_journal::{Disk, a_disk_reads_as_one_record};
 use simplex_member::{Action, NodeFault, OpenFault};
@@ -119,7 +121,7 @@ fn begin<S: Scheme<D> + Drop, L: Elector<S, D>, D: Digest, K: Disk>(
 {
     let mut node = node;
     let mut actions = actions;
-    match node.settle(&mut actions) {
+    match settle(&mut node.core, &mut actions) {
         Ok(()) => Ok((node, actions)),
         Err(fault) => Err((not_begun(fault), node.close())),
     }
@@ -142,7 +144,7 @@ fn node_of<S: Scheme<D> + Drop, L: Elector<S, D>, D: Digest, K: Disk>(
     layers: Layers<S, L, D>,
     ledger: Ledger<S, D, K>,
 ) -> Node<S, L, D, K>
-    ensures { result ≡ record { settings = settings; voter = layers.voter; acceptance = layers.acceptance; repair = layers.repair; ledger = ledger; tables = layers.tables; failed = false } }
+    ensures { result ≡ record { core = record { settings = settings; voter = layers.voter; acceptance = layers.acceptance; repair = layers.repair; ledger = ledger; tables = layers.tables }; failed = false } }
 {
     let Layers {
         voter,
@@ -150,13 +152,16 @@ fn node_of<S: Scheme<D> + Drop, L: Elector<S, D>, D: Digest, K: Disk>(
         repair,
         tables,
     } = layers;
-    Node {
+    let core = Core {
         settings,
         voter,
         acceptance,
         repair,
         ledger,
         tables,
+    };
+    Node {
+        core,
         failed: false,
     }
 }

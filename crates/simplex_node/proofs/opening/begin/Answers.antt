@@ -10,7 +10,7 @@ returns-in-Ok-clause-opened g c = λ n s on now size.
     (λ h k. (c.in-Ok.ensures.settled s h k).ok)
 
 pub returns-in-Ok-clause-any_moment : goal.returns-in-Ok-clause-any_moment
-returns-in-Ok-clause-any_moment g c = λ s h k. (c.in-Ok.ensures.settled s h k).any_moment
+returns-in-Ok-clause-any_moment g c = λ s h k. (c.in-Ok.ensures.settled s h k.core).any_moment
 
 -- where what was due was not done, the disk is given back as it was left
 pub returns-in-Err-clause-memory : goal.returns-in-Err-clause-memory
@@ -23,4 +23,4 @@ pub returns-in-Err-clause-no_device : goal.returns-in-Err-clause-no_device
 returns-in-Err-clause-no_device g c = λ isnt. ap g.K.Disk.failed c.close.ensures ∙ c.in-Err.ensures.faults.no_device (λ it. isnt (c.not_begun.ensures.device.1 it))
 
 pub returns-in-Err-clause-any_moment_of_a_fault : goal.returns-in-Err-clause-any_moment_of_a_fault
-returns-in-Err-clause-any_moment_of_a_fault g c = λ s h k keeps. stays ((c.in-Err.ensures.settled s h k).any_moment keeps) (ap g.K.Disk.calls c.close.ensures)
+returns-in-Err-clause-any_moment_of_a_fault g c = λ s h k keeps. stays ((c.in-Err.ensures.settled s h k.core).any_moment keeps) (ap g.K.Disk.calls c.close.ensures)

@@ -1,0 +1,250 @@
+//! The member of a script, whatever its scheme, whoever leads, and on whatever disk: at one of each the calls would cost
+//! the prover several times as much.
+
+ghost use Rattle.std.specs.Prelude.{◌≡◌, IfOk};
+
+use crate::faults::{say_fault, say_io_fault, say_open_fault};
+use crate::medium::Medium;
+use crate::setup::Setup;
+use crate::turns::Turns;
+use script_words::{Committee, Say, Trouble, Words};
+use simplex_events::{read_event, write_reply};
+use simplex_member::{Action, Event, Reply};
+use simplex_node::Node;
+use simplex_running::run_io;
+use simplex_types::{CodecError, Scheme, Sha256Digest};
+use std::alloc::Global;
+use std::rc::Rc;
+
+/// A member with its disk, which the node has while it is open.
+#[derive(Drop)]
+pub(crate) struct Member<S: Committee, L: Turns<S>, K: Medium> {
+    setup: Setup,
+    disk: Option<K>,
+    node: Option<Node<S, L, Sha256Digest, K>>,
+}
+
+/// Says the bytes that spell a reply.
+fn say_reply<S: Committee>(reply: &Reply<S, Sha256Digest>, say: &mut Say) -> Result<(), Trouble> {
+    let mut bytes = Vec::new(say.alloc);
+    write_reply(&mut bytes, reply)?;
+    say.bytes(&bytes)
+}
+
+/// Says actions as a reply.
+fn say_actions<S: Committee>(
+    actions: Vec<Action<S, Sha256Digest>>,
+    say: &mut Say,
+) -> Result<(), Trouble> {
+    let reply = Reply {
+        refused: None,
+        actions,
+    };
+    say_reply(&reply, say)
+}
+
+/// The event that the bytes spell, none of them left, in a committee of so many.
+fn event_of(alloc: Global, bytes: &[u8], members: u32) -> Result<Event<Sha256Digest>, Trouble> {
+    let mut rest = bytes;
+    match read_event(alloc, &mut rest, members) {
+        Ok(event) if rest.is_empty() => Ok(event),
+        Err(CodecError::Memory) => Err(Trouble::Memory),
+        _ => Err(Trouble::Unreadable),
+    }
+}
+
+impl<S: Committee, L: Turns<S>, K: Medium> Member<S, L, K> {
+    /// A member that is set up so, with an empty disk. A committee that can't be is `condition`.
+    pub(crate) fn new(alloc: Global, setup: Setup) -> Result<Self, Trouble> {
+        S::member_of(alloc, setup.members, setup.me, 0)?;
+        Ok(Member {
+            setup,
+            disk: Some(K::holding(alloc, &[])?),
+            node: None,
+        })
+    }
+
+    /// Closes the node that is open.
+    fn close(&mut self) {
+        if let Some(node) = self.node.take() {
+            self.disk = Some(node.close());
+        }
+    }
+
+    /// The disk, where no node is open on it.
+    fn disk(&mut self) -> Result<&mut K, Trouble> {
+        match &mut self.disk {
+            Some(disk) => Ok(disk),
+            None => Err(Trouble::Condition),
+        }
+    }
+
+    /// The node that is open.
+    fn node(&mut self) -> Result<&mut Node<S, L, Sha256Digest, K>, Trouble> {
+        match &mut self.node {
+            Some(node) => Ok(node),
+            None => Err(Trouble::Condition),
+        }
+    }
+
+    /// `open NOW`.
+    fn open(&mut self, words: &mut Words<'_>, say: &mut Say) -> Result<(), Trouble> {
+        let now = words.number()?;
+        words.end()?;
+        self.close();
+        let scheme = S::member_of(say.alloc, self.setup.members, self.setup.me, 0)?;
+        let elector = L::among(say.alloc, &self.setup, scheme.participants())?;
+        self.open_with(Rc::new(say.alloc, scheme)?, elector, now, say)
+    }
+
+    /// Opens the disk as this member.
+    fn open_with(
+        &mut self,
+        scheme: Rc<S>,
+        elector: L,
+        now: u64,
+        say: &mut Say,
+    ) -> Result<(), Trouble>
+        requires { L.built_for elector (S.size scheme.value) }
+    {
+        let Some(disk) = self.disk.take() else {
+            return Err(Trouble::Condition);
+        };
+        match Node::open(say.alloc, self.setup.config(), scheme, elector, disk, now) {
+            Ok((node, actions)) => {
+                self.node = Some(node);
+                say_actions(actions, say)
+            }
+            Err((fault, disk)) => {
+                self.disk = Some(disk);
+                say_open_fault(fault, say)
+            }
+        }
+    }
+
+    /// What the node that is open answers to an event.
+    fn step(&mut self, bytes: &[u8], say: &mut Say) -> Result<(), Trouble> {
+        let event = event_of(say.alloc, bytes, self.setup.members)?;
+        match self.node()?.step(event) {
+            Ok(reply) => say_reply(&reply, say),
+            Err(fault) => say_fault(fault, say),
+        }
+    }
+
+    /// `event EVENT`.
+    fn event(&mut self, words: &mut Words<'_>, say: &mut Say) -> Result<(), Trouble> {
+        let bytes = words.bytes(say.alloc)?;
+        words.end()?;
+        self.step(&bytes, say)
+    }
+
+    /// `times COUNT event EVENT`: what is answered each time where that is the same, else `changes`.
+    fn times(&mut self, words: &mut Words<'_>, say: &mut Say) -> Result<(), Trouble> {
+        let count = words.index()?;
+        if words.word() != "event" {
+            return Err(Trouble::Unreadable);
+        }
+        let bytes = words.bytes(say.alloc)?;
+        words.end()?;
+        self.step(&bytes, say)?;
+        if self.answers_so(&bytes, count, say)? {
+            return Ok(());
+        }
+        say.clear();
+        say.text("changes")
+    }
+
+    /// Whether an event that has come once is answered as was said each time until it has come so often.
+    fn answers_so(&mut self, bytes: &[u8], count: u32, said: &Say) -> Result<bool, Trouble> {
+        let mut say = Say::new(said.alloc);
+        for _ in 1..count {
+            say.clear();
+            self.step(bytes, &mut say)?;
+            if say.line() != said.line() {
+                return Ok(false);
+            }
+        }
+        Ok(true)
+    }
+
+    /// `stream EVENTS`: the replies, one behind the other, and behind them why that ended before the events did.
+    fn stream(&mut self, words: &mut Words<'_>, say: &mut Say) -> Result<(), Trouble> {
+        let bytes = words.bytes(say.alloc)?;
+        words.end()?;
+        let mut reader: &[u8] = &bytes;
+        let mut written = Vec::new(say.alloc);
+        let ran = run_io(say.alloc, self.node()?, &mut reader, &mut written);
+        say.bytes(&written)?;
+        match ran {
+            Ok(()) => Ok(()),
+            Err(fault) => say_io_fault(fault, say),
+        }
+    }
+
+    /// `disk BYTES`.
+    fn put_disk(&mut self, words: &mut Words<'_>, say: &mut Say) -> Result<(), Trouble> {
+        let bytes = words.bytes(say.alloc)?;
+        words.end()?;
+        self.close();
+        self.disk = Some(K::holding(say.alloc, &bytes)?);
+        say.ok()
+    }
+
+    /// `bytes`.
+    fn bytes(&mut self, words: &Words<'_>, say: &mut Say) -> Result<(), Trouble> {
+        words.end()?;
+        self.close();
+        say.bytes(self.disk()?.image())
+    }
+
+    /// `fuse CALLS`, `fail_at CALLS`: of this name.
+    fn fail(&mut self, name: &str, words: &mut Words<'_>, say: &mut Say) -> Result<(), Trouble> {
+        let calls = words.number()?;
+        words.end()?;
+        let disk = self.disk()?;
+        if name == "fuse" {
+            disk.fuse(calls);
+        } else {
+            disk.fail_at(calls);
+        }
+        say.ok()
+    }
+
+    /// Makes the call of this name.
+    pub(crate) fn answer(
+        &mut self,
+        name: &str,
+        words: &mut Words<'_>,
+        say: &mut Say,
+    ) -> Result<(), Trouble> {
+        match name {
+            "open" => self.open(words, say),
+            "event" => self.event(words, say),
+            "times" => self.times(words, say),
+            "stream" => self.stream(words, say),
+            "disk" | "bytes" | "fuse" | "fail_at" => self.hold(name, words, say),
+            _ => self.ask(name, words, say),
+        }
+    }
+
+    /// The calls on the disk.
+    fn hold(&mut self, name: &str, words: &mut Words<'_>, say: &mut Say) -> Result<(), Trouble> {
+        match name {
+            "disk" => self.put_disk(words, say),
+            "bytes" => self.bytes(words, say),
+            _ => self.fail(name, words, say),
+        }
+    }
+
+    /// What the node that is open tells of itself.
+    fn ask(&mut self, name: &str, words: &Words<'_>, say: &mut Say) -> Result<(), Trouble> {
+        words.end()?;
+        let node = self.node()?;
+        match name {
+            "current_view" => say.view(node.current_view()),
+            "last_finalized" => say.view(node.last_finalized()),
+            "is_failed" => say.truth(node.is_failed()),
+            _ => Err(Trouble::Unreadable),
+        }
+    }
+}

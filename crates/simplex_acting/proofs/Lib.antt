@@ -1,0 +1,6 @@
+mod Lasting
+mod Looking
+mod Trying
+mod Making
+mod Casting
+mod Settling

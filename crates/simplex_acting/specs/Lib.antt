@@ -1,0 +1,4 @@
+pub mod Acting
+pub mod Ahead
+pub mod NoneDue
+pub mod ActsBehind

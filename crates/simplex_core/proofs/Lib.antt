@@ -1,0 +1,2 @@
+mod Certifying
+mod Recipients

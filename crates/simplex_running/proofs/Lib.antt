@@ -1,0 +1,5 @@
+pub mod Answered
+pub mod Passing
+pub mod Streamed
+pub mod Taking
+pub mod Written

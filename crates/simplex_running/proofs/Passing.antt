@@ -1,0 +1,53 @@
+-- A run goes on by one step, and so does what a crash meanwhile leaves.
+use Rattle.std.proofs.Common.{inl, inr, ℕ, List, [], ◌∷◌, ◌++◌, refl, ap, ◌∙◌, subst, append_assoc}
+use Rattle.simplex_types.specs.declared.scheme.Scheme.{Ghosts}
+use Rattle.simplex_journal.specs.Disk.{Call, LeavesOnly}
+use Rattle.simplex_journal.specs.Moments.{and_then, weaker}
+use Rattle.simplex_member.specs.declared.action.Reply.{Reply}
+use Rattle.simplex_member.specs.declared.event.Event.{Event}
+use Rattle.simplex_member.specs.Member.{IsReached, Run, Steps}
+use Rattle.simplex_member.specs.Packet.{Formats}
+use Rattle.simplex_member.specs.Point.{History}
+use Rattle.simplex_member.specs.Setup.{Setup}
+use Rattle.simplex_running.specs.Running.{IsPassed, LeavesAtMost}
+
+module _ {S D P G C : Type 0} (g : Ghosts S D P G C) (f : Formats S D P G C) (s : Setup S D C) where
+  -- one step more
+  pub run_on : (events : List (Event D)) (replies : List (Reply S D P G C)) (h mid end : History S D P G C) (e : Event D) (reply : Reply S D P G C)
+      → Run g f s h events replies mid → Steps g f s mid e reply end → Run g f s h (events ++ e ∷ []) (replies ++ reply ∷ []) end
+  run_on [] [] h mid end e reply same step = (end, subst (λ (x : History S D P G C). Steps g f s x e reply end) same step, refl)
+  run_on [] (r ∷ replies) h mid end e reply run step = absurd run
+  run_on (x ∷ events) [] h mid end e reply run step = absurd run
+  run_on (x ∷ events) (r ∷ replies) h mid end e reply run step = (run.0, run.1, run_on events replies run.0 mid end e reply run.2 step)
+
+  -- what the steps over some events may leave, the steps over more may leave
+  pub passed_more : (h : History S D P G C) (events more : List (Event D)) (image : List ℕ) → IsPassed g f s h events image → IsPassed g f s h (events ++ more) image
+  passed_more h events more image p = record {
+    before = p.before;
+    event = p.event;
+    behind = p.behind ++ more;
+    split = ap (λ (l : List (Event D)). l ++ more) p.split ∙ append_assoc p.before (p.event ∷ p.behind) more;
+    replies = p.replies;
+    mid = p.mid;
+    run = p.run;
+    reached = p.reached;
+  }
+
+  -- so what the step over the last of them may leave
+  pub passed_last : (h mid : History S D P G C) (events : List (Event D)) (replies : List (Reply S D P G C)) (e : Event D) (image : List ℕ)
+      → Run g f s h events replies mid → IsReached g f s mid e image → IsPassed g f s h (events ++ e ∷ []) image
+  passed_last h mid events replies e image run reached = record { before = events; event = e; behind = []; split = refl; replies = replies; mid = mid; run = run; reached = reached }
+
+  -- a crash at any moment of some steps, and of one more
+  pub leaves_on : (h mid : History S D P G C) (events : List (Event D)) (replies : List (Reply S D P G C)) (e : Event D) (old now new : List Call)
+      → Run g f s h events replies mid → LeavesAtMost old now (IsPassed g f s h events) → LeavesOnly now new (IsReached g f s mid e) → LeavesAtMost old new (IsPassed g f s h (events ++ e ∷ []))
+  leaves_on h mid events replies e old now new run (inl same) step =
+      inr (subst (λ (l : List Call). LeavesOnly l new (IsPassed g f s h (events ++ e ∷ []))) same (weaker (IsPassed g f s h (events ++ e ∷ [])) step (λ image reached. passed_last h mid events replies e image run reached)))
+  leaves_on h mid events replies e old now new run (inr left) step =
+      inr (and_then (weaker (IsPassed g f s h (events ++ e ∷ [])) left (λ image passed. passed_more h events (e ∷ []) image passed))
+      (weaker (IsPassed g f s h (events ++ e ∷ [])) step (λ image reached. passed_last h mid events replies e image run reached)))
+
+  -- a crash at any moment of the steps over some events, in the words of more events
+  pub leaves_more : (h : History S D P G C) (events more : List (Event D)) (old new : List Call) → LeavesAtMost old new (IsPassed g f s h events) → LeavesAtMost old new (IsPassed g f s h (events ++ more))
+  leaves_more h events more old new (inl same) = inl same
+  leaves_more h events more old new (inr left) = inr (weaker (IsPassed g f s h (events ++ more)) left (λ image passed. passed_more h events more image passed))

@@ -1,0 +1,6 @@
+pub mod Refusing
+pub mod Deciding
+pub mod Hearing
+pub mod Answering
+pub mod Verdicts
+pub mod Stepping

@@ -1,0 +1,15 @@
+//! How a node refuses an event, or takes it.
+#![tactic(auto)]
+
+mod answering;
+mod certificates;
+mod deciding;
+mod hearing;
+mod receiving;
+mod refusing;
+mod serving;
+mod stepping;
+mod telling;
+mod verdicts;
+
+pub use stepping::answer;
