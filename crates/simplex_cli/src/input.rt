@@ -31,7 +31,7 @@ const PIECE: usize = 65_536;
 const MOST_READS: u64 = 4_294_967_296;
 
 /// All the bytes that the reader has left. After an error it is not said where the reader stands.
-pub(crate) fn read_all<R: Read>(alloc: Global, reader: &mut R) -> Result<Vec<u8>, InputError>
+pub fn read_all<R: Read>(alloc: Global, reader: &mut R) -> Result<Vec<u8>, InputError>
     ensures whole { IfOk result (λ all. IfSome (R.remaining reader.old) (λ bytes. all.items ≡ bytes)) }
     ensures at_end { OnOk result (IsAtEnd (R.remaining reader.new)) }
 {

@@ -14,7 +14,7 @@ const MOST_WRITES: u64 = 4_294_967_296;
 /// nothing.
 ///
 /// A write that is interrupted is tried again.
-pub(crate) fn write_whole<W: Write>(writer: &mut W, bytes: &[u8]) -> io::Result<()>
+pub fn write_whole<W: Write>(writer: &mut W, bytes: &[u8]) -> io::Result<()>
     ensures whole { OnOk result (Appends (W.contents writer.old) (W.contents writer.new) bytes.now) }
     ensures front { AppendsFront (W.contents writer.old) (W.contents writer.new) bytes.now }
 {

@@ -1,0 +1,117 @@
+-- What is answered to a request about these bytes, and which place is named.
+use Rattle.std.specs.Prelude.{◌≡◌, ◌⊎◌, ℕ, List, [], ◌++◌, length, map, All, codes, Option, None, Some, ⊤}
+use Rattle.std.specs.Option.{option_map_or}
+use Rattle.std.specs.List.{flat_map}
+use Rattle.std.specs.Fmt.{decimal}
+use Rattle.std.specs.Io.KnownBytes.{Appends}
+use Rattle.simplex_codec.specs.Codec.{Readable}
+use Rattle.simplex_types.specs.declared.attestation.Attestation.{Attestation}
+use Rattle.simplex_types.specs.AttestationList.{list_fits, list_within, list_spelling}
+use Rattle.simplex_types.specs.Plain.{Committee, Attests}
+use Rattle.simplex_types.specs.Quorum.{IsQuorum}
+use Rattle.simplex_types.specs.Subject.{Statement}
+use Rattle.simplex_certificates.specs.declared.artifact.Artifact.{Artifact}
+use Rattle.simplex_certificates.specs.Artifact.{artifact_fits, artifact_within, artifact_spelling}
+use Rattle.simplex_audit.specs.Audit.{IsRead}
+use Rattle.simplex_cli.specs.Running.{AppendsFront, Report, IsReport, IsPlainAudit, report_at, report_spelling}
+use Rattle.simplex_journal.specs.Record.{IsFound, IsForeign}
+use Rattle.simplex_record.specs.declared.owner.Owner.{Owner}
+use Rattle.simplex_record.specs.Lawful.{IsLawful, IsRefusedAt}
+use Rattle.simplex_tooling.specs.declared.command.Call.{Call}
+use Rattle.simplex_tooling.specs.declared.command.Request.{Request}
+use Rattle.simplex_tooling.specs.declared.command.Request.TheVariants as request
+use Rattle.simplex_tooling.specs.declared.style.Style.{Style}
+use Rattle.simplex_tooling.specs.Command.{help_text, version_line}
+use Rattle.simplex_tooling.specs.Lines.{artifact_line, report_line}
+use Rattle.simplex_tooling.specs.Parts.{kind_words, field, line_end, place_line}
+
+-- entries of a record under the plain scheme, which can be read whatever the committee's size
+abbrev pub Entry : Type 0
+Entry = Artifact Committee (List ℕ) ℕ (List ℕ) (List (Attestation (List ℕ)))
+
+abbrev pub IsEntry : Entry → Type 0
+IsEntry = Readable (artifact_fits (λ d. length d ≡ 32) (λ s. length s ≡ 32) (list_fits (λ s. length s ≡ 32))) (artifact_within (list_within 65535))
+
+abbrev pub entry_spelling : Entry → List ℕ
+entry_spelling = artifact_spelling (λ d. d) (λ s. s) (list_spelling (λ s. s))
+
+-- the evidence that an audit of these bytes finds, spelled as reports
+pub record IsEvidence (count : ℕ) (bytes : List ℕ) (written : List ℕ) (fault : Option ℕ) : Type 0 where
+  pub evidence : List Report
+  pub audit : IsPlainAudit count bytes evidence fault
+  pub written_is : written ≡ flat_map report_spelling evidence
+
+-- a line for each report that these bytes hold, and one for the place at which none stands, if there is one
+pub record AreReports (style : Style) (count : ℕ) (bytes : List ℕ) (text : List ℕ) (fault : Option ℕ) : Type 0 where
+  pub reports : List Report
+  pub read : IsRead (IsReport count) report_spelling (report_at count) bytes reports fault
+  pub text_is : text ≡ flat_map (report_line style) reports ++ option_map_or (place_line style (codes "fault")) fault []
+
+-- these bytes are the record of these entries
+pub record HoldsEntries (bytes : List ℕ) (artifacts : List Entry) : Type 0 where
+  pub fitting : All IsEntry artifacts
+  pub gate : ℕ
+  pub found : IsFound [] bytes gate (map entry_spelling artifacts)
+
+-- these bytes have a foreign entry at this place, and that is told
+abbrev pub IsForeignTold : Style → List ℕ → List ℕ → ℕ → Type 0
+IsForeignTold style bytes text place = IsForeign [] IsEntry entry_spelling bytes place × (text ≡ place_line style (codes "foreign") place)
+
+-- a line for each entry of the record, or where one is foreign its place alone
+abbrev pub IsRecordTold : Style → List ℕ → List ℕ → Option ℕ → Type 0
+IsRecordTold style bytes text None = (artifacts : List Entry) × HoldsEntries bytes artifacts × (text ≡ flat_map (artifact_line style) artifacts)
+IsRecordTold style bytes text (Some place) = IsForeignTold style bytes text place
+
+-- whose record it is: a member's of the program, in epoch 0 and terms of four views
+abbrev pub owner_of : ℕ → Owner
+owner_of index = record { epoch = 0; term_length = 4; signer = index }
+
+-- what attests and certifies in a committee of so many
+abbrev pub attests_in : ℕ → ℕ → Statement (List ℕ) → List ℕ → Type 0
+attests_in count = Attests (λ d. d) (codes "simplex") count
+
+abbrev pub certifies_in : ℕ → Statement (List ℕ) → List (Attestation (List ℕ)) → Type 0
+certifies_in count s listed = IsQuorum count (λ i a. attests_in count i s a) listed
+
+-- the line of a lawful record, with how many entries it has
+abbrev pub lawful_line : Style → ℕ → List ℕ
+lawful_line style entries = kind_words style (codes "lawful") ++ (field style (codes "entries") (decimal entries) ++ line_end style)
+
+-- the line of a record that isn't, with its first entry that may not stand there, counted from 0
+abbrev pub refused_line : Style → ℕ → List ℕ
+refused_line style entry = kind_words style (codes "refused") ++ (field style (codes "entry") (decimal entry) ++ line_end style)
+
+-- that this record of a member is lawful, or its first entry that may not stand there
+abbrev pub AreChecked : Style → ℕ → ℕ → List Entry → List ℕ → Option ℕ → Type 0
+AreChecked style index count artifacts text None = IsLawful (attests_in count) (certifies_in count) (owner_of index) artifacts × (text ≡ lawful_line style (length artifacts))
+AreChecked style index count artifacts text (Some entry) = IsRefusedAt (attests_in count) (certifies_in count) (owner_of index) artifacts entry × (text ≡ refused_line style entry)
+
+-- the same of the record that these bytes hold, or the place of its first foreign entry
+abbrev pub IsChecked : Style → ℕ → ℕ → List ℕ → List ℕ → Option ℕ → Type 0
+IsChecked style index count bytes text named = ((artifacts : List Entry) × HoldsEntries bytes artifacts × AreChecked style index count artifacts text named) ⊎ ((place : ℕ) × (named ≡ Some place) × IsForeignTold style bytes text place)
+
+-- what is answered to each request
+abbrev pub IsAnswerTo : Style → Request → List ℕ → List ℕ → Option ℕ → Type 0
+IsAnswerTo style (request.Evidence count) bytes text place = IsEvidence count bytes text place
+IsAnswerTo style (request.Reports count) bytes text place = AreReports style count bytes text place
+IsAnswerTo style (request.Record path) bytes text place = IsRecordTold style bytes text place
+IsAnswerTo style (request.Check index count path) bytes text place = IsChecked style index count bytes text place
+IsAnswerTo style request.Help bytes text place = (text ≡ help_text) × (place ≡ None)
+IsAnswerTo style request.Version bytes text place = (text ≡ version_line) × (place ≡ None)
+
+-- the request is about bytes
+abbrev pub NeedsInput : Request → Type 0
+NeedsInput (request.Evidence count) = ⊤
+NeedsInput (request.Reports count) = ⊤
+NeedsInput (request.Record path) = ⊤
+NeedsInput (request.Check index count path) = ⊤
+NeedsInput request.Help = ⊥
+NeedsInput request.Version = ⊥
+
+-- the answer to a call about these bytes was written
+abbrev pub AnswersOver : Call → List ℕ → Option ℕ → Option (List ℕ) → Option (List ℕ) → Type 0
+AnswersOver call bytes named old new = (text : List ℕ) × IsAnswerTo call.style call.request bytes text named × Appends old new text
+
+-- a front of it was
+abbrev pub BreaksOff : Call → List ℕ → Option (List ℕ) → Option (List ℕ) → Type 0
+BreaksOff call bytes old new = (named : Option ℕ) × (text : List ℕ) × IsAnswerTo call.style call.request bytes text named × AppendsFront old new text

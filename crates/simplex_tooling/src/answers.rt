@@ -1,0 +1,268 @@
+//! What is answered to each request, about bytes that were read.
+
+ghost use Rattle.std.specs.Prelude.{◌≡◌, ◌++◌, ◌<◌, [], None, IfOk, IfSome, OnOk, codes, string_bytes};
+ghost use Rattle.std.specs.List.{flat_map};
+ghost use Rattle.std.specs.Option.{option_map_or};
+ghost use Rattle.simplex_cli.specs.Running.{report_spelling};
+ghost use Rattle.simplex_tooling.specs.Answers.{AreChecked, AreReports, IsAnswerTo, IsChecked, IsEvidence, IsRecordTold, lawful_line, refused_line};
+ghost use Rattle.simplex_tooling.specs.Command.{IsAsked};
+ghost use Rattle.simplex_tooling.specs.Lines.{artifact_line, report_line};
+ghost use Rattle.simplex_tooling.specs.Parts.{place_line};
+
+use crate::command::{HELP, Request, VERSION};
+use crate::lines::{push_artifact, push_report};
+use crate::parts::{push_end, push_kind, push_number, push_place};
+use crate::reading::read_reports;
+use crate::style::Style;
+use simplex_audit::{Audit, audit};
+use simplex_journal::{JournalFault, read_entries};
+use simplex_messages::{Activity, Artifact};
+use simplex_record::{Owner, first_refused};
+use simplex_types::{Epoch, Participant, PlainScheme, Sha256Digest, TermLength, Write};
+use std::alloc::{AllocError, Global};
+
+/// The base of the namespaces that the committees sign in.
+const BASE: &[u8; 7] = b"simplex";
+
+/// How many views a term of the program's members has.
+const TERM: u32 = 4;
+
+/// The scheme of a committee of so many.
+fn scheme_of(alloc: Global, count: u16) -> Result<PlainScheme, AllocError>
+    requires { 0 < count }
+    ensures base { IfOk result (λ scheme. scheme.base ≡ codes "simplex") }
+    ensures count { IfOk result (λ scheme. scheme.participants ≡ count) }
+{
+    PlainScheme::new(alloc, BASE, u32::from(count), None)
+}
+
+/// The bytes of reports.
+fn spelled(
+    alloc: Global,
+    reports: &[Activity<PlainScheme, Sha256Digest>],
+) -> Result<Vec<u8>, AllocError>
+    ensures { IfOk result (λ bytes. bytes.items ≡ flat_map report_spelling reports.now) }
+{
+    let mut bytes = Vec::new(alloc);
+    for report in reports {
+        report.append(&mut bytes)?;
+    }
+    Ok(bytes)
+}
+
+/// The evidence that an audit of these bytes finds, as reports, and the place of the first byte at which no whole report
+/// stands, if there is one. Refused only where memory is.
+pub fn evidence_in(
+    alloc: Global,
+    count: u16,
+    bytes: &[u8],
+) -> Result<(Vec<u8>, Option<usize>), AllocError>
+    requires { 0 < count }
+    ensures { IfOk result (λ answer. IsEvidence count bytes.now answer.0.items answer.1) }
+{
+    let scheme = scheme_of(alloc, count)?;
+    let found: Audit<PlainScheme, Sha256Digest> = audit(alloc, &scheme, bytes)?;
+    let written = spelled(alloc, &found.evidence)?;
+    Ok((written, found.fault))
+}
+
+/// The lines of reports.
+fn report_lines(
+    alloc: Global,
+    style: Style,
+    reports: &[Activity<PlainScheme, Sha256Digest>],
+) -> Result<String, AllocError>
+    ensures { IfOk result (λ text. string_bytes text ≡ flat_map (report_line style) reports.now) }
+{
+    let mut text = String::new(alloc);
+    for report in reports {
+        push_report(alloc, &mut text, style, report)?;
+    }
+    Ok(text)
+}
+
+/// The lines of the reports of a committee of so many that the bytes hold, then the line of the first byte at which none
+/// stands, if there is one, and its place. Refused only where memory is.
+pub fn dumped_reports(
+    alloc: Global,
+    style: Style,
+    count: u16,
+    bytes: &[u8],
+) -> Result<(String, Option<usize>), AllocError>
+    ensures { IfOk result (λ answer. AreReports style count bytes.now (string_bytes answer.0) answer.1) }
+{
+    let (reports, fault) = read_reports(alloc, u32::from(count), bytes)?;
+    let mut text = report_lines(alloc, style, &reports)?;
+    push_fault(&mut text, style, fault)?;
+    Ok((text, fault))
+}
+
+/// Ends the text with the line of a fault, if there is one.
+fn push_fault(text: &mut String, style: Style, fault: Option<usize>) -> Result<(), AllocError>
+    ensures { OnOk result (string_bytes text.new ≡ string_bytes text.old ++ option_map_or (place_line style (codes "fault")) fault []) }
+{
+    match fault {
+        Some(place) => push_place(text, style, "fault", place as u64),
+        None => Ok(()),
+    }
+}
+
+/// The lines of artifacts.
+fn artifact_lines(
+    alloc: Global,
+    style: Style,
+    artifacts: &[Artifact<PlainScheme, Sha256Digest>],
+) -> Result<String, AllocError>
+    ensures { IfOk result (λ text. string_bytes text ≡ flat_map (artifact_line style) artifacts.now) }
+{
+    let mut text = String::new(alloc);
+    for artifact in artifacts {
+        push_artifact(alloc, &mut text, style, artifact)?;
+    }
+    Ok(text)
+}
+
+/// The line of a foreign entry.
+fn foreign_line(alloc: Global, style: Style, place: u64) -> Result<String, AllocError>
+    ensures { IfOk result (λ text. string_bytes text ≡ place_line style (codes "foreign") place) }
+{
+    let mut text = String::new(alloc);
+    push_place(&mut text, style, "foreign", place)?;
+    Ok(text)
+}
+
+/// The lines of the record that the bytes hold; where an entry is foreign, the line of its place alone, and the place.
+/// Refused only where memory is.
+pub fn dumped_record(
+    alloc: Global,
+    style: Style,
+    bytes: &[u8],
+) -> Result<(String, Option<usize>), AllocError>
+    ensures { IfOk result (λ answer. IsRecordTold style bytes.now (string_bytes answer.0) answer.1) }
+{
+    match read_entries(alloc, bytes) {
+        Ok(entries) => {
+            let text = artifact_lines(alloc, style, &entries.messages)?;
+            Ok((text, None))
+        }
+        Err(JournalFault::Foreign(place)) => {
+            let text = foreign_line(alloc, style, place)?;
+            Ok((text, Some(place as usize)))
+        }
+        Err(_) => Err(AllocError),
+    }
+}
+
+/// The line of a lawful record of so many entries.
+fn lawful_text(alloc: Global, style: Style, entries: usize) -> Result<String, AllocError>
+    ensures { IfOk result (λ text. string_bytes text ≡ lawful_line style entries) }
+{
+    let mut text = String::new(alloc);
+    push_kind(&mut text, style, "lawful")?;
+    push_number(&mut text, style, "entries", entries as u64)?;
+    push_end(&mut text, style)?;
+    Ok(text)
+}
+
+/// The line of a record whose first entry that may not stand there is this one.
+fn refused_text(alloc: Global, style: Style, entry: usize) -> Result<String, AllocError>
+    ensures { IfOk result (λ text. string_bytes text ≡ refused_line style entry) }
+{
+    let mut text = String::new(alloc);
+    push_kind(&mut text, style, "refused")?;
+    push_number(&mut text, style, "entry", entry as u64)?;
+    push_end(&mut text, style)?;
+    Ok(text)
+}
+
+/// The line of what was found of a record, and the entry that it names.
+fn found_text(
+    alloc: Global,
+    style: Style,
+    entries: usize,
+    refused: Option<usize>,
+) -> Result<String, AllocError>
+    ensures lawful { refused ≡ None → IfOk result (λ text. string_bytes text ≡ lawful_line style entries) }
+    ensures refused { IfSome refused (λ entry. IfOk result (λ text. string_bytes text ≡ refused_line style entry)) }
+{
+    match refused {
+        Some(entry) => refused_text(alloc, style, entry),
+        None => lawful_text(alloc, style, entries),
+    }
+}
+
+/// Whether the bytes hold a lawful record of this member of so many: its line, and what it names, which is the first entry
+/// that may not stand there, counted from 0, or the place of a foreign one. Refused only where memory is.
+pub fn checked(
+    alloc: Global,
+    style: Style,
+    index: u16,
+    count: u16,
+    bytes: &[u8],
+) -> Result<(String, Option<usize>), AllocError>
+    requires { 0 < count }
+    ensures { IfOk result (λ answer. IsChecked style index count bytes.now (string_bytes answer.0) answer.1) }
+{
+    match read_entries(alloc, bytes) {
+        Ok(entries) => checked_entries(alloc, style, index, count, &entries.messages),
+        Err(JournalFault::Foreign(place)) => {
+            let text = foreign_line(alloc, style, place)?;
+            Ok((text, Some(place as usize)))
+        }
+        Err(_) => Err(AllocError),
+    }
+}
+
+/// The same of the record's artifacts.
+fn checked_entries(
+    alloc: Global,
+    style: Style,
+    index: u16,
+    count: u16,
+    artifacts: &[Artifact<PlainScheme, Sha256Digest>],
+) -> Result<(String, Option<usize>), AllocError>
+    requires { 0 < count }
+    ensures { IfOk result (λ answer. AreChecked style index count artifacts.now (string_bytes answer.0) answer.1) }
+{
+    let scheme = scheme_of(alloc, count)?;
+    let owner = Owner {
+        epoch: Epoch::new(0),
+        term_length: TermLength::new(TERM),
+        signer: Participant::new(u32::from(index)),
+    };
+    let refused = first_refused(alloc, &scheme, owner, artifacts)?;
+    let text = found_text(alloc, style, artifacts.len(), refused)?;
+    Ok((text, refused))
+}
+
+/// The bytes of a text, and the place beside it.
+fn in_bytes(answer: (String, Option<usize>)) -> (Vec<u8>, Option<usize>)
+    ensures bytes { result.0.items ≡ string_bytes answer.0 }
+    ensures place { result.1 ≡ answer.1 }
+{
+    let (text, place) = answer;
+    (text.into_bytes(), place)
+}
+
+/// What is answered to a request about these bytes, and the place that is named, if there is one. Refused only where
+/// memory is.
+pub fn answer_to(
+    alloc: Global,
+    style: Style,
+    request: Request<'_>,
+    bytes: &[u8],
+) -> Result<(Vec<u8>, Option<usize>), AllocError>
+    requires { IsAsked request }
+    ensures { IfOk result (λ answer. IsAnswerTo style request.entry bytes.now answer.0.items answer.1) }
+{
+    match request {
+        Request::Evidence { count } => evidence_in(alloc, count, bytes),
+        Request::Reports { count } => { Ok(in_bytes(dumped_reports(alloc, style, count, bytes)?)) }
+        Request::Record { .. } => Ok(in_bytes(dumped_record(alloc, style, bytes)?)),
+        Request::Check { index, count, .. } => {
+            Ok(in_bytes(checked(alloc, style, index, count, bytes)?))
+        }
+        Request::Help => Ok((Vec::from_slice(alloc, HELP.as_bytes())?, None)),
+        Request::Version => Ok((Vec::from_slice(alloc, VERSION.as_bytes())?, None)),
+    }
+}
