@@ -1,0 +1,128 @@
+//! The application of all members: which payloads were built, and what it finds of them.
+
+use simplex_types::{Context, Digest, PlainKey, Proposal, Sha256Digest, Viewable};
+use std::alloc::{AllocError, Global};
+
+/// The payload that view 0 stands for.
+pub(crate) fn genesis() -> Sha256Digest {
+    Sha256Digest::new([0; 32])
+}
+
+/// What a payload was built on.
+#[derive(Clone, Copy)]
+pub(crate) struct Built {
+    /// The view that it was built for.
+    pub(crate) view: u64,
+    /// The view of its parent.
+    pub(crate) parent_view: u64,
+    /// The payload of its parent.
+    pub(crate) parent: Sha256Digest,
+    /// Whether it is found good where it is proposed.
+    is_good: bool,
+    /// Whether the verdict on it is good.
+    is_certified: bool,
+}
+
+/// All payloads that were built. The number of one is its place, from 1 on, and its digest spells the number.
+#[derive(Drop)]
+pub(crate) struct Payloads {
+    built: Vec<Built>,
+}
+
+impl Payloads {
+    /// None but genesis.
+    pub(crate) fn new(alloc: Global) -> Self {
+        Payloads {
+            built: Vec::new(alloc),
+        }
+    }
+
+    /// Builds a payload on what the context says.
+    pub(crate) fn build(
+        &mut self,
+        context: &Context<Sha256Digest, PlainKey>,
+        is_certified: bool,
+    ) -> Result<Sha256Digest, AllocError> {
+        self.add(Built {
+            view: context.round.view.get(),
+            parent_view: context.parent.0.get(),
+            parent: context.parent.1,
+            is_good: true,
+            is_certified,
+        })
+    }
+
+    /// A payload of a liar, in place of that of a proposal, which nobody finds good.
+    pub(crate) fn forge(
+        &mut self,
+        proposal: &Proposal<Sha256Digest>,
+    ) -> Result<Sha256Digest, AllocError> {
+        self.add(Built {
+            view: proposal.view().get(),
+            parent_view: proposal.parent.get(),
+            parent: genesis(),
+            is_good: false,
+            is_certified: false,
+        })
+    }
+
+    fn add(&mut self, built: Built) -> Result<Sha256Digest, AllocError> {
+        self.built.push(built)?;
+        Ok(digest_of(self.built.len() as u64))
+    }
+
+    /// What the payload was built on, if it was built.
+    pub(crate) fn find(&self, payload: &Sha256Digest) -> Option<Built> {
+        let number = number_of(payload)?;
+        let place = number.checked_sub(1)?;
+        let built = self.built.get(place as usize)?;
+        Some(*built)
+    }
+
+    /// Whether the proposal is good where it was built on what the context says.
+    pub(crate) fn is_good(
+        &self,
+        context: &Context<Sha256Digest, PlainKey>,
+        proposal: &Proposal<Sha256Digest>,
+    ) -> bool {
+        let Some(built) = self.find(&proposal.payload) else {
+            return false;
+        };
+        built.is_good
+            && built.view == context.round.view.get()
+            && built.parent_view == context.parent.0.get()
+            && built.parent == context.parent.1
+    }
+
+    /// The verdict on a notarized proposal.
+    pub(crate) fn verdict(&self, proposal: &Proposal<Sha256Digest>) -> bool {
+        match self.find(&proposal.payload) {
+            Some(built) => {
+                built.is_good && built.is_certified && built.view == proposal.view().get()
+            }
+            None => false,
+        }
+    }
+}
+
+/// The digest that spells a number.
+fn digest_of(number: u64) -> Sha256Digest {
+    let [a, b, c, d, e, f, g, h] = number.to_be_bytes();
+    Sha256Digest::new([
+        a, b, c, d, e, f, g, h, 0, 0, 0, 0, 0, 0, 0, 0, 0, 0, 0, 0, 0, 0, 0, 0, 0, 0, 0, 0, 0, 0, 0,
+        0,
+    ])
+}
+
+/// The number that a digest spells: 0 of genesis, none where it spells none.
+pub(crate) fn number_of(payload: &Sha256Digest) -> Option<u64> {
+    let number = match payload.as_bytes() {
+        [a, b, c, d, e, f, g, h, ..] => u64::from_be_bytes([*a, *b, *c, *d, *e, *f, *g, *h]),
+        _ => return None,
+    };
+    if digest_of(number) == *payload {
+        Some(number)
+    } else {
+        None
+    }
+}
