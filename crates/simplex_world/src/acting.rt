@@ -8,7 +8,7 @@ use crate::world::World;
 use simplex_member::{Action, Channel, Event};
 use simplex_messages::Activity;
 use simplex_types::{
-    Context, Participant, PlainKey, PlainScheme, Proposal, Sha256Digest, Viewable, Write,
+    Context, Participant, PlainKey, PlainScheme, Proposal, Sha256Digest, Viewable,
 };
 
 impl World {
@@ -42,7 +42,9 @@ impl World {
     fn answer(&mut self, place: usize, asked: Deed) -> Result<(), Broken> {
         match asked {
             Action::Build {
-                number, context, ..
+                number,
+                context,
+                ..
             } => self.build(place, number, &context),
             Action::Verify {
                 number,
@@ -61,7 +63,7 @@ impl World {
         }
     }
 
-    /// Builds a payload, or two where the member is a liar that does.
+    /// Builds a payload.
     fn build(
         &mut self,
         place: usize,
@@ -71,13 +73,7 @@ impl World {
         let is_certified = self.chance.below(1000) >= self.scenario.doubted;
         let payload = self.payloads.build(context, is_certified)?;
         self.tell_built(place, context, &payload)?;
-        if let Some(Some(liar)) = self.liars.get_mut(place) {
-            if liar.builds_two() {
-                let second = self.payloads.build(context, is_certified)?;
-                liar.note_two(payload, second)?;
-                self.tell_built(place, context, &second)?;
-            }
-        }
+        self.build_beside(place, context, payload)?;
         self.reply(
             place,
             Event::Built {
@@ -85,6 +81,25 @@ impl World {
                 payload: Some(payload),
             },
         )
+    }
+
+    /// Builds a second payload, where the member is a liar that has two; a liar notes what it built.
+    fn build_beside(
+        &mut self,
+        place: usize,
+        context: &Context<Sha256Digest, PlainKey>,
+        payload: Sha256Digest,
+    ) -> Result<(), Broken> {
+        let Some(Some(liar)) = self.liars.get_mut(place) else {
+            return Ok(());
+        };
+        if !liar.builds_two() {
+            liar.note_built(payload, payload)?;
+            return Ok(());
+        }
+        let second = self.payloads.build(context, true)?;
+        liar.note_built(payload, second)?;
+        self.tell_built(place, context, &second)
     }
 
     /// An answer of the application is under way.
@@ -200,7 +215,7 @@ impl World {
         if self.scenario.lies(place as u32) {
             return Ok(());
         }
-        activity.write(&mut self.reports)?;
+        self.reports.add(activity)?;
         if self.is_opening || !self.teller.tells_all() {
             return Ok(());
         }

@@ -103,7 +103,11 @@ impl TornDisk {
         }
         self.is_down = true;
         let bound = (bytes.len() as u64).saturating_add(1);
-        let kept = if bound > 0 { self.chance.below(bound) } else { 0 };
+        let kept = if bound > 0 {
+            self.chance.below(bound)
+        } else {
+            0
+        };
         let front = bytes.get(..kept as usize)?;
         self.put(at, front)
     }
@@ -121,7 +125,11 @@ impl TornDisk {
             self.put(at, &before)?;
         }
         let bound = (fresh as u64).saturating_add(1);
-        let kept = if bound > 0 { self.chance.below(bound) } else { 0 };
+        let kept = if bound > 0 {
+            self.chance.below(bound)
+        } else {
+            0
+        };
         self.bytes.truncate(end.checked_add(kept as usize)?);
         Some(())
     }

@@ -38,8 +38,10 @@ impl World {
         self.teller.number("lost", self.network.lost)?;
         self.teller.number("evidence", findings.lines)?;
         self.teller.number("named", findings.named.len() as u64)?;
-        self.teller.number("contradictions", self.broke.contradictions)?;
-        self.teller.number("blamed", blamed.saturating_add(self.broke.blocks))?;
+        self.teller
+            .number("contradictions", self.broke.contradictions)?;
+        self.teller
+            .number("blamed", blamed.saturating_add(self.broke.blocks))?;
         self.teller.number("unopened", self.broke.records)?;
         self.teller.number("status", u64::from(status))?;
         self.teller.end()?;
@@ -57,7 +59,8 @@ impl World {
         };
         self.teller.begin("member")?;
         self.teller.number("member", u64::from(member.index))?;
-        self.teller.word("is", if lies.is_some() { "liar" } else { "correct" })?;
+        self.teller
+            .word("is", if lies.is_some() { "liar" } else { "correct" })?;
         self.teller.number("view", member.current_view())?;
         self.teller.number("finalized", member.last_finalized())?;
         self.teller.number("finals", member.finals)?;
@@ -72,7 +75,7 @@ impl World {
     /// Audits the reports of all correct members, and tells the lines.
     fn audit(&mut self) -> Result<Findings, Broken> {
         let mut text = Vec::new(self.alloc);
-        let mut input = self.reports.as_slice();
+        let mut input = self.reports.bytes();
         let Ok(count) = u16::try_from(self.scenario.members) else {
             return Err(Broken::Setup);
         };

@@ -14,8 +14,10 @@ impl World {
     /// How the world begins: the committee, and who lies how.
     pub(crate) fn tell_begin(&mut self) -> Result<(), Broken> {
         self.teller.begin("world")?;
-        self.teller.number("members", u64::from(self.scenario.members))?;
-        self.teller.number("faults", u64::from(faults(self.scenario.members)))?;
+        self.teller
+            .number("members", u64::from(self.scenario.members))?;
+        self.teller
+            .number("faults", u64::from(faults(self.scenario.members)))?;
         self.teller.number("seed", self.scenario.seed)?;
         self.teller.number("views", self.scenario.views)?;
         self.teller.end()?;
@@ -26,6 +28,7 @@ impl World {
                 (ways.two_proposals, "two-proposals"),
                 (ways.forged, "forged"),
                 (ways.withheld, "withheld"),
+                (ways.two_faced, "two-faced"),
             ];
             for (is_so, word) in told {
                 if is_so {
@@ -152,7 +155,8 @@ impl World {
     ) -> Result<(), Broken> {
         self.begin(place, event)?;
         self.teller.number("view", proposal.view().get())?;
-        self.teller.number_or("payload", number_of(&proposal.payload))?;
+        self.teller
+            .number_or("payload", number_of(&proposal.payload))?;
         self.teller.number("parent", proposal.parent.get())?;
         Ok(self.teller.end()?)
     }
@@ -240,7 +244,8 @@ impl World {
         self.begin(place, event)?;
         self.teller.kind(kind)?;
         self.teller.number("view", proposal.view().get())?;
-        self.teller.number_or("payload", number_of(&proposal.payload))?;
+        self.teller
+            .number_or("payload", number_of(&proposal.payload))?;
         Ok(self.teller.end()?)
     }
 

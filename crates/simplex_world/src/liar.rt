@@ -5,7 +5,9 @@ use crate::scenario::Ways;
 use simplex_fakes::Chance;
 use simplex_member::Channel;
 use simplex_messages::{Finalize, Notarize, Nullify, Vote};
-use simplex_types::{Participant, PlainScheme, Proposal, Sha256Digest, Viewable, Write, decode_cfg};
+use simplex_types::{
+    Participant, PlainScheme, Proposal, Sha256Digest, Viewable, Write, decode_cfg,
+};
 use std::alloc::{AllocError, Global};
 
 /// A vote of a world.
@@ -48,7 +50,7 @@ enum Kind {
     Finalize,
 }
 
-/// Two payloads that were built for one view.
+/// Two payloads that were built for one view, which may be one.
 #[derive(Clone, Copy)]
 struct Pair {
     first: Sha256Digest,
@@ -106,8 +108,8 @@ impl Liar {
         self.ways.silent
     }
 
-    /// Notes two payloads that were built for one view.
-    pub(crate) fn note_two(
+    /// Notes two payloads that were built for one view, or one twice.
+    pub(crate) fn note_built(
         &mut self,
         first: Sha256Digest,
         second: Sha256Digest,
@@ -125,6 +127,9 @@ impl Liar {
         bytes: &[u8],
         out: &mut Vec<Parcel>,
     ) -> Result<Option<Lie>, AllocError> {
+        if self.ways.two_faced && !self.is_own_proposal(channel, bytes)? {
+            return Ok(None);
+        }
         let second = match channel {
             Channel::Votes => self.second_vote(payloads, bytes)?,
             _ => None,
@@ -141,6 +146,18 @@ impl Liar {
         match second {
             Some((_, lie)) => Ok(Some(lie)),
             None => Ok(None),
+        }
+    }
+
+    /// Whether a packet is a notarize for what it built.
+    fn is_own_proposal(&self, channel: Channel, bytes: &[u8]) -> Result<bool, AllocError> {
+        if channel != Channel::Votes {
+            return Ok(false);
+        }
+        let vote: Option<PlainVote> = decode_cfg(self.alloc, bytes, self.members)?;
+        match vote {
+            Some(Vote::Notarize(vote)) => Ok(self.beside(&vote.proposal.payload).is_some()),
+            _ => Ok(false),
         }
     }
 
@@ -222,6 +239,16 @@ impl Liar {
         None
     }
 
+    /// The other payload that was built beside this one.
+    fn second_of(&self, payload: &Sha256Digest) -> Option<Sha256Digest> {
+        let second = self.beside(payload)?;
+        if second == *payload {
+            None
+        } else {
+            Some(second)
+        }
+    }
+
     /// The other notarize: for the other payload of its own, or one that nobody built.
     fn turned_notarize(
         &mut self,
@@ -229,7 +256,7 @@ impl Liar {
         proposal: &Proposal<Sha256Digest>,
     ) -> Result<Option<(PlainVote, Lie)>, AllocError> {
         let view = proposal.view().get();
-        let (payload, word) = match self.beside(&proposal.payload) {
+        let (payload, word) = match self.second_of(&proposal.payload) {
             Some(second) => (second, "two-proposals"),
             None => {
                 if !self.ways.two_votes || self.chance.below(2) == 0 {
@@ -248,7 +275,7 @@ impl Liar {
     /// The other vote in place of a finalize: for the other payload of its own, or a nullify.
     fn turned_finalize(&mut self, proposal: &Proposal<Sha256Digest>) -> Option<(PlainVote, Lie)> {
         let view = proposal.view().get();
-        if let Some(payload) = self.beside(&proposal.payload) {
+        if let Some(payload) = self.second_of(&proposal.payload) {
             let other = Proposal::new(proposal.round, proposal.parent, payload);
             let vote = Finalize::sign(&self.scheme, other)?;
             let word = "two-proposals";
@@ -262,8 +289,7 @@ impl Liar {
         Some((Vote::Nullify(vote), Lie { word, view }))
     }
 
-    /// What it sends on hearing a packet: the same vote of its own, to the side that it came from. So it votes for whatever that side
-    /// votes for.
+    /// What a two-faced liar sends on hearing a packet of a correct member: the same vote of its own, to the side that it came from.
     pub(crate) fn hear(
         &mut self,
         sender: Participant,
@@ -271,8 +297,7 @@ impl Liar {
         bytes: &[u8],
         out: &mut Vec<Parcel>,
     ) -> Result<(), AllocError> {
-        let is_two_faced = self.ways.two_votes || self.ways.two_proposals;
-        if channel != Channel::Votes || !is_two_faced {
+        if channel != Channel::Votes || !self.ways.two_faced {
             return Ok(());
         }
         let side = sender.get() % 2;

@@ -9,8 +9,9 @@
 //! | `delay LEAST MOST`, `lose S`, `repeat S` | the network; shares are of a thousand packets |
 //! | `cut FROM UNTIL MEMBERS` | these members and the others don't hear each other then, unless one lies |
 //! | `work LEAST MOST`, `doubt S` | how long the application thinks, and how many verdicts are bad |
+//! | `clock T` | how coarse the clocks of hosts are |
 //! | `term LENGTH STALL OPTIMISTIC`, `times LEADER CERTIFICATION RETRY`, `skip T`, `keep VIEWS` | the nodes |
-//! | `lie MEMBER WAY ..` | `silent`, `two-votes`, `two-proposals`, `forged`, `withheld` |
+//! | `lie MEMBER WAY ..` | `silent`, `two-votes`, `two-proposals`, `two-faced`, `forged`, `withheld` |
 //! | `crash MEMBER VIEW CALLS DOWN` | in that view, behind so many calls of its disk, for so long |
 //! | `format text` or `json`, `lines all`, `some` or `none` | what is written |
 //!
@@ -30,6 +31,7 @@ mod network;
 mod payloads;
 mod playing;
 mod refusal;
+mod reports;
 mod scenario;
 mod telling;
 mod world;
@@ -54,10 +56,5 @@ fn main(rt: HostRuntime) -> ExitCode {
         Ok(is_json) => is_json,
         Err(_) => false,
     };
-    ExitCode::from(play(
-        rt.alloc(),
-        is_json,
-        rt.reader(),
-        &mut io::writer(&rt),
-    ))
+    ExitCode::from(play(rt.alloc(), is_json, rt.reader(), &mut io::writer(&rt)))
 }

@@ -69,7 +69,10 @@ impl Member {
     /// A member with an empty disk, not opened yet.
     pub(crate) fn new(alloc: Global, scenario: &Scenario, index: u32) -> Result<Self, AllocError> {
         let fuse = Rc::new(alloc, Cell::new(NO_FUSE))?;
-        let seed = scenario.seed.wrapping_mul(131).wrapping_add(u64::from(index));
+        let seed = scenario
+            .seed
+            .wrapping_mul(131)
+            .wrapping_add(u64::from(index));
         let disk = TornDisk::new(alloc, fuse.clone()?, seed);
         let mut crashes = Vec::new(alloc);
         for crash in scenario.crashes.iter().rev() {
@@ -109,7 +112,14 @@ impl Member {
         self.told = now;
         let scheme = Rc::new(alloc, committee(alloc, scenario.members, self.index)?)?;
         let elector = elector_of(alloc, &scenario.times, scenario.members)?;
-        match Node::open(alloc, config_of(&scenario.times), scheme, elector, disk, now) {
+        match Node::open(
+            alloc,
+            config_of(&scenario.times),
+            scheme,
+            elector,
+            disk,
+            now,
+        ) {
             Ok((node, actions)) => {
                 self.node = Some(node);
                 Ok(Outcome::Did(actions))
@@ -139,10 +149,12 @@ impl Member {
         }
     }
 
-    /// Whether the moment is to be told before anything else; from now on it counts as told.
-    pub(crate) fn wants_moment(&mut self, now: u64) -> bool {
-        let is_behind = self.told < now;
-        self.told = now;
+    /// Whether the moment is to be told before anything else, where that is done so often; from now on it then counts as told.
+    pub(crate) fn wants_moment(&mut self, now: u64, clock: u64) -> bool {
+        let is_behind = self.told.saturating_add(clock) <= now;
+        if is_behind {
+            self.told = now;
+        }
         is_behind
     }
 
@@ -221,11 +233,7 @@ pub(crate) fn committee(alloc: Global, members: u32, me: u32) -> Result<PlainSch
 }
 
 /// Who leads: all in turn, a term each.
-fn elector_of(
-    alloc: Global,
-    times: &Times,
-    members: u32,
-) -> Result<RoundRobinElector, AllocError> {
+fn elector_of(alloc: Global, times: &Times, members: u32) -> Result<RoundRobinElector, AllocError> {
     let rotation = match times.stall {
         Some(stall) => RoundRobin::default().with_term(
             TermLength::new(length_of(times)),

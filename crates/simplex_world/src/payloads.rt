@@ -109,8 +109,8 @@ impl Payloads {
 fn digest_of(number: u64) -> Sha256Digest {
     let [a, b, c, d, e, f, g, h] = number.to_be_bytes();
     Sha256Digest::new([
-        a, b, c, d, e, f, g, h, 0, 0, 0, 0, 0, 0, 0, 0, 0, 0, 0, 0, 0, 0, 0, 0, 0, 0, 0, 0, 0, 0, 0,
-        0,
+        a, b, c, d, e, f, g, h, 0, 0, 0, 0, 0, 0, 0, 0, 0, 0, 0, 0, 0, 0, 0, 0, 0, 0, 0, 0, 0, 0,
+        0, 0,
     ])
 }
 

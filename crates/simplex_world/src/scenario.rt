@@ -15,7 +15,7 @@ const MOST: u64 = 1_000_000_000;
 pub(crate) struct Ways {
     /// It sends nothing.
     pub(crate) silent: bool,
-    /// It votes one way to members of even, another way to members of odd index.
+    /// At times it votes one way to members of even, another way to members of odd index.
     pub(crate) two_votes: bool,
     /// As a leader it proposes one payload to members of even, another to members of odd index.
     pub(crate) two_proposals: bool,
@@ -23,6 +23,8 @@ pub(crate) struct Ways {
     pub(crate) forged: bool,
     /// It sends to members of even index alone.
     pub(crate) withheld: bool,
+    /// It votes on each side, of even and of odd index, for what that side votes for, and sends nothing else but proposals.
+    pub(crate) two_faced: bool,
 }
 
 impl Ways {
@@ -33,11 +35,13 @@ impl Ways {
         two_proposals: false,
         forged: false,
         withheld: false,
+        two_faced: false,
     };
 
     /// Whether it is a lie at all.
     pub(crate) fn lies(&self) -> bool {
-        self.silent || self.two_votes || self.two_proposals || self.forged || self.withheld
+        let is_two = self.two_votes || self.two_proposals || self.two_faced;
+        is_two || self.silent || self.forged || self.withheld
     }
 
     /// Adds the way of this word.
@@ -48,6 +52,7 @@ impl Ways {
             "two-proposals" => self.two_proposals = true,
             "forged" => self.forged = true,
             "withheld" => self.withheld = true,
+            "two-faced" => self.two_faced = true,
             _ => return Err(Refusal::UnknownWord),
         }
         Ok(())
@@ -140,6 +145,8 @@ pub(crate) struct Scenario {
     pub(crate) repeated: u64,
     /// Of how many of a thousand payloads the verdict is bad.
     pub(crate) doubted: u64,
+    /// After how many milliseconds at most a node is told the time again before it takes an event.
+    pub(crate) clock: u64,
     /// How the nodes are set up.
     pub(crate) times: Times,
     /// The liars.
@@ -162,14 +169,12 @@ impl Scenario {
             seed: 1,
             views: 10,
             until: 600_000,
-            delay: Span {
-                least: 5,
-                most: 40,
-            },
+            delay: Span { least: 5, most: 40 },
             work: Span { least: 1, most: 5 },
             lost: 0,
             repeated: 0,
             doubted: 0,
+            clock: 10,
             times: TIMES,
             liars: Vec::new(alloc),
             crashes: Vec::new(alloc),
@@ -248,6 +253,7 @@ impl Scenario {
             "lose" => self.lost = share_of(words)?,
             "repeat" => self.repeated = share_of(words)?,
             "doubt" => self.doubted = share_of(words)?,
+            "clock" => self.clock = above_zero(words)?,
             "cut" => return self.add_cut(alloc, words),
             _ => return self.set_node(name, words),
         }
@@ -360,7 +366,7 @@ impl Scenario {
 }
 
 /// How many ways of lying there are.
-const MOST_WAYS: u8 = 5;
+const MOST_WAYS: u8 = 6;
 
 /// What nodes are set up with where no line says otherwise.
 const TIMES: Times = Times {

@@ -6,6 +6,7 @@ use crate::liar::Liar;
 use crate::member::{Member, Outcome, committee};
 use crate::network::{Arrival, Network};
 use crate::payloads::Payloads;
+use crate::reports::Reports;
 use crate::scenario::Scenario;
 use crate::telling::Teller;
 use simplex_fakes::Chance;
@@ -39,8 +40,8 @@ pub(crate) struct World {
     pub(crate) network: Network,
     pub(crate) payloads: Payloads,
     pub(crate) chain: Chain,
-    /// The reports of all correct members, one behind the other.
-    pub(crate) reports: Vec<u8>,
+    /// The reports of all correct members.
+    pub(crate) reports: Reports,
     pub(crate) teller: Teller,
     pub(crate) chance: Chance,
     /// The moment, in milliseconds.
@@ -71,7 +72,7 @@ impl World {
             network: Network::new(alloc, seed),
             payloads: Payloads::new(alloc),
             chain: Chain::new(alloc),
-            reports: Vec::new(alloc),
+            reports: Reports::new(alloc),
             teller,
             chance: Chance::seeded(seed.wrapping_add(1_000_003)),
             now: 0,
@@ -168,7 +169,7 @@ impl World {
         let is_up = match self.members.get_mut(place) {
             Some(member) => {
                 member.due = None;
-                member.wants_moment(now);
+                let _ = member.wants_moment(now, 0);
                 member.is_up()
             }
             None => return Ok(false),
@@ -192,7 +193,9 @@ impl World {
             bytes,
         } = &event
         {
-            self.let_liar_hear(place, *sender, *channel, bytes)?;
+            if !self.scenario.lies(sender.get()) {
+                self.let_liar_hear(place, *sender, *channel, bytes)?;
+            }
         }
         let Some(member) = self.members.get_mut(place) else {
             return Ok(());
@@ -200,7 +203,7 @@ impl World {
         if !reaches(member, life, &event) {
             return Ok(());
         }
-        if member.wants_moment(now) {
+        if member.wants_moment(now, self.scenario.clock) {
             self.step(place, Event::Moment(now))?;
         }
         self.step(place, event)
@@ -305,13 +308,9 @@ fn liar_of(alloc: Global, scenario: &Scenario, index: u32) -> Result<Option<Liar
         return Ok(None);
     }
     let scheme = committee(alloc, scenario.members, index)?;
-    let seed = scenario.seed.wrapping_mul(17).wrapping_add(u64::from(index));
-    Ok(Some(Liar::new(
-        alloc,
-        index,
-        scenario.members,
-        ways,
-        scheme,
-        seed,
-    )))
+    let seed = scenario
+        .seed
+        .wrapping_mul(17)
+        .wrapping_add(u64::from(index));
+    Ok(Some(Liar::new(alloc, index, scenario.members, ways, scheme, seed)))
 }
