@@ -1,15 +1,14 @@
 //! What is done with what a node hands out.
 
-use crate::broken::Broken;
-use crate::liar::Parcel;
 use crate::member::Deed;
-use crate::network::Packet;
-use crate::world::World;
+use crate::world::{World, index_of};
 use simplex_member::{Action, Channel, Event};
 use simplex_messages::Activity;
 use simplex_types::{
     Context, Participant, PlainKey, PlainScheme, Proposal, Sha256Digest, Viewable,
 };
+use world_parts::{Packet, Parcel};
+use world_scenario::Broken;
 
 impl World {
     /// Does all that a node handed out.
@@ -120,7 +119,7 @@ impl World {
         channel: Channel,
         bytes: &[u8],
     ) -> Result<(), Broken> {
-        let from = place as u32;
+        let from = index_of(place);
         if let Some(Some(liar)) = self.liars.get_mut(place) {
             let mut out = Vec::new(self.alloc);
             let lie = liar.send(&mut self.payloads, to, channel, bytes, &mut out)?;
@@ -173,7 +172,7 @@ impl World {
         if let Some(Some(liar)) = self.liars.get_mut(place) {
             liar.hear(sender, channel, bytes, &mut out)?;
         }
-        self.send_all(place as u32, out)
+        self.send_all(index_of(place), out)
     }
 
     /// A member blocks another.
@@ -184,7 +183,7 @@ impl World {
         if !member.blocked.contains(&blocked) {
             member.blocked.push(blocked)?;
         }
-        if !self.scenario.lies(place as u32) && !self.scenario.lies(blocked) {
+        if !self.scenario.lies(index_of(place)) && !self.scenario.lies(blocked) {
             self.broke.blocks = self.broke.blocks.saturating_add(1);
         }
         self.tell_blocked(place, blocked)
@@ -192,7 +191,7 @@ impl World {
 
     /// A member tells a proposal to be final.
     fn finalize(&mut self, place: usize, proposal: &Proposal<Sha256Digest>) -> Result<(), Broken> {
-        if self.scenario.lies(place as u32) {
+        if self.scenario.lies(index_of(place)) {
             return Ok(());
         }
         if let Some(member) = self.members.get_mut(place) {
@@ -212,7 +211,7 @@ impl World {
         place: usize,
         activity: &Activity<PlainScheme, Sha256Digest>,
     ) -> Result<(), Broken> {
-        if self.scenario.lies(place as u32) {
+        if self.scenario.lies(index_of(place)) {
             return Ok(());
         }
         self.reports.add(activity)?;

@@ -1,9 +1,9 @@
 //! The end of a run: a table of the members, the audit of their reports, and the status.
 
-use crate::broken::Broken;
 use crate::world::World;
 use simplex_cli::{Trouble, write_audit};
 use simplex_types::faults;
+use world_scenario::Broken;
 
 /// The status of a run in which all promises were kept.
 const KEPT: u8 = 0;
@@ -91,20 +91,17 @@ impl World {
             named: Vec::new(self.alloc),
             lines: 0,
         };
-        for line in text.split(|byte| *byte == b'\n') {
+        let Ok(text) = std::str::from_utf8(&text) else {
+            return Err(Broken::Device);
+        };
+        for line in text.lines() {
             self.take_evidence(line, &mut findings)?;
         }
         Ok(findings)
     }
 
     /// Tells a line of the audit, and notes whom it names.
-    fn take_evidence(&mut self, line: &[u8], findings: &mut Findings) -> Result<(), Broken> {
-        let Ok(line) = std::str::from_utf8(line) else {
-            return Ok(());
-        };
-        if line.is_empty() {
-            return Ok(());
-        }
+    fn take_evidence(&mut self, line: &str, findings: &mut Findings) -> Result<(), Broken> {
         if self.teller.tells_some() {
             self.teller.begin("evidence")?;
             self.teller.line(line)?;

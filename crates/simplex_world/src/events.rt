@@ -1,14 +1,13 @@
 //! The lines on what happens.
 
-use crate::broken::Broken;
-use crate::liar::Lie;
 use crate::member::Outcome;
-use crate::payloads::number_of;
-use crate::world::World;
+use crate::world::{World, index_of};
 use simplex_messages::Activity;
 use simplex_types::{
     Attributable, Context, PlainKey, PlainScheme, Proposal, Sha256Digest, Viewable, faults,
 };
+use world_parts::{Lie, number_of};
+use world_scenario::Broken;
 
 impl World {
     /// How the world begins: the committee, and who lies how.
@@ -167,7 +166,7 @@ impl World {
         place: usize,
         activity: &Activity<PlainScheme, Sha256Digest>,
     ) -> Result<(), Broken> {
-        let me = place as u32;
+        let me = index_of(place);
         match activity {
             Activity::Notarize(vote) => {
                 if vote.signer().get() == me {
@@ -265,6 +264,6 @@ impl World {
 
     /// Begins a line on a member.
     fn begin(&mut self, place: usize, event: &str) -> Result<(), Broken> {
-        Ok(self.teller.begin_at(self.now, place as u32, event)?)
+        Ok(self.teller.begin_at(self.now, index_of(place), event)?)
     }
 }

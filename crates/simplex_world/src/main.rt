@@ -20,20 +20,10 @@
 #![tactic(auto)]
 
 mod acting;
-mod broken;
-mod chain;
-mod disk;
 mod ending;
 mod events;
-mod liar;
 mod member;
-mod network;
-mod payloads;
 mod playing;
-mod refusal;
-mod reports;
-mod scenario;
-mod telling;
 mod world;
 
 use crate::playing::play;

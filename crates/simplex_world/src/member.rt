@@ -1,9 +1,5 @@
 //! A member: its node, or the disk that is left of it.
 
-use crate::broken::Broken;
-use crate::disk::{Fuse, NO_FUSE, TornDisk};
-use crate::payloads::genesis;
-use crate::scenario::{Crash, Scenario, Times};
 use simplex_decisions::config::{Config, ForwardPolicy, SkipBudget, SkipPolicy};
 use simplex_member::{Action, Event, NodeFault, OpenFault, Reply};
 use simplex_node::Node;
@@ -12,6 +8,8 @@ use simplex_types::{Epoch, Participant, PlainScheme, Sha256Digest, TermLength, V
 use std::alloc::{AllocError, Global};
 use std::cell::Cell;
 use std::rc::Rc;
+use world_parts::{Fuse, NO_FUSE, TornDisk, genesis};
+use world_scenario::{Broken, Crash, Scenario, Times};
 
 /// The base of the namespaces that the committee signs in.
 const BASE: &[u8; 7] = b"simplex";

@@ -1,14 +1,11 @@
 //! Scenarios of an input, run one behind the other.
 
-use crate::broken::Broken;
 use crate::member::config_of;
-use crate::refusal::Refusal;
-use crate::scenario::Scenario;
-use crate::telling::Teller;
 use crate::world::World;
 use simplex_decisions::config::check_config;
 use std::alloc::Global;
 use std::io::{BufRead, BufReader, Read, Write};
+use world_scenario::{Broken, Detail, Refusal, Scenario, Teller};
 
 /// The status where a line was refused.
 const REFUSED: u8 = 2;
@@ -89,7 +86,7 @@ fn refuse<W: Write>(
     if let Refusal::Memory = refusal {
         return Err(Broken::Memory);
     }
-    let mut teller = Teller::new(alloc, is_json, crate::scenario::Detail::All);
+    let mut teller = Teller::new(alloc, is_json, Detail::All);
     teller.begin("refused")?;
     teller.number("number", number)?;
     teller.line(refusal.text())?;

@@ -1,19 +1,13 @@
 //! The world of a scenario: its members, what is under way, and what comes next.
 
-use crate::broken::Broken;
-use crate::chain::Chain;
-use crate::liar::Liar;
 use crate::member::{Member, Outcome, committee};
-use crate::network::{Arrival, Network};
-use crate::payloads::Payloads;
-use crate::reports::Reports;
-use crate::scenario::Scenario;
-use crate::telling::Teller;
 use simplex_fakes::Chance;
 use simplex_member::Event;
 use simplex_types::Sha256Digest;
 use std::alloc::Global;
 use std::io::Write;
+use world_parts::{Arrival, Chain, Liar, Network, Payloads, Reports};
+use world_scenario::{Broken, Scenario, Teller};
 
 /// The most events of a run.
 const MOST_EVENTS: u64 = 1_000_000_000;
@@ -283,6 +277,14 @@ impl World {
     fn lose(&mut self, place: usize) -> Result<(), Broken> {
         self.broke.records = self.broke.records.saturating_add(1);
         self.tell_lost(place)
+    }
+}
+
+/// The index of the member at a place.
+pub(crate) fn index_of(place: usize) -> u32 {
+    match u32::try_from(place) {
+        Ok(index) => index,
+        Err(_) => u32::MAX,
     }
 }
 

@@ -10,7 +10,7 @@ const PIECE: usize = 16_384;
 
 /// The lines of a run. A line is begun, gets its fields, and is ended.
 #[derive(Drop)]
-pub(crate) struct Teller {
+pub struct Teller {
     held: String,
     is_json: bool,
     detail: Detail,
@@ -18,7 +18,7 @@ pub(crate) struct Teller {
 
 impl Teller {
     /// Lines as words, or as JSON.
-    pub(crate) fn new(alloc: Global, is_json: bool, detail: Detail) -> Self {
+    pub fn new(alloc: Global, is_json: bool, detail: Detail) -> Self {
         Teller {
             held: String::new(alloc),
             is_json,
@@ -27,17 +27,17 @@ impl Teller {
     }
 
     /// Whether each event that matters is told.
-    pub(crate) fn tells_all(&self) -> bool {
+    pub fn tells_all(&self) -> bool {
         self.detail == Detail::All
     }
 
     /// Whether rare events are told.
-    pub(crate) fn tells_some(&self) -> bool {
-        self.detail != Detail::None
+    pub fn tells_some(&self) -> bool {
+        self.detail != Detail::End
     }
 
     /// Begins a line on the whole run.
-    pub(crate) fn begin(&mut self, event: &str) -> Result<(), AllocError> {
+    pub fn begin(&mut self, event: &str) -> Result<(), AllocError> {
         if self.is_json {
             self.held.push_str("{\"event\":\"")?;
             self.held.push_str(event)?;
@@ -47,7 +47,7 @@ impl Teller {
     }
 
     /// Begins a line on what a member did at a moment.
-    pub(crate) fn begin_at(&mut self, at: u64, member: u32, event: &str) -> Result<(), AllocError> {
+    pub fn begin_at(&mut self, at: u64, member: u32, event: &str) -> Result<(), AllocError> {
         if self.is_json {
             write!(self.held, "{{\"at\":{at},\"member\":{member},\"event\":\"")?;
             self.held.push_str(event)?;
@@ -58,13 +58,13 @@ impl Teller {
     }
 
     /// A field that is a number.
-    pub(crate) fn number(&mut self, name: &str, number: u64) -> Result<(), AllocError> {
+    pub fn number(&mut self, name: &str, number: u64) -> Result<(), AllocError> {
         self.name(name)?;
         write!(self.held, "{number}")
     }
 
     /// A field that is a number, or unknown.
-    pub(crate) fn number_or(&mut self, name: &str, number: Option<u64>) -> Result<(), AllocError> {
+    pub fn number_or(&mut self, name: &str, number: Option<u64>) -> Result<(), AllocError> {
         match number {
             Some(number) => self.number(name, number),
             None => {
@@ -75,7 +75,7 @@ impl Teller {
     }
 
     /// A field that is a word without quotes in it.
-    pub(crate) fn word(&mut self, name: &str, word: &str) -> Result<(), AllocError> {
+    pub fn word(&mut self, name: &str, word: &str) -> Result<(), AllocError> {
         self.name(name)?;
         if !self.is_json {
             return self.held.push_str(word);
@@ -86,22 +86,22 @@ impl Teller {
     }
 
     /// A word that stands for itself, which JSON has under the name `kind`.
-    pub(crate) fn kind(&mut self, word: &str) -> Result<(), AllocError> {
+    pub fn kind(&mut self, word: &str) -> Result<(), AllocError> {
         self.kind_named("kind", word)
     }
 
     /// A line of text as it is, which JSON has under the name `line`.
-    pub(crate) fn line(&mut self, line: &str) -> Result<(), AllocError> {
+    pub fn line(&mut self, line: &str) -> Result<(), AllocError> {
         self.kind_named("line", line)
     }
 
     /// Ends the line.
-    pub(crate) fn end(&mut self) -> Result<(), AllocError> {
+    pub fn end(&mut self) -> Result<(), AllocError> {
         self.held.push_str(if self.is_json { "}\n" } else { "\n" })
     }
 
     /// Writes out what is held back, where it is much.
-    pub(crate) fn write_much<W: Write>(&mut self, output: &mut W) -> Result<(), Broken> {
+    pub fn write_much<W: Write>(&mut self, output: &mut W) -> Result<(), Broken> {
         if self.held.len() < PIECE {
             return Ok(());
         }
@@ -109,7 +109,7 @@ impl Teller {
     }
 
     /// Writes out what is held back.
-    pub(crate) fn write_all<W: Write>(&mut self, output: &mut W) -> Result<(), Broken> {
+    pub fn write_all<W: Write>(&mut self, output: &mut W) -> Result<(), Broken> {
         output.write_all(self.held.as_bytes())?;
         self.held.clear();
         Ok(())

@@ -4,19 +4,19 @@ use simplex_types::{Context, Digest, PlainKey, Proposal, Sha256Digest, Viewable}
 use std::alloc::{AllocError, Global};
 
 /// The payload that view 0 stands for.
-pub(crate) fn genesis() -> Sha256Digest {
+pub fn genesis() -> Sha256Digest {
     Sha256Digest::new([0; 32])
 }
 
 /// What a payload was built on.
 #[derive(Clone, Copy)]
-pub(crate) struct Built {
+pub struct Built {
     /// The view that it was built for.
-    pub(crate) view: u64,
+    pub view: u64,
     /// The view of its parent.
-    pub(crate) parent_view: u64,
+    pub parent_view: u64,
     /// The payload of its parent.
-    pub(crate) parent: Sha256Digest,
+    pub parent: Sha256Digest,
     /// Whether it is found good where it is proposed.
     is_good: bool,
     /// Whether the verdict on it is good.
@@ -25,20 +25,20 @@ pub(crate) struct Built {
 
 /// All payloads that were built. The number of one is its place, from 1 on, and its digest spells the number.
 #[derive(Drop)]
-pub(crate) struct Payloads {
+pub struct Payloads {
     built: Vec<Built>,
 }
 
 impl Payloads {
     /// None but genesis.
-    pub(crate) fn new(alloc: Global) -> Self {
+    pub fn new(alloc: Global) -> Self {
         Payloads {
             built: Vec::new(alloc),
         }
     }
 
     /// Builds a payload on what the context says.
-    pub(crate) fn build(
+    pub fn build(
         &mut self,
         context: &Context<Sha256Digest, PlainKey>,
         is_certified: bool,
@@ -53,10 +53,7 @@ impl Payloads {
     }
 
     /// A payload of a liar, in place of that of a proposal, which nobody finds good.
-    pub(crate) fn forge(
-        &mut self,
-        proposal: &Proposal<Sha256Digest>,
-    ) -> Result<Sha256Digest, AllocError> {
+    pub fn forge(&mut self, proposal: &Proposal<Sha256Digest>) -> Result<Sha256Digest, AllocError> {
         self.add(Built {
             view: proposal.view().get(),
             parent_view: proposal.parent.get(),
@@ -72,7 +69,7 @@ impl Payloads {
     }
 
     /// What the payload was built on, if it was built.
-    pub(crate) fn find(&self, payload: &Sha256Digest) -> Option<Built> {
+    pub fn find(&self, payload: &Sha256Digest) -> Option<Built> {
         let number = number_of(payload)?;
         let place = number.checked_sub(1)?;
         let built = self.built.get(place as usize)?;
@@ -80,7 +77,7 @@ impl Payloads {
     }
 
     /// Whether the proposal is good where it was built on what the context says.
-    pub(crate) fn is_good(
+    pub fn is_good(
         &self,
         context: &Context<Sha256Digest, PlainKey>,
         proposal: &Proposal<Sha256Digest>,
@@ -95,7 +92,7 @@ impl Payloads {
     }
 
     /// The verdict on a notarized proposal.
-    pub(crate) fn verdict(&self, proposal: &Proposal<Sha256Digest>) -> bool {
+    pub fn verdict(&self, proposal: &Proposal<Sha256Digest>) -> bool {
         match self.find(&proposal.payload) {
             Some(built) => {
                 built.is_good && built.is_certified && built.view == proposal.view().get()
@@ -115,7 +112,7 @@ fn digest_of(number: u64) -> Sha256Digest {
 }
 
 /// The number that a digest spells: 0 of genesis, none where it spells none.
-pub(crate) fn number_of(payload: &Sha256Digest) -> Option<u64> {
+pub fn number_of(payload: &Sha256Digest) -> Option<u64> {
     let number = match payload.as_bytes() {
         [a, b, c, d, e, f, g, h, ..] => u64::from_be_bytes([*a, *b, *c, *d, *e, *f, *g, *h]),
         _ => return None,

@@ -4,7 +4,7 @@ use std::alloc::{AllocError, AllocFailed};
 
 /// Why a line of a scenario is refused.
 #[derive(Clone, Copy)]
-pub(crate) enum Refusal {
+pub enum Refusal {
     /// No line begins with that word.
     UnknownLine,
     /// A number is missing, or what stands there is none.
@@ -37,7 +37,7 @@ pub(crate) enum Refusal {
 
 impl Refusal {
     /// What is told of it.
-    pub(crate) fn text(self) -> &'static str {
+    pub fn text(self) -> &'static str {
         match self {
             Refusal::UnknownLine => "no line begins with this word",
             Refusal::NoNumber => "a number is missing, or is none",

@@ -1,7 +1,6 @@
 //! What a liar sends in place of what its node hands out, and beside it.
 
 use crate::payloads::Payloads;
-use crate::scenario::Ways;
 use simplex_fakes::Chance;
 use simplex_member::Channel;
 use simplex_messages::{Finalize, Notarize, Nullify, Vote};
@@ -9,28 +8,29 @@ use simplex_types::{
     Participant, PlainScheme, Proposal, Sha256Digest, Viewable, Write, decode_cfg,
 };
 use std::alloc::{AllocError, Global};
+use world_scenario::Ways;
 
 /// A vote of a world.
 type PlainVote = Vote<PlainScheme, Sha256Digest>;
 
 /// A packet of a liar.
 #[derive(Drop)]
-pub(crate) struct Parcel {
+pub struct Parcel {
     /// The member that it is for.
-    pub(crate) to: u32,
+    pub to: u32,
     /// What it carries.
-    pub(crate) channel: Channel,
+    pub channel: Channel,
     /// Its bytes.
-    pub(crate) bytes: Vec<u8>,
+    pub bytes: Vec<u8>,
 }
 
 /// A lie that is told in a line: in which way, and about which view.
 #[derive(Clone, Copy)]
-pub(crate) struct Lie {
+pub struct Lie {
     /// The way.
-    pub(crate) word: &'static str,
+    pub word: &'static str,
     /// The view.
-    pub(crate) view: u64,
+    pub view: u64,
 }
 
 /// What is said in a vote, and on which side: to members of even, or of odd index.
@@ -62,7 +62,7 @@ const MOST_SAYINGS: usize = 256;
 
 /// A liar.
 #[derive(Drop)]
-pub(crate) struct Liar {
+pub struct Liar {
     alloc: Global,
     index: u32,
     members: u32,
@@ -72,12 +72,12 @@ pub(crate) struct Liar {
     pairs: Vec<Pair>,
     said: Vec<Saying>,
     /// How many packets were no honest ones, or were held back.
-    pub(crate) lies: u64,
+    pub lies: u64,
 }
 
 impl Liar {
     /// A liar that signs so, in a committee of so many.
-    pub(crate) fn new(
+    pub fn new(
         alloc: Global,
         index: u32,
         members: u32,
@@ -99,17 +99,17 @@ impl Liar {
     }
 
     /// Whether it builds two payloads.
-    pub(crate) fn builds_two(&self) -> bool {
+    pub fn builds_two(&self) -> bool {
         self.ways.two_proposals
     }
 
     /// Whether it runs a node at all.
-    pub(crate) fn is_silent(&self) -> bool {
+    pub fn is_silent(&self) -> bool {
         self.ways.silent
     }
 
     /// Notes two payloads that were built for one view, or one twice.
-    pub(crate) fn note_built(
+    pub fn note_built(
         &mut self,
         first: Sha256Digest,
         second: Sha256Digest,
@@ -119,7 +119,7 @@ impl Liar {
     }
 
     /// What it sends in place of a packet for one member, or for all.
-    pub(crate) fn send(
+    pub fn send(
         &mut self,
         payloads: &mut Payloads,
         to: Option<Participant>,
@@ -197,7 +197,10 @@ impl Liar {
     /// Turns some bits of a byte, or cuts the last byte off.
     fn spoil(&mut self, bytes: &mut Vec<u8>) {
         let count = bytes.len() as u64;
-        if count == 0 || self.chance.below(8) == 0 {
+        if count == 0 {
+            return;
+        }
+        if self.chance.below(8) == 0 {
             let _ = bytes.pop();
             return;
         }
@@ -290,7 +293,7 @@ impl Liar {
     }
 
     /// What a two-faced liar sends on hearing a packet of a correct member: the same vote of its own, to the side that it came from.
-    pub(crate) fn hear(
+    pub fn hear(
         &mut self,
         sender: Participant,
         channel: Channel,

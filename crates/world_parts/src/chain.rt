@@ -13,14 +13,14 @@ struct Link {
 
 /// What was finalized by some correct member, with all that it stands on, by ascending views.
 #[derive(Drop)]
-pub(crate) struct Chain {
+pub struct Chain {
     alloc: Global,
     links: Vec<Link>,
 }
 
 impl Chain {
     /// Nothing but genesis.
-    pub(crate) fn new(alloc: Global) -> Self {
+    pub fn new(alloc: Global) -> Self {
         Chain {
             alloc,
             links: Vec::new(alloc),
@@ -28,13 +28,13 @@ impl Chain {
     }
 
     /// How many payloads it has.
-    pub(crate) fn len(&self) -> usize {
+    pub fn len(&self) -> usize {
         self.links.len()
     }
 
     /// Takes up what a correct member finalized. Whether it lies on one chain with all that was taken before; where it doesn't,
     /// it is left out.
-    pub(crate) fn take(
+    pub fn take(
         &mut self,
         payloads: &Payloads,
         proposal: &Proposal<Sha256Digest>,

@@ -11,7 +11,7 @@ const MOST_SEEN: usize = 16_384;
 /// The reports of all correct members, one behind the other. What several of them report alike stands there once, as long as it is
 /// known: an audit names the same whether a report is told once or twice.
 #[derive(Drop)]
-pub(crate) struct Reports {
+pub struct Reports {
     alloc: Global,
     bytes: Vec<u8>,
     seen: BTreeSet<Vec<u8>>,
@@ -19,7 +19,7 @@ pub(crate) struct Reports {
 
 impl Reports {
     /// None.
-    pub(crate) fn new(alloc: Global) -> Self {
+    pub fn new(alloc: Global) -> Self {
         Reports {
             alloc,
             bytes: Vec::new(alloc),
@@ -28,15 +28,12 @@ impl Reports {
     }
 
     /// Their bytes.
-    pub(crate) fn bytes(&self) -> &[u8] {
+    pub fn bytes(&self) -> &[u8] {
         self.bytes.as_slice()
     }
 
     /// Takes up a report.
-    pub(crate) fn add(
-        &mut self,
-        report: &Activity<PlainScheme, Sha256Digest>,
-    ) -> Result<(), AllocError> {
+    pub fn add(&mut self, report: &Activity<PlainScheme, Sha256Digest>) -> Result<(), AllocError> {
         let mut bytes = Vec::new(self.alloc);
         report.write(&mut bytes)?;
         if self.seen.contains(&bytes) {

@@ -12,24 +12,24 @@ const MOST: u64 = 1_000_000_000;
 
 /// How a member lies. Each is told by its own word, and a member may lie in several ways.
 #[derive(Clone, Copy)]
-pub(crate) struct Ways {
+pub struct Ways {
     /// It sends nothing.
-    pub(crate) silent: bool,
+    pub silent: bool,
     /// At times it votes one way to members of even, another way to members of odd index.
-    pub(crate) two_votes: bool,
+    pub two_votes: bool,
     /// As a leader it proposes one payload to members of even, another to members of odd index.
-    pub(crate) two_proposals: bool,
+    pub two_proposals: bool,
     /// It sends packets that are spoiled.
-    pub(crate) forged: bool,
+    pub forged: bool,
     /// It sends to members of even index alone.
-    pub(crate) withheld: bool,
+    pub withheld: bool,
     /// It votes on each side, of even and of odd index, for what that side votes for, and sends nothing else but proposals.
-    pub(crate) two_faced: bool,
+    pub two_faced: bool,
 }
 
 impl Ways {
     /// No lie.
-    pub(crate) const HONEST: Ways = Ways {
+    pub const HONEST: Ways = Ways {
         silent: false,
         two_votes: false,
         two_proposals: false,
@@ -39,7 +39,7 @@ impl Ways {
     };
 
     /// Whether it is a lie at all.
-    pub(crate) fn lies(&self) -> bool {
+    pub fn lies(&self) -> bool {
         let is_two = self.two_votes || self.two_proposals || self.two_faced;
         is_two || self.silent || self.forged || self.withheld
     }
@@ -61,109 +61,109 @@ impl Ways {
 
 /// A crash of a member inside a write.
 #[derive(Clone, Copy)]
-pub(crate) struct Crash {
+pub struct Crash {
     /// The member.
-    pub(crate) member: u32,
+    pub member: u32,
     /// It comes once the member has entered this view.
-    pub(crate) view: u64,
+    pub view: u64,
     /// So many calls of its disk are let through from there on, and the next is cut off.
-    pub(crate) calls: u64,
+    pub calls: u64,
     /// How many milliseconds it is down.
-    pub(crate) down: u64,
+    pub down: u64,
 }
 
 /// A time in which some members and the others don't hear each other, unless one of the two lies.
 #[derive(Drop)]
-pub(crate) struct Cut {
+pub struct Cut {
     /// When it begins, in milliseconds.
-    pub(crate) from: u64,
+    pub from: u64,
     /// When it is over.
-    pub(crate) until: u64,
+    pub until: u64,
     /// Those on the one side.
-    pub(crate) members: Vec<u32>,
+    pub members: Vec<u32>,
 }
 
 /// A least and a most, in milliseconds.
 #[derive(Clone, Copy)]
-pub(crate) struct Span {
+pub struct Span {
     /// The least.
-    pub(crate) least: u64,
+    pub least: u64,
     /// The most, which isn't below it.
-    pub(crate) most: u64,
+    pub most: u64,
 }
 
 /// Which lines a run writes.
 #[derive(Clone, Copy, PartialEq, Eq)]
-pub(crate) enum Detail {
+pub enum Detail {
     /// One for each event that matters.
     All,
     /// Finalized views, crashes, openings, blame and contradictions.
-    Some,
+    Rare,
     /// The end alone.
-    None,
+    End,
 }
 
 /// How the terms and times of each node are set up.
 #[derive(Clone, Copy)]
-pub(crate) struct Times {
+pub struct Times {
     /// How many views a term has.
-    pub(crate) length: u64,
+    pub length: u64,
     /// After how many milliseconds without progress a term is given up, if it is.
-    pub(crate) stall: Option<u64>,
+    pub stall: Option<u64>,
     /// How many views may be taken up ahead.
-    pub(crate) optimistic: u64,
+    pub optimistic: u64,
     /// How long a leader has, in milliseconds.
-    pub(crate) leader: u64,
+    pub leader: u64,
     /// How long a view has for a verdict.
-    pub(crate) certification: u64,
+    pub certification: u64,
     /// How long until a nullify is sent again.
-    pub(crate) retry: u64,
+    pub retry: u64,
     /// After how many milliseconds a leader counts as inactive, if ever.
-    pub(crate) skip: Option<u64>,
+    pub skip: Option<u64>,
     /// How many views below the last finalized one are kept.
-    pub(crate) retention: u64,
+    pub retention: u64,
 }
 
 /// What is to happen.
 #[derive(Drop)]
-pub(crate) struct Scenario {
+pub struct Scenario {
     /// How many members the committee has.
-    pub(crate) members: u32,
+    pub members: u32,
     /// What chance rests on.
-    pub(crate) seed: u64,
+    pub seed: u64,
     /// The view that each correct member is to have finalized at the end.
-    pub(crate) views: u64,
+    pub views: u64,
     /// The moment at which the run ends even so, in milliseconds.
-    pub(crate) until: u64,
+    pub until: u64,
     /// How long a packet is under way.
-    pub(crate) delay: Span,
+    pub delay: Span,
     /// How long the application thinks.
-    pub(crate) work: Span,
+    pub work: Span,
     /// How many of a thousand packets are lost.
-    pub(crate) lost: u64,
+    pub lost: u64,
     /// How many of a thousand packets come twice.
-    pub(crate) repeated: u64,
+    pub repeated: u64,
     /// Of how many of a thousand payloads the verdict is bad.
-    pub(crate) doubted: u64,
+    pub doubted: u64,
     /// After how many milliseconds at most a node is told the time again before it takes an event.
-    pub(crate) clock: u64,
+    pub clock: u64,
     /// How the nodes are set up.
-    pub(crate) times: Times,
+    pub times: Times,
     /// The liars.
-    pub(crate) liars: Vec<(u32, Ways)>,
+    pub liars: Vec<(u32, Ways)>,
     /// The crashes.
-    pub(crate) crashes: Vec<Crash>,
+    pub crashes: Vec<Crash>,
     /// The cuts.
-    pub(crate) cuts: Vec<Cut>,
+    pub cuts: Vec<Cut>,
     /// Whether lines are written as JSON.
-    pub(crate) json: bool,
+    pub json: bool,
     /// Which lines are written.
-    pub(crate) detail: Detail,
+    pub detail: Detail,
 }
 
 impl Scenario {
     /// A committee of four honest members, ten views, and a network that loses nothing.
-    pub(crate) fn new(alloc: Global, json: bool) -> Self {
+    pub fn new(alloc: Global, json: bool) -> Self {
         Scenario {
             members: 4,
             seed: 1,
@@ -185,7 +185,7 @@ impl Scenario {
     }
 
     /// How this member lies.
-    pub(crate) fn ways(&self, member: u32) -> Ways {
+    pub fn ways(&self, member: u32) -> Ways {
         for (liar, ways) in &self.liars {
             if *liar == member {
                 return *ways;
@@ -195,17 +195,17 @@ impl Scenario {
     }
 
     /// Whether this member lies.
-    pub(crate) fn lies(&self, member: u32) -> bool {
+    pub fn lies(&self, member: u32) -> bool {
         self.ways(member).lies()
     }
 
     /// How many members lie.
-    pub(crate) fn liar_count(&self) -> usize {
+    pub fn liar_count(&self) -> usize {
         self.liars.len()
     }
 
     /// Whether a packet between the two is lost at this moment for a cut.
-    pub(crate) fn is_cut(&self, now: u64, from: u32, to: u32) -> bool {
+    pub fn is_cut(&self, now: u64, from: u32, to: u32) -> bool {
         for cut in &self.cuts {
             let is_on = cut.from <= now && now < cut.until;
             if is_on && cut.members.contains(&from) != cut.members.contains(&to) {
@@ -216,7 +216,7 @@ impl Scenario {
     }
 
     /// Takes a line up. After a refusal a part of it may have been.
-    pub(crate) fn take_line(&mut self, alloc: Global, line: &str) -> Result<(), Refusal> {
+    pub fn take_line(&mut self, alloc: Global, line: &str) -> Result<(), Refusal> {
         let mut words = Words::new(line);
         let name = words.word();
         self.set_run(alloc, name, &mut words)?;
@@ -432,8 +432,8 @@ fn is_json(words: &mut Words<'_>) -> Result<bool, Refusal> {
 fn detail_of(words: &mut Words<'_>) -> Result<Detail, Refusal> {
     match words.word() {
         "all" => Ok(Detail::All),
-        "some" => Ok(Detail::Some),
-        "none" => Ok(Detail::None),
+        "some" => Ok(Detail::Rare),
+        "none" => Ok(Detail::End),
         _ => Err(Refusal::UnknownWord),
     }
 }

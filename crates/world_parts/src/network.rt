@@ -1,11 +1,11 @@
 //! What is under way: packets and answers of the application, which come at moments that chance picks.
 
-use crate::scenario::{Scenario, Span};
 use simplex_fakes::Chance;
 use simplex_member::{Channel, Event};
 use simplex_types::{Participant, Sha256Digest};
 use std::alloc::{AllocError, Global};
 use std::collections::BTreeMap;
+use world_scenario::{Scenario, Span};
 
 /// When something comes, and behind how many others that come then.
 #[derive(Clone, Copy, PartialEq, Eq, PartialOrd, Ord)]
@@ -16,31 +16,31 @@ struct Place {
 
 /// What comes to a member.
 #[derive(Drop)]
-pub(crate) struct Arrival {
+pub struct Arrival {
     /// The member.
-    pub(crate) to: u32,
+    pub to: u32,
     /// To which of its lives alone, if it is an answer.
-    pub(crate) life: Option<u64>,
+    pub life: Option<u64>,
     /// What comes.
-    pub(crate) event: Event<Sha256Digest>,
+    pub event: Event<Sha256Digest>,
 }
 
 /// All that is under way.
 #[derive(Drop)]
-pub(crate) struct Network {
+pub struct Network {
     alloc: Global,
     queue: BTreeMap<Place, Arrival>,
     number: u64,
     chance: Chance,
     /// How many packets were sent.
-    pub(crate) sent: u64,
+    pub sent: u64,
     /// How many of them were lost.
-    pub(crate) lost: u64,
+    pub lost: u64,
 }
 
 impl Network {
     /// Nothing under way.
-    pub(crate) fn new(alloc: Global, seed: u64) -> Self {
+    pub fn new(alloc: Global, seed: u64) -> Self {
         Network {
             alloc,
             queue: BTreeMap::new(alloc),
@@ -52,19 +52,19 @@ impl Network {
     }
 
     /// The moment of what comes next.
-    pub(crate) fn next_moment(&self) -> Option<u64> {
+    pub fn next_moment(&self) -> Option<u64> {
         let (place, _) = self.queue.first_key_value()?;
         Some(place.moment)
     }
 
     /// What comes next.
-    pub(crate) fn next(&mut self) -> Option<Arrival> {
+    pub fn next(&mut self) -> Option<Arrival> {
         let (_, arrival) = self.queue.pop_first()?;
         Some(arrival)
     }
 
     /// Sends a packet, which may be lost, or come twice.
-    pub(crate) fn send(
+    pub fn send(
         &mut self,
         scenario: &Scenario,
         now: u64,
@@ -83,7 +83,7 @@ impl Network {
     }
 
     /// The application's answer to this life of a member, after a while.
-    pub(crate) fn answer(
+    pub fn answer(
         &mut self,
         scenario: &Scenario,
         now: u64,
@@ -144,13 +144,13 @@ impl Network {
 
 /// A packet that is sent.
 #[derive(Clone, Copy)]
-pub(crate) struct Packet<'a> {
+pub struct Packet<'a> {
     /// The member that sends it.
-    pub(crate) from: u32,
+    pub from: u32,
     /// The member that it is for.
-    pub(crate) to: u32,
+    pub to: u32,
     /// What it carries.
-    pub(crate) channel: Channel,
+    pub channel: Channel,
     /// Its bytes.
-    pub(crate) bytes: &'a [u8],
+    pub bytes: &'a [u8],
 }

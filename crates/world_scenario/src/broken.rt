@@ -5,7 +5,7 @@ use std::io;
 
 /// Why a run is broken off.
 #[derive(Clone, Copy)]
-pub(crate) enum Broken {
+pub enum Broken {
     /// Memory ran out.
     Memory,
     /// Reading or writing failed.

@@ -10,10 +10,10 @@ use std::cell::Cell;
 use std::rc::Rc;
 
 /// A fuse that never blows.
-pub(crate) const NO_FUSE: u64 = u64::MAX;
+pub const NO_FUSE: u64 = u64::MAX;
 
 /// How many calls a disk lets through. Its member holds the same one, and sets it while a node has the disk.
-pub(crate) type Fuse = Rc<Cell<u64>>;
+pub type Fuse = Rc<Cell<u64>>;
 
 /// What was written since the last sync, of which a crash may leave any part.
 #[derive(Drop)]
@@ -24,10 +24,21 @@ struct Loose {
     before: Vec<u8>,
 }
 
+/// What comes of a call.
+#[derive(Clone, Copy, PartialEq, Eq)]
+enum Admission {
+    /// It is let through.
+    Through,
+    /// The crash comes inside it.
+    CutOff,
+    /// The crash came before.
+    Down,
+}
+
 /// A disk in memory that lets some calls through. The next is cut off: a write, or what was written and not synced by then, stands
 /// in part, and each further call fails until the disk is mended.
 #[derive(Drop)]
-pub(crate) struct TornDisk {
+pub struct TornDisk {
     alloc: Global,
     bytes: Vec<u8>,
     loose: Option<Loose>,
@@ -39,7 +50,7 @@ pub(crate) struct TornDisk {
 
 impl TornDisk {
     /// An empty disk with this fuse. Which part of a write stands rests on the seed.
-    pub(crate) fn new(alloc: Global, fuse: Fuse, seed: u64) -> Self {
+    pub fn new(alloc: Global, fuse: Fuse, seed: u64) -> Self {
         TornDisk {
             alloc,
             bytes: Vec::new(alloc),
@@ -52,25 +63,46 @@ impl TornDisk {
     }
 
     /// How many bytes it holds.
-    pub(crate) fn size(&self) -> usize {
+    pub fn size(&self) -> usize {
         self.bytes.len()
     }
 
     /// Lets all calls through again, over what a crash left.
-    pub(crate) fn mend(&mut self) {
+    pub fn mend(&mut self) {
         self.fuse.set(NO_FUSE);
         self.loose = None;
         self.is_down = false;
     }
 
-    /// Whether the next call is let through. It is counted.
-    fn admits(&mut self) -> bool {
+    /// What comes of the next call, which is counted.
+    fn admission(&mut self) -> Admission {
+        if self.is_down {
+            return Admission::Down;
+        }
         let left = self.fuse.get();
         if left == NO_FUSE {
-            return true;
+            return Admission::Through;
+        }
+        if left == 0 {
+            self.is_down = true;
+            return Admission::CutOff;
         }
         self.fuse.set(left.saturating_sub(1));
-        left > 0
+        Admission::Through
+    }
+
+    /// Whether the next call is let through, of those that leave nothing in part.
+    fn admits(&mut self) -> bool {
+        self.admission() == Admission::Through
+    }
+
+    /// How many of so many bytes stand.
+    fn part_of(&mut self, count: usize) -> usize {
+        let bound = (count as u64).saturating_add(1);
+        if bound == 0 {
+            return 0;
+        }
+        self.chance.below(bound) as usize
     }
 
     /// Writes over what is there and past the end, or answers `None`.
@@ -98,39 +130,21 @@ impl TornDisk {
 
     /// A write that is cut off: some bytes of it stand.
     fn write_in_part(&mut self, at: usize, bytes: &[u8]) -> Option<()> {
-        if self.is_down {
-            return None;
-        }
-        self.is_down = true;
-        let bound = (bytes.len() as u64).saturating_add(1);
-        let kept = if bound > 0 {
-            self.chance.below(bound)
-        } else {
-            0
-        };
-        let front = bytes.get(..kept as usize)?;
+        let kept = self.part_of(bytes.len());
+        let front = bytes.get(..kept)?;
         self.put(at, front)
     }
 
     /// What was written since the last sync stands in part.
     fn tear(&mut self) -> Option<()> {
-        if self.is_down {
-            return None;
-        }
-        self.is_down = true;
         let Loose { at, before } = self.loose.take()?;
         let end = at.checked_add(before.len())?;
         let fresh = self.bytes.len().checked_sub(end)?;
         if self.chance.below(2) == 0 {
             self.put(at, &before)?;
         }
-        let bound = (fresh as u64).saturating_add(1);
-        let kept = if bound > 0 {
-            self.chance.below(bound)
-        } else {
-            0
-        };
-        self.bytes.truncate(end.checked_add(kept as usize)?);
+        let kept = self.part_of(fresh);
+        self.bytes.truncate(end.checked_add(kept)?);
         Some(())
     }
 
@@ -197,11 +211,13 @@ impl Disk for TornDisk {
     }
 
     fn write_at(&mut self, at: u64, bytes: &[u8]) -> Result<(), DiskFault> {
-        let done = if self.admits() {
-            self.write(at as usize, bytes)
-        } else {
-            let _ = self.write_in_part(at as usize, bytes);
-            None
+        let done = match self.admission() {
+            Admission::Through => self.write(at as usize, bytes),
+            Admission::CutOff => {
+                let _ = self.write_in_part(at as usize, bytes);
+                None
+            }
+            Admission::Down => None,
         };
         self.counted(done)
     }
@@ -216,12 +232,16 @@ impl Disk for TornDisk {
     }
 
     fn sync(&mut self) -> Result<(), DiskFault> {
-        let done = if self.admits() {
-            self.loose = None;
-            Some(())
-        } else {
-            let _ = self.tear();
-            None
+        let done = match self.admission() {
+            Admission::Through => {
+                self.loose = None;
+                Some(())
+            }
+            Admission::CutOff => {
+                let _ = self.tear();
+                None
+            }
+            Admission::Down => None,
         };
         self.counted(done)
     }
