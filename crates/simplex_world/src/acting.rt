@@ -24,8 +24,10 @@ impl World {
         match deed {
             Action::Send { to, channel, bytes } => self.send(place, to, channel, &bytes),
             Action::Wake(moment) => {
+                // A node whose clock lags may name a moment that has passed.
+                let due = moment.max(self.now.saturating_add(1));
                 if let Some(member) = self.members.get_mut(place) {
-                    member.due = Some(moment);
+                    member.due = Some(due);
                 }
                 Ok(())
             }

@@ -4,7 +4,7 @@ use simplex_decisions::config::{Config, ForwardPolicy, SkipBudget, SkipPolicy};
 use simplex_member::{Action, Event, NodeFault, OpenFault, Reply};
 use simplex_node::Node;
 use simplex_rules::elector::{Config as Building, RoundRobin, RoundRobinElector};
-use simplex_types::{Epoch, Participant, PlainScheme, Sha256Digest, TermLength, ViewDelta};
+use simplex_types::{Epoch, Participant, PlainScheme, Scheme, Sha256Digest, TermLength, ViewDelta};
 use std::alloc::{AllocError, Global};
 use std::cell::Cell;
 use std::rc::Rc;
@@ -102,22 +102,18 @@ impl Member {
         scenario: &Scenario,
         now: u64,
     ) -> Result<Outcome, Broken> {
+        let scheme = Rc::new(alloc, committee(alloc, scenario.members, self.index)?)?;
+        let members = Scheme::<Sha256Digest>::participants(&*scheme);
+        let rotation = rotation_of(&scenario.times);
+        let elector = Building::<PlainScheme, Sha256Digest>::build(&rotation, alloc, members)?;
         let Some(disk) = self.disk.take() else {
             return Ok(Outcome::Nothing);
         };
         self.life = self.life.saturating_add(1);
         self.blocked.clear();
         self.told = now;
-        let scheme = Rc::new(alloc, committee(alloc, scenario.members, self.index)?)?;
-        let elector = elector_of(alloc, &scenario.times, scenario.members)?;
-        match Node::open(
-            alloc,
-            config_of(&scenario.times),
-            scheme,
-            elector,
-            disk,
-            now,
-        ) {
+        let config = config_of(&scenario.times);
+        match Node::open(alloc, config, scheme, elector, disk, now) {
             Ok((node, actions)) => {
                 self.node = Some(node);
                 Ok(Outcome::Did(actions))
@@ -231,16 +227,15 @@ pub(crate) fn committee(alloc: Global, members: u32, me: u32) -> Result<PlainSch
 }
 
 /// Who leads: all in turn, a term each.
-fn elector_of(alloc: Global, times: &Times, members: u32) -> Result<RoundRobinElector, AllocError> {
-    let rotation = match times.stall {
-        Some(stall) => RoundRobin::default().with_term(
+fn rotation_of(times: &Times) -> RoundRobin {
+    match times.stall {
+        Some(stall) if stall > 0 => RoundRobin::default().with_term(
             TermLength::new(length_of(times)),
             stall,
             ViewDelta::new(times.optimistic),
         ),
-        None => RoundRobin::default(),
-    };
-    Building::<PlainScheme, Sha256Digest>::build(&rotation, alloc, members)
+        _ => RoundRobin::default(),
+    }
 }
 
 /// How many views a term has, from 1 on.
