@@ -57,7 +57,7 @@ impl World {
             Some(Some(liar)) => Some(liar.lies),
             _ => None,
         };
-        self.teller.begin("member")?;
+        self.teller.begin("stands")?;
         self.teller.number("member", u64::from(member.index))?;
         self.teller
             .word("is", if lies.is_some() { "liar" } else { "correct" })?;
