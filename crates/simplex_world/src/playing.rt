@@ -34,7 +34,8 @@ fn play_lines<R: Read + Drop, W: Write>(
     output: &mut W,
 ) -> Result<u8, Broken> {
     let mut scenario = Scenario::new(alloc, is_json);
-    let mut has_lines = false;
+    // An input without a line is a scenario too.
+    let mut is_begun = true;
     let mut status = 0;
     let mut number: u64 = 0;
     for line in BufReader::new(alloc, input)?.lines(alloc) {
@@ -47,15 +48,15 @@ fn play_lines<R: Read + Drop, W: Write>(
         if words == "run" {
             let whole = std::mem::replace(&mut scenario, Scenario::new(alloc, is_json));
             status = run(alloc, whole, number, output)?.max(status);
-            has_lines = false;
+            is_begun = false;
             continue;
         }
-        has_lines = true;
+        is_begun = true;
         if let Err(refusal) = scenario.take_line(alloc, words) {
             return refuse(alloc, scenario.json, number, refusal, output);
         }
     }
-    if has_lines {
+    if is_begun {
         status = run(alloc, scenario, number, output)?.max(status);
     }
     Ok(status)
@@ -88,8 +89,8 @@ fn refuse<W: Write>(
     }
     let mut teller = Teller::new(alloc, is_json, Detail::All);
     teller.begin("refused")?;
-    teller.number("number", number)?;
-    teller.line(refusal.text())?;
+    teller.number("line", number)?;
+    teller.why(refusal.text())?;
     teller.end()?;
     teller.write_all(output)?;
     Ok(REFUSED)
