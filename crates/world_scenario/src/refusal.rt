@@ -27,8 +27,6 @@ pub enum Refusal {
     Zero,
     /// The number is above the most, which is 10^9.
     TooLarge,
-    /// A liar's crashes are its own affair.
-    LiarCrashes,
     /// No node can be set up so.
     Times,
     /// Memory ran out.
@@ -50,7 +48,6 @@ impl Refusal {
             Refusal::Share => "a share is at most 1000 of a thousand",
             Refusal::Zero => "the number has to be above 0",
             Refusal::TooLarge => "the number is above 1000000000",
-            Refusal::LiarCrashes => "a liar has no crashes",
             Refusal::Times => "no node can be set up with these times",
             Refusal::Memory => "memory ran out",
         }

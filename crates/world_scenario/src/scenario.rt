@@ -332,9 +332,6 @@ impl Scenario {
         let view = number_of(words)?;
         let calls = number_of(words)?;
         let down = number_of(words)?;
-        if self.lies(member) {
-            return Err(Refusal::LiarCrashes);
-        }
         self.crashes.push(Crash {
             member,
             view,

@@ -95,6 +95,11 @@ impl Teller {
         self.kind_named("line", line)
     }
 
+    /// Why something is refused, which JSON has under the name `why`.
+    pub fn why(&mut self, reason: &str) -> Result<(), AllocError> {
+        self.kind_named("why", reason)
+    }
+
     /// Ends the line.
     pub fn end(&mut self) -> Result<(), AllocError> {
         self.held.push_str(if self.is_json { "}\n" } else { "\n" })
