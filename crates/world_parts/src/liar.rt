@@ -155,7 +155,7 @@ impl Liar {
             return Ok(false);
         }
         let vote: Option<PlainVote> = decode_cfg(self.alloc, bytes, self.members)?;
-        match vote {
+        match &vote {
             Some(Vote::Notarize(vote)) => Ok(self.beside(&vote.proposal.payload).is_some()),
             _ => Ok(false),
         }
@@ -217,16 +217,29 @@ impl Liar {
         bytes: &[u8],
     ) -> Result<Option<(Vec<u8>, Lie)>, AllocError> {
         let vote: Option<PlainVote> = decode_cfg(self.alloc, bytes, self.members)?;
-        let turned = match vote {
-            Some(Vote::Notarize(vote)) => self.turned_notarize(payloads, &vote.proposal)?,
-            Some(Vote::Finalize(vote)) => self.turned_finalize(&vote.proposal),
-            _ => None,
-        };
+        match &vote {
+            Some(Vote::Notarize(vote)) => {
+                let turned = self.turned_notarize(payloads, &vote.proposal)?;
+                self.spelled(&turned)
+            }
+            Some(Vote::Finalize(vote)) => {
+                let turned = self.turned_finalize(&vote.proposal);
+                self.spelled(&turned)
+            }
+            _ => Ok(None),
+        }
+    }
+
+    /// The bytes of a vote, with the lie that it is.
+    fn spelled(
+        &self,
+        turned: &Option<(PlainVote, Lie)>,
+    ) -> Result<Option<(Vec<u8>, Lie)>, AllocError> {
         match turned {
             Some((vote, lie)) => {
                 let mut bytes = Vec::new(self.alloc);
                 vote.write(&mut bytes)?;
-                Ok(Some((bytes, lie)))
+                Ok(Some((bytes, *lie)))
             }
             None => Ok(None),
         }
