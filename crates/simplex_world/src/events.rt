@@ -101,7 +101,7 @@ impl World {
             return Ok(());
         }
         self.begin(place, "lied")?;
-        self.teller.kind(lie.word)?;
+        self.teller.kind(lie.word())?;
         self.teller.number("view", lie.view)?;
         Ok(self.teller.end()?)
     }

@@ -27,10 +27,21 @@ pub struct Parcel {
 /// A lie that is told in a line: in which way, and about which view.
 #[derive(Clone, Copy)]
 pub struct Lie {
-    /// The way.
-    pub word: &'static str,
+    /// Whether it is about a second proposal of its own, and not another vote.
+    is_proposal: bool,
     /// The view.
     pub view: u64,
+}
+
+impl Lie {
+    /// The word for the way.
+    pub fn word(&self) -> &'static str {
+        if self.is_proposal {
+            "two-proposals"
+        } else {
+            "two-votes"
+        }
+    }
 }
 
 /// What is said in a vote, and on which side: to members of even, or of odd index.
@@ -272,18 +283,18 @@ impl Liar {
         proposal: &Proposal<Sha256Digest>,
     ) -> Result<Option<(PlainVote, Lie)>, AllocError> {
         let view = proposal.view().get();
-        let (payload, word) = match self.second_of(&proposal.payload) {
-            Some(second) => (second, "two-proposals"),
+        let (payload, is_proposal) = match self.second_of(&proposal.payload) {
+            Some(second) => (second, true),
             None => {
                 if !self.ways.two_votes || self.chance.below(2) == 0 {
                     return Ok(None);
                 }
-                (payloads.forge(proposal)?, "two-votes")
+                (payloads.forge(proposal)?, false)
             }
         };
         let other = Proposal::new(proposal.round, proposal.parent, payload);
         match Notarize::sign(&self.scheme, other) {
-            Some(vote) => Ok(Some((Vote::Notarize(vote), Lie { word, view }))),
+            Some(vote) => Ok(Some((Vote::Notarize(vote), Lie { is_proposal, view }))),
             None => Ok(None),
         }
     }
@@ -294,15 +305,15 @@ impl Liar {
         if let Some(payload) = self.second_of(&proposal.payload) {
             let other = Proposal::new(proposal.round, proposal.parent, payload);
             let vote = Finalize::sign(&self.scheme, other)?;
-            let word = "two-proposals";
-            return Some((Vote::Finalize(vote), Lie { word, view }));
+            let is_proposal = true;
+            return Some((Vote::Finalize(vote), Lie { is_proposal, view }));
         }
         if !self.ways.two_votes || self.chance.below(2) == 0 {
             return None;
         }
         let vote = Nullify::sign(&self.scheme, proposal.round)?;
-        let word = "two-votes";
-        Some((Vote::Nullify(vote), Lie { word, view }))
+        let is_proposal = false;
+        Some((Vote::Nullify(vote), Lie { is_proposal, view }))
     }
 
     /// What a two-faced liar sends on hearing a packet of a correct member: the same vote of its own, to the side that it came from.
