@@ -1,4 +1,3 @@
 pub mod Numerals
-pub mod Words
 pub mod Counts
 pub mod Written

@@ -5,7 +5,7 @@ use Rattle.std.specs.Int.{IsInRange}
 use Rattle.std.specs.Result.{result_ok}
 use Rattle.std.specs.Str.Parse.{AllDigits, digits_value, ParsesUnsigned}
 use Rattle.std.proofs.lemmas.Str.Parse.{IsNumeralModel, numerals_by_value, tells_digits, parse_plain, digit_at}
-use Rattle.std.proofs.lemmas.Fmt.{digits_decimal, decimal_nonempty, first_decimal, decimal_digit, decimal-digits_value, parse-decimal, decimal_injective}
+use Rattle.std.proofs.lemmas.Fmt.{digits_decimal, decimal_nonempty, first_decimal, decimal_digit, decimal-digits_value, parse-decimal}
 use Rattle.simplex_cli.specs.Command.{SpellsNumber}
 
 own : IsNumeralModel (AllDigits 10) (digits_value 10)
@@ -46,7 +46,3 @@ pub unparsed_is_unspelled : {E : Type 0} (word : List ℕ) (r : Result ℕ E) �
 unparsed_is_unspelled word (Ok m) h none n spells = cc
 unparsed_is_unspelled word (Err e) h none n (small, spells) =
     let same = parse-decimal 16 n word (Err e) small (omega arith) spells h in cc
-
--- a word spells one number
-pub spelled_once : (word : List ℕ) (m n : ℕ) → SpellsNumber word m → SpellsNumber word n → m ≡ n
-spelled_once word m n (small, e) (small', e') = decimal_injective m n (omega arith) (omega arith) (sym e ∙ e')

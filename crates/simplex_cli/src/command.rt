@@ -42,7 +42,7 @@ pub fn number_of(word: &str) -> Option<u16>
 }
 
 /// The number of participants that a word spells. A word that spells 0, or no number, is refused.
-fn count_of(word: &str) -> Option<u16>
+pub fn count_of(word: &str) -> Option<u16>
     ensures spelled { IfSome result (SpellsNumber word.now) }
     ensures some { IfSome result (λ count. 0 < count) }
     ensures refused { IsNone result → (n : ℕ) → 0 < n → ¬ SpellsNumber word.now n }

@@ -9,7 +9,7 @@ mod program;
 mod running;
 mod trouble;
 
-pub use command::{Command, USAGE, number_of, parse_words};
+pub use command::{Command, USAGE, count_of, number_of, parse_words};
 pub use input::{InputError, read_all};
 pub use output::write_whole;
 pub use program::{run_words, words_unread};

@@ -1,11 +1,12 @@
 //! The words of the command line.
 
-ghost use Rattle.std.specs.Prelude.{◌<◌, [], ◌∷◌, codes, IfSome, map, string_bytes};
-ghost use Rattle.simplex_cli.specs.Command.{SpellsNumber};
+ghost use Rattle.std.specs.Prelude.{[], ◌∷◌, codes, IfSome, IsNone, map, string_bytes};
+ghost use Rattle.simplex_tooling.specs.declared.command.Call.{Call};
+ghost use Rattle.simplex_tooling.specs.declared.command.Request.{Request};
 ghost use Rattle.simplex_tooling.specs.Command.{IsAsked, SpellsCall, SpellsRequest};
 
 use crate::style::Style;
-use simplex_cli::number_of;
+use simplex_cli::{count_of, number_of};
 
 /// What the program is asked for.
 #[derive(Clone, Copy, Debug, PartialEq, Eq)]
@@ -56,20 +57,10 @@ pub const HELP: &str =
 /// Which version of the formats the program reads.
 pub const VERSION: &str = "simplex_tool: version 1 of the formats\n";
 
-/// The number of participants that a word spells. A word that spells 0, or no number, is refused.
-fn count_of(word: &str) -> Option<u16>
-    ensures spelled { IfSome result (SpellsNumber word.now) }
-    ensures some { IfSome result (λ count. 0 < count) }
-{
-    match number_of(word) {
-        Some(0) => None,
-        number => number,
-    }
-}
-
 /// What one word asks for.
 fn request_of_one<'a>(word: &str) -> Option<Request<'a>>
     ensures accepted { IfSome result (SpellsRequest (word.now ∷ [])) }
+    ensures refused { IsNone result → (request : Request) → ¬ SpellsRequest (word.now ∷ []) request }
     ensures asked { IfSome result IsAsked }
 {
     match word {
@@ -82,6 +73,7 @@ fn request_of_one<'a>(word: &str) -> Option<Request<'a>>
 /// What two words ask for.
 fn request_of_two<'a>(command: &str, count: &str) -> Option<Request<'a>>
     ensures accepted { IfSome result (SpellsRequest (command.now ∷ count.now ∷ [])) }
+    ensures refused { IsNone result → (request : Request) → ¬ SpellsRequest (command.now ∷ count.now ∷ []) request }
     ensures asked { IfSome result IsAsked }
 {
     if command != "evidence" {
@@ -94,6 +86,7 @@ fn request_of_two<'a>(command: &str, count: &str) -> Option<Request<'a>>
 /// What a dump is asked for.
 fn dump_of<'a>(what: &str, word: &'a str) -> Option<Request<'a>>
     ensures accepted { IfSome result (SpellsRequest (codes "dump" ∷ what.now ∷ word.now ∷ [])) }
+    ensures refused { IsNone result → (request : Request) → ¬ SpellsRequest (codes "dump" ∷ what.now ∷ word.now ∷ []) request }
     ensures asked { IfSome result IsAsked }
 {
     if what == "record" {
@@ -109,6 +102,7 @@ fn dump_of<'a>(what: &str, word: &'a str) -> Option<Request<'a>>
 /// Which member's record is to be checked.
 fn check_of<'a>(index: &str, count: &str, path: &'a str) -> Option<Request<'a>>
     ensures accepted { IfSome result (SpellsRequest (codes "check" ∷ index.now ∷ count.now ∷ path.now ∷ [])) }
+    ensures refused { IsNone result → (request : Request) → ¬ SpellsRequest (codes "check" ∷ index.now ∷ count.now ∷ path.now ∷ []) request }
     ensures asked { IfSome result IsAsked }
 {
     let index = number_of(index)?;
@@ -123,6 +117,7 @@ fn check_of<'a>(index: &str, count: &str, path: &'a str) -> Option<Request<'a>>
 /// What the words ask for.
 fn request_of<'a>(words: &'a [String]) -> Option<Request<'a>>
     ensures accepted { IfSome result (SpellsRequest (map string_bytes words.now)) }
+    ensures refused { IsNone result → (request : Request) → ¬ SpellsRequest (map string_bytes words.now) request }
     ensures asked { IfSome result IsAsked }
 {
     match words {
@@ -140,6 +135,7 @@ fn request_of<'a>(words: &'a [String]) -> Option<Request<'a>>
 /// perhaps `--json`. Words that spell none are refused.
 pub fn parse_call<'a>(words: &'a [String]) -> Option<Call<'a>>
     ensures accepted { IfSome result (SpellsCall (map string_bytes words.now)) }
+    ensures refused { IsNone result → (call : Call) → ¬ SpellsCall (map string_bytes words.now) call }
     ensures asked { IfSome result (λ call. IsAsked call.request) }
 {
     match words {
@@ -157,6 +153,7 @@ pub fn parse_call<'a>(words: &'a [String]) -> Option<Call<'a>>
 /// The call of these words behind `--json`.
 fn call_in_json<'a>(words: &'a [String]) -> Option<Call<'a>>
     ensures accepted { IfSome result (SpellsCall (codes "--json" ∷ map string_bytes words.now)) }
+    ensures refused { IsNone result → (call : Call) → ¬ SpellsCall (codes "--json" ∷ map string_bytes words.now) call }
     ensures asked { IfSome result (λ call. IsAsked call.request) }
 {
     let request = request_of(words)?;

@@ -1,5 +1,5 @@
 use Rattle.std.proofs.Common.{◌≡◌, arith}
-use Rattle.simplex_cli.proofs.Numerals.{spelled_once}
+use Rattle.simplex_cli.specs.Words.{spelled_once}
 use Rattle.simplex_cli.proofs.command.count_of.Goals as goal
 
 pub returns-in-Some-eq0-clause-refused : goal.returns-in-Some-eq0-clause-refused

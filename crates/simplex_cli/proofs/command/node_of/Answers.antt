@@ -1,7 +1,7 @@
 use Rattle.std.proofs.Common.{◌≡◌, arith}
 use Rattle.std.specs.Fmt.{decimal}
 use Rattle.simplex_cli.specs.declared.command.Command.TheVariants.{Audit, Node}
-use Rattle.simplex_cli.proofs.Numerals.{spelled_once}
+use Rattle.simplex_cli.specs.Words.{spelled_once}
 use Rattle.simplex_cli.proofs.command.node_of.Goals as goal
 
 pub returns-else-index-count-clause-refused : goal.returns-else-index-count-clause-refused

@@ -1,5 +1,5 @@
 use Rattle.std.proofs.Common.{◌≡◌, [], ◌∷◌, arith, rules, map, string_bytes, codes}
-use Rattle.simplex_cli.proofs.Words.{map_two, map_four}
+use Rattle.simplex_cli.specs.Words.{map_two, map_four}
 use Rattle.simplex_cli.proofs.command.parse_words.Goals as goal
 
 pub returns-in-len2-clause-accepted : goal.returns-in-len2-clause-accepted

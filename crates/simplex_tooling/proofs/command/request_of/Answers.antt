@@ -1,5 +1,6 @@
 use Rattle.std.proofs.Common.{◌≡◌, [], ◌∷◌, arith, rules, map, string_bytes, codes}
-use Rattle.simplex_tooling.proofs.Words.{map_three, map_four}
+use Rattle.simplex_cli.specs.Words.{map_four}
+use Rattle.simplex_tooling.proofs.Words.{map_three}
 use Rattle.simplex_tooling.proofs.command.request_of.Goals as goal
 
 pub returns-in-len3-clause-accepted : goal.returns-in-len3-clause-accepted

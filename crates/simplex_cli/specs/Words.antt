@@ -1,5 +1,11 @@
--- The texts of a list of two words, and of four.
-use Rattle.std.proofs.Common.{◌≡◌, List, [], ◌∷◌, length, get_or, map, arith}
+-- Lemmas for whoever reads words: which number one spells, and the texts of a list of two, and of four.
+use Rattle.std.proofs.Common.{◌≡◌, ℕ, List, [], ◌∷◌, length, get_or, map, arith, sym, ◌∙◌}
+use Rattle.std.proofs.lemmas.Fmt.{decimal_injective}
+use Rattle.simplex_cli.specs.Command.{SpellsNumber}
+
+-- a word spells one number
+pub spelled_once : (word : List ℕ) (m n : ℕ) → SpellsNumber word m → SpellsNumber word n → m ≡ n
+spelled_once word m n (small, e) (small', e') = decimal_injective m n (omega arith) (omega arith) (sym e ∙ e')
 
 pub map_two : {X Y : Type 0} (f : X → Y) (xs : List X) (a b : X) → length xs ≡ 2 → a ≡ get_or xs 0 a → b ≡ get_or xs 1 b → map f xs ≡ f a ∷ f b ∷ []
 map_two f [] a b e p q = absurd (omega arith)
