@@ -1,21 +1,21 @@
 -- The verifier after a vote came, an own one or one from the network.
 use Rattle.std.proofs.Common.{◌≡◌, ℕ, Bool, true, false, not, ◌&&◌, ◌||◌, ◌∷◌, refl, ◌∙◌}
-use Rattle.std.specs.Prelude.{Result, OnErr, None, if◌then◌else◌}
+use Rattle.std.specs.Prelude.{Result, Ok, Err, OnErr, None, if◌then◌else◌}
 use Rattle.simplex_types.specs.declared.scheme.Scheme.{Ghosts}
 use Rattle.simplex_messages.specs.declared.vote.Vote.{Vote}
 use Rattle.simplex_certificates.specs.declared.certificate.Certificate.{Certificate}
 use Rattle.simplex_rules.specs.declared.kind.Kind.{Kind}
 use Rattle.simplex_types.specs.Subject.{Statement}
-use Rattle.simplex_verifier.specs.declared.rows.Rows.{Rows}
+use Rattle.simplex_rows.specs.declared.rows.Rows.{Rows}
 use Rattle.simplex_verifier.specs.declared.proposal_state.ProposalState.{ProposalState}
 use Rattle.simplex_verifier.specs.declared.verifier.Verifier.{Verifier}
 use Rattle.simplex_verifier.specs.Votes.{is_kind, vote_kind, fixed_proposal}
 use Rattle.simplex_verifier.specs.History.{History, accepted, waiting, verified, Event, Taken, Cast, Setup, select, proposal_of, selection, selected, leader_of, is_complete, is_candidate}
-use Rattle.simplex_verifier.specs.Rows.{tally_at, KindIs, AreNewest, KindKeeps, RowsStay, pushed}
+use Rattle.simplex_rows.specs.Rows.{tally_at, KindIs, AreNewest, RowsStay, pushed}
 use Rattle.simplex_verifier.specs.Lawful.{MayHappen, MayBeAdded}
-use Rattle.simplex_verifier.specs.Keeping.{selection_of, led_by, KeepsFor, IsVerifierKept, IsChosen}
+use Rattle.simplex_verifier.specs.Keeping.{RowsKeep, selection_of, led_by, KeepsFor, IsVerifierKept, IsChosen, KindKeeps}
 use Rattle.simplex_verifier.proofs.Folding.{selection-taken, selection-cast}
-use Rattle.simplex_verifier.proofs.Holding.{on-err, stays-keep}
+use Rattle.simplex_rows.specs.Staying.{stays-kind, places-newest}
 use Rattle.simplex_verifier.proofs.Choosing.{chosen-keeps, counts-mine, counts-good, keeps-taken, keeps-cast}
 
 module _ {S D P G C : Type 0} where
@@ -41,6 +41,19 @@ module _ {S D P G C : Type 0} (same : D → D → Bool) (attests : S → ℕ →
   pub may-add : (own : Bool) → MayHappen same attests s h (came own v) → MayBeAdded same s h v
   may-add true allowed = allowed.0
   may-add false allowed = allowed
+
+-- what holds, holds of a failure
+on-err : {X E : Type 0} (r : Result X E) (P : Type 0) → P → OnErr r P
+on-err (Ok x) P p = tt
+on-err (Err e) P p = p
+
+module _ {S D P G C : Type 0} (same : D → D → Bool) (s : Setup S) (h : History S D P G C) where
+  -- rows without votes change nothing
+  stays-keep : (old new : Rows S D P G C) → RowsStay old new → RowsKeep same s old h → RowsKeep same s new h
+  stays-keep old new r k = record {
+    places = places-newest s.members (accepted h) old new r.places k.places;
+    kinds = λ kind. stays-kind kind old new (is_complete kind h) (waiting same s kind h) (verified same s kind h) r (k.kinds kind);
+  }
 
 module _ {S D P G C : Type 0} (same : D → D → Bool) (s : Setup S) (kind : Kind) where
   -- the votes of a kind after the vote came

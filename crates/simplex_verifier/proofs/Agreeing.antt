@@ -1,6 +1,6 @@
 -- Votes of one kind that are for one thing are so in each order, and whose vote is found.
-use Rattle.std.proofs.Common.{◌≡◌, ◌==◌, ◌<◌, ◌≤◌, ℕ, Bool, true, false, not, cond, List, [], ◌∷◌, length, get_or, inl, inr, refl, ap, sym, ◌∙◌, arith}
-use Rattle.std.specs.Prelude.{Option, None, Some, MatchOption, find, is_none, IsTrue, ◌↔◌, if◌then◌else◌}
+use Rattle.std.proofs.Common.{◌≡◌, ◌==◌, ◌<◌, ◌≤◌, ℕ, Bool, true, false, not, cond, List, [], ◌∷◌, get_or, inl, inr, refl, sym, ◌∙◌, arith}
+use Rattle.std.specs.Prelude.{Option, None, Some, MatchOption, find, is_none, IsTrue, ◌↔◌}
 use Rattle.std.specs.List.{All, Contains}
 use Rattle.std.proofs.lemmas.Bool.{cases_lt}
 use Rattle.std.specs.List.Sorted.{IsPermutation}
@@ -11,13 +11,16 @@ use Rattle.simplex_messages.specs.declared.vote.Vote.{Vote}
 use Rattle.simplex_messages.specs.declared.vote.Vote.TheVariants as vote
 use Rattle.simplex_messages.specs.VoteParts.{vote_signer}
 use Rattle.simplex_rules.specs.declared.kind.Kind.{Kind}
-use Rattle.simplex_verifier.specs.declared.rows.Rows.{Rows}
+use Rattle.simplex_rows.specs.declared.rows.Rows.{Rows}
 use Rattle.simplex_verifier.specs.Votes.{is_kind, is_of, is_proposal, vote_kind, vote_proposal}
 use Rattle.simplex_verifier.specs.History.{is_candidate, are_one}
-use Rattle.simplex_verifier.specs.Rows.{head_of, vote_at, AreNewest}
-use Rattle.simplex_verifier.proofs.Shuffling.{empty-permutation}
-use Rattle.simplex_verifier.proofs.Holding.{itself, one-kind}
+use Rattle.simplex_rows.specs.Rows.{head_of, members_of, newest_of, AreNewest}
+use Rattle.simplex_rows.specs.Permutations.{empty-permutation}
+use Rattle.simplex_rows.specs.Kinds.{one-kind}
 use Rattle.simplex_verifier.proofs.Stating.{one-proposal}
+
+itself : (i : ℕ) → (i == i) ≡ true
+itself i = grind arith
 
 one-truth : (a b : Bool) → (a ≡ true → b ≡ true) → (b ≡ true → a ≡ true) → a ≡ b
 one-truth true b f g = sym (f refl)
@@ -116,8 +119,8 @@ module _ {S D P G C : Type 0} where
 
   -- a signer's newest vote is found, where members alone voted
   pub newest-found : (rows : Rows S D P G C) (members : ℕ) (votes : List (Vote S D P G C)) (side : Bool) (i : ℕ) (o : Option (Vote S D P G C)) → AreNewest rows members votes → All (λ v. vote_signer v < members) votes
-      → (i < rows.members → o ≡ vote_at side rows.rows.items i) → (rows.members ≤ i → o ≡ None) → o ≡ find (is_of side i) votes
-  newest-found rows members votes side i o k all member stranger = elim (cases_lt i rows.members) [
+      → (i < members_of rows → o ≡ newest_of side rows i) → (members_of rows ≤ i → o ≡ None) → o ≡ find (is_of side i) votes
+  newest-found rows members votes side i o k all member stranger = elim (cases_lt i (members_of rows)) [
     | inl low ↦ member low ∙ k.newest side i (omega (arith, low, k.members_are))
     | inr high ↦ stranger high ∙ none-beyond side i members votes (omega (arith, high, k.members_are)) all
   ]

@@ -9,17 +9,17 @@ use Rattle.simplex_types.specs.declared.proposal.Proposal.{Proposal}
 use Rattle.simplex_messages.specs.declared.vote.Vote.{Vote}
 use Rattle.simplex_certificates.specs.declared.certificate.Certificate.{Certificate}
 use Rattle.simplex_rules.specs.declared.kind.Kind.{Kind}
-use Rattle.simplex_rules.specs.declared.kind.Kind.TheVariants.{Notarization, Nullification, Finalization}
-use Rattle.simplex_verifier.specs.declared.rows.Rows.{Rows}
+use Rattle.simplex_rows.specs.declared.rows.Rows.{Rows}
 use Rattle.simplex_verifier.specs.declared.proposal_state.ProposalState.{ProposalState}
 use Rattle.simplex_verifier.specs.Votes.{is_kind, vote_kind, certificate_kind}
-use Rattle.simplex_verifier.specs.History.{History, accepted, leader_of, has_forwarded, Event, Taken, Cast, Certified, Led, Judged, Forwarded, Setup, Selection, Unknown, Leads, Fixed, select, proposal_of, selection, selected, certificate_in, is_complete, is_candidate, counting, waiting, verified}
-use Rattle.simplex_verifier.specs.Rows.{KindIs, AreNewest, PlacesStay, RowsKeep, KindKeeps, pushed}
-use Rattle.simplex_verifier.proofs.Holding.{places-newest, kind-same}
+use Rattle.simplex_verifier.specs.History.{History, accepted, leader_of, has_forwarded, Event, Taken, Cast, Certified, Led, Forwarded, Setup, Selection, Unknown, Leads, Fixed, select, proposal_of, selection, selected, certificate_in, is_complete, is_candidate, counting, waiting, verified}
+use Rattle.simplex_rows.specs.Rows.{KindIs, AreNewest, PlacesStay, pushed}
+use Rattle.simplex_rows.specs.Kinds.{kind-same}
+use Rattle.simplex_rows.specs.Staying.{places-newest}
 use Rattle.simplex_types.specs.declared.scheme.Scheme.{Ghosts}
 use Rattle.simplex_verifier.specs.declared.verifier.Verifier.{Verifier}
 use Rattle.simplex_verifier.specs.Lawful.{MayHappen}
-use Rattle.simplex_verifier.specs.Keeping.{selection_of, KeepsFor, Counts, IsVerifierKept, IsChosen}
+use Rattle.simplex_verifier.specs.Keeping.{selection_of, KeepsFor, Counts, IsVerifierKept, IsChosen, KindKeeps}
 use Rattle.simplex_verifier.proofs.Folding.{waiting-count, verified-count, selection-stays, counting-stays}
 
 module _ {X : Type 0} where

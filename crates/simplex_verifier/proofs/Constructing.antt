@@ -1,5 +1,5 @@
 -- What comes of constructions.
-use Rattle.std.proofs.Common.{◌≡◌, ◌≢◌, ◌≤◌, ◌<◌, inl, inr, ℕ, zero, suc, Bool, true, false, not, ◌||◌, List, [], ◌∷◌, ◌++◌, refl, ap, sym, ◌∙◌, arith, map, length, get_or}
+use Rattle.std.proofs.Common.{◌≡◌, ◌≢◌, ◌≤◌, ◌<◌, inl, inr, ℕ, zero, suc, Bool, true, false, not, ◌||◌, List, [], ◌∷◌, ◌++◌, refl, ap, sym, ◌∙◌, arith, map, length}
 use Rattle.std.specs.Prelude.{Option, None, Some, MatchOption, IfSome, is_some, nat_le, IsTrue, ◌↔◌}
 use Rattle.std.proofs.lemmas.List.{length-map}
 use Rattle.std.specs.List.{All, AllPairs, Contains}
@@ -28,15 +28,14 @@ use Rattle.simplex_judging.specs.Judging.{is_among, without, IsSound, IsWhole, I
 use Rattle.simplex_verifier.specs.Votes.{vote_proposal, vote_statement, vote_attestation}
 use Rattle.simplex_verifier.specs.History.{History, accepted, Setup, selected, context, verified, waiting, is_ready, are_one}
 use Rattle.simplex_verifier.specs.Lawful.{IsConsistent}
-use Rattle.simplex_verifier.specs.Rows.{head_of, votes_in, tally_at, KindIs, PlacesStay, RowsKeep, settled_waiting, settled_verified}
+use Rattle.simplex_rows.specs.Rows.{head_of, votes_of, KindIs, PlacesStay, settled_waiting, settled_verified}
 use Rattle.simplex_verifier.specs.Keeping.{IsVerifierKept}
 use Rattle.simplex_verifier.specs.ConstructionResult.{judged_of, IsCertificateOf, IsCertificateOn, IsOfWaiting}
-use Rattle.simplex_rules.specs.declared.kind.Kind.TheVariants.{Notarization, Nullification, Finalization}
 use Rattle.simplex_verifier.specs.History as history
 use Rattle.simplex_verifier.proofs.Folding.{selection-stays}
 use Rattle.simplex_verifier.proofs.Rightly.{judged-right}
-use Rattle.simplex_verifier.proofs.Shuffling.{IsPermutation-filter}
-use Rattle.simplex_verifier.proofs.Holding.{places-newest}
+use Rattle.simplex_rows.specs.Permutations.{IsPermutation-filter}
+use Rattle.simplex_rows.specs.Staying.{places-newest}
 use Rattle.simplex_verifier.proofs.Lawfully.{counted-distinct, verified-attest}
 use Rattle.simplex_verifier.proofs.Stating.{attest-it, verified-state, ready-state, mine, IsMine, IsOurs, states-own, certificate-kind, certificate-ours, selected-ours, waiting-state}
 
@@ -127,10 +126,10 @@ head-there (y ∷ xs) x e = (zero, omega arith, cc e)
 
 module _ {S D P G C : Type 0} (same : D → D → Bool) (g : Ghosts S D P G C) (batchable : S → Bool) where
   -- what is ready has a vote
-  pub none-ready : (s : Setup S) (h : History S D P G C) (kind : Kind) (v : Verifier S D P G C) → IsVerifierKept same g batchable s v h → is_ready same s kind h ≡ true → head_of (votes_in true kind v.rows.rows.items) ≡ None → ⊥
+  pub none-ready : (s : Setup S) (h : History S D P G C) (kind : Kind) (v : Verifier S D P G C) → IsVerifierKept same g batchable s v h → is_ready same s kind h ≡ true → head_of (votes_of true kind v.rows) ≡ None → ⊥
   none-ready s h kind v k ready none =
       let long = length_permutation _ _ (k.rows.kinds kind).verified_are in
-      let none_ : length (votes_in true kind v.rows.rows.items) ≡ 0 = ap length (no-head _ none) in
+      let none_ : length (votes_of true kind v.rows) ≡ 0 = ap length (no-head _ none) in
       let some = k.some_needed in
       let most = (and_parts (nat_le s.needed (length (verified same s kind h))) (is_some (context s kind h) || are_one same (verified same s kind h)) ready).0 in
       absurd (grind (arith, long, none_, some, most))
@@ -143,14 +142,14 @@ module _ {S D P G C : Type 0} (same : D → D → Bool) (g : Ghosts S D P G C) (
   -- the verdict, said of the history
   pub judged-of : DeclinesInEachOrder → (s : Setup S) (h : History S D P G C) (kind : Kind) (v : Verifier S D P G C) (x : Statement D) (judged : Judged C)
       → IsVerifierKept same g batchable s v h → context s kind h ≡ Some x
-      → (AreDistinct (map vote_attestation (votes_in true kind v.rows.rows.items) ++ map vote_attestation (votes_in false kind v.rows.rows.items)) → All (λ a. g.attests v.scheme.value a.signer x a.signature) (map vote_attestation (votes_in true kind v.rows.rows.items))
-      → IsJudged (g.certifies v.scheme.value x) g.lists (batchable v.scheme.value) (g.may_decline v.scheme.value x) (λ i a. g.attests v.scheme.value i x a) g.enumerates v.needed (map vote_attestation (votes_in true kind v.rows.rows.items)) (map vote_attestation (votes_in false kind v.rows.rows.items)) judged)
+      → (AreDistinct (map vote_attestation (votes_of true kind v.rows) ++ map vote_attestation (votes_of false kind v.rows)) → All (λ a. g.attests v.scheme.value a.signer x a.signature) (map vote_attestation (votes_of true kind v.rows))
+      → IsJudged (g.certifies v.scheme.value x) g.lists (batchable v.scheme.value) (g.may_decline v.scheme.value x) (λ i a. g.attests v.scheme.value i x a) g.enumerates v.needed (map vote_attestation (votes_of true kind v.rows)) (map vote_attestation (votes_of false kind v.rows)) judged)
       → IsJudged (g.certifies s.scheme x) g.lists s.batchable (g.may_decline s.scheme x) (λ i a. g.attests s.scheme i x a) g.enumerates s.needed (map vote_attestation (verified same s kind h)) (map vote_attestation (waiting same s kind h)) judged
   judged-of declines s h kind v x judged k e f =
       let sure = map vote_attestation (verified same s kind h) in
       let wait = map vote_attestation (waiting same s kind h) in
-      let sure2 = map vote_attestation (votes_in true kind v.rows.rows.items) in
-      let wait2 = map vote_attestation (votes_in false kind v.rows.rows.items) in
+      let sure2 = map vote_attestation (votes_of true kind v.rows) in
+      let wait2 = map vote_attestation (votes_of false kind v.rows) in
       let p : IsPermutation sure sure2 = IsPermutation-map vote_attestation _ _ (k.rows.kinds kind).verified_are in
       let q : IsPermutation wait wait2 = IsPermutation-map vote_attestation _ _ (k.rows.kinds kind).waiting_are in
       let f2 = rw (k.scheme_is, k.batchable_is, k.needed_is) at f in
@@ -172,8 +171,8 @@ module _ {S D P G C : Type 0} (same : D → D → Bool) (g : Ghosts S D P G C) (
   -- the certificate of the votes that are known to attest, said of the history
   made-of : (s : Setup S) (h : History S D P G C) (kind : Kind) (v : Verifier S D P G C) (first : Vote S D P G C) (made : Option C)
       → IsVerifierKept same g batchable s v h → Contains (verified same s kind h) first → is_ready same s kind h ≡ true
-      → (AreDistinct (map vote_attestation (votes_in true kind v.rows.rows.items)) → All (λ a. g.attests v.scheme.value a.signer (vote_statement first) a.signature) (map vote_attestation (votes_in true kind v.rows.rows.items))
-      → MatchOption made (length (map vote_attestation (votes_in true kind v.rows.rows.items)) < v.needed) (λ c. (v.needed ≤ length (map vote_attestation (votes_in true kind v.rows.rows.items))) × IsWhole (g.certifies v.scheme.value (vote_statement first)) g.lists g.enumerates (map vote_attestation (votes_in true kind v.rows.rows.items)) c))
+      → (AreDistinct (map vote_attestation (votes_of true kind v.rows)) → All (λ a. g.attests v.scheme.value a.signer (vote_statement first) a.signature) (map vote_attestation (votes_of true kind v.rows))
+      → MatchOption made (length (map vote_attestation (votes_of true kind v.rows)) < v.needed) (λ c. (v.needed ≤ length (map vote_attestation (votes_of true kind v.rows))) × IsWhole (g.certifies v.scheme.value (vote_statement first)) g.lists g.enumerates (map vote_attestation (votes_of true kind v.rows)) c))
       → MatchOption made ⊥ (λ c. IsWhole (g.certifies s.scheme (vote_statement first)) g.lists g.enumerates (map vote_attestation (verified same s kind h)) c)
   made-of s h kind v first made k there ready f =
       let f2 = rw (k.scheme_is, k.needed_is) at f in
@@ -185,7 +184,7 @@ module _ {S D P G C : Type 0} (same : D → D → Bool) (g : Ghosts S D P G C) (
       sure = map vote_attestation (verified same s kind h)
 
       sure2 : List (Attestation G)
-      sure2 = map vote_attestation (votes_in true kind v.rows.rows.items)
+      sure2 = map vote_attestation (votes_of true kind v.rows)
 
       p : IsPermutation sure sure2
       p = IsPermutation-map vote_attestation _ _ (k.rows.kinds kind).verified_are
@@ -221,7 +220,7 @@ module _ {S D P G C : Type 0} (same : D → D → Bool) (g : Ghosts S D P G C) (
 
   -- what was assembled of the votes that are known to attest, the first of which is this one, said of the history
   pub assembled : (s : Setup S) (h : History S D P G C) (kind : Kind) (v : Verifier S D P G C) (first : Vote S D P G C) (given : List (Attestation G)) (made : Option C)
-      → IsVerifierKept same g batchable s v h → is_ready same s kind h ≡ true → head_of (votes_in true kind v.rows.rows.items) ≡ Some first → given ≡ map vote_attestation (votes_in true kind v.rows.rows.items)
+      → IsVerifierKept same g batchable s v h → is_ready same s kind h ≡ true → head_of (votes_of true kind v.rows) ≡ Some first → given ≡ map vote_attestation (votes_of true kind v.rows)
       → (AreDistinct given → All (λ a. g.attests v.scheme.value a.signer (vote_statement first) a.signature) given
       → MatchOption made (length given < v.needed) (λ c. (v.needed ≤ length given) × IsWhole (g.certifies v.scheme.value (vote_statement first)) g.lists g.enumerates given c))
       → MatchOption made ⊥ (λ m. (c : Certificate S D P G C) → certificate_statement c ≡ vote_statement first → certified_by c ≡ m → IsCertificateOf g s kind (verified same s kind h) c)
@@ -244,8 +243,8 @@ module _ {S D P G C : Type 0} (same : D → D → Bool) (g : Ghosts S D P G C) (
   -- what came of the votes that waited, said of the history
   pub of-waiting : DeclinesInEachOrder → (s : Setup S) (h : History S D P G C) (kind : Kind) (v : Verifier S D P G C) (x : Statement D) (judged : Judged C) (batch : Batch (Certificate S D P G C))
       → IsVerifierKept same g batchable s v h → context s kind h ≡ Some x
-      → (AreDistinct (map vote_attestation (votes_in true kind v.rows.rows.items) ++ map vote_attestation (votes_in false kind v.rows.rows.items)) → All (λ a. g.attests v.scheme.value a.signer x a.signature) (map vote_attestation (votes_in true kind v.rows.rows.items))
-      → IsJudged (g.certifies v.scheme.value x) g.lists (batchable v.scheme.value) (g.may_decline v.scheme.value x) (λ i a. g.attests v.scheme.value i x a) g.enumerates v.needed (map vote_attestation (votes_in true kind v.rows.rows.items)) (map vote_attestation (votes_in false kind v.rows.rows.items)) judged)
+      → (AreDistinct (map vote_attestation (votes_of true kind v.rows) ++ map vote_attestation (votes_of false kind v.rows)) → All (λ a. g.attests v.scheme.value a.signer x a.signature) (map vote_attestation (votes_of true kind v.rows))
+      → IsJudged (g.certifies v.scheme.value x) g.lists (batchable v.scheme.value) (g.may_decline v.scheme.value x) (λ i a. g.attests v.scheme.value i x a) g.enumerates v.needed (map vote_attestation (votes_of true kind v.rows)) (map vote_attestation (votes_of false kind v.rows)) judged)
       → batch.processed ≡ length (waiting same s kind h) → judged_of batch ≡ judged → IfSome batch.certificate (λ c. certificate_statement c ≡ x)
       → IsOfWaiting g same s kind h batch
   of-waiting declines s h kind v x judged batch k on f processed is states = record {

@@ -19,7 +19,7 @@ use Rattle.simplex_verifier.specs.Votes.{is_kind, is_proposal, vote_kind, vote_s
 use Rattle.simplex_verifier.specs.History.{History, accepted, Event, Taken, Cast, Certified, Led, Judged, Forwarded, Setup, certificate_in, selected, is_complete, is_candidate, counting, waiting, verified, context, is_due, next_kind, are_one}
 use Rattle.simplex_verifier.specs.Lawful.{VoteAttests, IsConsistent}
 use Rattle.simplex_verifier.specs.Quorums.{NeverOther, IsUnreplaced, Backs, HasQuorum, AllCertified}
-use Rattle.simplex_verifier.proofs.Holding.{kind-same}
+use Rattle.simplex_rows.specs.Kinds.{kind-same}
 
 module _ {X : Type 0} where
   in-if : (b : Bool) (y : X) (ys : List X) (x : X) → Contains ys x → Contains (if b then y ∷ ys else ys) x

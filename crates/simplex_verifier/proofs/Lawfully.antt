@@ -19,7 +19,7 @@ use Rattle.simplex_verifier.specs.Votes.{is_kind, vote_kind, vote_attestation, i
 use Rattle.simplex_verifier.specs.History.{Event, History, accepted, Taken, Cast, Certified, Led, Judged, Forwarded, Setup, selected, is_complete, is_candidate, waiting, verified}
 use Rattle.simplex_verifier.specs.Lawful.{IsNew, MayBeAdded, VoteAttests, Allowed, IsLawful, MayHappen, IsConsistent}
 use Rattle.simplex_judging.specs.Fewer.{AllPairs-fewer, not-true, filter-holds}
-use Rattle.simplex_verifier.proofs.Holding.{kind-same}
+use Rattle.simplex_rows.specs.Kinds.{kind-same}
 
 module _ {X : Type 0} where
   -- what holds of each holds of those that are counted

@@ -1,5 +1,3 @@
-pub mod Shuffling
-pub mod Holding
 pub mod Folding
 pub mod Choosing
 pub mod Adding

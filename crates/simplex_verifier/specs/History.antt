@@ -6,14 +6,14 @@ use Rattle.simplex_types.specs.declared.position.Round.{Round}
 use Rattle.simplex_types.specs.declared.proposal.Proposal.{Proposal}
 use Rattle.simplex_types.specs.Subject.{Statement, notarize, nullify, finalize}
 use Rattle.simplex_messages.specs.declared.vote.Vote.{Vote}
-use Rattle.simplex_messages.specs.declared.vote.Vote.TheVariants as vote
 use Rattle.simplex_certificates.specs.declared.certificate.Certificate.{Certificate}
 use Rattle.simplex_messages.specs.VoteParts.{vote_signer}
 use Rattle.simplex_rules.specs.declared.kind.Kind.{Kind}
 use Rattle.simplex_rules.specs.declared.kind.Kind.TheVariants.{Notarization, Nullification, Finalization}
 use Rattle.simplex_judging.specs.Judging.{is_among}
 use Rattle.simplex_judging.specs.KindOrder.{in_turn}
-use Rattle.simplex_verifier.specs.Votes.{is_kind, is_proposal, vote_kind, vote_proposal, notarized_proposal, fixed_proposal, is_in_way, is_notarize_of, certificate_kind, certificate_proposal}
+use Rattle.simplex_verifier.specs.Votes.{is_kind, vote_kind, vote_proposal, notarized_proposal, fixed_proposal, is_in_way, is_notarize_of, certificate_kind, certificate_proposal}
+pub use Rattle.simplex_rows.specs.Votes.{is_candidate}
 
 -- what can happen to a round
 pub data Event (V C : Type 0) : Type 0 where
@@ -177,16 +177,9 @@ module _ {S D P G C : Type 0} where
   context s kind h = statement_for kind s.round (selected h)
 
   module _ (same : D → D → Bool) where
-    -- the vote may still count: no other proposal is selected
-    abbrev pub is_candidate : Option (Proposal D) → Vote S D P G C → Bool
-    is_candidate None v = true
-    is_candidate (Some p) (vote.Notarize v) = is_proposal same v.proposal p
-    is_candidate (Some p) (vote.Nullify v) = true
-    is_candidate (Some p) (vote.Finalize v) = is_proposal same v.proposal p
-
     -- of these votes of a kind those that still count: none where no certificate of the kind is to be made
     abbrev pub counting : Setup S → Kind → History S D P G C → List (Vote S D P G C) → List (Vote S D P G C)
-    counting s kind h votes = if s.is_skipped || is_complete kind h then [] else filter (is_candidate (selected h)) votes
+    counting s kind h votes = if s.is_skipped || is_complete kind h then [] else filter (is_candidate same (selected h)) votes
 
     -- the votes of a kind that wait to be judged, the oldest first
     abbrev pub waiting : Setup S → Kind → History S D P G C → List (Vote S D P G C)
@@ -205,7 +198,7 @@ module _ {S D P G C : Type 0} where
     -- all votes are for what the first is for
     abbrev pub are_one : List (Vote S D P G C) → Bool
     are_one [] = true
-    are_one (v ∷ votes) = is_none (find (λ u. not (is_candidate (vote_proposal v) u)) votes)
+    are_one (v ∷ votes) = is_none (find (λ u. not (is_candidate same (vote_proposal v) u)) votes)
 
     -- votes that are known to attest are enough for a certificate of what they state: what is selected, or one proposal
     abbrev pub is_ready : Setup S → Kind → History S D P G C → Bool

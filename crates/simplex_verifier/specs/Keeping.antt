@@ -9,11 +9,11 @@ use Rattle.simplex_types.specs.declared.scheme.Scheme.{Ghosts}
 use Rattle.simplex_rules.specs.declared.kind.Kind.{Kind}
 use Rattle.simplex_verifier.specs.declared.proposal_state.ProposalState.{ProposalState}
 use Rattle.simplex_verifier.specs.declared.proposal_state.ProposalState.TheVariants as state
-use Rattle.simplex_verifier.specs.declared.rows.Rows.{Rows}
+use Rattle.simplex_rows.specs.declared.rows.Rows.{Rows}
 use Rattle.simplex_verifier.specs.declared.verifier.Verifier.{Verifier}
-use Rattle.simplex_verifier.specs.History.{History, Setup, Selection, Unknown, Leads, Fixed, proposal_of, selection, leader_of, is_candidate}
+use Rattle.simplex_verifier.specs.History.{History, Setup, Selection, Unknown, Leads, Fixed, proposal_of, selection, leader_of, is_candidate, accepted, is_complete, waiting, verified}
 use Rattle.simplex_verifier.specs.Lawful.{IsConsistent}
-use Rattle.simplex_verifier.specs.Rows.{KindIs, PlacesStay, RowsKeep}
+use Rattle.simplex_rows.specs.Rows.{KindIs, AreNewest, PlacesStay}
 
 -- the selection that a state stands for
 abbrev pub selection_of : {D : Type 0} → ProposalState D → Selection D
@@ -22,6 +22,15 @@ selection_of (state.Leader p) = Leads p
 selection_of (state.Certificate p) = Fixed p
 
 module _ {S D P G C : Type 0} (same : D → D → Bool) where
+  -- the votes of a kind stand where this history leads
+  abbrev pub KindKeeps : Setup S → Kind → Rows S D P G C → History S D P G C → Type 0
+  KindKeeps s kind rows h = KindIs kind rows (is_complete kind h) (waiting same s kind h) (verified same s kind h)
+
+  -- the rows stand where this history leads
+  pub record RowsKeep (s : Setup S) (rows : Rows S D P G C) (h : History S D P G C) : Type 0 where
+    pub places : AreNewest rows s.members (accepted h)
+    pub kinds : (kind : Kind) → KindKeeps s kind rows h
+
   module _ (g : Ghosts S D P G C) (batchable : S → Bool) where
     -- the verifier stands where this history leads
     pub record IsVerifierKept (s : Setup S) (v : Verifier S D P G C) (h : History S D P G C) : Type 0 where
@@ -35,7 +44,7 @@ module _ {S D P G C : Type 0} (same : D → D → Bool) where
       pub skipped_is : v.skipped ≡ s.is_skipped
       pub leader_is : v.leader ≡ leader_of h
       pub selection_is : selection_of v.proposal ≡ selection h
-      pub rows : RowsKeep same s v.rows h
+      pub rows : RowsKeep s v.rows h
       pub lawful : IsConsistent same g.attests s h
 
     -- the same, closed for those who stand above

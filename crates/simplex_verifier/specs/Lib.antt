@@ -1,7 +1,6 @@
 pub mod Votes
 pub mod History
 pub mod Lawful
-pub mod Rows
 pub mod Keeping
 pub mod ConstructionResult
 pub mod Quorums

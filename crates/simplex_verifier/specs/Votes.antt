@@ -1,6 +1,5 @@
 -- What a vote or a certificate of any kind is for.
-use Rattle.std.specs.Prelude.{ℕ, ◌==◌, ◌&&◌, Bool, true, false, Option, None, Some}
-use Rattle.simplex_types.specs.declared.attestation.Attestation.{Attestation}
+use Rattle.std.specs.Prelude.{Option, None, Some}
 use Rattle.simplex_types.specs.declared.proposal.Proposal.{Proposal}
 use Rattle.simplex_types.specs.Subject.{Statement, notarize, nullify, finalize}
 use Rattle.simplex_messages.specs.declared.vote.Vote.{Vote}
@@ -9,65 +8,14 @@ use Rattle.simplex_certificates.specs.declared.certificate.Certificate.{Certific
 use Rattle.simplex_certificates.specs.declared.certificate.Certificate.TheVariants as certificate
 use Rattle.simplex_rules.specs.declared.kind.Kind.{Kind}
 use Rattle.simplex_rules.specs.declared.kind.Kind.TheVariants.{Notarization, Nullification, Finalization}
-
--- the two kinds are one
-abbrev pub is_kind : Kind → Kind → Bool
-is_kind Notarization Notarization = true
-is_kind Nullification Nullification = true
-is_kind Finalization Finalization = true
-is_kind a b = false
-
--- the proposals are one, under an equality of payloads
-abbrev pub is_proposal : {D : Type 0} → (D → D → Bool) → Proposal D → Proposal D → Bool
-is_proposal same p q = ((p.round.epoch == q.round.epoch) && (p.round.view == q.round.view)) && ((p.parent == q.parent) && same p.payload q.payload)
+pub use Rattle.simplex_rows.specs.Votes.{is_kind, is_proposal, vote_kind, vote_proposal, vote_attestation, is_notarize_of, is_other_of, is_of, is_in_way}
 
 module _ {S D P G C : Type 0} where
-  -- the kind of certificate that the vote counts for
-  abbrev pub vote_kind : Vote S D P G C → Kind
-  vote_kind (vote.Notarize v) = Notarization
-  vote_kind (vote.Nullify v) = Nullification
-  vote_kind (vote.Finalize v) = Finalization
-
-  -- the proposal that the vote is for
-  abbrev pub vote_proposal : Vote S D P G C → Option (Proposal D)
-  vote_proposal (vote.Notarize v) = Some v.proposal
-  vote_proposal (vote.Nullify v) = None
-  vote_proposal (vote.Finalize v) = Some v.proposal
-
   -- what the vote states
   abbrev pub vote_statement : Vote S D P G C → Statement D
   vote_statement (vote.Notarize v) = notarize v.proposal
   vote_statement (vote.Nullify v) = nullify v.round
   vote_statement (vote.Finalize v) = finalize v.proposal
-
-  -- the attestation of the vote
-  abbrev pub vote_attestation : Vote S D P G C → Attestation G
-  vote_attestation (vote.Notarize v) = v.attestation
-  vote_attestation (vote.Nullify v) = v.attestation
-  vote_attestation (vote.Finalize v) = v.attestation
-
-  -- the vote is a notarize of this signer
-  abbrev pub is_notarize_of : ℕ → Vote S D P G C → Bool
-  is_notarize_of signer (vote.Notarize v) = v.attestation.signer == signer
-  is_notarize_of signer v = false
-
-  -- the vote is a nullify or a finalize of this signer
-  abbrev pub is_other_of : ℕ → Vote S D P G C → Bool
-  is_other_of signer (vote.Notarize v) = false
-  is_other_of signer (vote.Nullify v) = v.attestation.signer == signer
-  is_other_of signer (vote.Finalize v) = v.attestation.signer == signer
-
-  -- the vote is a notarize of this signer, or a nullify or finalize of it
-  abbrev pub is_of : Bool → ℕ → Vote S D P G C → Bool
-  is_of true signer = is_notarize_of signer
-  is_of false signer = is_other_of signer
-
-  -- an accepted vote that stands in the way of this one: of its signer, and of its kind or, of nullify and finalize, of
-  -- either
-  abbrev pub is_in_way : Vote S D P G C → Vote S D P G C → Bool
-  is_in_way (vote.Notarize v) = is_notarize_of v.attestation.signer
-  is_in_way (vote.Nullify v) = is_other_of v.attestation.signer
-  is_in_way (vote.Finalize v) = is_other_of v.attestation.signer
 
   -- the proposal that a notarize is for
   abbrev pub notarized_proposal : Vote S D P G C → Option (Proposal D)

@@ -5,7 +5,6 @@ mod batch;
 mod fault;
 mod laws;
 mod proposal_state;
-mod rows;
 mod verifier;
 mod votes;
 
@@ -18,6 +17,7 @@ pub use laws::{
     votes_that_count_state_it, votes_that_count_were_accepted, what_is_due_has_no_certificate,
     what_is_new_may_be_added,
 };
+pub use simplex_rows::kind_of;
 pub use simplex_rules::Kind;
 pub use verifier::Verifier;
-pub use votes::{kind_of, kind_of_certificate};
+pub use votes::kind_of_certificate;

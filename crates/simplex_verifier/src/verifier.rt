@@ -9,14 +9,14 @@ ghost use Rattle.simplex_verifier.specs.Votes.{is_of, vote_kind, fixed_proposal}
 ghost use Rattle.simplex_verifier.specs.History.{accepted, recorded, Taken, Cast, Certified, Led, History, Setup, select, proposal_of, selected, selection, leader_of, led, notarized_by, context, waiting, verified, is_candidate, is_complete, is_ready, is_due, next_kind};
 ghost use Rattle.simplex_verifier.specs.Lawful.{MayHappen};
 ghost use Rattle.simplex_messages.specs.VoteParts.{vote_signer};
-ghost use Rattle.simplex_verifier.specs.Rows.{tally_at};
+ghost use Rattle.simplex_rows.specs.Rows.{tally_at};
 ghost use Rattle.simplex_verifier.specs.Keeping.{VerifierKeeps, AtEachOf, selection_of, IsChosen, held_by, led_by};
 
 use crate::fault::BatcherFault;
 use crate::proposal_state::ProposalState;
-use crate::rows::Rows;
-use crate::votes::{fixed_by, is_for, kind_of, kind_of_certificate, proposal_of_certificate};
+use crate::votes::{fixed_by, kind_of_certificate, proposal_of_certificate};
 use simplex_messages::{Certificate, Notarize, Vote};
+use simplex_rows::{Rows, is_for, kind_of};
 use simplex_rules::Kind;
 use simplex_types::{Attributable, Digest, Participant, Proposal, Round, Scheme, quorum};
 use std::alloc::{AllocError, Global};

@@ -1,38 +1,13 @@
 //! What a vote or a certificate of any kind is for.
 
-ghost use Rattle.std.specs.Prelude.{◌≡◌, Option, Some, None, Bool, if◌then◌else◌};
+ghost use Rattle.std.specs.Prelude.{◌≡◌, None, if◌then◌else◌};
 ghost use Rattle.simplex_types.specs.Subject.{statement};
 ghost use Rattle.simplex_certificates.specs.Certificate.{certificate_statement, certified_by};
-ghost use Rattle.simplex_verifier.specs.Votes.{vote_kind, vote_statement, vote_attestation, certificate_kind, certificate_proposal, fixed_proposal};
-ghost use Rattle.simplex_verifier.specs.History.{is_candidate};
+ghost use Rattle.simplex_verifier.specs.Votes.{vote_statement, certificate_kind, certificate_proposal, fixed_proposal};
 
 use simplex_messages::{Certificate, Finalization, Notarization, Nullification, Vote};
 use simplex_rules::Kind;
-use simplex_types::{Attestation, Digest, Proposal, Scheme, Subject};
-
-/// The kind of certificate that a vote counts for.
-pub fn kind_of<S: Scheme<D>, D: Digest>(vote: &Vote<S, D>) -> Kind
-    ensures { result ≡ vote_kind vote.now }
-{
-    match vote {
-        Vote::Notarize(_) => Kind::Notarization,
-        Vote::Nullify(_) => Kind::Nullification,
-        Vote::Finalize(_) => Kind::Finalization,
-    }
-}
-
-/// The attestation of a vote.
-pub(crate) fn attestation_of<S: Scheme<D>, D: Digest>(
-    vote: &Vote<S, D>,
-) -> Attestation<S::Signature>
-    ensures { result ≡ vote_attestation vote.now }
-{
-    match vote {
-        Vote::Notarize(vote) => vote.attestation,
-        Vote::Nullify(vote) => vote.attestation,
-        Vote::Finalize(vote) => vote.attestation,
-    }
-}
+use simplex_types::{Digest, Proposal, Scheme, Subject};
 
 /// What a vote states.
 pub(crate) fn subject_of<'a, S: Scheme<D>, D: Digest>(vote: &'a Vote<S, D>) -> Subject<'a, D>
@@ -42,17 +17,6 @@ pub(crate) fn subject_of<'a, S: Scheme<D>, D: Digest>(vote: &'a Vote<S, D>) -> S
         Vote::Notarize(vote) => Subject::Notarize(&vote.proposal),
         Vote::Nullify(vote) => Subject::Nullify(vote.round),
         Vote::Finalize(vote) => Subject::Finalize(&vote.proposal),
-    }
-}
-
-/// Whether the vote is a nullify, or for this proposal.
-pub(crate) fn is_for<S: Scheme<D>, D: Digest>(vote: &Vote<S, D>, proposal: &Proposal<D>) -> bool
-    ensures { result ≡ is_candidate D.PartialEq.eq (Some proposal.now) vote.now }
-{
-    match vote {
-        Vote::Notarize(vote) => vote.proposal == *proposal,
-        Vote::Nullify(_) => true,
-        Vote::Finalize(vote) => vote.proposal == *proposal,
     }
 }
 

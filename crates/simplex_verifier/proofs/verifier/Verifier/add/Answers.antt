@@ -1,5 +1,5 @@
 use Rattle.std.proofs.Common.{◌≡◌, ◌∷◌, refl, sym, ◌∙◌}
-use Rattle.simplex_verifier.specs.History.{selection}
+use Rattle.simplex_verifier.specs.History.{accepted, selection}
 use Rattle.simplex_verifier.specs.Lawful.{MayHappen}
 use Rattle.simplex_verifier.specs.Keeping.{selection_of, VerifierKeeps}
 use Rattle.simplex_verifier.proofs.Choosing.{none-right, none-left}
@@ -14,7 +14,7 @@ returns-clause-waits g c = λ s h k waits allowed.
     let may : MayHappen g.D.PartialEq.eq g.S.Scheme.attests s h (came own c.args.vote) = rw waits allowed in
     let fits = may-add g.D.PartialEq.eq g.S.Scheme.attests s h c.args.vote own may in
     rw waits at (added-keeps g.D.PartialEq.eq g.S.Scheme g.S.Scheme.batchable own s h c.args.vote c.counts-held.result c.select-next.result c.args.self.now _ c.choose-changed.new.self k refl refl refl refl refl refl
-    (c.in_ok-put.ensures.places s h k.rows fits) (c.in_ok-put.ensures.kinds s h k.rows fits) c.choose-changed.ensures.chosen one c.counts-held.ensures may)
+    (c.in_ok-put.ensures.places s.members (accepted h) k.rows.places) (λ kind. c.in_ok-put.ensures.kinds s.members (accepted h) k.rows.places kind _ _ _ (k.rows.kinds kind) (fits.none_waits kind) (fits.none_verified kind)) c.choose-changed.ensures.chosen one c.counts-held.ensures may)
 
 pub returns-clause-verified : goal.returns-clause-verified
 unfolding VerifierKeeps
@@ -24,7 +24,7 @@ returns-clause-verified g c = λ s h k verified allowed.
     let may : MayHappen g.D.PartialEq.eq g.S.Scheme.attests s h (came own c.args.vote) = rw verified allowed in
     let fits = may-add g.D.PartialEq.eq g.S.Scheme.attests s h c.args.vote own may in
     rw verified at (added-keeps g.D.PartialEq.eq g.S.Scheme g.S.Scheme.batchable own s h c.args.vote c.counts-held.result c.select-next.result c.args.self.now _ c.choose-changed.new.self k refl refl refl refl refl refl
-    (c.in_ok-put.ensures.places s h k.rows fits) (c.in_ok-put.ensures.kinds s h k.rows fits) c.choose-changed.ensures.chosen one c.counts-held.ensures may)
+    (c.in_ok-put.ensures.places s.members (accepted h) k.rows.places) (λ kind. c.in_ok-put.ensures.kinds s.members (accepted h) k.rows.places kind _ _ _ (k.rows.kinds kind) (fits.none_waits kind) (fits.none_verified kind)) c.choose-changed.ensures.chosen one c.counts-held.ensures may)
 
 pub returns-then-not-may_select-clause-waits : goal.returns-then-not-may_select-clause-waits
 unfolding VerifierKeeps

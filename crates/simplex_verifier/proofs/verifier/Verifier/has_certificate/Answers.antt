@@ -1,4 +1,3 @@
-use Rattle.std.proofs.Common.{◌∙◌, ap}
 use Rattle.simplex_verifier.specs.Keeping.{VerifierKeeps}
 use Rattle.simplex_verifier.proofs.verifier.Verifier.has_certificate.Goals as goal
 

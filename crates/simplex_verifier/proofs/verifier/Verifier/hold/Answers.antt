@@ -1,5 +1,5 @@
 use Rattle.std.proofs.Common.{◌≡◌, ◌∷◌, refl, sym, ◌∙◌}
-use Rattle.simplex_verifier.specs.History.{selection}
+use Rattle.simplex_verifier.specs.History.{accepted, selection}
 use Rattle.simplex_verifier.specs.Lawful.{MayHappen}
 use Rattle.simplex_verifier.specs.Keeping.{selection_of, VerifierKeeps}
 use Rattle.simplex_verifier.proofs.Choosing.{select-nothing, stays-chosen}
@@ -14,7 +14,7 @@ returns-clause-waits g c = λ s h k waits unled allowed.
     let may : MayHappen g.D.PartialEq.eq g.S.Scheme.attests s h (came c.args.verified c.args.vote) = rw waits allowed in
     let fits = may-add g.D.PartialEq.eq g.S.Scheme.attests s h c.args.vote c.args.verified may in
     rw waits at (added-keeps g.D.PartialEq.eq g.S.Scheme g.S.Scheme.batchable c.args.verified s h c.args.vote c.counts-held.result old.proposal old _ _ k refl refl refl refl refl refl
-    (c.in_ok-put.ensures.places s h k.rows fits) (c.in_ok-put.ensures.kinds s h k.rows fits) (stays-chosen g.D.PartialEq.eq _) one c.counts-held.ensures may)
+    (c.in_ok-put.ensures.places s.members (accepted h) k.rows.places) (λ kind. c.in_ok-put.ensures.kinds s.members (accepted h) k.rows.places kind _ _ _ (k.rows.kinds kind) (fits.none_waits kind) (fits.none_verified kind)) (stays-chosen g.D.PartialEq.eq _) one c.counts-held.ensures may)
 
 pub returns-clause-verified : goal.returns-clause-verified
 unfolding VerifierKeeps
@@ -24,7 +24,7 @@ returns-clause-verified g c = λ s h k verified unfixed unled allowed.
     let may : MayHappen g.D.PartialEq.eq g.S.Scheme.attests s h (came c.args.verified c.args.vote) = rw verified allowed in
     let fits = may-add g.D.PartialEq.eq g.S.Scheme.attests s h c.args.vote c.args.verified may in
     rw verified at (added-keeps g.D.PartialEq.eq g.S.Scheme g.S.Scheme.batchable c.args.verified s h c.args.vote c.counts-held.result old.proposal old _ _ k refl refl refl refl refl refl
-    (c.in_ok-put.ensures.places s h k.rows fits) (c.in_ok-put.ensures.kinds s h k.rows fits) (stays-chosen g.D.PartialEq.eq _) one c.counts-held.ensures may)
+    (c.in_ok-put.ensures.places s.members (accepted h) k.rows.places) (λ kind. c.in_ok-put.ensures.kinds s.members (accepted h) k.rows.places kind _ _ _ (k.rows.kinds kind) (fits.none_waits kind) (fits.none_verified kind)) (stays-chosen g.D.PartialEq.eq _) one c.counts-held.ensures may)
 
 pub returns-in_err-put-clause-err : goal.returns-in_err-put-clause-err
 unfolding VerifierKeeps

@@ -2,7 +2,7 @@ use Rattle.std.proofs.Common.{◌≡◌, ◌∷◌, refl, sym, ◌∙◌}
 use Rattle.simplex_verifier.specs.History.{accepted, Certified, selection}
 use Rattle.simplex_verifier.specs.Keeping.{selection_of, VerifierKeeps}
 use Rattle.simplex_verifier.proofs.Folding.{selection-certified}
-use Rattle.simplex_verifier.proofs.Holding.{places-newest}
+use Rattle.simplex_rows.specs.Staying.{places-newest}
 use Rattle.simplex_verifier.proofs.Choosing.{chosen-keeps, keeps-certified}
 use Rattle.simplex_verifier.proofs.verifier.Verifier.record.Goals as goal
 

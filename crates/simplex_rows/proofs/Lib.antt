@@ -1,0 +1,2 @@
+pub mod Shuffling
+pub mod Holding

@@ -1,0 +1,5 @@
+pub mod Votes
+pub mod Kinds
+pub mod Rows
+pub mod Staying
+pub mod Permutations
