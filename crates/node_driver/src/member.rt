@@ -3,7 +3,7 @@
 
 ghost use Rattle.std.specs.Prelude.{◌≡◌, IfOk};
 
-use crate::faults::{say_fault, say_open_fault};
+use crate::faults::{say_fault, say_io_fault, say_open_fault};
 use crate::medium::Medium;
 use crate::setup::Setup;
 use crate::turns::Turns;
@@ -11,6 +11,7 @@ use script_words::{Committee, Say, Trouble, Words};
 use simplex_events::{read_event, write_reply};
 use simplex_member::{Action, Event, Reply};
 use simplex_node::Node;
+use simplex_running::run_io;
 use simplex_types::{CodecError, Scheme, Sha256Digest};
 use std::alloc::Global;
 use std::rc::Rc;
@@ -166,6 +167,20 @@ impl<S: Committee, L: Turns<S>, K: Medium> Member<S, L, K> {
         Ok(true)
     }
 
+    /// `stream EVENTS`: the replies, one behind the other, and behind them why that ended before the events did.
+    fn stream(&mut self, words: &mut Words<'_>, say: &mut Say) -> Result<(), Trouble> {
+        let bytes = words.bytes(say.alloc)?;
+        words.end()?;
+        let mut reader: &[u8] = &bytes;
+        let mut written = Vec::new(say.alloc);
+        let ran = run_io(say.alloc, self.node()?, &mut reader, &mut written);
+        say.bytes(&written)?;
+        match ran {
+            Ok(()) => Ok(()),
+            Err(fault) => say_io_fault(fault, say),
+        }
+    }
+
     /// `disk BYTES`.
     fn put_disk(&mut self, words: &mut Words<'_>, say: &mut Say) -> Result<(), Trouble> {
         let bytes = words.bytes(say.alloc)?;
@@ -206,6 +221,7 @@ impl<S: Committee, L: Turns<S>, K: Medium> Member<S, L, K> {
             "open" => self.open(words, say),
             "event" => self.event(words, say),
             "times" => self.times(words, say),
+            "stream" => self.stream(words, say),
             "disk" | "bytes" | "fuse" | "fail_at" => self.hold(name, words, say),
             _ => self.ask(name, words, say),
         }

@@ -1,2 +1,4 @@
-pub mod Answered
+pub mod Listed
 pub mod Passing
+pub mod Stepped
+pub mod Streamed

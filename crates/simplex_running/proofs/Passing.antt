@@ -1,5 +1,5 @@
--- A run goes on by one step, and so does what a crash meanwhile leaves.
-use Rattle.std.proofs.Common.{inl, inr, ℕ, List, [], ◌∷◌, ◌++◌, refl, ap, ◌∙◌, subst, append_assoc}
+-- What a crash leaves of a run that goes on.
+use Rattle.std.proofs.Common.{inl, inr, ℕ, List, [], ◌∷◌, ◌++◌, refl, sym, ap, ◌∙◌, subst, append_assoc}
 use Rattle.simplex_types.specs.declared.scheme.Scheme.{Ghosts}
 use Rattle.simplex_journal.specs.Disk.{Call, LeavesOnly}
 use Rattle.simplex_journal.specs.Moments.{and_then, weaker}
@@ -12,14 +12,6 @@ use Rattle.simplex_member.specs.Setup.{Setup}
 use Rattle.simplex_running.specs.Running.{IsPassed, LeavesAtMost}
 
 module _ {S D P G C : Type 0} (g : Ghosts S D P G C) (f : Formats S D P G C) (s : Setup S D C) where
-  -- one step more
-  pub run_on : (events : List (Event D)) (replies : List (Reply S D P G C)) (h mid end : History S D P G C) (e : Event D) (reply : Reply S D P G C)
-      → Run g f s h events replies mid → Steps g f s mid e reply end → Run g f s h (events ++ e ∷ []) (replies ++ reply ∷ []) end
-  run_on [] [] h mid end e reply same step = (end, subst (λ (x : History S D P G C). Steps g f s x e reply end) same step, refl)
-  run_on [] (r ∷ replies) h mid end e reply run step = absurd run
-  run_on (x ∷ events) [] h mid end e reply run step = absurd run
-  run_on (x ∷ events) (r ∷ replies) h mid end e reply run step = (run.0, run.1, run_on events replies run.0 mid end e reply run.2 step)
-
   -- what the steps over some events may leave, the steps over more may leave
   pub passed_more : (h : History S D P G C) (events more : List (Event D)) (image : List ℕ) → IsPassed g f s h events image → IsPassed g f s h (events ++ more) image
   passed_more h events more image p = record {
@@ -51,3 +43,29 @@ module _ {S D P G C : Type 0} (g : Ghosts S D P G C) (f : Formats S D P G C) (s 
   pub leaves_more : (h : History S D P G C) (events more : List (Event D)) (old new : List Call) → LeavesAtMost old new (IsPassed g f s h events) → LeavesAtMost old new (IsPassed g f s h (events ++ more))
   leaves_more h events more old new (inl same) = inl same
   leaves_more h events more old new (inr left) = inr (weaker (IsPassed g f s h (events ++ more)) left (λ image passed. passed_more h events more image passed))
+
+  -- what the step over the first of some events may leave, the steps over all of them may leave
+  passed_here : (h : History S D P G C) (e : Event D) (events : List (Event D)) (image : List ℕ) → IsReached g f s h e image → IsPassed g f s h (e ∷ events) image
+  passed_here h e events image reached = record { before = []; event = e; behind = events; split = refl; replies = []; mid = h; run = refl; reached = reached }
+
+  -- so what the steps over the others may leave
+  passed_behind : (h mid : History S D P G C) (e : Event D) (reply : Reply S D P G C) (events : List (Event D)) (image : List ℕ) → Steps g f s h e reply mid → IsPassed g f s mid events image → IsPassed g f s h (e ∷ events) image
+  passed_behind h mid e reply events image step p = record {
+    before = e ∷ p.before;
+    event = p.event;
+    behind = p.behind;
+    split = ap (λ (l : List (Event D)). e ∷ l) p.split;
+    replies = reply ∷ p.replies;
+    mid = p.mid;
+    run = (mid, step, p.run);
+    reached = p.reached;
+  }
+
+  -- a crash at any moment of one step, and of some behind it
+  pub leaves_behind : (h mid : History S D P G C) (e : Event D) (reply : Reply S D P G C) (events : List (Event D)) (old now new : List Call)
+      → Steps g f s h e reply mid → LeavesOnly old now (IsReached g f s h e) → LeavesAtMost now new (IsPassed g f s mid events) → LeavesAtMost old new (IsPassed g f s h (e ∷ events))
+  leaves_behind h mid e reply events old now new step left (inl same) =
+      inr (subst (λ (l : List Call). LeavesOnly old l (IsPassed g f s h (e ∷ events))) (sym same) (weaker (IsPassed g f s h (e ∷ events)) left (λ image reached. passed_here h e events image reached)))
+  leaves_behind h mid e reply events old now new step left (inr more) =
+      inr (and_then (weaker (IsPassed g f s h (e ∷ events)) left (λ image reached. passed_here h e events image reached))
+      (weaker (IsPassed g f s h (e ∷ events)) more (λ image passed. passed_behind h mid e reply events image step passed)))

@@ -1,19 +1,20 @@
 -- What a run of a node over events comes to, and what a crash meanwhile leaves.
-use Rattle.std.specs.Prelude.{◌≡◌, ◌≢◌, ◌⊎◌, ◌++◌, ℕ, List, [], ◌∷◌, Option, MatchOption}
+use Rattle.std.specs.Prelude.{◌≡◌, ◌≢◌, ◌⊎◌, ◌++◌, ℕ, false, true, List, ◌∷◌, Option, IfSome}
 use Rattle.simplex_types.specs.declared.scheme.Scheme.{Ghosts}
 use Rattle.simplex_rules.specs.declared.elector.Elector as elector
 use Rattle.simplex_journal.specs.declared.disk.Disk as disk
-use Rattle.simplex_journal.specs.Disk.{Call, LeavesOnly}
+use Rattle.simplex_journal.specs.Disk.{Call, LeavesOnly, counted}
 use Rattle.simplex_member.specs.declared.action.Reply.{Reply}
 use Rattle.simplex_member.specs.declared.event.Event.{Event}
 use Rattle.simplex_member.specs.declared.fault.NodeFault.{NodeFault}
-use Rattle.simplex_member.specs.declared.fault.NodeFault.TheVariants as step_fault
+use Rattle.simplex_member.specs.declared.fault.NodeFault.TheVariants.{Device, Failed}
 use Rattle.simplex_member.specs.Member.{IsReached, Run}
 use Rattle.simplex_member.specs.Packet.{Formats}
 use Rattle.simplex_member.specs.Point.{History}
 use Rattle.simplex_member.specs.Setup.{Setup}
 use Rattle.simplex_node.specs.declared.node.Node.{Node}
-use Rattle.simplex_node.specs.Keeps.{NodeKeeps}
+use Rattle.simplex_node.specs.Keeps.{NodeKeeps, disk_of, has_failed}
+use Rattle.simplex_streaming.specs.Streaming.{StandInFront}
 
 -- a disk was asked for nothing since, or a crash at any moment since leaves what has P
 abbrev pub LeavesAtMost : List Call → List Call → (List ℕ → Type 0) → Type 0
@@ -31,13 +32,26 @@ module _ {S D P G C : Type 0} (g : Ghosts S D P G C) (f : Formats S D P G C) (s 
     pub run : Run g f s h before replies mid
     pub reached : IsReached g f s mid event image
 
+  -- a crash at any moment leaves what the step over one of some events may leave that stand at the input's front, as payloads are spelled
+  pub record LeavesPassed (F : D → Type 0) (p : D → List ℕ) (h : History S D P G C) (given : Option (List ℕ)) (old new : List Call) : Type 0 where
+    pub events : List (Event D)
+    pub read : IfSome given (StandInFront F p events)
+    pub leaves : LeavesAtMost old new (IsPassed h events)
+
 module _ {S L D P G C K : Type 0} (g : Ghosts S D P G C) (e : elector.Ghosts L S D P G C) (k : disk.Ghosts K) (f : Formats S D P G C) (s : Setup S D C) where
-  -- a run over events came to these replies and this fault: the replies are to all of them, one step after another, and the node stands
-  -- where they led; or to those before one whose step failed, which was the first that did
-  pub record AnswersEvents (h : History S D P G C) (events : List (Event D)) (replies : List (Reply S D P G C)) (fault : Option NodeFault) (node : Node S L D K P G C) : Type 0 where
-    pub answered : List (Event D)
-    pub left : List (Event D)
-    pub split : events ≡ answered ++ left
+  -- a run over these events comes to these replies, and the node stands where it led
+  pub record RunsTo (h : History S D P G C) (node : Node S L D K P G C) (events : List (Event D)) (replies : List (Reply S D P G C)) : Type 0 where
     pub end : History S D P G C
-    pub run : Run g f s h answered replies end
-    pub stands : MatchOption fault ((left ≡ []) × NodeKeeps g e k f s node end) (λ why. (left ≢ []) × (why ≢ step_fault.Failed))
+    pub run : Run g f s h events replies end
+    pub keeps : NodeKeeps g e k f s node end
+
+  -- a run over these events comes to these replies, a node stood where it led, and its step over the event behind them, the first that
+  -- failed, failed for this reason, and left the node
+  pub record RunFails (h : History S D P G C) (node : Node S L D K P G C) (events : List (Event D)) (replies : List (Reply S D P G C)) (event : Event D) (why : NodeFault) : Type 0 where
+    pub before : Node S L D K P G C
+    pub runs : RunsTo h before events replies
+    pub first : why ≢ Failed
+    pub failed : has_failed node ≡ true
+    pub device : why ≡ Device → k.failed (disk_of node) ≡ counted false (k.failed (disk_of before))
+    pub no_device : why ≢ Device → k.failed (disk_of node) ≡ k.failed (disk_of before)
+    pub any_moment : k.keeps → LeavesOnly (k.calls (disk_of before)) (k.calls (disk_of node)) (IsReached g f s runs.end event)

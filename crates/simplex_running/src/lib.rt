@@ -1,6 +1,9 @@
-//! A node over a list of events.
+//! A node over a list of events, and over streams.
 #![tactic(auto)]
 
 mod running;
+mod stepping;
+mod streaming;
 
-pub use running::{Answers, run};
+pub use running::run;
+pub use streaming::run_io;

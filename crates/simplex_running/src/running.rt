@@ -5,23 +5,17 @@ ghost use Rattle.simplex_journal.specs.Disk.{counted};
 ghost use Rattle.simplex_member.specs.declared.fault.NodeFault.TheVariants.{Device, Failed};
 ghost use Rattle.simplex_member.specs.Packet.{formats};
 ghost use Rattle.simplex_node.specs.Keeps.{AtOwn, disk_of, has_failed};
-ghost use Rattle.simplex_running.specs.Running.{AnswersEvents, IsPassed, LeavesAtMost};
+ghost use Rattle.simplex_running.specs.Running.{IsPassed, LeavesAtMost, RunFails, RunsTo};
+ghost use Rattle.simplex_streaming.specs.Stepping.{EndsList};
 
+use crate::stepping::NodeSteps;
 use simplex_journal::Disk;
-use simplex_member::{Event, NodeFault, Reply};
+use simplex_member::Event;
 use simplex_node::Node;
 use simplex_rules::Elector;
+use simplex_streaming::{Answers, answer_list};
 use simplex_types::{Digest, Scheme};
 use std::alloc::{AllocError, Global};
-
-/// What a node answered to a list of events.
-#[derive(Drop)]
-pub struct Answers<S: Scheme<D>, D: Digest> {
-    /// The replies, to one event after another.
-    pub replies: Vec<Reply<S, D>>,
-    /// Why the step over the next event failed, where one did.
-    pub fault: Option<NodeFault>,
-}
 
 /// Steps over the events, one after another, and hands back the replies. At the first step that fails it ends: the replies are to
 /// the events before that, and the fault is the step's.
@@ -34,7 +28,7 @@ pub fn run<S: Scheme<D> + Drop, L: Elector<S, D>, D: Digest, K: Disk>(
     node: &mut Node<S, L, D, K>,
     events: Vec<Event<D>>,
 ) -> Result<Answers<S, D>, AllocError>
-    ensures answers { IfOk result (λ r. AtOwn S.Scheme L.Elector K.Disk (formats D.PartialEq.eq D.spelling S.Signature.spelling S.Certificate.spelling D.reading S.Signature.reading S.Certificate.reading) node.old (λ f s h. AnswersEvents S.Scheme L.Elector K.Disk f s h events.items r.replies.items r.fault node.new)) }
+    ensures answers { IfOk result (λ r. AtOwn S.Scheme L.Elector K.Disk (formats D.PartialEq.eq D.spelling S.Signature.spelling S.Certificate.spelling D.reading S.Signature.reading S.Certificate.reading) node.old (λ f s h. EndsList (RunsTo S.Scheme L.Elector K.Disk f s h node.new) (RunFails S.Scheme L.Elector K.Disk f s h node.new) events.items r.replies.items r.fault)) }
     ensures failed { IfOk result (λ r. IsSome r.fault → has_failed node.new ≡ true) }
     ensures refused_if_failed { has_failed node.old ≡ true → (node.new ≡ node.old) × IfOk result (λ r. (r.replies.items ≡ []) × (events.items ≢ [] → r.fault ≡ Some Failed)) }
     ensures no_room { OnErr result (node.new ≡ node.old) }
@@ -46,20 +40,5 @@ pub fn run<S: Scheme<D> + Drop, L: Elector<S, D>, D: Digest, K: Disk>(
     // A crash at any moment of the call leaves the record at a point of the step over one of the events.
     ensures any_moment { AtOwn S.Scheme L.Elector K.Disk (formats D.PartialEq.eq D.spelling S.Signature.spelling S.Certificate.spelling D.reading S.Signature.reading S.Certificate.reading) node.old (λ f s h. K.keeps → LeavesAtMost (K.calls (disk_of node.old)) (K.calls (disk_of node.new)) (IsPassed S.Scheme f s h events.items)) }
 {
-    let mut replies = Vec::with_capacity(alloc, events.len())?;
-    for event in events {
-        match node.step(event) {
-            Ok(reply) => replies.push_reserved(reply),
-            Err(fault) => {
-                return Ok(Answers {
-                    replies,
-                    fault: Some(fault),
-                });
-            }
-        }
-    }
-    Ok(Answers {
-        replies,
-        fault: None,
-    })
+    answer_list::<NodeSteps, S, D, Node<S, L, D, K>>(alloc, node, events)
 }

@@ -1,0 +1,4 @@
+pub mod Answered
+pub mod Streamed
+pub mod Taking
+pub mod Texts

@@ -1,0 +1,3 @@
+pub mod Over
+pub mod Stepping
+pub mod Streaming
