@@ -10,6 +10,8 @@
 #include <stdio.h>
 #include <stdlib.h>
 #include <string.h>
+#include <sys/file.h>
+#include <sys/stat.h>
 #include <sys/types.h>
 #include <unistd.h>
 
@@ -39,7 +41,7 @@ __attribute__((destructor)) static void end(void)
 {
     const char *told = word("TOLD");
     char line[32];
-    int file = *told ? NEXT(open)(told, O_WRONLY | O_CREAT | O_TRUNC, 0600) : -1;
+    int file = *told ? NEXT(creat)(told, 0600) : -1;
     if (file >= 0)
         NEXT(write)(file, line, (size_t)snprintf(line, sizeof line, "%lu", made));
 }
@@ -93,26 +95,54 @@ ssize_t write(int file, const void *bytes, size_t size)
     return NEXT(write)(file, bytes, size);
 }
 
-ssize_t pread64(int file, void *bytes, size_t size, off64_t place)
+static ssize_t torn(int file, const void *bytes, size_t size, off_t place)
 {
-    return fails("disk") ? failed(EIO) : NEXT(pread64)(file, bytes, size, place);
-}
-
-ssize_t pwrite64(int file, const void *bytes, size_t size, off64_t place)
-{
-    if (!fails("disk"))
-        return NEXT(pwrite64)(file, bytes, size, place);
     if (!strcmp(mode, "torn"))
-        NEXT(pwrite64)(file, bytes, size / 2, place);
+        NEXT(pwrite)(file, bytes, size / 2, place);
     return failed(EIO);
 }
 
-int ftruncate64(int file, off64_t size)
+int open(const char *path, int how, ...)
 {
-    return fails("disk") ? failed(EIO) : NEXT(ftruncate64)(file, size);
+    va_list more;
+    mode_t rights;
+    va_start(more, how);
+    rights = how & O_CREAT ? (mode_t)va_arg(more, int) : 0;
+    va_end(more);
+    return fails("disk") ? failed(EIO) : NEXT(open)(path, how, rights);
+}
+
+int flock(int file, int how)
+{
+    return fails("disk") ? failed(EIO) : NEXT(flock)(file, how);
+}
+
+int statx(int folder, const char *path, int how, unsigned int what, struct statx *found)
+{
+    return fails("disk") ? failed(EIO) : NEXT(statx)(folder, path, how, what, found);
+}
+
+ssize_t pread(int file, void *bytes, size_t size, off_t place)
+{
+    return fails("disk") ? failed(EIO) : NEXT(pread)(file, bytes, size, place);
+}
+
+ssize_t pwrite(int file, const void *bytes, size_t size, off_t place)
+{
+    return fails("disk") ? torn(file, bytes, size, place) : NEXT(pwrite)(file, bytes, size, place);
+}
+
+int ftruncate(int file, off_t size)
+{
+    return fails("disk") ? failed(EIO) : NEXT(ftruncate)(file, size);
 }
 
 int fsync(int file)
 {
     return fails("disk") ? failed(EIO) : NEXT(fsync)(file);
+}
+
+int fdatasync(int file)
+{
+    return fails("disk") ? failed(EIO) : NEXT(fdatasync)(file);
 }

@@ -6,6 +6,7 @@ ghost use Rattle.std.specs.Prelude.{◌<◌};
 use simplex_cli::{Command, Trouble, parse_words, report, run_words, words_unread};
 use simplex_journal::FileDisk;
 use simplex_node_cli::node_over;
+use std::fs::File;
 use std::process::ExitCode;
 use std::{env, io};
 
@@ -24,10 +25,24 @@ fn unopened(rt: &HostRuntime, error: &io::Error) -> u8 {
     report(Err(trouble), &mut rt.stderr())
 }
 
+/// Three files that are open, in the places of standard streams that whoever called this had closed, if any: the next that is
+/// opened is none of them. They can't be read or written, so whoever tries it is told.
+fn hold_streams(rt: &HostRuntime) -> io::Result<(File, File, File)> {
+    let first = File::open(rt, "/")?;
+    let second = File::open(rt, "/")?;
+    let third = File::open(rt, "/")?;
+    Ok((first, second, third))
+}
+
 /// Runs the member of this index, of so many, over the record in the file at this path, and answers the status.
 fn run_node(rt: &HostRuntime, path: &str, index: u16, count: u16) -> u8
     requires { index < count }
 {
+    // Else replies might be written into the record.
+    let _held = match hold_streams(rt) {
+        Ok(held) => held,
+        Err(error) => return unopened(rt, &error),
+    };
     let disk = match FileDisk::open(rt, path) {
         Ok(disk) => disk,
         Err(error) => return unopened(rt, &error),

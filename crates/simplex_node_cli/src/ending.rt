@@ -7,7 +7,7 @@ use simplex_member::{IoFault, NodeFault, OpenFault};
 use std::alloc::AllocError;
 
 /// Why a node's program ended before its input.
-#[derive(Clone, Copy, Debug, PartialEq, Eq)]
+#[derive(Clone, Copy)]
 pub enum Ending {
     /// Memory ran out.
     Memory,
