@@ -24,6 +24,11 @@ def _signature(base, kind, on, signer, salt):
     return salt + hashlib.sha256(salt + number(signer) + number(len(namespace)) + namespace + statement_bytes(on)).digest()
 
 
+def forget():
+    """Forgets the signatures that were made: whoever makes very many has no room for all."""
+    _signature.cache_clear()
+
+
 class PlainScheme:
     """A signature is the hash of who signs, in which namespace, what. One subject is signed always alike."""
 

@@ -3,12 +3,15 @@
 //!
 //! | Line | Answer |
 //! |---|---|
-//! | `reset` | `ok`: an input without bytes, and streams that move all at once and never fail |
+//! | `reset` | `ok`: an input without bytes, streams that move all at once and never fail, an empty disk |
 //! | `append TIMES HEX` | how many bytes the input has with these behind it, so many times |
 //! | `reader SIZE ROOM FAULT`, `output ..`, `faults ..` | `ok`: such is the stream of each call from here on |
 //! | `audit COUNT` | `STATUS LEFT OUTPUT FAULTS` of `audit_over` |
 //! | `run WORD ..` | the same of the program with these words |
 //! | `write COUNT` | what `write_audit` answers, then `LEFT OUTPUT` |
+//! | `serve INDEX COUNT` | `STATUS LEFT OUTPUT FAULTS` of a node's program over the disk; the output in digits |
+//! | `disk BYTES`, `fuse CALLS`, `fail_at CALLS` | `ok`: such a disk; behind so many calls all or one of it fail |
+//! | `bytes` | what the disk holds |
 //! | `report OUTCOME`, `unread KIND` | `STATUS FAULTS` of `report`, and of `words_unread` after such an error |
 //! | `parse WORD ..` | `audit COUNT`, `node PATH INDEX COUNT`, or `-` |
 //! | `number WORD` | the number, or `-` |
@@ -26,9 +29,11 @@
 
 mod commands;
 mod fakes;
+mod serving;
 mod streams;
 mod texts;
 
+use crate::serving::Medium;
 use crate::streams::Streams;
 use script_words::{Layer, Say, Trouble, Words, play};
 use std::alloc::Global;
@@ -39,12 +44,14 @@ use std::process::ExitCode;
 #[derive(Drop)]
 struct Cli {
     streams: Streams,
+    medium: Medium,
 }
 
 impl Layer for Cli {
     fn reset(&mut self, words: &mut Words<'_>, alloc: Global) -> Result<(), Trouble> {
         words.end()?;
         self.streams = Streams::new(alloc);
+        self.medium = Medium::new(alloc);
         Ok(())
     }
 
@@ -54,6 +61,8 @@ impl Layer for Cli {
             "reader" => self.streams.set_reader(words, say),
             "output" => self.streams.set_output(words, say),
             "faults" => self.streams.set_faults(words, say),
+            "serve" => self.medium.serve(&self.streams, words, say),
+            "disk" | "bytes" | "fuse" | "fail_at" => self.medium.call(name, words, say),
             _ => ask(&self.streams, name, words, say),
         }
     }
@@ -86,6 +95,7 @@ fn main(rt: HostRuntime) -> ExitCode {
     let alloc = rt.alloc();
     let mut cli = Cli {
         streams: Streams::new(alloc),
+        medium: Medium::new(alloc),
     };
     ExitCode::from(play(alloc, &mut cli, rt.reader(), &mut io::writer(&rt)))
 }

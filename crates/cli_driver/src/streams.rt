@@ -1,10 +1,14 @@
 //! The calls that read or write.
 
+ghost use Rattle.std.specs.Prelude.{◌<◌};
+
 use crate::commands;
 use crate::fakes::{FakeReader, FakeWriter, Manner, kind_of};
 use crate::texts::say_text;
 use script_words::{Say, Trouble, Words};
 use simplex_cli::{audit_over, report, run_words, words_unread, write_audit};
+use simplex_journal::MemoryDisk;
+use simplex_node_cli::{drive, tell};
 use std::alloc::Global;
 use std::io;
 
@@ -100,6 +104,31 @@ impl Streams {
         say_all(status, &input, &output, &faults, say)
     }
 
+    /// A node's program over a disk, which it hands back.
+    pub(crate) fn serve(
+        &self,
+        disk: MemoryDisk,
+        index: u16,
+        count: u16,
+        say: &mut Say,
+    ) -> Result<MemoryDisk, Trouble>
+        requires { index < count }
+    {
+        let mut input = self.read();
+        let mut output = FakeWriter::new(say.alloc, self.output);
+        let mut faults = FakeWriter::new(say.alloc, self.faults);
+        let (ended, disk) = drive(say.alloc, disk, index, count, &mut input, &mut output);
+        let status = tell(say.alloc, ended, &mut faults);
+        say.number(u64::from(status))?;
+        say.gap()?;
+        say.number(input.left() as u64)?;
+        say.gap()?;
+        say.bytes(output.taken())?;
+        say.gap()?;
+        say_text(faults.taken(), say)?;
+        Ok(disk)
+    }
+
     /// `write COUNT`.
     pub(crate) fn write(&self, words: &mut Words<'_>, say: &mut Say) -> Result<(), Trouble> {
         let count = count(words)?;
@@ -180,9 +209,15 @@ fn say_told(status: u8, faults: &FakeWriter, say: &mut Say) -> Result<(), Troubl
 }
 
 /// The last word of a line, which spells a number below 65,536.
-fn count(words: &mut Words<'_>) -> Result<u16, Trouble> {
-    let number = words.number()?;
+pub(crate) fn count(words: &mut Words<'_>) -> Result<u16, Trouble> {
+    let number = short(words)?;
     words.end()?;
+    Ok(number)
+}
+
+/// A word that spells a number below 65,536.
+pub(crate) fn short(words: &mut Words<'_>) -> Result<u16, Trouble> {
+    let number = words.number()?;
     match u16::try_from(number) {
         Ok(count) => Ok(count),
         Err(_) => Err(Trouble::Unreadable),

@@ -22,7 +22,7 @@ use std::io::{Read, Write};
 /// Runs the command that the words after the program's name spell, and answers the status: 2, with
 /// the usage on `faults`, where they spell none.
 ///
-/// The command `node` is not there yet, and is answered as words that spell none.
+/// The command `node` wants a disk, and is run by another library: here it is answered as words that spell none.
 pub fn run_words<R: Read, W: Write, F: Write>(
     alloc: Global,
     words: &[String],

@@ -1,0 +1,39 @@
+-- What a run over streams comes to, without the node that was left.
+use Rattle.std.proofs.Common.{◌≡◌, ℕ, List, Option, None}
+use Rattle.std.specs.Prelude.{Result, ⊤}
+use Rattle.simplex_codec.specs.declared.codec.CodecError.{CodecError}
+use Rattle.simplex_types.specs.declared.scheme.Scheme.{Ghosts}
+use Rattle.simplex_certificates.specs.declared.artifact.Artifact.{Artifact}
+use Rattle.simplex_rules.specs.declared.elector.Elector as elector
+use Rattle.simplex_journal.specs.declared.disk.Disk as disk
+use Rattle.simplex_member.specs.declared.action.Reply.{Reply}
+use Rattle.simplex_member.specs.declared.fault.IoFault.{IoFault}
+use Rattle.simplex_member.specs.Packet.{Formats}
+use Rattle.simplex_member.specs.Point.{History}
+use Rattle.simplex_member.specs.Setup.{Setup}
+use Rattle.simplex_node.specs.declared.node.Node.{Node}
+use Rattle.simplex_node.specs.Keeps.{NodeKeeps}
+use Rattle.simplex_node.specs.Opening.{IsOpenAndSettled}
+use Rattle.simplex_running.specs.Running.{RunFails, RunsTo}
+use Rattle.simplex_streaming.specs.Over.{ends_as}
+use Rattle.simplex_streaming.specs.Streaming.{EndsIn}
+use Rattle.simplex_node_cli.specs.declared.ending.Ending.{Ending}
+use Rattle.simplex_node_cli.specs.Serving.{Answers, AnswersBefore, Serves, ServesOver, ended_of}
+
+module _ {S L D P G C K : Type 0} (g : Ghosts S D P G C) (e : elector.Ghosts L S D P G C) (k : disk.Ghosts K) (f : Formats S D P G C) (s : Setup S D C)
+    (F : D → Type 0) (p : D → List ℕ) (w : Reply S D P G C → List ℕ) (q : List ℕ → Result (D × List ℕ) CodecError) where
+  -- by what is said of the node that was left
+  pub served : {A : Type 0} (h : History S D P G C) (node : Node S L D K P G C) (r : Result A IoFault) (given text more : Option (List ℕ))
+      → EndsIn F p w q (RunsTo g e k f s h node) (RunFails g e k f s h node) r given text more → EndsIn F p w q (Answers g f s h) (AnswersBefore g f s h) r given text more
+  served h node r given text more =
+      ends_as F p w q (RunsTo g e k f s h node) (RunFails g e k f s h node) (Answers g f s h) (AnswersBefore g f s h)
+      (λ events replies runs. (runs.end, runs.run)) (λ events replies event why fails. (fails.runs.end, fails.runs.run)) r given text more
+
+  -- behind the opening of a record
+  pub served_over : (Readable : Artifact S D P G C → Type 0) (on : K) (now : ℕ) (node : Node S L D K P G C) (first : Reply S D P G C) (r : Result ⊤ Ending) (given text more : Option (List ℕ))
+      → first.refused ≡ None → IsOpenAndSettled g e k f s Readable on now node first.actions.items
+      → ((h : History S D P G C) → NodeKeeps g e k f s node h → (ended : Result ⊤ IoFault) × (r ≡ ended_of ended) × Serves g f s F p w q h first ended given text more)
+      → (ended : Result ⊤ IoFault) × (r ≡ ended_of ended) × ServesOver g k f s F p w q Readable on now ended given text more
+  served_over Readable on now node first r given text more taken settled serves =
+      let this : (ended : Result ⊤ IoFault) × (r ≡ ended_of ended) × Serves g f s F p w q settled.end first ended given text more = serves settled.end settled.keeps in
+      (this.0, this.1, record { found = settled.found; are_found = settled.are_found; first = first; taken = taken; end = settled.end; opens = settled.opens; serves = this.2 })
