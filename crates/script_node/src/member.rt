@@ -1,64 +1,34 @@
-//! The member of a script, whatever its scheme, whoever leads, and on whatever disk: at one of each the calls would cost
-//! the prover several times as much.
+//! The member of a script, whatever its scheme, whoever leads, on whatever disk, and whatever node plays it: at one of
+//! each the calls would cost the prover several times as much.
 
 ghost use Rattle.std.specs.Prelude.{◌≡◌, IfOk};
 
 use crate::faults::{say_fault, say_open_fault};
 use crate::medium::Medium;
+use crate::seat::Seat;
 use crate::setup::Setup;
+use crate::spelling::{event_of, say_actions, say_reply};
 use crate::turns::Turns;
 use script_words::{Committee, Say, Trouble, Words};
-use simplex_events::{read_event, write_reply};
-use simplex_member::{Action, Event, Reply};
-use simplex_node::Node;
-use simplex_types::{CodecError, Scheme, Sha256Digest};
+use simplex_types::Scheme;
 use std::alloc::Global;
 use std::rc::Rc;
 
 /// A member with its disk, which the node has while it is open.
 #[derive(Drop)]
-pub(crate) struct Member<S: Committee, L: Turns<S>, K: Medium> {
+pub struct Member<N: Seat> {
     setup: Setup,
-    disk: Option<K>,
-    node: Option<Node<S, L, Sha256Digest, K>>,
+    disk: Option<N::Disk>,
+    node: Option<N>,
 }
 
-/// Says the bytes that spell a reply.
-fn say_reply<S: Committee>(reply: &Reply<S, Sha256Digest>, say: &mut Say) -> Result<(), Trouble> {
-    let mut bytes = Vec::new(say.alloc);
-    write_reply(&mut bytes, reply)?;
-    say.bytes(&bytes)
-}
-
-/// Says actions as a reply.
-fn say_actions<S: Committee>(
-    actions: Vec<Action<S, Sha256Digest>>,
-    say: &mut Say,
-) -> Result<(), Trouble> {
-    let reply = Reply {
-        refused: None,
-        actions,
-    };
-    say_reply(&reply, say)
-}
-
-/// The event that the bytes spell, none of them left, in a committee of so many.
-fn event_of(alloc: Global, bytes: &[u8], members: u32) -> Result<Event<Sha256Digest>, Trouble> {
-    let mut rest = bytes;
-    match read_event(alloc, &mut rest, members) {
-        Ok(event) if rest.is_empty() => Ok(event),
-        Err(CodecError::Memory) => Err(Trouble::Memory),
-        _ => Err(Trouble::Unreadable),
-    }
-}
-
-impl<S: Committee, L: Turns<S>, K: Medium> Member<S, L, K> {
+impl<N: Seat> Member<N> {
     /// A member that is set up so, with an empty disk. A committee that can't be is `condition`.
-    pub(crate) fn new(alloc: Global, setup: Setup) -> Result<Self, Trouble> {
-        S::member_of(alloc, setup.members, setup.me, 0)?;
+    pub fn new(alloc: Global, setup: Setup) -> Result<Self, Trouble> {
+        N::Scheme::member_of(alloc, setup.members, setup.me, 0)?;
         Ok(Member {
             setup,
-            disk: Some(K::holding(alloc, &[])?),
+            disk: Some(N::Disk::holding(alloc, &[])?),
             node: None,
         })
     }
@@ -71,7 +41,7 @@ impl<S: Committee, L: Turns<S>, K: Medium> Member<S, L, K> {
     }
 
     /// The disk, where no node is open on it.
-    fn disk(&mut self) -> Result<&mut K, Trouble> {
+    fn disk(&mut self) -> Result<&mut N::Disk, Trouble> {
         match &mut self.disk {
             Some(disk) => Ok(disk),
             None => Err(Trouble::Condition),
@@ -79,7 +49,7 @@ impl<S: Committee, L: Turns<S>, K: Medium> Member<S, L, K> {
     }
 
     /// The node that is open.
-    fn node(&mut self) -> Result<&mut Node<S, L, Sha256Digest, K>, Trouble> {
+    fn node(&mut self) -> Result<&mut N, Trouble> {
         match &mut self.node {
             Some(node) => Ok(node),
             None => Err(Trouble::Condition),
@@ -91,25 +61,25 @@ impl<S: Committee, L: Turns<S>, K: Medium> Member<S, L, K> {
         let now = words.number()?;
         words.end()?;
         self.close();
-        let scheme = S::member_of(say.alloc, self.setup.members, self.setup.me, 0)?;
-        let elector = L::among(say.alloc, &self.setup, scheme.participants())?;
+        let scheme = N::Scheme::member_of(say.alloc, self.setup.members, self.setup.me, 0)?;
+        let elector = N::Elector::among(say.alloc, &self.setup, scheme.participants())?;
         self.open_with(Rc::new(say.alloc, scheme)?, elector, now, say)
     }
 
     /// Opens the disk as this member.
     fn open_with(
         &mut self,
-        scheme: Rc<S>,
-        elector: L,
+        scheme: Rc<N::Scheme>,
+        elector: N::Elector,
         now: u64,
         say: &mut Say,
     ) -> Result<(), Trouble>
-        requires { L.built_for elector (S.size scheme.value) }
+        requires { N.Elector.built_for elector (N.Scheme.size scheme.value) }
     {
         let Some(disk) = self.disk.take() else {
             return Err(Trouble::Condition);
         };
-        match Node::open(say.alloc, self.setup.config(), scheme, elector, disk, now) {
+        match N::open(say.alloc, self.setup.config(), scheme, elector, disk, now) {
             Ok((node, actions)) => {
                 self.node = Some(node);
                 say_actions(actions, say)
@@ -171,7 +141,7 @@ impl<S: Committee, L: Turns<S>, K: Medium> Member<S, L, K> {
         let bytes = words.bytes(say.alloc)?;
         words.end()?;
         self.close();
-        self.disk = Some(K::holding(say.alloc, &bytes)?);
+        self.disk = Some(N::Disk::holding(say.alloc, &bytes)?);
         say.ok()
     }
 
@@ -196,7 +166,7 @@ impl<S: Committee, L: Turns<S>, K: Medium> Member<S, L, K> {
     }
 
     /// Makes the call of this name.
-    pub(crate) fn answer(
+    pub fn answer(
         &mut self,
         name: &str,
         words: &mut Words<'_>,
