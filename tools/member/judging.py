@@ -14,6 +14,8 @@ stand as words (see words.py) or as the hexadecimal digits of their spelling.
     disk HEX                      => ok      the disk holds these bytes
     open NOW                      => REPLY, fault NUMBER, fault NUMBER PLACE, or crash
     event EVENT                   => REPLY, fault NUMBER, or crash
+    stream HEX                    => HEX, and behind it bad PLACE or fault NUMBER where that ends early: the replies to the
+                                     events that the bytes spell, one behind the other
     current_view, last_finalized  => NUMBER
     record                        => the artifacts, as behind found
     bytes                         => HEX     closes the node that is open: the disk holds these bytes
@@ -159,6 +161,32 @@ class Case:
             raise Disagreement("no such fault")
         self.h = step(self.h, event, words.reply_of(answer, self.setup.scheme))
 
+    def stream(self, text, answer):
+        """Each of the events is answered, until a step fails or no event stands at a place."""
+        if self.h is None and not self.has_failed:
+            if answer != "condition":
+                raise Disagreement("no node is open")
+            return
+        spelled_replies, _, told = answer.partition(" ")
+        size, members = self.setup.scheme.signature_size, self.setup.scheme.members
+        events, replies = (Reader(bytes.fromhex(it.replace("-", "")), size, members) for it in (text, spelled_replies))
+        right = ""
+        while events.place < len(events.data):
+            place = events.place
+            try:
+                events.event()
+            except Unreadable:
+                right = f"bad {place}"
+                break
+            event, first = events.data[place : events.place].hex(), replies.place
+            if first == len(replies.data):
+                self.event(event, told)
+                return
+            replies.reply()
+            self.event(event, replies.data[first : replies.place].hex())
+        if replies.place < len(replies.data) or told != right:
+            raise Disagreement(f"it ends behind {replies.place} bytes{right and ' with ' + right}")
+
     def cut(self, event):
         """The step ends somewhere, and hands nothing out."""
         h = self.h
@@ -177,6 +205,8 @@ class Case:
             self.open(rest, answer)
         elif name == "event":
             self.event(rest, answer)
+        elif name == "stream":
+            self.stream(rest, answer)
         elif name in ("current_view", "last_finalized") and self.h is not None:
             right = {"current_view": current, "last_finalized": last_finalized}[name](self.h)
             if answer != str(right):

@@ -3,8 +3,9 @@
 use script_node::{Medium, Seat, Turns};
 use script_words::Committee;
 use simplex_decisions::config::Config;
-use simplex_member::{Action, Event, NodeFault, OpenFault, Reply};
+use simplex_member::{Action, Event, IoFault, NodeFault, OpenFault, Reply};
 use simplex_node::Node;
+use simplex_running::run_io;
 use simplex_types::{Sha256Digest, View};
 use std::alloc::Global;
 use std::rc::Rc;
@@ -13,13 +14,7 @@ use std::rc::Rc;
 #[derive(Drop)]
 pub(crate) struct Played<S: Committee, L: Turns<S>, K: Medium>(Node<S, L, Sha256Digest, K>);
 
-impl<S: Committee, L: Turns<S>, K: Medium> Seat for Played<S, L, K> {
-    type Scheme = S;
-
-    type Elector = L;
-
-    type Disk = K;
-
+impl<S: Committee, L: Turns<S>, K: Medium> Seat<S, L, K> for Played<S, L, K> {
     fn open(
         alloc: Global,
         config: Config<Sha256Digest>,
@@ -27,7 +22,9 @@ impl<S: Committee, L: Turns<S>, K: Medium> Seat for Played<S, L, K> {
         elector: L,
         disk: K,
         now: u64,
-    ) -> Result<(Self, Vec<Action<S, Sha256Digest>>), (OpenFault, K)> {
+    ) -> Result<(Self, Vec<Action<S, Sha256Digest>>), (OpenFault, K)>
+        requires { L.built_for elector (S.size scheme.value) }
+    {
         match Node::open(alloc, config, scheme, elector, disk, now) {
             Ok((node, actions)) => Ok((Played(node), actions)),
             Err(refused) => Err(refused),
@@ -36,6 +33,11 @@ impl<S: Committee, L: Turns<S>, K: Medium> Seat for Played<S, L, K> {
 
     fn step(&mut self, event: Event<Sha256Digest>) -> Result<Reply<S, Sha256Digest>, NodeFault> {
         self.0.step(event)
+    }
+
+    fn run(&mut self, alloc: Global, events: &[u8], replies: &mut Vec<u8>) -> Result<(), IoFault> {
+        let mut reader = events;
+        run_io(alloc, &mut self.0, &mut reader, replies)
     }
 
     fn current_view(&self) -> View {

@@ -1,7 +1,7 @@
-//! Why a node is not opened, or does no step.
+//! Why a node is not opened, does no step, or ends a stream.
 
 use script_words::{Say, Trouble};
-use simplex_member::{NodeFault, OpenFault};
+use simplex_member::{IoFault, NodeFault, OpenFault};
 
 /// `fault NUMBER`, and what else is told. Where memory ran out the script ends.
 pub(crate) fn say_open_fault(fault: OpenFault, say: &mut Say) -> Result<(), Trouble> {
@@ -30,5 +30,19 @@ pub(crate) fn say_fault(fault: NodeFault, say: &mut Say) -> Result<(), Trouble> 
         NodeFault::Memory => Err(Trouble::Memory),
         NodeFault::Device => say.text("fault 2"),
         NodeFault::Failed => say.text("fault 3"),
+    }
+}
+
+/// A blank, and `bad PLACE`, or the fault of a step. Where memory ran out the script ends; reading and writing bytes that are
+/// there fails for no other reason.
+pub(crate) fn say_io_fault(fault: IoFault, say: &mut Say) -> Result<(), Trouble> {
+    say.gap()?;
+    match fault {
+        IoFault::BadEvent(place) => {
+            say.text("bad ")?;
+            say.number(place)
+        }
+        IoFault::Node(fault) => say_fault(fault, say),
+        IoFault::Read | IoFault::Write | IoFault::Memory => Err(Trouble::Memory),
     }
 }

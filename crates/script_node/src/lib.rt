@@ -9,7 +9,8 @@
 //! - `open NOW`: closes the node that is open, opens the disk, and tells the first actions as a reply, or `fault NUMBER`,
 //!   behind it what else is told: of a configuration the number of its fault, of an artifact its place or position
 //! - `event EVENT`: the reply, or `fault NUMBER`; `times COUNT event EVENT`: so many times, and what is answered each time
-//!   where that is the same, else `changes`
+//!   where that is the same, else `changes`; `stream EVENTS`: the replies to so many events, one behind the other, read and
+//!   written as streams, and behind them `bad PLACE` where no event stands at that byte, or `fault NUMBER`
 //! - of the node that is open `current_view`, `last_finalized`, `is_failed`
 //! - `bytes`: closes the node that is open, and tells what the disk holds; `disk BYTES`: closes it, and puts a disk that
 //!   holds these in the place of its own; while no node is open `fuse CALLS` and `fail_at CALLS`: calls of the disk fail

@@ -3,7 +3,7 @@
 
 ghost use Rattle.std.specs.Prelude.{◌≡◌, IfOk};
 
-use crate::faults::{say_fault, say_open_fault};
+use crate::faults::{say_fault, say_io_fault, say_open_fault};
 use crate::medium::Medium;
 use crate::seat::Seat;
 use crate::setup::Setup;
@@ -12,24 +12,29 @@ use crate::turns::Turns;
 use script_words::{Committee, Say, Trouble, Words};
 use simplex_types::Scheme;
 use std::alloc::Global;
+use std::marker::PhantomData;
 use std::rc::Rc;
 
 /// A member with its disk, which the node has while it is open.
 #[derive(Drop)]
-pub struct Member<N: Seat> {
+pub struct Member<S: Committee, L: Turns<S>, K: Medium, N: Seat<S, L, K>> {
     setup: Setup,
-    disk: Option<N::Disk>,
+    disk: Option<K>,
     node: Option<N>,
+    scheme: PhantomData<S>,
+    elector: PhantomData<L>,
 }
 
-impl<N: Seat> Member<N> {
+impl<S: Committee, L: Turns<S>, K: Medium, N: Seat<S, L, K>> Member<S, L, K, N> {
     /// A member that is set up so, with an empty disk. A committee that can't be is `condition`.
     pub fn new(alloc: Global, setup: Setup) -> Result<Self, Trouble> {
-        N::Scheme::member_of(alloc, setup.members, setup.me, 0)?;
+        S::member_of(alloc, setup.members, setup.me, 0)?;
         Ok(Member {
             setup,
-            disk: Some(N::Disk::holding(alloc, &[])?),
+            disk: Some(K::holding(alloc, &[])?),
             node: None,
+            scheme: PhantomData,
+            elector: PhantomData,
         })
     }
 
@@ -41,7 +46,7 @@ impl<N: Seat> Member<N> {
     }
 
     /// The disk, where no node is open on it.
-    fn disk(&mut self) -> Result<&mut N::Disk, Trouble> {
+    fn disk(&mut self) -> Result<&mut K, Trouble> {
         match &mut self.disk {
             Some(disk) => Ok(disk),
             None => Err(Trouble::Condition),
@@ -61,20 +66,20 @@ impl<N: Seat> Member<N> {
         let now = words.number()?;
         words.end()?;
         self.close();
-        let scheme = N::Scheme::member_of(say.alloc, self.setup.members, self.setup.me, 0)?;
-        let elector = N::Elector::among(say.alloc, &self.setup, scheme.participants())?;
+        let scheme = S::member_of(say.alloc, self.setup.members, self.setup.me, 0)?;
+        let elector = L::among(say.alloc, &self.setup, scheme.participants())?;
         self.open_with(Rc::new(say.alloc, scheme)?, elector, now, say)
     }
 
     /// Opens the disk as this member.
     fn open_with(
         &mut self,
-        scheme: Rc<N::Scheme>,
-        elector: N::Elector,
+        scheme: Rc<S>,
+        elector: L,
         now: u64,
         say: &mut Say,
     ) -> Result<(), Trouble>
-        requires { N.Elector.built_for elector (N.Scheme.size scheme.value) }
+        requires { L.built_for elector (S.size scheme.value) }
     {
         let Some(disk) = self.disk.take() else {
             return Err(Trouble::Condition);
@@ -136,12 +141,25 @@ impl<N: Seat> Member<N> {
         Ok(true)
     }
 
+    /// `stream EVENTS`: the replies, one behind the other, and behind them why that ended before the events did.
+    fn stream(&mut self, words: &mut Words<'_>, say: &mut Say) -> Result<(), Trouble> {
+        let events = words.bytes(say.alloc)?;
+        words.end()?;
+        let mut replies = Vec::new(say.alloc);
+        let ran = self.node()?.run(say.alloc, &events, &mut replies);
+        say.bytes(&replies)?;
+        match ran {
+            Ok(()) => Ok(()),
+            Err(fault) => say_io_fault(fault, say),
+        }
+    }
+
     /// `disk BYTES`.
     fn put_disk(&mut self, words: &mut Words<'_>, say: &mut Say) -> Result<(), Trouble> {
         let bytes = words.bytes(say.alloc)?;
         words.end()?;
         self.close();
-        self.disk = Some(N::Disk::holding(say.alloc, &bytes)?);
+        self.disk = Some(K::holding(say.alloc, &bytes)?);
         say.ok()
     }
 
@@ -176,6 +194,7 @@ impl<N: Seat> Member<N> {
             "open" => self.open(words, say),
             "event" => self.event(words, say),
             "times" => self.times(words, say),
+            "stream" => self.stream(words, say),
             "disk" | "bytes" | "fuse" | "fail_at" => self.hold(name, words, say),
             _ => self.ask(name, words, say),
         }

@@ -4,38 +4,33 @@ use crate::medium::Medium;
 use crate::turns::Turns;
 use script_words::Committee;
 use simplex_decisions::config::Config;
-use simplex_member::{Action, Event, NodeFault, OpenFault, Reply};
+use simplex_member::{Action, Event, IoFault, NodeFault, OpenFault, Reply};
 use simplex_types::{Sha256Digest, View};
 use std::alloc::Global;
 use std::rc::Rc;
 
 /// What a script opens, and tells events: a node over its disk.
-pub trait Seat: Drop {
-    /// How members sign.
-    type Scheme: Committee;
-
-    /// What decides who leads.
-    type Elector: Turns<Self::Scheme>;
-
-    /// What the node records on.
-    type Disk: Medium;
-
+pub trait Seat<S: Committee, L: Turns<S>, K: Medium>: Drop {
     /// Opens the disk at a moment, in milliseconds: the node and its first actions, or why there is none, and the disk.
     fn open(
         alloc: Global,
         config: Config<Sha256Digest>,
-        scheme: Rc<Self::Scheme>,
-        elector: Self::Elector,
-        disk: Self::Disk,
+        scheme: Rc<S>,
+        elector: L,
+        disk: K,
         now: u64,
-    ) -> Result<(Self, Vec<Action<Self::Scheme, Sha256Digest>>), (OpenFault, Self::Disk)>
-        requires { Self.Elector.built_for elector (Self.Scheme.size scheme.value) };
+    ) -> Result<(Self, Vec<Action<S, Sha256Digest>>), (OpenFault, K)>
+        requires { L.built_for elector (S.size scheme.value) };
 
     /// What it answers to an event.
     fn step(
         &mut self,
         event: Event<Sha256Digest>,
-    ) -> Result<Reply<Self::Scheme, Sha256Digest>, NodeFault>;
+    ) -> Result<Reply<S, Sha256Digest>, NodeFault>;
+
+    /// Answers the events that these bytes spell, one behind the other, as those of a stream: appends the bytes of the replies,
+    /// and tells why that ended before the events did.
+    fn run(&mut self, alloc: Global, events: &[u8], replies: &mut Vec<u8>) -> Result<(), IoFault>;
 
     /// The current view.
     fn current_view(&self) -> View;
@@ -47,5 +42,5 @@ pub trait Seat: Drop {
     fn is_failed(&self) -> bool;
 
     /// Gives the disk back.
-    fn close(self) -> Self::Disk;
+    fn close(self) -> K;
 }
