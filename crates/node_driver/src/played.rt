@@ -13,13 +13,7 @@ use std::rc::Rc;
 #[derive(Drop)]
 pub(crate) struct Played<S: Committee, L: Turns<S>, K: Medium>(Node<S, L, Sha256Digest, K>);
 
-impl<S: Committee, L: Turns<S>, K: Medium> Seat for Played<S, L, K> {
-    type Scheme = S;
-
-    type Elector = L;
-
-    type Disk = K;
-
+impl<S: Committee, L: Turns<S>, K: Medium> Seat<S, L, K> for Played<S, L, K> {
     fn open(
         alloc: Global,
         config: Config<Sha256Digest>,
@@ -27,7 +21,9 @@ impl<S: Committee, L: Turns<S>, K: Medium> Seat for Played<S, L, K> {
         elector: L,
         disk: K,
         now: u64,
-    ) -> Result<(Self, Vec<Action<S, Sha256Digest>>), (OpenFault, K)> {
+    ) -> Result<(Self, Vec<Action<S, Sha256Digest>>), (OpenFault, K)>
+        requires { L.built_for elector (S.size scheme.value) }
+    {
         match Node::open(alloc, config, scheme, elector, disk, now) {
             Ok((node, actions)) => Ok((Played(node), actions)),
             Err(refused) => Err(refused),

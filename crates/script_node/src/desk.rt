@@ -4,20 +4,31 @@ use crate::member::Member;
 use crate::seat::Seat;
 use crate::setup::Setup;
 use script_words::{Layer, Say, Trouble, Words};
+use simplex_journal::MemoryDisk;
+use simplex_rules::{RoundRobinElector, SaltedScheme};
+use simplex_types::PlainScheme;
 use std::alloc::Global;
 
 /// The member of a script, played on a `P` where its scheme is `plain`, on a `Q` where it is `salted`.
 #[derive(Drop)]
-pub enum Desk<P: Seat, Q: Seat> {
+pub enum Desk<P, Q>
+where
+    P: Seat<PlainScheme, RoundRobinElector, MemoryDisk>,
+    Q: Seat<SaltedScheme, RoundRobinElector, MemoryDisk>,
+{
     /// Before the first `reset`.
     Nothing,
     /// Of the plain scheme.
-    Plain(Member<P>),
+    Plain(Member<PlainScheme, RoundRobinElector, MemoryDisk, P>),
     /// Of the salted scheme.
-    Salted(Member<Q>),
+    Salted(Member<SaltedScheme, RoundRobinElector, MemoryDisk, Q>),
 }
 
-impl<P: Seat, Q: Seat> Layer for Desk<P, Q> {
+impl<P, Q> Layer for Desk<P, Q>
+where
+    P: Seat<PlainScheme, RoundRobinElector, MemoryDisk>,
+    Q: Seat<SaltedScheme, RoundRobinElector, MemoryDisk>,
+{
     fn reset(&mut self, words: &mut Words<'_>, alloc: Global) -> Result<(), Trouble> {
         if words.word() != "node" {
             return Err(Trouble::Unreadable);

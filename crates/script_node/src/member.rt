@@ -12,24 +12,29 @@ use crate::turns::Turns;
 use script_words::{Committee, Say, Trouble, Words};
 use simplex_types::Scheme;
 use std::alloc::Global;
+use std::marker::PhantomData;
 use std::rc::Rc;
 
 /// A member with its disk, which the node has while it is open.
 #[derive(Drop)]
-pub struct Member<N: Seat> {
+pub struct Member<S: Committee, L: Turns<S>, K: Medium, N: Seat<S, L, K>> {
     setup: Setup,
-    disk: Option<N::Disk>,
+    disk: Option<K>,
     node: Option<N>,
+    scheme: PhantomData<S>,
+    elector: PhantomData<L>,
 }
 
-impl<N: Seat> Member<N> {
+impl<S: Committee, L: Turns<S>, K: Medium, N: Seat<S, L, K>> Member<S, L, K, N> {
     /// A member that is set up so, with an empty disk. A committee that can't be is `condition`.
     pub fn new(alloc: Global, setup: Setup) -> Result<Self, Trouble> {
-        N::Scheme::member_of(alloc, setup.members, setup.me, 0)?;
+        S::member_of(alloc, setup.members, setup.me, 0)?;
         Ok(Member {
             setup,
-            disk: Some(N::Disk::holding(alloc, &[])?),
+            disk: Some(K::holding(alloc, &[])?),
             node: None,
+            scheme: PhantomData,
+            elector: PhantomData,
         })
     }
 
@@ -41,7 +46,7 @@ impl<N: Seat> Member<N> {
     }
 
     /// The disk, where no node is open on it.
-    fn disk(&mut self) -> Result<&mut N::Disk, Trouble> {
+    fn disk(&mut self) -> Result<&mut K, Trouble> {
         match &mut self.disk {
             Some(disk) => Ok(disk),
             None => Err(Trouble::Condition),
@@ -61,20 +66,20 @@ impl<N: Seat> Member<N> {
         let now = words.number()?;
         words.end()?;
         self.close();
-        let scheme = N::Scheme::member_of(say.alloc, self.setup.members, self.setup.me, 0)?;
-        let elector = N::Elector::among(say.alloc, &self.setup, scheme.participants())?;
+        let scheme = S::member_of(say.alloc, self.setup.members, self.setup.me, 0)?;
+        let elector = L::among(say.alloc, &self.setup, scheme.participants())?;
         self.open_with(Rc::new(say.alloc, scheme)?, elector, now, say)
     }
 
     /// Opens the disk as this member.
     fn open_with(
         &mut self,
-        scheme: Rc<N::Scheme>,
-        elector: N::Elector,
+        scheme: Rc<S>,
+        elector: L,
         now: u64,
         say: &mut Say,
     ) -> Result<(), Trouble>
-        requires { N.Elector.built_for elector (N.Scheme.size scheme.value) }
+        requires { L.built_for elector (S.size scheme.value) }
     {
         let Some(disk) = self.disk.take() else {
             return Err(Trouble::Condition);
@@ -141,7 +146,7 @@ impl<N: Seat> Member<N> {
         let bytes = words.bytes(say.alloc)?;
         words.end()?;
         self.close();
-        self.disk = Some(N::Disk::holding(say.alloc, &bytes)?);
+        self.disk = Some(K::holding(say.alloc, &bytes)?);
         say.ok()
     }
 

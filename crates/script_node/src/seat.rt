@@ -10,32 +10,20 @@ use std::alloc::Global;
 use std::rc::Rc;
 
 /// What a script opens, and tells events: a node over its disk.
-pub trait Seat: Drop {
-    /// How members sign.
-    type Scheme: Committee;
-
-    /// What decides who leads.
-    type Elector: Turns<Self::Scheme>;
-
-    /// What the node records on.
-    type Disk: Medium;
-
+pub trait Seat<S: Committee, L: Turns<S>, K: Medium>: Drop {
     /// Opens the disk at a moment, in milliseconds: the node and its first actions, or why there is none, and the disk.
     fn open(
         alloc: Global,
         config: Config<Sha256Digest>,
-        scheme: Rc<Self::Scheme>,
-        elector: Self::Elector,
-        disk: Self::Disk,
+        scheme: Rc<S>,
+        elector: L,
+        disk: K,
         now: u64,
-    ) -> Result<(Self, Vec<Action<Self::Scheme, Sha256Digest>>), (OpenFault, Self::Disk)>
-        requires { Self.Elector.built_for elector (Self.Scheme.size scheme.value) };
+    ) -> Result<(Self, Vec<Action<S, Sha256Digest>>), (OpenFault, K)>
+        requires { L.built_for elector (S.size scheme.value) };
 
     /// What it answers to an event.
-    fn step(
-        &mut self,
-        event: Event<Sha256Digest>,
-    ) -> Result<Reply<Self::Scheme, Sha256Digest>, NodeFault>;
+    fn step(&mut self, event: Event<Sha256Digest>) -> Result<Reply<S, Sha256Digest>, NodeFault>;
 
     /// The current view.
     fn current_view(&self) -> View;
@@ -47,5 +35,5 @@ pub trait Seat: Drop {
     fn is_failed(&self) -> bool;
 
     /// Gives the disk back.
-    fn close(self) -> Self::Disk;
+    fn close(self) -> K;
 }
