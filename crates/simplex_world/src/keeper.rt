@@ -34,7 +34,14 @@ impl<S: Committee, L: Turns<S>, K: Medium> Keeper<S, L, K> {
         let Some(disk) = self.disk.take() else {
             return Ok(Outcome::Nothing);
         };
-        match Node::open(self.alloc, config_of(&self.times), scheme, elector, disk, now) {
+        match Node::open(
+            self.alloc,
+            config_of(&self.times),
+            scheme,
+            elector,
+            disk,
+            now,
+        ) {
             Ok((node, actions)) => {
                 self.node = Some(node);
                 Ok(Outcome::Did(actions))

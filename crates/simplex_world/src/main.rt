@@ -51,10 +51,5 @@ fn main(rt: HostRuntime) -> ExitCode {
         Err(_) => false,
     };
     let mut output = io::writer(&rt);
-    ExitCode::from(play::<PlainScheme, Seated, _, _>(
-        rt.alloc(),
-        is_json,
-        rt.reader(),
-        &mut output,
-    ))
+    ExitCode::from(play::<PlainScheme, Seated, _, _>(rt.alloc(), is_json, rt.reader(), &mut output))
 }

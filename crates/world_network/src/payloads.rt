@@ -56,7 +56,11 @@ impl Payloads {
     }
 
     /// Builds a payload.
-    pub fn build(&mut self, ground: Ground, is_certified: bool) -> Result<Sha256Digest, AllocError> {
+    pub fn build(
+        &mut self,
+        ground: Ground,
+        is_certified: bool,
+    ) -> Result<Sha256Digest, AllocError> {
         self.add(Built {
             ground,
             is_good: true,

@@ -46,7 +46,9 @@ impl<S: Committee, M: Seat<S>> World<S, M> {
     fn answer(&mut self, place: usize, asked: &Action<S, Sha256Digest>) -> Result<(), Broken> {
         match asked {
             Action::Build {
-                number, context, ..
+                number,
+                context,
+                ..
             } => self.build(place, *number, Ground::of(context)),
             Action::Verify {
                 number,
@@ -109,8 +111,7 @@ impl<S: Committee, M: Seat<S>> World<S, M> {
         }
         let second = self.payloads.build(*ground, true)?;
         liar.note_built(payload, second)?;
-        self.chronicle
-            .tell_built(index_of(place), ground, &second)?;
+        self.chronicle.tell_built(index_of(place), ground, &second)?;
         Ok(())
     }
 
@@ -204,11 +205,7 @@ impl<S: Committee, M: Seat<S>> World<S, M> {
     }
 
     /// A member reports what it took or did. What a liar reports counts for nothing.
-    fn report(
-        &mut self,
-        place: usize,
-        activity: &Activity<S, Sha256Digest>,
-    ) -> Result<(), Broken> {
+    fn report(&mut self, place: usize, activity: &Activity<S, Sha256Digest>) -> Result<(), Broken> {
         let me = index_of(place);
         if self.scenario.lies(me) {
             return Ok(());

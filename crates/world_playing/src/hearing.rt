@@ -43,11 +43,7 @@ impl<S: Committee, M: Seat<S>> World<S, M> {
     }
 
     /// Lets a liar hear a packet of a correct member, whether its node is up or not.
-    fn let_liar_hear(
-        &mut self,
-        place: usize,
-        event: &Event<Sha256Digest>,
-    ) -> Result<(), Broken> {
+    fn let_liar_hear(&mut self, place: usize, event: &Event<Sha256Digest>) -> Result<(), Broken> {
         let Event::Packet {
             sender,
             channel,

@@ -203,11 +203,7 @@ impl<S: Committee, M: Seat<S>> World<S, M> {
     }
 
     /// Hands an event to a member's node.
-    pub(crate) fn step(
-        &mut self,
-        place: usize,
-        event: Event<Sha256Digest>,
-    ) -> Result<(), Broken> {
+    pub(crate) fn step(&mut self, place: usize, event: Event<Sha256Digest>) -> Result<(), Broken> {
         self.events = self.events.saturating_add(1);
         let Some(member) = self.members.get_mut(place) else {
             return Ok(());
@@ -231,11 +227,7 @@ impl<S: Committee, M: Seat<S>> World<S, M> {
     }
 
     /// Does what a step hands out, and sees whether the member has entered a view.
-    fn follow(
-        &mut self,
-        place: usize,
-        deeds: &[Action<S, Sha256Digest>],
-    ) -> Result<(), Broken> {
+    fn follow(&mut self, place: usize, deeds: &[Action<S, Sha256Digest>]) -> Result<(), Broken> {
         if let Some(member) = self.members.get_mut(place) {
             member.due = None;
         }
