@@ -146,9 +146,10 @@ impl Held {
 
     /// Writes over what is there.
     fn put_over(&mut self, at: usize, bytes: &[u8]) -> Option<()> {
-        let end = at.checked_add(bytes.len())?;
-        let place = self.bytes.get_mut(at..end)?;
-        place.copy_from_slice(bytes);
+        for (offset, byte) in bytes.iter().enumerate() {
+            let place = self.bytes.get_mut(at.checked_add(offset)?)?;
+            *place = *byte;
+        }
         Some(())
     }
 
