@@ -119,7 +119,8 @@ impl<S: Committee> Liar<S> {
 
     /// Whether a packet is a notarize for what it built.
     fn is_own_proposal(&self, packet: &Handed<'_>) -> Result<bool, AllocError> {
-        match self.vote_of(packet)? {
+        let vote = self.vote_of(packet)?;
+        match &vote {
             Some(Vote::Notarize(vote)) => Ok(self.beside(&vote.proposal.payload).is_some()),
             _ => Ok(false),
         }
@@ -189,7 +190,8 @@ impl<S: Committee> Liar<S> {
         payloads: &mut Payloads,
         packet: &Handed<'_>,
     ) -> Result<Option<Other>, AllocError> {
-        match self.vote_of(packet)? {
+        let vote = self.vote_of(packet)?;
+        match &vote {
             Some(Vote::Notarize(vote)) => self.other_notarize(payloads, &vote.proposal),
             Some(Vote::Finalize(vote)) => self.other_finalize(&vote.proposal),
             _ => Ok(None),
