@@ -1,0 +1,36 @@
+-- What calls from C answer.
+use Rattle.std.specs.Prelude.{◌≡◌, ◌⊎◌, ℕ, ◌+◌, List, Option, None, Some, Result, Ok, Err, length}
+use Rattle.simplex_codec.specs.declared.codec.CodecError.{CodecError}
+use Rattle.simplex_codec.specs.declared.codec.CodecError.TheVariants as codec
+use Rattle.simplex_record.specs.declared.owner.Owner.{Owner}
+use Rattle.simplex_c.specs.declared.status.Status.{Status}
+use Rattle.simplex_c.specs.declared.status.Status.TheVariants as status
+
+-- the number of a status
+abbrev pub status_number : Status → ℕ
+status_number status.Done = 0
+status_number status.Memory = 1
+status_number status.Argument = 2
+status_number status.Room = 3
+status_number status.End = 4
+status_number status.Invalid = 5
+status_number status.TooLong = 6
+status_number status.Refused = 7
+status_number status.Foreign = 8
+
+-- two numbers name a place, or none
+abbrev pub Names : ℕ → ℕ → Option ℕ → Type 0
+Names named place None = named ≡ 0
+Names named place (Some p) = (named ≡ 1) × (place ≡ p)
+
+-- what reading these bytes gives is told by a status, and of a value by its size; or memory ran out
+abbrev pub IsTold : {A : Type 0} → Result (A × List ℕ) CodecError → List ℕ → ℕ → ℕ → Type 0
+IsTold (Ok found) bytes answer size = (answer ≡ 1) ⊎ ((answer ≡ 0) × (length bytes ≡ size + length found.1))
+IsTold (Err codec.End) bytes answer size = (answer ≡ 1) ⊎ (answer ≡ 4)
+IsTold (Err codec.Invalid) bytes answer size = (answer ≡ 1) ⊎ (answer ≡ 5)
+IsTold (Err codec.TooLong) bytes answer size = (answer ≡ 1) ⊎ (answer ≡ 6)
+IsTold (Err codec.Memory) bytes answer size = answer ≡ 1
+
+-- whose record it is
+abbrev pub owner : ℕ → ℕ → ℕ → Owner
+owner epoch term member = record { epoch = epoch; term_length = term; signer = member }
