@@ -23,13 +23,17 @@ abbrev pub Names : ℕ → ℕ → Option ℕ → Type 0
 Names named place None = named ≡ 0
 Names named place (Some p) = (named ≡ 1) × (place ≡ p)
 
--- what reading these bytes gives is told by a status, and of a value by its size; or memory ran out
+-- the number of a refusal
+abbrev pub refusal_number : CodecError → ℕ
+refusal_number codec.End = 4
+refusal_number codec.Invalid = 5
+refusal_number codec.TooLong = 6
+refusal_number codec.Memory = 1
+
+-- what reading these bytes gives is told by a number, and of a value by its size; or memory ran out
 abbrev pub IsTold : {A : Type 0} → Result (A × List ℕ) CodecError → List ℕ → ℕ → ℕ → Type 0
 IsTold (Ok found) bytes answer size = (answer ≡ 1) ⊎ ((answer ≡ 0) × (length bytes ≡ size + length found.1))
-IsTold (Err codec.End) bytes answer size = (answer ≡ 1) ⊎ (answer ≡ 4)
-IsTold (Err codec.Invalid) bytes answer size = (answer ≡ 1) ⊎ (answer ≡ 5)
-IsTold (Err codec.TooLong) bytes answer size = (answer ≡ 1) ⊎ (answer ≡ 6)
-IsTold (Err codec.Memory) bytes answer size = answer ≡ 1
+IsTold (Err trouble) bytes answer size = (answer ≡ 1) ⊎ (answer ≡ refusal_number trouble)
 
 -- whose record it is
 abbrev pub owner : ℕ → ℕ → ℕ → Owner

@@ -7,7 +7,7 @@ ghost use Rattle.simplex_certificates.specs.Artifact.{artifact_at};
 ghost use Rattle.simplex_certificates.specs.Certificate.{any_certificate_at};
 ghost use Rattle.simplex_messages.specs.Vote.{any_vote_at};
 ghost use Rattle.simplex_cli.specs.Running.{report_at};
-ghost use Rattle.simplex_c.specs.Answers.{IsTold, status_number};
+ghost use Rattle.simplex_c.specs.Answers.{IsTold, refusal_number, status_number};
 ghost use Rattle.simplex_c.specs.declared.status.Status.TheVariants.{Argument};
 
 use crate::found::Found;
@@ -60,7 +60,10 @@ fn told<M: Read + Drop>(alloc: Global, bound: u32, bytes: &[u8], found: &mut Fou
 }
 
 /// The status of a refusal.
-fn refusal(error: CodecError) -> Status {
+#[tactic(auto, unfolding(crate::specs::Answers::refusal_number, crate::specs::Answers::status_number))]
+fn refusal(error: CodecError) -> Status
+    ensures { status_number result ≡ refusal_number error }
+{
     match error {
         CodecError::End => Status::End,
         CodecError::Invalid => Status::Invalid,
