@@ -1,6 +1,6 @@
 //! Questions about bytes that a caller holds.
 
-ghost use Rattle.std.specs.Prelude.{◌≡◌, ◌≢◌, ◌<◌, ◌⊎◌, ℕ, List, Option, [], None, Some, length, take, IfOk};
+ghost use Rattle.std.specs.Prelude.{◌≡◌, ◌≢◌, ◌<◌, ◌⊎◌, ℕ, List, Option, [], None, Some, length, take, codes, IfNone, IfOk, IfSome};
 ghost use Rattle.simplex_journal.specs.Record.{IsForeign};
 ghost use Rattle.simplex_record.specs.Lawful.{IsLawful, IsRefusedAt};
 ghost use Rattle.simplex_tooling.specs.Answers.{Entry, HoldsEntries, IsEntry, IsEvidence, attests_in, certifies_in, entry_spelling};
@@ -116,6 +116,15 @@ fn checked_entries(
     }
 }
 
+/// The scheme of a committee of so many.
+fn scheme_of(alloc: Global, members: u16) -> Result<PlainScheme, AllocError>
+    requires { 0 < members }
+    ensures base { IfOk result (λ scheme. scheme.base ≡ codes "simplex") }
+    ensures members { IfOk result (λ scheme. scheme.participants ≡ members) }
+{
+    PlainScheme::new(alloc, BASE, u32::from(members), None)
+}
+
 /// The position of the first artifact that a lawful record of this owner refuses, if there is one.
 fn refused_of(
     alloc: Global,
@@ -124,9 +133,9 @@ fn refused_of(
     artifacts: &[Artifact<PlainScheme, Sha256Digest>],
 ) -> Result<Option<usize>, AllocError>
     requires { 0 < members }
-    ensures lawful { IfOk result (λ found. found ≡ None → IsLawful (attests_in members) (certifies_in members) owner artifacts.now) }
-    ensures refused { IfOk result (λ found. (entry : ℕ) → found ≡ Some entry → IsRefusedAt (attests_in members) (certifies_in members) owner artifacts.now entry) }
+    ensures lawful { IfOk result (λ found. IfNone found (IsLawful (attests_in members) (certifies_in members) owner artifacts.now)) }
+    ensures refused { IfOk result (λ found. IfSome found (IsRefusedAt (attests_in members) (certifies_in members) owner artifacts.now)) }
 {
-    let scheme = PlainScheme::new(alloc, BASE, u32::from(members), None)?;
+    let scheme = scheme_of(alloc, members)?;
     first_refused(alloc, &scheme, owner, artifacts)
 }

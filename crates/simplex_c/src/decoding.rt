@@ -1,13 +1,8 @@
 //! Messages of any kind, read as far as their refusal.
 
 ghost use Rattle.std.specs.Prelude.{◌≡◌, ◌<◌};
-ghost use Rattle.simplex_codec.specs.Codec.{bytes_at};
-ghost use Rattle.simplex_types.specs.AttestationList.{list_at};
-ghost use Rattle.simplex_certificates.specs.Artifact.{artifact_at};
-ghost use Rattle.simplex_certificates.specs.Certificate.{any_certificate_at};
-ghost use Rattle.simplex_messages.specs.Vote.{any_vote_at};
 ghost use Rattle.simplex_cli.specs.Running.{report_at};
-ghost use Rattle.simplex_c.specs.Answers.{IsTold, refusal_number, status_number};
+ghost use Rattle.simplex_c.specs.Answers.{Tells, certificate_at, plain_artifact_at, status_number, vote_at};
 ghost use Rattle.simplex_c.specs.declared.status.Status.TheVariants.{Argument};
 
 use crate::found::Found;
@@ -24,10 +19,10 @@ pub(crate) fn decoded(
     bytes: &[u8],
     found: &mut Found,
 ) -> Status
-    ensures vote { kind ≡ 0 → IsTold (any_vote_at (bytes_at 32) (bytes_at 32) bytes.now) bytes.now (status_number result) found.new.length }
-    ensures certificate { kind ≡ 1 → IsTold (any_certificate_at (bytes_at 32) (list_at (bytes_at 32) members) bytes.now) bytes.now (status_number result) found.new.length }
-    ensures artifact { kind ≡ 2 → IsTold (artifact_at (bytes_at 32) (bytes_at 32) (list_at (bytes_at 32) members) bytes.now) bytes.now (status_number result) found.new.length }
-    ensures report { kind ≡ 3 → IsTold (report_at members bytes.now) bytes.now (status_number result) found.new.length }
+    ensures vote { kind ≡ 0 → Tells (vote_at bytes.now) bytes.now (status_number result) found.new.length }
+    ensures certificate { kind ≡ 1 → Tells (certificate_at members bytes.now) bytes.now (status_number result) found.new.length }
+    ensures artifact { kind ≡ 2 → Tells (plain_artifact_at members bytes.now) bytes.now (status_number result) found.new.length }
+    ensures report { kind ≡ 3 → Tells (report_at members bytes.now) bytes.now (status_number result) found.new.length }
     ensures unknown { 3 < kind → result ≡ Argument }
 {
     if kind == 0 {
@@ -47,27 +42,17 @@ pub(crate) fn decoded(
 
 /// Reads the value at the front, and tells how many bytes it takes.
 fn told<M: Read + Drop>(alloc: Global, bound: u32, bytes: &[u8], found: &mut Found) -> Status
-    ensures { IsTold (M.reading bound bytes.now) bytes.now (status_number result) found.new.length }
+    ensures { Tells (M.reading bound bytes.now) bytes.now (status_number result) found.new.length }
 {
     let mut rest = bytes;
     match M::read_cfg(alloc, &mut rest, bound) {
         Ok(_) => {
             found.tell(bytes.len() - rest.len(), None);
-            Status::Done
+            return Status::Done;
         }
-        Err(error) => refusal(error),
-    }
-}
-
-/// The status of a refusal.
-#[tactic(auto, unfolding(crate::specs::Answers::refusal_number, crate::specs::Answers::status_number))]
-fn refusal(error: CodecError) -> Status
-    ensures { status_number result ≡ refusal_number error }
-{
-    match error {
-        CodecError::End => Status::End,
-        CodecError::Invalid => Status::Invalid,
-        CodecError::TooLong => Status::TooLong,
-        CodecError::Memory => Status::Memory,
+        Err(CodecError::End) => return Status::End,
+        Err(CodecError::Invalid) => return Status::Invalid,
+        Err(CodecError::TooLong) => return Status::TooLong,
+        Err(CodecError::Memory) => return Status::Memory,
     }
 }

@@ -3,16 +3,11 @@
 #![tactic(auto)]
 
 ghost use Rattle.std.specs.Prelude.{◌≡◌, ◌≢◌, ◌<◌, ◌⊎◌, ◌≤◌, ℕ, List, Option, [], length, take};
-ghost use Rattle.simplex_codec.specs.Codec.{bytes_at};
-ghost use Rattle.simplex_types.specs.AttestationList.{list_at};
-ghost use Rattle.simplex_certificates.specs.Artifact.{artifact_at};
-ghost use Rattle.simplex_certificates.specs.Certificate.{any_certificate_at};
-ghost use Rattle.simplex_messages.specs.Vote.{any_vote_at};
 ghost use Rattle.simplex_cli.specs.Running.{report_at};
 ghost use Rattle.simplex_journal.specs.Record.{IsForeign};
 ghost use Rattle.simplex_record.specs.Lawful.{IsLawful, IsRefusedAt};
 ghost use Rattle.simplex_tooling.specs.Answers.{Entry, HoldsEntries, IsEntry, IsEvidence, attests_in, certifies_in, entry_spelling};
-ghost use Rattle.simplex_c.specs.Answers.{IsTold, Names, owner};
+ghost use Rattle.simplex_c.specs.Answers.{Names, Tells, certificate_at, owner, plain_artifact_at, vote_at};
 
 mod answering;
 mod decoding;
@@ -103,10 +98,10 @@ pub extern "C" fn voumlis_decode(
     bytes: &[u8],
     found: &mut Found,
 ) -> u32
-    ensures vote { kind ≡ 0 → IsTold (any_vote_at (bytes_at 32) (bytes_at 32) bytes.now) bytes.now result found.new.length }
-    ensures certificate { kind ≡ 1 → IsTold (any_certificate_at (bytes_at 32) (list_at (bytes_at 32) members) bytes.now) bytes.now result found.new.length }
-    ensures artifact { kind ≡ 2 → IsTold (artifact_at (bytes_at 32) (bytes_at 32) (list_at (bytes_at 32) members) bytes.now) bytes.now result found.new.length }
-    ensures report { kind ≡ 3 → IsTold (report_at members bytes.now) bytes.now result found.new.length }
+    ensures vote { kind ≡ 0 → Tells (vote_at bytes.now) bytes.now result found.new.length }
+    ensures certificate { kind ≡ 1 → Tells (certificate_at members bytes.now) bytes.now result found.new.length }
+    ensures artifact { kind ≡ 2 → Tells (plain_artifact_at members bytes.now) bytes.now result found.new.length }
+    ensures report { kind ≡ 3 → Tells (report_at members bytes.now) bytes.now result found.new.length }
     ensures unknown { 3 < kind → result ≡ 2 }
 {
     decoded(alloc, kind, members, bytes, found).number()
