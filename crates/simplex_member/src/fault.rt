@@ -3,7 +3,7 @@
 use simplex_decisions::config::ConfigFault;
 
 /// Why a step did nothing that counts.
-#[derive(Clone, Copy, Debug, Drop, PartialEq, Eq)]
+#[derive(Clone, Copy, Drop)]
 pub enum NodeFault {
     /// Memory ran out.
     Memory,
@@ -14,7 +14,7 @@ pub enum NodeFault {
 }
 
 /// Why a node was not opened, in the order in which it is tested.
-#[derive(Clone, Copy, Debug, PartialEq, Eq)]
+#[derive(Clone, Copy)]
 pub enum OpenFault {
     /// The scheme has no key.
     NoKey,
@@ -33,7 +33,7 @@ pub enum OpenFault {
 }
 
 /// Why a run over streams ended before its input.
-#[derive(Clone, Copy, Debug, PartialEq, Eq)]
+#[derive(Clone, Copy)]
 pub enum IoFault {
     /// A read failed, or the input had not ended after 2^32 events.
     Read,

@@ -4,7 +4,7 @@ ghost use Rattle.std.specs.Prelude.{◌≡◌};
 ghost use Rattle.simplex_member.specs.Refusals.{refusal_number};
 
 /// Why an event was not taken, in the order in which it is tested.
-#[derive(Clone, Copy, Debug, PartialEq, Eq)]
+#[derive(Clone, Copy)]
 pub enum Refusal {
     /// The sender is no member.
     UnknownSender,

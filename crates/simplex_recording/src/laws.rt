@@ -1,7 +1,8 @@
 //! What lawful records tell, and what leaves the tables where they stand.
 
 ghost use Rattle.std.specs.Prelude.{◌≡◌, ◌∷◌, ℕ, true, List, Contains, map};
-ghost use Rattle.simplex_certificates.specs.Artifact.{artifact_spelling};
+ghost use Rattle.simplex_codec.specs.Codec.{Readable};
+ghost use Rattle.simplex_certificates.specs.Artifact.{artifact_fits, artifact_spelling, artifact_within};
 ghost use Rattle.simplex_certificates.specs.declared.artifact.Artifact.{Artifact};
 ghost use Rattle.simplex_certificates.specs.declared.artifact.Artifact.TheVariants as artifact;
 ghost use Rattle.simplex_certificates.specs.declared.nullify.Nullify.{Nullify};
@@ -10,15 +11,26 @@ ghost use Rattle.simplex_record.specs.Record.{current_view, entries};
 ghost use Rattle.simplex_record.specs.Lawful.{IsLawful};
 ghost use Rattle.simplex_journal.specs.Disk.{LeavesOnly};
 ghost use Rattle.simplex_journal.specs.Record.{Reads};
+ghost use Rattle.simplex_member.specs.Laws.{OneIsRead};
+ghost use Rattle.simplex_member.specs.Packet.{Formats};
 ghost use Rattle.simplex_member.specs.Point.{History, Point};
+ghost use Rattle.simplex_member.specs.Setup.{Setup};
 ghost use Rattle.simplex_recording.specs.declared.ledger.Ledger.{Ledger};
 ghost use Rattle.simplex_recording.specs.declared.tables.Tables.{Tables};
 ghost use Rattle.simplex_recording.specs.Ledger.{KeepsRecord, disk_of};
 ghost use Rattle.simplex_recording.specs.Recorded.{IsLastNullifyOf};
 ghost use Rattle.simplex_recording.specs.Tables.{KeepsTables, is_quiet};
 
-use simplex_journal::Disk;
+use simplex_certificates::Artifact;
+use simplex_journal::{Disk, a_disk_reads_as_one_record};
 use simplex_types::{Digest, Scheme};
+
+/// An image of a disk reads as one record alone: so what an opening finds is what was left.
+pub fn one_record_is_read<S: Scheme<D>, D: Digest>()
+    ensures { (f : Formats S D S.PublicKey S.Signature S.Certificate) (s : Setup S D S.Certificate) → f.artifact ≡ artifact_spelling D.spelling S.Signature.spelling S.Certificate.spelling → OneIsRead S.Scheme f s (Readable (artifact_fits D.fits S.Signature.fits S.Certificate.fits) (artifact_within (S.Certificate.within 65535))) }
+{
+    a_disk_reads_as_one_record::<Artifact<S, D>>();
+}
 
 /// Where a lawful record has an own nullify of the current view, that is the last own nullify. So the one that
 /// is said again is found without a look at the others.

@@ -8,7 +8,7 @@ mod recorded;
 mod tables;
 
 pub use laws::{
-    a_ledger_at_rest_leaves_its_record, quiet_points_leave_the_tables,
+    a_ledger_at_rest_leaves_its_record, one_record_is_read, quiet_points_leave_the_tables,
     the_nullify_of_the_current_view_is_the_last,
 };
 pub use ledger::Ledger;

@@ -1,7 +1,7 @@
 use Rattle.std.proofs.Common.{map, subst}
 use Rattle.simplex_journal.specs.Record.{Reads}
 use Rattle.simplex_member.specs.Recorded.{record_of}
-use Rattle.simplex_member.proofs.laws.one_record_is_read.Goals as goal
+use Rattle.simplex_recording.proofs.laws.one_record_is_read.Goals as goal
 
 pub returns : goal.returns
 returns g c = λ f s spelled h image found fits fits_found reads reads_found. c.a_disk_reads_as_one_record.ensures.messages image found (record_of h) fits_found fits
