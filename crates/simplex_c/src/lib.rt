@@ -14,10 +14,9 @@ mod decoding;
 mod found;
 mod status;
 
-pub use found::Found;
-
 use answering::{audited, checked};
 use decoding::decoded;
+pub use found::Found;
 use simplex_record::Owner;
 use simplex_types::{Epoch, Participant, TermLength};
 use status::Status;
