@@ -279,6 +279,9 @@ impl<S: Scheme<D> + Drop, D: Digest> Rounds<S, D> {
         ensures behind { IfSome result (λ view. from ≤ view) }
         ensures first { MatchOption result ((u : ℕ) → from ≤ u → contains nat_cmp self.now.unled u ≡ false) (λ view. (u : ℕ) → from ≤ u → u < view → contains nat_cmp self.now.unled u ≡ false) }
     {
+        if self.unled.is_empty() {
+            return None;
+        }
         match self
             .unled
             .range((Bound::Included(from), Bound::Unbounded))

@@ -28,7 +28,7 @@ use simplex_asking::Acted;
 use simplex_batcher::Batch;
 use simplex_certificates::Certificate;
 use simplex_core::Core;
-use simplex_exchange::{block_all, record};
+use simplex_exchange::{block_all, record, spelled};
 use simplex_journal::Disk;
 use simplex_leading::name_leader;
 use simplex_learning::{enter, tell_voter};
@@ -36,7 +36,7 @@ use simplex_member::{Action, NodeFault, what_is_made_may_be_recorded};
 use simplex_recalling::{update_repair, what_is_not_recorded_is_unknown};
 use simplex_recording::a_ledger_at_rest_leaves_its_record;
 use simplex_rules::Elector;
-use simplex_types::{Digest, Proposal, Scheme, View, Write};
+use simplex_types::{Digest, Proposal, Scheme, View};
 
 /// Tells the votes of a view who leads it, where they wait for that and the voter knows it.
 ///
@@ -151,8 +151,7 @@ fn take_made<S: Scheme<D> + Drop, L: Elector<S, D>, D: Digest, K: Disk>(
         Ok(()) => {}
         Err(fault) => return Err(fault),
     }
-    let mut bytes = Vec::new(core.settings.alloc);
-    let Ok(()) = certificate.write(&mut bytes) else {
+    let Ok(bytes) = spelled(core.settings.alloc, &certificate) else {
         return Err(NodeFault::Memory);
     };
     core.hand_certificate(was, low, certificate, bytes, out)

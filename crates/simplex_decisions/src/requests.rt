@@ -47,10 +47,10 @@ pub enum CertifyRequest<D: Digest> {
 pub fn build_on<K: Knowledge<D>, D: Digest>(known: &K, view: View) -> Option<(View, D)>
     ensures { AtEach K.shows known.now (λ m k. MatchOption result ((parent : ℕ) (payload : D) → ¬ BuildIsDue m k view parent payload) (λ x. BuildIsDue m k view x.0 x.1)) }
 {
-    if !is_open(known, view) {
+    if !known.should_propose(view) {
         return None;
     }
-    if !known.should_propose(view) {
+    if !is_open(known, view) {
         return None;
     }
     let (parent, payload) = preferred_parent(known, view)?;
@@ -113,10 +113,11 @@ pub fn request_for<K: Knowledge<D>, D: Digest>(known: &K, view: View) -> VerifyR
 fn waiting_proposal<K: Knowledge<D>, D: Digest>(known: &K, view: View) -> Option<Proposal<D>>
     ensures { AtEach K.shows known.now (λ m k. MatchOption result ((p : Proposal D) → ¬ WaitsForParent m k view p) (λ p. WaitsForParent m k view p)) }
 {
+    let proposal = known.pending_verification(view)?;
     if !is_open(known, view) {
         return None;
     }
-    known.pending_verification(view)
+    Some(proposal)
 }
 
 /// What is to be done for a proposal that waits for its parent alone.

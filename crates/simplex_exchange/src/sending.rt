@@ -14,8 +14,21 @@ use crate::handing::hand_out;
 use simplex_certificates::{Artifact, Certificate, Nullify};
 use simplex_member::{Action, Channel, NodeFault};
 use simplex_messages::{Activity, Vote};
-use simplex_types::{Digest, Duplicate, Scheme, Write};
+use simplex_types::{Digest, Duplicate, EncodeSize, Scheme, Write};
 use std::alloc::{AllocError, Global};
+
+/// A message's bytes, in as much memory as they take.
+///
+/// # Errors
+///
+/// `AllocError` where memory ran out.
+pub fn spelled<M: EncodeSize>(alloc: Global, message: &M) -> Result<Vec<u8>, AllocError>
+    ensures { IfOk result (λ bytes. bytes.items ≡ M.spelling message.now) }
+{
+    let mut bytes = Vec::with_capacity(alloc, message.encode_size())?;
+    message.write(&mut bytes)?;
+    Ok(bytes)
+}
 
 /// A vote's bytes, and the vote as it is recorded.
 ///
@@ -29,8 +42,7 @@ pub fn spelled_vote<S: Scheme<D>, D: Digest>(
     ensures bytes { IfOk result (λ r. r.0.items ≡ any_vote_spelling D.spelling S.Signature.spelling vote.now) }
     ensures copy { IfOk result (λ r. r.1 ≡ vote_artifact vote.now) }
 {
-    let mut bytes = Vec::new(alloc);
-    vote.write(&mut bytes)?;
+    let bytes = spelled(alloc, vote)?;
     let copy = vote.duplicate(alloc)?;
     Ok((bytes, Artifact::from(copy)))
 }
@@ -80,7 +92,7 @@ pub fn send_again<S: Scheme<D>, D: Digest>(
 }
 
 /// Sends a message to all.
-fn send<S: Scheme<D>, D: Digest, M: Write>(
+fn send<S: Scheme<D>, D: Digest, M: EncodeSize>(
     alloc: Global,
     channel: Channel,
     message: &M,
@@ -89,8 +101,7 @@ fn send<S: Scheme<D>, D: Digest, M: Write>(
     ensures done { OnOk result ((f : Formats S D S.PublicKey S.Signature S.Certificate) (packet : Packet S D S.PublicKey S.Signature S.Certificate) → f.packet packet ≡ M.spelling message.now → packet_channel packet ≡ channel → HandsOut f out.old.items out.new.items (Sends None packet ∷ [])) }
     ensures fault { IfErr result (λ why. why ≡ step_fault.Memory) }
 {
-    let mut bytes = Vec::new(alloc);
-    let Ok(()) = message.write(&mut bytes) else {
+    let Ok(bytes) = spelled(alloc, message) else {
         return Err(NodeFault::Memory);
     };
     hand_out(to_all(channel, bytes), out)

@@ -166,8 +166,8 @@ pub fn spelled<M: Write>(alloc: Global, message: &M, size: usize) -> Result<Vec<
     requires short { size < 2 ^ 32 }
     ensures { IfOk result (λ bytes. Spells bytes.items (M.spelling message.now)) }
 {
+    let mut bytes = Vec::with_capacity(alloc, size + 5)?;
     let size = size as u32;
-    let mut bytes = Vec::new(alloc);
     bytes.push((size / 0x100_0000) as u8)?;
     bytes.push((size / 0x1_0000 % 0x100) as u8)?;
     bytes.push((size / 0x100 % 0x100) as u8)?;

@@ -70,6 +70,9 @@ impl Owed {
         ensures behind { IfSome result (λ first. from ≤ first) }
         ensures first { MatchOption result ((u : ℕ) → from ≤ u → ¬ Has self.now u) (λ first. IsFirstFrom self.now from first) }
     {
+        if self.views.is_empty() {
+            return None;
+        }
         match self
             .views
             .range((Bound::Included(from), Bound::Unbounded))

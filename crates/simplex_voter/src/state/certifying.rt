@@ -90,6 +90,9 @@ impl<S: Scheme<D> + Drop, L: Elector<S, D>, D: Digest> State<S, L, D> {
         ensures ready { IfOk result (λ r. AtEach S.Scheme L.Elector self.old (λ s h. AreReady (member s) (known s h) r.0.items)) }
         ensures wanted { IfOk result (λ r. AtEach S.Scheme L.Elector self.old (λ s h. AreWanted (member s) (known s h) r.1.items)) }
     {
+        if self.candidates.is_empty() {
+            return Ok((Vec::new(alloc), Vec::new(alloc)));
+        }
         let candidates = mem::replace(&mut self.candidates, BTreeSet::new(alloc));
         let Verdicts {
             ready,

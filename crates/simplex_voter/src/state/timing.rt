@@ -99,6 +99,10 @@ impl<S: Scheme<D> + Drop, L: Elector<S, D>, D: Digest> State<S, L, D> {
         // The proof takes from the number that it has 64 bits.
         let _number = last.get();
         let mut next = from;
+        // Where terms have one view, this is the only one.
+        if from == last && self.is_entered(from) {
+            return Some(from);
+        }
         'views: while let Some(view) = self.views.first_tracked(next) {
             if last < view {
                 return None;
