@@ -1,0 +1,31 @@
+//! The disks of members.
+
+use simplex_journal::Disk;
+use std::alloc::Global;
+use world_network::{Fuse, TornDisk};
+
+/// A disk that is cut off inside a call, and mended.
+pub(crate) trait Medium: Disk {
+    /// An empty one under this fuse. Which part of a write stands rests on the seed.
+    fn under(alloc: Global, fuse: Fuse, seed: u64) -> Self;
+
+    /// Lets all calls through again, over what a crash left.
+    fn mend(&mut self);
+
+    /// How many bytes it holds.
+    fn size(&self) -> usize;
+}
+
+impl Medium for TornDisk {
+    fn under(alloc: Global, fuse: Fuse, seed: u64) -> Self {
+        TornDisk::new(alloc, fuse, seed)
+    }
+
+    fn mend(&mut self) {
+        self.mend();
+    }
+
+    fn size(&self) -> usize {
+        self.size()
+    }
+}

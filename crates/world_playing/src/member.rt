@@ -1,0 +1,241 @@
+//! A member of a world.
+
+use crate::seat::Seat;
+use script_words::{Committee, Trouble};
+use simplex_types::{Participant, Sha256Digest};
+use std::alloc::{AllocError, Global};
+use std::cell::Cell;
+use std::rc::Rc;
+use world_liars::Liar;
+use world_lines::Standing;
+use world_network::{Fuse, NO_FUSE};
+use world_scenario::{Broken, Crash, Scenario};
+
+/// A member.
+#[derive(Drop)]
+pub(crate) struct Member<S: Committee, M: Seat<S>> {
+    /// Its index.
+    pub(crate) index: u32,
+    /// Its node.
+    pub(crate) seat: M,
+    /// How it lies, if it does.
+    pub(crate) liar: Option<Liar<S>>,
+    /// How often it was opened.
+    pub(crate) life: u64,
+    /// When it is woken, or opened again.
+    pub(crate) due: Option<u64>,
+    /// The view that it was seen in last.
+    pub(crate) view: u64,
+    /// How many proposals it told to be final.
+    pub(crate) finals: u64,
+    /// Of how many events a test refused.
+    pub(crate) refused: u64,
+    /// Whom it blocked.
+    pub(crate) blocked: Vec<u32>,
+    fuse: Fuse,
+    /// The moment that it was told last.
+    told: u64,
+    /// The crashes that are to come, the next one last.
+    crashes: Vec<Crash>,
+    /// How long it will be down at the crash that is set.
+    down: u64,
+}
+
+impl<S: Committee, M: Seat<S>> Member<S, M> {
+    /// A member with an empty disk, not opened yet.
+    pub(crate) fn new(alloc: Global, scenario: &Scenario, index: u32) -> Result<Self, Broken> {
+        let fuse = Rc::new(alloc, Cell::new(NO_FUSE))?;
+        let seat = M::new(alloc, scenario, index, fuse.clone()?)?;
+        let mut member = Member::seated(alloc, index, seat, fuse);
+        match member.set_up(alloc, scenario) {
+            Ok(()) => Ok(member),
+            Err(broken) => Err(broken),
+        }
+    }
+
+    /// An honest member without crashes, whose disk has this fuse.
+    fn seated(alloc: Global, index: u32, seat: M, fuse: Fuse) -> Self {
+        Member {
+            index,
+            seat,
+            liar: None,
+            life: 0,
+            due: None,
+            view: 0,
+            finals: 0,
+            refused: 0,
+            blocked: Vec::new(alloc),
+            fuse,
+            told: 0,
+            crashes: Vec::new(alloc),
+            down: 0,
+        }
+    }
+
+    /// Sets up how it lies, and when it crashes.
+    fn set_up(&mut self, alloc: Global, scenario: &Scenario) -> Result<(), Broken> {
+        self.crashes = crashes_of(alloc, scenario, self.index)?;
+        self.liar = liar_of(alloc, scenario, self.index)?;
+        Ok(())
+    }
+
+    /// Whether it is a liar that builds two payloads.
+    pub(crate) fn builds_two(&self) -> bool {
+        match &self.liar {
+            Some(liar) => liar.builds_two(),
+            None => false,
+        }
+    }
+
+    /// Notes what it built, where it is a liar.
+    pub(crate) fn note_built(
+        &mut self,
+        first: Sha256Digest,
+        second: Sha256Digest,
+    ) -> Result<(), Broken> {
+        if let Some(liar) = &mut self.liar {
+            liar.note_built(first, second)?;
+        }
+        Ok(())
+    }
+
+    /// Whether it is a liar that runs no node.
+    pub(crate) fn is_silent(&self) -> bool {
+        match &self.liar {
+            Some(liar) => liar.is_silent(),
+            None => false,
+        }
+    }
+
+    /// A further life of it begins.
+    pub(crate) fn begin_life(&mut self, now: u64) {
+        self.set_crash();
+        self.life = self.life.saturating_add(1);
+        self.blocked.clear();
+        self.told = now;
+    }
+
+    /// Whether the moment is to be told before anything else, where that is done so often; from now on it then counts as told.
+    pub(crate) fn wants_moment(&mut self, now: u64, clock: u64) -> bool {
+        let is_behind = self.told.saturating_add(clock) <= now;
+        if is_behind {
+            self.told = now;
+        }
+        is_behind
+    }
+
+    /// It is down, and is opened again after a while. How many bytes its disk has.
+    pub(crate) fn go_down(&mut self, now: u64) -> usize {
+        self.due = Some(now.saturating_add(self.down));
+        self.seat.go_down()
+    }
+
+    /// Whether it is seen in a view in which it wasn't seen last.
+    pub(crate) fn enters(&mut self) -> Option<u64> {
+        let view = self.seat.current_view();
+        if view == self.view {
+            return None;
+        }
+        self.view = view;
+        self.set_crash();
+        Some(view)
+    }
+
+    /// Blocks another member.
+    pub(crate) fn block(&mut self, other: u32) -> Result<(), AllocError> {
+        if self.blocked.contains(&other) {
+            return Ok(());
+        }
+        self.blocked.push(other)?;
+        Ok(())
+    }
+
+    /// Whether an answer to this life of it, or a packet from this sender, reaches it.
+    pub(crate) fn is_reached(&self, life: Option<u64>, sender: Option<Participant>) -> bool {
+        if let Some(life) = life {
+            if life != self.life {
+                return false;
+            }
+        }
+        if let Some(sender) = sender {
+            if self.blocked.contains(&sender.get()) {
+                return false;
+            }
+        }
+        self.seat.is_up()
+    }
+
+    /// Sets the next crash, where the member has come to its view.
+    fn set_crash(&mut self) {
+        if self.fuse.get() != NO_FUSE || !self.has_crash_due() {
+            return;
+        }
+        if let Some(crash) = self.crashes.pop() {
+            self.fuse.set(crash.calls);
+            self.down = crash.down;
+        }
+    }
+
+    /// Whether the member has come to the view of the next crash.
+    fn has_crash_due(&self) -> bool {
+        match self.crashes.last() {
+            Some(crash) => crash.view <= self.view,
+            None => false,
+        }
+    }
+
+    /// Where it stands.
+    pub(crate) fn standing(&self) -> Standing {
+        let lies = match &self.liar {
+            Some(liar) => Some(liar.lies),
+            None => None,
+        };
+        Standing {
+            member: self.index,
+            view: self.seat.current_view(),
+            finalized: self.seat.last_finalized(),
+            finals: self.finals,
+            lives: self.life,
+            refused: self.refused,
+            blocked: self.blocked.len() as u64,
+            lies,
+        }
+    }
+}
+
+/// The crashes of a member, the first one last.
+fn crashes_of(alloc: Global, scenario: &Scenario, index: u32) -> Result<Vec<Crash>, AllocError> {
+    let mut crashes = Vec::new(alloc);
+    for crash in scenario.crashes.iter().rev() {
+        if crash.member == index {
+            crashes.push(*crash)?;
+        }
+    }
+    Ok(crashes)
+}
+
+/// The liar that a member is, if it is one.
+fn liar_of<S: Committee>(
+    alloc: Global,
+    scenario: &Scenario,
+    index: u32,
+) -> Result<Option<Liar<S>>, Broken> {
+    let ways = scenario.ways(index);
+    if !ways.lies() {
+        return Ok(None);
+    }
+    let members = scenario.members;
+    let scheme = member_of(alloc, members, index)?;
+    let turned = scenario.seed.wrapping_mul(17);
+    let seed = turned.wrapping_add(u64::from(index));
+    Ok(Some(Liar::new(alloc, index, members, ways, scheme, seed)))
+}
+
+/// The committee as a member sees it.
+pub fn member_of<S: Committee>(alloc: Global, members: u32, index: u32) -> Result<S, Broken> {
+    match S::member_of(alloc, members, Some(Participant::new(index)), 0) {
+        Ok(scheme) => Ok(scheme),
+        Err(Trouble::Memory) => Err(Broken::Memory),
+        Err(_) => Err(Broken::Setup),
+    }
+}

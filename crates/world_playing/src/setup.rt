@@ -1,0 +1,55 @@
+//! How the nodes of a world are set up.
+
+use simplex_decisions::config::{Config, ForwardPolicy, SkipBudget, SkipPolicy};
+use simplex_rules::elector::RoundRobin;
+use simplex_types::{Epoch, Sha256Digest, TermLength, ViewDelta};
+use world_network::genesis;
+use world_scenario::Times;
+
+/// Who leads: all in turn, a term each.
+pub fn rotation_of(times: &Times) -> RoundRobin {
+    match times.stall {
+        Some(stall) if stall > 0 => RoundRobin::default().with_term(
+            TermLength::new(length_of(times)),
+            stall,
+            ViewDelta::new(times.optimistic),
+        ),
+        _ => RoundRobin::default(),
+    }
+}
+
+/// How many views a term has, from 1 on.
+fn length_of(times: &Times) -> u32
+    ensures { 0 < result }
+{
+    match u32::try_from(times.length) {
+        Ok(length) => length.max(1),
+        Err(_) => u32::MAX,
+    }
+}
+
+/// How each node is set up.
+pub fn config_of(times: &Times) -> Config<Sha256Digest> {
+    Config {
+        epoch: Epoch::zero(),
+        genesis: genesis(),
+        leader_timeout: times.leader,
+        certification_timeout: times.certification,
+        timeout_retry: times.retry,
+        view_retention: ViewDelta::new(times.retention),
+        skip: skip_of(times),
+        forward: ForwardPolicy::Disabled,
+        track_historical_votes: false,
+    }
+}
+
+/// When a silent leader counts as inactive.
+fn skip_of(times: &Times) -> SkipPolicy {
+    match times.skip {
+        Some(timeout) => SkipPolicy::Enabled {
+            timeout,
+            budget: SkipBudget::Participants,
+        },
+        None => SkipPolicy::Disabled,
+    }
+}

@@ -1,0 +1,304 @@
+//! The world of a scenario: its members, what is under way, and what comes next.
+
+use crate::member::Member;
+use crate::seat::{Halt, Seat};
+use script_words::Committee;
+use simplex_fakes::Chance;
+use simplex_member::{Action, Event, Reply};
+use simplex_types::Sha256Digest;
+use std::alloc::Global;
+use std::io::Write;
+use world_lines::{Chronicle, Reports};
+use world_network::{Chain, Network, Payloads};
+use world_scenario::{Broken, Scenario};
+
+/// The most events of a run.
+const MOST_EVENTS: u64 = 1_000_000_000;
+
+/// What is counted against what was promised.
+#[derive(Clone, Copy)]
+pub(crate) struct Broke {
+    /// How often a correct member told a proposal to be final that isn't on one chain with all others.
+    pub(crate) contradictions: u64,
+    /// How often a correct member blocked a correct one.
+    pub(crate) blocks: u64,
+    /// How often a record wasn't opened again.
+    pub(crate) records: u64,
+}
+
+/// The world of a scenario.
+#[derive(Drop)]
+pub(crate) struct World<S: Committee, M: Seat<S>> {
+    pub(crate) alloc: Global,
+    pub(crate) scenario: Scenario,
+    pub(crate) members: Vec<Member<S, M>>,
+    pub(crate) network: Network,
+    pub(crate) payloads: Payloads,
+    pub(crate) chain: Chain,
+    /// The reports of all correct members.
+    pub(crate) reports: Reports,
+    /// The lines, and the moment.
+    pub(crate) chronicle: Chronicle,
+    pub(crate) chance: Chance,
+    /// Whether what is reported was found on a disk.
+    pub(crate) is_opening: bool,
+    pub(crate) broke: Broke,
+    /// How many events were handed to nodes.
+    pub(crate) events: u64,
+}
+
+impl<S: Committee, M: Seat<S>> World<S, M> {
+    /// The world before its first moment.
+    pub(crate) fn new(alloc: Global, scenario: Scenario) -> Result<Self, Broken> {
+        let members = members_of(alloc, &scenario)?;
+        let seed = scenario.seed;
+        let chronicle = Chronicle::new(alloc, &scenario);
+        Ok(World {
+            alloc,
+            scenario,
+            members,
+            network: Network::new(alloc, seed),
+            payloads: Payloads::new(alloc),
+            chain: Chain::new(alloc),
+            reports: Reports::new(alloc),
+            chronicle,
+            chance: Chance::seeded(seed.wrapping_add(1_000_003)),
+            is_opening: false,
+            broke: Broke {
+                contradictions: 0,
+                blocks: 0,
+                records: 0,
+            },
+            events: 0,
+        })
+    }
+
+    /// Runs to the end, and gives the status to end with.
+    pub(crate) fn run<W: Write>(&mut self, output: &mut W) -> Result<u8, Broken> {
+        self.chronicle.tell_begin(&self.scenario)?;
+        self.open_all()?;
+        for _ in 0..MOST_EVENTS {
+            if self.is_done() || !self.go_on()? {
+                break;
+            }
+            self.chronicle.write_much(output)?;
+        }
+        let status = self.end()?;
+        self.chronicle.write_all(output)?;
+        Ok(status)
+    }
+
+    /// Opens each member for the first time.
+    fn open_all(&mut self) -> Result<(), Broken> {
+        for place in 0..self.members.len() {
+            self.open(place)?;
+        }
+        Ok(())
+    }
+
+    /// Whether each correct member is up and has finalized what it is to.
+    fn is_done(&self) -> bool {
+        for member in &self.members {
+            if member.liar.is_none() {
+                let seat = &member.seat;
+                if !seat.is_up() || seat.last_finalized() < self.scenario.views {
+                    return false;
+                }
+            }
+        }
+        true
+    }
+
+    /// The member that is to be woken or opened first, and when.
+    fn first_due(&self) -> Option<(u64, usize)> {
+        let mut first: Option<(u64, usize)> = None;
+        for (place, member) in self.members.iter().enumerate() {
+            if let Some(due) = member.due {
+                let is_first = match first {
+                    Some((earliest, _)) => due < earliest,
+                    None => true,
+                };
+                if is_first {
+                    first = Some((due, place));
+                }
+            }
+        }
+        first
+    }
+
+    /// The member that is to be woken or opened before anything comes, and when.
+    fn woken_next(&self) -> Option<(u64, usize)> {
+        let (moment, place) = self.first_due()?;
+        match self.network.next_moment() {
+            Some(coming) if coming <= moment => None,
+            _ => Some((moment, place)),
+        }
+    }
+
+    /// Does what comes next. Whether anything does, before the run's end.
+    fn go_on(&mut self) -> Result<bool, Broken> {
+        match self.woken_next() {
+            Some((moment, place)) => self.wake(place, moment),
+            None => self.receive(),
+        }
+    }
+
+    /// Comes to a moment, unless it lies behind the run's end.
+    pub(crate) fn comes_to(&mut self, moment: u64) -> bool {
+        if moment > self.scenario.until {
+            return false;
+        }
+        self.chronicle.now = self.chronicle.now.max(moment);
+        true
+    }
+
+    /// Wakes a member, or opens it again.
+    fn wake(&mut self, place: usize, moment: u64) -> Result<bool, Broken> {
+        if !self.comes_to(moment) {
+            return Ok(false);
+        }
+        let now = self.chronicle.now;
+        let Some(member) = self.members.get_mut(place) else {
+            return Ok(false);
+        };
+        member.due = None;
+        let _ = member.wants_moment(now, 0);
+        if member.seat.is_up() {
+            self.step(place, Event::Moment(now))?;
+        } else {
+            self.open(place)?;
+        }
+        Ok(true)
+    }
+
+    /// Opens a member, unless it runs no node.
+    fn open(&mut self, place: usize) -> Result<(), Broken> {
+        let now = self.chronicle.now;
+        let Some(member) = self.members.get_mut(place) else {
+            return Ok(());
+        };
+        if member.is_silent() {
+            return Ok(());
+        }
+        member.begin_life(now);
+        match member.seat.open(now) {
+            Ok(deeds) => self.begin(place, &deeds),
+            Err(halt) => self.halt(place, halt),
+        }
+    }
+
+    /// A member was opened, and this is to be done.
+    fn begin(&mut self, place: usize, deeds: &[Action<S, Sha256Digest>]) -> Result<(), Broken> {
+        self.tell_opened(place)?;
+        self.is_opening = true;
+        let done = self.follow(place, deeds);
+        self.is_opening = false;
+        done
+    }
+
+    /// A member was opened.
+    fn tell_opened(&mut self, place: usize) -> Result<(), Broken> {
+        let Some(member) = self.members.get(place) else {
+            return Ok(());
+        };
+        let view = member.seat.current_view();
+        self.chronicle.tell_opened(member.index, member.life, view)?;
+        Ok(())
+    }
+
+    /// Hands an event to a member's node.
+    pub(crate) fn step(&mut self, place: usize, event: Event<Sha256Digest>) -> Result<(), Broken> {
+        self.events = self.events.saturating_add(1);
+        let Some(member) = self.members.get_mut(place) else {
+            return Ok(());
+        };
+        match member.seat.step(event) {
+            Ok(reply) => self.take(place, &reply),
+            Err(halt) => self.halt(place, halt),
+        }
+    }
+
+    /// Does what a step answers.
+    fn take(&mut self, place: usize, reply: &Reply<S, Sha256Digest>) -> Result<(), Broken> {
+        if reply.refused.is_some() {
+            self.count_refused(place);
+            return self.act_all(place, &reply.actions);
+        }
+        self.follow(place, &reply.actions)
+    }
+
+    /// Does what follows where a seat has no answer.
+    fn halt(&mut self, place: usize, halt: Halt) -> Result<(), Broken> {
+        match halt {
+            Halt::Idle => Ok(()),
+            Halt::Crashed => self.crash(place),
+            Halt::Lost => self.lose(place),
+            Halt::Broken(broken) => Err(broken),
+        }
+    }
+
+    /// Does what was handed out, and sees whether the member has entered a view.
+    fn follow(&mut self, place: usize, deeds: &[Action<S, Sha256Digest>]) -> Result<(), Broken> {
+        if let Some(member) = self.members.get_mut(place) {
+            member.due = None;
+        }
+        self.act_all(place, deeds)?;
+        self.look_at(place)
+    }
+
+    /// Counts an event that a test refused.
+    fn count_refused(&mut self, place: usize) {
+        if let Some(member) = self.members.get_mut(place) {
+            member.refused = member.refused.saturating_add(1);
+        }
+    }
+
+    /// Sees whether a member has entered a view.
+    fn look_at(&mut self, place: usize) -> Result<(), Broken> {
+        let Some(member) = self.members.get_mut(place) else {
+            return Ok(());
+        };
+        let index = member.index;
+        if let Some(view) = member.enters() {
+            self.chronicle.tell_entered(index, view)?;
+        }
+        Ok(())
+    }
+
+    /// A member crashed.
+    fn crash(&mut self, place: usize) -> Result<(), Broken> {
+        let now = self.chronicle.now;
+        if let Some(member) = self.members.get_mut(place) {
+            let size = member.go_down(now);
+            self.chronicle.tell_crashed(member.index, size as u64)?;
+        }
+        Ok(())
+    }
+
+    /// A member's record wasn't opened again.
+    fn lose(&mut self, place: usize) -> Result<(), Broken> {
+        self.broke.records = self.broke.records.saturating_add(1);
+        self.chronicle.tell_lost(index_of(place))?;
+        Ok(())
+    }
+}
+
+/// The members of a scenario, none of them opened.
+fn members_of<S: Committee, M: Seat<S>>(
+    alloc: Global,
+    scenario: &Scenario,
+) -> Result<Vec<Member<S, M>>, Broken> {
+    let mut members = Vec::new(alloc);
+    for index in 0..scenario.members {
+        members.push(Member::new(alloc, scenario, index)?)?;
+    }
+    Ok(members)
+}
+
+/// The index of the member at a place.
+pub(crate) fn index_of(place: usize) -> u32 {
+    match u32::try_from(place) {
+        Ok(index) => index,
+        Err(_) => u32::MAX,
+    }
+}
