@@ -1,5 +1,7 @@
 //! How the nodes of a world are set up.
 
+ghost use Rattle.std.specs.Prelude.{◌<◌};
+
 use simplex_decisions::config::{Config, ForwardPolicy, SkipBudget, SkipPolicy};
 use simplex_rules::elector::RoundRobin;
 use simplex_types::{Epoch, Sha256Digest, TermLength, ViewDelta};
