@@ -84,4 +84,4 @@ unfolding Keeps
 returns-then-is_empty-clause-wanted g c = λ s h k.
     let some = rw (c.lookahead.ensures.length s h k.views) at c.get-views.ensures.at_least_one in
     let none = none_may (member s) (known s h) c.args.self.now.candidates some k.candidates.all (nothing_in c.args.self.now.candidates (λ left. let length = c.is_empty.ensures.0 c.if-is_empty.true in omega (arith, length, left))) in
-    rw c.new-2.ensures.items (none_wanted (member s) (known s h) none)
+    rw c.new-then-is_empty.ensures.items (none_wanted (member s) (known s h) none)
