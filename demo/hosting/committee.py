@@ -3,6 +3,7 @@ import asyncio
 import json
 import re
 import secrets
+import traceback
 from itertools import combinations
 from pathlib import Path
 from time import monotonic
@@ -21,12 +22,13 @@ class Unwanted(Exception):
 class Committee:
     """Hosts of so many members, each with a folder of its own."""
 
-    def __init__(self, count: int, program: Path, folder: Path, pace: float) -> None:
-        self.count, self.program = count, program
+    def __init__(self, count: int, program: Path, said: str, folder: Path, pace: float) -> None:
+        """`said` is what is known of the program, for the page."""
+        self.count, self.program, self.said = count, program, said
         self.board = Board(count, setup_of(0, count).terms)
         self.cuts: set[frozenset[int]] = set()
         self.audit_said: dict | None = None
-        self.auditing = False
+        self.auditing, self.audits = False, 0
         ports: dict[int, int] = {}
         pairs = {frozenset(pair): secrets.token_bytes(32) for pair in combinations(range(count), 2)}
         self.places = []
@@ -43,16 +45,19 @@ class Committee:
     def start(self, me: int) -> None:
         """A new life of a member, over what its record and its log of reports hold."""
         lane = self.board.lanes[me]
-        lane.state, lane.started_at = "running", lane.final
+        lane.state = "running"
         lane.blocked.clear()
         self.hosts[me] = Host(self.places[me])
         self.lives[me] = asyncio.create_task(self.live(me, self.hosts[me]))
 
     async def live(self, me: int, host: Host) -> None:
-        told = await host.live()
-        if told:
-            self.board.lanes[me].state = told
-            self.board.tell(f"member {me}: its node ended, {told}")
+        try:
+            told = await host.live()
+        except Exception as error:  # a host that fails must not look like one that runs
+            traceback.print_exception(error)
+            told = f"its host failed, {type(error).__name__}"
+        self.board.lanes[me].state = told
+        self.board.tell(f"member {me}: its node ended, {told}")
 
     async def stop(self) -> None:
         """Ends all lives, each of which ends its node."""
@@ -101,15 +106,17 @@ class Committee:
             raise Unwanted("an audit is under way")
         self.auditing = self.board.changed = True
         try:
-            self.audit_said = await self.said_by_audit()
-            named = ", ".join(map(str, self.audit_said["named"])) or "nobody"
+            said = await self.said_by_audit()
+            self.audits += 1
+            self.audit_said = {"number": self.audits, **said}
+            named = ", ".join(map(str, said["named"])) or "nobody"
             self.board.tell(f"the audit names {named}")
         finally:
             self.auditing = False
 
     async def said_by_audit(self) -> dict:
         """Telling a report twice changes no name, so each is told once."""
-        reports = list(dict.fromkeys(it for host in self.hosts.values() for it in host.log))
+        reports = await asyncio.to_thread(lambda: list(dict.fromkeys(it for host in self.hosts.values() for it in host.log)))
         begun, pipe = monotonic(), asyncio.subprocess.PIPE
         child = await asyncio.create_subprocess_exec(
             self.program, "audit", str(self.count), stdin=pipe, stdout=pipe, stderr=pipe, start_new_session=True
@@ -133,7 +140,7 @@ class Committee:
         board, last = self.board, self.board.highest
         first = max(1, last - KEPT + 1)
         return json.dumps({
-            "count": self.count, "quorum": quorum(self.count), "first": first, "last": last,
+            "count": self.count, "program": self.said, "quorum": quorum(self.count), "first": first, "last": last,
             "members": [self.shown_lane(me, lane, first) for me, lane in enumerate(board.lanes)],
             "leaders": [setup_of(0, self.count).elect(view) for view in range(first, last + 1)],
             "cuts": sorted(sorted(pair) for pair in self.cuts),
@@ -144,8 +151,9 @@ class Committee:
 
     def shown_lane(self, me: int, lane: Lane, first: int) -> dict:
         return {
-            "state": lane.state, "running": self.is_running(me), "view": lane.view, "final": lane.final, "started": lane.started_at,
-            "blocked": sorted(lane.blocked), "marks": {view: "".join(sorted(marks)) for view, marks in lane.marks.items() if view >= first},
+            "state": lane.state, "running": self.is_running(me), "view": lane.view, "final": lane.final,
+            "blocked": sorted(lane.blocked),
+            "marks": {view: "".join(sorted(marks)) for view, marks in lane.marks.items() if view >= first},
         }
 
     def shown_block(self, view: int) -> dict:

@@ -5,14 +5,16 @@ it gets the next; the actions of each reply are carried out in their order.
 """
 import asyncio
 import hashlib
-from collections.abc import Awaitable, Callable, Mapping
-from dataclasses import dataclass, field
+from collections.abc import Awaitable, Callable, Iterable, Mapping
+from dataclasses import dataclass
+from functools import cached_property
 from pathlib import Path
 
-from member.codec import Reader, Unreadable, vote_bytes, whole
+from member.codec import Reader, vote_bytes, whole
+from member.scheme import PlainScheme
 from member.values import (
-    CHANNELS, NOTARIZE, VOTE_CHANNEL, Block, Build, BuiltAnswer, Certify, CheckedAnswer, Finalized, Forward, Moment, Packet, Proposal,
-    Reply, Report, Send, VerdictAnswer, Verify, Vote, Wake,
+    NOTARIZE, VOTE_CHANNEL, Block, Build, BuiltAnswer, Certify, CheckedAnswer, Context, Finalized, Forward, Moment, Packet,
+    Proposal, Reply, Report, Send, VerdictAnswer, Verify, Vote, Wake,
 )
 from node_program import setup_of
 
@@ -49,8 +51,8 @@ class Place:
     def log(self) -> ReportLog:
         return ReportLog(self.folder / "reports", self.scheme.signature_size, self.count)
 
-    @property
-    def scheme(self):
+    @cached_property
+    def scheme(self) -> PlainScheme:
         return setup_of(self.me, self.count).scheme
 
 
@@ -143,10 +145,10 @@ class Host:
 
         self.tasks.create_task(wait())
 
-    async def build(self, number: int, context) -> BuiltAnswer:
+    async def build(self, number: int, context: Context) -> BuiltAnswer:
         return BuiltAnswer(number, await self.application.build(context))
 
-    async def check(self, number: int, context, proposal: Proposal) -> CheckedAnswer:
+    async def check(self, number: int, context: Context, proposal: Proposal) -> CheckedAnswer:
         return CheckedAnswer(number, await self.application.check(context, proposal))
 
     async def judge(self, proposal: Proposal) -> VerdictAnswer:
@@ -179,14 +181,14 @@ class Host:
             if isinstance(action, (Block, Finalized, Report)):
                 self.place.watch(self.me, action)
 
-    def send(self, peers, frame: Frame) -> None:
+    def send(self, peers: Iterable[int], frame: Frame) -> None:
         for peer in peers:
             if frozenset((self.me, peer)) not in self.place.cuts:
                 self.links.send(peer, frame)
         if frame.channel == VOTE_CHANNEL:
             self.look_at(whole(frame.data, self.place.scheme.signature_size, self.place.count, Reader.vote))
 
-    def forward(self, payload: bytes, plan: str, recipients) -> None:
+    def forward(self, payload: bytes, plan: str, recipients: Iterable[int]) -> None:
         """The content of a payload: to those who may lack it, or, of one that was built here, at a handoff too, to all, who will be asked
         to check it."""
         content = self.application.contents.get(payload)

@@ -14,7 +14,7 @@ from member.values import (
 from .host import Said
 
 # How many views a lane keeps, and how many of a page's lists are shown.
-KEPT, BLOCKS, LINES = 48, 10, 14
+KEPT, BLOCKS, LINES = 48, 8, 14
 # What may be marked at a view: it was entered, notarize was voted, the proposal was certified, nullify was voted, the view was
 # nullified, its proposal is final, somebody lied there
 ENTERED, VOTED, CERTIFIED, GAVE_UP, NULLIFIED, FINAL, BLAMED = "evcgnfb"
@@ -27,8 +27,6 @@ class Lane:
     terms: Terms
     view: int = 1
     final: int = 0
-    # how high it had come with views that are final when it was last started
-    started_at: int = 0
     state: str = "starting"
     marks: dict[int, set[str]] = field(default_factory=lambda: {1: {ENTERED}})
     proposals: dict[int, Proposal] = field(default_factory=dict)
@@ -60,8 +58,10 @@ class Lane:
                 self.proposals[on.view] = on
                 self.enter(on.view + 1)
             case Certificate(_, on):
-                self.mark(on.view, NULLIFIED)
-                self.enter(self.terms.next_start(on.view))
+                behind = self.terms.next_start(on.view)
+                for covered in range(on.view, behind):
+                    self.mark(covered, NULLIFIED)
+                self.enter(behind)
             case Evidence(_, first, _):
                 self.mark(first.view, BLAMED)
 

@@ -3,6 +3,7 @@
 `node_program.Running` of tools/ does the same for trials, and blocks; here many nodes share one loop.
 """
 import asyncio
+import contextlib
 from collections.abc import Callable
 from pathlib import Path
 from typing import TypeVar
@@ -78,6 +79,8 @@ class Node:
     async def close(self) -> None:
         """Ends its input, at which it ends, and leaves none behind."""
         self.child.stdin.close()
+        with contextlib.suppress(OSError):
+            await self.child.stdin.wait_closed()
         try:
             async with asyncio.timeout(PATIENCE):
                 await self.child.wait()

@@ -6,13 +6,13 @@ from member.codec import Reader, Unreadable, report_bytes
 
 
 class ReportLog:
-    """Each report once: a node tells all that its record says anew at each opening."""
+    """What a node tells anew of its record when it is opened again isn't written again."""
 
     def __init__(self, path: Path, signature: int, members: int) -> None:
         self.path, self.signature, self.members = path, signature, members
         path.touch()
         reports = list(self)
-        self.known = set(reports)
+        self.found = set(reports)
         # A host that died inside a write left a part: an audit would stop there.
         with path.open("r+b") as file:
             file.truncate(sum(map(len, reports)))
@@ -33,9 +33,8 @@ class ReportLog:
 
     def append(self, report: object) -> None:
         spelled = report_bytes(report)
-        if spelled not in self.known:
+        if spelled not in self.found:
             self.file.write(spelled)
-            self.known.add(spelled)
 
     def close(self) -> None:
         self.file.close()

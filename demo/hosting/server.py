@@ -13,6 +13,8 @@ PAGE = Path(__file__).resolve().parent / "page.html"
 # How often a page is told what changed: faster than one sees.
 BEAT = 0.15
 LONGEST_WISH = 1 << 10
+# What this machine is called by itself, and by no name that another may give it.
+NAMES = (LOOPBACK, "localhost")
 # A page loads nothing from elsewhere, and is shown in no other page.
 POLICY = "default-src 'none'; script-src 'unsafe-inline'; style-src 'unsafe-inline'; connect-src 'self' ws://127.0.0.1:*; frame-ancestors 'none'"
 
@@ -38,7 +40,7 @@ class Server:
 
     async def watch(self, request: web.Request) -> web.WebSocketResponse:
         """A page that is open. Pages of other origins may dial a socket of the loopback too: they are sent away."""
-        if request.headers.get("Origin") != f"http://{request.host}" or request.host.partition(":")[0] != LOOPBACK:
+        if request.headers.get("Origin") != f"http://{request.host}" or request.host.partition(":")[0] not in NAMES:
             raise web.HTTPForbidden()
         page = web.WebSocketResponse(max_msg_size=LONGEST_WISH, heartbeat=20)
         await page.prepare(request)
