@@ -105,7 +105,7 @@ class Host:
         self.carry_out(await self.node.reply())
         while True:
             event = await self.next_event()
-            # Deadlines are counted from the last moment that the node was told: if it is told none with what comes, they come early.
+            # Deadlines are counted from the last moment that was told: with none beside what comes they come early.
             await self.step(Moment(self.now()))
             if event is not None:
                 await self.step(event)

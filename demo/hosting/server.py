@@ -16,7 +16,10 @@ LONGEST_WISH = 1 << 10
 # What this machine is called by itself, and by no name that another may give it.
 NAMES = (LOOPBACK, "localhost")
 # A page loads nothing from elsewhere, and is shown in no other page.
-POLICY = "default-src 'none'; script-src 'unsafe-inline'; style-src 'unsafe-inline'; connect-src 'self' ws://127.0.0.1:*; frame-ancestors 'none'"
+POLICY = (
+    "default-src 'none'; script-src 'unsafe-inline'; style-src 'unsafe-inline'; connect-src 'self' ws://127.0.0.1:*; "
+    "frame-ancestors 'none'"
+)
 
 
 class Server:
