@@ -72,16 +72,19 @@ class Application:
 
     def text(self, payload: bytes) -> str | None:
         """What a page shows of a payload, if this member has its content."""
-        content = self.contents.get(payload)
-        return json.loads(content)["text"] if content else None
+        said = said_in(self.contents.get(payload, b""))
+        return str(said.get("text"))[:40] if said else None
+
+
+def said_in(content: bytes) -> dict | None:
+    """What a content says, if it is one: it may come from a liar."""
+    try:
+        said = json.loads(content)
+    except (ValueError, RecursionError):
+        return None
+    return said if isinstance(said, dict) else None
 
 
 def is_good(content: bytes, context: Context) -> bool:
-    try:
-        said = json.loads(content)
-    except ValueError:
-        return False
-    return (
-        isinstance(said, dict) and isinstance(said.get("text"), str)
-        and said.get("view") == context.view and said.get("on") == context.parent_payload.hex()
-    )
+    said = said_in(content)
+    return said is not None and said.get("view") == context.view and said.get("on") == context.parent_payload.hex()

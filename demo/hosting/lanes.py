@@ -25,11 +25,13 @@ class Lane:
     """One member, as it was seen from outside."""
 
     terms: Terms
+    # what any member said of a view's proposal: a member that missed views has them as final too, as ancestors
+    known: dict[int, Proposal]
     view: int = 1
     final: int = 0
     state: str = "starting"
     marks: dict[int, set[str]] = field(default_factory=lambda: {1: {ENTERED}})
-    proposals: dict[int, Proposal] = field(default_factory=dict)
+    own: dict[int, Proposal] = field(default_factory=dict)
     blocked: set[int] = field(default_factory=set)
 
     def mark(self, view: int, what: str) -> None:
@@ -41,21 +43,25 @@ class Lane:
         if view > self.view:
             self.view = view
             self.mark(view, ENTERED)
-            for known in (self.marks, self.proposals):
-                for old in [it for it in known if it <= view - KEPT]:
-                    del known[old]
+            for marked in (self.marks, self.own, self.known):
+                for old in [it for it in marked if it <= view - KEPT]:
+                    del marked[old]
+
+    def learn(self, proposal: Proposal) -> None:
+        self.own[proposal.view] = proposal
+        self.known.setdefault(proposal.view, proposal)
 
     def hear(self, activity: object) -> None:
         """A report. What it says of the view that the member stands at follows from the protocol's rules of entry."""
         match activity:
             case Certificate(kind, on) if kind == NOTARIZATION:
-                self.proposals[on.view] = on
+                self.learn(on)
             case Certified(notarization):
-                self.proposals[notarization.view] = notarization.on
+                self.learn(notarization.on)
                 self.mark(notarization.view, CERTIFIED)
                 self.enter(notarization.view + 1)
             case Certificate(kind, on) if kind == FINALIZATION:
-                self.proposals[on.view] = on
+                self.learn(on)
                 self.enter(on.view + 1)
             case Certificate(_, on):
                 behind = self.terms.next_start(on.view)
@@ -68,9 +74,9 @@ class Lane:
     def finalize(self, proposal: Proposal) -> list[Proposal]:
         """It and all its ancestors are final: those that weren't before, the newest first."""
         self.final = max(self.final, proposal.view)
-        self.proposals.setdefault(proposal.view, proposal)
+        self.learn(proposal)
         found, view = [], proposal.view
-        while (one := self.proposals.get(view)) and FINAL not in self.marks.get(view, ()):
+        while (one := self.own.get(view) or self.known.get(view)) and FINAL not in self.marks.get(view, ()):
             found.append(one)
             self.mark(view, FINAL)
             if FINAL not in self.marks.get(view, ()):
@@ -88,7 +94,8 @@ class Board:
     """All lanes, the chain, and what happened."""
 
     def __init__(self, count: int, terms: Terms) -> None:
-        self.lanes = [Lane(terms) for _ in range(count)]
+        known: dict[int, Proposal] = {}
+        self.lanes = [Lane(terms, known) for _ in range(count)]
         self.chain: dict[int, dict[bytes, set[int]]] = {}
         self.lines: deque[str] = deque(maxlen=LINES)
         self.changed = True

@@ -11,7 +11,7 @@ from .links import LOOPBACK
 
 PAGE = Path(__file__).resolve().parent / "page.html"
 # How often a page is told what changed: faster than one sees.
-BEAT = 0.15
+BEAT = 0.2
 LONGEST_WISH = 1 << 10
 # What this machine is called by itself, and by no name that another may give it.
 NAMES = (LOOPBACK, "localhost")
@@ -65,7 +65,7 @@ class Server:
             self.button(name, len(members))(*members)
         except Unwanted as error:
             self.committee.board.tell(str(error))
-        except (ValueError, TypeError, KeyError, AttributeError):
+        except (ValueError, TypeError, KeyError, AttributeError, RecursionError):
             self.committee.board.tell("a page asked for something that no button asks for")
 
     def member(self, index: object) -> int:
