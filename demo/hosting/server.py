@@ -62,6 +62,8 @@ class Server:
         try:
             said = json.loads(wish)
             name, members = said["do"], [self.member(it) for it in said.get("members", [])]
+            if len(set(members)) < len(members):
+                raise ValueError(members)
             self.button(name, len(members))(*members)
         except Unwanted as error:
             self.committee.board.tell(str(error))
