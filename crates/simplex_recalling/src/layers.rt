@@ -1,17 +1,20 @@
 //! What a node keeps above its record, and how it goes through the record when it is opened.
 
-ghost use Rattle.std.specs.Prelude.{◌≡◌, ◌∷◌, [], ℕ, List, IfOk, OnOk};
+ghost use Rattle.std.specs.Prelude.{◌≡◌, ◌∷◌, ◌++◌, [], ℕ, List, IfOk, OnOk, map};
 ghost use Rattle.simplex_certificates.specs.declared.artifact.Artifact.{Artifact};
 ghost use Rattle.simplex_history.specs.History.{started};
 ghost use Rattle.simplex_views.specs.Views.{built};
 ghost use Rattle.simplex_voter.specs.State as voting;
 ghost use Rattle.simplex_acceptance.specs.Keeps as accepting;
+ghost use Rattle.simplex_member.specs.declared.action.Action.{Action};
+ghost use Rattle.simplex_member.specs.Deeds.{AreActions, Reports};
 ghost use Rattle.simplex_member.specs.Layers.{voter_of};
 ghost use Rattle.simplex_member.specs.Packet.{formats};
-ghost use Rattle.simplex_member.specs.Point.{Opened};
+ghost use Rattle.simplex_member.specs.Point.{Began, Opened};
+ghost use Rattle.simplex_member.specs.Recorded.{record_of, reported};
 ghost use Rattle.simplex_member.specs.Setup.{Setup, IsInTime, setup_of};
 ghost use Rattle.simplex_recalling.specs.SettingUp.{IsSetUp};
-ghost use Rattle.simplex_recalling.specs.GoingThrough.{HasBegun, IsGoneThrough, IsRecordOf, StandAt};
+ghost use Rattle.simplex_recalling.specs.GoingThrough.{HasBegun, IsGoneThrough, IsRecordOf, StandAt, deeds_along};
 
 use crate::learning::what_is_not_recorded_is_unknown;
 use crate::recalling::{finalize, report, tell_repair, tell_voter};
@@ -56,10 +59,10 @@ impl<S: Scheme<D> + Drop, L: Elector<S, D>, D: Digest> Layers<S, L, D> {
             IsSetUp s settings.now → IsInTime s now → IsRecordOf S.Scheme s recorded.now found → HasBegun S.Scheme L.Elector (formats D.PartialEq.eq D.spelling S.Signature.spelling S.Certificate.spelling D.reading S.Signature.reading S.Certificate.reading n) s now found r.0 r.1.items) }
     {
         let mut layers = Layers::opened(settings, config, elector, now)?;
-        let mut out = Vec::new(settings.alloc);
-        layers.go_through(settings.alloc, recorded, &mut out)?;
-        layers.end(settings.alloc, recorded, &mut out)?;
-        Ok((layers, out))
+        match layers.replay(settings.alloc, recorded) {
+            Ok(out) => Ok((layers, out)),
+            Err(error) => Err(error),
+        }
     }
 
     /// What a node keeps that is opened at this moment, before it goes through its record.
@@ -84,7 +87,24 @@ impl<S: Scheme<D> + Drop, L: Elector<S, D>, D: Digest> Layers<S, L, D> {
         })
     }
 
-    /// Goes through the record, artifact by artifact, the oldest first.
+    /// Goes through the whole record, and ends that: with what it hands out.
+    fn replay(
+        &mut self,
+        alloc: Global,
+        recorded: &Recorded<S, D>,
+    ) -> Result<Vec<Action<S, D>>, AllocError>
+        ensures { IfOk result (λ out. (n now : ℕ) (s : Setup S D S.Certificate) (found : List (Artifact S D S.PublicKey S.Signature S.Certificate)) → IsRecordOf S.Scheme s recorded.now found
+            → IsGoneThrough S.Scheme L.Elector (formats D.PartialEq.eq D.spelling S.Signature.spelling S.Certificate.spelling D.reading S.Signature.reading S.Certificate.reading n) s now found found self.old []
+            → HasBegun S.Scheme L.Elector (formats D.PartialEq.eq D.spelling S.Signature.spelling S.Certificate.spelling D.reading S.Signature.reading S.Certificate.reading n) s now found self.new out.items) }
+    {
+        let mut out = Vec::new(alloc);
+        self.go_through(alloc, recorded, &mut out)?;
+        finalize(recorded, self.voter.last_finalized(), &mut out)?;
+        self.end(alloc)?;
+        Ok(out)
+    }
+
+    /// Goes through the record, artifact by artifact, the oldest first, and reports each.
     fn go_through(
         &mut self,
         alloc: Global,
@@ -97,22 +117,23 @@ impl<S: Scheme<D> + Drop, L: Elector<S, D>, D: Digest> Layers<S, L, D> {
     {
         let artifacts = recorded.artifacts();
         for artifact in artifacts {
-            self.recall(alloc, recorded, artifact, out)?;
+            self.recall(alloc, recorded, artifact)?;
+            report(alloc, recorded, artifact, out)?;
         }
         Ok(())
     }
 
-    /// Tells each layer of the next artifact of the record, and reports it.
+    /// Tells each layer of the next artifact of the record, which is reported behind that.
     fn recall(
         &mut self,
         alloc: Global,
         recorded: &Recorded<S, D>,
         artifact: &Artifact<S, D>,
-        out: &mut Vec<Action<S, D>>,
     ) -> Result<(), AllocError>
-        ensures { OnOk result ((n now : ℕ) (s : Setup S D S.Certificate) (found rest : List (Artifact S D S.PublicKey S.Signature S.Certificate)) → IsRecordOf S.Scheme s recorded.now found
-            → IsGoneThrough S.Scheme L.Elector (formats D.PartialEq.eq D.spelling S.Signature.spelling S.Certificate.spelling D.reading S.Signature.reading S.Certificate.reading n) s now found (artifact.now ∷ rest) self.old out.old.items
-            → IsGoneThrough S.Scheme L.Elector (formats D.PartialEq.eq D.spelling S.Signature.spelling S.Certificate.spelling D.reading S.Signature.reading S.Certificate.reading n) s now found rest self.new out.new.items) }
+        ensures { OnOk result ((n now : ℕ) (s : Setup S D S.Certificate) (found rest : List (Artifact S D S.PublicKey S.Signature S.Certificate)) (before after : List (Action S D S.PublicKey S.Signature S.Certificate)) → IsRecordOf S.Scheme s recorded.now found
+            → (gone : IsGoneThrough S.Scheme L.Elector (formats D.PartialEq.eq D.spelling S.Signature.spelling S.Certificate.spelling D.reading S.Signature.reading S.Certificate.reading n) s now found (artifact.now ∷ rest) self.old before)
+            → AreActions (formats D.PartialEq.eq D.spelling S.Signature.spelling S.Certificate.spelling D.reading S.Signature.reading S.Certificate.reading n) after (deeds_along S.Scheme (formats D.PartialEq.eq D.spelling S.Signature.spelling S.Certificate.spelling D.reading S.Signature.reading S.Certificate.reading n) s gone.h ++ map Reports (reported (record_of gone.h) artifact.now))
+            → IsGoneThrough S.Scheme L.Elector (formats D.PartialEq.eq D.spelling S.Signature.spelling S.Certificate.spelling D.reading S.Signature.reading S.Certificate.reading n) s now found rest self.new after) }
     {
         quiet_points_leave_the_tables::<S, D>();
         what_is_not_recorded_is_unknown::<S, D>();
@@ -125,25 +146,18 @@ impl<S: Scheme<D> + Drop, L: Elector<S, D>, D: Digest> Layers<S, L, D> {
         let current = self.voter.current_view();
         let least = self.voter.views().min_active();
         self.acceptance.enter(current, least)?;
-        tell_repair(&mut self.repair, alloc, recorded, artifact)?;
-        report(alloc, recorded, artifact, out)?;
-        Ok(())
+        tell_repair(&mut self.repair, alloc, recorded, artifact)
     }
 
-    /// Ends going through the record: what need not be kept is dropped, and the highest recorded finalization is final.
-    fn end(
-        &mut self,
-        alloc: Global,
-        recorded: &Recorded<S, D>,
-        out: &mut Vec<Action<S, D>>,
-    ) -> Result<(), AllocError>
-        ensures { OnOk result ((n now : ℕ) (s : Setup S D S.Certificate) (found : List (Artifact S D S.PublicKey S.Signature S.Certificate)) → IsRecordOf S.Scheme s recorded.now found
-            → IsGoneThrough S.Scheme L.Elector (formats D.PartialEq.eq D.spelling S.Signature.spelling S.Certificate.spelling D.reading S.Signature.reading S.Certificate.reading n) s now found [] self.old out.old.items
-            → HasBegun S.Scheme L.Elector (formats D.PartialEq.eq D.spelling S.Signature.spelling S.Certificate.spelling D.reading S.Signature.reading S.Certificate.reading n) s now found self.new out.new.items) }
+    /// Ends going through the record, once its highest finalization was handed out: what need not be kept is dropped.
+    fn end(&mut self, alloc: Global) -> Result<(), AllocError>
+        ensures { OnOk result ((n now : ℕ) (s : Setup S D S.Certificate) (found : List (Artifact S D S.PublicKey S.Signature S.Certificate)) (before after : List (Action S D S.PublicKey S.Signature S.Certificate))
+            → (gone : IsGoneThrough S.Scheme L.Elector (formats D.PartialEq.eq D.spelling S.Signature.spelling S.Certificate.spelling D.reading S.Signature.reading S.Certificate.reading n) s now found [] self.old before)
+            → AreActions (formats D.PartialEq.eq D.spelling S.Signature.spelling S.Certificate.spelling D.reading S.Signature.reading S.Certificate.reading n) after (deeds_along S.Scheme (formats D.PartialEq.eq D.spelling S.Signature.spelling S.Certificate.spelling D.reading S.Signature.reading S.Certificate.reading n) s (Began ∷ gone.h))
+            → HasBegun S.Scheme L.Elector (formats D.PartialEq.eq D.spelling S.Signature.spelling S.Certificate.spelling D.reading S.Signature.reading S.Certificate.reading n) s now found self.new after) }
     {
         silent_points_leave_votes::<S, D>();
         quiet_points_leave_the_tables::<S, D>();
-        finalize(recorded, self.voter.last_finalized(), out)?;
         let _ = self.voter.prune(alloc)?;
         let _ = self.repair.replayed(alloc)?;
         Ok(())

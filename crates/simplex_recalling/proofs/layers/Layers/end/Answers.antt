@@ -1,28 +1,17 @@
-use Rattle.std.proofs.Common.{◌≡◌, ◌∷◌, ◌++◌, ◌∙◌, sym, subst, refl, ℕ, List}
-use Rattle.std.specs.Prelude.{map, option_to_list}
+use Rattle.std.proofs.Common.{◌≡◌, ◌∷◌, ◌∙◌, sym, refl}
 use Rattle.std.proofs.lemmas.List.{append-nil}
-use Rattle.simplex_certificates.specs.declared.artifact.Artifact.{Artifact}
-use Rattle.simplex_certificates.specs.ProposalCertificate.{Finalization}
-use Rattle.simplex_member.specs.Deeds.{AreActions, Finalizes}
 use Rattle.simplex_member.specs.Layers.{repair_of, voter_of}
 use Rattle.simplex_member.specs.Packet.{formats}
 use Rattle.simplex_member.specs.Point.{Began}
-use Rattle.simplex_member.specs.Recorded.{finalization_in, record_of}
-use Rattle.simplex_member.specs.Setup.{owner_of}
-use Rattle.simplex_recording.specs.Recorded.{HoldsRecord}
-use Rattle.simplex_recalling.specs.GoingThrough.{deeds_along}
+use Rattle.simplex_member.specs.Recorded.{record_of}
 use Rattle.simplex_recalling.proofs.Gone.{began-allowed, opens-behind}
 use Rattle.simplex_recalling.proofs.layers.Layers.end.Goals as goal
 
 pub returns : goal.returns
-returns g c = λ n now s found is k.
+returns g c = λ n now s found before after k acts.
     let f = formats {S = g.row.S.Denot} {P = g.row.S-PublicKey.Denot} g.D.PartialEq.eq g.D.Write.spelling g.S.Signature.Write.spelling g.S.Certificate.Write.spelling g.D.Read.reading g.S.Signature.Read.reading g.S.Certificate.Read.reading n in
     let h = k.h in
     let whole : record_of h ≡ found = sym (k.behind ∙ append-nil (record_of h)) in
-    let holds = subst (λ (xs : List (Artifact g.row.S.Denot g.row.D.Denot g.row.S-PublicKey.Denot g.row.S-Signature.Denot g.row.S-Certificate.Denot)). HoldsRecord (owner_of s) c.args.recorded.now xs) (sym whole) is.holds in
-    let last = c.last_finalized.ensures.value s.voter (voter_of s h) k.stand.voter in
-    let made = c.in_ok-finalize.ensures f (owner_of s) (record_of h) (deeds_along g.S.Scheme f s h) holds k.acts in
-    let acts = subst (λ (view : ℕ). AreActions f c.finalize.new.out.items (deeds_along g.S.Scheme f s h ++ map (λ (x : Finalization g.row.S.Denot g.row.D.Denot g.row.S-PublicKey.Denot g.row.S-Signature.Denot g.row.S-Certificate.Denot). Finalizes x.proposal) (option_to_list (finalization_in (record_of h) view)))) last made in
     let may = began-allowed g.S.Scheme f s now h k.reading in
     record {
       end = Began ∷ h;
@@ -35,5 +24,5 @@ returns g c = λ n now s found is k.
         repair = c.in_ok-replayed.ensures.keeps s.voter.length (repair_of f h) k.stand.repair;
         tables = λ low. c.quiet_points_leave_the_tables.ensures low c.args.self.now.tables h Began refl (k.stand.tables low);
       };
-      opens = opens-behind g.S.Scheme f s now h found c.finalize.new.out.items k.reading k.allowed whole acts;
+      opens = opens-behind g.S.Scheme f s now h found after k.reading k.allowed whole acts;
     }

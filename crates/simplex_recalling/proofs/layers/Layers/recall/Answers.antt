@@ -1,4 +1,5 @@
 use Rattle.std.proofs.Common.{◌∷◌, ◌++◌, [], ◌∙◌, sym, subst, refl, ℕ, List, append_assoc}
+use Rattle.std.proofs.lemmas.Result.{on_ok_weaker}
 use Rattle.simplex_types.specs.Positions.{HasRoom}
 use Rattle.simplex_certificates.specs.declared.artifact.Artifact.{Artifact}
 use Rattle.simplex_certificates.specs.Artifact.{artifact_round}
@@ -9,13 +10,13 @@ use Rattle.simplex_member.specs.Layers.{finds, repair_of, voter_of}
 use Rattle.simplex_member.specs.Packet.{formats}
 use Rattle.simplex_member.specs.Point.{Found}
 use Rattle.simplex_member.specs.Recorded.{record_of}
-use Rattle.simplex_recalling.specs.GoingThrough.{IsRecordOf, deeds_along}
+use Rattle.simplex_recalling.specs.GoingThrough.{IsRecordOf}
 use Rattle.simplex_recalling.specs.Learning.{first_of}
 use Rattle.simplex_recalling.proofs.Gone.{reading-some, reading-unbegun}
 use Rattle.simplex_recalling.proofs.layers.Layers.recall.Goals as goal
 
 pub returns : goal.returns
-returns g c = λ n now s found rest is k.
+returns g c = on_ok_weaker c.tell_repair.result (λ recalled n now s found rest before after is k acts.
     let f = formats {S = g.row.S.Denot} {P = g.row.S-PublicKey.Denot} g.D.PartialEq.eq g.D.Write.spelling g.S.Signature.Write.spelling g.S.Certificate.Write.spelling g.D.Read.reading g.S.Signature.Read.reading g.S.Certificate.Read.reading n in
     let x = c.args.artifact.now in
     let h = k.h in
@@ -40,8 +41,9 @@ returns g c = λ n now s found rest is k.
       stand = record {
         voter = voter;
         votes = c.in_ok-enter.ensures.entered s h (Found x told.0) ahead refl current least;
-        repair = c.in_ok-tell_repair.ensures n s h rest room whole k.stand.repair;
+        repair = recalled n s h rest room whole k.stand.repair;
         tables = λ low. c.quiet_points_leave_the_tables.ensures low c.args.self.now.tables h (Found x told.0) refl (k.stand.tables low);
       };
-      acts = c.in_ok-report.ensures f s (record_of h) rest (deeds_along g.S.Scheme f s h) whole k.acts;
-    }
+      acts = acts;
+    })
+    c.tell_repair.ensures

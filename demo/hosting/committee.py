@@ -1,0 +1,166 @@
+"""All members of a committee, and what the page's buttons do to them."""
+import asyncio
+import json
+import re
+import secrets
+import traceback
+from itertools import combinations
+from pathlib import Path
+from time import monotonic
+
+from member.positions import quorum
+from node_program import setup_of
+
+from .host import Host, Place
+from .lanes import BLOCKS, KEPT, Board, Lane
+
+
+class Unwanted(Exception):
+    """What a page asked for can't be done; the message says why."""
+
+
+class Committee:
+    """Hosts of so many members, each with a folder of its own."""
+
+    def __init__(self, count: int, program: Path, said: str, folder: Path, pace: float) -> None:
+        """`said` is what is known of the program, for the page."""
+        self.count, self.program, self.said = count, program, said
+        self.board = Board(count, setup_of(0, count).terms)
+        self.cuts: set[frozenset[int]] = set()
+        self.audit_said: dict | None = None
+        self.auditing, self.audits = False, 0
+        ports: dict[int, int] = {}
+        pairs = {frozenset(pair): secrets.token_bytes(32) for pair in combinations(range(count), 2)}
+        self.places = []
+        for me in range(count):
+            own = folder / f"member-{me}"
+            own.mkdir(parents=True, exist_ok=True)
+            keys = {peer: pairs[frozenset((me, peer))] for peer in range(count) if peer != me}
+            self.places.append(Place(me, count, program, own, pace, keys, ports, self.cuts, self.board.watch))
+        self.hosts: dict[int, Host] = {}
+        self.lives: dict[int, asyncio.Task] = {}
+
+    # ---- lives
+
+    def start(self, me: int) -> None:
+        """A new life of a member, over what its record and its log of reports hold."""
+        lane = self.board.lanes[me]
+        lane.state = "running"
+        lane.blocked.clear()
+        self.hosts[me] = Host(self.places[me])
+        self.lives[me] = asyncio.create_task(self.live(me, self.hosts[me]))
+
+    async def live(self, me: int, host: Host) -> None:
+        try:
+            told = await host.live()
+        except Exception as error:  # a host that fails must not look like one that runs
+            traceback.print_exception(error)
+            told = f"its host failed, {type(error).__name__}"
+        self.board.lanes[me].state = told
+        self.board.tell(f"member {me}: its node ended, {told}")
+
+    async def stop(self) -> None:
+        """Ends all lives, each of which ends its node."""
+        for life in self.lives.values():
+            life.cancel()
+        await asyncio.gather(*self.lives.values(), return_exceptions=True)
+
+    def is_running(self, me: int) -> bool:
+        return me in self.lives and not self.lives[me].done()
+
+    def running(self, me: int) -> Host:
+        if not self.is_running(me):
+            raise Unwanted(f"member {me} isn't running")
+        return self.hosts[me]
+
+    # ---- buttons
+
+    def kill(self, me: int) -> None:
+        node = self.running(me).node
+        if node is None:
+            raise Unwanted(f"member {me} is just being started")
+        self.board.tell(f"kill -9 {node.child.pid}, the node of member {me}")
+        node.kill()
+
+    def restart(self, me: int) -> None:
+        if self.is_running(me):
+            raise Unwanted(f"member {me} runs: a second process on its record could vote against the first")
+        self.board.tell(f"member {me} is started on the record that it left")
+        self.start(me)
+
+    def equivocate(self, me: int) -> None:
+        self.running(me).lies += 1
+        self.board.tell(f"member {me} will vote twice in one view, for two proposals")
+
+    def cut(self, one: int, other: int) -> None:
+        self.cuts.add(frozenset((one, other)))
+        self.board.tell(f"the link between {one} and {other} is cut")
+
+    def mend(self, one: int, other: int) -> None:
+        self.cuts.discard(frozenset((one, other)))
+        self.board.tell(f"the link between {one} and {other} is mended")
+
+    async def audit(self) -> None:
+        """`simplex audit` over the reports of all members."""
+        if self.auditing:
+            raise Unwanted("an audit is under way")
+        self.auditing = self.board.changed = True
+        try:
+            said = await self.said_by_audit()
+            self.audits += 1
+            self.audit_said = {"number": self.audits, **said}
+            named = ", ".join(map(str, said["named"])) or "nobody"
+            self.board.tell(f"the audit names {named}")
+        finally:
+            self.auditing = False
+
+    async def said_by_audit(self) -> dict:
+        """Telling a report twice changes no name, so each is told once."""
+        reports = await asyncio.to_thread(lambda: list(dict.fromkeys(it for host in self.hosts.values() for it in host.log)))
+        begun, pipe = monotonic(), asyncio.subprocess.PIPE
+        child = await asyncio.create_subprocess_exec(
+            self.program, "audit", str(self.count), stdin=pipe, stdout=pipe, stderr=pipe, start_new_session=True
+        )
+        try:
+            output, error = await child.communicate(b"".join(reports))
+        finally:
+            if child.returncode is None:
+                child.kill()
+        lines = output.decode().splitlines()
+        named = sorted({int(it[1]) for line in lines if (it := re.search(r" signer (\d+) ", line))})
+        return {
+            "named": named, "lines": lines, "reports": len(reports), "seconds": round(monotonic() - begun, 1),
+            "status": child.returncode, "error": error.decode(),
+        }
+
+    # ---- what the page shows
+
+    def shown(self) -> str:
+        """All that a page shows, as JSON."""
+        board, last = self.board, self.board.highest
+        first = max(1, last - KEPT + 1)
+        return json.dumps({
+            "count": self.count, "program": self.said, "quorum": quorum(self.count), "first": first, "last": last,
+            "members": [self.shown_lane(me, lane, first) for me, lane in enumerate(board.lanes)],
+            "leaders": [setup_of(0, self.count).elect(view) for view in range(first, last + 1)],
+            "cuts": sorted(sorted(pair) for pair in self.cuts),
+            "chain": [self.shown_block(view) for view in sorted(board.chain)[-BLOCKS:]],
+            "disagreements": board.disagreements(), "lines": list(board.lines),
+            "audit": self.audit_said, "auditing": self.auditing,
+        })
+
+    def shown_lane(self, me: int, lane: Lane, first: int) -> dict:
+        return {
+            "state": lane.state, "running": self.is_running(me), "view": lane.view, "final": lane.final,
+            "blocked": sorted(lane.blocked),
+            "marks": {view: "".join(sorted(marks)) for view, marks in lane.marks.items() if view >= first},
+        }
+
+    def shown_block(self, view: int) -> dict:
+        payloads = self.board.chain[view]
+        payload = next(iter(payloads))
+        texts = (host.application.text(payload) for host in self.hosts.values())
+        return {
+            "view": view, "payload": payload.hex()[:12], "members": sorted(payloads[payload]),
+            "text": next(filter(None, texts), ""),
+        }
