@@ -1,9 +1,9 @@
 -- Looking for the first view whose leader may not be named.
 use Rattle.std.proofs.Common.{◌≡◌, ◌≢◌, ◌≤◌, ◌<◌, ℕ, Bool, true, false, List, [], ◌∷◌, ⊎_elim, refl, subst, arith}
-use Rattle.std.specs.Prelude.{Option, Some, None, IfSome, IsSome, IsTrue, MatchOption}
+use Rattle.std.specs.Prelude.{Option, Some, None, IfSome, IsSome, IsTrue, MatchOption, length}
 use Rattle.std.specs.Ordering.{nat_cmp}
 use Rattle.std.specs.declared.ops.Bound.TheVariants.{Excluded, Included, Unbounded}
-use Rattle.std.specs.BTreeSet.{BTreeSet, IsKeyRangeOf, contains}
+use Rattle.std.specs.BTreeSet.{BTreeSet, IsKeyRangeOf, btree_set_len, contains}
 use Rattle.std.proofs.lemmas.Bool.{cases_lt}
 use Rattle.std.proofs.lemmas.Bool.Decides.{nat_tests}
 use Rattle.simplex_types.specs.declared.scheme.Scheme.{Ghosts}
@@ -14,6 +14,14 @@ use Rattle.simplex_acceptance.specs.Standing.{AreLedFrom, Common, Stand}
 isnt : (b : Bool) → (IsTrue b → ⊥) → b ≡ false
 isnt true never = absurd (never refl)
 isnt false never = refl
+
+-- a set without keys has no view
+pub none_in : (set : BTreeSet ℕ) → btree_set_len set ≡ 0 → (u : ℕ) → contains nat_cmp set u ≡ false
+none_in set none u = rw (empty set.keys none) refl
+  where
+    empty : (keys : List ℕ) → length keys ≡ 0 → keys ≡ []
+    empty [] is = refl
+    empty (x ∷ xs) is = absurd (omega (arith, is))
 
 module _ (set : BTreeSet ℕ) (from : ℕ) (range : List ℕ) (is_range : IsKeyRangeOf nat_cmp (Included from) Unbounded set range) where
   -- none lies before the first from a view on

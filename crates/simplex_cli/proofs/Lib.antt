@@ -1,3 +1,3 @@
 pub mod Numerals
 pub mod Counts
-pub mod Written
+pub mod Implied

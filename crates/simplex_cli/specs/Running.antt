@@ -17,6 +17,7 @@ use Rattle.simplex_cli.specs.declared.input.InputError.{InputError}
 use Rattle.simplex_cli.specs.declared.input.InputError.TheVariants as unread
 use Rattle.simplex_cli.specs.declared.trouble.Trouble.{Trouble}
 use Rattle.simplex_cli.specs.declared.trouble.Trouble.TheVariants as trouble
+use Rattle.simplex_output.specs.Front.{AppendsFront}
 
 -- reports of the plain scheme over SHA-256 digests
 abbrev pub Report : Type 0
@@ -46,10 +47,6 @@ pub record IsAnswer (count : ℕ) (bytes : List ℕ) (fault : Option ℕ) (text 
 -- the lines of the audit of these bytes, which named this place, were written
 abbrev pub AuditsOver : ℕ → List ℕ → Option ℕ → Option (List ℕ) → Option (List ℕ) → Type 0
 AuditsOver count bytes fault old new = (text : List ℕ) × IsAnswer count bytes fault text × Appends old new text
-
--- a front of the text was written: all of it, a part, or nothing
-abbrev pub AppendsFront : Option (List ℕ) → Option (List ℕ) → List ℕ → Type 0
-AppendsFront old new text = (front : List ℕ) × (rest : List ℕ) × (text ≡ front ++ rest) × Appends old new front
 
 -- a front of the lines of the audit of these bytes was written
 abbrev pub BreaksOff : ℕ → List ℕ → Option (List ℕ) → Option (List ℕ) → Type 0

@@ -4,14 +4,12 @@
 mod command;
 mod input;
 mod lines;
-mod output;
 mod program;
 mod running;
 mod trouble;
 
 pub use command::{Command, USAGE, count_of, number_of, parse_words};
 pub use input::{InputError, read_all};
-pub use output::write_whole;
 pub use program::{run_words, words_unread};
 pub use running::{audit_over, report, write_audit};
 pub use trouble::Trouble;

@@ -2,15 +2,16 @@
 
 ghost use Rattle.std.specs.Prelude.{◌≡◌, ◌≢◌, ◌<◌, ◌⊎◌, None, Some, Ok, ℕ, IfSome, IfOk, IfErr, string_bytes};
 ghost use Rattle.simplex_cli.specs.Lines.{trouble_line};
-ghost use Rattle.simplex_cli.specs.Running.{AppendsFront, AuditsOver, BreaksOff, IsAnswer};
+ghost use Rattle.simplex_cli.specs.Running.{AuditsOver, BreaksOff, IsAnswer};
 ghost use Rattle.simplex_cli.specs.declared.trouble.Trouble.{Trouble};
 ghost use Rattle.simplex_cli.specs.declared.trouble.Trouble.TheVariants.{Write};
+ghost use Rattle.simplex_output.specs.Front.{AppendsFront};
 
 use crate::input::read_all;
 use crate::lines::text_of;
-use crate::output::write_whole;
 use crate::trouble::Trouble;
 use simplex_audit::{Audit, audit};
+use simplex_output::write_whole;
 use simplex_types::{PlainScheme, Sha256Digest};
 use std::alloc::{AllocError, Global};
 use std::io::{Read, Write};

@@ -14,7 +14,7 @@ use crate::handing::hand_out;
 use simplex_certificates::{Artifact, Certificate, Nullify};
 use simplex_member::{Action, Channel, NodeFault};
 use simplex_messages::{Activity, Vote};
-use simplex_types::{Digest, Duplicate, EncodeSize, Scheme, Write};
+use simplex_types::{Digest, Duplicate, EncodeSize, Scheme};
 use std::alloc::{AllocError, Global};
 
 /// A message's bytes, in as much memory as they take.

@@ -13,8 +13,9 @@ use Rattle.simplex_types.specs.Subject.{Statement}
 use Rattle.simplex_certificates.specs.declared.artifact.Artifact.{Artifact}
 use Rattle.simplex_certificates.specs.Artifact.{artifact_fits, artifact_within, artifact_spelling}
 use Rattle.simplex_audit.specs.Audit.{IsRead}
-use Rattle.simplex_cli.specs.Running.{AppendsFront, Report, IsReport, IsPlainAudit, report_at, report_spelling}
+use Rattle.simplex_cli.specs.Running.{Report, IsReport, IsPlainAudit, report_at, report_spelling}
 use Rattle.simplex_journal.specs.Record.{IsFound, IsForeign}
+use Rattle.simplex_output.specs.Front.{AppendsFront}
 use Rattle.simplex_record.specs.declared.owner.Owner.{Owner}
 use Rattle.simplex_record.specs.Lawful.{IsLawful, IsRefusedAt}
 use Rattle.simplex_tooling.specs.declared.command.Call.{Call}

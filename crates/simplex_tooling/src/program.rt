@@ -3,9 +3,9 @@
 ghost use Rattle.std.specs.Prelude.{◌≡◌, ◌≢◌, ◌⊎◌, None, Some, Ok, ℕ, IfSome, IfOk, IfErr};
 ghost use Rattle.std.specs.Io.KnownBytes.{Appends};
 ghost use Rattle.simplex_cli.specs.Lines.{trouble_line};
-ghost use Rattle.simplex_cli.specs.Running.{AppendsFront};
 ghost use Rattle.simplex_cli.specs.declared.trouble.Trouble.{Trouble};
 ghost use Rattle.simplex_cli.specs.declared.trouble.Trouble.TheVariants.{Device, Memory, Write};
+ghost use Rattle.simplex_output.specs.Front.{AppendsFront};
 ghost use Rattle.std.specs.IoError.{error_kind};
 ghost use Rattle.std.specs.declared.io.ErrorKind.TheVariants.{OutOfMemory};
 ghost use Rattle.simplex_tooling.specs.Answers.{AnswersOver, BreaksOff, NeedsInput};
@@ -13,7 +13,8 @@ ghost use Rattle.simplex_tooling.specs.Command.{IsAsked, help_text};
 
 use crate::answers::answer_to;
 use crate::command::{Call, HELP, Request};
-use simplex_cli::{InputError, Trouble, read_all, report, write_whole};
+use simplex_cli::{InputError, Trouble, read_all, report};
+use simplex_output::write_whole;
 use std::alloc::Global;
 use std::io;
 use std::io::{Read, Write};

@@ -16,12 +16,12 @@ use Rattle.simplex_rules.specs.Spans.{term_end-above}
 use Rattle.simplex_history.specs.Known.{Known}
 use Rattle.simplex_decisions.specs.Ancestry.{Member, explicit, IsRequired}
 use Rattle.simplex_decisions.specs.Asking.{Decides}
-use Rattle.simplex_decisions.specs.Requests.{VerdictIsOpen, CertifyIsDue, CertifyWaits, IsPutOff, CertificateIsWanted, MayBeAsked}
+use Rattle.simplex_decisions.specs.Requests.{VerdictIsOpen, CertifyIsDue, CertifyWaits, IsPutOff, CertificateIsWanted, MayBeAsked, AreReady, ArePutOff}
 use Rattle.simplex_decisions.specs.declared.requests.CertifyRequest.{CertifyRequest}
 use Rattle.simplex_decisions.specs.declared.requests.CertifyRequest.TheVariants as certify
 use Rattle.simplex_decisions.specs.declared.certificate_fetch.CertificateFetch.{CertificateFetch}
 use Rattle.simplex_voter.specs.declared.state.certifying.Verdicts.{Verdicts}
-use Rattle.simplex_voter.specs.Candidates.{Adds, AreAll}
+use Rattle.simplex_voter.specs.Candidates.{Adds, AreAll, AreWanted}
 use Rattle.simplex_voter.proofs.Members.{only_element}
 
 in_push : {X : Type 0} (xs : List X) (x : X) → Contains (xs ++ x ∷ []) x
@@ -263,3 +263,27 @@ module _ {D : Type 0} (m : Member) (k : Known D) where
     where
       before : (u : ℕ) (p : Proposal D) → MayBeAsked m k u p → u < end
       before u p may = elim (cases_lt u end) [ inl below ↦ below | inr from ↦ absurd (none u (l.left u p from may)) ]
+
+  -- where nothing may be to ask, nothing is
+  pub none_may : (views : BTreeSet ℕ) → 0 < m.length → ((u : ℕ) (p : Proposal D) → u < 2 ^ 64 → MayBeAsked m k u p → IsTrue (contains nat_cmp views u)) → ((u : ℕ) → IsTrue (contains nat_cmp views u) → ⊥)
+      → (u : ℕ) (p : Proposal D) → MayBeAsked m k u p → ⊥
+  none_may views some all none u p may = none u (all u p (fits u p some may) may)
+
+  module _ (none : (u : ℕ) (p : Proposal D) → MayBeAsked m k u p → ⊥) where
+    pub none_ready : AreReady m k []
+    none_ready = record {
+      exact = λ p. (λ there. absurd (Contains-nil p there), λ due. absurd (none p.round.view p (due_may p.round.view p due)));
+      ascend = λ i j d before small. absurd (omega (arith, small));
+    }
+
+    pub none_wanted : AreWanted m k []
+    none_wanted = record {
+      exact = λ f. (λ there. absurd (Contains-nil f there), λ wanted. let may = put_off_may f.proposal f.view (wanted_is_put_off f.proposal f.view wanted) in absurd (none f.proposal may.0 may.1));
+      ascend = λ i j d before small. absurd (omega (arith, small));
+    }
+
+    pub none_put_off : ArePutOff m k []
+    none_put_off = record {
+      exact = λ u. (λ there. absurd (Contains-nil u there), λ is. let may = put_off_may u is.0 is.1 in absurd (none u may.0 may.1));
+      ascend = λ i j d before small. absurd (omega (arith, small));
+    }

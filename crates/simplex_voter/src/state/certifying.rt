@@ -91,6 +91,8 @@ impl<S: Scheme<D> + Drop, L: Elector<S, D>, D: Digest> State<S, L, D> {
         ensures wanted { IfOk result (λ r. AtEach S.Scheme L.Elector self.old (λ s h. AreWanted (member s) (known s h) r.1.items)) }
     {
         if self.candidates.is_empty() {
+            // The proof takes from the number that a term has at least one view.
+            let _views = self.views.lookahead().length.get();
             return Ok((Vec::new(alloc), Vec::new(alloc)));
         }
         let candidates = mem::replace(&mut self.candidates, BTreeSet::new(alloc));

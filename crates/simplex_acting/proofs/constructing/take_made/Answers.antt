@@ -1,6 +1,5 @@
-use Rattle.std.proofs.Common.{◌∙◌, ◌++◌, ℕ, List, ap, refl}
+use Rattle.std.proofs.Common.{refl}
 use Rattle.std.proofs.lemmas.Result.{on_ok_weaker}
-use Rattle.simplex_certificates.specs.Certificate.{any_certificate_spelling}
 use Rattle.simplex_member.specs.Layers.{voter_of}
 use Rattle.simplex_member.specs.Packet.{formats}
 use Rattle.simplex_member.specs.Point.{Constructs}
@@ -10,4 +9,4 @@ pub returns-clause-acts : goal.returns-clause-acts
 returns-clause-acts g c = on_ok_weaker c.hand_certificate.result (λ acts s h view kind batch ahead may is.
     let f = formats {S = g.row.S.Denot} {P = g.row.S-PublicKey.Denot} g.D.PartialEq.eq g.D.Write.spelling g.S.Signature.Write.spelling g.S.Certificate.Write.spelling g.D.Read.reading g.S.Signature.Read.reading g.S.Certificate.Read.reading (g.S.Scheme.size s.voter.scheme) in
     acts f s h (Constructs view kind batch) refl (c.in-Ok.ensures.keeps s h view kind batch ahead may is) (c.current_view-was.ensures s.voter (voter_of s h) ahead.keeps.voter) (c.last_finalized-low.ensures.value s.voter (voter_of s h) ahead.keeps.voter)
-    (c.in-Ok-write.ensures.ok ∙ ap (λ (l : List ℕ). l ++ any_certificate_spelling g.D.Write.spelling g.S.Certificate.Write.spelling c.args.certificate) c.new-bytes.ensures.items)) c.hand_certificate.ensures.acts
+    c.in-Ok-spelled.ensures) c.hand_certificate.ensures.acts

@@ -1,6 +1,6 @@
 use Rattle.std.proofs.Common.{◌≡◌, List, ℕ, subst}
 use Rattle.simplex_cli.specs.Running.{BreaksOff}
-use Rattle.simplex_cli.proofs.Written.{IfSome-implies}
+use Rattle.simplex_cli.proofs.Implied.{IfSome-implies}
 use Rattle.simplex_cli.proofs.running.write_audit.Goals as goal
 
 pub returns-then-is_err-clause-broken_off : goal.returns-then-is_err-clause-broken_off

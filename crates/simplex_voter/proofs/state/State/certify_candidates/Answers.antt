@@ -1,10 +1,14 @@
-use Rattle.std.proofs.Common.{false, true, sym, subst}
+use Rattle.std.proofs.Common.{false, true, [], sym, subst, arith}
 use Rattle.std.specs.Prelude.{Contains}
 use Rattle.std.proofs.lemmas.Result.{IfOk-from_err}
 use Rattle.simplex_views.specs.Views as above
+use Rattle.simplex_history.specs.Known.{known}
+use Rattle.simplex_decisions.specs.Ancestry.{member}
 use Rattle.simplex_voter.specs.Candidates.{AreAmong, put_off}
 use Rattle.simplex_voter.specs.State.{Keeps}
+use Rattle.simplex_voter.proofs.Members.{nothing_in}
 use Rattle.simplex_voter.proofs.Owing.{put_off_owed}
+use Rattle.simplex_voter.proofs.Sorting.{none_may, none_put_off, none_ready, none_wanted}
 use Rattle.simplex_voter.proofs.Waking.{kept_among}
 use Rattle.simplex_voter.proofs.state.State.certify_candidates.Goals as goal
 
@@ -60,3 +64,24 @@ returns-in_err-keep-clause-ready g c = IfOk-from_err c.from_residual-in_err-keep
 
 pub returns-in_err-keep-clause-wanted : goal.returns-in_err-keep-clause-wanted
 returns-in_err-keep-clause-wanted g c = IfOk-from_err c.from_residual-in_err-keep.result _ c.from_residual-in_err-keep.ensures.0
+
+pub returns-then-is_empty-clause-keeps : goal.returns-then-is_empty-clause-keeps
+unfolding Keeps
+returns-then-is_empty-clause-keeps g c = λ s h k.
+    let some = rw (c.lookahead.ensures.length s h k.views) at c.get-views.ensures.at_least_one in
+    let none = none_may (member s) (known s h) c.args.self.now.candidates some k.candidates.all (nothing_in c.args.self.now.candidates (λ left. let length = c.is_empty.ensures.0 c.if-is_empty.true in omega (arith, length, left))) in
+    ([], none_put_off (member s) (known s h) none, k)
+
+pub returns-then-is_empty-clause-ready : goal.returns-then-is_empty-clause-ready
+unfolding Keeps
+returns-then-is_empty-clause-ready g c = λ s h k.
+    let some = rw (c.lookahead.ensures.length s h k.views) at c.get-views.ensures.at_least_one in
+    let none = none_may (member s) (known s h) c.args.self.now.candidates some k.candidates.all (nothing_in c.args.self.now.candidates (λ left. let length = c.is_empty.ensures.0 c.if-is_empty.true in omega (arith, length, left))) in
+    rw c.new.ensures.items (none_ready (member s) (known s h) none)
+
+pub returns-then-is_empty-clause-wanted : goal.returns-then-is_empty-clause-wanted
+unfolding Keeps
+returns-then-is_empty-clause-wanted g c = λ s h k.
+    let some = rw (c.lookahead.ensures.length s h k.views) at c.get-views.ensures.at_least_one in
+    let none = none_may (member s) (known s h) c.args.self.now.candidates some k.candidates.all (nothing_in c.args.self.now.candidates (λ left. let length = c.is_empty.ensures.0 c.if-is_empty.true in omega (arith, length, left))) in
+    rw c.new-then-is_empty.ensures.items (none_wanted (member s) (known s h) none)
