@@ -1,66 +1,40 @@
-//! The member of a script, whatever its scheme, whoever leads, and on whatever disk: at one of each the calls would cost
-//! the prover several times as much.
+//! The member of a script, whatever its scheme, whoever leads, on whatever disk, and whatever node plays it: at one of
+//! each the calls would cost the prover several times as much.
 
 ghost use Rattle.std.specs.Prelude.{◌≡◌, IfOk};
 
 use crate::faults::{say_fault, say_io_fault, say_open_fault};
 use crate::medium::Medium;
+use crate::seat::Seat;
 use crate::setup::Setup;
+use crate::spelling::{event_of, say_actions, say_reply};
 use crate::turns::Turns;
 use script_words::{Committee, Say, Trouble, Words};
-use simplex_events::{read_event, write_reply};
-use simplex_member::{Action, Event, Reply};
-use simplex_node::Node;
-use simplex_running::run_io;
-use simplex_types::{CodecError, Scheme, Sha256Digest};
+use simplex_types::{Scheme, Sha256Digest};
 use std::alloc::Global;
+use std::marker::PhantomData;
 use std::rc::Rc;
 
 /// A member with its disk, which the node has while it is open.
 #[derive(Drop)]
-pub(crate) struct Member<S: Committee, L: Turns<S>, K: Medium> {
+pub struct Member<S: Committee, L: Turns<S>, K: Medium, N: Seat<S, L, Sha256Digest, K>> {
     setup: Setup,
     disk: Option<K>,
-    node: Option<Node<S, L, Sha256Digest, K>>,
+    node: Option<N>,
+    scheme: PhantomData<S>,
+    elector: PhantomData<L>,
 }
 
-/// Says the bytes that spell a reply.
-fn say_reply<S: Committee>(reply: &Reply<S, Sha256Digest>, say: &mut Say) -> Result<(), Trouble> {
-    let mut bytes = Vec::new(say.alloc);
-    write_reply(&mut bytes, reply)?;
-    say.bytes(&bytes)
-}
-
-/// Says actions as a reply.
-fn say_actions<S: Committee>(
-    actions: Vec<Action<S, Sha256Digest>>,
-    say: &mut Say,
-) -> Result<(), Trouble> {
-    let reply = Reply {
-        refused: None,
-        actions,
-    };
-    say_reply(&reply, say)
-}
-
-/// The event that the bytes spell, none of them left, in a committee of so many.
-fn event_of(alloc: Global, bytes: &[u8], members: u32) -> Result<Event<Sha256Digest>, Trouble> {
-    let mut rest = bytes;
-    match read_event(alloc, &mut rest, members) {
-        Ok(event) if rest.is_empty() => Ok(event),
-        Err(CodecError::Memory) => Err(Trouble::Memory),
-        _ => Err(Trouble::Unreadable),
-    }
-}
-
-impl<S: Committee, L: Turns<S>, K: Medium> Member<S, L, K> {
+impl<S: Committee, L: Turns<S>, K: Medium, N: Seat<S, L, Sha256Digest, K>> Member<S, L, K, N> {
     /// A member that is set up so, with an empty disk. A committee that can't be is `condition`.
-    pub(crate) fn new(alloc: Global, setup: Setup) -> Result<Self, Trouble> {
+    pub fn new(alloc: Global, setup: Setup) -> Result<Self, Trouble> {
         S::member_of(alloc, setup.members, setup.me, 0)?;
         Ok(Member {
             setup,
             disk: Some(K::holding(alloc, &[])?),
             node: None,
+            scheme: PhantomData,
+            elector: PhantomData,
         })
     }
 
@@ -80,7 +54,7 @@ impl<S: Committee, L: Turns<S>, K: Medium> Member<S, L, K> {
     }
 
     /// The node that is open.
-    fn node(&mut self) -> Result<&mut Node<S, L, Sha256Digest, K>, Trouble> {
+    fn node(&mut self) -> Result<&mut N, Trouble> {
         match &mut self.node {
             Some(node) => Ok(node),
             None => Err(Trouble::Condition),
@@ -110,7 +84,7 @@ impl<S: Committee, L: Turns<S>, K: Medium> Member<S, L, K> {
         let Some(disk) = self.disk.take() else {
             return Err(Trouble::Condition);
         };
-        match Node::open(say.alloc, self.setup.config(), scheme, elector, disk, now) {
+        match N::open(say.alloc, self.setup.config(), scheme, elector, disk, now) {
             Ok((node, actions)) => {
                 self.node = Some(node);
                 say_actions(actions, say)
@@ -169,12 +143,11 @@ impl<S: Committee, L: Turns<S>, K: Medium> Member<S, L, K> {
 
     /// `stream EVENTS`: the replies, one behind the other, and behind them why that ended before the events did.
     fn stream(&mut self, words: &mut Words<'_>, say: &mut Say) -> Result<(), Trouble> {
-        let bytes = words.bytes(say.alloc)?;
+        let events = words.bytes(say.alloc)?;
         words.end()?;
-        let mut reader: &[u8] = &bytes;
-        let mut written = Vec::new(say.alloc);
-        let ran = run_io(say.alloc, self.node()?, &mut reader, &mut written);
-        say.bytes(&written)?;
+        let mut replies = Vec::new(say.alloc);
+        let ran = self.node()?.run(say.alloc, &events, &mut replies);
+        say.bytes(&replies)?;
         match ran {
             Ok(()) => Ok(()),
             Err(fault) => say_io_fault(fault, say),
@@ -211,7 +184,7 @@ impl<S: Committee, L: Turns<S>, K: Medium> Member<S, L, K> {
     }
 
     /// Makes the call of this name.
-    pub(crate) fn answer(
+    pub fn answer(
         &mut self,
         name: &str,
         words: &mut Words<'_>,

@@ -9,7 +9,7 @@ use simplex_types::{Scheme, Sha256Digest};
 use std::alloc::{AllocError, Global};
 
 /// What a script can have decide who leads.
-pub(crate) trait Turns<S: Scheme<Sha256Digest>>: Elector<S, Sha256Digest> {
+pub trait Turns<S: Scheme<Sha256Digest>>: Elector<S, Sha256Digest> {
     /// What decides among so many members that are set up so.
     fn among(alloc: Global, setup: &Setup, participants: u32) -> Result<Self, AllocError>
         requires { 0 < participants }
