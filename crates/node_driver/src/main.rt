@@ -4,19 +4,20 @@
 
 mod played;
 
-use crate::played::Played;
+use crate::played::NodeSeat;
 use script_node::Desk;
 use script_words::play;
 use simplex_journal::MemoryDisk;
+use simplex_node::Node;
 use simplex_rules::{RoundRobinElector, SaltedScheme};
 use simplex_types::{PlainScheme, Sha256Digest};
 use std::io;
 use std::process::ExitCode;
 
 /// The node of a script, by its scheme.
-type Playing<S> = Played<S, RoundRobinElector, Sha256Digest, MemoryDisk>;
+type Playing<S> = Node<S, RoundRobinElector, Sha256Digest, MemoryDisk>;
 
 fn main(rt: HostRuntime) -> ExitCode {
-    let mut desk = Desk::<Playing<PlainScheme>, Playing<SaltedScheme>>::Nothing;
+    let mut desk = Desk::<Playing<PlainScheme>, NodeSeat, Playing<SaltedScheme>, NodeSeat>::Nothing;
     ExitCode::from(play(rt.alloc(), &mut desk, rt.reader(), &mut io::writer(&rt)))
 }

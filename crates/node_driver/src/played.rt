@@ -1,11 +1,12 @@
 //! The node that scripts are played on.
 
-use script_node::Seat;
+ghost use Rattle.std.specs.Prelude.{◌≡◌, IfOk};
+
+use script_node::{Seat, Setup, Turns};
 use simplex_decisions::config::Config;
 use simplex_journal::Disk;
 use simplex_member::{Action, Event, IoFault, NodeFault, OpenFault, Reply};
 use simplex_node::Node;
-use simplex_rules::Elector;
 use simplex_running::run_io;
 use simplex_types::{Digest, Scheme, View};
 use std::alloc::Global;
@@ -14,48 +15,58 @@ use std::rc::Rc;
 /// A node of the product, whatever its scheme, whoever leads, and on whatever disk: at one of each the calls would cost the prover
 /// several times as much.
 #[derive(Drop)]
-pub(crate) struct Played<S: Scheme<D>, L: Elector<S, D>, D: Digest, K: Disk>(Node<S, L, D, K>);
+pub(crate) struct NodeSeat;
 
-impl<S: Scheme<D> + Drop, L: Elector<S, D>, D: Digest, K: Disk> Seat<S, L, D, K>
-    for Played<S, L, D, K> {
+impl<S: Scheme<D> + Drop, L: Turns<S, D>, D: Digest, K: Disk> Seat<
+    Config<D>,
+    S,
+    K,
+    Node<S, L, D, K>,
+    Event<D>,
+    Action<S, D>,
+    Reply<S, D>,
+> for NodeSeat {
     fn open(
         alloc: Global,
+        setup: &Setup,
         config: Config<D>,
         scheme: Rc<S>,
-        elector: L,
         disk: K,
         now: u64,
-    ) -> Result<(Self, Vec<Action<S, D>>), (OpenFault, K)>
-        requires { L.built_for elector (S.size scheme.value) }
-    {
-        match Node::open(alloc, config, scheme, elector, disk, now) {
-            Ok((node, actions)) => Ok((Played(node), actions)),
-            Err(refused) => Err(refused),
+    ) -> Result<(Node<S, L, D, K>, Vec<Action<S, D>>), (OpenFault, K)> {
+        match L::among(alloc, setup, scheme.participants()) {
+            Ok(elector) => Node::open(alloc, config, scheme, elector, disk, now),
+            Err(_) => Err((OpenFault::Memory, disk)),
         }
     }
 
-    fn step(&mut self, event: Event<D>) -> Result<Reply<S, D>, NodeFault> {
-        self.0.step(event)
+    fn step(node: &mut Node<S, L, D, K>, event: Event<D>) -> Result<Reply<S, D>, NodeFault> {
+        node.step(event)
     }
 
-    fn run(&mut self, alloc: Global, events: &[u8], replies: &mut Vec<u8>) -> Result<(), IoFault> {
+    fn run(
+        alloc: Global,
+        node: &mut Node<S, L, D, K>,
+        events: &[u8],
+        replies: &mut Vec<u8>,
+    ) -> Result<(), IoFault> {
         let mut reader = events;
-        run_io(alloc, &mut self.0, &mut reader, replies)
+        run_io(alloc, node, &mut reader, replies)
     }
 
-    fn current_view(&self) -> View {
-        self.0.current_view()
+    fn current_view(node: &Node<S, L, D, K>) -> View {
+        node.current_view()
     }
 
-    fn last_finalized(&self) -> View {
-        self.0.last_finalized()
+    fn last_finalized(node: &Node<S, L, D, K>) -> View {
+        node.last_finalized()
     }
 
-    fn is_failed(&self) -> bool {
-        self.0.is_failed()
+    fn is_failed(node: &Node<S, L, D, K>) -> bool {
+        node.is_failed()
     }
 
-    fn close(self) -> K {
-        self.0.close()
+    fn close(node: Node<S, L, D, K>) -> K {
+        node.close()
     }
 }

@@ -4,30 +4,48 @@ use crate::member::Member;
 use crate::seat::Seat;
 use crate::setup::Setup;
 use script_words::{Layer, Say, Trouble, Words};
+use simplex_decisions::config::Config;
 use simplex_journal::MemoryDisk;
-use simplex_rules::{RoundRobinElector, SaltedScheme};
+use simplex_member::{Action, Event, Reply};
+use simplex_rules::SaltedScheme;
 use simplex_types::{PlainScheme, Sha256Digest};
 use std::alloc::Global;
 
-/// The member of a script, played on a `P` where its scheme is `plain`, on a `Q` where it is `salted`.
+/// The member of a script: a `P` plays it by `T` where its scheme is `plain`, a `Q` by `U` where it is `salted`.
 #[derive(Drop)]
-pub enum Desk<P, Q>
-where
-    P: Seat<PlainScheme, RoundRobinElector, Sha256Digest, MemoryDisk>,
-    Q: Seat<SaltedScheme, RoundRobinElector, Sha256Digest, MemoryDisk>,
-{
+pub enum Desk<P, T, Q, U> {
     /// Before the first `reset`.
     Nothing,
     /// Of the plain scheme.
-    Plain(Member<PlainScheme, RoundRobinElector, MemoryDisk, P>),
+    Plain(Member<PlainScheme, MemoryDisk, P, T>),
     /// Of the salted scheme.
-    Salted(Member<SaltedScheme, RoundRobinElector, MemoryDisk, Q>),
+    Salted(Member<SaltedScheme, MemoryDisk, Q, U>),
 }
 
-impl<P, Q> Layer for Desk<P, Q>
+impl<P, T, Q, U> Layer for Desk<P, T, Q, U>
 where
-    P: Seat<PlainScheme, RoundRobinElector, Sha256Digest, MemoryDisk>,
-    Q: Seat<SaltedScheme, RoundRobinElector, Sha256Digest, MemoryDisk>,
+    P: Drop,
+    T: Seat<
+        Config<Sha256Digest>,
+        PlainScheme,
+        MemoryDisk,
+        P,
+        Event<Sha256Digest>,
+        Action<PlainScheme, Sha256Digest>,
+        Reply<PlainScheme, Sha256Digest>,
+    >
+        + Drop,
+    Q: Drop,
+    U: Seat<
+        Config<Sha256Digest>,
+        SaltedScheme,
+        MemoryDisk,
+        Q,
+        Event<Sha256Digest>,
+        Action<SaltedScheme, Sha256Digest>,
+        Reply<SaltedScheme, Sha256Digest>,
+    >
+        + Drop,
 {
     fn reset(&mut self, words: &mut Words<'_>, alloc: Global) -> Result<(), Trouble> {
         if words.word() != "node" {

@@ -30,4 +30,5 @@ mod turns;
 pub use desk::Desk;
 pub use medium::Medium;
 pub use seat::Seat;
+pub use setup::Setup;
 pub use turns::Turns;

@@ -1,31 +1,41 @@
-//! The member of a script, whatever its scheme, whoever leads, on whatever disk, and whatever node plays it: at one of
-//! each the calls would cost the prover several times as much.
-
-ghost use Rattle.std.specs.Prelude.{◌≡◌, IfOk};
+//! The member of a script, whatever its scheme, on whatever disk, and whatever node plays it: at one of each the calls would
+//! cost the prover several times as much.
 
 use crate::faults::{say_fault, say_io_fault, say_open_fault};
 use crate::medium::Medium;
 use crate::seat::Seat;
 use crate::setup::Setup;
 use crate::spelling::{event_of, say_actions, say_reply};
-use crate::turns::Turns;
 use script_words::{Committee, Say, Trouble, Words};
-use simplex_types::{Scheme, Sha256Digest};
+use simplex_decisions::config::Config;
+use simplex_member::{Action, Event, Reply};
+use simplex_types::Sha256Digest;
 use std::alloc::Global;
 use std::marker::PhantomData;
 use std::rc::Rc;
 
 /// A member with its disk, which the node has while it is open.
 #[derive(Drop)]
-pub struct Member<S: Committee, L: Turns<S>, K: Medium, N: Seat<S, L, Sha256Digest, K>> {
+pub struct Member<S, K, N, T> {
     setup: Setup,
     disk: Option<K>,
     node: Option<N>,
     scheme: PhantomData<S>,
-    elector: PhantomData<L>,
+    seat: PhantomData<T>,
 }
 
-impl<S: Committee, L: Turns<S>, K: Medium, N: Seat<S, L, Sha256Digest, K>> Member<S, L, K, N> {
+impl<S: Committee, K: Medium, N: Drop, T> Member<S, K, N, T>
+where
+    T: Seat<
+        Config<Sha256Digest>,
+        S,
+        K,
+        N,
+        Event<Sha256Digest>,
+        Action<S, Sha256Digest>,
+        Reply<S, Sha256Digest>,
+    >,
+{
     /// A member that is set up so, with an empty disk. A committee that can't be is `condition`.
     pub fn new(alloc: Global, setup: Setup) -> Result<Self, Trouble> {
         S::member_of(alloc, setup.members, setup.me, 0)?;
@@ -34,14 +44,14 @@ impl<S: Committee, L: Turns<S>, K: Medium, N: Seat<S, L, Sha256Digest, K>> Membe
             disk: Some(K::holding(alloc, &[])?),
             node: None,
             scheme: PhantomData,
-            elector: PhantomData,
+            seat: PhantomData,
         })
     }
 
     /// Closes the node that is open.
     fn close(&mut self) {
         if let Some(node) = self.node.take() {
-            self.disk = Some(node.close());
+            self.disk = Some(T::close(node));
         }
     }
 
@@ -67,24 +77,16 @@ impl<S: Committee, L: Turns<S>, K: Medium, N: Seat<S, L, Sha256Digest, K>> Membe
         words.end()?;
         self.close();
         let scheme = S::member_of(say.alloc, self.setup.members, self.setup.me, 0)?;
-        let elector = L::among(say.alloc, &self.setup, scheme.participants())?;
-        self.open_with(Rc::new(say.alloc, scheme)?, elector, now, say)
+        self.open_as(Rc::new(say.alloc, scheme)?, now, say)
     }
 
     /// Opens the disk as this member.
-    fn open_with(
-        &mut self,
-        scheme: Rc<S>,
-        elector: L,
-        now: u64,
-        say: &mut Say,
-    ) -> Result<(), Trouble>
-        requires { L.built_for elector (S.size scheme.value) }
-    {
+    fn open_as(&mut self, scheme: Rc<S>, now: u64, say: &mut Say) -> Result<(), Trouble> {
         let Some(disk) = self.disk.take() else {
             return Err(Trouble::Condition);
         };
-        match N::open(say.alloc, self.setup.config(), scheme, elector, disk, now) {
+        let config = self.setup.config();
+        match T::open(say.alloc, &self.setup, config, scheme, disk, now) {
             Ok((node, actions)) => {
                 self.node = Some(node);
                 say_actions(actions, say)
@@ -99,7 +101,7 @@ impl<S: Committee, L: Turns<S>, K: Medium, N: Seat<S, L, Sha256Digest, K>> Membe
     /// What the node that is open answers to an event.
     fn step(&mut self, bytes: &[u8], say: &mut Say) -> Result<(), Trouble> {
         let event = event_of(say.alloc, bytes, self.setup.members)?;
-        match self.node()?.step(event) {
+        match T::step(self.node()?, event) {
             Ok(reply) => say_reply(&reply, say),
             Err(fault) => say_fault(fault, say),
         }
@@ -146,7 +148,7 @@ impl<S: Committee, L: Turns<S>, K: Medium, N: Seat<S, L, Sha256Digest, K>> Membe
         let events = words.bytes(say.alloc)?;
         words.end()?;
         let mut replies = Vec::new(say.alloc);
-        let ran = self.node()?.run(say.alloc, &events, &mut replies);
+        let ran = T::run(say.alloc, self.node()?, &events, &mut replies);
         say.bytes(&replies)?;
         match ran {
             Ok(()) => Ok(()),
@@ -214,9 +216,9 @@ impl<S: Committee, L: Turns<S>, K: Medium, N: Seat<S, L, Sha256Digest, K>> Membe
         words.end()?;
         let node = self.node()?;
         match name {
-            "current_view" => say.view(node.current_view()),
-            "last_finalized" => say.view(node.last_finalized()),
-            "is_failed" => say.truth(node.is_failed()),
+            "current_view" => say.view(T::current_view(node)),
+            "last_finalized" => say.view(T::last_finalized(node)),
+            "is_failed" => say.truth(T::is_failed(node)),
             _ => Err(Trouble::Unreadable),
         }
     }
