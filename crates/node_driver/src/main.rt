@@ -4,20 +4,21 @@
 
 mod played;
 
-use crate::played::NodeSeat;
-use script_node::Desk;
-use script_words::play;
+use crate::played::play_nodes;
 use simplex_journal::MemoryDisk;
-use simplex_node::Node;
 use simplex_rules::{RoundRobinElector, SaltedScheme};
-use simplex_types::{PlainScheme, Sha256Digest};
+use simplex_types::PlainScheme;
 use std::io;
 use std::process::ExitCode;
 
-/// The node of a script, by its scheme.
-type Playing<S> = Node<S, RoundRobinElector, Sha256Digest, MemoryDisk>;
-
 fn main(rt: HostRuntime) -> ExitCode {
-    let mut desk = Desk::<Playing<PlainScheme>, NodeSeat, Playing<SaltedScheme>, NodeSeat>::Nothing;
-    ExitCode::from(play(rt.alloc(), &mut desk, rt.reader(), &mut io::writer(&rt)))
+    ExitCode::from(play_nodes::<
+        PlainScheme,
+        SaltedScheme,
+        RoundRobinElector,
+        RoundRobinElector,
+        MemoryDisk,
+        _,
+        _,
+    >(rt.alloc(), rt.reader(), &mut io::writer(&rt)))
 }

@@ -2,20 +2,22 @@
 
 ghost use Rattle.std.specs.Prelude.{◌≡◌, IfOk};
 
-use script_node::{Seat, Setup, Turns};
+use script_node::{Medium, Seat, Setup, Turns, play_on};
+use script_words::Committee;
 use simplex_decisions::config::Config;
 use simplex_journal::Disk;
 use simplex_member::{Action, Event, IoFault, NodeFault, OpenFault, Reply};
 use simplex_node::Node;
 use simplex_running::run_io;
-use simplex_types::{Digest, Scheme, View};
+use simplex_types::{Digest, Scheme, Sha256Digest, View};
 use std::alloc::Global;
+use std::io::{Read, Write};
 use std::rc::Rc;
 
 /// A node of the product, whatever its scheme, whoever leads, and on whatever disk: at one of each the calls would cost the prover
 /// several times as much.
 #[derive(Drop)]
-pub(crate) struct NodeSeat;
+struct NodeSeat;
 
 impl<S: Scheme<D> + Drop, L: Turns<S, D>, D: Digest, K: Disk> Seat<
     Config<D>,
@@ -69,4 +71,29 @@ impl<S: Scheme<D> + Drop, L: Turns<S, D>, D: Digest, K: Disk> Seat<
     fn close(node: Node<S, L, D, K>) -> K {
         node.close()
     }
+}
+
+/// Plays a script on nodes over disks `K`, and gives the status to end with: a member's scheme is `S` where it is called `plain`, and
+/// `L` says who leads; where it is called `salted` these are `Z` and `M`.
+pub(crate) fn play_nodes<S, Z, L, M, K, R, W>(alloc: Global, input: R, output: &mut W) -> u8
+where
+    S: Committee,
+    Z: Committee,
+    L: Turns<S, Sha256Digest>,
+    M: Turns<Z, Sha256Digest>,
+    K: Medium,
+    R: Read + Drop,
+    W: Write,
+{
+    play_on::<
+        S,
+        Z,
+        K,
+        Node<S, L, Sha256Digest, K>,
+        NodeSeat,
+        Node<Z, M, Sha256Digest, K>,
+        NodeSeat,
+        R,
+        W,
+    >(alloc, input, output)
 }

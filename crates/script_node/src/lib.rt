@@ -27,7 +27,7 @@ mod setup;
 mod spelling;
 mod turns;
 
-pub use desk::Desk;
+pub use desk::play_on;
 pub use medium::Medium;
 pub use seat::Seat;
 pub use setup::Setup;
