@@ -24,6 +24,12 @@ pub(crate) enum Status {
     Refused,
     /// An entry of a record is no artifact.
     Foreign,
+    /// A record's device failed.
+    Device,
+    /// A stream could not be read.
+    Read,
+    /// A stream could not be written.
+    Write,
 }
 
 impl Status {
@@ -42,6 +48,9 @@ impl Status {
             Status::TooLong => 6,
             Status::Refused => 7,
             Status::Foreign => 8,
+            Status::Device => 9,
+            Status::Read => 10,
+            Status::Write => 11,
         }
     }
 }
