@@ -1,6 +1,6 @@
 //! The record on its disk: the one place where it grows.
 
-ghost use Rattle.std.specs.Prelude.{◌≡◌, ◌≢◌, ◌↔◌, ◌⊎◌, ◌++◌, ◌∷◌, [], ℕ, List, map, false, IfOk, IfErr, OnOk, IsErrOf};
+ghost use Rattle.std.specs.Prelude.{◌≡◌, ◌≢◌, ◌↔◌, ◌⊎◌, ◌++◌, ◌∷◌, [], ℕ, List, map, true, false, IfOk, IfErr, OnOk, IsErrOf};
 ghost use Rattle.simplex_codec.specs.Codec.{Readable};
 ghost use Rattle.simplex_certificates.specs.Artifact.{artifact_spelling, artifact_within};
 ghost use Rattle.simplex_certificates.specs.declared.artifact.Artifact.{Artifact};
@@ -9,6 +9,7 @@ ghost use Rattle.simplex_record.specs.Record.{entry, entries};
 ghost use Rattle.simplex_record.specs.Rules.{MayFollow};
 ghost use Rattle.simplex_journal.specs.declared.fault.JournalFault.TheVariants as journal_fault;
 ghost use Rattle.simplex_journal.specs.Disk.{LeavesOnly, counted};
+ghost use Rattle.simplex_journal.specs.Journal.{IsRecord};
 ghost use Rattle.simplex_journal.specs.Record.{IsForeign, IsReopened, IsWithOrWithout};
 ghost use Rattle.simplex_member.specs.declared.fault.NodeFault.{NodeFault};
 ghost use Rattle.simplex_member.specs.declared.fault.NodeFault.TheVariants as step_fault;
@@ -21,7 +22,7 @@ use simplex_certificates::Artifact;
 use simplex_journal::{Disk, Journal, JournalFault};
 use simplex_member::{NodeFault, OpenFault};
 use simplex_record::Owner;
-use simplex_types::{Digest, Read, Scheme, Write};
+use simplex_types::{Digest, EncodeSize, Read, Scheme, Write};
 use std::alloc::Global;
 
 /// What a member has recorded, and the disk that it stands on.
@@ -91,16 +92,13 @@ impl<S: Scheme<D>, D: Digest, K: Disk> Ledger<S, D, K> {
         let Ok(()) = self.recorded.reserve() else {
             return Err(NodeFault::Memory);
         };
-        match self.journal.append(&artifact) {
-            Ok(()) => {}
-            Err(JournalFault::Device) => return Err(NodeFault::Device),
-            Err(JournalFault::Failed) => return Err(NodeFault::Failed),
-            Err(_) => return Err(NodeFault::Memory),
+        match append(&mut self.journal, &artifact) {
+            Ok(()) => match self.recorded.add(artifact) {
+                Ok(()) => Ok(()),
+                Err(_) => Err(NodeFault::Memory),
+            },
+            Err(fault) => Err(fault),
         }
-        let Ok(()) = self.recorded.add(artifact) else {
-            return Err(NodeFault::Memory);
-        };
-        Ok(())
     }
 
     /// What is recorded.
@@ -115,6 +113,28 @@ impl<S: Scheme<D>, D: Digest, K: Disk> Ledger<S, D, K> {
         ensures { result ≡ disk_of self }
     {
         self.journal.close()
+    }
+}
+
+/// Has a journal take a message, and tells a fault as a node does.
+fn append<M: Read + EncodeSize + Drop, K: Disk>(
+    journal: &mut Journal<M, K>,
+    message: &M,
+) -> Result<(), NodeFault>
+    requires within { M.within 65535 message.now }
+    ensures record { OnOk result ((messages : List M) → K.keeps → IsRecord M.spelling K.seen K.calls journal.old messages → IsRecord M.spelling K.seen K.calls journal.new (messages ++ message.now ∷ [])) }
+    ensures any_moment { (messages : List M) → K.keeps → IsRecord M.spelling K.seen K.calls journal.old messages → LeavesOnly (K.calls journal.old.disk) (K.calls journal.new.disk) (IsWithOrWithout (map M.spelling messages) (M.spelling message.now)) }
+    ensures stays_open { OnOk result (journal.new.failed ≡ false) }
+    ensures device { IsErrOf result NodeFault.Device → K.failed journal.new.disk ≡ counted false (K.failed journal.old.disk) }
+    ensures no_device { IfErr result (λ why. why ≢ step_fault.Device → K.failed journal.new.disk ≡ K.failed journal.old.disk) }
+    ensures no_fault { OnOk result (K.failed journal.new.disk ≡ K.failed journal.old.disk) }
+    ensures failed { IsErrOf result NodeFault.Failed → journal.old.failed ≡ true }
+{
+    match journal.append(message) {
+        Ok(()) => Ok(()),
+        Err(JournalFault::Device) => Err(NodeFault::Device),
+        Err(JournalFault::Failed) => Err(NodeFault::Failed),
+        Err(_) => Err(NodeFault::Memory),
     }
 }
 

@@ -11,6 +11,7 @@ ghost use Rattle.simplex_record.specs.Rules.{MayFollow};
 ghost use Rattle.simplex_record.specs.Lawful.{IsLawful, IsRefusedAt};
 ghost use Rattle.simplex_member.specs.declared.fault.OpenFault.TheVariants as fault;
 ghost use Rattle.simplex_member.specs.Recorded.{finalization_in, notarization_in};
+ghost use Rattle.simplex_recording.specs.Noting.{HasNoted};
 ghost use Rattle.simplex_recording.specs.Places.{at_place};
 ghost use Rattle.simplex_recording.specs.Recorded.{AtEach, HasLike, HasNoNullify, HoldsRecord, IsLastNullifyOf};
 
@@ -82,10 +83,27 @@ impl<S: Scheme<D>, D: Digest> Recorded<S, D> {
     pub(crate) fn add(&mut self, artifact: Artifact<S, D>) -> Result<(), AllocError>
         ensures { OnOk result ((owner : Owner) (xs : List (Artifact S D S.PublicKey S.Signature S.Certificate)) → HoldsRecord owner self.old xs → MayFollow owner.term_length (entries xs) (entry artifact) → HoldsRecord owner self.new (xs ++ artifact ∷ [])) }
     {
-        self.places.add(self.artifacts.len(), &artifact)?;
-        self.standing.add(self.term_length, &artifact)?;
-        self.artifacts.push(artifact)?;
-        Ok(())
+        match self.note(&artifact) {
+            Ok(()) => match self.artifacts.push(artifact) {
+                Ok(()) => Ok(()),
+                Err(_) => Err(AllocError),
+            },
+            Err(error) => Err(error),
+        }
+    }
+
+    /// Notes what an artifact tells that is about to stand behind the others.
+    fn note(&mut self, artifact: &Artifact<S, D>) -> Result<(), AllocError>
+        ensures { OnOk result ((owner : Owner) (xs : List (Artifact S D S.PublicKey S.Signature S.Certificate)) → HoldsRecord owner self.old xs → MayFollow owner.term_length (entries xs) (entry artifact.now) → HasNoted owner self.new xs artifact.now) }
+    {
+        match self.places.add(self.artifacts.len(), artifact) {
+            Ok(()) => {}
+            Err(error) => return Err(error),
+        }
+        match self.standing.add(self.term_length, artifact) {
+            Ok(_) => Ok(()),
+            Err(error) => Err(error),
+        }
     }
 
     /// All of it, the oldest first.

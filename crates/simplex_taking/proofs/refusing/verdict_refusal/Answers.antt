@@ -1,4 +1,5 @@
-use Rattle.std.proofs.Common.{inl, inr, refl}
+use Rattle.std.proofs.Common.{inl, inr, refl, sym, ◌∙◌}
+use Rattle.std.proofs.lemmas.Bool.{false≢true}
 use Rattle.simplex_member.specs.Asked.{IsJudged}
 use Rattle.simplex_member.specs.Recorded.{record_of}
 use Rattle.simplex_member.specs.Setup.{owner_of}
@@ -11,15 +12,15 @@ returns-then-is_judged-clause-first g c = λ s h k ok.
 
 pub returns-then-not-awaits-clause-first : goal.returns-then-not-awaits-clause-first
 returns-then-not-awaits-clause-first g c = λ s h k ok.
-    let unjudged : IsJudged h c.args.view → ⊥ = λ judged. absurd (cc ((c.is_judged.ensures (owner_of s) (record_of h) (c.recorded.ensures (owner_of s) (record_of h) k.ledger)).1 judged, c.if-is_judged.false)) in
-    inl ((unjudged, λ awaited. absurd (cc ((c.awaits.ensures.awaited s h k.tables unjudged).1 awaited, c.if-not-awaits.true))), refl)
+    let unjudged : IsJudged h c.args.view → ⊥ = λ judged. false≢true (sym c.if-is_judged.false ∙ (c.is_judged.ensures (owner_of s) (record_of h) (c.recorded.ensures (owner_of s) (record_of h) k.ledger)).1 judged) in
+    inl ((unjudged, λ awaited. false≢true (sym c.if-not-awaits.true ∙ (c.awaits.ensures.awaited s h k.tables unjudged).1 awaited)), refl)
 
 pub returns-clause-first : goal.returns-clause-first
 returns-clause-first g c = λ s h k ok.
-    let unjudged : IsJudged h c.args.view → ⊥ = λ judged. absurd (cc ((c.is_judged.ensures (owner_of s) (record_of h) (c.recorded.ensures (owner_of s) (record_of h) k.ledger)).1 judged, c.if-is_judged.false)) in
+    let unjudged : IsJudged h c.args.view → ⊥ = λ judged. false≢true (sym c.if-is_judged.false ∙ (c.is_judged.ensures (owner_of s) (record_of h) (c.recorded.ensures (owner_of s) (record_of h) k.ledger)).1 judged) in
     inr (λ both. both.1 ((c.awaits.ensures.awaited s h k.tables unjudged).0 c.if-not-awaits.false), inr (unjudged, refl))
 
 pub returns-clause-may : goal.returns-clause-may
 returns-clause-may g c = λ s h k.
-    let unjudged : IsJudged h c.args.view → ⊥ = λ judged. absurd (cc ((c.is_judged.ensures (owner_of s) (record_of h) (c.recorded.ensures (owner_of s) (record_of h) k.ledger)).1 judged, c.if-is_judged.false)) in
+    let unjudged : IsJudged h c.args.view → ⊥ = λ judged. false≢true (sym c.if-is_judged.false ∙ (c.is_judged.ensures (owner_of s) (record_of h) (c.recorded.ensures (owner_of s) (record_of h) k.ledger)).1 judged) in
     (c.awaits.ensures.awaited s h k.tables unjudged).0 c.if-not-awaits.false

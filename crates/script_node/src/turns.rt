@@ -5,19 +5,19 @@ ghost use Rattle.std.specs.Prelude.{◌<◌, IfOk};
 use crate::setup::Setup;
 use simplex_rules::RoundRobinElector;
 use simplex_rules::elector::{Config, Elector};
-use simplex_types::{Scheme, Sha256Digest};
+use simplex_types::{Digest, Scheme};
 use std::alloc::{AllocError, Global};
 
 /// What a script can have decide who leads.
-pub(crate) trait Turns<S: Scheme<Sha256Digest>>: Elector<S, Sha256Digest> {
+pub trait Turns<S: Scheme<D>, D: Digest>: Elector<S, D> {
     /// What decides among so many members that are set up so.
     fn among(alloc: Global, setup: &Setup, participants: u32) -> Result<Self, AllocError>
         requires { 0 < participants }
         ensures { IfOk result (λ e. Self.built_for e participants) };
 }
 
-impl<S: Scheme<Sha256Digest>> Turns<S> for RoundRobinElector {
+impl<S: Scheme<D>, D: Digest> Turns<S, D> for RoundRobinElector {
     fn among(alloc: Global, setup: &Setup, participants: u32) -> Result<Self, AllocError> {
-        Config::<S, Sha256Digest>::build(&setup.rotation(), alloc, participants)
+        Config::<S, D>::build(&setup.rotation(), alloc, participants)
     }
 }

@@ -4,7 +4,7 @@ use simplex_journal::{Disk, MemoryDisk};
 use std::alloc::{AllocError, Global};
 
 /// A disk that a script fills, and has fail.
-pub(crate) trait Medium: Disk {
+pub trait Medium: Disk {
     /// One that holds these bytes.
     fn holding(alloc: Global, bytes: &[u8]) -> Result<Self, AllocError>;
 

@@ -1,73 +1,57 @@
-//! The member of a script, whatever its scheme, whoever leads, and on whatever disk: at one of each the calls would cost
-//! the prover several times as much.
-
-ghost use Rattle.std.specs.Prelude.{◌≡◌, IfOk};
+//! The member of a script, whatever its scheme, on whatever disk, and whatever node plays it: at one of each the calls would
+//! cost the prover several times as much.
 
 use crate::faults::{say_fault, say_io_fault, say_open_fault};
 use crate::medium::Medium;
+use crate::seat::Seat;
 use crate::setup::Setup;
-use crate::turns::Turns;
+use crate::spelling::{event_of, say_actions, say_reply};
 use script_words::{Committee, Say, Trouble, Words};
-use simplex_events::{read_event, write_reply};
+use simplex_decisions::config::Config;
 use simplex_member::{Action, Event, Reply};
-use simplex_node::Node;
-use simplex_running::run_io;
-use simplex_types::{CodecError, Scheme, Sha256Digest};
+use simplex_types::Sha256Digest;
 use std::alloc::Global;
+use std::marker::PhantomData;
 use std::rc::Rc;
 
 /// A member with its disk, which the node has while it is open.
 #[derive(Drop)]
-pub(crate) struct Member<S: Committee, L: Turns<S>, K: Medium> {
+pub struct Member<S, K, N, T> {
     setup: Setup,
     disk: Option<K>,
-    node: Option<Node<S, L, Sha256Digest, K>>,
+    node: Option<N>,
+    scheme: PhantomData<S>,
+    seat: PhantomData<T>,
 }
 
-/// Says the bytes that spell a reply.
-fn say_reply<S: Committee>(reply: &Reply<S, Sha256Digest>, say: &mut Say) -> Result<(), Trouble> {
-    let mut bytes = Vec::new(say.alloc);
-    write_reply(&mut bytes, reply)?;
-    say.bytes(&bytes)
-}
-
-/// Says actions as a reply.
-fn say_actions<S: Committee>(
-    actions: Vec<Action<S, Sha256Digest>>,
-    say: &mut Say,
-) -> Result<(), Trouble> {
-    let reply = Reply {
-        refused: None,
-        actions,
-    };
-    say_reply(&reply, say)
-}
-
-/// The event that the bytes spell, none of them left, in a committee of so many.
-fn event_of(alloc: Global, bytes: &[u8], members: u32) -> Result<Event<Sha256Digest>, Trouble> {
-    let mut rest = bytes;
-    match read_event(alloc, &mut rest, members) {
-        Ok(event) if rest.is_empty() => Ok(event),
-        Err(CodecError::Memory) => Err(Trouble::Memory),
-        _ => Err(Trouble::Unreadable),
-    }
-}
-
-impl<S: Committee, L: Turns<S>, K: Medium> Member<S, L, K> {
+impl<S: Committee, K: Medium, N: Drop, T> Member<S, K, N, T>
+where
+    T: Seat<
+        Config<Sha256Digest>,
+        S,
+        K,
+        N,
+        Event<Sha256Digest>,
+        Action<S, Sha256Digest>,
+        Reply<S, Sha256Digest>,
+    >,
+{
     /// A member that is set up so, with an empty disk. A committee that can't be is `condition`.
-    pub(crate) fn new(alloc: Global, setup: Setup) -> Result<Self, Trouble> {
+    pub fn new(alloc: Global, setup: Setup) -> Result<Self, Trouble> {
         S::member_of(alloc, setup.members, setup.me, 0)?;
         Ok(Member {
             setup,
             disk: Some(K::holding(alloc, &[])?),
             node: None,
+            scheme: PhantomData,
+            seat: PhantomData,
         })
     }
 
     /// Closes the node that is open.
     fn close(&mut self) {
         if let Some(node) = self.node.take() {
-            self.disk = Some(node.close());
+            self.disk = Some(T::close(node));
         }
     }
 
@@ -80,7 +64,7 @@ impl<S: Committee, L: Turns<S>, K: Medium> Member<S, L, K> {
     }
 
     /// The node that is open.
-    fn node(&mut self) -> Result<&mut Node<S, L, Sha256Digest, K>, Trouble> {
+    fn node(&mut self) -> Result<&mut N, Trouble> {
         match &mut self.node {
             Some(node) => Ok(node),
             None => Err(Trouble::Condition),
@@ -93,24 +77,16 @@ impl<S: Committee, L: Turns<S>, K: Medium> Member<S, L, K> {
         words.end()?;
         self.close();
         let scheme = S::member_of(say.alloc, self.setup.members, self.setup.me, 0)?;
-        let elector = L::among(say.alloc, &self.setup, scheme.participants())?;
-        self.open_with(Rc::new(say.alloc, scheme)?, elector, now, say)
+        self.open_as(Rc::new(say.alloc, scheme)?, now, say)
     }
 
     /// Opens the disk as this member.
-    fn open_with(
-        &mut self,
-        scheme: Rc<S>,
-        elector: L,
-        now: u64,
-        say: &mut Say,
-    ) -> Result<(), Trouble>
-        requires { L.built_for elector (S.size scheme.value) }
-    {
+    fn open_as(&mut self, scheme: Rc<S>, now: u64, say: &mut Say) -> Result<(), Trouble> {
         let Some(disk) = self.disk.take() else {
             return Err(Trouble::Condition);
         };
-        match Node::open(say.alloc, self.setup.config(), scheme, elector, disk, now) {
+        let config = self.setup.config();
+        match T::open(say.alloc, &self.setup, config, scheme, disk, now) {
             Ok((node, actions)) => {
                 self.node = Some(node);
                 say_actions(actions, say)
@@ -125,7 +101,7 @@ impl<S: Committee, L: Turns<S>, K: Medium> Member<S, L, K> {
     /// What the node that is open answers to an event.
     fn step(&mut self, bytes: &[u8], say: &mut Say) -> Result<(), Trouble> {
         let event = event_of(say.alloc, bytes, self.setup.members)?;
-        match self.node()?.step(event) {
+        match T::step(self.node()?, event) {
             Ok(reply) => say_reply(&reply, say),
             Err(fault) => say_fault(fault, say),
         }
@@ -169,12 +145,11 @@ impl<S: Committee, L: Turns<S>, K: Medium> Member<S, L, K> {
 
     /// `stream EVENTS`: the replies, one behind the other, and behind them why that ended before the events did.
     fn stream(&mut self, words: &mut Words<'_>, say: &mut Say) -> Result<(), Trouble> {
-        let bytes = words.bytes(say.alloc)?;
+        let events = words.bytes(say.alloc)?;
         words.end()?;
-        let mut reader: &[u8] = &bytes;
-        let mut written = Vec::new(say.alloc);
-        let ran = run_io(say.alloc, self.node()?, &mut reader, &mut written);
-        say.bytes(&written)?;
+        let mut replies = Vec::new(say.alloc);
+        let ran = T::run(say.alloc, self.node()?, &events, &mut replies);
+        say.bytes(&replies)?;
         match ran {
             Ok(()) => Ok(()),
             Err(fault) => say_io_fault(fault, say),
@@ -211,7 +186,7 @@ impl<S: Committee, L: Turns<S>, K: Medium> Member<S, L, K> {
     }
 
     /// Makes the call of this name.
-    pub(crate) fn answer(
+    pub fn answer(
         &mut self,
         name: &str,
         words: &mut Words<'_>,
@@ -241,9 +216,9 @@ impl<S: Committee, L: Turns<S>, K: Medium> Member<S, L, K> {
         words.end()?;
         let node = self.node()?;
         match name {
-            "current_view" => say.view(node.current_view()),
-            "last_finalized" => say.view(node.last_finalized()),
-            "is_failed" => say.truth(node.is_failed()),
+            "current_view" => say.view(T::current_view(node)),
+            "last_finalized" => say.view(T::last_finalized(node)),
+            "is_failed" => say.truth(T::is_failed(node)),
             _ => Err(Trouble::Unreadable),
         }
     }

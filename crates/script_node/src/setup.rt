@@ -7,7 +7,7 @@ use simplex_types::{Epoch, Participant, Sha256Digest, TermLength, ViewDelta};
 
 /// A member of a committee of so many, and how it is set up.
 #[derive(Clone, Copy)]
-pub(crate) struct Setup {
+pub struct Setup {
     pub(crate) members: u32,
     pub(crate) me: Option<Participant>,
     epoch: Epoch,

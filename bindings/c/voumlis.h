@@ -1,0 +1,140 @@
+/* Voumlis for C: the audit of reports, the check of a record, the reading of a message, and a member's node.
+ *
+ * Link libsimplex_c.a (`cd crates/simplex_c && rt lib` makes it) and what it asks of the system, which two archives of
+ * the toolchain have, or a program of yours: docs/EMBEDDING.md.
+ *
+ * WHAT IS TESTED. Each function below is C, and tests what can be tested before it calls the proved one of that name: that
+ * no pointer is null where a length isn't 0, that no length is beyond half of the address space, that `found` is aligned,
+ * and that what is written to doesn't overlap what is read or written beside it. Where that fails it answers
+ * VOUMLIS_ARGUMENT, and nothing was read or written. Any numbers and any bytes are answered.
+ *
+ * WHAT A CALLER OWES, for no program in C can test it: each pointer is to as many bytes as the length behind it says; what
+ * is written to (`evidence`, `found`) is the caller's, and nothing else reads or writes it during the call; what is read
+ * isn't written meanwhile. No function is called from a signal handler, or from a forked child of a process with threads.
+ *
+ * WHAT IS KEPT. Nothing. No function holds a pointer after it returns, hands out memory, or has state: any number of threads
+ * may call at once. Memory that a call takes it gives back before it returns.
+ *
+ * WHAT IS TRUSTED. That these declarations fit the library's (nothing compares them), the tests of this file, and what a
+ * caller owes. */
+#ifndef VOUMLIS_H
+#define VOUMLIS_H
+
+#include <stddef.h>
+#include <stdint.h>
+
+#ifdef __cplusplus
+extern "C" {
+#endif
+
+/* How a call ended. */
+enum voumlis_status {
+    VOUMLIS_DONE = 0,     /* it did what was asked */
+    VOUMLIS_MEMORY = 1,   /* memory ran out; `found` means nothing */
+    VOUMLIS_ARGUMENT = 2, /* an argument that can't be answered; `found` means nothing */
+    VOUMLIS_ROOM = 3,     /* the buffer has no room: `found->length` is what is needed; the buffer is as it was */
+    VOUMLIS_END = 4,      /* the bytes end within a value */
+    VOUMLIS_INVALID = 5,  /* a byte or a value can't stand there */
+    VOUMLIS_TOO_LONG = 6, /* a count is above its bound */
+    VOUMLIS_REFUSED = 7,  /* a lawful record refuses an entry */
+    VOUMLIS_FOREIGN = 8,  /* an entry of a record is no artifact */
+    VOUMLIS_DEVICE = 9,   /* a record's file failed */
+    VOUMLIS_READ = 10,    /* a stream could not be read */
+    VOUMLIS_WRITE = 11    /* a stream could not be written */
+};
+
+/* Kinds of messages. */
+enum voumlis_kind {
+    VOUMLIS_VOTE = 0,
+    VOUMLIS_CERTIFICATE = 1,
+    VOUMLIS_ARTIFACT = 2,
+    VOUMLIS_REPORT = 3
+};
+
+/* What a call tells beside its status. It need not be initialized. */
+struct voumlis_found {
+    size_t length;  /* how many bytes or entries there are */
+    uint64_t place; /* the place that is named, if one is, counted from 0 */
+    uint32_t named; /* 1 where a place is named, else 0 */
+};
+
+/* The proved functions, which test no pointer. */
+uint32_t voumlis_proved_audit(uint16_t members, const uint8_t *reports, size_t reports_length, uint8_t *evidence,
+                         size_t evidence_length, struct voumlis_found *found);
+uint32_t voumlis_proved_first_refused(uint16_t members, uint64_t epoch, uint32_t term, uint16_t member, const uint8_t *record,
+                                 size_t record_length, struct voumlis_found *found);
+uint32_t voumlis_proved_decode(uint32_t kind, uint32_t members, const uint8_t *bytes, size_t length, struct voumlis_found *found);
+uint32_t voumlis_proved_serve(uint16_t members, uint16_t member, int32_t record, int32_t stream, struct voumlis_found *found);
+
+/* Whether so many bytes may lie there. */
+static inline int voumlis_lies(const void *at, size_t length) {
+    return at != NULL && length <= SIZE_MAX / 2 && (uintptr_t)at <= UINTPTR_MAX - length;
+}
+
+/* Whether two runs of bytes that may lie where they do have none in common. */
+static inline int voumlis_apart(const void *one, size_t one_length, const void *other, size_t other_length) {
+    return (uintptr_t)one + one_length <= (uintptr_t)other || (uintptr_t)other + other_length <= (uintptr_t)one;
+}
+
+/* Whether what is read and what is told can be: a length of 0 may come with any pointer. */
+static inline int voumlis_fits(const uint8_t **read, size_t length, const struct voumlis_found *found) {
+    static const uint8_t nothing = 0;
+    if (length == 0)
+        *read = &nothing;
+    return voumlis_lies(*read, length) && voumlis_lies(found, sizeof *found) &&
+           (uintptr_t)found % sizeof(uint64_t) == 0 && voumlis_apart(*read, length, found, sizeof *found);
+}
+
+/* The evidence that an audit of these reports of a committee of `members` finds (the plain scheme over the base "simplex"),
+ * written as reports to `evidence`. DONE: `found->length` bytes were written, and the place is that of the first byte at
+ * which no whole report stands, if one is named. ROOM: the same is told, and nothing is written. ARGUMENT: no members. */
+static inline uint32_t voumlis_audit(uint16_t members, const uint8_t *reports, size_t reports_length, uint8_t *evidence,
+                                     size_t evidence_length, struct voumlis_found *found) {
+    uint8_t none = 0;
+    if (evidence_length == 0)
+        evidence = &none;
+    if (!voumlis_fits(&reports, reports_length, found) || !voumlis_lies(evidence, evidence_length) ||
+        !voumlis_apart(evidence, evidence_length, reports, reports_length) ||
+        !voumlis_apart(evidence, evidence_length, found, sizeof *found))
+        return VOUMLIS_ARGUMENT;
+    return voumlis_proved_audit(members, reports, reports_length, evidence, evidence_length, found);
+}
+
+/* Whether these bytes hold a lawful record of a member, in this epoch and terms of `term` views. DONE: a lawful record of
+ * `found->length` entries. REFUSED: the place is the first entry that may not stand there. FOREIGN: the place, in bytes, of an
+ * entry that is no artifact. ARGUMENT: no members, or a term of no view. */
+static inline uint32_t voumlis_first_refused(uint16_t members, uint64_t epoch, uint32_t term, uint16_t member,
+                                             const uint8_t *record, size_t record_length, struct voumlis_found *found) {
+    if (!voumlis_fits(&record, record_length, found))
+        return VOUMLIS_ARGUMENT;
+    return voumlis_proved_first_refused(members, epoch, term, member, record, record_length, found);
+}
+
+/* Reads the message at the front of these bytes. DONE: it takes `found->length` bytes. END, INVALID, TOO_LONG: the first
+ * trouble from the left. ARGUMENT: no such kind. */
+static inline uint32_t voumlis_decode(uint32_t kind, uint32_t members, const uint8_t *bytes, size_t length,
+                                      struct voumlis_found *found) {
+    if (!voumlis_fits(&bytes, length, found))
+        return VOUMLIS_ARGUMENT;
+    return voumlis_proved_decode(kind, members, bytes, length, found);
+}
+
+/* Runs a member's node (the plain scheme over the base "simplex", set up as the program `simplex node` is) over the record in
+ * an open file and one end of a pair of sockets, until the other end is shut: opens the record at moment 0, writes what that
+ * hands out as a reply, then reads events and writes the reply to each (docs/FORMATS.md). So it is called in a thread of its own.
+ * `record` is open to be read and written, and only this node writes it; `stream` is a stream socket. Both are the node's from
+ * here on, which closes them, but where it answers ARGUMENT: no such member, or a number below 0. DONE: the stream ended between
+ * two events. INVALID: the place, in bytes of the stream, at which no event stands. REFUSED: the artifact of the record that the
+ * rules refuse. FOREIGN: as above. MEMORY, DEVICE, READ, WRITE: it failed so. The record can be opened again behind each. */
+static inline uint32_t voumlis_serve(uint16_t members, uint16_t member, int32_t record, int32_t stream,
+                                     struct voumlis_found *found) {
+    const uint8_t *nothing = NULL;
+    if (!voumlis_fits(&nothing, 0, found))
+        return VOUMLIS_ARGUMENT;
+    return voumlis_proved_serve(members, member, record, stream, found);
+}
+
+#ifdef __cplusplus
+}
+#endif
+#endif

@@ -1,0 +1,34 @@
+//! What the program that plays scripts on the node of one member needs besides the node: the words of its calls, and
+//! what they answer, for whatever stands on a [`Seat`]. Events and replies stand as the bytes that spell them.
+//!
+//! - `reset node SCHEME N ME EPOCH L K STALL RETENTION LEADER CERTIFICATION RETRY SKIP BUDGET FORWARD TRACK HANDOFFS`:
+//!   a member (ME, `-` for one without a key) of a committee of N with an empty disk, not open. SCHEME is `plain` or
+//!   `salted`; terms have L views, K of them optimistic; members lead in turn, a term each; times are milliseconds, `-`
+//!   for a STALL or SKIP that never comes; BUDGET is how many terms may be skipped, `-` for as many as there are members;
+//!   FORWARD is `disabled`, `silent-voters` or `silent-leader`; HANDOFFS is 1: no node goes without
+//! - `open NOW`: closes the node that is open, opens the disk, and tells the first actions as a reply, or `fault NUMBER`,
+//!   behind it what else is told: of a configuration the number of its fault, of an artifact its place or position
+//! - `event EVENT`: the reply, or `fault NUMBER`; `times COUNT event EVENT`: so many times, and what is answered each time
+//!   where that is the same, else `changes`; `stream EVENTS`: the replies to so many events, one behind the other, read and
+//!   written as streams, and behind them `bad PLACE` where no event stands at that byte, or `fault NUMBER`
+//! - of the node that is open `current_view`, `last_finalized`, `is_failed`
+//! - `bytes`: closes the node that is open, and tells what the disk holds; `disk BYTES`: closes it, and puts a disk that
+//!   holds these in the place of its own; while no node is open `fuse CALLS` and `fail_at CALLS`: calls of the disk fail
+//!
+//! No call is made of a node whose memory ran out: that ends the script.
+#![tactic(auto)]
+
+mod desk;
+mod faults;
+mod medium;
+mod member;
+mod seat;
+mod setup;
+mod spelling;
+mod turns;
+
+pub use desk::play_on;
+pub use medium::Medium;
+pub use seat::Seat;
+pub use setup::Setup;
+pub use turns::Turns;

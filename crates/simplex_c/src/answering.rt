@@ -1,0 +1,141 @@
+//! Questions about bytes that a caller holds.
+
+ghost use Rattle.std.specs.Prelude.{◌≡◌, ◌≢◌, ◌<◌, ◌⊎◌, ℕ, List, Option, [], None, Some, length, take, codes, IfNone, IfOk, IfSome};
+ghost use Rattle.simplex_journal.specs.Record.{IsForeign};
+ghost use Rattle.simplex_record.specs.Lawful.{IsLawful, IsRefusedAt};
+ghost use Rattle.simplex_tooling.specs.Answers.{Entry, HoldsEntries, IsEntry, IsEvidence, attests_in, certifies_in, entry_spelling};
+ghost use Rattle.simplex_c.specs.Answers.{Names};
+ghost use Rattle.simplex_c.specs.declared.status.Status.TheVariants.{Done, Foreign as IsForeignEntry, Memory, Refused, Room};
+
+use crate::found::Found;
+use crate::status::Status;
+use simplex_journal::{JournalFault, read_entries};
+use simplex_messages::Artifact;
+use simplex_record::{Owner, first_refused};
+use simplex_tooling::evidence_in;
+use simplex_types::{PlainScheme, Sha256Digest};
+use std::alloc::{AllocError, Global};
+
+/// The base of the namespaces that the committees sign in.
+const BASE: &[u8; 7] = b"simplex";
+
+/// Puts an answer at the front of the caller's room, where it fits, and tells its size and the place that it names.
+fn put(answer: &[u8], place: Option<usize>, room: &mut [u8], found: &mut Found) -> Status
+    ensures names { Names found.new.named found.new.place place }
+    ensures length { found.new.length ≡ length answer.now }
+    ensures answers { (result ≡ Done) ⊎ (result ≡ Room) }
+    ensures done { result ≡ Done → take (length answer.now) room.new ≡ answer.now }
+    ensures room { result ≡ Room → (room.new ≡ room.old) × (length room.old < length answer.now) }
+{
+    found.tell(answer.len(), wide(place));
+    if room.len() < answer.len() {
+        return Status::Room;
+    }
+    let (front, _) = room.split_at_mut(answer.len());
+    front.copy_from_slice(answer);
+    Status::Done
+}
+
+/// The same place.
+fn wide(place: Option<usize>) -> Option<u64>
+    ensures { result ≡ place }
+{
+    match place {
+        Some(place) => Some(place as u64),
+        None => None,
+    }
+}
+
+/// The evidence that an audit of these reports finds, at the front of the caller's room.
+pub(crate) fn audited(
+    alloc: Global,
+    members: u16,
+    reports: &[u8],
+    room: &mut [u8],
+    found: &mut Found,
+) -> Status
+    requires { 0 < members }
+    ensures answers { (result ≡ Done) ⊎ ((result ≡ Memory) ⊎ (result ≡ Room)) }
+    ensures evidence { result ≡ Done → (fault : Option ℕ) × Names found.new.named found.new.place fault × IsEvidence members reports.now (take found.new.length room.new) fault }
+    ensures room { result ≡ Room → (fault : Option ℕ) × (written : List ℕ) × Names found.new.named found.new.place fault × IsEvidence members reports.now written fault × (found.new.length ≡ length written) × (length room.old < length written) }
+    ensures unwritten { result ≢ Done → room.new ≡ room.old }
+{
+    match evidence_in(alloc, members, reports) {
+        Ok((written, fault)) => put(&written, fault, room, found),
+        Err(_) => Status::Memory,
+    }
+}
+
+/// Whether these bytes hold a lawful record of this member.
+pub(crate) fn checked(
+    alloc: Global,
+    members: u16,
+    owner: Owner,
+    stored: &[u8],
+    found: &mut Found,
+) -> Status
+    requires { 0 < members }
+    ensures answers { (result ≡ Done) ⊎ ((result ≡ Memory) ⊎ ((result ≡ Refused) ⊎ (result ≡ IsForeignEntry))) }
+    ensures lawful { result ≡ Done → (artifacts : List Entry) × HoldsEntries stored.now artifacts × IsLawful (attests_in members) (certifies_in members) owner artifacts × (found.new.length ≡ length artifacts) }
+    ensures refused { result ≡ Refused → (artifacts : List Entry) × HoldsEntries stored.now artifacts × IsRefusedAt (attests_in members) (certifies_in members) owner artifacts found.new.place }
+    ensures foreign { result ≡ IsForeignEntry → IsForeign [] IsEntry entry_spelling stored.now found.new.place }
+{
+    match read_entries(alloc, stored) {
+        Ok(entries) => checked_entries(alloc, members, owner, &entries.messages, found),
+        Err(JournalFault::Foreign(place)) => {
+            found.tell(0, Some(place));
+            Status::Foreign
+        }
+        Err(_) => Status::Memory,
+    }
+}
+
+/// The same of a record's artifacts.
+fn checked_entries(
+    alloc: Global,
+    members: u16,
+    owner: Owner,
+    artifacts: &[Artifact<PlainScheme, Sha256Digest>],
+    found: &mut Found,
+) -> Status
+    requires { 0 < members }
+    ensures answers { (result ≡ Done) ⊎ ((result ≡ Memory) ⊎ (result ≡ Refused)) }
+    ensures lawful { result ≡ Done → IsLawful (attests_in members) (certifies_in members) owner artifacts.now × (found.new.length ≡ length artifacts.now) }
+    ensures refused { result ≡ Refused → IsRefusedAt (attests_in members) (certifies_in members) owner artifacts.now found.new.place }
+{
+    match refused_of(alloc, members, owner, artifacts) {
+        Ok(None) => {
+            found.tell(artifacts.len(), None);
+            Status::Done
+        }
+        Ok(Some(entry)) => {
+            found.tell(artifacts.len(), Some(entry as u64));
+            Status::Refused
+        }
+        Err(_) => Status::Memory,
+    }
+}
+
+/// The scheme of a committee of so many.
+fn scheme_of(alloc: Global, members: u16) -> Result<PlainScheme, AllocError>
+    requires { 0 < members }
+    ensures base { IfOk result (λ scheme. scheme.base ≡ codes "simplex") }
+    ensures members { IfOk result (λ scheme. scheme.participants ≡ members) }
+{
+    PlainScheme::new(alloc, BASE, u32::from(members), None)
+}
+
+/// The position of the first artifact that a lawful record of this owner refuses, if there is one.
+fn refused_of(
+    alloc: Global,
+    members: u16,
+    owner: Owner,
+    artifacts: &[Artifact<PlainScheme, Sha256Digest>],
+) -> Result<Option<usize>, AllocError>
+    requires { 0 < members }
+    ensures lawful { IfOk result (λ found. IfNone found (IsLawful (attests_in members) (certifies_in members) owner artifacts.now)) }
+    ensures refused { IfOk result (λ found. IfSome found (IsRefusedAt (attests_in members) (certifies_in members) owner artifacts.now)) }
+{
+    let scheme = scheme_of(alloc, members)?;
+    first_refused(alloc, &scheme, owner, artifacts)
+}

@@ -1,0 +1,56 @@
+//! What a call answers, as a number.
+
+ghost use Rattle.std.specs.Prelude.{◌≡◌};
+ghost use Rattle.simplex_c.specs.Answers.{status_number};
+
+/// How a call ended.
+#[derive(Clone, Copy, PartialEq, Eq, Drop)]
+pub(crate) enum Status {
+    /// It did what was asked.
+    Done,
+    /// Memory ran out.
+    Memory,
+    /// An argument is none that can be answered.
+    Argument,
+    /// The caller's buffer has no room for the answer.
+    Room,
+    /// The bytes end within a value.
+    End,
+    /// A byte or a value can't stand there.
+    Invalid,
+    /// A count is above its bound.
+    TooLong,
+    /// A lawful record refuses an entry.
+    Refused,
+    /// An entry of a record is no artifact.
+    Foreign,
+    /// A record's device failed.
+    Device,
+    /// A stream could not be read.
+    Read,
+    /// A stream could not be written.
+    Write,
+}
+
+impl Status {
+    /// Its number, as the header has it.
+    #[tactic(auto, unfolding(crate::specs::Answers::status_number))]
+    pub(crate) fn number(self) -> u32
+        ensures { result ≡ status_number self }
+    {
+        match self {
+            Status::Done => 0,
+            Status::Memory => 1,
+            Status::Argument => 2,
+            Status::Room => 3,
+            Status::End => 4,
+            Status::Invalid => 5,
+            Status::TooLong => 6,
+            Status::Refused => 7,
+            Status::Foreign => 8,
+            Status::Device => 9,
+            Status::Read => 10,
+            Status::Write => 11,
+        }
+    }
+}
