@@ -48,9 +48,5 @@ int main(void) {
     WANT(voumlis_audit(4, verdict, 4, room, SIZE_MAX / 2 + 1, &found), VOUMLIS_ARGUMENT);
     WANT(voumlis_audit(4, both.bytes, 8, both.bytes + 7, 8, &found), VOUMLIS_ARGUMENT);
     WANT(voumlis_audit(4, verdict, 4, both.bytes + 4, 8, &both.found), VOUMLIS_ARGUMENT);
-    WANT(voumlis_serve(4, 4, 0, 0, &found), VOUMLIS_ARGUMENT);
-    WANT(voumlis_serve(4, 0, -1, 0, &found), VOUMLIS_ARGUMENT);
-    WANT(voumlis_serve(4, 0, 0, -1, &found), VOUMLIS_ARGUMENT);
-    WANT(voumlis_serve(4, 0, 1000, 1001, &found), VOUMLIS_DEVICE);
     return failed;
 }

@@ -1,7 +1,7 @@
-/* Voumlis for C: the audit of reports, the check of a record, the reading of a message, and a member's node.
+/* Voumlis for C: the audit of reports, the check of a record, and the reading of a message.
  *
- * Link libsimplex_c.a (`cd crates/simplex_c && rt lib` makes it) and what it asks of the system, which two archives of
- * the toolchain have, or a program of yours: docs/EMBEDDING.md.
+ * Link libsimplex_c.a (`cd crates/simplex_c && rt lib` makes it) and three functions over one heap, which the toolchain's
+ * archive has, or a program of yours: docs/EMBEDDING.md.
  *
  * WHAT IS TESTED. Each function below is C, and tests what can be tested before it calls the proved one of that name: that
  * no pointer is null where a length isn't 0, that no length is beyond half of the address space, that `found` is aligned,
@@ -37,10 +37,7 @@ enum voumlis_status {
     VOUMLIS_INVALID = 5,  /* a byte or a value can't stand there */
     VOUMLIS_TOO_LONG = 6, /* a count is above its bound */
     VOUMLIS_REFUSED = 7,  /* a lawful record refuses an entry */
-    VOUMLIS_FOREIGN = 8,  /* an entry of a record is no artifact */
-    VOUMLIS_DEVICE = 9,   /* a record's file failed */
-    VOUMLIS_READ = 10,    /* a stream could not be read */
-    VOUMLIS_WRITE = 11    /* a stream could not be written */
+    VOUMLIS_FOREIGN = 8   /* an entry of a record is no artifact */
 };
 
 /* Kinds of messages. */
@@ -64,7 +61,6 @@ uint32_t voumlis_proved_audit(uint16_t members, const uint8_t *reports, size_t r
 uint32_t voumlis_proved_first_refused(uint16_t members, uint64_t epoch, uint32_t term, uint16_t member, const uint8_t *record,
                                  size_t record_length, struct voumlis_found *found);
 uint32_t voumlis_proved_decode(uint32_t kind, uint32_t members, const uint8_t *bytes, size_t length, struct voumlis_found *found);
-uint32_t voumlis_proved_serve(uint16_t members, uint16_t member, int32_t record, int32_t stream, struct voumlis_found *found);
 
 /* Whether so many bytes may lie there. */
 static inline int voumlis_lies(const void *at, size_t length) {
@@ -117,21 +113,6 @@ static inline uint32_t voumlis_decode(uint32_t kind, uint32_t members, const uin
     if (!voumlis_fits(&bytes, length, found))
         return VOUMLIS_ARGUMENT;
     return voumlis_proved_decode(kind, members, bytes, length, found);
-}
-
-/* Runs a member's node (the plain scheme over the base "simplex", set up as the program `simplex node` is) over the record in
- * an open file and one end of a pair of sockets, until the other end is shut: opens the record at moment 0, writes what that
- * hands out as a reply, then reads events and writes the reply to each (docs/FORMATS.md). So it is called in a thread of its own.
- * `record` is open to be read and written, and only this node writes it; `stream` is a stream socket. Both are the node's from
- * here on, which closes them, but where it answers ARGUMENT: no such member, or a number below 0. DONE: the stream ended between
- * two events. INVALID: the place, in bytes of the stream, at which no event stands. REFUSED: the artifact of the record that the
- * rules refuse. FOREIGN: as above. MEMORY, DEVICE, READ, WRITE: it failed so. The record can be opened again behind each. */
-static inline uint32_t voumlis_serve(uint16_t members, uint16_t member, int32_t record, int32_t stream,
-                                     struct voumlis_found *found) {
-    const uint8_t *nothing = NULL;
-    if (!voumlis_fits(&nothing, 0, found))
-        return VOUMLIS_ARGUMENT;
-    return voumlis_proved_serve(members, member, record, stream, found);
 }
 
 #ifdef __cplusplus

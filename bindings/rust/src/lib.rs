@@ -1,14 +1,12 @@
-//! The audit of reports, the check of a record, the reading of a message, and a member's node, by code that is proved.
+//! The audit of reports, the check of a record, and the reading of a message, by code that is proved; and the events and
+//! replies of a node as values.
 //!
-//! Safe Rust over the static library `simplex_c`. Its functions ask nothing of numbers and bytes, each slice is passed with its
-//! own length, and descriptors are given away, so no call from safe code is undefined. Trusted, beside the proofs: the
-//! declarations below, which nothing compares with the library's, and what the module `system` hands to it.
+//! Safe Rust over the static library `simplex_c`. Its functions ask nothing of numbers and bytes, and each slice is passed with
+//! its own length, so no call from safe code is undefined. Trusted, beside the proofs: the declarations below, which nothing
+//! compares with the library's, and the heap of the module `heap`.
 
-mod node;
-mod system;
+mod heap;
 pub mod wire;
-
-pub use node::{Ending, Node};
 
 /// What a call tells beside its status.
 #[repr(C)]
@@ -42,13 +40,6 @@ unsafe extern "C" {
         members: u32,
         bytes: *const u8,
         length: usize,
-        found: *mut Found,
-    ) -> u32;
-    fn voumlis_proved_serve(
-        members: u16,
-        member: u16,
-        record: i32,
-        stream: i32,
         found: *mut Found,
     ) -> u32;
 }

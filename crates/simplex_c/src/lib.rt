@@ -12,13 +12,11 @@ ghost use Rattle.simplex_c.specs.Answers.{Names, Tells, certificate_at, owner, p
 mod answering;
 mod decoding;
 mod found;
-mod serving;
 mod status;
 
 use answering::{audited, checked};
 use decoding::decoded;
 pub use found::Found;
-use serving::served;
 use simplex_record::Owner;
 use simplex_types::{Epoch, Participant, TermLength};
 use status::Status;
@@ -106,29 +104,4 @@ pub extern "C" fn voumlis_proved_decode(
     ensures unknown { 3 < kind → result ≡ 2 }
 {
     decoded(alloc, kind, members, bytes, found).number()
-}
-
-/// Runs a member's node over the record in an open file and a stream between two sockets, up to the stream's end: opens the record
-/// at moment 0, writes what that hands out as a reply, and answers each event that is read.
-///
-/// Answers 0 at the end between two events; 1 where memory ran out; 2 where there is no such member, or a descriptor is negative; 5
-/// with the place of the first byte at which no event stands; 7 with the artifact of the record that the rules refuse; 8 with the
-/// place of an entry that is no artifact; 9 where the record's file failed; and 10 and 11 where the stream did. Both descriptors are
-/// closed, but where it answers 2.
-#[unsafe(no_mangle)]
-pub extern "C" fn voumlis_proved_serve(
-    alloc: Global,
-    members: u16,
-    member: u16,
-    record: i32,
-    stream: i32,
-    found: &mut Found,
-) -> u32
-    ensures stranger { members ≤ member → result ≡ 2 }
-    ensures statuses { result ≤ 11 }
-{
-    if member >= members {
-        return Status::Argument.number();
-    }
-    served(alloc, members, member, record, stream, found).number()
 }

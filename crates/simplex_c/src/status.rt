@@ -24,12 +24,6 @@ pub(crate) enum Status {
     Refused,
     /// An entry of a record is no artifact.
     Foreign,
-    /// A record's device failed.
-    Device,
-    /// A stream could not be read.
-    Read,
-    /// A stream could not be written.
-    Write,
 }
 
 impl Status {
@@ -48,9 +42,6 @@ impl Status {
             Status::TooLong => 6,
             Status::Refused => 7,
             Status::Foreign => 8,
-            Status::Device => 9,
-            Status::Read => 10,
-            Status::Write => 11,
         }
     }
 }

@@ -1,4 +1,4 @@
-//! What the proved code asks of the system by names of its own: a heap, over the C library's, and the last error's number.
+//! The heap of the proved code: three functions that it calls, over the C library's.
 
 use std::ffi::c_void;
 
@@ -52,10 +52,4 @@ unsafe extern "C" fn rattle_realloc(
 unsafe extern "C" fn rattle_dealloc(at: *mut c_void) {
     // SAFETY: the caller has the block from here, and gives it up.
     unsafe { free(at) }
-}
-
-/// The number of the last error of a call of the C library, in this thread.
-#[unsafe(no_mangle)]
-extern "C" fn rattle_errno() -> i32 {
-    std::io::Error::last_os_error().raw_os_error().unwrap_or(0)
 }
