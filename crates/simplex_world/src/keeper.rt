@@ -11,8 +11,8 @@ use simplex_node::Node;
 use simplex_types::Sha256Digest;
 use std::alloc::Global;
 use std::rc::Rc;
+use world_members::{Halt, Seat, config_of, member_of};
 use world_network::Fuse;
-use world_playing::{Halt, Seat, config_of, member_of};
 use world_scenario::{Broken, Scenario, Times};
 
 /// A member's disk, and its node while that is open on it.

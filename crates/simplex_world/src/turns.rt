@@ -6,7 +6,7 @@ use simplex_rules::RoundRobinElector;
 use simplex_rules::elector::{Config, Elector};
 use simplex_types::{Scheme, Sha256Digest};
 use std::alloc::{AllocError, Global};
-use world_playing::rotation_of;
+use world_members::rotation_of;
 use world_scenario::Times;
 
 /// What a scenario can have decide who leads.

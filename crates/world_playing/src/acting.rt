@@ -1,6 +1,5 @@
 //! What is done with what a node hands out.
 
-use crate::seat::Seat;
 use crate::world::{World, index_of};
 use script_words::Committee;
 use simplex_member::{Action, Event};
@@ -8,6 +7,7 @@ use simplex_messages::Activity;
 use simplex_types::{Proposal, Sha256Digest, Viewable};
 use std::alloc::AllocError;
 use world_liars::{Handed, Lie, Parcel};
+use world_members::Seat;
 use world_network::{Ground, Packet};
 use world_scenario::Broken;
 

@@ -1,10 +1,10 @@
 //! The end of a run: a table of the members, the audit of their reports, and the status.
 
-use crate::seat::Seat;
 use crate::world::World;
 use script_words::Committee;
 use std::alloc::AllocError;
-use world_lines::{Findings, Sums};
+use world_lines::{Findings, Standing, Sums};
+use world_members::{Member, Seat};
 use world_scenario::Broken;
 
 /// The status of a run in which no finalized proposals differed, nobody correct was blamed, and each record was opened again.
@@ -28,7 +28,7 @@ impl<S: Committee, M: Seat<S>> World<S, M> {
     /// The table of the members.
     fn tell_members(&mut self) -> Result<(), AllocError> {
         for member in &self.members {
-            self.chronicle.tell_standing(&member.standing())?;
+            self.chronicle.tell_standing(&standing_of(member))?;
         }
         Ok(())
     }
@@ -59,6 +59,24 @@ impl<S: Committee, M: Seat<S>> World<S, M> {
             }
         }
         if least == u64::MAX { 0 } else { least }
+    }
+}
+
+/// Where a member stands.
+fn standing_of<S: Committee, M: Seat<S>>(member: &Member<S, M>) -> Standing {
+    let lies = match &member.liar {
+        Some(liar) => Some(liar.lies),
+        None => None,
+    };
+    Standing {
+        member: member.index,
+        view: member.seat.current_view(),
+        finalized: member.seat.last_finalized(),
+        finals: member.finals,
+        lives: member.life,
+        refused: member.refused,
+        blocked: member.blocked.len() as u64,
+        lies,
     }
 }
 

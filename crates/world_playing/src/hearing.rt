@@ -1,11 +1,11 @@
 //! What comes to a member.
 
-use crate::seat::Seat;
 use crate::world::{World, index_of};
 use script_words::Committee;
 use simplex_member::Event;
 use simplex_types::{Participant, Sha256Digest};
 use world_liars::{Handed, Parcel};
+use world_members::Seat;
 use world_network::{Arrival, Packet};
 use world_scenario::Broken;
 

@@ -5,13 +5,7 @@
 mod acting;
 mod ending;
 mod hearing;
-mod member;
 mod playing;
-mod seat;
-mod setup;
 mod world;
 
-pub use member::member_of;
 pub use playing::play;
-pub use seat::{Halt, Seat};
-pub use setup::{config_of, rotation_of};

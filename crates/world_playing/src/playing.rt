@@ -1,12 +1,11 @@
 //! Scenarios of an input, run one behind the other.
 
-use crate::seat::Seat;
-use crate::setup::config_of;
 use crate::world::World;
 use script_words::Committee;
 use simplex_decisions::config::check_config;
 use std::alloc::Global;
 use std::io::{BufRead, BufReader, Read, Write};
+use world_members::{Seat, config_of};
 use world_scenario::{Broken, Detail, Refusal, Scenario, Teller};
 
 /// The status where a line was refused.

@@ -1,7 +1,5 @@
 //! The world of a scenario: its members, what is under way, and what comes next.
 
-use crate::member::Member;
-use crate::seat::{Halt, Seat};
 use script_words::Committee;
 use simplex_fakes::Chance;
 use simplex_member::{Action, Event, Reply};
@@ -9,6 +7,7 @@ use simplex_types::Sha256Digest;
 use std::alloc::Global;
 use std::io::Write;
 use world_lines::{Chronicle, Reports};
+use world_members::{Halt, Member, Seat};
 use world_network::{Chain, Network, Payloads};
 use world_scenario::{Broken, Scenario};
 

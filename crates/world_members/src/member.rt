@@ -7,31 +7,30 @@ use std::alloc::{AllocError, Global};
 use std::cell::Cell;
 use std::rc::Rc;
 use world_liars::Liar;
-use world_lines::Standing;
 use world_network::{Fuse, NO_FUSE};
 use world_scenario::{Broken, Crash, Scenario};
 
 /// A member.
 #[derive(Drop)]
-pub(crate) struct Member<S: Committee, M: Seat<S>> {
+pub struct Member<S: Committee, M: Seat<S>> {
     /// Its index.
-    pub(crate) index: u32,
+    pub index: u32,
     /// Its node.
-    pub(crate) seat: M,
+    pub seat: M,
     /// How it lies, if it does.
-    pub(crate) liar: Option<Liar<S>>,
+    pub liar: Option<Liar<S>>,
     /// How often it was opened.
-    pub(crate) life: u64,
+    pub life: u64,
     /// When it is woken, or opened again.
-    pub(crate) due: Option<u64>,
+    pub due: Option<u64>,
     /// The view that it was seen in last.
-    pub(crate) view: u64,
+    pub view: u64,
     /// How many proposals it told to be final.
-    pub(crate) finals: u64,
+    pub finals: u64,
     /// Of how many events a test refused.
-    pub(crate) refused: u64,
+    pub refused: u64,
     /// Whom it blocked.
-    pub(crate) blocked: Vec<u32>,
+    pub blocked: Vec<u32>,
     fuse: Fuse,
     /// The moment that it was told last.
     told: u64,
@@ -43,7 +42,7 @@ pub(crate) struct Member<S: Committee, M: Seat<S>> {
 
 impl<S: Committee, M: Seat<S>> Member<S, M> {
     /// A member with an empty disk, not opened yet.
-    pub(crate) fn new(alloc: Global, scenario: &Scenario, index: u32) -> Result<Self, Broken> {
+    pub fn new(alloc: Global, scenario: &Scenario, index: u32) -> Result<Self, Broken> {
         let fuse = Rc::new(alloc, Cell::new(NO_FUSE))?;
         let seat = M::new(alloc, scenario, index, fuse.clone()?)?;
         let mut member = Member::seated(alloc, index, seat, fuse);
@@ -80,7 +79,7 @@ impl<S: Committee, M: Seat<S>> Member<S, M> {
     }
 
     /// Whether it is a liar that builds two payloads.
-    pub(crate) fn builds_two(&self) -> bool {
+    pub fn builds_two(&self) -> bool {
         match &self.liar {
             Some(liar) => liar.builds_two(),
             None => false,
@@ -88,7 +87,7 @@ impl<S: Committee, M: Seat<S>> Member<S, M> {
     }
 
     /// Notes what it built, where it is a liar.
-    pub(crate) fn note_built(
+    pub fn note_built(
         &mut self,
         first: Sha256Digest,
         second: Sha256Digest,
@@ -100,7 +99,7 @@ impl<S: Committee, M: Seat<S>> Member<S, M> {
     }
 
     /// Whether it is a liar that runs no node.
-    pub(crate) fn is_silent(&self) -> bool {
+    pub fn is_silent(&self) -> bool {
         match &self.liar {
             Some(liar) => liar.is_silent(),
             None => false,
@@ -108,7 +107,7 @@ impl<S: Committee, M: Seat<S>> Member<S, M> {
     }
 
     /// A further life of it begins.
-    pub(crate) fn begin_life(&mut self, now: u64) {
+    pub fn begin_life(&mut self, now: u64) {
         self.set_crash();
         self.life = self.life.saturating_add(1);
         self.blocked.clear();
@@ -116,7 +115,7 @@ impl<S: Committee, M: Seat<S>> Member<S, M> {
     }
 
     /// Whether the moment is to be told before anything else, where that is done so often; from now on it then counts as told.
-    pub(crate) fn wants_moment(&mut self, now: u64, clock: u64) -> bool {
+    pub fn wants_moment(&mut self, now: u64, clock: u64) -> bool {
         let is_behind = self.told.saturating_add(clock) <= now;
         if is_behind {
             self.told = now;
@@ -125,13 +124,13 @@ impl<S: Committee, M: Seat<S>> Member<S, M> {
     }
 
     /// It is down, and is opened again after a while. How many bytes its disk has.
-    pub(crate) fn go_down(&mut self, now: u64) -> usize {
+    pub fn go_down(&mut self, now: u64) -> usize {
         self.due = Some(now.saturating_add(self.down));
         self.seat.go_down()
     }
 
     /// Whether it is seen in a view in which it wasn't seen last.
-    pub(crate) fn enters(&mut self) -> Option<u64> {
+    pub fn enters(&mut self) -> Option<u64> {
         let view = self.seat.current_view();
         if view == self.view {
             return None;
@@ -142,7 +141,7 @@ impl<S: Committee, M: Seat<S>> Member<S, M> {
     }
 
     /// Blocks another member.
-    pub(crate) fn block(&mut self, other: u32) -> Result<(), AllocError> {
+    pub fn block(&mut self, other: u32) -> Result<(), AllocError> {
         if self.blocked.contains(&other) {
             return Ok(());
         }
@@ -151,7 +150,7 @@ impl<S: Committee, M: Seat<S>> Member<S, M> {
     }
 
     /// Whether an answer to this life of it, or a packet from this sender, reaches it.
-    pub(crate) fn is_reached(&self, life: Option<u64>, sender: Option<Participant>) -> bool {
+    pub fn is_reached(&self, life: Option<u64>, sender: Option<Participant>) -> bool {
         if let Some(life) = life {
             if life != self.life {
                 return false;
@@ -181,24 +180,6 @@ impl<S: Committee, M: Seat<S>> Member<S, M> {
         match self.crashes.last() {
             Some(crash) => crash.view <= self.view,
             None => false,
-        }
-    }
-
-    /// Where it stands.
-    pub(crate) fn standing(&self) -> Standing {
-        let lies = match &self.liar {
-            Some(liar) => Some(liar.lies),
-            None => None,
-        };
-        Standing {
-            member: self.index,
-            view: self.seat.current_view(),
-            finalized: self.seat.last_finalized(),
-            finals: self.finals,
-            lives: self.life,
-            refused: self.refused,
-            blocked: self.blocked.len() as u64,
-            lies,
         }
     }
 }
