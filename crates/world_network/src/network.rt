@@ -7,13 +7,6 @@ use std::alloc::{AllocError, Global};
 use std::collections::BTreeMap;
 use world_scenario::{Scenario, Span};
 
-/// When something comes, and behind how many others that come then.
-#[derive(Clone, Copy, PartialEq, Eq, PartialOrd, Ord)]
-struct Place {
-    moment: u64,
-    number: u64,
-}
-
 /// What comes to a member.
 #[derive(Drop)]
 pub struct Arrival {
@@ -29,8 +22,12 @@ pub struct Arrival {
 #[derive(Drop)]
 pub struct Network {
     alloc: Global,
-    queue: BTreeMap<Place, Arrival>,
-    number: u64,
+    /// What is left of what comes at the moment of the last that came, the next one last.
+    coming: Vec<Arrival>,
+    /// That moment.
+    moment: u64,
+    /// What comes behind it, by moments, in the order in which it was sent.
+    later: BTreeMap<u64, Vec<Arrival>>,
     chance: Chance,
     /// How many packets were sent.
     pub sent: u64,
@@ -43,8 +40,9 @@ impl Network {
     pub fn new(alloc: Global, seed: u64) -> Self {
         Network {
             alloc,
-            queue: BTreeMap::new(alloc),
-            number: 0,
+            coming: Vec::new(alloc),
+            moment: 0,
+            later: BTreeMap::new(alloc),
             chance: Chance::seeded(seed),
             sent: 0,
             lost: 0,
@@ -53,14 +51,22 @@ impl Network {
 
     /// The moment of what comes next.
     pub fn next_moment(&self) -> Option<u64> {
-        let (place, _) = self.queue.first_key_value()?;
-        Some(place.moment)
+        if !self.coming.is_empty() {
+            return Some(self.moment);
+        }
+        let (moment, _) = self.later.first_key_value()?;
+        Some(*moment)
     }
 
-    /// What comes next.
+    /// What comes next. From then on nothing is sent before its moment.
     pub fn next(&mut self) -> Option<Arrival> {
-        let (_, arrival) = self.queue.pop_first()?;
-        Some(arrival)
+        if self.coming.is_empty() {
+            let (moment, mut arrivals) = self.later.pop_first()?;
+            arrivals.reverse();
+            self.moment = moment;
+            self.coming = arrivals;
+        }
+        self.coming.pop()
     }
 
     /// Sends a packet, which may be lost, or come twice.
@@ -134,10 +140,15 @@ impl Network {
         )
     }
 
+    /// Has something come at a moment, behind all else that comes then.
     fn put(&mut self, moment: u64, arrival: Arrival) -> Result<(), AllocError> {
-        let number = self.number;
-        self.number = number.saturating_add(1);
-        self.queue.insert(Place { moment, number }, arrival)?;
+        if let Some(arrivals) = self.later.get_mut(&moment) {
+            arrivals.push(arrival)?;
+            return Ok(());
+        }
+        let mut arrivals = Vec::new(self.alloc);
+        arrivals.push(arrival)?;
+        self.later.insert(moment, arrivals)?;
         Ok(())
     }
 }
