@@ -87,11 +87,7 @@ impl<S: Committee, M: Seat<S>> Member<S, M> {
     }
 
     /// Notes what it built, where it is a liar.
-    pub fn note_built(
-        &mut self,
-        first: Sha256Digest,
-        second: Sha256Digest,
-    ) -> Result<(), Broken> {
+    pub fn note_built(&mut self, first: Sha256Digest, second: Sha256Digest) -> Result<(), Broken> {
         if let Some(liar) = &mut self.liar {
             liar.note_built(first, second)?;
         }
