@@ -2,7 +2,7 @@
 
 ghost use Rattle.std.specs.Prelude.{◌≡◌, IfOk};
 
-use script_node::{Medium, Seat, Setup, Turns, play_on};
+use script_node::{Medium, Member, Seat, Setup, Turns, play_on};
 use script_words::Committee;
 use simplex_decisions::config::Config;
 use simplex_journal::Disk;
@@ -73,6 +73,9 @@ impl<S: Scheme<D> + Drop, L: Turns<S, D>, D: Digest, K: Disk> Seat<
     }
 }
 
+/// A member of the scripts, played by a node of the product.
+type Played<S, L, K> = Member<S, K, Node<S, L, Sha256Digest, K>, NodeSeat>;
+
 /// Plays a script on nodes over disks `K`, and gives the status to end with: a member's scheme is `S` where it is called `plain`, and
 /// `L` says who leads; where it is called `salted` these are `Z` and `M`.
 pub(crate) fn play_nodes<S, Z, L, M, K, R, W>(alloc: Global, input: R, output: &mut W) -> u8
@@ -85,15 +88,5 @@ where
     R: Read + Drop,
     W: Write,
 {
-    play_on::<
-        S,
-        Z,
-        K,
-        Node<S, L, Sha256Digest, K>,
-        NodeSeat,
-        Node<Z, M, Sha256Digest, K>,
-        NodeSeat,
-        R,
-        W,
-    >(alloc, input, output)
+    play_on::<Played<S, L, K>, Played<Z, M, K>, R, W>(alloc, input, output)
 }

@@ -1,55 +1,23 @@
 //! The member of a script, by its scheme.
 
-use crate::medium::Medium;
-use crate::member::Member;
-use crate::seat::Seat;
+use crate::member::Answers;
 use crate::setup::Setup;
-use script_words::{Committee, Layer, Say, Trouble, Words, play};
-use simplex_decisions::config::Config;
-use simplex_member::{Action, Event, Reply};
-use simplex_types::Sha256Digest;
+use script_words::{Layer, Say, Trouble, Words, play};
 use std::alloc::Global;
 use std::io::{Read, Write};
 
 /// The member of a script.
 #[derive(Drop)]
-pub(crate) enum Desk<S, Z, K, P, T, Q, U> {
+pub(crate) enum Desk<P, Q> {
     /// Before the first `reset`.
     Nothing,
     /// Of the plain scheme.
-    Plain(Member<S, K, P, T>),
+    Plain(P),
     /// Of the salted scheme.
-    Salted(Member<Z, K, Q, U>),
+    Salted(Q),
 }
 
-impl<S, Z, K, P, T, Q, U> Layer for Desk<S, Z, K, P, T, Q, U>
-where
-    S: Committee,
-    Z: Committee,
-    K: Medium,
-    P: Drop,
-    T: Seat<
-        Config<Sha256Digest>,
-        S,
-        K,
-        P,
-        Event<Sha256Digest>,
-        Action<S, Sha256Digest>,
-        Reply<S, Sha256Digest>,
-    >
-        + Drop,
-    Q: Drop,
-    U: Seat<
-        Config<Sha256Digest>,
-        Z,
-        K,
-        Q,
-        Event<Sha256Digest>,
-        Action<Z, Sha256Digest>,
-        Reply<Z, Sha256Digest>,
-    >
-        + Drop,
-{
+impl<P: Answers, Q: Answers> Layer for Desk<P, Q> {
     fn reset(&mut self, words: &mut Words<'_>, alloc: Global) -> Result<(), Trouble> {
         if words.word() != "node" {
             return Err(Trouble::Unreadable);
@@ -57,8 +25,8 @@ where
         let scheme = words.word();
         let setup = Setup::read(words)?;
         let desk = match scheme {
-            "plain" => Desk::Plain(Member::new(alloc, setup)?),
-            "salted" => Desk::Salted(Member::new(alloc, setup)?),
+            "plain" => Desk::Plain(P::new(alloc, setup)?),
+            "salted" => Desk::Salted(Q::new(alloc, setup)?),
             _ => return Err(Trouble::Unreadable),
         };
         *self = desk;
@@ -74,38 +42,12 @@ where
     }
 }
 
-/// Plays a script on disks `K`, and gives the status to end with: a `P` plays the member by `T` where its scheme is `plain`, which
-/// is `S`, a `Q` by `U` where it is `salted`, which is `Z`. What names these types pays in its proof for how wide they are.
-pub fn play_on<S, Z, K, P, T, Q, U, R, W>(alloc: Global, input: R, output: &mut W) -> u8
-where
-    S: Committee,
-    Z: Committee,
-    K: Medium,
-    P: Drop,
-    T: Seat<
-        Config<Sha256Digest>,
-        S,
-        K,
-        P,
-        Event<Sha256Digest>,
-        Action<S, Sha256Digest>,
-        Reply<S, Sha256Digest>,
-    >
-        + Drop,
-    Q: Drop,
-    U: Seat<
-        Config<Sha256Digest>,
-        Z,
-        K,
-        Q,
-        Event<Sha256Digest>,
-        Action<Z, Sha256Digest>,
-        Reply<Z, Sha256Digest>,
-    >
-        + Drop,
-    R: Read + Drop,
-    W: Write,
-{
-    let mut desk = Desk::<S, Z, K, P, T, Q, U>::Nothing;
+/// Plays a script, and gives the status to end with: the member is a `P` where its scheme is `plain`, a `Q` where it is `salted`.
+pub fn play_on<P: Answers, Q: Answers, R: Read + Drop, W: Write>(
+    alloc: Global,
+    input: R,
+    output: &mut W,
+) -> u8 {
+    let mut desk = Desk::<P, Q>::Nothing;
     play(alloc, &mut desk, input, output)
 }

@@ -3,7 +3,7 @@
 use script_words::{Say, Trouble};
 use simplex_member::{IoFault, NodeFault, OpenFault};
 
-/// `fault NUMBER`, and what else is told. Where memory ran out the script ends.
+/// `fault NUMBER`, and what else is told.
 pub(crate) fn say_open_fault(fault: OpenFault, say: &mut Say) -> Result<(), Trouble> {
     match fault {
         OpenFault::NoKey => say.text("fault 1"),
@@ -12,7 +12,7 @@ pub(crate) fn say_open_fault(fault: OpenFault, say: &mut Say) -> Result<(), Trou
         OpenFault::Foreign(place) => say_with(4, place, say),
         OpenFault::Contradiction(position) => say_with(5, position as u64, say),
         OpenFault::Device => say.text("fault 6"),
-        OpenFault::Memory => Err(Trouble::Memory),
+        OpenFault::Memory => say.text("fault 7"),
     }
 }
 
@@ -24,17 +24,17 @@ fn say_with(number: u64, told: u64, say: &mut Say) -> Result<(), Trouble> {
     say.number(told)
 }
 
-/// `fault NUMBER`. Where memory ran out the script ends.
+/// `fault NUMBER`.
 pub(crate) fn say_fault(fault: NodeFault, say: &mut Say) -> Result<(), Trouble> {
     match fault {
-        NodeFault::Memory => Err(Trouble::Memory),
+        NodeFault::Memory => say.text("fault 1"),
         NodeFault::Device => say.text("fault 2"),
         NodeFault::Failed => say.text("fault 3"),
     }
 }
 
-/// A blank, and `bad PLACE`, or the fault of a step. Where memory ran out the script ends; reading and writing bytes that are
-/// there fails for no other reason.
+/// A blank, and `bad PLACE`, or the fault of a step. Where memory ran out for bytes the script ends; reading and writing those
+/// that are there fails for no other reason.
 pub(crate) fn say_io_fault(fault: IoFault, say: &mut Say) -> Result<(), Trouble> {
     say.gap()?;
     match fault {

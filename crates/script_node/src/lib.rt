@@ -15,7 +15,8 @@
 //! - `bytes`: closes the node that is open, and tells what the disk holds; `disk BYTES`: closes it, and puts a disk that
 //!   holds these in the place of its own; while no node is open `fuse CALLS` and `fail_at CALLS`: calls of the disk fail
 //!
-//! No call is made of a node whose memory ran out: that ends the script.
+//! Where memory runs out in the node, that is a fault like any other, and the script goes on; where it runs out for the words of
+//! a call or of an answer, the script ends.
 #![tactic(auto)]
 
 mod desk;
@@ -29,6 +30,7 @@ mod turns;
 
 pub use desk::play_on;
 pub use medium::Medium;
+pub use member::{Answers, Member};
 pub use seat::Seat;
 pub use setup::Setup;
 pub use turns::Turns;

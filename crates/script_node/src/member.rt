@@ -14,6 +14,15 @@ use std::alloc::Global;
 use std::marker::PhantomData;
 use std::rc::Rc;
 
+/// What the calls of a script are made on, whatever the member's scheme, its disk and its node.
+pub trait Answers: Drop {
+    /// A member that is set up so, with an empty disk. A committee that can't be is `condition`.
+    fn new(alloc: Global, setup: Setup) -> Result<Self, Trouble>;
+
+    /// Makes the call of this name.
+    fn answer(&mut self, name: &str, words: &mut Words<'_>, say: &mut Say) -> Result<(), Trouble>;
+}
+
 /// A member with its disk, which the node has while it is open.
 #[derive(Drop)]
 pub struct Member<S, K, N, T> {
@@ -36,18 +45,6 @@ where
         Reply<S, Sha256Digest>,
     >,
 {
-    /// A member that is set up so, with an empty disk. A committee that can't be is `condition`.
-    pub fn new(alloc: Global, setup: Setup) -> Result<Self, Trouble> {
-        S::member_of(alloc, setup.members, setup.me, 0)?;
-        Ok(Member {
-            setup,
-            disk: Some(K::holding(alloc, &[])?),
-            node: None,
-            scheme: PhantomData,
-            seat: PhantomData,
-        })
-    }
-
     /// Closes the node that is open.
     fn close(&mut self) {
         if let Some(node) = self.node.take() {
@@ -185,23 +182,6 @@ where
         say.ok()
     }
 
-    /// Makes the call of this name.
-    pub fn answer(
-        &mut self,
-        name: &str,
-        words: &mut Words<'_>,
-        say: &mut Say,
-    ) -> Result<(), Trouble> {
-        match name {
-            "open" => self.open(words, say),
-            "event" => self.event(words, say),
-            "times" => self.times(words, say),
-            "stream" => self.stream(words, say),
-            "disk" | "bytes" | "fuse" | "fail_at" => self.hold(name, words, say),
-            _ => self.ask(name, words, say),
-        }
-    }
-
     /// The calls on the disk.
     fn hold(&mut self, name: &str, words: &mut Words<'_>, say: &mut Say) -> Result<(), Trouble> {
         match name {
@@ -220,6 +200,41 @@ where
             "last_finalized" => say.view(T::last_finalized(node)),
             "is_failed" => say.truth(T::is_failed(node)),
             _ => Err(Trouble::Unreadable),
+        }
+    }
+}
+
+impl<S: Committee, K: Medium, N: Drop, T: Drop> Answers for Member<S, K, N, T>
+where
+    T: Seat<
+        Config<Sha256Digest>,
+        S,
+        K,
+        N,
+        Event<Sha256Digest>,
+        Action<S, Sha256Digest>,
+        Reply<S, Sha256Digest>,
+    >,
+{
+    fn new(alloc: Global, setup: Setup) -> Result<Self, Trouble> {
+        S::member_of(alloc, setup.members, setup.me, 0)?;
+        Ok(Member {
+            setup,
+            disk: Some(K::holding(alloc, &[])?),
+            node: None,
+            scheme: PhantomData,
+            seat: PhantomData,
+        })
+    }
+
+    fn answer(&mut self, name: &str, words: &mut Words<'_>, say: &mut Say) -> Result<(), Trouble> {
+        match name {
+            "open" => self.open(words, say),
+            "event" => self.event(words, say),
+            "times" => self.times(words, say),
+            "stream" => self.stream(words, say),
+            "disk" | "bytes" | "fuse" | "fail_at" => self.hold(name, words, say),
+            _ => self.ask(name, words, say),
         }
     }
 }
