@@ -4,7 +4,7 @@ use Rattle.std.specs.Prelude.{Option, IsSome}
 use Rattle.std.specs.Ordering.{nat_cmp, is_gt}
 use Rattle.std.specs.declared.cmp.Reverse.{Reverse}
 use Rattle.std.specs.declared.ops.Bound.TheVariants.{Included, Unbounded}
-use Rattle.std.specs.BTreeMap.{BTreeMap}
+use Rattle.std.specs.BTreeMap.{BTreeMap, IsLowerBound}
 use Rattle.std.specs.BTreeMap.Range.{IsRangeOf}
 use Rattle.std.proofs.lemmas.Bool.Decides.{nat_tests}
 use Rattle.std.proofs.lemmas.Map.Keys.{ge_from_not_lt, le_from_not_gt}
@@ -49,3 +49,22 @@ module _ {S D P G C : Type 0} {key_of : S → ℕ → P} {s : Common S} {m : BTr
               (cases_there (stored m view ≡ None) (stored m view) (λ none. none)
               (λ there. let le : e.0.0 ≤ view = ge_from_not_lt view e.0.0 (is_range.4 e rest is (as_key view) (tt, not_above from view above) there) in absurd (omega (arith, le, below))));
         }
+
+  -- where no view has a round, nothing is known of any
+  pub none_of_all : ((u : ℕ) → stored m u ≡ None) → (from : ℕ) → AreUntracked led past from (2 ^ 64)
+  none_of_all none from view above fits = bare_at key_of s view (stored m view) (led view) (past view) (k.at view fits) (none view)
+
+  module _ (last : ℕ) {round : Round S D P G C} (there : stored m last ≡ Some round) (least : IsLowerBound latest_first m (as_key last)) where
+    -- behind the last view that has a round, nothing is known of any
+    pub none_behind : (from : ℕ) → last < from → AreUntracked led past from (2 ^ 64)
+    none_behind from before view above fits = bare_at key_of s view (stored m view) (led view) (past view) (k.at view fits)
+        (cases_there (stored m view ≡ None) (stored m view) (λ none. none)
+        (λ some. let le : view ≤ last = le_from_not_gt view last (least (as_key view) some) in absurd (omega (arith, before, above, le))))
+
+    -- that view is the first from itself on
+    pub first_is : last < 2 ^ 64 → IsFirstTracked led past last last
+    first_is fits = record {
+      behind = omega arith;
+      tracked = there_at key_of s last (stored m last) round (led last) (past last) (k.at last fits) there;
+      bare = λ view above below. absurd (omega (arith, above, below));
+    }

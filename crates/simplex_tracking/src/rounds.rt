@@ -48,8 +48,27 @@ impl<S: Scheme<D> + Drop, D: Digest> Rounds<S, D> {
         self.by_view.get(&Reverse(view))
     }
 
-    /// The first view from this one on of which something is known.
+    /// The first view from this one on of which something is known. Mostly that is the last view of all, or there is none behind it.
     pub(crate) fn first_tracked(&self, from: View) -> Option<View>
+        ensures behind { IfSome result (λ first. from ≤ first) }
+        ensures tracked { AtEach S.key_of self.now (λ s led past. MatchOption result (AreUntracked led past from (2 ^ 64)) (λ first. IsFirstTracked led past from first)) }
+    {
+        let Some((last, _)) = self.by_view.first_key_value() else {
+            return None;
+        };
+        // The proof takes from the number that it has 64 bits.
+        let _number = last.0.get();
+        if last.0 < from {
+            return None;
+        }
+        if last.0 == from {
+            return Some(from);
+        }
+        self.search_from(from)
+    }
+
+    /// The first view from this one on of which something is known, by a search.
+    fn search_from(&self, from: View) -> Option<View>
         ensures behind { IfSome result (λ first. from ≤ first) }
         ensures tracked { AtEach S.key_of self.now (λ s led past. MatchOption result (AreUntracked led past from (2 ^ 64)) (λ first. IsFirstTracked led past from first)) }
     {

@@ -9,6 +9,7 @@ pub mod Members
 pub mod Owing
 pub mod Sorting
 pub mod Stalling
+pub mod Terms
 pub mod Unknown
 pub mod Waking
 pub mod Wanting

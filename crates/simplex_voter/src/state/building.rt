@@ -66,6 +66,9 @@ impl<S: Scheme<D> + Drop, L: Elector<S, D>, D: Digest> State<S, L, D> {
         ensures { AtEach S.Scheme L.Elector self.now (λ s h. IsTrue result ↔ AdmitsOutbound s.length s.optimistic_views (current s h) view) }
     {
         let current = self.views.current_view();
+        if view <= current {
+            return true;
+        }
         self.views.lookahead().admits_outbound(current, view)
     }
 }

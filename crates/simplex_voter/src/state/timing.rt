@@ -2,6 +2,7 @@
 
 ghost use Rattle.std.specs.Prelude.{◌≡◌, ◌↔◌, ◌+◌, ◌-◌, if◌then◌else◌, nat_lt, ℕ, false, true, ◌∷◌, None, is_some, IsTrue, IfOk, OnOk};
 ghost use Rattle.std.specs.Option.{option_or};
+ghost use Rattle.simplex_types.specs.Positions.{term_start};
 ghost use Rattle.simplex_history.specs.declared.timeout_reason.TimeoutReason.TheVariants as reason;
 ghost use Rattle.simplex_history.specs.Past as past;
 ghost use Rattle.simplex_history.specs.History.{current, latched, polled, seen};
@@ -43,12 +44,15 @@ impl<S: Scheme<D> + Drop, L: Elector<S, D>, D: Digest> State<S, L, D> {
         if finalized.get() == u64::MAX {
             return false;
         }
-        has_budget(
-            self.views.lookahead().length,
-            self.views.current_view(),
-            finalized,
-            self.skip_budget,
-        )
+        let current = self.views.current_view();
+        let length = self.views.lookahead().length;
+        // The proof takes from the number that a term has at least one view.
+        let _views = length.get();
+        // No more terms than views were skipped, so terms are counted only where that is not enough.
+        if current.get().saturating_sub(finalized.get()) < self.skip_budget {
+            return true;
+        }
+        has_budget(length, current, finalized, self.skip_budget)
     }
 
     /// Whether the current view, behind the start, is neither finalized nor decided by an own nullify or finalize.
@@ -86,10 +90,21 @@ impl<S: Scheme<D> + Drop, L: Elector<S, D>, D: Digest> State<S, L, D> {
         ensures { AtEach S.Scheme L.Elector self.now (λ s h. result ≡ oldest_entered s h) }
     {
         let current = self.views.current_view();
-        let start = current.term_start(self.views.lookahead().length);
+        let start = self.start_of_term(current);
         let finalized = self.views.last_finalized();
         let behind = View::new(finalized.get().saturating_add(1));
         self.first_entered(behind.max(start), current)
+    }
+
+    /// The first view of this view's term. Where terms have one view, nothing is divided.
+    fn start_of_term(&self, view: View) -> View
+        ensures { AtEach S.Scheme L.Elector self.now (λ s h. result ≡ term_start s.length view) }
+    {
+        let length = self.views.lookahead().length;
+        if length.get() == 1 {
+            return view;
+        }
+        view.term_start(length)
     }
 
     /// The first view from this one on and up to the last that was entered.

@@ -13,6 +13,6 @@ returns g c = λ s h k.
     let finalized = c.last_finalized-finalized.ensures.value s h k.views in
     let fits = c.last_finalized-finalized.ensures.behind s h k.views in
     let behind = behind_is (last_finalized h) c.last_finalized-finalized.result c.get.result c.saturating_add.result c.new-behind.result finalized fits c.get.ensures.value c.saturating_add.ensures c.new-behind.ensures in
-    let start : c.term_start-start.result ≡ term_start s.length (current s h) = rw (c.lookahead.ensures.length s h k.views, at) at c.term_start-start.ensures in
+    let start : c.start_of_term-start.result ≡ term_start s.length (current s h) = rw at at (c.start_of_term-start.ensures s h k) in
     let low : c.max.result ≡ max (last_finalized h + 1) (term_start s.length (current s h)) = grind (arith, common_steps, c.max.ensures, behind, start) in
     rw (low, at) at (c.first_entered.ensures s h k)
