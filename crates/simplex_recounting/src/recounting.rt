@@ -14,7 +14,7 @@ ghost use Rattle.simplex_member.specs.Setup.{owner_of};
 use crate::saying::Said;
 use simplex_acceptance::{Acceptance, silent_points_leave_votes};
 use simplex_certificates::{Artifact, Certificate};
-use simplex_messages::{Activity, Vote};
+use simplex_messages::Vote;
 use simplex_types::{Digest, Duplicate, Scheme, View, Viewable};
 use std::alloc::{AllocError, Global};
 
@@ -63,7 +63,7 @@ fn cast<S: Scheme<D> + Drop, D: Digest>(
 }
 
 /// Whether there is a report, which is let go.
-fn is_told<S: Scheme<D>, D: Digest>(report: Option<Activity<S, D>>) -> bool
+fn is_told<T: Drop>(report: Option<T>) -> bool
     ensures { result ≡ is_some report }
 {
     report.is_some()
