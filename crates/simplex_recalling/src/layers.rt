@@ -59,10 +59,8 @@ impl<S: Scheme<D> + Drop, L: Elector<S, D>, D: Digest> Layers<S, L, D> {
             IsSetUp s settings.now → IsInTime s now → IsRecordOf S.Scheme s recorded.now found → HasBegun S.Scheme L.Elector (formats D.PartialEq.eq D.spelling S.Signature.spelling S.Certificate.spelling D.reading S.Signature.reading S.Certificate.reading n) s now found r.0 r.1.items) }
     {
         let mut layers = Layers::opened(settings, config, elector, now)?;
-        match layers.replay(settings.alloc, recorded) {
-            Ok(out) => Ok((layers, out)),
-            Err(error) => Err(error),
-        }
+        let out = layers.replay(settings.alloc, recorded);
+        along(layers, out)
     }
 
     /// What a node keeps that is opened at this moment, before it goes through its record.
@@ -78,7 +76,8 @@ impl<S: Scheme<D> + Drop, L: Elector<S, D>, D: Digest> Layers<S, L, D> {
     {
         let alloc = settings.alloc;
         let voter = started_voter(alloc, &settings.scheme, config, elector, now)?;
-        let acceptance = entered_votes(settings, config.track_historical_votes, &voter)?;
+        let acceptance = entered_votes(settings, config.track_historical_votes, &voter);
+        let (voter, acceptance) = along(voter, acceptance)?;
         Ok(Layers {
             voter,
             acceptance,
@@ -177,7 +176,8 @@ fn started_voter<S: Scheme<D> + Drop, L: Elector<S, D>, D: Digest>(
 {
     let shared = scheme.clone()?;
     let mut voter = Voter::new(alloc, shared, elector, config)?;
-    voter.set_genesis(now, config.genesis)?;
+    let started = voter.set_genesis(now, config.genesis);
+    let (voter, ()) = along(voter, started)?;
     Ok(voter)
 }
 
@@ -200,6 +200,18 @@ fn entered_votes<S: Scheme<D> + Drop, L: Elector<S, D>, D: Digest>(
         owner.signer,
         track_historical_votes,
     );
-    acceptance.enter(voter.current_view(), voter.views().min_active())?;
+    let entered = acceptance.enter(voter.current_view(), voter.views().min_active());
+    let (acceptance, ()) = along(acceptance, entered)?;
     Ok(acceptance)
+}
+
+/// What is kept, with what was found; where nothing was, it is let go.
+fn along<A: Drop, B>(kept: A, found: Result<B, AllocError>) -> Result<(A, B), AllocError>
+    ensures kept { IfOk result (λ both. both.0 ≡ kept) }
+    ensures found { IfOk result (λ both. found ≡ Ok both.1) }
+{
+    match found {
+        Ok(found) => Ok((kept, found)),
+        Err(error) => Err(error),
+    }
 }

@@ -12,7 +12,7 @@ ghost use Rattle.simplex_core.specs.Taking.{IsLeftBy, IsTaken};
 
 use simplex_certificates::Certificate;
 use simplex_core::Core;
-use simplex_exchange::record;
+use simplex_intake::record;
 use simplex_journal::Disk;
 use simplex_learning::{tell_voter, tell_votes};
 use simplex_member::{Action, NodeFault};

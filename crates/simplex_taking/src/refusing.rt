@@ -16,7 +16,7 @@ ghost use Rattle.simplex_taking.specs.Refusing.{IsAnother, MayBeHeard, first_vot
 
 use simplex_certificates::Certificate;
 use simplex_core::Core;
-use simplex_exchange::{has_parent_below, vote_has_parent_below};
+use simplex_intake::{has_parent_below, vote_has_parent_below};
 use simplex_journal::Disk;
 use simplex_member::Refusal;
 use simplex_messages::Vote;

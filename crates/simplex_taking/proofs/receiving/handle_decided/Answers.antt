@@ -8,7 +8,7 @@ use Rattle.simplex_member.specs.Packet.{Packet, formats}
 use Rattle.simplex_member.specs.Point.{Came, Wanted}
 use Rattle.simplex_member.specs.Recorded.{record_of}
 use Rattle.simplex_member.specs.Setup.{owner_of}
-use Rattle.simplex_exchange.specs.Reading.{certificate-spelled}
+use Rattle.simplex_intake.specs.Reading.{certificate-spelled}
 use Rattle.simplex_core.specs.Keeps.{disk_of}
 use Rattle.simplex_taking.proofs.Replying.{from-nothing, heard-handled, none-due, point-reached, refused-handled, refused-unhandled, rest-reached, stepped, still-reached, unasked}
 use Rattle.simplex_taking.proofs.receiving.handle_decided.Goals as goal

@@ -3,8 +3,8 @@ use Rattle.std.specs.Prelude.{◌-◌, option_map}
 use Rattle.simplex_codec.specs.Codec.{unbounded-IsCodec}
 use Rattle.simplex_codec.specs.Varint.{varint-IsCodec}
 use Rattle.simplex_member.specs.Packet.{of_ask}
-use Rattle.simplex_exchange.specs.Reading.{whole-none, whole-some}
-use Rattle.simplex_exchange.proofs.packets.ask_in.Goals as goal
+use Rattle.simplex_intake.specs.Reading.{whole-none, whole-some}
+use Rattle.simplex_intake.proofs.packets.ask_in.Goals as goal
 
 pub returns-in-Ok-Some : goal.returns-in-Ok-Some
 returns-in-Ok-Some g c =

@@ -1,5 +1,5 @@
-use Rattle.simplex_exchange.proofs.Leaving.{left_without}
-use Rattle.simplex_exchange.proofs.recording.record.Goals as goal
+use Rattle.simplex_intake.proofs.Leaving.{left_without}
+use Rattle.simplex_intake.proofs.recording.record.Goals as goal
 
 -- nothing was asked of the disk
 pub returns-then-not-is_within-clause-any_moment : goal.returns-then-not-is_within-clause-any_moment

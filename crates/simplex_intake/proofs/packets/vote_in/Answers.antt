@@ -3,8 +3,8 @@ use Rattle.std.specs.Prelude.{option_map}
 use Rattle.simplex_codec.specs.Codec.{bounded-IsCodec, unbounded-IsCodec}
 use Rattle.simplex_messages.specs.Vote.{any_vote-IsCodec}
 use Rattle.simplex_member.specs.Packet.{of_vote}
-use Rattle.simplex_exchange.specs.Reading.{whole-none, whole-some}
-use Rattle.simplex_exchange.proofs.packets.vote_in.Goals as goal
+use Rattle.simplex_intake.specs.Reading.{whole-none, whole-some}
+use Rattle.simplex_intake.proofs.packets.vote_in.Goals as goal
 
 pub returns-in-Ok-Some : goal.returns-in-Ok-Some
 returns-in-Ok-Some g c =

@@ -5,7 +5,7 @@ ghost use Rattle.simplex_certificates.specs.Certificate.{certificate_statement};
 ghost use Rattle.simplex_member.specs.Packet.{packet_at};
 ghost use Rattle.simplex_record.specs.Rules.{HasParentBelow};
 ghost use Rattle.simplex_verifier.specs.Votes.{vote_statement};
-ghost use Rattle.simplex_exchange.specs.Packets.{as_packet};
+ghost use Rattle.simplex_intake.specs.Packets.{as_packet};
 
 use simplex_certificates::Certificate;
 use simplex_member::Channel;
