@@ -1,6 +1,6 @@
 //! What a node keeps above its record, and how it goes through the record when it is opened.
 
-ghost use Rattle.std.specs.Prelude.{◌≡◌, ◌∷◌, ◌++◌, [], ℕ, List, IfOk, OnOk, map};
+ghost use Rattle.std.specs.Prelude.{◌≡◌, ◌∷◌, ◌++◌, [], ℕ, List, Ok, IfOk, OnOk, IsOk, map};
 ghost use Rattle.simplex_certificates.specs.declared.artifact.Artifact.{Artifact};
 ghost use Rattle.simplex_history.specs.History.{started};
 ghost use Rattle.simplex_views.specs.Views.{built};
@@ -75,9 +75,9 @@ impl<S: Scheme<D> + Drop, L: Elector<S, D>, D: Digest> Layers<S, L, D> {
             IsSetUp s settings.now → StandAt S.Scheme L.Elector (formats D.PartialEq.eq D.spelling S.Signature.spelling S.Certificate.spelling D.reading S.Signature.reading S.Certificate.reading n) s layers (Opened now ∷ [])) }
     {
         let alloc = settings.alloc;
-        let voter = started_voter(alloc, &settings.scheme, config, elector, now)?;
-        let acceptance = entered_votes(settings, config.track_historical_votes, &voter);
-        let (voter, acceptance) = along(voter, acceptance)?;
+        let started = started_voter(alloc, &settings.scheme, config, elector, now)?;
+        let entered = entered_votes(settings, config.track_historical_votes, &started);
+        let (voter, acceptance) = along(started, entered)?;
         Ok(Layers {
             voter,
             acceptance,
@@ -177,8 +177,7 @@ fn started_voter<S: Scheme<D> + Drop, L: Elector<S, D>, D: Digest>(
     let shared = scheme.clone()?;
     let mut voter = Voter::new(alloc, shared, elector, config)?;
     let started = voter.set_genesis(now, config.genesis);
-    let (voter, ()) = along(voter, started)?;
-    Ok(voter)
+    once_done(voter, started)
 }
 
 /// The votes of all views of a node that is opened, whose voter has started.
@@ -201,8 +200,7 @@ fn entered_votes<S: Scheme<D> + Drop, L: Elector<S, D>, D: Digest>(
         track_historical_votes,
     );
     let entered = acceptance.enter(voter.current_view(), voter.views().min_active());
-    let (acceptance, ()) = along(acceptance, entered)?;
-    Ok(acceptance)
+    once_done(acceptance, entered)
 }
 
 /// What is kept, with what was found; where nothing was, it is let go.
@@ -212,6 +210,17 @@ fn along<A: Drop, B>(kept: A, found: Result<B, AllocError>) -> Result<(A, B), Al
 {
     match found {
         Ok(found) => Ok((kept, found)),
+        Err(error) => Err(error),
+    }
+}
+
+/// What was made, where what was to be done with it was done; else it is let go.
+fn once_done<A: Drop>(made: A, done: Result<(), AllocError>) -> Result<A, AllocError>
+    ensures made { IfOk result (λ whole. whole ≡ made) }
+    ensures done { OnOk result (IsOk done) }
+{
+    match done {
+        Ok(()) => Ok(made),
         Err(error) => Err(error),
     }
 }
