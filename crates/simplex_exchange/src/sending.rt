@@ -62,7 +62,10 @@ pub fn hand_vote_out<S: Scheme<D>, D: Digest>(
 {
     match hand_out(to_all(Channel::Votes, bytes), out) {
         Ok(()) => hand_out(Action::Report(report), out),
-        Err(fault) => Err(fault),
+        Err(fault) => {
+            drop(report);
+            Err(fault)
+        }
     }
 }
 
@@ -82,10 +85,17 @@ pub fn send_again<S: Scheme<D>, D: Digest>(
 {
     match send_nullify(alloc, recorded, out) {
         Ok(()) => {}
-        Err(fault) => return Err(fault),
+        Err(fault) => {
+            drop(best);
+            return Err(fault);
+        }
     }
     match best {
-        Some(certificate) => send(alloc, Channel::Certificates, &certificate, out),
+        Some(certificate) => {
+            let sent = send(alloc, Channel::Certificates, &certificate, out);
+            drop(certificate);
+            sent
+        }
         None => Ok(()),
     }
 }

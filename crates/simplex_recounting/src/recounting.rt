@@ -34,7 +34,11 @@ pub fn tell_votes<S: Scheme<D> + Drop, D: Digest>(
     silent_points_leave_votes::<S, D>();
     match Said::from(artifact.duplicate(alloc)?) {
         Said::Vote(vote) => cast(acceptance, floor, vote),
-        Said::Certificate(certificate) => certify(acceptance, &certificate),
+        Said::Certificate(certificate) => {
+            let told = certify(acceptance, &certificate);
+            drop(certificate);
+            told
+        }
         Said::Verdict(..) => Ok(()),
     }
 }

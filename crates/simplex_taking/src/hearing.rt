@@ -68,8 +68,14 @@ fn hand_admission_out<S: Scheme<D>, D: Digest>(
         return report_if(admission.report, out);
     }
     if !admission.block {
+        drop(admission);
         return Ok(());
     }
-    hand_out(Action::Block(sender), out)?;
-    report_if(admission.report, out)
+    match hand_out(Action::Block(sender), out) {
+        Ok(()) => report_if(admission.report, out),
+        Err(fault) => {
+            drop(admission);
+            Err(fault)
+        }
+    }
 }

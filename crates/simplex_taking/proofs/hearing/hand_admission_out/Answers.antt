@@ -15,8 +15,8 @@ pub returns-then-not-admission-clause-done : goal.returns-then-not-admission-cla
 returns-then-not-admission-clause-done g c = λ f.
     hands_as f c.args.out.now.items c.args.out.now.items (admission_deeds c.args.sender c.args.admission) [] (deeds-passed c.args.sender c.args.admission c.if-admission.false c.if-not-admission.true) (nothing_more f c.args.out.now.items)
 
-pub returns-clause-done : goal.returns-clause-done
-returns-clause-done g c = on_ok_weaker c.report_if-2.result (λ done f.
+pub returns-in-Ok-clause-done : goal.returns-in-Ok-clause-done
+returns-in-Ok-clause-done g c = on_ok_weaker c.report_if-in-Ok.result (λ done f.
     let reports = map Reports (option_to_list c.args.admission.report) in
-    hands_as f c.args.out.now.items c.report_if-2.new.out.items (admission_deeds c.args.sender c.args.admission) (Blocks c.args.sender ∷ reports) (deeds-blocked c.args.sender c.args.admission c.if-admission.false c.if-not-admission.false)
-    (both_more f c.args.out.now.items c.hand_out.new.out.items c.report_if-2.new.out.items (Blocks c.args.sender ∷ []) reports (c.in_ok-hand_out.ensures.done f (Blocks c.args.sender) refl) (done f))) c.report_if-2.ensures.done
+    hands_as f c.args.out.now.items c.report_if-in-Ok.new.out.items (admission_deeds c.args.sender c.args.admission) (Blocks c.args.sender ∷ reports) (deeds-blocked c.args.sender c.args.admission c.if-admission.false c.if-not-admission.false)
+    (both_more f c.args.out.now.items c.hand_out.new.out.items c.report_if-in-Ok.new.out.items (Blocks c.args.sender ∷ []) reports (c.in-Ok.ensures.done f (Blocks c.args.sender) refl) (done f))) c.report_if-in-Ok.ensures.done
