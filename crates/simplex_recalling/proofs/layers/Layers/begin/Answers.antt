@@ -6,7 +6,7 @@ use Rattle.simplex_recalling.proofs.Keeping.{both-so}
 use Rattle.simplex_recalling.proofs.layers.Layers.begin.Goals as goal
 
 pub returns : goal.returns
-returns g c = both-so c.along.result c.replay.new.self c.replay.result _ c.along.ensures.kept c.along.ensures.found (IfOk-weaker c.replay.result _ _ (λ out replayed n index found set_up in_time is.
+returns g c = both-so c.along.result c.replay-out.new.self c.replay-out.result _ c.along.ensures.kept c.along.ensures.found (IfOk-weaker c.replay-out.result _ _ (λ out replayed n index found set_up in_time is.
     let s = setup_of g.S.Scheme g.L.Elector c.args.config.now c.args.settings.now.scheme.value c.args.elector index in
     replayed n c.args.now s found is (record {
       h = Opened c.args.now ∷ [];
@@ -15,4 +15,4 @@ returns g c = both-so c.along.result c.replay.new.self c.replay.result _ c.along
       behind = refl;
       stand = c.in_ok-layers.ensures n index set_up;
       acts = tt;
-    })) c.replay.ensures)
+    })) c.replay-out.ensures)
