@@ -4,3 +4,4 @@ mod Finding
 mod Gone
 mod Recalled
 mod Keeping
+mod SaidSo

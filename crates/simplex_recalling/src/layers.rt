@@ -19,12 +19,12 @@ ghost use Rattle.simplex_recalling.specs.GoingThrough.{HasBegun, IsGoneThrough, 
 use crate::learning::what_is_not_recorded_is_unknown;
 use crate::recalling::{finalize, report, tell_repair, tell_voter};
 use crate::settings::Settings;
+use crate::telling::tell_votes;
 use simplex_acceptance::{Acceptance, silent_points_leave_votes};
 use simplex_certificates::Artifact;
 use simplex_decisions::config::Config;
 use simplex_member::Action;
 use simplex_recording::{Recorded, Tables, quiet_points_leave_the_tables};
-use simplex_recounting::tell_votes;
 use simplex_resolver::State as Repair;
 use simplex_rules::Elector;
 use simplex_types::{Digest, Scheme, Viewable};

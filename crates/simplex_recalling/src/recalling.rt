@@ -16,7 +16,6 @@ ghost use Rattle.simplex_voter.specs.State as voting;
 ghost use Rattle.simplex_resolver.specs.History.{Judged};
 ghost use Rattle.simplex_resolver.specs.Keeps as repairing;
 ghost use Rattle.simplex_recording.specs.Recorded.{HoldsRecord};
-ghost use Rattle.simplex_recounting.specs.Saying.{said_artifact};
 ghost use Rattle.simplex_member.specs.Deeds.{AreActions, Deed, Finalizes, Reports};
 ghost use Rattle.simplex_member.specs.Layers.{finds, repair_found, repair_of};
 ghost use Rattle.simplex_member.specs.Packet.{Formats, formats};
@@ -25,14 +24,15 @@ ghost use Rattle.simplex_member.specs.Recorded.{finalization_in, notarization_in
 ghost use Rattle.simplex_member.specs.Setup.{Setup};
 ghost use Rattle.simplex_recalling.specs.GoingThrough.{IsRecordOf};
 ghost use Rattle.simplex_recalling.specs.Learning.{IsNew};
+ghost use Rattle.simplex_recalling.specs.Saying.{said_artifact};
 
 use crate::learning::{give, give_verdict, judge_repair, update_repair};
+use crate::saying::Said;
 use simplex_certificates::Artifact;
 use simplex_exchange::{hand_out, report_if};
 use simplex_member::Action;
 use simplex_messages::Activity;
 use simplex_recording::Recorded;
-use simplex_recounting::Said;
 use simplex_resolver::State as Repair;
 use simplex_rules::Elector;
 use simplex_types::{Digest, Duplicate, Scheme, View};

@@ -7,8 +7,8 @@ use Rattle.simplex_resolver.specs.Keeps as repairing
 use Rattle.simplex_member.specs.Layers.{repair_of}
 use Rattle.simplex_member.specs.Packet.{formats}
 use Rattle.simplex_member.specs.Setup.{owner_of}
-use Rattle.simplex_recounting.specs.Saying.{said_artifact}
-use Rattle.simplex_recounting.specs.SaidRounds.{of_certificate}
+use Rattle.simplex_recalling.specs.Saying.{said_artifact}
+use Rattle.simplex_recalling.specs.SaidRounds.{of_certificate}
 use Rattle.simplex_recalling.proofs.Recalled.{certificate-found, judged-found, vote-found}
 use Rattle.simplex_recalling.proofs.recalling.say_to_repair.Goals as goal
 

@@ -5,8 +5,8 @@ use Rattle.simplex_types.specs.Positions.{HasRoom}
 use Rattle.simplex_voter.specs.State as voting
 use Rattle.simplex_certificates.specs.Artifact.{artifact_round}
 use Rattle.simplex_views.specs.Views.{recalls}
-use Rattle.simplex_recounting.specs.Saying.{said_artifact}
-use Rattle.simplex_recounting.specs.SaidRounds.{of_certificate}
+use Rattle.simplex_recalling.specs.Saying.{said_artifact}
+use Rattle.simplex_recalling.specs.SaidRounds.{of_certificate}
 use Rattle.simplex_recalling.proofs.Finding.{found-certificate, found-verdict, found-vote, still-unknown}
 use Rattle.simplex_recalling.proofs.recalling.say_to_voter.Goals as goal
 

@@ -6,7 +6,7 @@ use simplex_types::{Digest, Round, Scheme};
 
 /// What an artifact of a record says.
 #[derive(Drop)]
-pub enum Said<S: Scheme<D>, D: Digest> {
+pub(crate) enum Said<S: Scheme<D>, D: Digest> {
     /// An own vote.
     Vote(Vote<S, D>),
     /// A certificate.
@@ -17,7 +17,7 @@ pub enum Said<S: Scheme<D>, D: Digest> {
 
 impl<S: Scheme<D>, D: Digest> From<Artifact<S, D>> for Said<S, D> {
     ghost use Rattle.std.specs.Prelude.{◌≡◌};
-    ghost use Rattle.simplex_recounting.specs.Saying.{said_artifact};
+    ghost use Rattle.simplex_recalling.specs.Saying.{said_artifact};
 
     ghost from_gives = { λ artifact said. artifact ≡ said_artifact said };
 

@@ -3,8 +3,8 @@ use Rattle.simplex_certificates.specs.declared.artifact.Artifact.{Artifact}
 use Rattle.simplex_certificates.specs.declared.artifact.Artifact.TheVariants as artifact
 use Rattle.simplex_certificates.specs.Artifact.{certificate_artifact}
 use Rattle.simplex_messages.specs.VoteParts.{vote_artifact}
-use Rattle.simplex_recounting.specs.declared.saying.Said.{Said}
-use Rattle.simplex_recounting.specs.declared.saying.Said.TheVariants as said
+use Rattle.simplex_recalling.specs.declared.saying.Said.{Said}
+use Rattle.simplex_recalling.specs.declared.saying.Said.TheVariants as said
 
 -- the artifact that says this
 abbrev pub said_artifact : {S D P G C : Type 0} → Said S D P G C → Artifact S D P G C
