@@ -105,32 +105,6 @@ pub(crate) fn certificate_refusal<S: Scheme<D> + Drop, L: Elector<S, D>, D: Dige
     None
 }
 
-/// The first reason for which what was built under a number is not taken.
-pub(crate) fn built_refusal<S: Scheme<D> + Drop, L: Elector<S, D>, D: Digest, K: Disk>(
-    core: &Core<S, L, D, K>,
-    number: u64,
-) -> Option<Refusal>
-    ensures { AtAll S.Scheme L.Elector K.Disk core.now (λ f s h. (payload : Option D) → IsFirst (tests S.Scheme f s h (event.Built number payload)) result) }
-{
-    match core.tables.build(number) {
-        Some(_) => None,
-        None => Some(Refusal::UnknownAnswer),
-    }
-}
-
-/// The first reason for which the answer to the verification under a number is not taken.
-pub(crate) fn checked_refusal<S: Scheme<D> + Drop, L: Elector<S, D>, D: Digest, K: Disk>(
-    core: &Core<S, L, D, K>,
-    number: u64,
-) -> Option<Refusal>
-    ensures { AtAll S.Scheme L.Elector K.Disk core.now (λ f s h. (answer : Option Bool) → IsFirst (tests S.Scheme f s h (event.Checked number answer)) result) }
-{
-    match core.tables.check(number) {
-        Some(_) => None,
-        None => Some(Refusal::UnknownAnswer),
-    }
-}
-
 /// The first reason for which a verdict on a view is not taken. Where one is recorded no request stands, so this is looked at
 /// first.
 pub(crate) fn verdict_refusal<S: Scheme<D> + Drop, L: Elector<S, D>, D: Digest, K: Disk>(

@@ -9,7 +9,7 @@ ghost use Rattle.simplex_core.specs.Telling.{TellsOfDisk};
 
 use crate::answering::{take_built, take_checked};
 use crate::receiving::handle_packet;
-use crate::refusing::{built_refusal, checked_refusal, moment_refusal, verdict_refusal};
+use crate::refusing::{moment_refusal, verdict_refusal};
 use crate::telling::take_moment;
 use crate::verdicts::take_verdict;
 use simplex_core::Core;
@@ -67,10 +67,10 @@ fn handle_built<S: Scheme<D> + Drop, L: Elector<S, D>, D: Digest, K: Disk>(
     ensures faults { TellsOfDisk K.Disk (disk_of core.old) (disk_of core.new) result }
 {
     a_ledger_at_rest_leaves_its_record::<S, D, K>();
-    if let Some(refusal) = built_refusal(core, number) {
-        return Ok(Some(refusal));
-    }
-    match take_built(core, number, payload, out) {
+    let Some(building) = core.tables.build(number) else {
+        return Ok(Some(Refusal::UnknownAnswer));
+    };
+    match take_built(core, number, building, payload, out) {
         Ok(()) => Ok(None),
         Err(fault) => Err(fault),
     }
@@ -86,10 +86,10 @@ fn handle_checked<S: Scheme<D> + Drop, L: Elector<S, D>, D: Digest, K: Disk>(
     ensures faults { TellsOfDisk K.Disk (disk_of core.old) (disk_of core.new) result }
 {
     a_ledger_at_rest_leaves_its_record::<S, D, K>();
-    if let Some(refusal) = checked_refusal(core, number) {
-        return Ok(Some(refusal));
-    }
-    match take_checked(core, number, answer) {
+    let Some(view) = core.tables.check(number) else {
+        return Ok(Some(Refusal::UnknownAnswer));
+    };
+    match take_checked(core, number, view, answer) {
         Ok(()) => Ok(None),
         Err(fault) => Err(fault),
     }
