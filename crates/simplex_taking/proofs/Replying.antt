@@ -102,10 +102,6 @@ module _ {S L D P G C K : Type 0} {g : Ghosts S D P G C} {e : elector.Ghosts L S
 pub unasked : {K A : Type 0} (k : disk.Ghosts K) (old new : K) (answer : Result A NodeFault) → new ≡ old → IfErr answer (λ why. why ≡ step_fault.Memory) → TellsOfDisk k old new answer
 unasked k old new answer same memory = subst (λ (on : _). TellsOfDisk k old on answer) (sym same) (untouched k old answer memory)
 
--- the one test does not apply
-pub passes-one : {A : Type 0} (a : A) (Applies : Type 0) (rest : List (A × Type 0)) → IsFirst ((a, Applies) ∷ rest) None → Applies → ⊥
-passes-one a Applies rest none = ⊎_elim (λ hit. absurd (none-some a hit.1)) (λ miss. miss.0) none
-
 module _ {S D P G C K : Type 0} (g : Ghosts S D P G C) (f : Formats S D P G C) (s : Setup S D C) (h : History S D P G C) (k : disk.Ghosts K) (event : Event D) where
   -- where the disk is the same, a crash leaves the record
   pub still-reached : {old new : K} → new ≡ old → LeavesOnly (k.calls old) (k.calls old) (λ image. Reads image (map f.artifact (record_of h))) → LeavesOnly (k.calls old) (k.calls new) (IsReached g f s h event)

@@ -1,7 +1,7 @@
 //! The first reason for which an event is not taken, where that asks for neither memory nor the disk. The votes of a view tell the
 //! last two reasons for which a vote is not.
 
-ghost use Rattle.std.specs.Prelude.{◌≤◌, Bool, Option, IfNone, ◌<◌, ◌^◌};
+ghost use Rattle.std.specs.Prelude.{◌≤◌, Bool, IfNone, ◌<◌, ◌^◌};
 ghost use Rattle.simplex_member.specs.declared.event.Event.TheVariants as event;
 ghost use Rattle.simplex_member.specs.Allowed.{Allowed};
 ghost use Rattle.simplex_member.specs.Asked.{IsAwaited};
