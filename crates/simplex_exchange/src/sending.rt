@@ -84,12 +84,23 @@ pub fn send_again<S: Scheme<D>, D: Digest>(
     ensures fault { IfErr result (λ why. why ≡ step_fault.Memory) }
 {
     match send_nullify(alloc, recorded, out) {
-        Ok(()) => {}
+        Ok(()) => send_if(alloc, best, out),
         Err(fault) => {
             drop(best);
-            return Err(fault);
+            Err(fault)
         }
     }
+}
+
+/// Sends a certificate to all, where there is one.
+fn send_if<S: Scheme<D>, D: Digest>(
+    alloc: Global,
+    best: Option<Certificate<S, D>>,
+    out: &mut Vec<Action<S, D>>,
+) -> Result<(), NodeFault>
+    ensures done { OnOk result ((n : ℕ) → HandsOut ((formats D.PartialEq.eq D.spelling S.Signature.spelling S.Certificate.spelling D.reading S.Signature.reading S.Certificate.reading) n) out.old.items out.new.items (map (λ c. Sends None (of_certificate c)) (option_to_list best))) }
+    ensures fault { IfErr result (λ why. why ≡ step_fault.Memory) }
+{
     match best {
         Some(certificate) => {
             let sent = send(alloc, Channel::Certificates, &certificate, out);
