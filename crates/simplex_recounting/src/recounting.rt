@@ -13,7 +13,7 @@ ghost use Rattle.simplex_member.specs.Setup.{owner_of};
 
 use simplex_acceptance::Acceptance;
 use simplex_certificates::Certificate;
-use simplex_messages::Vote;
+use simplex_messages::{Activity, Vote};
 use simplex_types::{Digest, Scheme, View, Viewable};
 use std::alloc::AllocError;
 
@@ -45,7 +45,7 @@ pub fn recount_vote<S: Scheme<D> + Drop, D: Digest>(
 }
 
 /// Whether there is a report, which is let go.
-fn is_told<T: Drop>(report: Option<T>) -> bool
+fn is_told<S: Scheme<D>, D: Digest>(report: Option<Activity<S, D>>) -> bool
     ensures { result ≡ is_some report }
 {
     report.is_some()
