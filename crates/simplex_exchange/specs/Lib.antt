@@ -1,3 +1,1 @@
 pub mod Handing
-pub mod Packets
-pub mod Reading

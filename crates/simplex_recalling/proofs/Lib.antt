@@ -3,3 +3,5 @@ mod Unknown
 mod Finding
 mod Gone
 mod Recalled
+mod Keeping
+mod SaidSo

@@ -1,3 +1,5 @@
 pub mod SettingUp
 pub mod Learning
 pub mod GoingThrough
+pub mod Saying
+pub mod SaidRounds

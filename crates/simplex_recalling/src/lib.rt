@@ -4,7 +4,9 @@
 mod layers;
 mod learning;
 mod recalling;
+mod saying;
 mod settings;
+mod telling;
 
 pub use layers::Layers;
 pub use learning::{

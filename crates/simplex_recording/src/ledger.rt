@@ -90,6 +90,7 @@ impl<S: Scheme<D>, D: Digest, K: Disk> Ledger<S, D, K> {
         ensures not_failed { (owner : Owner) (xs : List (Artifact S D S.PublicKey S.Signature S.Certificate)) → KeepsRecord K.Disk (artifact_spelling D.spelling S.Signature.spelling S.Certificate.spelling) owner self.old xs → ¬ IsErrOf result NodeFault.Failed }
     {
         let Ok(()) = self.recorded.reserve() else {
+            drop(artifact);
             return Err(NodeFault::Memory);
         };
         match append(&mut self.journal, &artifact) {
@@ -97,7 +98,10 @@ impl<S: Scheme<D>, D: Digest, K: Disk> Ledger<S, D, K> {
                 Ok(()) => Ok(()),
                 Err(_) => Err(NodeFault::Memory),
             },
-            Err(fault) => Err(fault),
+            Err(fault) => {
+                drop(artifact);
+                Err(fault)
+            }
         }
     }
 

@@ -88,7 +88,10 @@ impl<S: Scheme<D>, D: Digest> Recorded<S, D> {
                 Ok(()) => Ok(()),
                 Err(_) => Err(AllocError),
             },
-            Err(error) => Err(error),
+            Err(error) => {
+                drop(artifact);
+                Err(error)
+            }
         }
     }
 

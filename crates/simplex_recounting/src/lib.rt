@@ -2,7 +2,5 @@
 #![tactic(auto)]
 
 mod recounting;
-mod saying;
 
-pub use recounting::tell_votes;
-pub use saying::Said;
+pub use recounting::{recount_certificate, recount_vote};

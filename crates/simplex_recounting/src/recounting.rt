@@ -1,8 +1,8 @@
-//! What the votes of all views are told of an artifact that the record has.
+//! What the votes of all views are told of what the record has.
 
 ghost use Rattle.std.specs.Prelude.{◌≡◌, Bool, OnOk, is_some};
 ghost use Rattle.simplex_types.specs.Positions.{HasRoom};
-ghost use Rattle.simplex_certificates.specs.Artifact.{artifact_round, certificate_artifact};
+ghost use Rattle.simplex_certificates.specs.Artifact.{certificate_artifact};
 ghost use Rattle.simplex_certificates.specs.Certificate.{certificate_round};
 ghost use Rattle.simplex_messages.specs.VoteParts.{vote_artifact, vote_round};
 ghost use Rattle.simplex_record.specs.Lawful.{Verifies};
@@ -11,36 +11,18 @@ ghost use Rattle.simplex_member.specs.Layers.{floor_of};
 ghost use Rattle.simplex_member.specs.Point.{Found};
 ghost use Rattle.simplex_member.specs.Setup.{owner_of};
 
-use crate::saying::Said;
-use simplex_acceptance::{Acceptance, silent_points_leave_votes};
-use simplex_certificates::{Artifact, Certificate};
+use simplex_acceptance::Acceptance;
+use simplex_certificates::Certificate;
 use simplex_messages::{Activity, Vote};
-use simplex_types::{Digest, Duplicate, Scheme, View, Viewable};
-use std::alloc::{AllocError, Global};
+use simplex_types::{Digest, Scheme, View, Viewable};
+use std::alloc::AllocError;
 
-/// Tells the votes of all views, before what need not be kept behind it is dropped: at this floor.
+/// Tells the votes of all views of an own vote that the record has, at this floor: before what need not be kept behind it is dropped.
 ///
 /// # Errors
 ///
-/// `AllocError` where memory ran out; and where an accepted vote stands in the way of an own one, as in no lawful record.
-pub fn tell_votes<S: Scheme<D> + Drop, D: Digest>(
-    acceptance: &mut Acceptance<S, D>,
-    alloc: Global,
-    floor: View,
-    artifact: &Artifact<S, D>,
-) -> Result<(), AllocError>
-    ensures { OnOk result (accepting.AtEach S.Scheme D.PartialEq.eq acceptance.old (λ s h. (taken : Bool) → floor ≡ floor_of s h → HasRoom s.voter.length (artifact_round artifact.now).view → Verifies (S.attests s.voter.scheme) (S.certifies s.voter.scheme) (owner_of s) artifact.now → accepting.KeepsAhead S.Scheme D.PartialEq.eq s acceptance.new h (Found artifact.now taken))) }
-{
-    silent_points_leave_votes::<S, D>();
-    match Said::from(artifact.duplicate(alloc)?) {
-        Said::Vote(vote) => cast(acceptance, floor, vote),
-        Said::Certificate(certificate) => certify(acceptance, &certificate),
-        Said::Verdict(..) => Ok(()),
-    }
-}
-
-/// Tells the votes of all views of an own vote. From the floor on none may stand in its way.
-fn cast<S: Scheme<D> + Drop, D: Digest>(
+/// `AllocError` where memory ran out; and where an accepted vote stands in its way from the floor on, as in no lawful record.
+pub fn recount_vote<S: Scheme<D> + Drop, D: Digest>(
     acceptance: &mut Acceptance<S, D>,
     floor: View,
     vote: Vote<S, D>,
@@ -69,8 +51,12 @@ fn is_told<S: Scheme<D>, D: Digest>(report: Option<Activity<S, D>>) -> bool
     report.is_some()
 }
 
-/// Tells the votes of all views of a certificate.
-fn certify<S: Scheme<D> + Drop, D: Digest>(
+/// Tells the votes of all views of a certificate that the record has.
+///
+/// # Errors
+///
+/// `AllocError` where memory ran out.
+pub fn recount_certificate<S: Scheme<D> + Drop, D: Digest>(
     acceptance: &mut Acceptance<S, D>,
     certificate: &Certificate<S, D>,
 ) -> Result<(), AllocError>

@@ -12,7 +12,7 @@ ghost use Rattle.simplex_core.specs.Taking.{IsLeftBy, IsTaken};
 
 use simplex_certificates::Certificate;
 use simplex_core::Core;
-use simplex_exchange::record;
+use simplex_intake::record;
 use simplex_journal::Disk;
 use simplex_learning::{tell_voter, tell_votes};
 use simplex_member::{Action, NodeFault};
@@ -48,7 +48,10 @@ pub(crate) fn take_certificate<S: Scheme<D> + Drop, L: Elector<S, D>, D: Digest,
     let low = core.voter.last_finalized();
     match learn(core, &certificate) {
         Ok(()) => core.hand_certificate(was, low, certificate, bytes, out),
-        Err(fault) => Err(fault),
+        Err(fault) => {
+            drop(certificate);
+            Err(fault)
+        }
     }
 }
 

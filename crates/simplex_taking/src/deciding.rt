@@ -7,13 +7,13 @@ ghost use Rattle.simplex_member.specs.Packet.{formats};
 ghost use Rattle.simplex_member.specs.Refusals.{needs_nothing, packet_tests};
 ghost use Rattle.simplex_taking.specs.Deciding.{IsDecided};
 ghost use Rattle.simplex_core.specs.Keeps.{AtAll, AtOwn};
-ghost use Rattle.simplex_exchange.specs.Packets.{as_packet};
+ghost use Rattle.simplex_intake.specs.Packets.{as_packet};
 ghost use Rattle.simplex_taking.specs.Refusing.{IsAnother, bytes_tests};
 
 use crate::refusing::{certificate_refusal, sender_refusal, vote_refusal};
 use simplex_certificates::Certificate;
 use simplex_core::Core;
-use simplex_exchange::{Message, message_in};
+use simplex_intake::{Message, message_in};
 use simplex_journal::Disk;
 use simplex_member::{Channel, Refusal};
 use simplex_messages::Vote;
@@ -67,11 +67,17 @@ fn decide_message<S: Scheme<D> + Drop, L: Elector<S, D>, D: Digest, K: Disk>(
 {
     match message {
         Message::Vote(vote) => match vote_refusal(core, sender, &vote) {
-            Some(refusal) => Decided::Refused(refusal),
+            Some(refusal) => {
+                drop(vote);
+                Decided::Refused(refusal)
+            }
             None => Decided::Vote(vote),
         },
         Message::Certificate(certificate) => match certificate_refusal(core, &certificate) {
-            Some(refusal) => Decided::Refused(refusal),
+            Some(refusal) => {
+                drop(certificate);
+                Decided::Refused(refusal)
+            }
             None => Decided::Certificate(certificate),
         },
         Message::Ask(view) => {

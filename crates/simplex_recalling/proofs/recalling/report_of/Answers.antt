@@ -1,7 +1,7 @@
 use Rattle.std.proofs.Common.{◌∷◌, ◌++◌, ◌∙◌, sym, ap}
 use Rattle.std.proofs.lemmas.Result.{IfOk-weaker}
 use Rattle.simplex_member.specs.Setup.{owner_of}
-use Rattle.simplex_recounting.specs.Saying.{said_artifact}
+use Rattle.simplex_recalling.specs.Saying.{said_artifact}
 use Rattle.simplex_recalling.proofs.Recalled.{certificate-reported, verdict-reported, vote-reported}
 use Rattle.simplex_recalling.proofs.recalling.report_of.Goals as goal
 

@@ -4,7 +4,7 @@ use Rattle.simplex_member.specs.First.{IsFirst}
 use Rattle.simplex_member.specs.Packet.{Packet, formats, packet_at}
 use Rattle.simplex_member.specs.Refusals.{packet_tests, sender_tests}
 use Rattle.simplex_taking.specs.Deciding.{IsDecided}
-use Rattle.simplex_exchange.specs.Packets.{as_packet}
+use Rattle.simplex_intake.specs.Packets.{as_packet}
 use Rattle.simplex_taking.proofs.Tests.{first-has, first-in-front, first-of-rest}
 use Rattle.simplex_taking.proofs.Refusals.{decided-behind, is_other, other-is, packet-needs}
 use Rattle.simplex_taking.proofs.deciding.decide.Goals as goal

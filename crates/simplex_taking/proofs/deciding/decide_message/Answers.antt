@@ -2,9 +2,9 @@ use Rattle.std.proofs.Common.{Some, refl, sym, subst}
 use Rattle.simplex_member.specs.Packet.{formats}
 use Rattle.simplex_member.specs.Refusals.{certificate_tests, packet_tests}
 use Rattle.simplex_taking.specs.declared.deciding.Decided.TheVariants as decided
-use Rattle.simplex_exchange.specs.declared.packets.Message.{Message}
+use Rattle.simplex_intake.specs.declared.packets.Message.{Message}
 use Rattle.simplex_taking.specs.Deciding.{IsDecided}
-use Rattle.simplex_exchange.specs.Packets.{as_packet}
+use Rattle.simplex_intake.specs.Packets.{as_packet}
 use Rattle.simplex_taking.specs.Refusing.{first_vote_tests, last_vote_tests}
 use Rattle.simplex_taking.proofs.Tests.{first-behind, first-has, first-in-front}
 use Rattle.simplex_taking.proofs.Refusals.{is_other, other-is}
