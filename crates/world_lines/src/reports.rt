@@ -38,29 +38,41 @@ impl Reports {
         &mut self,
         report: &Activity<S, Sha256Digest>,
     ) -> Result<(), AllocError> {
-        let mut bytes = Vec::new(self.alloc);
-        report.write(&mut bytes)?;
-        let fingerprint = fingerprint_of(&bytes);
-        if self.is_known(fingerprint, &bytes) {
+        let start = self.bytes.len();
+        report.write(&mut self.bytes)?;
+        let fingerprint = self.fingerprint_from(start);
+        if self.is_known(fingerprint, start) {
+            self.bytes.truncate(start);
             return Ok(());
         }
         if self.seen.len() >= MOST_SEEN {
             self.seen.clear();
         }
-        self.seen.insert(fingerprint, self.bytes.len())?;
-        self.bytes.extend_from_slice(&bytes)
+        self.seen.insert(fingerprint, start)?;
+        Ok(())
     }
 
-    /// Whether a report stands there.
-    fn is_known(&self, fingerprint: u64, bytes: &[u8]) -> bool {
-        let Some(start) = self.seen.get(&fingerprint) else {
+    /// The fingerprint of the last report, which begins there.
+    fn fingerprint_from(&self, start: usize) -> u64 {
+        match self.bytes.get(start..) {
+            Some(report) => fingerprint_of(report),
+            None => 0,
+        }
+    }
+
+    /// Whether the last report, which begins there, stands before it already.
+    fn is_known(&self, fingerprint: u64, start: usize) -> bool {
+        let Some(first) = self.seen.get(&fingerprint) else {
             return false;
         };
-        let Some(end) = start.checked_add(bytes.len()) else {
+        let Some((before, report)) = self.bytes.split_at_checked(start) else {
             return false;
         };
-        match self.bytes.get(*start..end) {
-            Some(held) => held == bytes,
+        let Some(end) = first.checked_add(report.len()) else {
+            return false;
+        };
+        match before.get(*first..end) {
+            Some(held) => held == report,
             None => false,
         }
     }

@@ -72,7 +72,7 @@ impl<S: Committee, M: Seat<S>> World<S, M> {
         else {
             return Ok(());
         };
-        if self.scenario.lies(sender.get()) {
+        if !self.is_liar(place) || self.scenario.lies(sender.get()) {
             return Ok(());
         }
         let packet = Handed {
@@ -83,6 +83,14 @@ impl<S: Committee, M: Seat<S>> World<S, M> {
         let mut out = Vec::new(self.alloc);
         self.hear(place, *sender, &packet, &mut out)?;
         self.send_parcels(index_of(place), &out)
+    }
+
+    /// Whether a member is a liar.
+    fn is_liar(&self, place: usize) -> bool {
+        match self.members.get(place) {
+            Some(member) => member.liar.is_some(),
+            None => false,
+        }
     }
 
     /// What a liar sends on hearing a packet.
