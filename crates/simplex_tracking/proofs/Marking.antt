@@ -74,3 +74,10 @@ none_behind set last view greatest before = ⊎_elim
     (λ there. let le : view ≤ last = ge_from_not_lt last view (greatest view there) in absurd (omega (arith, le, before)))
     (λ gone. gone)
     (cases_Bool (contains nat_cmp set view))
+
+-- so none of the views from one behind it on is
+pub none_from : (set : BTreeSet ℕ) (last first end : ℕ) → IsUpperBound nat_cmp set last → last < first → (f : ℕ → Bool) → ((u : ℕ) → contains nat_cmp set u ≡ f u) → IsTrue false ↔ IsMarkedWithin f first end
+none_from set last first end greatest before f shows = (
+  λ never. absurd (cc never),
+  λ there. absurd (let gone = none_behind set last there.0 greatest (omega (arith, before, there.1)) in let one : f there.0 ≡ false = sym (shows there.0) ∙ gone in let two = there.3 in cc),
+)
