@@ -1,8 +1,8 @@
 -- What a range of a set of views says.
-use Rattle.std.specs.BTreeSet.{BTreeSet, IsKeyRangeOf, IsLowerBound, contains}
+use Rattle.std.specs.BTreeSet.{BTreeSet, IsKeyRangeOf, IsLowerBound, IsUpperBound, contains}
 use Rattle.std.specs.Ordering.{nat_cmp}
 use Rattle.std.specs.declared.ops.Bound.TheVariants.{Included}
-use Rattle.std.proofs.Common.{◌≡◌, ◌≤◌, ◌+◌, ◌++◌, ◌↔◌, ℕ, true, false, List, [], ◌∷◌, ⊎_elim, sym, ◌∙◌, Bor, arith, if◌then◌else◌}
+use Rattle.std.proofs.Common.{◌≡◌, ◌≤◌, ◌<◌, ◌+◌, ◌++◌, ◌↔◌, ℕ, true, false, List, [], ◌∷◌, ⊎_elim, sym, ◌∙◌, Bor, arith, if◌then◌else◌}
 use Rattle.std.proofs.lemmas.Bool.{cases_lt}
 use Rattle.std.proofs.lemmas.Bool.Decides.{nat_tests}
 use Rattle.std.specs.Prelude.{Option, Some, None, Bool, IsTrue, is_some, MatchOption, nat_lt}
@@ -67,3 +67,17 @@ none_below set was first floor above least same f shows u = ⊎_elim
     rw below (⊎_elim (λ there. let le : first ≤ u = grind (arith, nat_tests, least u there) in absurd (omega (arith, le, lt, above))) (λ gone. gone) (cases_Bool (contains nat_cmp set u))))
     (λ ge. let here : nat_lt u floor ≡ false = grind (arith, nat_tests, ge) in rw here (same u ge ∙ shows u))
     (cases_lt u floor)
+
+-- behind the last marked view none is marked
+pub none_behind : (set : BTreeSet ℕ) (last view : ℕ) → IsUpperBound nat_cmp set last → last < view → contains nat_cmp set view ≡ false
+none_behind set last view greatest before = ⊎_elim
+    (λ there. let le : view ≤ last = ge_from_not_lt last view (greatest view there) in absurd (omega (arith, le, before)))
+    (λ gone. gone)
+    (cases_Bool (contains nat_cmp set view))
+
+-- so none of the views from one behind it on is
+pub none_from : (set : BTreeSet ℕ) (last first end : ℕ) → IsUpperBound nat_cmp set last → last < first → (f : ℕ → Bool) → ((u : ℕ) → contains nat_cmp set u ≡ f u) → IsTrue false ↔ IsMarkedWithin f first end
+none_from set last first end greatest before f shows = (
+  λ never. absurd (cc never),
+  λ there. absurd (let gone = none_behind set last there.0 greatest (omega (arith, before, there.1)) in let one : f there.0 ≡ false = sym (shows there.0) ∙ gone in let two = there.3 in cc),
+)

@@ -29,6 +29,15 @@ impl Marks {
     pub fn contains(&self, view: View) -> bool
         ensures { (f : ℕ → Bool) → Shows self.now f → result ≡ f view }
     {
+        // Mostly the last of all is asked for, or one behind it.
+        if let Some(last) = self.views.last() {
+            if *last < view {
+                return false;
+            }
+            if *last == view {
+                return true;
+            }
+        }
         self.views.contains(&view)
     }
 
@@ -50,8 +59,23 @@ impl Marks {
         Ok(())
     }
 
-    /// Whether one of the views from the first on and before the end is marked.
+    /// Whether one of the views from the first on and before the end is marked. Mostly the last mark of all tells it.
     pub fn any_within(&self, first: View, end: View) -> bool
+        ensures { (f : ℕ → Bool) → Shows self.now f → IsTrue result ↔ IsMarkedWithin f first end }
+    {
+        if let Some(greatest) = self.views.last() {
+            if *greatest < first {
+                return false;
+            }
+            if end > *greatest {
+                return true;
+            }
+        }
+        self.search_any(first, end)
+    }
+
+    /// Whether one of these views is marked, by a search.
+    fn search_any(&self, first: View, end: View) -> bool
         ensures { (f : ℕ → Bool) → Shows self.now f → IsTrue result ↔ IsMarkedWithin f first end }
     {
         let Some(last) = end.previous() else {
@@ -66,8 +90,23 @@ impl Marks {
             .is_some()
     }
 
-    /// The last marked one of the views from the first on and up to the last.
+    /// The last marked one of the views from the first on and up to the last. Mostly that is the last mark of all.
     pub fn last_within(&self, first: View, last: View) -> Option<View>
+        ensures { (f : ℕ → Bool) → Shows self.now f → MatchOption result ((view : ℕ) → first ≤ view → view ≤ last → f view ≡ false) (λ found. IsLastMarked f first last found) }
+    {
+        if let Some(greatest) = self.views.last() {
+            if *greatest < first {
+                return None;
+            }
+            if *greatest <= last {
+                return Some(*greatest);
+            }
+        }
+        self.search_last(first, last)
+    }
+
+    /// The last marked one of these views, by a search.
+    fn search_last(&self, first: View, last: View) -> Option<View>
         ensures { (f : ℕ → Bool) → Shows self.now f → MatchOption result ((view : ℕ) → first ≤ view → view ≤ last → f view ≡ false) (λ found. IsLastMarked f first last found) }
     {
         if last < first {

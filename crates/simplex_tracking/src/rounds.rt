@@ -1,7 +1,7 @@
 //! The rounds of all views of which something is known.
 #![tactic(auto, unfolding(crate::specs::Rounds::Keep))]
 
-ghost use Rattle.std.specs.Prelude.{◌≡◌, ◌<◌, ◌≤◌, ◌+◌, ◌^◌, ℕ, Bool, List, [], Option, Some, None, is_none, IsSome, IfSome, IfOk, OnOk, MatchOption};
+ghost use Rattle.std.specs.Prelude.{◌≡◌, ◌<◌, ◌≤◌, ◌+◌, ◌^◌, ℕ, Bool, List, [], Option, Some, None, is_none, is_some, IsSome, IfSome, IfOk, OnOk, MatchOption};
 ghost use Rattle.std.specs.Borrow.{sem};
 ghost use Rattle.std.specs.BTreeMap.{btree_map_len};
 ghost use Rattle.simplex_round.specs.Round as one;
@@ -45,7 +45,25 @@ impl<S: Scheme<D> + Drop, D: Digest> Rounds<S, D> {
     {
         // The proof takes from the number that it has 64 bits.
         let _number = view.get();
+        // Mostly the last view of all is asked for.
+        if let Some((last, round)) = self.by_view.first_key_value() {
+            if last.0 == view {
+                return Some(round);
+            }
+        }
         self.by_view.get(&Reverse(view))
+    }
+
+    /// Whether a view has a round.
+    fn has(&self, view: View) -> bool
+        ensures { result ≡ is_some (stored self.now.by_view view) }
+    {
+        if let Some((last, _)) = self.by_view.first_key_value() {
+            if last.0 == view {
+                return true;
+            }
+        }
+        self.by_view.contains_key(&Reverse(view))
     }
 
     /// The first view from this one on of which something is known. Mostly that is the last view of all, or there is none behind it.
@@ -93,7 +111,7 @@ impl<S: Scheme<D> + Drop, D: Digest> Rounds<S, D> {
     {
         // The proof takes from the number that it has 64 bits.
         let _number = view.get();
-        if self.by_view.contains_key(&Reverse(view)) {
+        if self.has(view) {
             return Ok(());
         }
         let round = Round::new(self.scheme.clone()?, Position::new(self.epoch, view));

@@ -7,8 +7,11 @@ use Rattle.std.proofs.lemmas.Grind.{common_steps}
 use Rattle.simplex_types.specs.Positions.{term_index, term_start}
 
 -- the term of a view, by the view before it
-term_index-suc : (views before : ℕ) → term_index views (before + 1) ≡ before / views + 1
+term_index-suc : (views before : ℕ) → term_index views (suc before) ≡ before / views + 1
 term_index-suc views before = grind (arith, common_steps)
+
+term_index-next : (views before : ℕ) → term_index views (before + 1) ≡ before / views + 1
+term_index-next views before = grind (arith, common_steps)
 
 -- so many views on, no more terms have passed
 terms_on : (views last before more : ℕ) → 0 < views → before ≤ last + more → before / views ≤ last / views + more
@@ -25,7 +28,7 @@ terms-between : (views last view : ℕ) → 0 < views → term_index views view 
 terms-between views last zero some = omega arith
 terms-between views last (suc before) some =
     let here : term_index views (suc before) ≡ before / views + 1 = term_index-suc views before in
-    let there : term_index views (last + 1) ≡ last / views + 1 = term_index-suc views last in
+    let there : term_index views (last + 1) ≡ last / views + 1 = term_index-next views last in
     let near : before / views ≤ last / views + (suc before - last) = terms_on views last before (suc before - last) some (omega arith) in
     omega (arith, here, there, near)
 

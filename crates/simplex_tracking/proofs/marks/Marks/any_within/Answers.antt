@@ -1,13 +1,18 @@
-use Rattle.std.proofs.Common.{◌≡◌, ◌+◌, ◌<◌, ⊎_elim, arith}
-use Rattle.std.proofs.lemmas.Bool.{cases_lt}
+use Rattle.std.proofs.Common.{◌≡◌, ◌≤◌, ◌<◌, refl, sym, ◌∙◌, arith}
+use Rattle.std.proofs.lemmas.Bool.Decides.{nat_tests}
 use Rattle.simplex_tracking.specs.Marks.{Shows}
-use Rattle.simplex_tracking.proofs.Marking.{range_marks, marked_within}
+use Rattle.simplex_tracking.proofs.Marking.{none_from}
 use Rattle.simplex_tracking.proofs.marks.Marks.any_within.Goals as goal
 
-pub returns : goal.returns
+pub returns-then-lt : goal.returns-then-lt
 unfolding Shows
-returns c = λ f shows.
-    let some : 0 < c.args.end = ⊎_elim (λ lt. lt) (λ le. absurd (cc (c.in-Some.ensures.none.1 (omega (arith, le))))) (cases_lt 0 c.args.end) in
-    let behind : c.in-Some.last + 1 ≡ c.args.end = omega (arith, c.in-Some.ensures.before, some) in
-    marked_within behind
-    (range_marks c.args.self.now.views c.args.first c.in-Some.last c.range.result c.next.new.self (c.range.ensures.in_range tt) c.next.result c.next.ensures.steps f shows c.is_some.result c.is_some.ensures)
+returns-then-lt c = λ f shows.
+    let before : c.in-Some.greatest.now < c.args.first = grind (arith, nat_tests, c.lt.ensures, c.if-lt.true) in
+    none_from c.args.self.now.views c.in-Some.greatest.now c.args.first c.args.end c.in-Some.ensures.greatest before f shows
+
+pub returns-then-gt : goal.returns-then-gt
+unfolding Shows
+returns-then-gt c = λ f shows.
+    let behind : c.args.first ≤ c.in-Some.greatest.now = grind (arith, nat_tests, c.lt.ensures, c.if-lt.false) in
+    let before : c.in-Some.greatest.now < c.args.end = grind (arith, nat_tests, c.gt.ensures, c.if-gt.true) in
+    (λ yes. (c.in-Some.greatest.now, behind, before, sym (shows c.in-Some.greatest.now) ∙ c.in-Some.ensures.member), λ there. refl)

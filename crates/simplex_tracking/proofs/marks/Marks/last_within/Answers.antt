@@ -1,19 +1,20 @@
-use Rattle.std.proofs.Common.{arith, sym, ◌∙◌, ◌<◌}
+use Rattle.std.proofs.Common.{◌≡◌, ◌≤◌, ◌<◌, sym, ◌∙◌, arith}
 use Rattle.std.proofs.lemmas.Bool.Decides.{nat_tests}
 use Rattle.simplex_tracking.specs.Marks.{Shows}
-use Rattle.simplex_tracking.proofs.Marking.{last_marked, none_within}
+use Rattle.simplex_tracking.proofs.Marking.{none_behind}
 use Rattle.simplex_tracking.proofs.marks.Marks.last_within.Goals as goal
 
 pub returns-then-lt : goal.returns-then-lt
 unfolding Shows
 returns-then-lt c = λ f shows view from below.
-    let past : c.args.last < c.args.first = grind (arith, nat_tests, c.lt.ensures, c.if-lt.true) in
-    absurd (omega (arith, past, from, below))
+    let before : c.in-Some.greatest.now < c.args.first = grind (arith, nat_tests, c.lt.ensures, c.if-lt.true) in
+    sym (shows view) ∙ none_behind c.args.self.now.views c.in-Some.greatest.now view c.in-Some.ensures.greatest (omega (arith, before, from))
 
-pub returns-in-Some : goal.returns-in-Some
+pub returns-then-le : goal.returns-then-le
 unfolding Shows
-returns-in-Some c = λ f shows. last_marked c.args.self.now.views c.args.first c.args.last c.range.result (c.range.ensures.in_range tt) f shows c.in-Some.view.now _ c.in-Some.ensures.steps
-
-pub returns-in-None : goal.returns-in-None
-unfolding Shows
-returns-in-None c = λ f shows view from below. sym (shows view) ∙ none_within c.args.self.now.views c.args.first c.args.last c.range.result (c.range.ensures.in_range tt) c.in-None.ensures.steps.0 view from below
+returns-then-le c = λ f shows. record {
+  behind = grind (arith, nat_tests, c.lt.ensures, c.if-lt.false);
+  up_to = grind (arith, nat_tests, c.le.ensures, c.if-le.true);
+  marked = sym (shows c.in-Some.greatest.now) ∙ c.in-Some.ensures.member;
+  none_above = λ u above below. sym (shows u) ∙ none_behind c.args.self.now.views c.in-Some.greatest.now u c.in-Some.ensures.greatest above;
+}

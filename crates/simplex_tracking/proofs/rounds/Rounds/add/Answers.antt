@@ -4,12 +4,12 @@ use Rattle.simplex_tracking.proofs.Choices.{none_from_test, some-is}
 use Rattle.simplex_tracking.proofs.Tables.{AreOpen-new, AreOpen-there, same_setup}
 use Rattle.simplex_tracking.proofs.rounds.Rounds.add.Goals as goal
 
-pub returns-then-contains_key-clause-opens : goal.returns-then-contains_key-clause-opens
+pub returns-then-has-clause-opens : goal.returns-then-has-clause-opens
 unfolding Keep
-returns-then-contains_key-clause-opens g c = λ s led past k. record {
+returns-then-has-clause-opens g c = λ s led past k. record {
   scheme = k.scheme;
   epoch = k.epoch;
-  rounds = AreOpen-there c.args.view k.rounds c.get-number.ensures.fits (rw (← c.if-contains_key.ensures) refl);
+  rounds = AreOpen-there c.args.view k.rounds c.get-number.ensures.fits (rw (← c.if-has.ensures) refl);
 }
 
 pub returns-clause-there : goal.returns-clause-there
@@ -23,5 +23,5 @@ returns-clause-opens g c = λ s led past k.
     record {
       scheme = k.scheme;
       epoch = k.epoch;
-      rounds = AreOpen-new c.args.view k.rounds c.get-number.ensures.fits (none_from_test c.if-contains_key.ensures) c.in_ok-insert.ensures.updates (rw same at d);
+      rounds = AreOpen-new c.args.view k.rounds c.get-number.ensures.fits (none_from_test c.if-has.ensures) c.in_ok-insert.ensures.updates (rw same at d);
     }

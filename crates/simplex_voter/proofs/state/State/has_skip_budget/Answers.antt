@@ -1,4 +1,4 @@
-use Rattle.std.proofs.Common.{◌≡◌, ◌+◌, ◌-◌, ◌<◌, sym, arith}
+use Rattle.std.proofs.Common.{◌-◌, ◌<◌, arith}
 use Rattle.std.proofs.lemmas.Bool.Decides.{nat_tests}
 use Rattle.simplex_history.specs.History.{current, last_finalized}
 use Rattle.simplex_voter.specs.State.{Keeps}
