@@ -59,8 +59,9 @@ impl<S: Scheme<D> + Drop, L: Elector<S, D>, D: Digest> Layers<S, L, D> {
             IsSetUp s settings.now → IsInTime s now → IsRecordOf S.Scheme s recorded.now found → HasBegun S.Scheme L.Elector (formats D.PartialEq.eq D.spelling S.Signature.spelling S.Certificate.spelling D.reading S.Signature.reading S.Certificate.reading n) s now found r.0 r.1.items) }
     {
         let mut layers = Layers::opened(settings, config, elector, now)?;
-        let out = layers.replay(settings.alloc, recorded);
-        along(layers, out)
+        let mut out = Vec::new(settings.alloc);
+        let replayed = layers.replay(settings.alloc, recorded, &mut out);
+        once_done((layers, out), replayed)
     }
 
     /// What a node keeps that is opened at this moment, before it goes through its record.
@@ -86,21 +87,20 @@ impl<S: Scheme<D> + Drop, L: Elector<S, D>, D: Digest> Layers<S, L, D> {
         })
     }
 
-    /// Goes through the whole record, and ends that: with what it hands out.
+    /// Goes through the whole record, and ends that.
     fn replay(
         &mut self,
         alloc: Global,
         recorded: &Recorded<S, D>,
-    ) -> Result<Vec<Action<S, D>>, AllocError>
-        ensures { IfOk result (λ out. (n now : ℕ) (s : Setup S D S.Certificate) (found : List (Artifact S D S.PublicKey S.Signature S.Certificate)) → IsRecordOf S.Scheme s recorded.now found
-            → IsGoneThrough S.Scheme L.Elector (formats D.PartialEq.eq D.spelling S.Signature.spelling S.Certificate.spelling D.reading S.Signature.reading S.Certificate.reading n) s now found found self.old []
-            → HasBegun S.Scheme L.Elector (formats D.PartialEq.eq D.spelling S.Signature.spelling S.Certificate.spelling D.reading S.Signature.reading S.Certificate.reading n) s now found self.new out.items) }
+        out: &mut Vec<Action<S, D>>,
+    ) -> Result<(), AllocError>
+        ensures { OnOk result ((n now : ℕ) (s : Setup S D S.Certificate) (found : List (Artifact S D S.PublicKey S.Signature S.Certificate)) → IsRecordOf S.Scheme s recorded.now found
+            → IsGoneThrough S.Scheme L.Elector (formats D.PartialEq.eq D.spelling S.Signature.spelling S.Certificate.spelling D.reading S.Signature.reading S.Certificate.reading n) s now found found self.old out.old.items
+            → HasBegun S.Scheme L.Elector (formats D.PartialEq.eq D.spelling S.Signature.spelling S.Certificate.spelling D.reading S.Signature.reading S.Certificate.reading n) s now found self.new out.new.items) }
     {
-        let mut out = Vec::new(alloc);
-        self.go_through(alloc, recorded, &mut out)?;
-        finalize(recorded, self.voter.last_finalized(), &mut out)?;
-        self.end(alloc)?;
-        Ok(out)
+        self.go_through(alloc, recorded, out)?;
+        finalize(recorded, self.voter.last_finalized(), out)?;
+        self.end(alloc)
     }
 
     /// Goes through the record, artifact by artifact, the oldest first, and reports each.
