@@ -134,10 +134,6 @@ pub on-err : {T E : Type 0} (r : Result T E) (Q : Type 0) → Q → OnErr r Q
 on-err (Ok x) Q q = tt
 on-err (Err e) Q q = q
 
--- an unchanged set lacks what it lacked
-pub alike-set : (old new : BTreeSet ℕ) → new.keys ≡ old.keys → (u : ℕ) → contains nat_cmp new u ≡ false → contains nat_cmp old u ≡ false
-alike-set old new e u lacks = let alike : contains nat_cmp new u ≡ contains nat_cmp old u = rw e refl in sym alike ∙ lacks
-
 -- a set that got a view lacks those alone that it lacked
 pub lacking : (old new : BTreeSet ℕ) (view : ℕ) → Updates nat_cmp old new view true → (u : ℕ) → contains nat_cmp new u ≡ false → contains nat_cmp old u ≡ false
 lacking old new view up u lacks = grind (arith, common_steps, up.0 u, lacks)

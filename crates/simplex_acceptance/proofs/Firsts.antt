@@ -1,6 +1,6 @@
 -- What comes of the first that happens to the votes of a view.
 use Rattle.std.proofs.Common.{◌≡◌, ◌≢◌, ℕ, ◌==◌, Bool, true, false, List, [], ◌∷◌, ⊎_elim, refl, sym, ◌∙◌, ap, subst, arith}
-use Rattle.std.specs.Prelude.{◌↔◌, Option, Some, None, IsTrue, Result, Ok, Err, IfOk, OnOk, if◌then◌else◌, is_none, unwrap_or}
+use Rattle.std.specs.Prelude.{◌↔◌, Option, Some, None, IsTrue, if◌then◌else◌, is_none, unwrap_or}
 use Rattle.std.specs.BTreeMap.{get}
 use Rattle.std.specs.BTreeSet.{contains}
 use Rattle.std.specs.Ordering.{nat_cmp}
@@ -16,7 +16,7 @@ use Rattle.simplex_admission.specs.declared.admission.Admission.{Admission}
 use Rattle.simplex_admission.specs.Evidence.{as_report}
 use Rattle.simplex_verifier.specs.declared.fault.BatcherFault.{BatcherFault}
 use Rattle.simplex_verifier.specs.declared.fault.BatcherFault.TheVariants.{WrongRound, Memory}
-use Rattle.simplex_verifier.specs.History.{Event, History, Setup, Taken, Cast, Certified, recorded, takes}
+use Rattle.simplex_verifier.specs.History.{Event, History, Taken, Cast, Certified, recorded, takes}
 use Rattle.simplex_verifier.specs.Lawful.{VoteAttests}
 use Rattle.simplex_batcher.specs.declared.round.Round.{Round}
 use Rattle.simplex_batcher.specs.Admission.{AgreesWithOwn, IsAdmissionFault, IsBlocked, IsCastFault, contradicts, report_of}
@@ -26,15 +26,6 @@ use Rattle.simplex_acceptance.specs.declared.rounds.Rounds.{Rounds}
 use Rattle.simplex_acceptance.specs.Standing.{AtEach, Common, IsAdmitted, IsCast, Stand, come_up, common_of, is_passed, put, set_at, setup_at, setup_now}
 use Rattle.simplex_acceptance.proofs.Changing.{alike, unknown}
 use Rattle.simplex_acceptance.proofs.Known.{admission-memory, round-of}
-
--- what is passed on where a round was seated
-pub passed-on : {A E Seated : Type 0} (r : Result A E) (a : A) (Q : A → Type 0) → IfOk r (λ given. given ≡ a) → OnOk r Seated → (Seated → Q a) → IfOk r Q
-passed-on (Ok x) a Q same seats holds = subst Q (sym same) (holds seats)
-passed-on (Err e) a Q same seats holds = tt
-
--- want of memory is a reason that is always told
-pub memory-is-why : {S D P G C : Type 0} (same : D → D → Bool) (s : Setup S) (h : History S D P G C) (v : Vote S D P G C) (e : BatcherFault) → e ≡ Memory → IsCastFault same s h v e
-memory-is-why same s h v e is = subst (λ (why : BatcherFault). IsCastFault same s h v why) (sym is) tt
 
 module _ {S D P G C : Type 0} where
   -- the first that happens is all that happened

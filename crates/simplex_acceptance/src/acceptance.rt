@@ -85,7 +85,10 @@ impl<S: Scheme<D> + Drop, D: Digest> Acceptance<S, D> {
                 report: None,
             });
         }
-        self.rounds.take_vote(self.current, sender, vote)
+        match self.rounds.take_vote(self.current, sender, vote) {
+            Ok(admission) => Ok(admission),
+            Err(fault) => Err(fault),
+        }
     }
 
     /// Whether the votes of a view may be kept: it is not below the floor, and has room.
@@ -220,7 +223,10 @@ impl<S: Scheme<D> + Drop, D: Digest> Acceptance<S, D> {
         ensures none { IfOk result (λ due. is_none due ≡ true → AtEach S.Scheme D.PartialEq.eq self.old (λ s h. NoneIsDue S.Scheme D.PartialEq.eq s h × Keeps S.Scheme D.PartialEq.eq s self.new h)) }
         ensures err { OnErr result (AtEach S.Scheme D.PartialEq.eq self.old (λ s h. Keeps S.Scheme D.PartialEq.eq s self.new h)) }
     {
-        self.rounds.next_due()
+        match self.rounds.next_due() {
+            Ok(due) => Ok(due),
+            Err(error) => Err(error),
+        }
     }
 
     /// Whether a nullify of this member was accepted in the view.

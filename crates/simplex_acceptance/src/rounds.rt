@@ -84,26 +84,15 @@ impl<S: Scheme<D> + Drop, D: Digest> Rounds<S, D> {
         Ok(())
     }
 
-    /// Puts the round of a view that had none to the others, and passes on what is answered then.
-    fn seat<R: Drop>(
-        &mut self,
-        view: View,
-        round: Round<S, D>,
-        answer: R,
-    ) -> Result<R, BatcherFault>
+    /// Puts the round of a view that had none to the others.
+    fn seat(&mut self, view: View, round: Round<S, D>) -> Result<(), AllocError>
         ensures seated { OnOk result (AtEach S.Scheme D.PartialEq.eq self.old (λ s up happened. get nat_cmp self.old.by_view view ≡ None → contains nat_cmp self.old.touched view ≡ true
             → (passed : Bool) (h : History S D S.PublicKey S.Signature S.Certificate) → RoundKeeps D.PartialEq.eq S.Scheme S.batchable (setup_at S.Scheme s view passed) round h → Stand S.Scheme D.PartialEq.eq s self.new (come_up view passed up) (set_at view h happened))) }
-        ensures passed_on { IfOk result (λ given. given ≡ answer) }
-        ensures memory { IfErr result (λ e. e ≡ Memory) }
         ensures err { OnErr result (AtEach S.Scheme D.PartialEq.eq self.old (λ s up happened. Stand S.Scheme D.PartialEq.eq s self.new up happened)) }
     {
-        let Ok(_) = self.unled.insert(view) else {
-            return Err(BatcherFault::Memory);
-        };
-        let Ok(_) = self.by_view.insert(view, round) else {
-            return Err(BatcherFault::Memory);
-        };
-        Ok(answer)
+        self.unled.insert(view)?;
+        self.by_view.insert(view, round)?;
+        Ok(())
     }
 
     /// Hands a vote from the network to the round of its view. Where that has none and the vote is taken, it gets one.
@@ -144,7 +133,8 @@ impl<S: Scheme<D> + Drop, D: Digest> Rounds<S, D> {
                 if !admission.added {
                     return Ok(admission);
                 }
-                self.seat(view, round, admission)
+                self.seat(view, round)?;
+                Ok(admission)
             }
             Err(fault) => Err(fault),
         }
@@ -184,7 +174,10 @@ impl<S: Scheme<D> + Drop, D: Digest> Rounds<S, D> {
         let view = vote.view();
         let mut round = self.fresh(view, current)?;
         match round.accept_vote(vote) {
-            Ok(report) => self.seat(view, round, report),
+            Ok(report) => {
+                self.seat(view, round)?;
+                Ok(report)
+            }
             Err(fault) => Err(fault),
         }
     }
@@ -225,7 +218,10 @@ impl<S: Scheme<D> + Drop, D: Digest> Rounds<S, D> {
         let view = certificate.view();
         let mut round = self.fresh(view, current)?;
         match round.record_certificate(certificate) {
-            Ok(_) => self.seat(view, round, ()),
+            Ok(_) => {
+                self.seat(view, round)?;
+                Ok(())
+            }
             Err(fault) => Err(fault),
         }
     }
@@ -240,10 +236,7 @@ impl<S: Scheme<D> + Drop, D: Digest> Rounds<S, D> {
         }
         self.touch(view)?;
         let round = self.fresh(view, current)?;
-        match self.seat(view, round, ()) {
-            Ok(()) => Ok(()),
-            Err(_) => Err(AllocError),
-        }
+        self.seat(view, round)
     }
 
     /// Names the leader of a view.

@@ -1,6 +1,6 @@
 //! What is handed out.
 
-ghost use Rattle.std.specs.Prelude.{◌≡◌, ◌∷◌, ◌++◌, [], map, option_to_list, if◌then◌else◌, IfErr, OnOk};
+ghost use Rattle.std.specs.Prelude.{◌≡◌, ◌∷◌, [], map, option_to_list, if◌then◌else◌, IfErr, OnOk};
 ghost use Rattle.simplex_messages.specs.declared.activity.Activity.TheVariants as activity;
 ghost use Rattle.simplex_member.specs.declared.fault.NodeFault.TheVariants as step_fault;
 ghost use Rattle.simplex_member.specs.Deeds.{Blocks, Deed, Finalizes, IsAction, IsPlan, Reports, own_way};
@@ -26,15 +26,7 @@ pub fn hand_out<S: Scheme<D>, D: Digest>(
     ensures done { OnOk result ((f : Formats S D S.PublicKey S.Signature S.Certificate) (deed : Deed S D S.PublicKey S.Signature S.Certificate) → IsAction f action deed → HandsOut f out.old.items out.new.items (deed ∷ [])) }
     ensures fault { IfErr result (λ why. why ≡ step_fault.Memory) }
 {
-    put(action, out)
-}
-
-/// Puts an item behind the others.
-fn put<T: Drop>(item: T, items: &mut Vec<T>) -> Result<(), NodeFault>
-    ensures more { OnOk result (items.new.items ≡ items.old.items ++ item ∷ []) }
-    ensures fault { IfErr result (λ why. why ≡ step_fault.Memory) }
-{
-    let Ok(()) = items.push(item) else {
+    let Ok(()) = out.push(action) else {
         return Err(NodeFault::Memory);
     };
     Ok(())

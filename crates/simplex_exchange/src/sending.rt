@@ -62,10 +62,7 @@ pub fn hand_vote_out<S: Scheme<D>, D: Digest>(
 {
     match hand_out(to_all(Channel::Votes, bytes), out) {
         Ok(()) => hand_out(Action::Report(report), out),
-        Err(fault) => {
-            drop(report);
-            Err(fault)
-        }
+        Err(fault) => Err(fault),
     }
 }
 
@@ -83,48 +80,15 @@ pub fn send_again<S: Scheme<D>, D: Digest>(
     ensures done { OnOk result ((n : ℕ) → HandsOut ((formats D.PartialEq.eq D.spelling S.Signature.spelling S.Certificate.spelling D.reading S.Signature.reading S.Certificate.reading) n) out.old.items out.new.items (Sends None (of_vote (vote.Nullify recorded.now)) ∷ map (λ c. Sends None (of_certificate c)) (option_to_list best))) }
     ensures fault { IfErr result (λ why. why ≡ step_fault.Memory) }
 {
-    match send_nullify(alloc, recorded, out) {
-        Ok(()) => send_if(alloc, best, out),
-        Err(fault) => {
-            drop(best);
-            Err(fault)
-        }
-    }
-}
-
-/// Sends a certificate to all, where there is one.
-fn send_if<S: Scheme<D>, D: Digest>(
-    alloc: Global,
-    best: Option<Certificate<S, D>>,
-    out: &mut Vec<Action<S, D>>,
-) -> Result<(), NodeFault>
-    ensures done { OnOk result ((n : ℕ) → HandsOut ((formats D.PartialEq.eq D.spelling S.Signature.spelling S.Certificate.spelling D.reading S.Signature.reading S.Certificate.reading) n) out.old.items out.new.items (map (λ c. Sends None (of_certificate c)) (option_to_list best))) }
-    ensures fault { IfErr result (λ why. why ≡ step_fault.Memory) }
-{
-    match best {
-        Some(certificate) => {
-            let sent = send(alloc, Channel::Certificates, &certificate, out);
-            drop(certificate);
-            sent
-        }
-        None => Ok(()),
-    }
-}
-
-/// Sends a recorded nullify to all.
-fn send_nullify<S: Scheme<D>, D: Digest>(
-    alloc: Global,
-    recorded: &Nullify<S, D>,
-    out: &mut Vec<Action<S, D>>,
-) -> Result<(), NodeFault>
-    ensures done { OnOk result ((n : ℕ) → HandsOut ((formats D.PartialEq.eq D.spelling S.Signature.spelling S.Certificate.spelling D.reading S.Signature.reading S.Certificate.reading) n) out.old.items out.new.items (Sends None (of_vote (vote.Nullify recorded.now)) ∷ [])) }
-    ensures fault { IfErr result (λ why. why ≡ step_fault.Memory) }
-{
     let Ok(copy) = recorded.duplicate(alloc) else {
         return Err(NodeFault::Memory);
     };
     let again: Vote<S, D> = Vote::Nullify(copy);
-    send(alloc, Channel::Votes, &again, out)
+    send(alloc, Channel::Votes, &again, out)?;
+    match best {
+        Some(certificate) => send(alloc, Channel::Certificates, &certificate, out),
+        None => Ok(()),
+    }
 }
 
 /// Sends a message to all.

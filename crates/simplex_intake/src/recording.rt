@@ -42,7 +42,6 @@ pub fn record<S: Scheme<D>, D: Digest, K: Disk>(
 {
     a_ledger_at_rest_leaves_its_record::<S, D, K>();
     if !artifact.is_within(BOUND) {
-        drop(artifact);
         return Err(NodeFault::Memory);
     }
     match ledger.record(artifact) {

@@ -3,5 +3,4 @@ mod Unknown
 mod Finding
 mod Gone
 mod Recalled
-mod Keeping
 mod SaidSo

@@ -1,6 +1,6 @@
 //! What a node keeps above its record, and how it goes through the record when it is opened.
 
-ghost use Rattle.std.specs.Prelude.{◌≡◌, ◌∷◌, ◌++◌, [], ℕ, List, Ok, IfOk, OnOk, IsOk, map};
+ghost use Rattle.std.specs.Prelude.{◌≡◌, ◌∷◌, ◌++◌, [], ℕ, List, IfOk, OnOk, map};
 ghost use Rattle.simplex_certificates.specs.declared.artifact.Artifact.{Artifact};
 ghost use Rattle.simplex_history.specs.History.{started};
 ghost use Rattle.simplex_views.specs.Views.{built};
@@ -59,8 +59,10 @@ impl<S: Scheme<D> + Drop, L: Elector<S, D>, D: Digest> Layers<S, L, D> {
             IsSetUp s settings.now → IsInTime s now → IsRecordOf S.Scheme s recorded.now found → HasBegun S.Scheme L.Elector (formats D.PartialEq.eq D.spelling S.Signature.spelling S.Certificate.spelling D.reading S.Signature.reading S.Certificate.reading n) s now found r.0 r.1.items) }
     {
         let mut layers = Layers::opened(settings, config, elector, now)?;
-        let out = layers.replay(settings.alloc, recorded);
-        along(layers, out)
+        match layers.replay(settings.alloc, recorded) {
+            Ok(out) => Ok((layers, out)),
+            Err(error) => Err(error),
+        }
     }
 
     /// What a node keeps that is opened at this moment, before it goes through its record.
@@ -75,9 +77,8 @@ impl<S: Scheme<D> + Drop, L: Elector<S, D>, D: Digest> Layers<S, L, D> {
             IsSetUp s settings.now → StandAt S.Scheme L.Elector (formats D.PartialEq.eq D.spelling S.Signature.spelling S.Certificate.spelling D.reading S.Signature.reading S.Certificate.reading n) s layers (Opened now ∷ [])) }
     {
         let alloc = settings.alloc;
-        let started = started_voter(alloc, &settings.scheme, config, elector, now)?;
-        let entered = entered_votes(settings, config.track_historical_votes, &started);
-        let (voter, acceptance) = along(started, entered)?;
+        let voter = started_voter(alloc, &settings.scheme, config, elector, now)?;
+        let acceptance = entered_votes(settings, config.track_historical_votes, &voter)?;
         Ok(Layers {
             voter,
             acceptance,
@@ -176,8 +177,8 @@ fn started_voter<S: Scheme<D> + Drop, L: Elector<S, D>, D: Digest>(
 {
     let shared = scheme.clone()?;
     let mut voter = Voter::new(alloc, shared, elector, config)?;
-    let started = voter.set_genesis(now, config.genesis);
-    once_done(voter, started)
+    voter.set_genesis(now, config.genesis)?;
+    Ok(voter)
 }
 
 /// The votes of all views of a node that is opened, whose voter has started.
@@ -199,28 +200,6 @@ fn entered_votes<S: Scheme<D> + Drop, L: Elector<S, D>, D: Digest>(
         owner.signer,
         track_historical_votes,
     );
-    let entered = acceptance.enter(voter.current_view(), voter.views().min_active());
-    once_done(acceptance, entered)
-}
-
-/// What is kept, with what was found; where nothing was, it is let go.
-fn along<A: Drop, B>(kept: A, found: Result<B, AllocError>) -> Result<(A, B), AllocError>
-    ensures kept { IfOk result (λ both. both.0 ≡ kept) }
-    ensures found { IfOk result (λ both. found ≡ Ok both.1) }
-{
-    match found {
-        Ok(found) => Ok((kept, found)),
-        Err(error) => Err(error),
-    }
-}
-
-/// What was made, where what was to be done with it was done; else it is let go.
-fn once_done<A: Drop>(made: A, done: Result<(), AllocError>) -> Result<A, AllocError>
-    ensures made { IfOk result (λ whole. whole ≡ made) }
-    ensures done { OnOk result (IsOk done) }
-{
-    match done {
-        Ok(()) => Ok(made),
-        Err(error) => Err(error),
-    }
+    acceptance.enter(voter.current_view(), voter.views().min_active())?;
+    Ok(acceptance)
 }

@@ -8,10 +8,8 @@ ghost use Rattle.simplex_certificates.specs.Artifact.{artifact_round};
 ghost use Rattle.simplex_certificates.specs.Certificate.{any_certificate_spelling, as_notarization};
 ghost use Rattle.simplex_messages.specs.declared.activity.Activity.TheVariants as activity;
 ghost use Rattle.simplex_record.specs.declared.owner.Owner.{Owner};
-ghost use Rattle.simplex_history.specs.History as views;
 ghost use Rattle.simplex_history.specs.History.{seen};
 ghost use Rattle.simplex_tracking.specs.Rounds.{Takes};
-ghost use Rattle.simplex_views.specs.Views.{recalls};
 ghost use Rattle.simplex_voter.specs.State as voting;
 ghost use Rattle.simplex_resolver.specs.History.{Judged};
 ghost use Rattle.simplex_resolver.specs.Keeps as repairing;
@@ -24,7 +22,6 @@ ghost use Rattle.simplex_member.specs.Recorded.{finalization_in, notarization_in
 ghost use Rattle.simplex_member.specs.Setup.{Setup};
 ghost use Rattle.simplex_recalling.specs.GoingThrough.{IsRecordOf};
 ghost use Rattle.simplex_recalling.specs.Learning.{IsNew};
-ghost use Rattle.simplex_recalling.specs.Saying.{said_artifact};
 
 use crate::learning::{give, give_verdict, judge_repair, update_repair};
 use crate::saying::Said;
@@ -53,30 +50,11 @@ pub(crate) fn tell_voter<S: Scheme<D> + Drop, L: Elector<S, D>, D: Digest>(
     ensures { OnOk result (voting.AtEach S.Scheme L.Elector voter.old (λ s h. HasRoom s.length (artifact_round artifact.now).view → IsNew s h artifact.now → (taken : Bool) × Takes (seen s h) artifact.now taken × voting.Keeps S.Scheme L.Elector s voter.new (finds now artifact.now taken ++ h))) }
 {
     voter.replay(artifact)?;
-    let said = Said::from(artifact.duplicate(alloc)?);
-    let told = say_to_voter(voter, alloc, now, &said);
-    drop(said);
-    told
-}
-
-/// Tells the voter what an artifact says that it was told to have recorded.
-fn say_to_voter<S: Scheme<D> + Drop, L: Elector<S, D>, D: Digest>(
-    voter: &mut Voter<S, L, D>,
-    alloc: Global,
-    now: u64,
-    said: &Said<S, D>,
-) -> Result<(), AllocError>
-    ensures { OnOk result ((s : views.Setup S S.Certificate) (h : List (views.Point S D S.PublicKey S.Signature S.Certificate)) (x : Artifact S D S.PublicKey S.Signature S.Certificate) (taken : Bool) → x ≡ said_artifact said.now → HasRoom s.length (artifact_round x).view → IsNew s h x
-        → voting.Keeps S.Scheme L.Elector s voter.old (recalls taken x ∷ h) → voting.Keeps S.Scheme L.Elector s voter.new (finds now x taken ++ h)) }
-{
-    match said {
+    match Said::from(artifact.duplicate(alloc)?) {
         Said::Vote(_) => Ok(()),
-        Said::Certificate(certificate) => give(alloc, now, certificate, voter),
-        Said::Verdict(round, ok) => match give_verdict(alloc, now, round.view, *ok, voter) {
-            Ok(notarization) => {
-                drop(notarization);
-                Ok(())
-            }
+        Said::Certificate(certificate) => give(alloc, now, &certificate, voter),
+        Said::Verdict(round, ok) => match give_verdict(alloc, now, round.view, ok, voter) {
+            Ok(_) => Ok(()),
             Err(_) => Err(AllocError),
         },
     }
@@ -97,30 +75,13 @@ pub(crate) fn tell_repair<S: Scheme<D>, D: Digest>(
         → repairing.Keeps s.voter.length repair.old (repair_of (formats D.PartialEq.eq D.spelling S.Signature.spelling S.Certificate.spelling D.reading S.Signature.reading S.Certificate.reading n) h)
         → repairing.Keeps s.voter.length repair.new (repair_found (formats D.PartialEq.eq D.spelling S.Signature.spelling S.Certificate.spelling D.reading S.Signature.reading S.Certificate.reading n) h artifact.now ++ repair_of (formats D.PartialEq.eq D.spelling S.Signature.spelling S.Certificate.spelling D.reading S.Signature.reading S.Certificate.reading n) h)) }
 {
-    let said = Said::from(artifact.duplicate(alloc)?);
-    let told = say_to_repair(repair, alloc, recorded, &said);
-    drop(said);
-    told
-}
-
-/// Tells the repair what an artifact says.
-fn say_to_repair<S: Scheme<D>, D: Digest>(
-    repair: &mut Repair,
-    alloc: Global,
-    recorded: &Recorded<S, D>,
-    said: &Said<S, D>,
-) -> Result<(), AllocError>
-    ensures { OnOk result ((n : ℕ) (s : Setup S D S.Certificate) (h : History S D S.PublicKey S.Signature S.Certificate) (x : Artifact S D S.PublicKey S.Signature S.Certificate) (rest : List (Artifact S D S.PublicKey S.Signature S.Certificate)) → x ≡ said_artifact said.now → HasRoom s.voter.length (artifact_round x).view → IsRecordOf S.Scheme s recorded.now (record_of h ++ x ∷ rest)
-        → repairing.Keeps s.voter.length repair.old (repair_of (formats D.PartialEq.eq D.spelling S.Signature.spelling S.Certificate.spelling D.reading S.Signature.reading S.Certificate.reading n) h)
-        → repairing.Keeps s.voter.length repair.new (repair_found (formats D.PartialEq.eq D.spelling S.Signature.spelling S.Certificate.spelling D.reading S.Signature.reading S.Certificate.reading n) h x ++ repair_of (formats D.PartialEq.eq D.spelling S.Signature.spelling S.Certificate.spelling D.reading S.Signature.reading S.Certificate.reading n) h)) }
-{
-    match said {
+    match Said::from(artifact.duplicate(alloc)?) {
         Said::Vote(_) => Ok(()),
-        Said::Certificate(certificate) => match update_repair(alloc, certificate, repair) {
+        Said::Certificate(certificate) => match update_repair(alloc, &certificate, repair) {
             Ok(()) => Ok(()),
             Err(_) => Err(AllocError),
         },
-        Said::Verdict(round, ok) => judge(repair, alloc, recorded, round.view, *ok),
+        Said::Verdict(round, ok) => judge(repair, alloc, recorded, round.view, ok),
     }
 }
 

@@ -32,11 +32,7 @@ pub(crate) fn tell_votes<S: Scheme<D> + Drop, D: Digest>(
     silent_points_leave_votes::<S, D>();
     match Said::from(artifact.duplicate(alloc)?) {
         Said::Vote(vote) => recount_vote(acceptance, floor, vote),
-        Said::Certificate(certificate) => {
-            let told = recount_certificate(acceptance, &certificate);
-            drop(certificate);
-            told
-        }
+        Said::Certificate(certificate) => recount_certificate(acceptance, &certificate),
         Said::Verdict(..) => Ok(()),
     }
 }

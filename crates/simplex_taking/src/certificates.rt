@@ -48,10 +48,7 @@ pub(crate) fn take_certificate<S: Scheme<D> + Drop, L: Elector<S, D>, D: Digest,
     let low = core.voter.last_finalized();
     match learn(core, &certificate) {
         Ok(()) => core.hand_certificate(was, low, certificate, bytes, out),
-        Err(fault) => {
-            drop(certificate);
-            Err(fault)
-        }
+        Err(fault) => Err(fault),
     }
 }
 

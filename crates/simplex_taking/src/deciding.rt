@@ -67,17 +67,11 @@ fn decide_message<S: Scheme<D> + Drop, L: Elector<S, D>, D: Digest, K: Disk>(
 {
     match message {
         Message::Vote(vote) => match vote_refusal(core, sender, &vote) {
-            Some(refusal) => {
-                drop(vote);
-                Decided::Refused(refusal)
-            }
+            Some(refusal) => Decided::Refused(refusal),
             None => Decided::Vote(vote),
         },
         Message::Certificate(certificate) => match certificate_refusal(core, &certificate) {
-            Some(refusal) => {
-                drop(certificate);
-                Decided::Refused(refusal)
-            }
+            Some(refusal) => Decided::Refused(refusal),
             None => Decided::Certificate(certificate),
         },
         Message::Ask(view) => {

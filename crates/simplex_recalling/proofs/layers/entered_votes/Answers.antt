@@ -1,13 +1,11 @@
 use Rattle.std.proofs.Common.{◌∷◌, [], ◌∙◌, ap, refl}
-use Rattle.std.proofs.lemmas.Result.{on_ok_weaker}
 use Rattle.simplex_record.specs.declared.owner.Owner.{Owner}
 use Rattle.simplex_member.specs.Layers.{voter_of}
 use Rattle.simplex_member.specs.Point.{Opened}
-use Rattle.simplex_recalling.proofs.Keeping.{made-so}
 use Rattle.simplex_recalling.proofs.layers.entered_votes.Goals as goal
 
 pub returns : goal.returns
-returns g c = made-so c.once_done.result c.enter-entered.new.self c.enter-entered.result _ c.once_done.ensures.made c.once_done.ensures.done (on_ok_weaker c.enter-entered.result (λ entered s now set_up tracks voter.
+returns g c = λ s now set_up tracks voter.
     let fresh = c.new-acceptance.ensures s (record {
       scheme_is = c.in_ok-shared.ensures.cases ∙ set_up.scheme_is;
       epoch_is = ap (λ (o : Owner). o.epoch) set_up.owner_is;
@@ -18,4 +16,4 @@ returns g c = made-so c.once_done.result c.enter-entered.new.self c.enter-entere
     let ahead = c.silent_points_leave_votes.ensures.silent s c.new-acceptance.result [] (Opened now) (λ view. (refl, λ r. refl)) fresh in
     let current = c.current_view.ensures s.voter (voter_of s (Opened now ∷ [])) voter in
     let floor = c.min_active.ensures s.voter (voter_of s (Opened now ∷ [])) (c.views.ensures s.voter (voter_of s (Opened now ∷ [])) voter) in
-    entered s [] (Opened now) ahead refl current floor) c.enter-entered.ensures.entered)
+    c.in_ok-enter.ensures.entered s [] (Opened now) ahead refl current floor

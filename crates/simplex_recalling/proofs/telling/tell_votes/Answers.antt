@@ -18,9 +18,9 @@ returns-in-Vote g c = on_ok_weaker c.recount_vote.result (λ told s h k taken at
     (sym c.in_ok-duplicate.ensures ∙ (c.from.ensures ∙ ap said_artifact c.in-Vote.is)) room verifies (told s h k taken at)) c.recount_vote.ensures
 
 pub returns-in-Certificate : goal.returns-in-Certificate
-returns-in-Certificate g c = on_ok_weaker c.recount_certificate-told.result (λ told s h k taken at room verifies.
-    of-its (λ (x : Artifact g.row.S.Denot g.row.D.Denot g.row.S-PublicKey.Denot g.row.S-Signature.Denot g.row.S-Certificate.Denot). accepting.KeepsAhead g.S.Scheme g.D.PartialEq.eq s c.recount_certificate-told.new.acceptance h (Found x taken)) (λ view. HasRoom s.voter.length view) c.args.artifact.now c.in-Certificate.certificate
-    (sym c.in_ok-duplicate.ensures ∙ (c.from.ensures ∙ ap said_artifact c.in-Certificate.is)) room (told s h k taken)) c.recount_certificate-told.ensures
+returns-in-Certificate g c = on_ok_weaker c.recount_certificate.result (λ told s h k taken at room verifies.
+    of-its (λ (x : Artifact g.row.S.Denot g.row.D.Denot g.row.S-PublicKey.Denot g.row.S-Signature.Denot g.row.S-Certificate.Denot). accepting.KeepsAhead g.S.Scheme g.D.PartialEq.eq s c.recount_certificate.new.acceptance h (Found x taken)) (λ view. HasRoom s.voter.length view) c.args.artifact.now c.in-Certificate.certificate
+    (sym c.in_ok-duplicate.ensures ∙ (c.from.ensures ∙ ap said_artifact c.in-Certificate.is)) room (told s h k taken)) c.recount_certificate.ensures
 
 pub returns-in-Verdict : goal.returns-in-Verdict
 returns-in-Verdict g c = λ s h k taken at room verifies.
