@@ -27,8 +27,6 @@ status_number status.Invalid = 5
 status_number status.TooLong = 6
 status_number status.Refused = 7
 status_number status.Foreign = 8
-status_number status.Device = 9
-status_number status.Failed = 10
 
 -- two numbers name a place, or none
 abbrev pub Names : ℕ → ℕ → Option ℕ → Type 0

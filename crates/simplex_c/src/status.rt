@@ -24,10 +24,6 @@ pub(crate) enum Status {
     Refused,
     /// An entry of a record is no artifact.
     Foreign,
-    /// The host could not be asked to change a record.
-    Device,
-    /// A step failed before: the record has to be opened again.
-    Failed,
 }
 
 impl Status {
@@ -46,8 +42,6 @@ impl Status {
             Status::TooLong => 6,
             Status::Refused => 7,
             Status::Foreign => 8,
-            Status::Device => 9,
-            Status::Failed => 10,
         }
     }
 }

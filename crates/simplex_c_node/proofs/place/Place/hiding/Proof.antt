@@ -20,12 +20,12 @@ use Rattle.std.proofs.alloc.Calls.{Goes-blank}
 use Rattle.std.proofs.raw_atomic.Walks.{proved_at, leaves}
 use Rattle.std.proofs.alloc.Global.TheLaws as heap_laws
 use Rattle.std.specs.contracts.impls.GlobalAllocator.TheImpl as heap_impl
-use Rattle.simplex_c.proofs.Values.{Loose, both, loose_good, loose_out}
-use Rattle.simplex_c.proofs.Places.{R, Z, place_in}
-use Rattle.simplex_c.specs.contracts.place.Place.hiding.{ended, clauses}
-use Rattle.simplex_c.specs.contracts.place.Place.hiding.Key.{name as #self}
-use Rattle.simplex_c.proofs.place.Place.hiding.Statement.{statement}
-use Rattle.simplex_c.proofs.place.Place.hiding.Code as code
+use Rattle.simplex_c_node.proofs.Values.{Loose, both, loose_good, loose_out}
+use Rattle.simplex_c_node.proofs.Places.{R, Z, place_in}
+use Rattle.simplex_c_node.specs.contracts.place.Place.hiding.{ended, clauses}
+use Rattle.simplex_c_node.specs.contracts.place.Place.hiding.Key.{name as #self}
+use Rattle.simplex_c_node.proofs.place.Place.hiding.Statement.{statement}
+use Rattle.simplex_c_node.proofs.place.Place.hiding.Code as code
 
 pub hiding_spec : {M : Type 1} → statement M
 hiding_spec 𝓤 𝓛 𝓜 𝓡 wired =

@@ -23,10 +23,10 @@ use Rattle.std.specs.Box.Ownership.{box_owns}
 use Rattle.std.specs.contracts.alloc.Global as heap
 use Rattle.std.proofs.alloc.Global.TheLaws as heap_laws
 use Rattle.std.specs.contracts.impls.GlobalAllocator.TheImpl as heap_impl
-use Rattle.simplex_c.specs.contracts.session.Session as session
-use Rattle.simplex_c.specs.contracts.place.Place as place
-use Rattle.simplex_c.specs.Place.{owned}
-use Rattle.simplex_c.proofs.Values.{both}
+use Rattle.simplex_c_node.specs.contracts.session.Session as session
+use Rattle.simplex_c_node.specs.contracts.place.Place as place
+use Rattle.simplex_c_node.specs.Place.{owned}
+use Rattle.simplex_c_node.proofs.Values.{both}
 
 abbrev pub Z : RattleType
 Z = heap.the_row

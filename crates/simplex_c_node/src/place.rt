@@ -18,8 +18,8 @@ pub struct Place {
 }
 
 impl Model for Place {
-    ghost use Rattle.simplex_c.specs.Place.{owned};
-    ghost use Rattle.simplex_c.specs.contracts.session.Session.{the_row};
+    ghost use Rattle.simplex_c_node.specs.Place.{owned};
+    ghost use Rattle.simplex_c_node.specs.contracts.session.Session.{the_row};
 
     ghost also_owns = { λ p. owned (⟦<Global as Allocator>⟧.dealloc_token p.alloc) the_row p.full p.at tt };
 }

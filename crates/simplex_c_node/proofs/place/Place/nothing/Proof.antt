@@ -22,12 +22,12 @@ use Rattle.std.proofs.ResultValues.{and_tt}
 use mir.Val.{has_ty}
 use Rattle.std.proofs.raw_atomic.Walks.{proved_at, leaves}
 use Rattle.std.proofs.alloc.Global.TheLaws as heap_laws
-use Rattle.simplex_c.proofs.Values.{both}
-use Rattle.simplex_c.proofs.Places.{Z, place_in}
-use Rattle.simplex_c.specs.contracts.place.Place.nothing.{ended, clauses}
-use Rattle.simplex_c.specs.contracts.place.Place.nothing.Key.{name as #self}
-use Rattle.simplex_c.proofs.place.Place.nothing.Statement.{statement}
-use Rattle.simplex_c.proofs.place.Place.nothing.Code as code
+use Rattle.simplex_c_node.proofs.Values.{both}
+use Rattle.simplex_c_node.proofs.Places.{Z, place_in}
+use Rattle.simplex_c_node.specs.contracts.place.Place.nothing.{ended, clauses}
+use Rattle.simplex_c_node.specs.contracts.place.Place.nothing.Key.{name as #self}
+use Rattle.simplex_c_node.proofs.place.Place.nothing.Statement.{statement}
+use Rattle.simplex_c_node.proofs.place.Place.nothing.Code as code
 
 pub nothing_spec : {M : Type 1} → statement M
 nothing_spec 𝓤 𝓛 𝓜 𝓡 wired =

@@ -1,9 +1,9 @@
 //! Calls on a member's node.
 
-ghost use Rattle.std.specs.Prelude.{◌≡◌, ◌≢◌, ◌<◌, Ok, Err};
-ghost use Rattle.simplex_c.specs.Answers.{Names};
-ghost use Rattle.simplex_c.specs.Serving.{ending_status, run_place, run_status, unopened_place, unopened_status, unstepped_status};
-ghost use Rattle.simplex_c.specs.declared.status.Status.TheVariants.{Argument, Done, Room};
+ghost use Rattle.std.specs.Prelude.{◌≡◌, ◌≢◌, ◌<◌, ◌⊎◌, Ok, Err};
+ghost use Rattle.simplex_c_node.specs.Answers.{Names};
+ghost use Rattle.simplex_c_node.specs.Serving.{ending_status, run_place, run_status, unopened_place, unopened_status, unstepped_status};
+ghost use Rattle.simplex_c_node.specs.declared.status.Status.TheVariants.{Argument, Done, Foreign, Invalid, Refused, Room};
 
 use crate::found::Found;
 use crate::handle::Handle;
@@ -25,6 +25,7 @@ pub(crate) fn opened(
     requires { member < members }
     ensures opened { result ≡ Done → node.new.live ≡ 1 }
     ensures unopened { result ≢ Done → node.new ≡ node.old }
+    ensures named { (result ≡ Refused) ⊎ (result ≡ Foreign) → found.new.named ≡ 1 }
 {
     match Session::open(alloc, members, member, stored) {
         Ok(session) => {
@@ -40,6 +41,8 @@ pub(crate) fn opened(
 pub(crate) fn stepped(alloc: Global, node: &mut Handle, events: &[u8], found: &mut Found) -> Status
     ensures dead { node.old.live ≢ 1 → (result ≡ Argument) × (node.new.live ≡ 0) }
     ensures live { node.old.live ≡ 1 → node.new.live ≡ 1 }
+    ensures named { result ≡ Invalid → found.new.named ≡ 1 }
+    ensures unnamed { result ≢ Invalid → result ≢ Argument → found.new.named ≡ 0 }
 {
     let Some(mut session) = node.taken(alloc) else {
         return Status::Argument;
@@ -58,6 +61,7 @@ pub(crate) fn requests_taken(
 ) -> Status
     ensures dead { node.old.live ≢ 1 → (result ≡ Argument) × (node.new.live ≡ 0) }
     ensures live { node.old.live ≡ 1 → node.new.live ≡ 1 }
+    ensures answers { (result ≡ Done) ⊎ ((result ≡ Argument) ⊎ (result ≡ Room)) }
     ensures unwritten { result ≢ Done → room.new ≡ room.old }
 {
     let Some(session) = node.taken(alloc) else {
@@ -77,6 +81,7 @@ pub(crate) fn replies_taken(
 ) -> Status
     ensures dead { node.old.live ≢ 1 → (result ≡ Argument) × (node.new.live ≡ 0) }
     ensures live { node.old.live ≡ 1 → node.new.live ≡ 1 }
+    ensures answers { (result ≡ Done) ⊎ ((result ≡ Argument) ⊎ (result ≡ Room)) }
     ensures unwritten { result ≢ Done → room.new ≡ room.old }
 {
     let Some(mut session) = node.taken(alloc) else {
@@ -120,6 +125,8 @@ fn fitted(taken: Result<usize, usize>, found: &mut Found) -> Status
 fn told(ended: Result<(), IoFault>, found: &mut Found) -> Status
     ensures status { result ≡ run_status ended }
     ensures place { Names found.new.named found.new.place (run_place ended) }
+    ensures named { result ≡ Invalid → found.new.named ≡ 1 }
+    ensures unnamed { result ≢ Invalid → found.new.named ≡ 0 }
 {
     match ended {
         Ok(()) => {
@@ -153,6 +160,7 @@ fn ending(fault: IoFault) -> Status
 fn unopened(fault: OpenFault, found: &mut Found) -> Status
     ensures status { result ≡ unopened_status fault }
     ensures place { Names found.new.named found.new.place (unopened_place fault) }
+    ensures named { (result ≡ Refused) ⊎ (result ≡ Foreign) → found.new.named ≡ 1 }
 {
     match fault {
         OpenFault::Foreign(place) => {

@@ -20,12 +20,12 @@ use Rattle.std.proofs.alloc.Calls.{Goes-blank}
 use Rattle.std.proofs.raw_atomic.Walks.{proved_at, leaves}
 use Rattle.std.proofs.alloc.Global.TheLaws as heap_laws
 use Rattle.std.specs.contracts.impls.GlobalAllocator.TheImpl as heap_impl
-use Rattle.simplex_c.proofs.Values.{both, loose_good, loose_in}
-use Rattle.simplex_c.proofs.Places.{Place, R, Z, place_out}
-use Rattle.simplex_c.specs.contracts.place.Place.shown.{ended, clauses}
-use Rattle.simplex_c.specs.contracts.place.Place.shown.Key.{name as #self}
-use Rattle.simplex_c.proofs.place.Place.shown.Statement.{statement}
-use Rattle.simplex_c.proofs.place.Place.shown.Code as code
+use Rattle.simplex_c_node.proofs.Values.{both, loose_good, loose_in}
+use Rattle.simplex_c_node.proofs.Places.{Place, R, Z, place_out}
+use Rattle.simplex_c_node.specs.contracts.place.Place.shown.{ended, clauses}
+use Rattle.simplex_c_node.specs.contracts.place.Place.shown.Key.{name as #self}
+use Rattle.simplex_c_node.proofs.place.Place.shown.Statement.{statement}
+use Rattle.simplex_c_node.proofs.place.Place.shown.Code as code
 
 pub shown_spec : {M : Type 1} → statement M
 shown_spec 𝓤 𝓛 𝓜 𝓡 wired =
