@@ -1,11 +1,9 @@
 -- The machine values of a `Place`. Assumes `Logic`.
 use Rattle.std.proofs.Common.{◌≡◌, ℕ, List, [], ◌∷◌, ◌++◌, refl, subst}
-use lib.Dec.{T}
 use seplogic.Ra.Ura.{Ura}
 use mir.Syntax.{impl, tnil, dnil}
 use mir.Raw.{raw as bare}
 use mir.Val.{Val, vptr, vstruct, of_list}
-use base.Fml.{ftrue}
 use base.Logic.{never, fst∗}
 use types.Logic.{Logic, sem}
 use types.Kit.{Item, Goal, Seq, Step, step, ‵, ◌$◌, move, drop, fsplit, fjoin, fpick, fpack, rewrite, feq_i, feq_l}
