@@ -1,6 +1,7 @@
 /* What the header tests before it calls, and a call of each function: answers 0 where all is as it has to be. */
 #include "voumlis.h"
 #include <stdio.h>
+#include <string.h>
 
 static int failed = 0;
 
@@ -12,6 +13,47 @@ static void want(int line, uint32_t got, uint32_t wanted) {
 }
 
 #define WANT(call, wanted) want(__LINE__, (call), (wanted))
+
+/* A node over an empty record: what it asks and answers, worked out by docs/FORMATS.md and the formats of the header. */
+static void test_node(void) {
+    struct voumlis_node node = VOUMLIS_NO_NODE, none = VOUMLIS_NO_NODE;
+    struct voumlis_found found;
+    uint8_t room[64];
+    /* Fix what stands there, write the closed gate of an empty record, fix that. */
+    static const uint8_t begun[] = {2, 0, 0, 0, 0, 0, 0, 0, 0, 0, 0, 0, 0, 0, 0, 0, 0, 1, 0, 2};
+    /* Not refused, one action: wake at moment 1000. */
+    static const uint8_t woken[] = {0, 1, 8, 232, 7};
+    /* Moment 300, and behind it what is no event; it is answered as above. */
+    static const uint8_t events[] = {4, 172, 2, 5};
+
+    WANT(voumlis_node_open(4, 4, NULL, 0, &node, &found), VOUMLIS_ARGUMENT);
+    WANT(voumlis_node_open(4, 0, (const uint8_t *)"\1\0\0\0\1\7", 7, &node, &found), VOUMLIS_FOREIGN);
+    want(__LINE__, (uint32_t)found.place, 0);
+    WANT(voumlis_node_open(4, 0, NULL, 0, &node, &found), VOUMLIS_DONE);
+    WANT(voumlis_node_open(4, 0, NULL, 0, &node, &found), VOUMLIS_ARGUMENT);
+    WANT(voumlis_node_requests(&node, room, sizeof begun - 1, &found), VOUMLIS_ROOM);
+    want(__LINE__, (uint32_t)found.length, sizeof begun);
+    WANT(voumlis_node_requests(&node, room, sizeof room, &found), VOUMLIS_DONE);
+    want(__LINE__, (uint32_t)found.length, sizeof begun);
+    want(__LINE__, memcmp(room, begun, sizeof begun) != 0, 0);
+    WANT(voumlis_node_requests(&node, NULL, 0, &found), VOUMLIS_DONE);
+    want(__LINE__, (uint32_t)found.length, 0);
+    WANT(voumlis_node_step(&node, events, sizeof events, &found), VOUMLIS_INVALID);
+    want(__LINE__, (uint32_t)found.place, 3);
+    WANT(voumlis_node_replies(&node, room, sizeof room, &found), VOUMLIS_DONE);
+    want(__LINE__, (uint32_t)found.length, 2 * sizeof woken);
+    want(__LINE__, memcmp(room, woken, sizeof woken) != 0, 0);
+    want(__LINE__, memcmp(room + sizeof woken, woken, sizeof woken) != 0, 0);
+    WANT(voumlis_node_requests(&node, (uint8_t *)&node, 8, &found), VOUMLIS_ARGUMENT);
+    WANT(voumlis_node_replies(&node, NULL, 1, &found), VOUMLIS_ARGUMENT);
+    WANT(voumlis_node_step(&node, (const uint8_t *)&node, 1, &found), VOUMLIS_ARGUMENT);
+    WANT(voumlis_node_step(&node, events, sizeof events, (struct voumlis_found *)&node), VOUMLIS_ARGUMENT);
+    WANT(voumlis_node_step(&none, events, sizeof events, &found), VOUMLIS_ARGUMENT);
+    WANT(voumlis_node_step(NULL, events, sizeof events, &found), VOUMLIS_ARGUMENT);
+    WANT(voumlis_node_close(&none), VOUMLIS_ARGUMENT);
+    WANT(voumlis_node_close(&node), VOUMLIS_DONE);
+    WANT(voumlis_node_close(&node), VOUMLIS_ARGUMENT);
+}
 
 int main(void) {
     struct voumlis_found found;
@@ -48,5 +90,6 @@ int main(void) {
     WANT(voumlis_audit(4, verdict, 4, room, SIZE_MAX / 2 + 1, &found), VOUMLIS_ARGUMENT);
     WANT(voumlis_audit(4, both.bytes, 8, both.bytes + 7, 8, &found), VOUMLIS_ARGUMENT);
     WANT(voumlis_audit(4, verdict, 4, both.bytes + 4, 8, &both.found), VOUMLIS_ARGUMENT);
+    test_node();
     return failed;
 }

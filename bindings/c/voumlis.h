@@ -1,19 +1,23 @@
-/* Voumlis for C: the audit of reports, the check of a record, and the reading of a message.
+/* Voumlis for C: the audit of reports, the check of a record, the reading of a message, and a member's node.
  *
- * Link libsimplex_c.a (`cd crates/simplex_c && rt lib` makes it) and three functions over one heap, which the toolchain's
- * archive has, or a program of yours: docs/EMBEDDING.md.
+ * Link libsimplex_c.a (`cd crates/simplex_c && rt lib` makes it), for a node libsimplex_c_node.a (made alike), and three functions
+ * over one heap, which the toolchain's archive has, or a program of yours: docs/EMBEDDING.md.
  *
  * WHAT IS TESTED. Each function below is C, and tests what can be tested before it calls the proved one of that name: that
- * no pointer is null where a length isn't 0, that no length is beyond half of the address space, that `found` is aligned,
- * and that what is written to doesn't overlap what is read or written beside it. Where that fails it answers
- * VOUMLIS_ARGUMENT, and nothing was read or written. Any numbers and any bytes are answered.
+ * no pointer is null where a length isn't 0, that no length is beyond half of the address space, that `found` and `node` are
+ * aligned, that what is written to doesn't overlap what is read or written beside it, and that a node is open where it has to
+ * be, and none where it mustn't. Where that fails it answers VOUMLIS_ARGUMENT, and nothing was read or written. Any numbers
+ * and any bytes are answered.
  *
  * WHAT A CALLER OWES, for no program in C can test it: each pointer is to as many bytes as the length behind it says; what
- * is written to (`evidence`, `found`) is the caller's, and nothing else reads or writes it during the call; what is read
- * isn't written meanwhile. No function is called from a signal handler, or from a forked child of a process with threads.
+ * is written to (`evidence`, `room`, `node`, `found`) is the caller's, and nothing else reads or writes it during the call;
+ * what is read isn't written meanwhile. No function is called from a signal handler, or from a forked child of a process with
+ * threads. Of a node: a `voumlis_node` is `VOUMLIS_NO_NODE`, or as a call has left it, and no copy of it is used besides; it
+ * stays on the thread that opened it.
  *
- * WHAT IS KEPT. Nothing. No function holds a pointer after it returns, hands out memory, or has state: any number of threads
- * may call at once. Memory that a call takes it gives back before it returns.
+ * WHAT IS KEPT. A node, from its opening to its closing, in the memory of the heap: else nothing. No function holds a pointer
+ * that it was passed after it returns, and none has state beside a node: any number of threads may call at once, each with
+ * nodes of its own. Other memory that a call takes it gives back before it returns.
  *
  * WHAT IS TRUSTED. That these declarations fit the library's (nothing compares them), the tests of this file, and what a
  * caller owes. */
@@ -37,7 +41,9 @@ enum voumlis_status {
     VOUMLIS_INVALID = 5,  /* a byte or a value can't stand there */
     VOUMLIS_TOO_LONG = 6, /* a count is above its bound */
     VOUMLIS_REFUSED = 7,  /* a lawful record refuses an entry */
-    VOUMLIS_FOREIGN = 8   /* an entry of a record is no artifact */
+    VOUMLIS_FOREIGN = 8,  /* an entry of a record is no artifact */
+    VOUMLIS_DEVICE = 9,   /* the host could not be asked to change a record: the node can go on no more */
+    VOUMLIS_FAILED = 10   /* a call failed before: the node can go on no more */
 };
 
 /* Kinds of messages. */
@@ -55,12 +61,32 @@ struct voumlis_found {
     uint32_t named; /* 1 where a place is named, else 0 */
 };
 
+/* A node, or none. */
+struct voumlis_node {
+    uint32_t live; /* 1 while a node is open, else 0 */
+    void *place;   /* the library's */
+};
+#define VOUMLIS_NO_NODE {0, NULL}
+
+/* What a node asks the host to do with its record, one behind another, each number in eight bytes, the highest first. */
+enum voumlis_request {
+    VOUMLIS_WRITE = 0, /* then a place, how many bytes, and the bytes: write them from that place on */
+    VOUMLIS_CUT = 1,   /* then a length: cut off all behind it */
+    VOUMLIS_SYNC = 2   /* fix what stands there, so that a crash leaves it */
+};
+
 /* The proved functions, which test no pointer. */
 uint32_t voumlis_proved_audit(uint16_t members, const uint8_t *reports, size_t reports_length, uint8_t *evidence,
                          size_t evidence_length, struct voumlis_found *found);
 uint32_t voumlis_proved_first_refused(uint16_t members, uint64_t epoch, uint32_t term, uint16_t member, const uint8_t *record,
                                  size_t record_length, struct voumlis_found *found);
 uint32_t voumlis_proved_decode(uint32_t kind, uint32_t members, const uint8_t *bytes, size_t length, struct voumlis_found *found);
+uint32_t voumlis_proved_node_open(uint16_t members, uint16_t member, const uint8_t *record, size_t record_length,
+                                  struct voumlis_node *node, struct voumlis_found *found);
+uint32_t voumlis_proved_node_step(struct voumlis_node *node, const uint8_t *events, size_t length, struct voumlis_found *found);
+uint32_t voumlis_proved_node_requests(struct voumlis_node *node, uint8_t *room, size_t length, struct voumlis_found *found);
+uint32_t voumlis_proved_node_replies(struct voumlis_node *node, uint8_t *room, size_t length, struct voumlis_found *found);
+uint32_t voumlis_proved_node_close(struct voumlis_node *node);
 
 /* Whether so many bytes may lie there. */
 static inline int voumlis_lies(const void *at, size_t length) {
@@ -113,6 +139,72 @@ static inline uint32_t voumlis_decode(uint32_t kind, uint32_t members, const uin
     if (!voumlis_fits(&bytes, length, found))
         return VOUMLIS_ARGUMENT;
     return voumlis_proved_decode(kind, members, bytes, length, found);
+}
+
+/* Whether a node, or none, may lie there. */
+static inline int voumlis_holds(const struct voumlis_node *node, uint32_t live) {
+    return voumlis_lies(node, sizeof *node) && (uintptr_t)node % sizeof(void *) == 0 && node->live == live &&
+           (live == 0 || node->place != NULL);
+}
+
+/* Opens the node of `member` of `members` (the plain scheme over the base "simplex", set up as the program `simplex node` is)
+ * at moment 0, over the bytes of its record, of which a new one has none. DONE: `node` is open, and what that hands out waits
+ * as a reply. REFUSED: the place is the artifact of the record that the rules refuse. FOREIGN: as above. MEMORY, DEVICE.
+ * ARGUMENT: no such member, or a node is open there. But where it answers DONE, `node` is as it was. */
+static inline uint32_t voumlis_node_open(uint16_t members, uint16_t member, const uint8_t *record, size_t record_length,
+                                         struct voumlis_node *node, struct voumlis_found *found) {
+    if (!voumlis_fits(&record, record_length, found) || !voumlis_holds(node, 0) ||
+        !voumlis_apart(node, sizeof *node, record, record_length) || !voumlis_apart(node, sizeof *node, found, sizeof *found))
+        return VOUMLIS_ARGUMENT;
+    return voumlis_proved_node_open(members, member, record, record_length, node, found);
+}
+
+/* Has a node answer events, one behind another (docs/FORMATS.md): the replies wait. BEFORE ANYTHING OF A REPLY IS CARRIED OUT
+ * the host takes the requests, and carries them out on the record in their order; where it can't, it lets the node go and
+ * carries out nothing more. DONE: the bytes ended between two events. INVALID: the place is that of the first byte at which no
+ * event stands; those before it are answered. TOO_LONG: behind 2^32 events. MEMORY, DEVICE, FAILED: a call failed, and the
+ * record is to be opened again. */
+static inline uint32_t voumlis_node_step(struct voumlis_node *node, const uint8_t *events, size_t length,
+                                         struct voumlis_found *found) {
+    if (!voumlis_fits(&events, length, found) || !voumlis_holds(node, 1) ||
+        !voumlis_apart(node, sizeof *node, events, length) || !voumlis_apart(node, sizeof *node, found, sizeof *found))
+        return VOUMLIS_ARGUMENT;
+    return voumlis_proved_node_step(node, events, length, found);
+}
+
+/* Whether a node's answers can be put there. */
+static inline int voumlis_takes(struct voumlis_node *node, uint8_t **room, size_t length, const struct voumlis_found *found) {
+    const uint8_t *nothing = NULL;
+    static uint8_t none;
+    if (length == 0)
+        *room = &none;
+    return voumlis_fits(&nothing, 0, found) && voumlis_holds(node, 1) && voumlis_lies(*room, length) &&
+           voumlis_apart(*room, length, found, sizeof *found) && voumlis_apart(*room, length, node, sizeof *node) &&
+           voumlis_apart(node, sizeof *node, found, sizeof *found);
+}
+
+/* Takes what a node asks. DONE: `found->length` bytes were written to `room`, and wait no more. ROOM: so many are needed, and
+ * they wait on. */
+static inline uint32_t voumlis_node_requests(struct voumlis_node *node, uint8_t *room, size_t length,
+                                             struct voumlis_found *found) {
+    if (!voumlis_takes(node, &room, length, found))
+        return VOUMLIS_ARGUMENT;
+    return voumlis_proved_node_requests(node, room, length, found);
+}
+
+/* Takes the replies, likewise. */
+static inline uint32_t voumlis_node_replies(struct voumlis_node *node, uint8_t *room, size_t length,
+                                            struct voumlis_found *found) {
+    if (!voumlis_takes(node, &room, length, found))
+        return VOUMLIS_ARGUMENT;
+    return voumlis_proved_node_replies(node, room, length, found);
+}
+
+/* Lets a node go; its record can be opened again. ARGUMENT: none is open there. */
+static inline uint32_t voumlis_node_close(struct voumlis_node *node) {
+    if (!voumlis_holds(node, 1))
+        return VOUMLIS_ARGUMENT;
+    return voumlis_proved_node_close(node);
 }
 
 #ifdef __cplusplus

@@ -1,12 +1,16 @@
-//! The audit of reports, the check of a record, and the reading of a message, by code that is proved; and the events and
-//! replies of a node as values.
+//! The audit of reports, the check of a record, the reading of a message, and a member's node, by code that is proved.
 //!
-//! Safe Rust over the static library `simplex_c`. Its functions ask nothing of numbers and bytes, and each slice is passed with
-//! its own length, so no call from safe code is undefined. Trusted, beside the proofs: the declarations below, which nothing
-//! compares with the library's, and the heap of the module `heap`.
+//! Safe Rust over the static library `simplex_c`. Its functions ask nothing of numbers and bytes, each slice is passed with its own
+//! length, and a node's handle is written by the library alone, so no call from safe code is undefined. Trusted, beside the proofs:
+//! the declarations below and of the module `handle`, which nothing compares with the library's, and the heap of the module `heap`.
 
+mod handle;
 mod heap;
+mod node;
 pub mod wire;
+
+use handle::Handle;
+pub use node::{Ending, Node};
 
 /// What a call tells beside its status.
 #[repr(C)]

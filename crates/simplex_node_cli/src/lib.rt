@@ -4,7 +4,6 @@
 mod ending;
 mod over;
 mod serving;
-mod settings;
 mod telling;
 
 pub use ending::Ending;

@@ -1,4 +1,4 @@
-//! How the program's node is set up.
+//! How the nodes of the program and of the library for C are set up.
 
 ghost use Rattle.std.specs.Prelude.{◌≡◌, ◌<◌, codes, IfOk, Some};
 
@@ -12,7 +12,7 @@ use std::rc::Rc;
 const BASE: &[u8; 7] = b"simplex";
 
 /// The node's settings. All times are in milliseconds.
-pub(crate) fn config() -> Config<Sha256Digest> {
+pub fn config() -> Config<Sha256Digest> {
     Config {
         epoch: Epoch::new(0),
         genesis: Sha256Digest::new([0; 32]),
@@ -30,7 +30,7 @@ pub(crate) fn config() -> Config<Sha256Digest> {
 }
 
 /// The plain scheme of so many members, as the member of this index has it.
-pub(crate) fn scheme(alloc: Global, index: u16, count: u16) -> Result<Rc<PlainScheme>, AllocError>
+pub fn scheme(alloc: Global, index: u16, count: u16) -> Result<Rc<PlainScheme>, AllocError>
     requires { index < count }
     ensures base { IfOk result (λ s. s.value.base ≡ codes "simplex") }
     ensures members { IfOk result (λ s. s.value.participants ≡ count) }
@@ -43,7 +43,7 @@ pub(crate) fn scheme(alloc: Global, index: u16, count: u16) -> Result<Rc<PlainSc
 }
 
 /// Who leads in a committee of so many: all in turn, a term of four views each.
-pub(crate) fn elector(alloc: Global, count: u16) -> Result<RoundRobinElector, AllocError>
+pub fn elector(alloc: Global, count: u16) -> Result<RoundRobinElector, AllocError>
     requires { 0 < count }
     ensures { IfOk result (λ e. ⟦<RoundRobinElector as Elector<PlainScheme, Sha256Digest>>⟧.built_for e count) }
 {

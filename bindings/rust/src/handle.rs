@@ -1,0 +1,105 @@
+//! A node as the proved library holds it between two calls.
+
+use crate::Found;
+use std::ptr;
+
+/// A node as the library holds it. The pointer is the library's, and keeps this on the thread that opened it.
+#[repr(C)]
+#[derive(Debug)]
+pub(crate) struct Handle {
+    live: u32,
+    place: *mut u8,
+}
+
+unsafe extern "C" {
+    fn voumlis_proved_node_open(
+        members: u16,
+        member: u16,
+        record: *const u8,
+        length: usize,
+        node: *mut Handle,
+        found: *mut Found,
+    ) -> u32;
+    fn voumlis_proved_node_step(
+        node: *mut Handle,
+        events: *const u8,
+        length: usize,
+        found: *mut Found,
+    ) -> u32;
+    fn voumlis_proved_node_requests(
+        node: *mut Handle,
+        room: *mut u8,
+        length: usize,
+        found: *mut Found,
+    ) -> u32;
+    fn voumlis_proved_node_replies(
+        node: *mut Handle,
+        room: *mut u8,
+        length: usize,
+        found: *mut Found,
+    ) -> u32;
+    fn voumlis_proved_node_close(node: *mut Handle) -> u32;
+}
+
+/// A call that takes what waits.
+type Take = unsafe extern "C" fn(*mut Handle, *mut u8, usize, *mut Found) -> u32;
+
+impl Handle {
+    /// No node.
+    pub(crate) const NONE: Handle = Handle {
+        live: 0,
+        place: ptr::null_mut(),
+    };
+
+    pub(crate) fn open(
+        &mut self,
+        members: u16,
+        member: u16,
+        record: &[u8],
+        found: &mut Found,
+    ) -> u32 {
+        // SAFETY: a slice with its length, and a handle that is as the library left it, or none.
+        unsafe {
+            voumlis_proved_node_open(members, member, record.as_ptr(), record.len(), self, found)
+        }
+    }
+
+    pub(crate) fn step(&mut self, events: &[u8], found: &mut Found) -> u32 {
+        // SAFETY: as above.
+        unsafe { voumlis_proved_node_step(self, events.as_ptr(), events.len(), found) }
+    }
+
+    /// What the host is asked to do with the record.
+    pub(crate) fn requests(&mut self) -> Vec<u8> {
+        self.taken(voumlis_proved_node_requests)
+    }
+
+    /// The replies that were not taken yet.
+    pub(crate) fn replies(&mut self) -> Vec<u8> {
+        self.taken(voumlis_proved_node_replies)
+    }
+
+    fn taken(&mut self, take: Take) -> Vec<u8> {
+        let mut room = vec![0; 4096];
+        loop {
+            let mut found = Found::default();
+            // SAFETY: a slice with its length, lent to be written, and a handle that is as the library left it.
+            let status = unsafe { take(self, room.as_mut_ptr(), room.len(), &mut found) };
+            match status {
+                0 => {
+                    room.truncate(found.length);
+                    return room;
+                }
+                3 => room = vec![0; found.length],
+                _ => return Vec::new(),
+            }
+        }
+    }
+}
+
+impl Drop for Handle {
+    fn drop(&mut self) {
+        // SAFETY: a handle that is as the library left it, or none, and is used no more.
+        unsafe { voumlis_proved_node_close(self) };
+    }
+}

@@ -1,0 +1,164 @@
+//! A member's node between two calls.
+
+ghost use Rattle.std.specs.Prelude.{◌≡◌, ◌<◌, ◌++◌, ℕ, None, Some, IfOk};
+ghost use Rattle.simplex_certificates.specs.Artifact.{artifact_spelling};
+ghost use Rattle.simplex_codec.specs.Codec.{Readable};
+ghost use Rattle.simplex_member.specs.declared.action.Reply.{Reply};
+ghost use Rattle.simplex_member.specs.Packet.{formats};
+ghost use Rattle.simplex_member.specs.Setup.{setup_of};
+ghost use Rattle.simplex_node.specs.Keeps.{AtOwn};
+ghost use Rattle.simplex_node.specs.Opening.{IsOpenAndSettled};
+ghost use Rattle.simplex_running.specs.Running.{RunFails, RunsTo};
+ghost use Rattle.simplex_streaming.specs.Streaming.{EndsIn, spelled};
+
+use simplex_certificates::Artifact;
+use simplex_decisions::config::Config;
+use simplex_hosted::{HostedDisk, Requests};
+use simplex_journal::Disk;
+use simplex_member::{IoFault, OpenFault, Reply};
+use simplex_node::Node;
+use simplex_rules::Elector;
+use simplex_rules::elector::RoundRobinElector;
+use simplex_running::run_io;
+use simplex_settings::{config, elector, scheme};
+use simplex_streaming::write_out;
+use simplex_types::{Digest, PlainScheme, Read as Spelled, Scheme, Sha256Digest, Write as Spells};
+use std::alloc::{AllocError, Global};
+use std::marker::Model;
+use std::rc::Rc;
+
+/// A member's node, what it asks of the host that keeps its record, and the replies that were not taken yet.
+#[derive(Drop)]
+pub(crate) struct Session {
+    node: Node<PlainScheme, RoundRobinElector, Sha256Digest, HostedDisk>,
+    requests: Requests,
+    replies: Vec<u8>,
+}
+
+// Nothing of a node is told between two calls.
+impl Model for Session {
+    ghost use Rattle.std.specs.Prelude.{⊤};
+
+    ghost Value = { ⊤ };
+
+    ghost view = { λ _. tt };
+}
+
+impl Session {
+    /// Opens a member's node over its record at moment 0, set up as the program's; what that hands out is the first reply.
+    pub(crate) fn open(
+        alloc: Global,
+        members: u16,
+        member: u16,
+        stored: &[u8],
+    ) -> Result<Box<Session>, OpenFault>
+        requires { member < members }
+    {
+        let Ok((disk, requests)) = hosted(alloc, stored) else {
+            return Err(OpenFault::Memory);
+        };
+        match opened(alloc, members, member, disk, requests) {
+            Ok(session) => boxed(alloc, session),
+            Err(fault) => Err(fault),
+        }
+    }
+
+    /// Answers events, one behind another; the replies are put behind those that were not taken yet.
+    pub(crate) fn step(&mut self, alloc: Global, events: &[u8]) -> Result<(), IoFault> {
+        go_on(alloc, &mut self.node, events, &mut self.replies)
+    }
+
+    /// What the host is asked to do.
+    pub(crate) fn requests(&self) -> &Requests {
+        &self.requests
+    }
+
+    /// The replies that were not taken yet.
+    pub(crate) fn replies(&mut self) -> &mut Vec<u8> {
+        &mut self.replies
+    }
+}
+
+/// A disk over these bytes, and what it asks.
+fn hosted(alloc: Global, stored: &[u8]) -> Result<(HostedDisk, Requests), AllocError> {
+    let requests = Requests::new(alloc)?;
+    let shared = requests.shared()?;
+    let stored = Vec::from_slice(alloc, stored)?;
+    Ok((HostedDisk::over(alloc, stored, shared), requests))
+}
+
+/// A session in a box.
+fn boxed(alloc: Global, session: Session) -> Result<Box<Session>, OpenFault> {
+    match Box::new(alloc, session) {
+        Ok(session) => Ok(session),
+        Err(_) => Err(OpenFault::Memory),
+    }
+}
+
+/// The session of a member over this disk.
+fn opened(
+    alloc: Global,
+    members: u16,
+    member: u16,
+    disk: HostedDisk,
+    requests: Requests,
+) -> Result<Session, OpenFault>
+    requires { member < members }
+{
+    let Ok(scheme) = scheme(alloc, member, members) else {
+        return Err(OpenFault::Memory);
+    };
+    let Ok(elector) = elector(alloc, members) else {
+        return Err(OpenFault::Memory);
+    };
+    let mut replies = Vec::new(alloc);
+    match begin(alloc, config(), scheme, elector, disk, &mut replies) {
+        Ok(node) => Ok(Session {
+            node,
+            requests,
+            replies,
+        }),
+        Err(fault) => Err(fault),
+    }
+}
+
+/// Opens a member's record at moment 0, and spells what that hands out as a reply.
+fn begin<S: Scheme<D> + Drop, L: Elector<S, D>, D: Digest, K: Disk>(
+    alloc: Global,
+    config: Config<D>,
+    scheme: Rc<S>,
+    elector: L,
+    disk: K,
+    replies: &mut Vec<u8>,
+) -> Result<Node<S, L, D, K>, OpenFault>
+    requires { L.built_for elector (S.size scheme.value) }
+    ensures opened { IfOk result (λ node. (index : ℕ) × (first : Reply D S.PublicKey S.Signature S.Certificate) × (S.own scheme.value ≡ Some index) × (first.refused ≡ None) × (replies.new.items ≡ replies.old.items ++ spelled S.PublicKey.spelling D.spelling S.Signature.spelling S.Certificate.spelling first)
+        × IsOpenAndSettled S.Scheme L.Elector K.Disk (formats D.PartialEq.eq D.spelling S.Signature.spelling S.Certificate.spelling D.reading S.Signature.reading S.Certificate.reading (S.size scheme.value)) (setup_of S.Scheme L.Elector config scheme.value elector index) (Readable ⟦<Artifact<S, D> as Spells>⟧.fits (⟦<Artifact<S, D> as Spelled>⟧.within 65535)) disk 0 node first.actions.items) }
+{
+    match Node::open(alloc, config, scheme, elector, disk, 0) {
+        Ok((node, actions)) => {
+            let first = Reply {
+                refused: None,
+                actions,
+            };
+            match write_out(alloc, &first, replies) {
+                Ok(()) => Ok(node),
+                Err(_) => Err(OpenFault::Memory),
+            }
+        }
+        Err((fault, _)) => Err(fault),
+    }
+}
+
+/// Answers events, one behind another.
+fn go_on<S: Scheme<D> + Drop, L: Elector<S, D>, D: Digest, K: Disk>(
+    alloc: Global,
+    node: &mut Node<S, L, D, K>,
+    events: &[u8],
+    replies: &mut Vec<u8>,
+) -> Result<(), IoFault>
+    ensures { AtOwn S.Scheme L.Elector K.Disk (formats D.PartialEq.eq D.spelling S.Signature.spelling S.Certificate.spelling D.reading S.Signature.reading S.Certificate.reading) node.old (λ f s h. EndsIn D.fits D.spelling (spelled S.PublicKey.spelling D.spelling S.Signature.spelling S.Certificate.spelling) (D.reading 65535) (RunsTo S.Scheme L.Elector K.Disk f s h node.new) (RunFails S.Scheme L.Elector K.Disk f s h node.new) result (Some events.now) (Some replies.old.items) (Some replies.new.items)) }
+{
+    let mut rest = events;
+    run_io(alloc, node, &mut rest, replies)
+}

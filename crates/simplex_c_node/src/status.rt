@@ -1,0 +1,50 @@
+//! What a call answers, as a number.
+
+ghost use Rattle.std.specs.Prelude.{◌≡◌};
+ghost use Rattle.simplex_c_node.specs.Answers.{status_number};
+
+/// How a call ended.
+#[derive(Clone, Copy, PartialEq, Eq, Drop)]
+pub(crate) enum Status {
+    /// It did what was asked.
+    Done,
+    /// Memory ran out.
+    Memory,
+    /// An argument is none that can be answered.
+    Argument,
+    /// The caller's buffer has no room for the answer.
+    Room,
+    /// A byte or a value can't stand there.
+    Invalid,
+    /// A count is above its bound.
+    TooLong,
+    /// A lawful record refuses an entry.
+    Refused,
+    /// An entry of a record is no artifact.
+    Foreign,
+    /// The host could not be asked to change a record.
+    Device,
+    /// A step failed before: the record has to be opened again.
+    Failed,
+}
+
+impl Status {
+    /// Its number, as the header has it.
+    #[tactic(auto, unfolding(crate::specs::Answers::status_number))]
+    pub(crate) fn number(self) -> u32
+        ensures { result ≡ status_number self }
+    {
+        match self {
+            Status::Done => 0,
+            Status::Memory => 1,
+            Status::Argument => 2,
+            Status::Room => 3,
+            Status::Invalid => 5,
+            Status::TooLong => 6,
+            Status::Refused => 7,
+            Status::Foreign => 8,
+            Status::Device => 9,
+            Status::Failed => 10,
+        }
+    }
+}

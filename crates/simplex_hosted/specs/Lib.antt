@@ -1,0 +1,2 @@
+pub mod HostedDisk
+pub mod Requests
