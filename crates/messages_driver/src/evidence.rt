@@ -3,7 +3,35 @@
 use crate::types::{Finalize, Nullify, NullifyFinalize};
 use script_words::{Committee, Say, Trouble, Words};
 use simplex_messages::{ConflictingVotes, Finalizing, Notarizing, ProposalKind, ProposalVote};
-use simplex_types::Sha256Digest;
+use simplex_types::{Read, Round, Sha256Digest, Write};
+use std::alloc::Global;
+
+/// The values that the next two words spell.
+fn two<T: Read + Drop, U: Read + Drop>(
+    words: &mut Words<'_>,
+    alloc: Global,
+) -> Result<(T, U), Trouble> {
+    let first = words.value(alloc, u32::MAX)?;
+    let second = words.value(alloc, u32::MAX)?;
+    Ok((first, second))
+}
+
+/// Says evidence, its votes and its round.
+fn say_evidence<E: Write, T: Write, U: Write>(
+    evidence: &E,
+    first: &T,
+    second: &U,
+    round: &Round,
+    say: &mut Say,
+) -> Result<(), Trouble> {
+    say.value(evidence)?;
+    say.gap()?;
+    say.value(first)?;
+    say.gap()?;
+    say.value(second)?;
+    say.gap()?;
+    say.round(round)
+}
 
 /// `contradict KIND VOTE VOTE`: whether the first contradicts the second.
 pub fn contradict<S: Committee>(words: &mut Words<'_>, say: &mut Say) -> Result<(), Trouble> {
@@ -18,8 +46,7 @@ fn contradict_of<K: ProposalKind<Sha256Digest>, S: Committee>(
     words: &mut Words<'_>,
     say: &mut Say,
 ) -> Result<(), Trouble> {
-    let first: ProposalVote<K, S, Sha256Digest> = words.value(say.alloc, u32::MAX)?;
-    let second = words.value(say.alloc, u32::MAX)?;
+    let (first, second): (ProposalVote<K, S, Sha256Digest>, _) = two(words, say.alloc)?;
     say.truth(first.contradicts(&second))
 }
 
@@ -36,50 +63,38 @@ fn conflict_of<K: ProposalKind<Sha256Digest>, S: Committee>(
     words: &mut Words<'_>,
     say: &mut Say,
 ) -> Result<(), Trouble> {
-    let first: ProposalVote<K, S, Sha256Digest> = words.value(say.alloc, u32::MAX)?;
-    let second = words.value(say.alloc, u32::MAX)?;
+    let (first, second): (ProposalVote<K, S, Sha256Digest>, _) = two(words, say.alloc)?;
     if !first.contradicts(&second) {
         return Err(Trouble::Condition);
     }
-    say_conflict(&ConflictingVotes::new(first, second), say)
-}
-
-fn say_conflict<K: ProposalKind<Sha256Digest>, S: Committee>(
-    evidence: &ConflictingVotes<K, S, Sha256Digest>,
-    say: &mut Say,
-) -> Result<(), Trouble> {
-    say.value(evidence)?;
-    say.gap()?;
-    say.value(evidence.first())?;
-    say.gap()?;
-    say.value(evidence.second())?;
-    say.gap()?;
-    say.round(&evidence.round())
+    let evidence = ConflictingVotes::new(first, second);
+    say_evidence(
+        &evidence,
+        evidence.first(),
+        evidence.second(),
+        &evidence.round(),
+        say,
+    )
 }
 
 /// `beside NULLIFY FINALIZE`: whether the first contradicts the second.
 pub fn beside<S: Committee>(words: &mut Words<'_>, say: &mut Say) -> Result<(), Trouble> {
-    let nullify: Nullify<S> = words.value(say.alloc, u32::MAX)?;
-    let finalize: Finalize<S> = words.value(say.alloc, u32::MAX)?;
+    let (nullify, finalize) = two::<Nullify<S>, Finalize<S>>(words, say.alloc)?;
     say.truth(nullify.stands_beside(&finalize))
 }
 
 /// `nullify_finalize NULLIFY FINALIZE`: the evidence, its votes and its round.
 pub fn nullify_finalize<S: Committee>(words: &mut Words<'_>, say: &mut Say) -> Result<(), Trouble> {
-    let nullify: Nullify<S> = words.value(say.alloc, u32::MAX)?;
-    let finalize: Finalize<S> = words.value(say.alloc, u32::MAX)?;
+    let (nullify, finalize) = two::<Nullify<S>, Finalize<S>>(words, say.alloc)?;
     if !nullify.stands_beside(&finalize) {
         return Err(Trouble::Condition);
     }
-    say_both(&NullifyFinalize::new(nullify, finalize), say)
-}
-
-fn say_both<S: Committee>(evidence: &NullifyFinalize<S>, say: &mut Say) -> Result<(), Trouble> {
-    say.value(evidence)?;
-    say.gap()?;
-    say.value(evidence.nullify())?;
-    say.gap()?;
-    say.value(evidence.finalize())?;
-    say.gap()?;
-    say.round(&evidence.round())
+    let evidence = NullifyFinalize::new(nullify, finalize);
+    say_evidence(
+        &evidence,
+        evidence.nullify(),
+        evidence.finalize(),
+        &evidence.round(),
+        say,
+    )
 }

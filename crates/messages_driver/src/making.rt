@@ -8,11 +8,62 @@ use script_words::{Committee, Say, Trouble, Words};
 use simplex_messages::{Finalizing, Notarizing, ProposalCertificate, ProposalKind, ProposalVote};
 use simplex_types::{AssemblyError, Round, Sha256Digest, Write};
 
-/// Says a message and its round.
-fn say_made<T: Write>(made: &T, round: Round, say: &mut Say) -> Result<(), Trouble> {
+/// A vote or a certificate, which is of a round.
+trait OfRound: Write + Drop {
+    /// That round.
+    fn its_round(&self) -> Round;
+}
+
+impl<K: ProposalKind<Sha256Digest>, S: Committee> OfRound for ProposalVote<K, S, Sha256Digest> {
+    fn its_round(&self) -> Round {
+        self.round()
+    }
+}
+
+impl<S: Committee> OfRound for Nullify<S> {
+    fn its_round(&self) -> Round {
+        self.round()
+    }
+}
+
+impl<K: ProposalKind<Sha256Digest>, S: Committee> OfRound
+    for ProposalCertificate<K, S, Sha256Digest> {
+    fn its_round(&self) -> Round {
+        self.round()
+    }
+}
+
+impl<S: Committee> OfRound for Nullification<S> {
+    fn its_round(&self) -> Round {
+        self.round()
+    }
+}
+
+/// Says a vote or a certificate, and its round.
+fn say_made<T: OfRound>(made: &T, say: &mut Say) -> Result<(), Trouble> {
     say.value(made)?;
     say.gap()?;
-    say.round(&round)
+    say.round(&made.its_round())
+}
+
+/// Says a vote and its round, or `-` without a key.
+fn say_signed<T: OfRound>(vote: Option<T>, say: &mut Say) -> Result<(), Trouble> {
+    match vote {
+        Some(vote) => say_made(&vote, say),
+        None => say.none(),
+    }
+}
+
+/// Says a certificate and its round, or why there is none.
+fn say_assembled<T: OfRound>(
+    certificate: Result<T, AssemblyError>,
+    say: &mut Say,
+) -> Result<(), Trouble> {
+    match certificate {
+        Ok(certificate) => say_made(&certificate, say),
+        Err(AssemblyError::Memory) => Err(Trouble::Memory),
+        Err(error) => say.text(&format!(in say.alloc; "{error}")?),
+    }
 }
 
 /// `sign KIND MEMBERS ME PROPOSAL`, or a round in its place: the vote, or `-` without a key.
@@ -43,10 +94,11 @@ fn sign_proposal<K: ProposalKind<Sha256Digest>, S: Committee>(
     words: &mut Words<'_>,
     say: &mut Say,
 ) -> Result<(), Trouble> {
-    match ProposalVote::<K, S, Sha256Digest>::sign(scheme, words.proposal()?) {
-        Some(vote) => say_made(&vote, vote.round(), say),
-        None => say.none(),
-    }
+    let proposal = words.proposal()?;
+    say_signed(
+        ProposalVote::<K, S, Sha256Digest>::sign(scheme, proposal),
+        say,
+    )
 }
 
 fn sign_nullify<S: Committee>(
@@ -54,10 +106,8 @@ fn sign_nullify<S: Committee>(
     words: &mut Words<'_>,
     say: &mut Say,
 ) -> Result<(), Trouble> {
-    match Nullify::<S>::sign(scheme, words.round()?) {
-        Some(vote) => say_made(&vote, vote.round(), say),
-        None => say.none(),
-    }
+    let round = words.round()?;
+    say_signed(Nullify::<S>::sign(scheme, round), say)
 }
 
 /// `can_assemble CERTIFICATE MEMBERS VOTE..`.
@@ -118,25 +168,6 @@ fn assemble_by<S: Committee>(
     }
 }
 
-/// Says why there is no certificate.
-fn say_refused(error: AssemblyError, say: &mut Say) -> Result<(), Trouble> {
-    match error {
-        AssemblyError::Memory => Err(Trouble::Memory),
-        error => say.text(&format!(in say.alloc; "{error}")?),
-    }
-}
-
-/// Says a certificate for a proposal, or why there is none.
-fn say_certified<K: ProposalKind<Sha256Digest>, S: Committee>(
-    made: Result<ProposalCertificate<K, S, Sha256Digest>, AssemblyError>,
-    say: &mut Say,
-) -> Result<(), Trouble> {
-    match made {
-        Ok(made) => say_made(&made, made.round(), say),
-        Err(error) => say_refused(error, say),
-    }
-}
-
 fn notarization<S: Committee>(
     scheme: &S,
     owned: bool,
@@ -148,12 +179,12 @@ fn notarization<S: Committee>(
         return Err(Trouble::Condition);
     }
     if owned {
-        return say_certified(
+        return say_assembled(
             Notarization::from_owned_notarizes(say.alloc, scheme, votes),
             say,
         );
     }
-    say_certified(Notarization::from_notarizes(say.alloc, scheme, &votes), say)
+    say_assembled(Notarization::from_notarizes(say.alloc, scheme, &votes), say)
 }
 
 fn finalization<S: Committee>(
@@ -167,23 +198,12 @@ fn finalization<S: Committee>(
         return Err(Trouble::Condition);
     }
     if owned {
-        return say_certified(
+        return say_assembled(
             Finalization::from_owned_finalizes(say.alloc, scheme, votes),
             say,
         );
     }
-    say_certified(Finalization::from_finalizes(say.alloc, scheme, &votes), say)
-}
-
-/// Says a nullification, or why there is none.
-fn say_nullified<S: Committee>(
-    made: Result<Nullification<S>, AssemblyError>,
-    say: &mut Say,
-) -> Result<(), Trouble> {
-    match made {
-        Ok(made) => say_made(&made, made.round(), say),
-        Err(error) => say_refused(error, say),
-    }
+    say_assembled(Finalization::from_finalizes(say.alloc, scheme, &votes), say)
 }
 
 fn nullification<S: Committee>(
@@ -197,12 +217,12 @@ fn nullification<S: Committee>(
         return Err(Trouble::Condition);
     }
     if owned {
-        return say_nullified(
+        return say_assembled(
             Nullification::from_owned_nullifies(say.alloc, scheme, votes),
             say,
         );
     }
-    say_nullified(
+    say_assembled(
         Nullification::from_nullifies(say.alloc, scheme, &votes),
         say,
     )

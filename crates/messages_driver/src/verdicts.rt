@@ -1,19 +1,87 @@
 //! Whose signatures are taken.
 
-use crate::types::{Certificate, Nullification, Nullify, NullifyFinalize, Report, committee};
+use crate::types::{
+    Certificate, Finalization, Finalize, Notarization, Notarize, Nullification, Nullify,
+    NullifyFinalize, Report, TwoFinalizes, TwoNotarizes, committee,
+};
 use script_values as values;
 use script_words::{Committee, Say, Trouble, Words};
 use simplex_messages::{
-    ConflictingVotes, Finalizing, Notarizing, ProposalCertificate, ProposalKind, ProposalVote,
-    verify_certificates,
+    ConflictingVotes, ProposalCertificate, ProposalKind, ProposalVote, verify_certificates,
 };
-use simplex_types::Sha256Digest;
+use simplex_types::{Read, Sha256Digest};
 
 /// `verify TYPE MEMBERS BYTES`.
 pub fn verify<S: Committee>(words: &mut Words<'_>, say: &mut Say) -> Result<(), Trouble> {
     let kind = words.word();
     let scheme: S = committee(words, say)?;
     verify_by(kind, &scheme, words, say)
+}
+
+/// A message whose signatures a scheme takes or doesn't.
+trait Judged<S>: Read + Drop {
+    /// Whether it takes them.
+    fn is_taken(&self, scheme: &S) -> bool;
+}
+
+impl<K: ProposalKind<Sha256Digest>, S: Committee> Judged<S> for ProposalVote<K, S, Sha256Digest> {
+    fn is_taken(&self, scheme: &S) -> bool {
+        self.verify(scheme)
+    }
+}
+
+impl<K: ProposalKind<Sha256Digest>, S: Committee> Judged<S>
+    for ProposalCertificate<K, S, Sha256Digest> {
+    fn is_taken(&self, scheme: &S) -> bool {
+        self.verify(scheme)
+    }
+}
+
+impl<K: ProposalKind<Sha256Digest>, S: Committee> Judged<S>
+    for ConflictingVotes<K, S, Sha256Digest> {
+    fn is_taken(&self, scheme: &S) -> bool {
+        self.verify(scheme)
+    }
+}
+
+impl<S: Committee> Judged<S> for Nullify<S> {
+    fn is_taken(&self, scheme: &S) -> bool {
+        self.verify(scheme)
+    }
+}
+
+impl<S: Committee> Judged<S> for Nullification<S> {
+    fn is_taken(&self, scheme: &S) -> bool {
+        self.verify(scheme)
+    }
+}
+
+impl<S: Committee> Judged<S> for Certificate<S> {
+    fn is_taken(&self, scheme: &S) -> bool {
+        self.verify(scheme)
+    }
+}
+
+impl<S: Committee> Judged<S> for NullifyFinalize<S> {
+    fn is_taken(&self, scheme: &S) -> bool {
+        self.verify(scheme)
+    }
+}
+
+impl<S: Committee> Judged<S> for Report<S> {
+    fn is_taken(&self, scheme: &S) -> bool {
+        self.verify(scheme)
+    }
+}
+
+/// Whether the scheme takes the message that the next word spells.
+fn judge<T: Judged<S>, S: Committee>(
+    scheme: &S,
+    words: &mut Words<'_>,
+    say: &mut Say,
+) -> Result<(), Trouble> {
+    let message: T = words.value(say.alloc, u32::MAX)?;
+    say.truth(message.is_taken(scheme))
 }
 
 fn verify_by<S: Committee>(
@@ -23,12 +91,12 @@ fn verify_by<S: Committee>(
     say: &mut Say,
 ) -> Result<(), Trouble> {
     match kind {
-        "notarize" => is_vote::<Notarizing, S>(scheme, words, say),
-        "finalize" => is_vote::<Finalizing, S>(scheme, words, say),
-        "notarization" => is_certificate::<Notarizing, S>(scheme, words, say),
-        "finalization" => is_certificate::<Finalizing, S>(scheme, words, say),
-        "two-notarizes" => is_conflict::<Notarizing, S>(scheme, words, say),
-        "two-finalizes" => is_conflict::<Finalizing, S>(scheme, words, say),
+        "notarize" => judge::<Notarize<S>, S>(scheme, words, say),
+        "finalize" => judge::<Finalize<S>, S>(scheme, words, say),
+        "notarization" => judge::<Notarization<S>, S>(scheme, words, say),
+        "finalization" => judge::<Finalization<S>, S>(scheme, words, say),
+        "two-notarizes" => judge::<TwoNotarizes<S>, S>(scheme, words, say),
+        "two-finalizes" => judge::<TwoFinalizes<S>, S>(scheme, words, say),
         _ => verify_other(kind, scheme, words, say),
     }
 }
@@ -41,85 +109,13 @@ fn verify_other<S: Committee>(
     say: &mut Say,
 ) -> Result<(), Trouble> {
     match kind {
-        "nullify" => is_nullify(scheme, words, say),
-        "nullification" => is_nullification(scheme, words, say),
-        "certificate" => is_any_certificate(scheme, words, say),
-        "nullify-finalize" => is_nullify_finalize(scheme, words, say),
-        "report" => is_report(scheme, words, say),
+        "nullify" => judge::<Nullify<S>, S>(scheme, words, say),
+        "nullification" => judge::<Nullification<S>, S>(scheme, words, say),
+        "certificate" => judge::<Certificate<S>, S>(scheme, words, say),
+        "nullify-finalize" => judge::<NullifyFinalize<S>, S>(scheme, words, say),
+        "report" => judge::<Report<S>, S>(scheme, words, say),
         _ => Err(Trouble::Unreadable),
     }
-}
-
-fn is_vote<K: ProposalKind<Sha256Digest>, S: Committee>(
-    scheme: &S,
-    words: &mut Words<'_>,
-    say: &mut Say,
-) -> Result<(), Trouble> {
-    let vote: ProposalVote<K, S, Sha256Digest> = words.value(say.alloc, u32::MAX)?;
-    say.truth(vote.verify(scheme))
-}
-
-fn is_certificate<K: ProposalKind<Sha256Digest>, S: Committee>(
-    scheme: &S,
-    words: &mut Words<'_>,
-    say: &mut Say,
-) -> Result<(), Trouble> {
-    let certificate: ProposalCertificate<K, S, Sha256Digest> = words.value(say.alloc, u32::MAX)?;
-    say.truth(certificate.verify(scheme))
-}
-
-fn is_conflict<K: ProposalKind<Sha256Digest>, S: Committee>(
-    scheme: &S,
-    words: &mut Words<'_>,
-    say: &mut Say,
-) -> Result<(), Trouble> {
-    let votes: ConflictingVotes<K, S, Sha256Digest> = words.value(say.alloc, u32::MAX)?;
-    say.truth(votes.verify(scheme))
-}
-
-fn is_nullify<S: Committee>(
-    scheme: &S,
-    words: &mut Words<'_>,
-    say: &mut Say,
-) -> Result<(), Trouble> {
-    let vote: Nullify<S> = words.value(say.alloc, u32::MAX)?;
-    say.truth(vote.verify(scheme))
-}
-
-fn is_nullification<S: Committee>(
-    scheme: &S,
-    words: &mut Words<'_>,
-    say: &mut Say,
-) -> Result<(), Trouble> {
-    let nullification: Nullification<S> = words.value(say.alloc, u32::MAX)?;
-    say.truth(nullification.verify(scheme))
-}
-
-fn is_any_certificate<S: Committee>(
-    scheme: &S,
-    words: &mut Words<'_>,
-    say: &mut Say,
-) -> Result<(), Trouble> {
-    let certificate: Certificate<S> = words.value(say.alloc, u32::MAX)?;
-    say.truth(certificate.verify(scheme))
-}
-
-fn is_nullify_finalize<S: Committee>(
-    scheme: &S,
-    words: &mut Words<'_>,
-    say: &mut Say,
-) -> Result<(), Trouble> {
-    let votes: NullifyFinalize<S> = words.value(say.alloc, u32::MAX)?;
-    say.truth(votes.verify(scheme))
-}
-
-fn is_report<S: Committee>(
-    scheme: &S,
-    words: &mut Words<'_>,
-    say: &mut Say,
-) -> Result<(), Trouble> {
-    let report: Report<S> = words.value(say.alloc, u32::MAX)?;
-    say.truth(report.verify(scheme))
 }
 
 /// `verified REPORT`: whether it was verified before it was reported.
