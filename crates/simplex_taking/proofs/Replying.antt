@@ -152,7 +152,7 @@ module _ {S L D P G C K : Type 0} (g : Ghosts S D P G C) (e : elector.Ghosts L S
   heard-handled sender by bytes v before after (Err why) none another found signer all heard moment = record {
     ok = tt;
     any_moment = moment;
-    without_memory = packet-wants g f s h (Err why) sender by bytes another;
+    without_memory = packet-wants g f s h {A = Option Refusal} (Err why) sender by bytes another;
   }
 
 module _ {S L D P G C K : Type 0} (g : Ghosts S D P G C) (e : elector.Ghosts L S D P G C) (k : disk.Ghosts K) (f : Formats S D P G C) (s : Setup S D C) (node : Core S L D K P G C) (h : History S D P G C) where

@@ -3,6 +3,7 @@ use Rattle.std.proofs.lemmas.Result.{IfOk-weaker}
 use Rattle.simplex_codec.specs.Codec.{bounded-IsCodec}
 use Rattle.simplex_certificates.specs.Certificate.{any_certificate-IsCodec}
 use Rattle.simplex_member.specs.declared.event.Event.TheVariants as event
+use Rattle.simplex_member.specs.declared.refusal.Refusal.{Refusal}
 use Rattle.simplex_member.specs.Member.{IsPacketPoint}
 use Rattle.simplex_member.specs.Packet.{Packet, formats}
 use Rattle.simplex_member.specs.Point.{Came, Wanted}
@@ -21,8 +22,8 @@ returns-in-Ok-clause-handled g c = λ s h k by small decided none.
     refused-handled g.S.Scheme g.L.Elector g.K.Disk f s c.args.core.now h c.args.sender by c.args.bytes c.in-Refused.refusal c.args.out.now.items c.refuse.new.out.items none d.0 d.1 (c.in-Ok.ensures.done f) k
     (λ keeps. (c.a_ledger_at_rest_leaves_its_record.ensures (owner_of s) c.args.core.now.ledger (record_of h) k.ledger keeps))
 
-pub returns-in-Err-clause-handled : goal.returns-in-Err-clause-handled
-returns-in-Err-clause-handled g c = λ s h k by small decided none.
+pub returns-in-Refused-clause-handled : goal.returns-in-Refused-clause-handled
+returns-in-Refused-clause-handled g c = λ s h k by small decided none.
     let f = formats {S = g.row.S.Denot} {P = g.row.S-PublicKey.Denot} g.D.PartialEq.eq g.D.Write.spelling g.S.Signature.Write.spelling g.S.Certificate.Write.spelling g.D.Read.reading g.S.Signature.Read.reading g.S.Certificate.Read.reading (g.S.Scheme.size s.voter.scheme) in
     let d = rw c.in-Refused.is at decided in
     refused-unhandled g.S.Scheme g.L.Elector g.K.Disk f s c.args.core.now h c.args.sender by c.args.bytes c.in-Refused.refusal c.in-Err.fault c.refuse.new.out.items d.0 c.in-Err.ensures.memory
@@ -31,8 +32,8 @@ returns-in-Err-clause-handled g c = λ s h k by small decided none.
 pub returns-in-Ok-clause-faults : goal.returns-in-Ok-clause-faults
 returns-in-Ok-clause-faults g c = unasked g.K.Disk (disk_of c.args.core.now) (disk_of c.args.core.now) (Ok (Some c.in-Refused.refusal)) refl tt
 
-pub returns-in-Err-clause-faults : goal.returns-in-Err-clause-faults
-returns-in-Err-clause-faults g c = unasked g.K.Disk (disk_of c.args.core.now) (disk_of c.args.core.now) (Err c.in-Err.fault) refl c.in-Err.ensures.fault
+pub returns-in-Refused-clause-faults : goal.returns-in-Refused-clause-faults
+returns-in-Refused-clause-faults g c = unasked g.K.Disk (disk_of c.args.core.now) (disk_of c.args.core.now) (Err c.in-Err.fault) refl c.in-Err.ensures.fault
 
 -- it is a vote
 pub returns-in-Vote-clause-handled : goal.returns-in-Vote-clause-handled
@@ -61,14 +62,14 @@ returns-in-Ok-take_certificate-clause-handled g c = λ s h k by small decided no
       without_memory = λ r first needs. refl;
     }
 
-pub returns-in-Err-take_certificate-clause-handled : goal.returns-in-Err-take_certificate-clause-handled
-returns-in-Err-take_certificate-clause-handled g c = λ s h k by small decided none.
+pub returns-in-Certificate-clause-handled : goal.returns-in-Certificate-clause-handled
+returns-in-Certificate-clause-handled g c = λ s h k by small decided none.
     let f = formats {S = g.row.S.Denot} {P = g.row.S-PublicKey.Denot} g.D.PartialEq.eq g.D.Write.spelling g.S.Signature.Write.spelling g.S.Certificate.Write.spelling g.D.Read.reading g.S.Signature.Read.reading g.S.Certificate.Read.reading (g.S.Scheme.size s.voter.scheme) in
     let d = rw c.in-Certificate.is at decided in
     record {
       ok = tt;
       any_moment = λ keeps. point-reached (event.Packet c.args.sender by c.args.bytes) {p = (Came c.in-Certificate.certificate)} d.1 (subst (λ (o : Option (Packet g.row.S.Denot g.row.D.Denot g.row.S-PublicKey.Denot g.row.S-Signature.Denot g.row.S-Certificate.Denot)). IsPacketPoint c.args.sender o (Came c.in-Certificate.certificate)) (sym d.0) refl) (c.in-Err-take_certificate.ensures.any_moment s h k d.2 keeps);
-      without_memory = none-due g.S.Scheme f s h (event.Packet c.args.sender by c.args.bytes) (Err c.in-Err-take_certificate.fault) d.1;
+      without_memory = none-due g.S.Scheme f s h (event.Packet c.args.sender by c.args.bytes) {A = Option Refusal} (Err c.in-Err-take_certificate.fault) d.1;
     }
 
 -- it is an ask
@@ -83,18 +84,18 @@ returns-in-Ok-take_ask-clause-handled g c = λ s h k by small decided none.
       without_memory = λ r first needs. refl;
     }
 
-pub returns-in-Err-take_ask-clause-handled : goal.returns-in-Err-take_ask-clause-handled
-returns-in-Err-take_ask-clause-handled g c = λ s h k by small decided none.
+pub returns-clause-handled : goal.returns-clause-handled
+returns-clause-handled g c = λ s h k by small decided none.
     let f = formats {S = g.row.S.Denot} {P = g.row.S-PublicKey.Denot} g.D.PartialEq.eq g.D.Write.spelling g.S.Signature.Write.spelling g.S.Certificate.Write.spelling g.D.Read.reading g.S.Signature.Read.reading g.S.Certificate.Read.reading (g.S.Scheme.size s.voter.scheme) in
     let d = rw c.in-Ask.is at decided in
     record {
       ok = tt;
       any_moment = λ keeps. rest-reached (event.Packet c.args.sender by c.args.bytes) (c.a_ledger_at_rest_leaves_its_record.ensures (owner_of s) c.args.core.now.ledger (record_of h) k.ledger keeps);
-      without_memory = none-due g.S.Scheme f s h (event.Packet c.args.sender by c.args.bytes) (Err c.in-Err-take_ask.fault) d.1;
+      without_memory = none-due g.S.Scheme f s h (event.Packet c.args.sender by c.args.bytes) {A = Option Refusal} (Err c.in-Err-take_ask.fault) d.1;
     }
 
 pub returns-in-Ok-take_ask-clause-faults : goal.returns-in-Ok-take_ask-clause-faults
 returns-in-Ok-take_ask-clause-faults g c = unasked g.K.Disk (disk_of c.args.core.now) (disk_of c.args.core.now) (Ok None) refl tt
 
-pub returns-in-Err-take_ask-clause-faults : goal.returns-in-Err-take_ask-clause-faults
-returns-in-Err-take_ask-clause-faults g c = unasked g.K.Disk (disk_of c.args.core.now) (disk_of c.args.core.now) (Err c.in-Err-take_ask.fault) refl c.in-Err-take_ask.ensures.fault
+pub returns-clause-faults : goal.returns-clause-faults
+returns-clause-faults g c = unasked g.K.Disk (disk_of c.args.core.now) (disk_of c.args.core.now) (Err c.in-Err-take_ask.fault) refl c.in-Err-take_ask.ensures.fault

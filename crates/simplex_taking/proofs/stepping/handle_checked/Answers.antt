@@ -1,5 +1,6 @@
-use Rattle.std.proofs.Common.{inl, inr, refl, sym, None, Err, []}
+use Rattle.std.proofs.Common.{inl, inr, refl, sym, None, Err, [], Option}
 use Rattle.simplex_member.specs.declared.event.Event.TheVariants as event
+use Rattle.simplex_member.specs.declared.refusal.Refusal.{Refusal}
 use Rattle.simplex_member.specs.declared.refusal.Refusal.TheVariants as refusal
 use Rattle.simplex_member.specs.First.{IsFirst}
 use Rattle.simplex_member.specs.Layers.{finalized_of}
@@ -39,5 +40,5 @@ returns-in-Err-clause-handled g c = λ s h k.
     record {
       ok = tt;
       any_moment = λ keeps. still-reached g.S.Scheme f s h g.K.Disk (event.Checked c.args.number c.args.answer) c.in-Err.ensures.disk (c.a_ledger_at_rest_leaves_its_record.ensures (owner_of s) c.args.core.now.ledger (record_of h) k.ledger keeps);
-      without_memory = none-due g.S.Scheme f s h (event.Checked c.args.number c.args.answer) (Err c.in-Err.fault) passes;
+      without_memory = none-due g.S.Scheme f s h (event.Checked c.args.number c.args.answer) {A = Option Refusal} (Err c.in-Err.fault) passes;
     }

@@ -1,5 +1,6 @@
-use Rattle.std.proofs.Common.{refl, sym, subst, Err, List, []}
+use Rattle.std.proofs.Common.{refl, sym, subst, Err, List, [], Option}
 use Rattle.simplex_member.specs.declared.event.Event.TheVariants as event
+use Rattle.simplex_member.specs.declared.refusal.Refusal.{Refusal}
 use Rattle.simplex_member.specs.Deeds.{AreActions}
 use Rattle.simplex_member.specs.Packet.{formats}
 use Rattle.simplex_member.specs.Point.{Judged}
@@ -33,5 +34,5 @@ returns-in-Err-clause-handled g c = λ s h k none.
     record {
       ok = tt;
       any_moment = λ keeps. point-reached (event.Verdict c.args.view c.args.ok) {p = (Judged (record { epoch = s.voter.epoch; view = c.args.view }) c.args.ok)} (c.in_default.ensures.first s h k c.args.ok) (refl, refl) (c.in-Err.ensures.any_moment s h k (c.in_default.ensures.may s h k) keeps);
-      without_memory = none-due g.S.Scheme f s h (event.Verdict c.args.view c.args.ok) (Err c.in-Err.fault) (c.in_default.ensures.first s h k c.args.ok);
+      without_memory = none-due g.S.Scheme f s h (event.Verdict c.args.view c.args.ok) {A = Option Refusal} (Err c.in-Err.fault) (c.in_default.ensures.first s h k c.args.ok);
     }
