@@ -1,24 +1,13 @@
 //! The application's verdicts on what is notarized.
 
-ghost use Rattle.std.specs.Prelude.{◌≡◌, ◌≢◌, ◌∷◌, [], Some, false, if◌then◌else◌, IfErr, OnOk, IsErrOf};
-ghost use Rattle.simplex_types.specs.Positions.{HasRoom};
-ghost use Rattle.simplex_certificates.specs.Certificate.{any_certificate_spelling, as_notarization};
-ghost use Rattle.simplex_certificates.specs.ProposalCertificate.{Notarization};
-ghost use Rattle.simplex_messages.specs.declared.activity.Activity.TheVariants as activity;
-ghost use Rattle.simplex_history.specs.Past as past;
-ghost use Rattle.simplex_history.specs.History.{judged, seen};
-ghost use Rattle.simplex_resolver.specs.History as repairs;
-ghost use Rattle.simplex_resolver.specs.Keeps as repairing;
-ghost use Rattle.simplex_voter.specs.State as voting;
+ghost use Rattle.std.specs.Prelude.{◌≡◌, ◌≢◌, false, IfErr, OnOk, IsErrOf};
 ghost use Rattle.simplex_journal.specs.Disk.{LeavesOnly, counted};
 ghost use Rattle.simplex_member.specs.Asked.{IsAwaited};
 ghost use Rattle.simplex_member.specs.declared.fault.NodeFault.{NodeFault};
 ghost use Rattle.simplex_member.specs.declared.fault.NodeFault.TheVariants as step_fault;
-ghost use Rattle.simplex_member.specs.Deeds.{Reports};
-ghost use Rattle.simplex_member.specs.Packet.{Formats, formats};
+ghost use Rattle.simplex_member.specs.Packet.{formats};
 ghost use Rattle.simplex_member.specs.Point.{History, Judged};
 ghost use Rattle.simplex_member.specs.Setup.{Setup};
-ghost use Rattle.simplex_exchange.specs.Handing.{HandsOut};
 ghost use Rattle.simplex_core.specs.Keeps.{AtOwn, disk_of};
 ghost use Rattle.simplex_core.specs.Taking.{IsLeftBy, IsTaken};
 ghost use Rattle.simplex_taking.specs.Verdicts.{RecordIsAhead};
@@ -33,11 +22,8 @@ use simplex_learning::enter;
 use simplex_member::{Action, NodeFault, awaited_verdicts_may_be_taken};
 use simplex_recalling::{give_verdict, judge_repair};
 use simplex_recording::quiet_points_leave_the_tables;
-use simplex_resolver::State as Repair;
 use simplex_rules::Elector;
 use simplex_types::{Digest, Round, Scheme, View};
-use simplex_voter::State as Voter;
-use std::alloc::Global;
 
 /// Takes a verdict on the view that is awaited: it is recorded, then voter, repair and votes learn of it; a true one is reported with
 /// its notarization, and what the view that it enters brings is handed out.
@@ -88,29 +74,9 @@ fn learn_verdict<S: Scheme<D> + Drop, L: Elector<S, D>, D: Digest, K: Disk>(
     let alloc = core.settings.alloc;
     let now = core.tables.moment();
     let was = core.voter.current_view();
-    tell_verdict(alloc, now, view, ok, &mut core.voter, &mut core.repair, out)?;
+    let notarization = give_verdict(alloc, now, view, ok, &mut core.voter)?;
+    report_verdict(alloc, &notarization, ok, out)?;
+    judge_repair(alloc, notarization, ok, &mut core.repair)?;
     enter(&core.voter, &mut core.acceptance)?;
     core.hand_on_at_entry(was, out)
-}
-
-/// Tells voter and repair of a verdict, and reports a true one with its notarization.
-fn tell_verdict<S: Scheme<D> + Drop, L: Elector<S, D>, D: Digest>(
-    alloc: Global,
-    now: u64,
-    view: View,
-    ok: bool,
-    voter: &mut Voter<S, L, D>,
-    repair: &mut Repair,
-    out: &mut Vec<Action<S, D>>,
-) -> Result<(), NodeFault>
-    ensures told { OnOk result (voting.AtEach S.Scheme L.Elector voter.old (λ s h. voting.Keeps S.Scheme L.Elector s voter.new (judged now view ok ∷ h))) }
-    ensures repaired { OnOk result (voting.AtEach S.Scheme L.Elector voter.old (λ s h. HasRoom s.length view → (n : Notarization S D S.PublicKey S.Signature S.Certificate) → past.notarization (seen s h view) ≡ Some n
-        → repairing.AtEach repair.old (λ views items. HasRoom views n.proposal.round.view → repairing.Keeps views repair.new (repairs.Judged n.proposal.round.view (any_certificate_spelling D.spelling S.Certificate.spelling (as_notarization n)) ok ∷ items)))) }
-    ensures acts { OnOk result (voting.AtEach S.Scheme L.Elector voter.old (λ s h. HasRoom s.length view → (n : Notarization S D S.PublicKey S.Signature S.Certificate) → past.notarization (seen s h view) ≡ Some n
-        → (f : Formats S D S.PublicKey S.Signature S.Certificate) → HandsOut f out.old.items out.new.items (if ok then Reports (activity.Certification n) ∷ [] else []))) }
-    ensures fault { IfErr result (λ why. why ≡ step_fault.Memory) }
-{
-    let notarization = give_verdict(alloc, now, view, ok, voter)?;
-    report_verdict(alloc, &notarization, ok, out)?;
-    judge_repair(alloc, notarization, ok, repair)
 }
