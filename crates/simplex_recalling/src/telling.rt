@@ -12,7 +12,7 @@ ghost use Rattle.simplex_member.specs.Setup.{owner_of};
 use crate::saying::Said;
 use simplex_acceptance::{Acceptance, silent_points_leave_votes};
 use simplex_certificates::Artifact;
-use simplex_recounting::{recount_certificate, recount_vote};
+use simplex_intake::{recount_certificate, recount_vote};
 use simplex_types::{Digest, Duplicate, Scheme, View};
 use std::alloc::{AllocError, Global};
 

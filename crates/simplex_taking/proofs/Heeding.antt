@@ -1,5 +1,5 @@
 -- What comes of the votes and asks of other members.
-use Rattle.std.proofs.Common.{◌≡◌, ◌≢◌, ⊎_elim, inl, inr, ℕ, Bool, true, false, List, ◌∷◌, map, refl, sym, subst}
+use Rattle.std.proofs.Common.{◌≡◌, ◌≢◌, ⊎_elim, inl, inr, ℕ, Bool, true, false, List, [], ◌∷◌, map, refl, sym, subst}
 use Rattle.std.specs.Prelude.{◌<◌, ◌==◌, ◌&&◌, Option, Some, None, MatchOption, if◌then◌else◌, is_none, option_to_list}
 use Rattle.simplex_types.specs.declared.scheme.Scheme.{Ghosts}
 use Rattle.simplex_rules.specs.declared.elector.Elector as elector
@@ -7,6 +7,7 @@ use Rattle.simplex_journal.specs.declared.disk.Disk as disk
 use Rattle.simplex_messages.specs.declared.vote.Vote.{Vote}
 use Rattle.simplex_messages.specs.declared.activity.Activity.{Activity}
 use Rattle.simplex_messages.specs.VoteParts.{vote_round, vote_signer}
+use Rattle.simplex_admission.specs.declared.admission.Admission.{Admission}
 use Rattle.simplex_admission.specs.Evidence.{as_report}
 use Rattle.simplex_verifier.specs.History as votes
 use Rattle.simplex_verifier.specs.History.{takes}
@@ -18,7 +19,7 @@ use Rattle.simplex_recording.specs.Tables.{KeepsTables}
 use Rattle.simplex_member.specs.declared.action.Action.{Action}
 use Rattle.simplex_member.specs.declared.refusal.Refusal.TheVariants as refusal
 use Rattle.simplex_member.specs.Allowed.{Allowed}
-use Rattle.simplex_member.specs.Deeds.{Reports}
+use Rattle.simplex_member.specs.Deeds.{Blocks, Reports}
 use Rattle.simplex_member.specs.First.{IsFirst}
 use Rattle.simplex_member.specs.Layers.{finalized_of, votes_of, votes_setup}
 use Rattle.simplex_member.specs.Packet.{Formats}
@@ -27,6 +28,7 @@ use Rattle.simplex_member.specs.Setup.{Setup}
 use Rattle.simplex_core.specs.declared.node_core.Core.{Core}
 use Rattle.simplex_exchange.specs.Handing.{HandsOut}
 use Rattle.simplex_core.specs.Keeps.{CoreKeeps}
+use Rattle.simplex_taking.specs.Hearing.{admission_deeds}
 use Rattle.simplex_taking.specs.Refusing.{IsAnother, MayBeHeard, last_vote_tests}
 
 no-offence : {A : Type 0} (by member : Bool) (o : Option A) (Offends : A → Type 0) → (by && (member && is_none o)) ≡ true → MatchOption o ⊥ Offends → ⊥
@@ -38,6 +40,16 @@ no-offence false member o Offends takes offends = absurd (cc takes)
 if-true : {A : Type 0} (b : Bool) (x y : A) → b ≡ true → (if b then x else y) ≡ x
 if-true true x y is = refl
 if-true false x y is = absurd (cc is)
+
+-- what is handed out for a vote that was added, for one that was not, and for one that blocks its sender
+pub deeds-added : {S D P G C : Type 0} (sender : ℕ) (a : Admission S D P G C) → a.added ≡ true → admission_deeds sender a ≡ map Reports (option_to_list a.report)
+deeds-added sender a is = rw is refl
+
+pub deeds-passed : {S D P G C : Type 0} (sender : ℕ) (a : Admission S D P G C) → a.added ≡ false → a.block ≡ false → admission_deeds sender a ≡ []
+deeds-passed sender a isnt doesnt = rw (isnt, doesnt) refl
+
+pub deeds-blocked : {S D P G C : Type 0} (sender : ℕ) (a : Admission S D P G C) → a.added ≡ false → a.block ≡ true → admission_deeds sender a ≡ Blocks sender ∷ map Reports (option_to_list a.report)
+deeds-blocked sender a isnt does = rw (isnt, does) refl
 
 -- what is reported is the same where the reports are
 pub reports-as : {S D P G C : Type 0} (f : Formats S D P G C) (before after : List (Action S D P G C)) {o x : Option (Activity S D P G C)} → o ≡ x → HandsOut f before after (map Reports (option_to_list o)) → HandsOut f before after (map Reports (option_to_list x))

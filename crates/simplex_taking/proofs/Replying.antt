@@ -34,17 +34,17 @@ use Rattle.simplex_member.specs.Point.{Heard}
 use Rattle.simplex_member.specs.Packet.{Packet, of_vote}
 use Rattle.simplex_member.specs.Refusals.{blocks_sender, evidence_deeds, packet_tests, sender_tests}
 use Rattle.simplex_member.specs.declared.refusal.Refusal.TheVariants as refusal
-use Rattle.simplex_member.specs.declared.action.Reply.{Reply}
 use Rattle.simplex_messages.specs.declared.vote.Vote.{Vote}
 use Rattle.simplex_messages.specs.VoteParts.{vote_signer}
-use Rattle.std.specs.Prelude.{◌≢◌, OnErr}
-use Rattle.simplex_taking.specs.Stepping.{StepsAtOnce}
+use Rattle.std.specs.Prelude.{◌≢◌}
+use Rattle.simplex_taking.specs.Stepping.{StepsBy}
 use Rattle.simplex_core.specs.Telling.{TellsOfDisk}
 use Rattle.simplex_core.specs.Taking.{IsLeftBy, IsTaken}
+use Rattle.simplex_exchange.specs.Handing.{HandsOut}
 use Rattle.simplex_taking.specs.Hearing.{IsHeard}
 use Rattle.simplex_core.specs.Keeps.{disk_of}
 use Rattle.simplex_taking.specs.Refusing.{IsAnother, last_vote_tests, packet_refused_deeds}
-use Rattle.simplex_taking.specs.Stepping.{IsAnswered}
+use Rattle.simplex_taking.specs.Stepping.{IsHandled}
 use Rattle.simplex_taking.proofs.Refusals.{blocks-needs, no-report}
 use Rattle.simplex_taking.proofs.Tests.{first-is-one, first-of-rest}
 use Rattle.simplex_taking.proofs.Refusals.{packet-needs}
@@ -56,7 +56,7 @@ untouched k on (Err why) memory = record { device = λ is. absurd (cc (is, memor
 
 module _ {S D P G C : Type 0} (g : Ghosts S D P G C) (f : Formats S D P G C) (s : Setup S D C) (h : History S D P G C) (event : Event D) where
   -- no test refuses an event: then no refusal is due
-  pub none-due : (answer : Result (Reply S D P G C) NodeFault) → IsFirst (tests g f s h event) None → (r : Refusal) → IsFirst (tests g f s h event) (Some r) → needs_nothing r ≡ true → IsOk answer
+  pub none-due : {A : Type 0} (answer : Result A NodeFault) → IsFirst (tests g f s h event) None → (r : Refusal) → IsFirst (tests g f s h event) (Some r) → needs_nothing r ≡ true → IsOk answer
   none-due answer none r first needs = absurd (none-some r (first-is-one (tests g f s h event) None (Some r) none first))
 
 module _ {S D P G C : Type 0} {g : Ghosts S D P G C} {f : Formats S D P G C} {s : Setup S D C} {h : History S D P G C} (event : Event D) where
@@ -75,10 +75,10 @@ module _ {S D P G C : Type 0} {g : Ghosts S D P G C} {f : Formats S D P G C} {s 
   pub rest-reached : {old new : List Call} → LeavesOnly old new (λ image. Reads image (map f.artifact (record_of h))) → LeavesOnly old new (IsReached g f s h event)
   rest-reached leaves = weaker (IsReached g f s h event) leaves (λ image reads. inl reads)
 
-module _ {S L D P G C K : Type 0} {g : Ghosts S D P G C} {e : elector.Ghosts L S D P G C} {k : disk.Ghosts K} {f : Formats S D P G C} {s : Setup S D C} {new : Core S L D K P G C} {h : History S D P G C} (event : Event D) (actions : Vec (Action S D P G C) Global) where
+module _ {S L D P G C K : Type 0} {g : Ghosts S D P G C} {e : elector.Ghosts L S D P G C} {k : disk.Ghosts K} {f : Formats S D P G C} {s : Setup S D C} {new : Core S L D K P G C} {h : History S D P G C} (event : Event D) (actions : List (Action S D P G C)) where
   -- an event was taken
-  pub stepped : {p : Point S D P G C} → IsFirst (tests g f s h event) None → IsPointOf g f s event p → IsTaken g e k f s new h p [] actions.items
-      → (end : History S D P G C) × StepsAtOnce g f s h event (record { refused = None; actions = actions }) end × CoreKeeps g e k f s new end
+  pub stepped : {p : Point S D P G C} → IsFirst (tests g f s h event) None → IsPointOf g f s event p → IsTaken g e k f s new h p [] actions
+      → (end : History S D P G C) × StepsBy g f s h event None actions end × CoreKeeps g e k f s new end
   stepped {p} none of_it taken = (
     p ∷ h,
     (
@@ -87,24 +87,20 @@ module _ {S L D P G C K : Type 0} {g : Ghosts S D P G C} {e : elector.Ghosts L S
         point = p;
         step = is-step event none of_it;
         goes = (taken.keeps.allowed.0, refl);
-        are = subst (λ l. AreActions f actions.items l) (sym (append-nil (deeds_of g f s h p))) (taken.acts [] tt);
+        are = subst (λ l. AreActions f actions l) (sym (append-nil (deeds_of g f s h p))) (taken.acts [] tt);
       },
     ),
     taken.keeps,
   )
 
   -- an event was refused
-  pub turned-down : (r : Refusal) → IsFirst (tests g f s h event) (Some r) → AreActions f actions.items (refused_deeds g f s h event r) → CoreKeeps g e k f s new h
-      → (end : History S D P G C) × StepsAtOnce g f s h event (record { refused = Some r; actions = actions }) end × CoreKeeps g e k f s new end
+  pub turned-down : (r : Refusal) → IsFirst (tests g f s h event) (Some r) → AreActions f actions (refused_deeds g f s h event r) → CoreKeeps g e k f s new h
+      → (end : History S D P G C) × StepsBy g f s h event (Some r) actions end × CoreKeeps g e k f s new end
   turned-down r first acts keeps = (h, (first, (refl, acts)), keeps)
 
 -- of a disk that is the same nothing is told
 pub unasked : {K A : Type 0} (k : disk.Ghosts K) (old new : K) (answer : Result A NodeFault) → new ≡ old → IfErr answer (λ why. why ≡ step_fault.Memory) → TellsOfDisk k old new answer
 unasked k old new answer same memory = subst (λ (on : _). TellsOfDisk k old on answer) (sym same) (untouched k old answer memory)
-
--- the one test does not apply
-pub passes-one : {A : Type 0} (a : A) (Applies : Type 0) (rest : List (A × Type 0)) → IsFirst ((a, Applies) ∷ rest) None → Applies → ⊥
-passes-one a Applies rest none = ⊎_elim (λ hit. absurd (none-some a hit.1)) (λ miss. miss.0) none
 
 module _ {S D P G C K : Type 0} (g : Ghosts S D P G C) (f : Formats S D P G C) (s : Setup S D C) (h : History S D P G C) (k : disk.Ghosts K) (event : Event D) where
   -- where the disk is the same, a crash leaves the record
@@ -116,18 +112,14 @@ module _ {S L D P G C K : Type 0} (g : Ghosts S D P G C) (e : elector.Ghosts L S
   pub from-nothing : (p : Point S D P G C) (before after : List (Action S D P G C)) → before ≡ [] → IsTaken g e k f s new h p before after → IsTaken g e k f s new h p [] after
   from-nothing p before after none taken = subst (λ (l : List (Action S D P G C)). IsTaken g e k f s new h p l after) none taken
 
-  -- what hands nothing out
-  pub with-nothing : (p : Point S D P G C) (after : List (Action S D P G C)) → after ≡ [] → IsTaken g e k f s new h p [] [] → IsTaken g e k f s new h p [] after
-  with-nothing p after none taken = subst (λ (l : List (Action S D P G C)). IsTaken g e k f s new h p [] l) (sym none) taken
-
   -- a vote was heard, or refused for other votes
-  pub heard-stepped : (sender : ℕ) (by : Channel) (bytes : Vec ℕ Global) (v : Vote S D P G C) (refused : Option Refusal) (actions : Vec (Action S D P G C) Global) → f.packet_in by bytes.items ≡ Some (of_vote v) → vote_signer v ≡ sender
-      → ((answer : Option Refusal) → IsFirst (last_vote_tests g f s h sender v) answer → IsFirst (tests g f s h (event.Packet sender by bytes)) answer) → IsHeard g e k f s new h sender v refused [] actions.items
-      → (end : History S D P G C) × StepsAtOnce g f s h (event.Packet sender by bytes) (record { refused = refused; actions = actions }) end × CoreKeeps g e k f s new end
+  pub heard-stepped : (sender : ℕ) (by : Channel) (bytes : Vec ℕ Global) (v : Vote S D P G C) (refused : Option Refusal) (actions : List (Action S D P G C)) → f.packet_in by bytes.items ≡ Some (of_vote v) → vote_signer v ≡ sender
+      → ((answer : Option Refusal) → IsFirst (last_vote_tests g f s h sender v) answer → IsFirst (tests g f s h (event.Packet sender by bytes)) answer) → IsHeard g e k f s new h sender v refused [] actions
+      → (end : History S D P G C) × StepsBy g f s h (event.Packet sender by bytes) refused actions end × CoreKeeps g e k f s new end
   heard-stepped sender by bytes v None actions found signer all heard = stepped (event.Packet sender by bytes) actions (all None heard.0)
       (subst (λ (o : Option (Packet S D P G C)). IsPacketPoint sender o (Heard v)) (sym found) (refl, signer)) heard.1
   heard-stepped sender by bytes v (Some r) actions found signer all heard = turned-down (event.Packet sender by bytes) actions r (all (Some r) heard.0)
-      (subst (λ (o : Option (Packet S D P G C)). AreActions f actions.items (packet_refused_deeds g f s h sender o r)) (sym found) (heard.1.acts [] tt)) heard.1.keeps
+      (subst (λ (o : Option (Packet S D P G C)). AreActions f actions (packet_refused_deeds g f s h sender o r)) (sym found) (heard.1.acts [] tt)) heard.1.keeps
 
 module _ {S D P G C : Type 0} (g : Ghosts S D P G C) (f : Formats S D P G C) (s : Setup S D C) (h : History S D P G C) where
   -- no sender test applies to another member
@@ -135,30 +127,56 @@ module _ {S D P G C : Type 0} (g : Ghosts S D P G C) (f : Formats S D P G C) (s 
   another-passes sender a = inr (λ out. absurd (omega (arith, a.member, out)), inr (a.another, refl))
 
   -- of a packet of another member no refusal comes that needs nothing
-  pub packet-wants : (answer : Result (Reply S D P G C) NodeFault) (sender : ℕ) (by : Channel) (bytes : Vec ℕ Global) → IsAnother g f s sender → (r : Refusal) → IsFirst (tests g f s h (event.Packet sender by bytes)) (Some r) → needs_nothing r ≡ true → IsOk answer
+  pub packet-wants : {A : Type 0} (answer : Result A NodeFault) (sender : ℕ) (by : Channel) (bytes : Vec ℕ Global) → IsAnother g f s sender → (r : Refusal) → IsFirst (tests g f s h (event.Packet sender by bytes)) (Some r) → needs_nothing r ≡ true → IsOk answer
   packet-wants answer sender by bytes a r first needs = absurd (cc (
     packet-needs g f s h sender (f.packet_in by bytes.items) r
         (first-of-rest (sender_tests g f s sender) (packet_tests g f s h sender (f.packet_in by bytes.items)) (Some r) (another-passes sender a) first),
     needs,
   ))
 
+module _ {S L D P G C K : Type 0} (g : Ghosts S D P G C) (e : elector.Ghosts L S D P G C) (k : disk.Ghosts K) (f : Formats S D P G C) (s : Setup S D C) (old new : Core S L D K P G C) (h : History S D P G C) where
+  -- an event was answered, beside the actions
+  pub handled-so : (event : Event D) (before after : List (Action S D P G C)) (answer : Result (Option Refusal) NodeFault) → before ≡ after → IsHandled g e k f s old new h event before answer → IsHandled g e k f s old new h event after answer
+  handled-so event before after answer same handled = subst (λ (l : List (Action S D P G C)). IsHandled g e k f s old new h event l answer) same handled
+
+  -- a vote of another member was heard, or refused for other votes, or there was no memory for it
+  pub heard-handled : (sender : ℕ) (by : Channel) (bytes : Vec ℕ Global) (v : Vote S D P G C) (before after : List (Action S D P G C)) (answer : Result (Option Refusal) NodeFault) → before ≡ [] → IsAnother g f s sender → f.packet_in by bytes.items ≡ Some (of_vote v) → vote_signer v ≡ sender
+      → ((answer : Option Refusal) → IsFirst (last_vote_tests g f s h sender v) answer → IsFirst (tests g f s h (event.Packet sender by bytes)) answer) → IfOk answer (λ refused. IsHeard g e k f s new h sender v refused before after)
+      → (k.keeps → LeavesOnly (k.calls (disk_of old)) (k.calls (disk_of new)) (IsReached g f s h (event.Packet sender by bytes)))
+      → IsHandled g e k f s old new h (event.Packet sender by bytes) after answer
+  heard-handled sender by bytes v before after (Ok refused) none another found signer all heard moment = record {
+    ok = heard-stepped g e k f s new h sender by bytes v refused after found signer all (subst (λ (l : List (Action S D P G C)). IsHeard g e k f s new h sender v refused l after) none heard);
+    any_moment = moment;
+    without_memory = λ r first needs. refl;
+  }
+  heard-handled sender by bytes v before after (Err why) none another found signer all heard moment = record {
+    ok = tt;
+    any_moment = moment;
+    without_memory = packet-wants g f s h {A = Option Refusal} (Err why) sender by bytes another;
+  }
+
 module _ {S L D P G C K : Type 0} (g : Ghosts S D P G C) (e : elector.Ghosts L S D P G C) (k : disk.Ghosts K) (f : Formats S D P G C) (s : Setup S D C) (node : Core S L D K P G C) (h : History S D P G C) where
   -- a packet was refused, for no contradiction
-  pub refused-answered : (sender : ℕ) (by : Channel) (bytes : Vec ℕ Global) (r : Refusal) (answer : Result (Reply S D P G C) NodeFault) → IsFirst (tests g f s h (event.Packet sender by bytes)) (Some r) → r ≢ refusal.Contradiction
-      → IfOk answer (λ reply. reply.refused ≡ Some r) → IfOk answer (λ reply. (x : Formats S D P G C) → AreActions x reply.actions.items (if blocks_sender r then Blocks sender ∷ [] else [])) → OnErr answer (blocks_sender r ≡ true)
+  pub refused-handled : (sender : ℕ) (by : Channel) (bytes : Vec ℕ Global) (r : Refusal) (before after : List (Action S D P G C)) → before ≡ [] → IsFirst (tests g f s h (event.Packet sender by bytes)) (Some r) → r ≢ refusal.Contradiction
+      → HandsOut f before after (if blocks_sender r then Blocks sender ∷ [] else [])
       → CoreKeeps g e k f s node h → (k.keeps → LeavesOnly (k.calls (disk_of node)) (k.calls (disk_of node)) (λ image. Reads image (map f.artifact (record_of h))))
-      → IsAnswered g e k f s node node h (event.Packet sender by bytes) answer
-  refused-answered sender by bytes r (Ok reply) first other is acts memory keeps leaves =
+      → IsHandled g e k f s node node h (event.Packet sender by bytes) after (Ok (Some r))
+  refused-handled sender by bytes r before after none first other acts keeps leaves =
       let deeds = evidence_deeds g f s h sender (f.packet_in by bytes.items) in
       let front = if blocks_sender r then Blocks sender ∷ [] else [] in
-      let all : AreActions f reply.actions.items (refused_deeds g f s h (event.Packet sender by bytes) r) = subst (λ (l : List _). AreActions f reply.actions.items (front ++ l)) (sym (no-report g f s r deeds other)) (subst (λ (l : List _). AreActions f reply.actions.items l) (sym (append-nil front)) (acts f)) in
+      let start : AreActions f before [] = subst (λ (l : List (Action S D P G C)). AreActions f l []) (sym none) tt in
+      let all : AreActions f after (refused_deeds g f s h (event.Packet sender by bytes) r) = subst (λ (l : List _). AreActions f after (front ++ l)) (sym (no-report g f s r deeds other)) (subst (λ (l : List _). AreActions f after l) (sym (append-nil front)) (acts [] start)) in
       record {
-        ok = subst (λ (o : Option Refusal). (end : History S D P G C) × StepsAtOnce g f s h (event.Packet sender by bytes) (record { refused = o; actions = reply.actions }) end × CoreKeeps g e k f s node end) (sym is)
-            (turned-down (event.Packet sender by bytes) reply.actions r first all keeps);
+        ok = turned-down (event.Packet sender by bytes) after r first all keeps;
         any_moment = λ it. rest-reached (event.Packet sender by bytes) (leaves it);
         without_memory = λ q due needs. refl;
       }
-  refused-answered sender by bytes r (Err why) first other is acts memory keeps leaves = record {
+
+  -- or there was no memory for it
+  pub refused-unhandled : (sender : ℕ) (by : Channel) (bytes : Vec ℕ Global) (r : Refusal) (why : NodeFault) (after : List (Action S D P G C)) → IsFirst (tests g f s h (event.Packet sender by bytes)) (Some r) → blocks_sender r ≡ true
+      → (k.keeps → LeavesOnly (k.calls (disk_of node)) (k.calls (disk_of node)) (λ image. Reads image (map f.artifact (record_of h))))
+      → IsHandled g e k f s node node h (event.Packet sender by bytes) after (Err why)
+  refused-unhandled sender by bytes r why after first memory leaves = record {
     ok = tt;
     any_moment = λ it. rest-reached (event.Packet sender by bytes) (leaves it);
     without_memory = λ q due needs. absurd (cc (blocks-needs r memory, first-is-one (tests g f s h (event.Packet sender by bytes)) (Some r) (Some q) first due, needs));

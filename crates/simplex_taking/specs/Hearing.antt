@@ -1,11 +1,13 @@
 -- What comes of a vote that nothing refuses but other votes.
-use Rattle.std.specs.Prelude.{Option, Some, None, ℕ, List}
+use Rattle.std.specs.Prelude.{◌∷◌, [], Option, Some, None, ℕ, List, if◌then◌else◌, map, option_to_list}
 use Rattle.simplex_types.specs.declared.scheme.Scheme.{Ghosts}
 use Rattle.simplex_messages.specs.declared.vote.Vote.{Vote}
 use Rattle.simplex_rules.specs.declared.elector.Elector as elector
 use Rattle.simplex_journal.specs.declared.disk.Disk as disk
+use Rattle.simplex_admission.specs.declared.admission.Admission.{Admission}
 use Rattle.simplex_member.specs.declared.action.Action.{Action}
 use Rattle.simplex_member.specs.declared.refusal.Refusal.{Refusal}
+use Rattle.simplex_member.specs.Deeds.{Deed, Blocks, Reports}
 use Rattle.simplex_member.specs.First.{IsFirst}
 use Rattle.simplex_member.specs.Packet.{Formats, Packet, of_vote}
 use Rattle.simplex_member.specs.Point.{History, Heard}
@@ -15,6 +17,11 @@ use Rattle.simplex_exchange.specs.Handing.{HandsOut}
 use Rattle.simplex_core.specs.Keeps.{CoreKeeps}
 use Rattle.simplex_taking.specs.Refusing.{last_vote_tests, packet_refused_deeds}
 use Rattle.simplex_core.specs.Taking.{IsTaken}
+
+-- what is handed out for a vote of this sender by what the votes of its view answered: the report of one that was added, and for one that
+-- blocks its sender that, and the report of the evidence
+abbrev pub admission_deeds : {S D P G C : Type 0} → ℕ → Admission S D P G C → List (Deed S D P G C)
+admission_deeds sender a = if a.added then map Reports (option_to_list a.report) else (if a.block then Blocks sender ∷ map Reports (option_to_list a.report) else [])
 
 module _ {S L D P G C K : Type 0} (g : Ghosts S D P G C) (e : elector.Ghosts L S D P G C) (k : disk.Ghosts K) (f : Formats S D P G C) (s : Setup S D C) where
   -- a packet was refused for a reason: the node stands where it stood, and what is handed out for that is behind the actions before

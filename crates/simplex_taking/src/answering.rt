@@ -1,6 +1,6 @@
 //! What the application answers: what it built, and whether a proposal is good.
 
-ghost use Rattle.std.specs.Prelude.{◌≡◌, ◌≢◌, List, None, Some, IfErr, OnOk};
+ghost use Rattle.std.specs.Prelude.{◌≡◌, List, None, Some, IfErr, OnOk};
 ghost use Rattle.simplex_voter.specs.State as voting;
 ghost use Rattle.simplex_member.specs.declared.action.Action.{Action};
 ghost use Rattle.simplex_member.specs.declared.event.Event.TheVariants as event;
@@ -63,19 +63,17 @@ fn tell_answer<S: Scheme<D> + Drop, L: Elector<S, D>, D: Digest>(
 pub(crate) fn take_built<S: Scheme<D> + Drop, L: Elector<S, D>, D: Digest, K: Disk>(
     core: &mut Core<S, L, D, K>,
     number: u64,
+    building: Building<D, S::PublicKey>,
     payload: Option<D>,
     out: &mut Vec<Action<S, D>>,
 ) -> Result<(), NodeFault>
-    ensures taken { OnOk result (AtOwn S.Scheme L.Elector K.Disk (formats D.PartialEq.eq D.spelling S.Signature.spelling S.Certificate.spelling D.reading S.Signature.reading S.Certificate.reading) core.old (λ f s h. build_at h number ≢ None → TakesEvent S.Scheme L.Elector K.Disk f s core.new h (event.Built number payload) out.old.items out.new.items)) }
+    ensures taken { OnOk result (AtOwn S.Scheme L.Elector K.Disk (formats D.PartialEq.eq D.spelling S.Signature.spelling S.Certificate.spelling D.reading S.Signature.reading S.Certificate.reading) core.old (λ f s h. build_at h number ≡ Some (build_parts building) → TakesEvent S.Scheme L.Elector K.Disk f s core.new h (event.Built number payload) out.old.items out.new.items)) }
     ensures disk { disk_of core.new ≡ disk_of core.old }
     ensures fault { IfErr result (λ why. why ≡ step_fault.Memory) }
 {
-    match core.tables.build(number) {
-        Some(building) => match payload {
-            Some(payload) => take_payload(core, number, building, payload, out),
-            None => take_no_payload(core, number, building),
-        },
-        None => Ok(()),
+    match payload {
+        Some(payload) => take_payload(core, number, building, payload, out),
+        None => take_no_payload(core, number, building),
     }
 }
 
@@ -136,16 +134,14 @@ fn take_no_payload<S: Scheme<D> + Drop, L: Elector<S, D>, D: Digest, K: Disk>(
 pub(crate) fn take_checked<S: Scheme<D> + Drop, L: Elector<S, D>, D: Digest, K: Disk>(
     core: &mut Core<S, L, D, K>,
     number: u64,
+    view: View,
     answer: Option<bool>,
 ) -> Result<(), NodeFault>
-    ensures taken { OnOk result (AtOwn S.Scheme L.Elector K.Disk (formats D.PartialEq.eq D.spelling S.Signature.spelling S.Certificate.spelling D.reading S.Signature.reading S.Certificate.reading) core.old (λ f s h. check_at h number ≢ None → (actions : List (Action S D S.PublicKey S.Signature S.Certificate)) → TakesEvent S.Scheme L.Elector K.Disk f s core.new h (event.Checked number answer) actions actions)) }
+    ensures taken { OnOk result (AtOwn S.Scheme L.Elector K.Disk (formats D.PartialEq.eq D.spelling S.Signature.spelling S.Certificate.spelling D.reading S.Signature.reading S.Certificate.reading) core.old (λ f s h. check_at h number ≡ Some view → (actions : List (Action S D S.PublicKey S.Signature S.Certificate)) → TakesEvent S.Scheme L.Elector K.Disk f s core.new h (event.Checked number answer) actions actions)) }
     ensures disk { disk_of core.new ≡ disk_of core.old }
     ensures fault { IfErr result (λ why. why ≡ step_fault.Memory) }
 {
     silent_points_leave_votes::<S, D>();
-    let Some(view) = core.tables.check(number) else {
-        return Ok(());
-    };
     let now = core.tables.moment();
     match tell_answer(now, view, answer, &mut core.voter) {
         Ok(()) => {}

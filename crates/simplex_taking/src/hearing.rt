@@ -1,12 +1,14 @@
 //! Votes of other members.
 
-ghost use Rattle.std.specs.Prelude.{◌≡◌, IfErr, IfOk};
+ghost use Rattle.std.specs.Prelude.{◌≡◌, IfErr, IfOk, OnOk};
 ghost use Rattle.simplex_member.specs.declared.fault.NodeFault.TheVariants as step_fault;
-ghost use Rattle.simplex_member.specs.Packet.{formats};
-ghost use Rattle.simplex_taking.specs.Hearing.{IsHeard};
+ghost use Rattle.simplex_member.specs.Packet.{Formats, formats};
+ghost use Rattle.simplex_exchange.specs.Handing.{HandsOut};
+ghost use Rattle.simplex_taking.specs.Hearing.{IsHeard, admission_deeds};
 ghost use Rattle.simplex_core.specs.Keeps.{AtOwn, disk_of};
 ghost use Rattle.simplex_taking.specs.Refusing.{IsAnother, MayBeHeard};
 
+use simplex_batcher::Admission;
 use simplex_core::Core;
 use simplex_exchange::{hand_out, report_if};
 use simplex_journal::Disk;
@@ -35,17 +37,45 @@ pub(crate) fn take_vote<S: Scheme<D> + Drop, L: Elector<S, D>, D: Digest, K: Dis
     let Ok(admission) = core.acceptance.hear(sender, vote) else {
         return Err(NodeFault::Memory);
     };
-    if admission.added {
+    let added = admission.added;
+    let block = admission.block;
+    match hand_admission_out(sender, admission, out) {
+        Ok(()) => {}
+        Err(fault) => return Err(fault),
+    }
+    if added {
         let Ok(()) = core.tables.hear(sender) else {
             return Err(NodeFault::Memory);
         };
-        report_if(admission.report, out)?;
         return Ok(None);
     }
-    if !admission.block {
+    if !block {
         return Ok(Some(Refusal::Repeated));
     }
-    hand_out(Action::Block(sender), out)?;
-    report_if(admission.report, out)?;
     Ok(Some(Refusal::Contradiction))
+}
+
+/// Reports a vote that was added; of one that was not, blocks its sender where that is wanted, and reports the evidence.
+fn hand_admission_out<S: Scheme<D>, D: Digest>(
+    sender: Participant,
+    admission: Admission<S, D>,
+    out: &mut Vec<Action<S, D>>,
+) -> Result<(), NodeFault>
+    ensures done { OnOk result ((f : Formats S D S.PublicKey S.Signature S.Certificate) → HandsOut f out.old.items out.new.items (admission_deeds sender admission)) }
+    ensures fault { IfErr result (λ why. why ≡ step_fault.Memory) }
+{
+    if admission.added {
+        return report_if(admission.report, out);
+    }
+    if !admission.block {
+        drop(admission);
+        return Ok(());
+    }
+    match hand_out(Action::Block(sender), out) {
+        Ok(()) => report_if(admission.report, out),
+        Err(fault) => {
+            drop(admission);
+            Err(fault)
+        }
+    }
 }

@@ -1,7 +1,7 @@
 //! The first reason for which an event is not taken, where that asks for neither memory nor the disk. The votes of a view tell the
 //! last two reasons for which a vote is not.
 
-ghost use Rattle.std.specs.Prelude.{◌≤◌, Bool, Option, IfNone, ◌<◌, ◌^◌};
+ghost use Rattle.std.specs.Prelude.{◌≤◌, Bool, IfNone, ◌<◌, ◌^◌};
 ghost use Rattle.simplex_member.specs.declared.event.Event.TheVariants as event;
 ghost use Rattle.simplex_member.specs.Allowed.{Allowed};
 ghost use Rattle.simplex_member.specs.Asked.{IsAwaited};
@@ -103,32 +103,6 @@ pub(crate) fn certificate_refusal<S: Scheme<D> + Drop, L: Elector<S, D>, D: Dige
         return Some(Refusal::NotVerifying);
     }
     None
-}
-
-/// The first reason for which what was built under a number is not taken.
-pub(crate) fn built_refusal<S: Scheme<D> + Drop, L: Elector<S, D>, D: Digest, K: Disk>(
-    core: &Core<S, L, D, K>,
-    number: u64,
-) -> Option<Refusal>
-    ensures { AtAll S.Scheme L.Elector K.Disk core.now (λ f s h. (payload : Option D) → IsFirst (tests S.Scheme f s h (event.Built number payload)) result) }
-{
-    match core.tables.build(number) {
-        Some(_) => None,
-        None => Some(Refusal::UnknownAnswer),
-    }
-}
-
-/// The first reason for which the answer to the verification under a number is not taken.
-pub(crate) fn checked_refusal<S: Scheme<D> + Drop, L: Elector<S, D>, D: Digest, K: Disk>(
-    core: &Core<S, L, D, K>,
-    number: u64,
-) -> Option<Refusal>
-    ensures { AtAll S.Scheme L.Elector K.Disk core.now (λ f s h. (answer : Option Bool) → IsFirst (tests S.Scheme f s h (event.Checked number answer)) result) }
-{
-    match core.tables.check(number) {
-        Some(_) => None,
-        None => Some(Refusal::UnknownAnswer),
-    }
 }
 
 /// The first reason for which a verdict on a view is not taken. Where one is recorded no request stands, so this is looked at

@@ -1,19 +1,20 @@
 //! An event is refused or taken.
 
+ghost use Rattle.std.specs.Prelude.{◌≡◌, []};
 ghost use Rattle.simplex_member.specs.declared.event.Event.TheVariants as event;
 ghost use Rattle.simplex_member.specs.Packet.{formats};
 ghost use Rattle.simplex_core.specs.Keeps.{AtOwn, disk_of};
-ghost use Rattle.simplex_taking.specs.Stepping.{IsAnswered};
+ghost use Rattle.simplex_taking.specs.Stepping.{IsAnswered, IsHandled};
 ghost use Rattle.simplex_core.specs.Telling.{TellsOfDisk};
 
 use crate::answering::{take_built, take_checked};
-use crate::receiving::answer_packet;
-use crate::refusing::{built_refusal, checked_refusal, moment_refusal, verdict_refusal};
+use crate::receiving::handle_packet;
+use crate::refusing::{moment_refusal, verdict_refusal};
 use crate::telling::take_moment;
 use crate::verdicts::take_verdict;
 use simplex_core::Core;
 use simplex_journal::Disk;
-use simplex_member::{Event, NodeFault, Reply};
+use simplex_member::{Action, Event, NodeFault, Refusal, Reply};
 use simplex_recording::a_ledger_at_rest_leaves_its_record;
 use simplex_rules::Elector;
 use simplex_types::{Digest, Scheme, View};
@@ -26,114 +27,106 @@ pub fn answer<S: Scheme<D> + Drop, L: Elector<S, D>, D: Digest, K: Disk>(
     ensures answered { AtOwn S.Scheme L.Elector K.Disk (formats D.PartialEq.eq D.spelling S.Signature.spelling S.Certificate.spelling D.reading S.Signature.reading S.Certificate.reading) core.old (λ f s h. IsAnswered S.Scheme L.Elector K.Disk f s core.old core.new h event result) }
     ensures faults { TellsOfDisk K.Disk (disk_of core.old) (disk_of core.new) result }
 {
+    let mut actions = Vec::new(core.settings.alloc);
+    match handle(core, event, &mut actions) {
+        Ok(refused) => Ok(Reply { refused, actions }),
+        Err(fault) => Err(fault),
+    }
+}
+
+/// An event is refused, for the reason that is answered, or taken, and what that brings is handed out.
+fn handle<S: Scheme<D> + Drop, L: Elector<S, D>, D: Digest, K: Disk>(
+    core: &mut Core<S, L, D, K>,
+    event: Event<D>,
+    out: &mut Vec<Action<S, D>>,
+) -> Result<Option<Refusal>, NodeFault>
+    ensures handled { AtOwn S.Scheme L.Elector K.Disk (formats D.PartialEq.eq D.spelling S.Signature.spelling S.Certificate.spelling D.reading S.Signature.reading S.Certificate.reading) core.old (λ f s h. out.old.items ≡ [] → IsHandled S.Scheme L.Elector K.Disk f s core.old core.new h event out.new.items result) }
+    ensures faults { TellsOfDisk K.Disk (disk_of core.old) (disk_of core.new) result }
+{
     match event {
         Event::Packet {
             sender,
             channel,
             bytes,
-        } => answer_packet(core, sender, channel, bytes),
-        Event::Built { number, payload } => answer_built(core, number, payload),
-        Event::Checked { number, answer } => answer_checked(core, number, answer),
-        Event::Verdict { view, ok } => answer_verdict(core, view, ok),
-        Event::Moment(now) => answer_moment(core, now),
+        } => handle_packet(core, sender, channel, bytes, out),
+        Event::Built { number, payload } => handle_built(core, number, payload, out),
+        Event::Checked { number, answer } => handle_checked(core, number, answer),
+        Event::Verdict { view, ok } => handle_verdict(core, view, ok, out),
+        Event::Moment(now) => handle_moment(core, now),
     }
 }
 
-/// The reply to what was built under a number.
-fn answer_built<S: Scheme<D> + Drop, L: Elector<S, D>, D: Digest, K: Disk>(
+/// What was built under a number is refused, or taken.
+fn handle_built<S: Scheme<D> + Drop, L: Elector<S, D>, D: Digest, K: Disk>(
     core: &mut Core<S, L, D, K>,
     number: u64,
     payload: Option<D>,
-) -> Result<Reply<S, D>, NodeFault>
-    ensures answered { AtOwn S.Scheme L.Elector K.Disk (formats D.PartialEq.eq D.spelling S.Signature.spelling S.Certificate.spelling D.reading S.Signature.reading S.Certificate.reading) core.old (λ f s h. IsAnswered S.Scheme L.Elector K.Disk f s core.old core.new h (event.Built number payload) result) }
+    out: &mut Vec<Action<S, D>>,
+) -> Result<Option<Refusal>, NodeFault>
+    ensures handled { AtOwn S.Scheme L.Elector K.Disk (formats D.PartialEq.eq D.spelling S.Signature.spelling S.Certificate.spelling D.reading S.Signature.reading S.Certificate.reading) core.old (λ f s h. out.old.items ≡ [] → IsHandled S.Scheme L.Elector K.Disk f s core.old core.new h (event.Built number payload) out.new.items result) }
     ensures faults { TellsOfDisk K.Disk (disk_of core.old) (disk_of core.new) result }
 {
     a_ledger_at_rest_leaves_its_record::<S, D, K>();
-    if let Some(refusal) = built_refusal(core, number) {
-        return Ok(Reply {
-            refused: Some(refusal),
-            actions: Vec::new(core.settings.alloc),
-        });
-    }
-    let mut actions = Vec::new(core.settings.alloc);
-    match take_built(core, number, payload, &mut actions) {
-        Ok(()) => Ok(Reply {
-            refused: None,
-            actions,
-        }),
+    let Some(building) = core.tables.build(number) else {
+        return Ok(Some(Refusal::UnknownAnswer));
+    };
+    match take_built(core, number, building, payload, out) {
+        Ok(()) => Ok(None),
         Err(fault) => Err(fault),
     }
 }
 
-/// The reply to what was found of the proposal that is verified under a number.
-fn answer_checked<S: Scheme<D> + Drop, L: Elector<S, D>, D: Digest, K: Disk>(
+/// What was found of the proposal that is verified under a number is refused, or taken. Nothing is handed out for it.
+fn handle_checked<S: Scheme<D> + Drop, L: Elector<S, D>, D: Digest, K: Disk>(
     core: &mut Core<S, L, D, K>,
     number: u64,
     answer: Option<bool>,
-) -> Result<Reply<S, D>, NodeFault>
-    ensures answered { AtOwn S.Scheme L.Elector K.Disk (formats D.PartialEq.eq D.spelling S.Signature.spelling S.Certificate.spelling D.reading S.Signature.reading S.Certificate.reading) core.old (λ f s h. IsAnswered S.Scheme L.Elector K.Disk f s core.old core.new h (event.Checked number answer) result) }
+) -> Result<Option<Refusal>, NodeFault>
+    ensures handled { AtOwn S.Scheme L.Elector K.Disk (formats D.PartialEq.eq D.spelling S.Signature.spelling S.Certificate.spelling D.reading S.Signature.reading S.Certificate.reading) core.old (λ f s h. IsHandled S.Scheme L.Elector K.Disk f s core.old core.new h (event.Checked number answer) [] result) }
     ensures faults { TellsOfDisk K.Disk (disk_of core.old) (disk_of core.new) result }
 {
     a_ledger_at_rest_leaves_its_record::<S, D, K>();
-    if let Some(refusal) = checked_refusal(core, number) {
-        return Ok(Reply {
-            refused: Some(refusal),
-            actions: Vec::new(core.settings.alloc),
-        });
-    }
-    match take_checked(core, number, answer) {
-        Ok(()) => Ok(Reply {
-            refused: None,
-            actions: Vec::new(core.settings.alloc),
-        }),
+    let Some(view) = core.tables.check(number) else {
+        return Ok(Some(Refusal::UnknownAnswer));
+    };
+    match take_checked(core, number, view, answer) {
+        Ok(()) => Ok(None),
         Err(fault) => Err(fault),
     }
 }
 
-/// The reply to a verdict.
-fn answer_verdict<S: Scheme<D> + Drop, L: Elector<S, D>, D: Digest, K: Disk>(
+/// A verdict is refused, or taken.
+fn handle_verdict<S: Scheme<D> + Drop, L: Elector<S, D>, D: Digest, K: Disk>(
     core: &mut Core<S, L, D, K>,
     view: View,
     ok: bool,
-) -> Result<Reply<S, D>, NodeFault>
-    ensures answered { AtOwn S.Scheme L.Elector K.Disk (formats D.PartialEq.eq D.spelling S.Signature.spelling S.Certificate.spelling D.reading S.Signature.reading S.Certificate.reading) core.old (λ f s h. IsAnswered S.Scheme L.Elector K.Disk f s core.old core.new h (event.Verdict view ok) result) }
+    out: &mut Vec<Action<S, D>>,
+) -> Result<Option<Refusal>, NodeFault>
+    ensures handled { AtOwn S.Scheme L.Elector K.Disk (formats D.PartialEq.eq D.spelling S.Signature.spelling S.Certificate.spelling D.reading S.Signature.reading S.Certificate.reading) core.old (λ f s h. out.old.items ≡ [] → IsHandled S.Scheme L.Elector K.Disk f s core.old core.new h (event.Verdict view ok) out.new.items result) }
     ensures faults { TellsOfDisk K.Disk (disk_of core.old) (disk_of core.new) result }
 {
     a_ledger_at_rest_leaves_its_record::<S, D, K>();
     if let Some(refusal) = verdict_refusal(core, view) {
-        return Ok(Reply {
-            refused: Some(refusal),
-            actions: Vec::new(core.settings.alloc),
-        });
+        return Ok(Some(refusal));
     }
-    let mut actions = Vec::new(core.settings.alloc);
-    match take_verdict(core, view, ok, &mut actions) {
-        Ok(()) => Ok(Reply {
-            refused: None,
-            actions,
-        }),
+    match take_verdict(core, view, ok, out) {
+        Ok(()) => Ok(None),
         Err(fault) => Err(fault),
     }
 }
 
-/// The reply to a moment.
-fn answer_moment<S: Scheme<D> + Drop, L: Elector<S, D>, D: Digest, K: Disk>(
+/// A moment is refused, or taken. Nothing is handed out for it.
+fn handle_moment<S: Scheme<D> + Drop, L: Elector<S, D>, D: Digest, K: Disk>(
     core: &mut Core<S, L, D, K>,
     now: u64,
-) -> Result<Reply<S, D>, NodeFault>
-    ensures answered { AtOwn S.Scheme L.Elector K.Disk (formats D.PartialEq.eq D.spelling S.Signature.spelling S.Certificate.spelling D.reading S.Signature.reading S.Certificate.reading) core.old (λ f s h. IsAnswered S.Scheme L.Elector K.Disk f s core.old core.new h (event.Moment now) result) }
+) -> Result<Option<Refusal>, NodeFault>
+    ensures handled { AtOwn S.Scheme L.Elector K.Disk (formats D.PartialEq.eq D.spelling S.Signature.spelling S.Certificate.spelling D.reading S.Signature.reading S.Certificate.reading) core.old (λ f s h. IsHandled S.Scheme L.Elector K.Disk f s core.old core.new h (event.Moment now) [] result) }
     ensures faults { TellsOfDisk K.Disk (disk_of core.old) (disk_of core.new) result }
 {
     a_ledger_at_rest_leaves_its_record::<S, D, K>();
     if let Some(refusal) = moment_refusal(core, now) {
-        return Ok(Reply {
-            refused: Some(refusal),
-            actions: Vec::new(core.settings.alloc),
-        });
+        return Ok(Some(refusal));
     }
     take_moment(core, now);
-    Ok(Reply {
-        refused: None,
-        actions: Vec::new(core.settings.alloc),
-    })
+    Ok(None)
 }

@@ -1,11 +1,17 @@
-use Rattle.std.proofs.Common.{Bool, List, [], ◌∷◌, refl, sym, ◌∙◌, subst}
+use Rattle.std.proofs.Common.{Bool, [], ◌∷◌, refl, sym, ◌∙◌, subst}
 use Rattle.std.specs.Prelude.{if◌then◌else◌}
-use Rattle.simplex_member.specs.declared.action.Action.{Action}
-use Rattle.simplex_member.specs.Deeds.{AreActions, Blocks}
+use Rattle.std.proofs.lemmas.Result.{IfErr-weaker, on_ok_weaker}
+use Rattle.simplex_member.specs.Deeds.{Blocks}
+use Rattle.simplex_exchange.specs.Handing.{HandsOut, nothing_more}
 use Rattle.simplex_taking.proofs.receiving.refuse.Goals as goal
 
-pub returns-in-Ok-clause-acts : goal.returns-in-Ok-clause-acts
-returns-in-Ok-clause-acts g c = λ f.
-    let blocked = sym c.blocks-2.ensures ∙ c.if-not-blocks.false in
-    let none = subst (λ (l : List (Action g.row.S.Denot g.row.D.Denot g.row.S-PublicKey.Denot g.row.S-Signature.Denot g.row.S-Certificate.Denot)). AreActions f l []) (sym c.new-actions.ensures.items) tt in
-    subst (λ (b : Bool). AreActions f c.hand_out.new.out.items (if b then Blocks c.args.sender ∷ [] else [])) (sym blocked) (c.in-Ok.ensures.done f (Blocks c.args.sender) refl [] none)
+pub returns-then-not-blocks-clause-done : goal.returns-then-not-blocks-clause-done
+returns-then-not-blocks-clause-done g c = λ f.
+    subst (λ (b : Bool). HandsOut f c.args.out.now.items c.args.out.now.items (if b then Blocks c.args.sender ∷ [] else [])) (sym (sym c.blocks-2.ensures ∙ c.if-not-blocks.true)) (nothing_more f c.args.out.now.items)
+
+pub returns-clause-done : goal.returns-clause-done
+returns-clause-done g c = on_ok_weaker c.hand_out.result (λ done f.
+    subst (λ (b : Bool). HandsOut f c.args.out.now.items c.hand_out.new.out.items (if b then Blocks c.args.sender ∷ [] else [])) (sym (sym c.blocks-2.ensures ∙ c.if-not-blocks.false)) (done f (Blocks c.args.sender) refl)) c.hand_out.ensures.done
+
+pub returns-clause-memory : goal.returns-clause-memory
+returns-clause-memory g c = IfErr-weaker c.hand_out.result _ _ (λ why is. sym c.blocks-2.ensures ∙ c.if-not-blocks.false) c.hand_out.ensures.fault

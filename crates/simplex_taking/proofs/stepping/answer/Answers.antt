@@ -1,21 +1,19 @@
+use Rattle.std.proofs.Common.{refl}
+use Rattle.simplex_core.specs.Telling.{tells_err, tells_ok}
 use Rattle.simplex_taking.proofs.stepping.answer.Goals as goal
 
-pub returns-in-Packet-clause-answered : goal.returns-in-Packet-clause-answered
-returns-in-Packet-clause-answered g c = λ s h k.
-    rw c.in-Packet.is (c.answer_packet.ensures.answered s h k)
+pub returns-in-Ok-clause-answered : goal.returns-in-Ok-clause-answered
+returns-in-Ok-clause-answered g c = λ s h k.
+    let handled = c.in-Ok.ensures.handled s h k c.new-actions.ensures.items in
+    record { ok = handled.ok; any_moment = handled.any_moment; without_memory = λ r first needs. refl }
 
-pub returns-in-Built-clause-answered : goal.returns-in-Built-clause-answered
-returns-in-Built-clause-answered g c = λ s h k.
-    rw c.in-Built.is (c.answer_built.ensures.answered s h k)
+pub returns-in-Err-clause-answered : goal.returns-in-Err-clause-answered
+returns-in-Err-clause-answered g c = λ s h k.
+    let handled = c.in-Err.ensures.handled s h k c.new-actions.ensures.items in
+    record { ok = tt; any_moment = handled.any_moment; without_memory = handled.without_memory }
 
-pub returns-in-Checked-clause-answered : goal.returns-in-Checked-clause-answered
-returns-in-Checked-clause-answered g c = λ s h k.
-    rw c.in-Checked.is (c.answer_checked.ensures.answered s h k)
+pub returns-in-Ok-clause-faults : goal.returns-in-Ok-clause-faults
+returns-in-Ok-clause-faults g c = tells_ok c.in-Ok.ensures.faults
 
-pub returns-in-Verdict-clause-answered : goal.returns-in-Verdict-clause-answered
-returns-in-Verdict-clause-answered g c = λ s h k.
-    rw c.in-Verdict.is (c.answer_verdict.ensures.answered s h k)
-
-pub returns-in-Moment-clause-answered : goal.returns-in-Moment-clause-answered
-returns-in-Moment-clause-answered g c = λ s h k.
-    rw c.in-Moment.is (c.answer_moment.ensures.answered s h k)
+pub returns-in-Err-clause-faults : goal.returns-in-Err-clause-faults
+returns-in-Err-clause-faults g c = tells_err _ _ refl refl c.in-Err.ensures.faults

@@ -7,16 +7,16 @@ use Rattle.simplex_member.specs.First.{IsFirst}
 use Rattle.simplex_taking.specs.Deciding.{IsDecided}
 use Rattle.simplex_taking.specs.Refusing.{bytes_tests}
 use Rattle.simplex_taking.proofs.Replying.{rest-reached}
-use Rattle.simplex_taking.proofs.receiving.answer_packet.Goals as goal
+use Rattle.simplex_taking.proofs.receiving.handle_packet.Goals as goal
 
-pub returns-in-Ok-clause-answered : goal.returns-in-Ok-clause-answered
-returns-in-Ok-clause-answered g c = λ s h k.
+pub returns-in-Ok-clause-handled : goal.returns-in-Ok-clause-handled
+returns-in-Ok-clause-handled g c = λ s h k none.
     let f = formats {S = g.row.S.Denot} {P = g.row.S-PublicKey.Denot} g.D.PartialEq.eq g.D.Write.spelling g.S.Signature.Write.spelling g.S.Certificate.Write.spelling g.D.Read.reading g.S.Signature.Read.reading g.S.Certificate.Read.reading (g.S.Scheme.size s.voter.scheme) in
-    c.answer_decided.ensures.answered s h k c.args.channel (c.in-Ok.ensures.size f s h k)
-    (subst (λ (l : List ℕ). IsDecided g.S.Scheme f s h c.args.sender (f.packet_in c.args.channel l) (bytes_tests g.S.Scheme f s h c.args.sender c.args.channel l) c.in-Ok.decided) c.deref.ensures.value (c.in-Ok.ensures.decided s h k))
+    c.handle_decided.ensures.handled s h k c.args.channel (c.in-Ok.ensures.size f s h k)
+    (subst (λ (l : List ℕ). IsDecided g.S.Scheme f s h c.args.sender (f.packet_in c.args.channel l) (bytes_tests g.S.Scheme f s h c.args.sender c.args.channel l) c.in-Ok.decided) c.deref.ensures.value (c.in-Ok.ensures.decided s h k)) none
 
-pub returns-in-Err-clause-answered : goal.returns-in-Err-clause-answered
-returns-in-Err-clause-answered g c = λ s h k.
+pub returns-in-Err-clause-handled : goal.returns-in-Err-clause-handled
+returns-in-Err-clause-handled g c = λ s h k none.
     let f = formats {S = g.row.S.Denot} {P = g.row.S-PublicKey.Denot} g.D.PartialEq.eq g.D.Write.spelling g.S.Signature.Write.spelling g.S.Certificate.Write.spelling g.D.Read.reading g.S.Signature.Read.reading g.S.Certificate.Read.reading (g.S.Scheme.size s.voter.scheme) in
     record {
       ok = tt;

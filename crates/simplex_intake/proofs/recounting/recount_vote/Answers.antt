@@ -4,8 +4,8 @@ use Rattle.std.proofs.lemmas.Bool.{lt-ltb}
 use Rattle.std.proofs.lemmas.Bool.Decides.{nat_tests}
 use Rattle.simplex_messages.specs.VoteParts.{vote_round}
 use Rattle.simplex_member.specs.Layers.{floor_of}
-use Rattle.simplex_recounting.proofs.Owning.{free-below, free-told, new-vote}
-use Rattle.simplex_recounting.proofs.recounting.recount_vote.Goals as goal
+use Rattle.simplex_intake.proofs.Owning.{free-below, free-told, new-vote}
+use Rattle.simplex_intake.proofs.recounting.recount_vote.Goals as goal
 
 pub returns-then-is_told : goal.returns-then-is_told
 returns-then-is_told g c = λ s h k taken at room verifies.

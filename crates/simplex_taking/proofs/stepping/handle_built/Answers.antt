@@ -1,38 +1,45 @@
-use Rattle.std.proofs.Common.{◌≡◌, refl, sym, subst, None, Err, List, []}
+use Rattle.std.proofs.Common.{inl, inr, refl, sym, subst, None, Err, List, [], Option}
 use Rattle.simplex_member.specs.declared.event.Event.TheVariants as event
+use Rattle.simplex_member.specs.declared.refusal.Refusal.{Refusal}
 use Rattle.simplex_member.specs.declared.refusal.Refusal.TheVariants as refusal
-use Rattle.simplex_member.specs.Asked.{build_at}
 use Rattle.simplex_member.specs.Deeds.{AreActions}
+use Rattle.simplex_member.specs.First.{IsFirst}
+use Rattle.simplex_member.specs.Layers.{finalized_of}
 use Rattle.simplex_member.specs.Packet.{formats}
 use Rattle.simplex_member.specs.Recorded.{record_of}
+use Rattle.simplex_member.specs.Refusals.{tests}
 use Rattle.simplex_member.specs.Setup.{owner_of}
-use Rattle.simplex_taking.proofs.Replying.{from-nothing, none-due, passes-one, rest-reached, still-reached, stepped, turned-down}
-use Rattle.simplex_taking.proofs.stepping.answer_built.Goals as goal
+use Rattle.simplex_taking.proofs.Replying.{from-nothing, none-due, rest-reached, still-reached, stepped, turned-down}
+use Rattle.simplex_taking.proofs.stepping.handle_built.Goals as goal
 
-pub returns-in-Some-clause-answered : goal.returns-in-Some-clause-answered
-returns-in-Some-clause-answered g c = λ s h k.
+pub returns-in_default-clause-handled : goal.returns-in_default-clause-handled
+returns-in_default-clause-handled g c = λ s h k none.
     let f = formats {S = g.row.S.Denot} {P = g.row.S-PublicKey.Denot} g.D.PartialEq.eq g.D.Write.spelling g.S.Signature.Write.spelling g.S.Certificate.Write.spelling g.D.Read.reading g.S.Signature.Read.reading g.S.Certificate.Read.reading (g.S.Scheme.size s.voter.scheme) in
     record {
-      ok = turned-down (event.Built c.args.number c.args.payload) c.new.result c.in-Some.refusal (c.in-Some.ensures f s h k c.args.payload) (subst (λ (l : List _). AreActions f l []) (sym c.new.ensures.items) tt) k;
+      ok = turned-down (event.Built c.args.number c.args.payload) c.args.out.now.items refusal.UnknownAnswer (inl (sym (c.in_default.ensures (finalized_of s h) h k.tables), refl)) (subst (λ (l : List _). AreActions f l []) (sym none) tt) k;
       any_moment = λ keeps. rest-reached (event.Built c.args.number c.args.payload) (c.a_ledger_at_rest_leaves_its_record.ensures (owner_of s) c.args.core.now.ledger (record_of h) k.ledger keeps);
       without_memory = λ r first needs. refl;
     }
 
-pub returns-in-Ok-clause-answered : goal.returns-in-Ok-clause-answered
-returns-in-Ok-clause-answered g c = λ s h k.
+pub returns-in-Ok-clause-handled : goal.returns-in-Ok-clause-handled
+returns-in-Ok-clause-handled g c = λ s h k none.
     let f = formats {S = g.row.S.Denot} {P = g.row.S-PublicKey.Denot} g.D.PartialEq.eq g.D.Write.spelling g.S.Signature.Write.spelling g.S.Certificate.Write.spelling g.D.Read.reading g.S.Signature.Read.reading g.S.Certificate.Read.reading (g.S.Scheme.size s.voter.scheme) in
-    let t = c.in-Ok.ensures.taken s h k (passes-one refusal.UnknownAnswer (build_at h c.args.number ≡ None) [] (c.in_default.ensures f s h k c.args.payload)) in
+    let stands = c.in-Some.ensures (finalized_of s h) h k.tables in
+    let passes : IsFirst (tests g.S.Scheme f s h (event.Built c.args.number c.args.payload)) None = inr (λ none. absurd (cc (stands, none)), refl) in
+    let t = c.in-Ok.ensures.taken s h k (sym stands) in
     record {
-      ok = stepped (event.Built c.args.number c.args.payload) c.take_built.new.out (c.in_default.ensures f s h k c.args.payload) t.is (from-nothing g.S.Scheme g.L.Elector g.K.Disk f s c.take_built.new.core h t.point c.new-actions.result.items c.take_built.new.out.items c.new-actions.ensures.items t.taken);
+      ok = stepped (event.Built c.args.number c.args.payload) c.take_built.new.out.items passes t.is (from-nothing g.S.Scheme g.L.Elector g.K.Disk f s c.take_built.new.core h t.point c.args.out.now.items c.take_built.new.out.items none t.taken);
       any_moment = λ keeps. still-reached g.S.Scheme f s h g.K.Disk (event.Built c.args.number c.args.payload) c.in-Ok.ensures.disk (c.a_ledger_at_rest_leaves_its_record.ensures (owner_of s) c.args.core.now.ledger (record_of h) k.ledger keeps);
       without_memory = λ r first needs. refl;
     }
 
-pub returns-in-Err-clause-answered : goal.returns-in-Err-clause-answered
-returns-in-Err-clause-answered g c = λ s h k.
+pub returns-in-Err-clause-handled : goal.returns-in-Err-clause-handled
+returns-in-Err-clause-handled g c = λ s h k none.
     let f = formats {S = g.row.S.Denot} {P = g.row.S-PublicKey.Denot} g.D.PartialEq.eq g.D.Write.spelling g.S.Signature.Write.spelling g.S.Certificate.Write.spelling g.D.Read.reading g.S.Signature.Read.reading g.S.Certificate.Read.reading (g.S.Scheme.size s.voter.scheme) in
+    let stands = c.in-Some.ensures (finalized_of s h) h k.tables in
+    let passes : IsFirst (tests g.S.Scheme f s h (event.Built c.args.number c.args.payload)) None = inr (λ none. absurd (cc (stands, none)), refl) in
     record {
       ok = tt;
       any_moment = λ keeps. still-reached g.S.Scheme f s h g.K.Disk (event.Built c.args.number c.args.payload) c.in-Err.ensures.disk (c.a_ledger_at_rest_leaves_its_record.ensures (owner_of s) c.args.core.now.ledger (record_of h) k.ledger keeps);
-      without_memory = none-due g.S.Scheme f s h (event.Built c.args.number c.args.payload) (Err c.in-Err.fault) (c.in_default.ensures f s h k c.args.payload);
+      without_memory = none-due g.S.Scheme f s h (event.Built c.args.number c.args.payload) {A = Option Refusal} (Err c.in-Err.fault) passes;
     }
