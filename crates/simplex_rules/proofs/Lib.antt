@@ -1,6 +1,5 @@
 pub mod Exactly
 pub mod Windows
-pub mod Signatures
 pub mod Orders
 pub mod Shuffles
 pub mod Turning

@@ -5,4 +5,3 @@ pub mod Shuffle
 pub mod RotationLaws
 pub mod Windows
 pub mod Spans
-pub mod Salted

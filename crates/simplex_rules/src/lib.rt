@@ -1,11 +1,10 @@
-//! Who leads a view, which views a member listens to, and a scheme whose signatures of one subject differ.
+//! Who leads a view, and which views a member listens to.
 #![tactic(auto)]
 
 pub mod elector;
 mod kind;
 mod lookahead;
 mod plan;
-mod salted;
 mod terms;
 mod viewport;
 
@@ -19,6 +18,5 @@ pub use lookahead::{
     issuance_floor_leaves_the_optimistic_views_between, what_is_spoken_of_is_listened_to,
 };
 pub use plan::Plan;
-pub use salted::{SaltedScheme, SaltedSignature, signatures_of_two_counters_differ};
 pub use terms::Terms;
 pub use viewport::Viewport;

@@ -3,23 +3,31 @@
 ghost use Rattle.std.specs.Prelude.{◌≡◌, ◌↔◌, None, Contains, IfOk, IfSome, IsSome, true, ⊤};
 ghost use Rattle.std.proofs.lemmas.List.Sorted.{IsPermutation-sym};
 ghost use Rattle.simplex_types.specs.declared.attestation.Attestation.{Attestation};
-ghost use Rattle.simplex_types.specs.AttestationList.{list_within};
+ghost use Rattle.simplex_signing.specs.AttestationList.{list_within};
 ghost use Rattle.simplex_types.specs.Quorum.{IsQuorum};
 ghost use Rattle.simplex_types.specs.QuorumOrder.{IsQuorum-permutation};
 ghost use Rattle.simplex_types.specs.Subject.{statement};
 
+use crate::attestation_list::AttestationList;
+use crate::attesting::{failing_signers, list_of_quorum, lists_quorum};
 use crate::signing::Signing;
-use simplex_types::{
-    AssemblyError, Attestation, AttestationList, Digest, Listing, Participant, Scheme, Subject,
-    failing_signers, list_of_quorum, lists_quorum,
-};
+use simplex_types::{AssemblyError, Attestation, Digest, Listing, Participant, Scheme, Subject};
 use std::alloc::{AllocError, Global};
+use std::marker::Model;
 
 /// The scheme of a committee whose certificates list their attestations.
-#[derive(Drop)]
+#[derive(Debug, Drop)]
 pub struct Listed<C> {
     /// The committee, as one member sees it.
     pub committee: C,
+}
+
+impl<C> Model for Listed<C> {
+    ghost Value = { C };
+
+    ghost view = { λ s. s.committee };
+
+    ghost inverse = { λ c. record { committee = c } };
 }
 
 impl<C: Signing<D>, D: Digest> Scheme<D> for Listed<C> {
@@ -29,15 +37,15 @@ impl<C: Signing<D>, D: Digest> Scheme<D> for Listed<C> {
 
     type Certificate = AttestationList<C::Mark>;
 
-    ghost size = { λ s. C.members s.committee };
+    ghost size = { λ s. C.members s };
 
-    ghost own = { λ s. C.own s.committee };
+    ghost own = { λ s. C.own s };
 
-    ghost key_of = { λ s i. C.key_of s.committee i };
+    ghost key_of = { λ s i. C.key_of s i };
 
-    ghost attests = { λ s i x a. C.marks s.committee i x a };
+    ghost attests = { λ s i x a. C.marks s i x a };
 
-    ghost certifies = { λ s x c. IsQuorum (C.members s.committee) (λ i a. C.marks s.committee i x a) c };
+    ghost certifies = { λ s x c. IsQuorum (C.members s) (λ i a. C.marks s i x a) c };
 
     ghost lists = { λ c. c };
 
@@ -45,7 +53,7 @@ impl<C: Signing<D>, D: Digest> Scheme<D> for Listed<C> {
 
     ghost batchable = { λ _. true };
 
-    ghost may_decline = { λ s x given. IsQuorum (C.members s.committee) (λ i a. C.marks s.committee i x a) given → ⊥ };
+    ghost may_decline = { λ s x given. IsQuorum (C.members s) (λ i a. C.marks s i x a) given → ⊥ };
 
     fn participants(&self) -> u32 {
         self.committee.members()
@@ -96,13 +104,13 @@ impl<C: Signing<D>, D: Digest> Scheme<D> for Listed<C> {
         subject: &Subject<'_, D>,
         attestations: &[Attestation<C::Mark>],
     ) -> Result<Option<AttestationList<C::Mark>>, AllocError>
-        ensures exact { IfOk result (λ made. IsSome made ↔ IsQuorum (C.members self.now.committee) (λ i a. C.marks self.now.committee i (statement subject.now) a) attestations.now) }
-        ensures certifies { IfOk result (λ made. IfSome made (λ c. IsQuorum (C.members self.now.committee) (λ i a. C.marks self.now.committee i (statement subject.now) a) c)) }
+        ensures exact { IfOk result (λ made. IsSome made ↔ IsQuorum (C.members self.now) (λ i a. C.marks self.now i (statement subject.now) a) attestations.now) }
+        ensures certifies { IfOk result (λ made. IfSome made (λ c. IsQuorum (C.members self.now) (λ i a. C.marks self.now i (statement subject.now) a) c)) }
         ensures only_given { IfOk result (λ made. IfSome made (λ c. (a : Attestation C.Mark) → Contains c a → Contains attestations.now a)) }
         ensures all_given { IfOk result (λ made. IfSome made (λ c. (a : Attestation C.Mark) → Contains attestations.now a → Contains c a)) }
-        ensures readable { IfOk result (λ made. IfSome made (λ c. list_within (C.members self.now.committee) c)) }
+        ensures readable { IfOk result (λ made. IfSome made (λ c. list_within (C.members self.now) c)) }
         ensures within { IfOk result (λ made. IfSome made (λ c. list_within 65535 c)) }
-        ensures declined { IfOk result (λ made. made ≡ None → IsQuorum (C.members self.now.committee) (λ i a. C.marks self.now.committee i (statement subject.now) a) attestations.now → ⊥) }
+        ensures declined { IfOk result (λ made. made ≡ None → IsQuorum (C.members self.now) (λ i a. C.marks self.now i (statement subject.now) a) attestations.now → ⊥) }
     {
         list_of_quorum(alloc, &self.committee, subject, attestations)
     }
@@ -125,9 +133,9 @@ impl<C: Signing<D>, D: Digest> Scheme<D> for Listed<C> {
         Ok(certificate)
     }
 
-    ghost attests_member = { λ s i x a h. C.marks_member s.committee i x a h };
+    ghost attests_member = { λ s i x a h. C.marks_member s i x a h };
 
-    ghost declined_in_each_order = { λ s x given others moved declined quorum. declined (IsQuorum-permutation (C.members s.committee) (λ i a. C.marks s.committee i x a) others given (IsPermutation-sym given others moved) quorum) };
+    ghost declined_in_each_order = { λ s x given others moved declined quorum. declined (IsQuorum-permutation (C.members s) (λ i a. C.marks s i x a) others given (IsPermutation-sym given others moved) quorum) };
 }
 
 impl<C: Signing<D>, D: Digest> Listing<D> for Listed<C> {

@@ -3,7 +3,8 @@
 ghost use Rattle.std.specs.Prelude.{◌≡◌, ◌<◌, ℕ, Option, Some, IfSome};
 ghost use Rattle.simplex_types.specs.Subject.{statement};
 
-use simplex_types::{Attesting, Digest, Participant, PublicKey, Subject};
+use crate::attesting::Attesting;
+use simplex_types::{Digest, Participant, PublicKey, Subject};
 
 /// One member's view of a committee in which each attestation is judged by itself. `Listed` makes a scheme of it.
 pub trait Signing<D: Digest>: Attesting<D> {

@@ -1,5 +1,3 @@
-pub mod Ascending
 pub mod Signed
 pub mod Terms
 pub mod Sorting
-pub mod Failing

@@ -2,14 +2,11 @@ pub mod Positions
 pub mod Round
 pub mod Proposal
 pub mod Attestation
-pub mod AttestationList
+pub mod Ascending
 pub mod Batching
-pub mod ListCodec
-pub mod ListEquality
-pub mod ListSize
 pub mod Quorum
 pub mod QuorumOrder
+pub mod Sorting
 pub mod Overlap
 pub mod Subject
-pub mod Plain
 pub mod Context

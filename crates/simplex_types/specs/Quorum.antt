@@ -6,7 +6,7 @@ use Rattle.std.specs.List.Sorted.{IsPermutation}
 use Rattle.std.proofs.lemmas.List.Kept.{AllPairs-cons}
 use Rattle.std.proofs.lemmas.List.Sorted.{All-permutation}
 use Rattle.simplex_types.specs.declared.attestation.Attestation.{Attestation}
-use Rattle.simplex_types.specs.AttestationList.{AscendsFrom}
+use Rattle.simplex_types.specs.Ascending.{AscendsFrom}
 use Rattle.simplex_committee.specs.Committee.{quorum}
 
 -- no two of the attestations are in one member's name

@@ -2,16 +2,12 @@
 #![tactic(auto)]
 
 mod attestation;
-mod attestation_list;
-mod attesting;
 mod attributes;
 mod context;
 mod digest;
 mod duplicate;
-mod hashing;
 mod key;
 mod membership;
-mod plain;
 mod position;
 mod proposal;
 mod scheme;
@@ -19,16 +15,12 @@ mod spelling;
 mod subject;
 
 pub use attestation::{Attestation, Signature};
-pub use attestation_list::AttestationList;
-pub use attesting::{Attesting, failing_signers, list_of_quorum, lists_quorum};
 pub use attributes::{Attributable, Epochable, Viewable};
 pub use context::{Context, equal_contexts_are_one};
 pub use digest::{Digest, Sha256Digest};
 pub use duplicate::Duplicate;
-pub use hashing::hash_signed;
 pub use key::PublicKey;
 pub use membership::are_of_distinct_members;
-pub use plain::{PlainKey, PlainScheme, PlainSignature};
 pub use position::{Epoch, Participant, Round, TermLength, View, ViewDelta};
 pub use proposal::{Proposal, proposals_are_ordered};
 pub use scheme::{Aggregate, AssemblyError, Listing, Scheme};

@@ -1,7 +1,7 @@
 //! Whether attestations are of distinct members of a committee.
 
 ghost use Rattle.std.specs.Prelude.{◌↔◌, ◌<◌, All, IsTrue, IfOk};
-ghost use Rattle.simplex_types.specs.AttestationList.{AscendsFrom};
+ghost use Rattle.simplex_types.specs.Ascending.{AscendsFrom};
 ghost use Rattle.simplex_types.specs.Quorum.{AreDistinct};
 
 use crate::attestation::{Attestation, Signature};

@@ -4,7 +4,7 @@ ghost use Rattle.std.specs.Prelude.{◌≡◌, ◌↔◌, ◌<◌, ◌≤◌, �
 ghost use Rattle.simplex_types.specs.declared.attestation.Attestation.{Attestation};
 ghost use Rattle.simplex_types.specs.declared.scheme.AssemblyError.TheVariants.{InsufficientAttestations, Memory};
 ghost use Rattle.std.specs.List.Sorted.{IsPermutation};
-ghost use Rattle.simplex_types.specs.AttestationList.{AscendsFrom};
+ghost use Rattle.simplex_types.specs.Ascending.{AscendsFrom};
 ghost use Rattle.simplex_types.specs.Batching.{AreFailing};
 ghost use Rattle.simplex_types.specs.Quorum.{AreDistinct, IsQuorum};
 ghost use Rattle.simplex_committee.specs.Committee.{quorum};

@@ -2,8 +2,9 @@ use Rattle.std.proofs.Common.{rules, ◌<◌, List, subst, IsTrue, ◌↔◌}
 use Rattle.std.specs.List.{All}
 use Rattle.std.proofs.lemmas.List.Sorted.{IsNonDecreasingBy-from_sort_by_key, All-permutation, IsPermutation-sym}
 use Rattle.simplex_types.specs.declared.attestation.Attestation.{Attestation}
-use Rattle.simplex_types.specs.AttestationList.{AscendsFrom}
-use Rattle.simplex_types.proofs.Sorting.{sorted-AscendsFrom, AscendsFrom-distinct_before}
+use Rattle.simplex_types.specs.Ascending.{AscendsFrom}
+use Rattle.simplex_types.specs.Sorting.{sorted-AscendsFrom}
+use Rattle.simplex_types.proofs.Sorting.{AscendsFrom-distinct_before}
 use Rattle.simplex_types.proofs.membership.are_of_distinct_members.Goals as goal
 
 pub returns : goal.returns

@@ -1,6 +1,6 @@
 use Rattle.std.proofs.Common.{◌<◌, ◌↔◌, drop}
 use Rattle.std.specs.List.{All}
-use Rattle.simplex_types.specs.AttestationList.{AscendsFrom}
+use Rattle.simplex_types.specs.Ascending.{AscendsFrom}
 use Rattle.simplex_types.proofs.membership.ascend_below.Given as goal
 
 -- all ascend below the bound where those behind do, from low on

@@ -1,0 +1,4 @@
+pub mod Ascending
+pub mod Bounds
+pub mod Failing
+pub mod Signatures
