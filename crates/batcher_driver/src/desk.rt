@@ -5,7 +5,8 @@ use script_messages::{CertificateWords, MessageWords};
 use script_words::{Committee, Say, Trouble, Words};
 use simplex_batcher::Verifier;
 use simplex_messages::Notarize;
-use simplex_types::{PlainScheme, Sha256Digest};
+use simplex_signing::PlainScheme;
+use simplex_types::Sha256Digest;
 use std::alloc::Global;
 use std::rc::Rc;
 

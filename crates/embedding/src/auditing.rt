@@ -2,7 +2,8 @@
 
 use simplex_audit::{Audit, audit};
 use simplex_messages::Activity;
-use simplex_types::{Attributable, Participant, PlainScheme, Sha256Digest};
+use simplex_signing::PlainScheme;
+use simplex_types::{Attributable, Participant, Sha256Digest};
 use std::alloc::{AllocError, Global};
 
 /// The members that the reports convict, by epoch, view, member and kind of guilt, and the place of the first byte at which

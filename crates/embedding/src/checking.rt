@@ -2,7 +2,8 @@
 
 use crate::recording::Item;
 use simplex_record::{Owner, first_refused};
-use simplex_types::{Epoch, Participant, PlainScheme, TermLength};
+use simplex_signing::PlainScheme;
+use simplex_types::{Epoch, Participant, TermLength};
 use std::alloc::{AllocError, Global};
 
 /// The first place at which these artifacts break a rule as the record of this member in epoch 0, where each view has a

@@ -2,7 +2,8 @@
 
 use simplex_messages::Notarize;
 use simplex_rules::elector::{Config as Building, RoundRobin, RoundRobinElector};
-use simplex_types::{Epoch, PlainScheme, Proposal, Scheme, Sha256Digest, ViewDelta, Viewable};
+use simplex_signing::PlainScheme;
+use simplex_types::{Epoch, Proposal, Scheme, Sha256Digest, ViewDelta, Viewable};
 use simplex_voter::{Config, ForwardPolicy, SkipBudget, SkipPolicy, State, Verify};
 use std::alloc::{AllocError, Global};
 use std::rc::Rc;

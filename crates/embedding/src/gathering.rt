@@ -2,7 +2,8 @@
 
 use simplex_batcher::{BatcherFault, Round as Votes};
 use simplex_messages::{Certificate, Vote};
-use simplex_types::{Participant, PlainScheme, Sha256Digest};
+use simplex_signing::PlainScheme;
+use simplex_types::{Participant, Sha256Digest};
 use std::alloc::{AllocError, Global};
 
 /// The votes of one round.

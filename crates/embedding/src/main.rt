@@ -20,9 +20,8 @@ use repairing::to_ask_for;
 use simplex_journal::FileDisk;
 use simplex_messages::{Activity, Notarize, Vote};
 use simplex_resolver::State as Repair;
-use simplex_types::{
-    Epoch, Participant, PlainScheme, Proposal, Round, Sha256Digest, TermLength, View, Write,
-};
+use simplex_signing::PlainScheme;
+use simplex_types::{Epoch, Participant, Proposal, Round, Sha256Digest, TermLength, View, Write};
 use std::alloc::{AllocError, Global};
 use std::rc::Rc;
 use std::{fs, io};

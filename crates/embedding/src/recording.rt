@@ -2,7 +2,8 @@
 
 use simplex_journal::{BOUND, Disk, Journal, JournalFault};
 use simplex_messages::Artifact;
-use simplex_types::{PlainScheme, Sha256Digest};
+use simplex_signing::PlainScheme;
+use simplex_types::Sha256Digest;
 use std::alloc::Global;
 
 /// What a record is made of.

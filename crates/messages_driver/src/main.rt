@@ -26,7 +26,8 @@ mod verdicts;
 
 use script_words::{Layer, Say, Trouble, Words, play};
 use simplex_messages::AttributableMap;
-use simplex_types::{Attestation, PlainScheme};
+use simplex_signing::PlainScheme;
+use simplex_types::Attestation;
 use std::alloc::Global;
 use std::io;
 use std::process::ExitCode;

@@ -6,8 +6,8 @@ mod played;
 
 use crate::played::play_nodes;
 use simplex_journal::MemoryDisk;
-use simplex_rules::{RoundRobinElector, SaltedScheme};
-use simplex_types::PlainScheme;
+use simplex_rules::RoundRobinElector;
+use simplex_signing::{PlainScheme, SaltedScheme};
 use std::io;
 use std::process::ExitCode;
 

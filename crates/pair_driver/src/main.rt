@@ -20,7 +20,8 @@ mod session;
 use crate::desk::Desk;
 use script_words::play;
 use simplex_certificates::Artifact;
-use simplex_types::{EncodeSize, PlainScheme, Read, Sha256Digest};
+use simplex_signing::PlainScheme;
+use simplex_types::{EncodeSize, Read, Sha256Digest};
 use std::io;
 use std::process::ExitCode;
 

@@ -6,7 +6,8 @@ use simplex_record::{
     no_own_vote_stands_in_the_way, records_stand_on_ground, verdicts_follow_their_notarizations,
     whole_records_are_ever_lawful,
 };
-use simplex_types::{PlainScheme, Sha256Digest};
+use simplex_signing::PlainScheme;
+use simplex_types::Sha256Digest;
 
 /// `laws`: they are calls without arguments that do nothing.
 pub(crate) fn answer(words: &Words<'_>, say: &mut Say) -> Result<(), Trouble> {

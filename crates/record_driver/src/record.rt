@@ -5,7 +5,8 @@ use script_words::{Committee, Say, Trouble, Words};
 use simplex_certificates::Artifact;
 use simplex_record::{Owner, Standing, check, first_refused};
 use simplex_rules::Kind;
-use simplex_types::{PlainScheme, Sha256Digest, Viewable};
+use simplex_signing::PlainScheme;
+use simplex_types::{Sha256Digest, Viewable};
 use std::alloc::Global;
 
 /// An artifact under the plain scheme.

@@ -6,7 +6,8 @@ use script_certificates::CertificateWords;
 use script_words::{Say, Trouble, Words};
 use simplex_certificates::{Certificate, Notarization};
 use simplex_resolver::State;
-use simplex_types::{PlainScheme, Sha256Digest};
+use simplex_signing::PlainScheme;
+use simplex_types::Sha256Digest;
 use std::alloc::Global;
 
 /// A state, and the size of the committee whose certificates it takes.

@@ -4,7 +4,8 @@ use script_certificates::{CertificateWords, SayCertificates};
 use script_words::{Committee, Say, Trouble, Words};
 use simplex_history::{TimeoutReason, Token};
 use simplex_round::{Leader, Round};
-use simplex_types::{Duplicate, PlainKey, PlainScheme, Sha256Digest};
+use simplex_signing::{PlainKey, PlainScheme};
+use simplex_types::{Duplicate, Sha256Digest};
 use std::alloc::Global;
 use std::rc::Rc;
 

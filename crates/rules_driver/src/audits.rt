@@ -5,8 +5,8 @@ use script_messages::SayMessages;
 use script_words::{Committee, Say, Trouble, Words};
 use simplex_audit::{Audit, a_contradicted_round_names_enough, audit, names_rest_on_the_reports};
 use simplex_messages::Activity;
-use simplex_rules::SaltedScheme;
-use simplex_types::{PlainScheme, Read, Sha256Digest, Write};
+use simplex_signing::{PlainScheme, SaltedScheme};
+use simplex_types::{Read, Sha256Digest, Write};
 use std::alloc::Global;
 
 /// Pieces of streams of reports, by number.

@@ -8,9 +8,8 @@ ghost use Rattle.simplex_rules.specs.declared.elector.Mode.TheVariants.{Schedule
 
 use simplex_rules::Terms;
 use simplex_rules::elector::{Elector, Mode};
-use simplex_types::{
-    AttestationList, Digest, Duplicate, Participant, PlainScheme, PlainSignature, Round,
-};
+use simplex_signing::{AttestationList, PlainScheme, PlainSignature};
+use simplex_types::{Digest, Duplicate, Participant, Round};
 use std::alloc::{AllocError, Global};
 
 /// Leads by how many attestations the certificate lists.

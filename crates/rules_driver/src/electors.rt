@@ -8,9 +8,9 @@ use simplex_rules::{
     Kind, RoundRobin, Terms, a_seed_makes_one_order, a_term_has_one_leader,
     each_participant_leads_once,
 };
+use simplex_signing::{AttestationList, PlainScheme, PlainSignature};
 use simplex_types::{
-    AttestationList, Digest, Duplicate, Epoch, PlainScheme, PlainSignature, Round, Scheme,
-    Sha256Digest, View, ViewDelta, decode_cfg,
+    Digest, Duplicate, Epoch, Round, Scheme, Sha256Digest, View, ViewDelta, decode_cfg,
 };
 use std::alloc::Global;
 

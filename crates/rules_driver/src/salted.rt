@@ -18,10 +18,12 @@
 
 use crate::bytes::bytes_of;
 use script_words::{Committee, Say, Trouble, Words};
-use simplex_rules::{SaltedScheme, SaltedSignature, signatures_of_two_counters_differ};
+use simplex_signing::{
+    AttestationList, SaltedScheme, SaltedSignature, signatures_of_two_counters_differ,
+};
 use simplex_types::{
-    AssemblyError, Attestation, AttestationList, Duplicate, EncodeSize, MaxEncodeSize, Read,
-    Scheme, Sha256Digest, Signature, Subject, Write, are_of_distinct_members,
+    AssemblyError, Attestation, Duplicate, EncodeSize, MaxEncodeSize, Read, Scheme, Sha256Digest,
+    Signature, Subject, Write, are_of_distinct_members,
 };
 use std::alloc::Global;
 

@@ -5,10 +5,10 @@ ghost use Rattle.std.specs.Option.{ForSome};
 
 use crate::trouble::Trouble;
 use simplex_fakes::OneByOne;
-use simplex_rules::SaltedScheme;
+use simplex_signing::{Plain, PlainScheme, SaltedScheme};
 use simplex_types::{
-    AssemblyError, Attestation, Listing, Participant, PlainScheme, Sha256Digest, Signature,
-    Subject, are_of_distinct_members,
+    AssemblyError, Attestation, Listing, Participant, Sha256Digest, Signature, Subject,
+    are_of_distinct_members,
 };
 use std::alloc::Global;
 
@@ -93,7 +93,7 @@ impl Signing {
 
 /// Whether a committee of so many can be, with this one among them.
 fn is_seat(n: u32, me: Option<Participant>) -> bool
-    ensures { IsTrue result → (0 < n) × (n ≤ PlainScheme.MAX_PARTICIPANTS) × ForSome me (λ i. i < n) }
+    ensures { IsTrue result → (0 < n) × (n ≤ Plain.MAX_PARTICIPANTS) × ForSome me (λ i. i < n) }
 {
     if n == 0 || n > PlainScheme::MAX_PARTICIPANTS {
         return false;

@@ -1,8 +1,9 @@
 //! The words of an answer, said.
 
 use crate::trouble::Trouble;
+use simplex_signing::PlainKey;
 use simplex_types::{
-    Attestation, CodecError, Context, Digest, Participant, PlainKey, Proposal, Round, Sha256Digest,
+    Attestation, CodecError, Context, Digest, Participant, Proposal, Round, Sha256Digest,
     Signature, View, Write,
 };
 use std::alloc::Global;

@@ -3,9 +3,9 @@
 use crate::committee::Signing;
 use crate::trouble::Trouble;
 use hex::FromHexError;
+use simplex_signing::PlainKey;
 use simplex_types::{
-    Context, Epoch, Participant, PlainKey, Proposal, Read, Round, Sha256Digest, TermLength, View,
-    decode_cfg,
+    Context, Epoch, Participant, Proposal, Read, Round, Sha256Digest, TermLength, View, decode_cfg,
 };
 use std::alloc::Global;
 

@@ -4,8 +4,8 @@ use Rattle.simplex_codec.specs.declared.codec.CodecError.{CodecError}
 use Rattle.simplex_codec.specs.declared.codec.CodecError.TheVariants as codec
 use Rattle.simplex_codec.specs.Codec.{bytes_at}
 use Rattle.simplex_types.specs.declared.attestation.Attestation.{Attestation}
-use Rattle.simplex_types.specs.AttestationList.{list_at}
-use Rattle.simplex_types.specs.Plain.{Committee}
+use Rattle.simplex_signing.specs.AttestationList.{list_at}
+use Rattle.simplex_signing.specs.Plain.{Committee}
 use Rattle.simplex_certificates.specs.declared.artifact.Artifact.{Artifact}
 use Rattle.simplex_certificates.specs.declared.certificate.Certificate.{Certificate}
 use Rattle.simplex_certificates.specs.Artifact.{artifact_at}

@@ -12,8 +12,9 @@ use crate::status::Status;
 use simplex_journal::{JournalFault, read_entries};
 use simplex_messages::Artifact;
 use simplex_record::{Owner, first_refused};
+use simplex_signing::PlainScheme;
 use simplex_tooling::evidence_in;
-use simplex_types::{PlainScheme, Sha256Digest};
+use simplex_types::Sha256Digest;
 use std::alloc::{AllocError, Global};
 
 /// The base of the namespaces that the committees sign in.

@@ -8,7 +8,8 @@ ghost use Rattle.simplex_c.specs.declared.status.Status.TheVariants.{Argument};
 use crate::found::Found;
 use crate::status::Status;
 use simplex_messages::{Activity, Artifact, Certificate, Vote};
-use simplex_types::{CodecError, PlainScheme, Read, Sha256Digest};
+use simplex_signing::PlainScheme;
+use simplex_types::{CodecError, Read, Sha256Digest};
 use std::alloc::Global;
 
 /// Reads a message of this kind at the front of the bytes: 0 is a vote, 1 a certificate, 2 an artifact, 3 a report.

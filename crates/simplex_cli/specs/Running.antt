@@ -7,9 +7,9 @@ use Rattle.std.specs.Io.KnownBytes.{Appends}
 use Rattle.simplex_types.specs.declared.attestation.Attestation.{Attestation}
 use Rattle.simplex_codec.specs.Codec.{Readable, bytes_at}
 use Rattle.simplex_codec.specs.declared.codec.CodecError.{CodecError}
-use Rattle.simplex_types.specs.Plain.{Committee, Attests}
+use Rattle.simplex_signing.specs.Plain.{Committee, Attests}
 use Rattle.simplex_messages.specs.declared.activity.Activity.{Activity}
-use Rattle.simplex_types.specs.AttestationList.{list_fits, list_within, list_spelling, list_at}
+use Rattle.simplex_signing.specs.AttestationList.{list_fits, list_within, list_spelling, list_at}
 use Rattle.simplex_messages.specs.Activity.{activity_fits, activity_within, activity_spelling, activity_at}
 use Rattle.simplex_audit.specs.Audit.{IsAudit}
 use Rattle.simplex_cli.specs.Lines.{lines_of}

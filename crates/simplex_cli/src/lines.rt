@@ -5,7 +5,8 @@ ghost use Rattle.simplex_cli.specs.Lines.{accused_words, beside_line, conflictin
 
 use simplex_audit::Audit;
 use simplex_messages::{Activity, Finalize, Nullify, ProposalKind, ProposalVote};
-use simplex_types::{Participant, PlainScheme, Proposal, Round, Sha256Digest};
+use simplex_signing::PlainScheme;
+use simplex_types::{Participant, Proposal, Round, Sha256Digest};
 use std::alloc::{AllocError, Global};
 
 /// The lines of an audit: one for each piece of evidence, then the fault's, if there is one.

@@ -12,7 +12,8 @@ use crate::lines::text_of;
 use crate::trouble::Trouble;
 use simplex_audit::{Audit, audit};
 use simplex_output::write_whole;
-use simplex_types::{PlainScheme, Sha256Digest};
+use simplex_signing::PlainScheme;
+use simplex_types::Sha256Digest;
 use std::alloc::{AllocError, Global};
 use std::io::{Read, Write};
 

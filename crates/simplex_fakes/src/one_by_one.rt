@@ -1,12 +1,12 @@
 //! A scheme that is not batchable.
 
 ghost use Rattle.std.specs.Prelude.{◌≡◌, ◌<◌, ◌≤◌, Option, false, ⊤};
-ghost use Rattle.simplex_types.specs.Plain.{Attests};
+ghost use Rattle.simplex_signing.specs.Plain.{Attests};
 ghost use Rattle.simplex_types.specs.Quorum.{IsQuorum};
 
+use simplex_signing::{AttestationList, PlainKey, PlainScheme, PlainSignature};
 use simplex_types::{
-    AssemblyError, Attestation, AttestationList, Listing, Participant, PlainKey, PlainScheme,
-    PlainSignature, Scheme, Sha256Digest, Subject,
+    AssemblyError, Attestation, Listing, Participant, Scheme, Sha256Digest, Subject,
 };
 use std::alloc::{AllocError, Global};
 

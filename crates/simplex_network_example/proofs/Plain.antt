@@ -8,8 +8,8 @@ use Rattle.simplex_codec.specs.Codec.{Readable}
 use Rattle.simplex_types.specs.declared.attestation.Attestation.{Attestation}
 use Rattle.simplex_types.specs.declared.scheme.Scheme.{Ghosts}
 use Rattle.simplex_types.specs.Attestation.{attestation_fits}
-use Rattle.simplex_types.specs.AttestationList.{list_fits, list_within}
-use Rattle.simplex_types.specs.Plain.{Attests, Committee, hashed}
+use Rattle.simplex_signing.specs.AttestationList.{list_fits, list_within}
+use Rattle.simplex_signing.specs.Plain.{Attests, Committee, hashed}
 use Rattle.simplex_types.specs.Quorum.{IsQuorum, IsQuorum-from_ascending}
 use Rattle.simplex_types.specs.Subject.{nullify}
 use Rattle.simplex_certificates.specs.declared.artifact.Artifact.TheVariants as artifact

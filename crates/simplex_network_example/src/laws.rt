@@ -5,7 +5,8 @@ ghost use Rattle.simplex_network_example.specs.Example.{NetworksAreThere};
 ghost use Rattle.simplex_network_example.specs.Plain.{PlainNetworksAreThere};
 
 use simplex_member::packets_are_read_back;
-use simplex_types::{AttestationList, Digest, PlainScheme, PlainSignature, Read, Scheme, Write};
+use simplex_signing::{AttestationList, PlainScheme, PlainSignature};
+use simplex_types::{Digest, Read, Scheme, Write};
 
 /// A network of four members: three of them each open, refuse what the fourth sends, a liar, and block it; crash
 /// once their nullify of view 1 is recorded, and before it is sent; open again, find it, and repeat it. Then the first

@@ -4,7 +4,8 @@ ghost use Rattle.std.specs.Prelude.{◌≡◌, ◌<◌, codes, IfOk, Some};
 
 use simplex_decisions::config::{Config, ForwardPolicy, SkipBudget, SkipPolicy};
 use simplex_rules::elector::{Config as Building, Elector, RoundRobin, RoundRobinElector};
-use simplex_types::{Epoch, Participant, PlainScheme, Sha256Digest, TermLength, ViewDelta};
+use simplex_signing::PlainScheme;
+use simplex_types::{Epoch, Participant, Sha256Digest, TermLength, ViewDelta};
 use std::alloc::{AllocError, Global};
 use std::rc::Rc;
 

@@ -6,8 +6,8 @@ use Rattle.std.specs.Fmt.{decimal}
 use Rattle.std.specs.Io.KnownBytes.{Appends}
 use Rattle.simplex_codec.specs.Codec.{Readable}
 use Rattle.simplex_types.specs.declared.attestation.Attestation.{Attestation}
-use Rattle.simplex_types.specs.AttestationList.{list_fits, list_within, list_spelling}
-use Rattle.simplex_types.specs.Plain.{Committee, Attests}
+use Rattle.simplex_signing.specs.AttestationList.{list_fits, list_within, list_spelling}
+use Rattle.simplex_signing.specs.Plain.{Committee, Attests}
 use Rattle.simplex_types.specs.Quorum.{IsQuorum}
 use Rattle.simplex_types.specs.Subject.{Statement}
 use Rattle.simplex_certificates.specs.declared.artifact.Artifact.{Artifact}

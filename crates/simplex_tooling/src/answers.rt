@@ -18,7 +18,8 @@ use simplex_audit::{Audit, audit};
 use simplex_journal::{JournalFault, read_entries};
 use simplex_messages::{Activity, Artifact};
 use simplex_record::{Owner, first_refused};
-use simplex_types::{Epoch, Participant, PlainScheme, Sha256Digest, TermLength, Write};
+use simplex_signing::PlainScheme;
+use simplex_types::{Epoch, Participant, Sha256Digest, TermLength, Write};
 use std::alloc::{AllocError, Global};
 
 /// The base of the namespaces that the committees sign in.

@@ -14,9 +14,8 @@ use simplex_messages::{
     Activity, Artifact, Nullification, Nullify, NullifyFinalize, ProposalCertificate, ProposalKind,
     ProposalVote,
 };
-use simplex_types::{
-    Attestation, AttestationList, PlainScheme, PlainSignature, Proposal, Round, Sha256Digest,
-};
+use simplex_signing::{AttestationList, PlainScheme, PlainSignature};
+use simplex_types::{Attestation, Proposal, Round, Sha256Digest};
 use std::alloc::{AllocError, Global};
 
 /// Ends the text with what a proposal says beside its round, under these names.

@@ -6,7 +6,8 @@ ghost use Rattle.hex.specs.Hex.{encode_lower};
 ghost use Rattle.simplex_tooling.specs.Parts.{field, kind_words, line_end, place_line, round_fields, signature_field, truth_word};
 
 use crate::style::Style;
-use simplex_types::{Attestation, PlainSignature, Round, Sha256Digest, Write};
+use simplex_signing::PlainSignature;
+use simplex_types::{Attestation, Round, Sha256Digest, Write};
 use std::alloc::{AllocError, Global};
 
 /// Ends the text with what a line begins with.

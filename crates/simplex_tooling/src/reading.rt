@@ -6,7 +6,8 @@ ghost use Rattle.simplex_audit.specs.Audit.{IsRead};
 ghost use Rattle.simplex_cli.specs.Running.{IsReport, report_at, report_spelling};
 
 use simplex_messages::Activity;
-use simplex_types::{CodecError, PlainScheme, Read, Sha256Digest};
+use simplex_signing::PlainScheme;
+use simplex_types::{CodecError, Read, Sha256Digest};
 use std::alloc::{AllocError, Global};
 
 /// The value at the front, or nothing where none stands there: then the bytes stand where they stood. Refused only where

@@ -26,7 +26,7 @@ mod turns;
 
 use crate::keeper::Keeper;
 use simplex_rules::RoundRobinElector;
-use simplex_types::PlainScheme;
+use simplex_signing::PlainScheme;
 use std::process::ExitCode;
 use std::{env, io};
 use world_network::TornDisk;

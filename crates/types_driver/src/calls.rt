@@ -8,9 +8,10 @@ use crate::positions::{
 use crate::schemes::scheme;
 use crate::subjects::subject;
 use script_words::{Say, Trouble, Words};
+use simplex_signing::PlainKey;
 use simplex_types::{
-    PlainKey, Sha256Digest, equal_contexts_are_one, numbers_have_one_spelling,
-    proposals_are_ordered, signed_bytes_name_one_subject, two_quorums_share_members,
+    Sha256Digest, equal_contexts_are_one, numbers_have_one_spelling, proposals_are_ordered,
+    signed_bytes_name_one_subject, two_quorums_share_members,
 };
 
 /// Answers the call of a line.

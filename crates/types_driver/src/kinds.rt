@@ -2,10 +2,10 @@
 
 use script_values as values;
 use script_words::{Say, Trouble, Words};
+use simplex_signing::{AttestationList, PlainKey, PlainSignature};
 use simplex_types::{
-    Aggregate, Attestation, AttestationList, Context, Digest as _, Duplicate, EncodeSize, Epoch,
-    MaxEncodeSize, Participant, PlainKey, PlainSignature, Proposal, Read, Round, Sha256Digest,
-    View,
+    Aggregate, Attestation, Context, Digest as _, Duplicate, EncodeSize, Epoch, MaxEncodeSize,
+    Participant, Proposal, Read, Round, Sha256Digest, View,
 };
 use std::hash::Hash;
 

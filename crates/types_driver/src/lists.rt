@@ -2,9 +2,8 @@
 
 use script_values as values;
 use script_words::{Say, Trouble, Words};
-use simplex_types::{
-    Aggregate, Attestation, AttestationList, PlainSignature, are_of_distinct_members,
-};
+use simplex_signing::{AttestationList, PlainSignature};
+use simplex_types::{Aggregate, Attestation, are_of_distinct_members};
 
 /// `distinct_members MEMBERS ATTESTATION..`.
 pub fn are_distinct(words: &mut Words<'_>, say: &mut Say) -> Result<(), Trouble> {

@@ -4,8 +4,9 @@ use crate::subjects::Stated;
 use script_values as values;
 use script_words::{Committee, Say, Trouble, Words};
 use simplex_fakes::OneByOne;
+use simplex_signing::PlainScheme;
 use simplex_types::{
-    AssemblyError, Attestation, Listing, Participant, PlainScheme, Sha256Digest, Subject,
+    AssemblyError, Attestation, Listing, Participant, Sha256Digest, Subject,
     are_of_distinct_members,
 };
 

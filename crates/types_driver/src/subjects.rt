@@ -2,9 +2,9 @@
 
 use script_words::{Say, Trouble, Words};
 use sha2::{Digest as _, Sha256};
+use simplex_signing::hash_signed;
 use simplex_types::{
     Epochable, Namespace, Participant, Proposal, Round, Sha256Digest, Subject, Viewable,
-    hash_signed,
 };
 
 /// What a vote is on, owned.

@@ -4,7 +4,8 @@ use crate::reading::{abandoned, last_floor};
 use script_words::{Say, Trouble, Words};
 use simplex_decisions::config::{Config, ForwardPolicy, SkipBudget, SkipPolicy, check_config};
 use simplex_resolver::{Ask, Kind, Until};
-use simplex_types::{PlainScheme, Sha256Digest, ViewDelta};
+use simplex_signing::PlainScheme;
+use simplex_types::{Sha256Digest, ViewDelta};
 
 /// How many members the committees have whose certificates are read.
 const MEMBERS: u32 = 4;

@@ -14,7 +14,7 @@ mod voter;
 use configuring::ask;
 use script_words::{Layer, Say, Trouble, Words, play};
 use setup::found;
-use simplex_types::PlainScheme;
+use simplex_signing::PlainScheme;
 use std::alloc::Global;
 use std::io;
 use std::process::ExitCode;

@@ -3,7 +3,8 @@
 use script_certificates::CertificateWords;
 use script_words::{Committee, Trouble, Words};
 use simplex_history::{HandoffAbandonedReason, TimeoutReason};
-use simplex_types::{Context, PlainKey, Sha256Digest, View};
+use simplex_signing::PlainKey;
+use simplex_types::{Context, Sha256Digest, View};
 use simplex_voter::Floor;
 use std::alloc::Global;
 

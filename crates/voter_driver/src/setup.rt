@@ -6,7 +6,8 @@ use script_words::{Committee, Trouble, Words};
 use simplex_decisions::config::{Config, ForwardPolicy, SkipBudget, SkipPolicy};
 use simplex_rules::Terms;
 use simplex_rules::elector::Mode;
-use simplex_types::{Epoch, Participant, PlainScheme, Scheme, Sha256Digest, ViewDelta};
+use simplex_signing::PlainScheme;
+use simplex_types::{Epoch, Participant, Scheme, Sha256Digest, ViewDelta};
 use std::alloc::Global;
 use std::rc::Rc;
 

@@ -7,10 +7,8 @@ ghost use Rattle.voter_driver.specs.Leading.{passed, turn, turn-scheduled};
 
 use simplex_rules::elector::{Config, Elector, Mode};
 use simplex_rules::{RoundRobin, RoundRobinElector, Terms};
-use simplex_types::{
-    AttestationList, Duplicate, Participant, PlainScheme, PlainSignature, Round, Sha256Digest,
-    TermLength, View, ViewDelta,
-};
+use simplex_signing::{AttestationList, PlainScheme, PlainSignature};
+use simplex_types::{Duplicate, Participant, Round, Sha256Digest, TermLength, View, ViewDelta};
 use std::alloc::{AllocError, Global};
 
 /// The members lead in turn: a term each, or a view each and so many turns on as members signed the certificate that the

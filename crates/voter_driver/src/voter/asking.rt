@@ -5,7 +5,8 @@ use crate::voter::Voter;
 use script_words::{Committee, Say, Trouble, Words};
 use simplex_history::HandoffAbandonedReason;
 use simplex_rules::Elector;
-use simplex_types::{PlainKey, Scheme, Sha256Digest};
+use simplex_signing::PlainKey;
+use simplex_types::{Scheme, Sha256Digest};
 use simplex_voter::ProposalRequest;
 
 /// Says what is to be built.

@@ -6,7 +6,8 @@ use script_certificates::SayCertificates;
 use script_words::{Committee, Say, Trouble, Words};
 use simplex_certificates::{Certificate, Finalization, Notarization, Nullification};
 use simplex_rules::Elector;
-use simplex_types::{Participant, PlainKey, Scheme, Sha256Digest, View};
+use simplex_signing::PlainKey;
+use simplex_types::{Participant, Scheme, Sha256Digest, View};
 
 /// Says a number, where no word is left.
 fn alone(words: &Words<'_>, say: &mut Say, number: u64) -> Result<(), Trouble> {

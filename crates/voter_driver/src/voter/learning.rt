@@ -7,7 +7,8 @@ use script_certificates::CertificateWords;
 use script_words::{Committee, Say, Trouble, Words};
 use simplex_certificates::{Artifact, Finalization, Notarization, Nullification};
 use simplex_rules::Elector;
-use simplex_types::{PlainKey, Scheme, Sha256Digest};
+use simplex_signing::PlainKey;
+use simplex_types::{Scheme, Sha256Digest};
 use std::alloc::Global;
 
 /// Says whether a certificate is the first of its view, and whose proposal it took the place of.

@@ -5,7 +5,8 @@ use crate::voter::Voter;
 use script_words::{Committee, Say, Trouble, Words};
 use simplex_history::Token;
 use simplex_rules::Elector;
-use simplex_types::{PlainKey, Proposal, Scheme, Sha256Digest};
+use simplex_signing::PlainKey;
+use simplex_types::{Proposal, Scheme, Sha256Digest};
 use simplex_voter::{CertificateFetch, Verify};
 
 /// Says what is asked for, to judge the proposals of others.

@@ -5,7 +5,8 @@ use crate::voter::Voter;
 use crate::voter::looking::wanted;
 use script_words::{Committee, Say, Trouble, Words};
 use simplex_rules::Elector;
-use simplex_types::{PlainKey, Scheme, Sha256Digest, View};
+use simplex_signing::PlainKey;
+use simplex_types::{Scheme, Sha256Digest, View};
 
 /// Says a view, where there is one.
 pub(super) fn lowest(say: &mut Say, view: Option<View>) -> Result<(), Trouble> {

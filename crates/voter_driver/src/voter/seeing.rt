@@ -11,7 +11,8 @@ use script_words::{Committee, Say, Trouble, Words};
 use simplex_decisions::knowledge::Knowledge;
 use simplex_round::Round;
 use simplex_rules::Elector;
-use simplex_types::{PlainKey, Proposal, Scheme, Sha256Digest};
+use simplex_signing::PlainKey;
+use simplex_types::{Proposal, Scheme, Sha256Digest};
 
 /// What may be so of a view, with whether it is: of the proposal that it holds, of its certificates and its verdict, of
 /// the own votes, and of its entry.

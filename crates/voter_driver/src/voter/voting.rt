@@ -7,7 +7,8 @@ use script_words::{Committee, Say, Trouble, Words};
 use simplex_certificates::{Finalize, Notarize, Nullify};
 use simplex_history::TimeoutReason;
 use simplex_rules::Elector;
-use simplex_types::{PlainKey, Scheme, Sha256Digest};
+use simplex_signing::PlainKey;
+use simplex_types::{Scheme, Sha256Digest};
 
 /// Says a vote to notarize, where there is one.
 fn notarize<S: Committee>(

@@ -1,4 +1,4 @@
-use Rattle.simplex_types.specs.AttestationList.{list_spelling}
+use Rattle.simplex_signing.specs.AttestationList.{list_spelling}
 use Rattle.simplex_cli.specs.Running.{IsReport, report_spelling}
 use Rattle.simplex_tooling.proofs.Following.{shorter, one_more, All-more}
 use Rattle.simplex_tooling.proofs.reading.read_reports.Goals as goal

@@ -9,7 +9,7 @@ pub returns-clause-certifies : goal.returns-clause-certifies
 returns-clause-certifies g c = λ x all.
     let made = c.in_ok-certificate.ensures in
     let n = g.C.Attesting.members c.args.self.now in
-    let count : c.members-members.result ≡ n = c.members-members.ensures.value in
+    let count : c.members-members.result ≡ n = rw c.self.view_is at c.members-members.ensures.value in
     let enough : quorum n ≤ length c.in_ok-certificate.certificate = rw count at made.quorum in
     IsQuorum-from_given n (λ i a. g.C.Attesting.marks c.args.self.now i x a) c.args.attestations.now c.in_ok-certificate.certificate (λ i a h. g.met.C.Attesting.marks_member c.args.self.now i x a h) made.same made.ascending enough all
 
