@@ -1,7 +1,7 @@
 use Rattle.std.proofs.Common.{◌≡◌, ◌+◌, ◌<◌, ◌^◌, subst, sym, arith}
 use Rattle.simplex_member.specs.Layers.{voter_of}
-use Rattle.simplex_leading.proofs.GivenUp.{NoneBelow, none_at_all, none_behind, none_past, none_to}
-use Rattle.simplex_leading.proofs.following.follow_leader.Goals as goal
+use Rattle.simplex_asking.proofs.GivenUp.{NoneBelow, none_at_all, none_behind, none_past, none_to}
+use Rattle.simplex_asking.proofs.following.follow_leader.Goals as goal
 
 pub views-init : goal.views-init
 views-init g c = λ s h f me now k a. (subst (λ n. NoneBelow g.S.Scheme f s h n) (sym (c.current_view-next.ensures s.voter (voter_of s h) k)) (none_behind g.S.Scheme f s h), k)

@@ -5,8 +5,8 @@ use Rattle.simplex_member.specs.Layers.{latest, voter_of}
 use Rattle.simplex_member.specs.Packet.{Formats}
 use Rattle.simplex_member.specs.Point.{History}
 use Rattle.simplex_member.specs.Setup.{Setup}
-use Rattle.simplex_leading.proofs.GivenUp.{NoneBelow}
-use Rattle.simplex_leading.proofs.following.follow_leader.Given as goal
+use Rattle.simplex_asking.proofs.GivenUp.{NoneBelow}
+use Rattle.simplex_asking.proofs.following.follow_leader.Given as goal
 
 abbrev pub invariant-views : goal.invariant-views
 invariant-views g l = (s : Setup g.row.S.Denot g.row.D.Denot g.row.S-Certificate.Denot) (h : History g.row.S.Denot g.row.D.Denot g.row.S-PublicKey.Denot g.row.S-Signature.Denot g.row.S-Certificate.Denot)

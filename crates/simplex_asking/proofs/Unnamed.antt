@@ -9,8 +9,8 @@ use Rattle.simplex_acceptance.specs.Standing.{AreLedFrom}
 use Rattle.simplex_member.specs.Layers.{stage, voter_of, votes_of}
 use Rattle.simplex_member.specs.Point.{History}
 use Rattle.simplex_member.specs.Setup.{Setup}
-use Rattle.simplex_leading.specs.Leading.{NoLeaderToName}
-use Rattle.simplex_leading.proofs.Coming.{came_small}
+use Rattle.simplex_asking.specs.Leading.{NoLeaderToName}
+use Rattle.simplex_asking.proofs.Coming.{came_small}
 
 module _ {S D P G C : Type 0} (s : Setup S D C) (h : History S D P G C) where
   -- the votes of each view below this one know who leads it, as far as the voter does

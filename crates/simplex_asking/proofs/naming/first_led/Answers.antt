@@ -1,7 +1,7 @@
 use Rattle.std.proofs.Common.{◌≡◌, ◌+◌, ◌<◌, ◌^◌, sym, subst, arith}
 use Rattle.simplex_member.specs.Layers.{voter_of}
-use Rattle.simplex_leading.proofs.Unnamed.{NoneBelow, none_at_all, none_past, none_to}
-use Rattle.simplex_leading.proofs.naming.first_led.Goals as goal
+use Rattle.simplex_asking.proofs.Unnamed.{NoneBelow, none_at_all, none_past, none_to}
+use Rattle.simplex_asking.proofs.naming.first_led.Goals as goal
 
 pub returns-then-get : goal.returns-then-get
 returns-then-get g c = λ s h k a.

@@ -16,8 +16,8 @@ use Rattle.simplex_member.specs.Member.{LatchIsDue}
 use Rattle.simplex_member.specs.Packet.{Formats}
 use Rattle.simplex_member.specs.Point.{History}
 use Rattle.simplex_member.specs.Setup.{Setup}
-use Rattle.simplex_leading.specs.Following.{FollowsIn}
-use Rattle.simplex_leading.proofs.Coming.{came_small}
+use Rattle.simplex_asking.specs.Following.{FollowsIn}
+use Rattle.simplex_asking.proofs.Coming.{came_small}
 
 both-true : (a b : Bool) → a && b ≡ true → (a ≡ true) × (b ≡ true)
 both-true true true is = (refl, refl)

@@ -7,10 +7,10 @@ ghost use Rattle.simplex_member.specs.declared.fault.NodeFault.TheVariants as st
 ghost use Rattle.simplex_member.specs.Layers.{voter_of};
 ghost use Rattle.simplex_member.specs.Point.{History};
 ghost use Rattle.simplex_member.specs.Setup.{Setup};
-ghost use Rattle.simplex_leading.specs.Leading.{MayBeNamed, NamesLeader, NoLeaderToName};
+ghost use Rattle.simplex_asking.specs.Leading.{MayBeNamed, NamesLeader, NoLeaderToName};
 
+use crate::acted::Acted;
 use simplex_acceptance::Acceptance;
-use simplex_asking::Acted;
 use simplex_member::NodeFault;
 use simplex_rules::Elector;
 use simplex_types::{Digest, Participant, Scheme, View};

@@ -9,10 +9,10 @@ ghost use Rattle.simplex_member.specs.Layers.{latest, voter_of};
 ghost use Rattle.simplex_member.specs.Packet.{Formats};
 ghost use Rattle.simplex_member.specs.Point.{History};
 ghost use Rattle.simplex_member.specs.Setup.{Setup};
-ghost use Rattle.simplex_leading.specs.Following.{FollowsIn, FollowsLeader};
+ghost use Rattle.simplex_asking.specs.Following.{FollowsIn, FollowsLeader};
 
+use crate::acted::Acted;
 use simplex_acceptance::{Acceptance, kept_votes_came_up};
-use simplex_asking::Acted;
 use simplex_history::TimeoutReason;
 use simplex_member::NodeFault;
 use simplex_rules::Elector;

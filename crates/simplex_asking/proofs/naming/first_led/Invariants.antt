@@ -4,8 +4,8 @@ use Rattle.simplex_acceptance.specs.Keeps as accepting
 use Rattle.simplex_member.specs.Layers.{voter_of}
 use Rattle.simplex_member.specs.Point.{History}
 use Rattle.simplex_member.specs.Setup.{Setup}
-use Rattle.simplex_leading.proofs.Unnamed.{NoneBelow}
-use Rattle.simplex_leading.proofs.naming.first_led.Given as goal
+use Rattle.simplex_asking.proofs.Unnamed.{NoneBelow}
+use Rattle.simplex_asking.proofs.naming.first_led.Given as goal
 
 abbrev pub invariant-views : goal.invariant-views
 invariant-views g l = (s : Setup g.row.S.Denot g.row.D.Denot g.row.S-Certificate.Denot) (h : History g.row.S.Denot g.row.D.Denot g.row.S-PublicKey.Denot g.row.S-Signature.Denot g.row.S-Certificate.Denot)

@@ -1,7 +1,7 @@
 use Rattle.std.proofs.lemmas.Bool.{both_ways}
 use Rattle.simplex_member.specs.Layers.{voter_of}
-use Rattle.simplex_leading.proofs.GivenUp.{follows}
-use Rattle.simplex_leading.proofs.following.follow_in.Goals as goal
+use Rattle.simplex_asking.proofs.GivenUp.{follows}
+use Rattle.simplex_asking.proofs.following.follow_in.Goals as goal
 
 pub returns-then-not-is_left_by_leader-clause-follows : goal.returns-then-not-is_left_by_leader-clause-follows
 returns-then-not-is_left_by_leader-clause-follows g c = λ s h f me now k a.
