@@ -62,6 +62,13 @@ module _ {S L D P G C : Type 0} (g : Ghosts S D P G C) (e : elector.Ghosts L S D
     pub repair : repairing.Keeps s.voter.length layers.repair (repair_of f h)
     pub tables : (low : ℕ) → KeepsTables low layers.tables h
 
+  -- nothing happened yet to what a node keeps above its record, which is opened at this moment
+  pub record AreNew (now : ℕ) (layers : Layers S L D P G C) : Type 0 where
+    pub voter : voting.Keeps g e s.voter layers.voter []
+    pub votes : accepting.Keeps g f.same s layers.acceptance []
+    pub repair : repairing.Keeps s.voter.length layers.repair []
+    pub tables : (low : ℕ) → KeepsTables low layers.tables (Opened now ∷ [])
+
   -- A record is being gone through. All of it is at hand, but the history is behind: it says the first artifacts, at which all that
   -- is kept above the record stands and which were reported, and the rest is still to come.
   pub record IsGoneThrough (now : ℕ) (found rest : List (Artifact S D P G C)) (layers : Layers S L D P G C) (actions : List (Action S D P G C)) : Type 0 where

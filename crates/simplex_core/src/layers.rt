@@ -2,19 +2,14 @@
 
 ghost use Rattle.std.specs.Prelude.{◌≡◌, ◌∷◌, ◌++◌, [], ℕ, List, IfOk, OnOk, map};
 ghost use Rattle.simplex_certificates.specs.declared.artifact.Artifact.{Artifact};
-ghost use Rattle.simplex_history.specs.History.{started};
-ghost use Rattle.simplex_views.specs.Views.{built};
-ghost use Rattle.simplex_voter.specs.State as voting;
-ghost use Rattle.simplex_acceptance.specs.Keeps as accepting;
 ghost use Rattle.simplex_member.specs.declared.action.Action.{Action};
 ghost use Rattle.simplex_member.specs.Deeds.{AreActions, Reports};
-ghost use Rattle.simplex_member.specs.Layers.{voter_of};
 ghost use Rattle.simplex_member.specs.Packet.{formats};
 ghost use Rattle.simplex_member.specs.Point.{Began, Opened};
 ghost use Rattle.simplex_member.specs.Recorded.{record_of, reported};
 ghost use Rattle.simplex_member.specs.Setup.{Setup, IsInTime, setup_of};
 ghost use Rattle.simplex_core.specs.SettingUp.{IsSetUp};
-ghost use Rattle.simplex_core.specs.GoingThrough.{HasBegun, IsGoneThrough, IsRecordOf, StandAt, deeds_along};
+ghost use Rattle.simplex_core.specs.GoingThrough.{AreNew, HasBegun, IsGoneThrough, IsRecordOf, StandAt, deeds_along};
 
 use crate::learning::what_is_not_recorded_is_unknown;
 use crate::recalling::{finalize, report, tell_repair, tell_voter};
@@ -30,7 +25,6 @@ use simplex_rules::Elector;
 use simplex_types::{Digest, Scheme, Viewable};
 use simplex_voter::State as Voter;
 use std::alloc::{AllocError, Global};
-use std::rc::Rc;
 
 /// What a node keeps above its record: what it knows, which votes it accepted, what it can serve, and what it asked for.
 #[derive(Drop)]
@@ -58,15 +52,15 @@ impl<S: Scheme<D> + Drop, L: Elector<S, D>, D: Digest> Layers<S, L, D> {
         ensures { IfOk result (λ r. (n index : ℕ) (found : List (Artifact S D S.PublicKey S.Signature S.Certificate)) → let s = setup_of S.Scheme L.Elector config.now settings.now.scheme.value elector index in
             IsSetUp s settings.now → IsInTime s now → IsRecordOf S.Scheme s recorded.now found → HasBegun S.Scheme L.Elector (formats D.PartialEq.eq D.spelling S.Signature.spelling S.Certificate.spelling D.reading S.Signature.reading S.Certificate.reading n) s now found r.0 r.1.items) }
     {
-        let mut layers = Layers::opened(settings, config, elector, now)?;
-        match layers.replay(settings.alloc, recorded) {
+        let mut layers = Layers::set_up(settings, config, elector, now)?;
+        match layers.replay(settings.alloc, now, config.genesis, recorded) {
             Ok(out) => Ok((layers, out)),
             Err(error) => Err(error),
         }
     }
 
-    /// What a node keeps that is opened at this moment, before it goes through its record.
-    fn opened(
+    /// What a node keeps that is opened at this moment, before anything happened to it.
+    fn set_up(
         settings: &Settings<S>,
         config: &Config<D>,
         elector: L,
@@ -74,34 +68,59 @@ impl<S: Scheme<D> + Drop, L: Elector<S, D>, D: Digest> Layers<S, L, D> {
     ) -> Result<Self, AllocError>
         requires { L.built_for elector (S.size settings.now.scheme.value) }
         ensures { IfOk result (λ layers. (n index : ℕ) → let s = setup_of S.Scheme L.Elector config.now settings.now.scheme.value elector index in
-            IsSetUp s settings.now → StandAt S.Scheme L.Elector (formats D.PartialEq.eq D.spelling S.Signature.spelling S.Certificate.spelling D.reading S.Signature.reading S.Certificate.reading n) s layers (Opened now ∷ [])) }
+            IsSetUp s settings.now → AreNew S.Scheme L.Elector (formats D.PartialEq.eq D.spelling S.Signature.spelling S.Certificate.spelling D.reading S.Signature.reading S.Certificate.reading n) s now layers) }
     {
         let alloc = settings.alloc;
-        let voter = started_voter(alloc, &settings.scheme, config, elector, now)?;
-        let acceptance = entered_votes(settings, config.track_historical_votes, &voter)?;
+        let owner = settings.owner;
+        let of_voter = settings.scheme.clone()?;
+        let of_votes = settings.scheme.clone()?;
+        let voter = Voter::new(alloc, of_voter, elector, config)?;
+        let acceptance = Acceptance::new(
+            alloc,
+            of_votes,
+            owner.epoch,
+            owner.term_length,
+            owner.signer,
+            config.track_historical_votes,
+        );
+        let repair = Repair::new(alloc, owner.term_length);
+        let tables = Tables::new(alloc, now);
         Ok(Layers {
             voter,
             acceptance,
-            repair: Repair::new(alloc, settings.owner.term_length),
-            tables: Tables::new(alloc, now),
+            repair,
+            tables,
         })
     }
 
-    /// Goes through the whole record, and ends that: with what it hands out.
+    /// Starts the voter, goes through the whole record, and ends that: with what it hands out.
     fn replay(
         &mut self,
         alloc: Global,
+        now: u64,
+        genesis: D,
         recorded: &Recorded<S, D>,
     ) -> Result<Vec<Action<S, D>>, AllocError>
-        ensures { IfOk result (λ out. (n now : ℕ) (s : Setup S D S.Certificate) (found : List (Artifact S D S.PublicKey S.Signature S.Certificate)) → IsRecordOf S.Scheme s recorded.now found
-            → IsGoneThrough S.Scheme L.Elector (formats D.PartialEq.eq D.spelling S.Signature.spelling S.Certificate.spelling D.reading S.Signature.reading S.Certificate.reading n) s now found found self.old []
-            → HasBegun S.Scheme L.Elector (formats D.PartialEq.eq D.spelling S.Signature.spelling S.Certificate.spelling D.reading S.Signature.reading S.Certificate.reading n) s now found self.new out.items) }
+        ensures { IfOk result (λ out. (n : ℕ) (s : Setup S D S.Certificate) (found : List (Artifact S D S.PublicKey S.Signature S.Certificate)) → genesis ≡ s.genesis → IsInTime s now → IsRecordOf S.Scheme s recorded.now found
+            → AreNew S.Scheme L.Elector (formats D.PartialEq.eq D.spelling S.Signature.spelling S.Certificate.spelling D.reading S.Signature.reading S.Certificate.reading n) s now self.old → HasBegun S.Scheme L.Elector (formats D.PartialEq.eq D.spelling S.Signature.spelling S.Certificate.spelling D.reading S.Signature.reading S.Certificate.reading n) s now found self.new out.items) }
     {
+        self.start(now, genesis)?;
         let mut out = Vec::new(alloc);
         self.go_through(alloc, recorded, &mut out)?;
         finalize(recorded, self.voter.last_finalized(), &mut out)?;
         self.end(alloc)?;
         Ok(out)
+    }
+
+    /// Starts the voter at this moment, and enters its first view.
+    fn start(&mut self, now: u64, genesis: D) -> Result<(), AllocError>
+        ensures { OnOk result ((n : ℕ) (s : Setup S D S.Certificate) → genesis ≡ s.genesis → AreNew S.Scheme L.Elector (formats D.PartialEq.eq D.spelling S.Signature.spelling S.Certificate.spelling D.reading S.Signature.reading S.Certificate.reading n) s now self.old → StandAt S.Scheme L.Elector (formats D.PartialEq.eq D.spelling S.Signature.spelling S.Certificate.spelling D.reading S.Signature.reading S.Certificate.reading n) s self.new (Opened now ∷ [])) }
+    {
+        silent_points_leave_votes::<S, D>();
+        self.voter.set_genesis(now, genesis)?;
+        let current = self.voter.current_view();
+        let floor = self.voter.views().min_active();
+        self.acceptance.enter(current, floor)
     }
 
     /// Goes through the record, artifact by artifact, the oldest first, and reports each.
@@ -162,44 +181,4 @@ impl<S: Scheme<D> + Drop, L: Elector<S, D>, D: Digest> Layers<S, L, D> {
         let _ = self.repair.replayed(alloc)?;
         Ok(())
     }
-}
-
-/// The voter of a node that is opened at this moment.
-fn started_voter<S: Scheme<D> + Drop, L: Elector<S, D>, D: Digest>(
-    alloc: Global,
-    scheme: &Rc<S>,
-    config: &Config<D>,
-    elector: L,
-    now: u64,
-) -> Result<Voter<S, L, D>, AllocError>
-    requires { L.built_for elector (S.size scheme.now.value) }
-    ensures { IfOk result (λ voter. voting.Keeps S.Scheme L.Elector (built S.Scheme L.Elector scheme.now.value elector config.now) voter (started now config.now.genesis ∷ [])) }
-{
-    let shared = scheme.clone()?;
-    let mut voter = Voter::new(alloc, shared, elector, config)?;
-    voter.set_genesis(now, config.genesis)?;
-    Ok(voter)
-}
-
-/// The votes of all views of a node that is opened, whose voter has started.
-fn entered_votes<S: Scheme<D> + Drop, L: Elector<S, D>, D: Digest>(
-    settings: &Settings<S>,
-    track_historical_votes: bool,
-    voter: &Voter<S, L, D>,
-) -> Result<Acceptance<S, D>, AllocError>
-    ensures { IfOk result (λ acceptance. (s : Setup S D S.Certificate) (now : ℕ) → IsSetUp s settings.now → track_historical_votes ≡ s.tracks → voting.Keeps S.Scheme L.Elector s.voter voter.now (voter_of s (Opened now ∷ [])) → accepting.Keeps S.Scheme D.PartialEq.eq s acceptance (Opened now ∷ [])) }
-{
-    silent_points_leave_votes::<S, D>();
-    let owner = settings.owner;
-    let shared = settings.scheme.clone()?;
-    let mut acceptance = Acceptance::new(
-        settings.alloc,
-        shared,
-        owner.epoch,
-        owner.term_length,
-        owner.signer,
-        track_historical_votes,
-    );
-    acceptance.enter(voter.current_view(), voter.views().min_active())?;
-    Ok(acceptance)
 }
