@@ -45,7 +45,7 @@ use Rattle.simplex_member.specs.Point.{History, Point, Constructs, Forwards, is_
 use Rattle.simplex_member.specs.Recorded.{record_of}
 use Rattle.simplex_member.specs.Refusals.{HasNoneLike}
 use Rattle.simplex_member.specs.Setup.{Setup, owner_of}
-use Rattle.simplex_recalling.specs.Learning.{IsUnknown, first_of}
+use Rattle.simplex_core.specs.Learning.{IsUnknown, first_of}
 use Rattle.simplex_exchange.specs.Handing.{HandsOut, both_more, hands_as, nothing_more}
 use Rattle.simplex_asking.specs.declared.acted.Acted.{Acted}
 use Rattle.simplex_asking.specs.declared.acted.Acted.TheVariants as came

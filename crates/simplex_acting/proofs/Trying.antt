@@ -42,8 +42,8 @@ use Rattle.simplex_asking.specs.declared.acted.Acted.{Acted}
 use Rattle.simplex_asking.specs.declared.acted.Acted.TheVariants as came
 use Rattle.simplex_asking.specs.Asking.{AskerKeeps, ComesToAsk, HasAsked, is_ask, is_none}
 use Rattle.simplex_asking.specs.Fetching.{ComesToFetch, HasFetched, RepairerKeeps, is_fetch}
-use Rattle.simplex_leading.specs.Following.{FollowsLeader}
-use Rattle.simplex_leading.specs.Leading.{NamesLeader, NoLeaderToName}
+use Rattle.simplex_asking.specs.Following.{FollowsLeader}
+use Rattle.simplex_asking.specs.Leading.{NamesLeader, NoLeaderToName}
 use Rattle.simplex_core.specs.declared.node_core.Core.{Core}
 use Rattle.simplex_acting.specs.Acting.{ComesTo, HasActed, IsLeftByActs, WasSettled, WasTried}
 use Rattle.simplex_core.specs.Keeps.{CoreKeeps, disk_of}

@@ -10,7 +10,7 @@ use Rattle.simplex_member.specs.Member.{LatchIsDue, IsLooked}
 use Rattle.simplex_member.specs.Packet.{Formats}
 use Rattle.simplex_member.specs.Point.{History}
 use Rattle.simplex_member.specs.Setup.{Setup, member_of}
-use Rattle.simplex_leading.specs.Leading.{NoLeaderToName}
+use Rattle.simplex_asking.specs.Leading.{NoLeaderToName}
 use Rattle.simplex_asking.specs.NoneDue.{NoBuildToAsk, NoBuildToGiveBack, NoVerdictToAsk, NoVerificationToAsk, NoViewToAsk, NoSilence}
 
 module _ {S D P G C : Type 0} (s : Setup S D C) where

@@ -10,10 +10,9 @@ ghost use Rattle.simplex_acting.specs.NoneDue.{NoLeaderToFollow};
 ghost use Rattle.simplex_core.specs.Telling.{TellsOfDisk};
 
 use simplex_acceptance::silent_points_leave_votes;
-use simplex_asking::Acted;
+use simplex_asking::{Acted, follow_leader};
 use simplex_core::Core;
 use simplex_journal::Disk;
-use simplex_leading::follow_leader;
 use simplex_member::NodeFault;
 use simplex_recording::a_ledger_at_rest_leaves_its_record;
 use simplex_rules::Elector;

@@ -24,13 +24,12 @@ ghost use Rattle.simplex_core.specs.Taking.{IsLeftBy, IsTaken};
 
 use simplex_acceptance::silent_points_leave_votes;
 use simplex_asking::{Acted, is_given_up};
-use simplex_core::Core;
+use simplex_core::{Core, tell_own_vote};
 use simplex_exchange::{hand_vote_out, send_again, spelled_vote};
 use simplex_history::TimeoutReason;
 use simplex_intake::record;
 use simplex_journal::Disk;
 use simplex_laws::what_is_known_is_recorded;
-use simplex_learning::tell_own_vote;
 use simplex_member::{
     Action, NodeFault, due_may_be_recorded, known_nullifies_are_recorded,
     proposals_lie_in_their_views, records_stay_lawful, voters_are_orderly, voters_tell_the_record,

@@ -9,3 +9,6 @@ mod Verdicts
 mod Waits
 mod Wakes
 mod Wanted
+mod Coming
+mod GivenUp
+mod Unnamed

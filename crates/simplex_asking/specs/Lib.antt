@@ -6,3 +6,5 @@ pub mod GivingUp
 pub mod NoneDue
 pub mod Silence
 pub mod Waking
+pub mod Following
+pub mod Leading

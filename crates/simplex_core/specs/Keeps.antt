@@ -16,7 +16,7 @@ use Rattle.simplex_member.specs.Packet.{Formats}
 use Rattle.simplex_member.specs.Point.{History}
 use Rattle.simplex_member.specs.Recorded.{record_of}
 use Rattle.simplex_member.specs.Setup.{Setup, owner_of}
-use Rattle.simplex_recalling.specs.SettingUp.{IsSetUp}
+use Rattle.simplex_core.specs.SettingUp.{IsSetUp}
 use Rattle.simplex_core.specs.declared.node_core.Core.{Core}
 
 -- the disk that a node stands on

@@ -4,3 +4,8 @@ pub mod Entering
 pub mod Telling
 pub mod Leaving
 pub mod Standing
+pub mod SettingUp
+pub mod Learning
+pub mod GoingThrough
+pub mod Saying
+pub mod SaidRounds

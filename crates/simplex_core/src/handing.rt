@@ -10,11 +10,11 @@ ghost use Rattle.simplex_member.specs.Setup.{Setup};
 ghost use Rattle.simplex_exchange.specs.Handing.{HandsOut};
 ghost use Rattle.simplex_core.specs.Keeps.{CoreKeeps};
 
+use crate::certificates::final_proposal;
 use crate::node_core::Core;
 use simplex_certificates::Certificate;
 use simplex_exchange::{hand_out, hand_out_final};
 use simplex_journal::Disk;
-use simplex_learning::final_proposal;
 use simplex_member::{Action, Channel, NodeFault};
 use simplex_messages::Activity;
 use simplex_rules::Elector;

@@ -1,8 +1,26 @@
-//! What a node holds while no step of it has failed, and what both halves of its work hand out.
+//! What a node holds while no step of it has failed, and how it goes through its record while it opens; what its layers learn, and what
+//! both halves of its work hand out.
 #![tactic(auto)]
 
+mod casting;
+mod certificates;
+mod entered;
 mod entering;
 mod handing;
+mod layers;
+mod learning;
 mod node_core;
+mod recalling;
+mod saying;
+mod settings;
+mod telling;
 
+pub use casting::tell_own_vote;
+pub use certificates::{final_proposal, tell_voter, tell_votes};
+pub use entered::enter;
+pub use layers::Layers;
+pub use learning::{
+    give, give_verdict, judge_repair, update_repair, what_is_not_recorded_is_unknown,
+};
 pub use node_core::Core;
+pub use settings::Settings;

@@ -1,8 +1,8 @@
 //! What a node holds.
 
+use crate::settings::Settings;
 use simplex_acceptance::Acceptance;
 use simplex_journal::Disk;
-use simplex_recalling::Settings;
 use simplex_recording::{Ledger, Tables};
 use simplex_resolver::State as Repair;
 use simplex_rules::Elector;

@@ -27,7 +27,7 @@ use Rattle.simplex_member.specs.Point.{Point, AreActs, Began, Opened, History}
 use Rattle.simplex_member.specs.Recorded.{record_of}
 use Rattle.simplex_member.specs.Refusals.{tests}
 use Rattle.simplex_member.specs.Setup.{Setup}
-use Rattle.simplex_recalling.specs.GoingThrough as reading
+use Rattle.simplex_core.specs.GoingThrough as reading
 use Rattle.simplex_core.specs.declared.node_core.Core.{Core}
 use Rattle.simplex_acting.specs.Acting.{HasSettled, IsLeftByActs, WasSettled}
 use Rattle.simplex_core.specs.Keeps.{CoreKeeps, disk_of}

@@ -12,12 +12,12 @@ use Rattle.simplex_member.specs.declared.action.Action.{Action}
 use Rattle.simplex_member.specs.Layers.{finalized_of}
 use Rattle.simplex_member.specs.Packet.{Formats}
 use Rattle.simplex_member.specs.Setup.{Setup, IsInTime, owner_of, setup_of}
-use Rattle.simplex_recalling.specs.declared.layers.Layers.{Layers}
+use Rattle.simplex_core.specs.declared.layers.Layers.{Layers}
 use Rattle.simplex_node.specs.declared.node.Node.{Node}
-use Rattle.simplex_recalling.specs.declared.settings.Settings.{Settings}
-use Rattle.simplex_recalling.specs.SettingUp.{IsSetUp}
+use Rattle.simplex_core.specs.declared.settings.Settings.{Settings}
+use Rattle.simplex_core.specs.SettingUp.{IsSetUp}
 use Rattle.simplex_node.specs.Keeps.{NodeKeeps}
-use Rattle.simplex_recalling.specs.GoingThrough.{HasBegun}
+use Rattle.simplex_core.specs.GoingThrough.{HasBegun}
 use Rattle.simplex_node.specs.Opening.{IsOpen}
 
 module _ {S L D P G C K : Type 0} (g : Ghosts S D P G C) (e : elector.Ghosts L S D P G C) (k : disk.Ghosts K) (f : Formats S D P G C) where

@@ -17,7 +17,7 @@ use Rattle.simplex_member.specs.Member.{IsOpened}
 use Rattle.simplex_member.specs.Packet.{Formats}
 use Rattle.simplex_member.specs.Point.{History}
 use Rattle.simplex_member.specs.Setup.{Setup, IsInTime}
-use Rattle.simplex_recalling.specs.GoingThrough.{Opens}
+use Rattle.simplex_core.specs.GoingThrough.{Opens}
 use Rattle.simplex_node.specs.declared.node.Node.{Node}
 use Rattle.simplex_node.specs.Keeps.{NodeKeeps}
 

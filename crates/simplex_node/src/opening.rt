@@ -12,7 +12,7 @@ ghost use Rattle.simplex_member.specs.declared.fault.OpenFault.TheVariants as op
 ghost use Rattle.simplex_member.specs.First.{IsFirst};
 ghost use Rattle.simplex_member.specs.Packet.{formats};
 ghost use Rattle.simplex_member.specs.Setup.{Setup, IsInTime, owner_of, setup_of, silence_of};
-ghost use Rattle.simplex_recalling.specs.SettingUp.{IsSetUp};
+ghost use Rattle.simplex_core.specs.SettingUp.{IsSetUp};
 ghost use Rattle.simplex_acting.specs.Acting.{IsLeftByActs};
 ghost use Rattle.simplex_node.specs.Keeps.{AtOwn, disk_of};
 ghost use Rattle.simplex_node.specs.Opening.{IsOpen, IsOpenAndSettled, MayBeLeftOpen, early, open_tests};
@@ -20,11 +20,10 @@ ghost use Rattle.simplex_node.specs.Opening.{IsOpen, IsOpenAndSettled, MayBeLeft
 use crate::node::Node;
 use simplex_acting::settle;
 use simplex_certificates::Artifact;
-use simplex_core::Core;
+use simplex_core::{Core, Layers, Settings};
 use simplex_decisions::config::{Config, SkipPolicy, check_config};
 use simplex_journal::{Disk, a_disk_reads_as_one_record};
 use simplex_member::{Action, NodeFault, OpenFault};
-use simplex_recalling::{Layers, Settings};
 use simplex_record::Owner;
 use simplex_recording::Ledger;
 use simplex_rules::{Elector, Terms};

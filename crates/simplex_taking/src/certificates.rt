@@ -11,12 +11,10 @@ ghost use Rattle.simplex_core.specs.Keeps.{AtOwn, CoreKeeps, disk_of};
 ghost use Rattle.simplex_core.specs.Taking.{IsLeftBy, IsTaken};
 
 use simplex_certificates::Certificate;
-use simplex_core::Core;
+use simplex_core::{Core, tell_voter, tell_votes, update_repair, what_is_not_recorded_is_unknown};
 use simplex_intake::record;
 use simplex_journal::Disk;
-use simplex_learning::{tell_voter, tell_votes};
 use simplex_member::{Action, NodeFault};
-use simplex_recalling::{update_repair, what_is_not_recorded_is_unknown};
 use simplex_recording::a_ledger_at_rest_leaves_its_record;
 use simplex_rules::Elector;
 use simplex_types::{Digest, Scheme};

@@ -14,13 +14,11 @@ ghost use Rattle.simplex_taking.specs.Verdicts.{RecordIsAhead};
 
 use simplex_acceptance::silent_points_leave_votes;
 use simplex_certificates::Artifact;
-use simplex_core::Core;
+use simplex_core::{Core, enter, give_verdict, judge_repair};
 use simplex_exchange::report_verdict;
 use simplex_intake::record;
 use simplex_journal::Disk;
-use simplex_learning::enter;
 use simplex_member::{Action, NodeFault, awaited_verdicts_may_be_taken};
-use simplex_recalling::{give_verdict, judge_repair};
 use simplex_recording::quiet_points_leave_the_tables;
 use simplex_rules::Elector;
 use simplex_types::{Digest, Round, Scheme, View};

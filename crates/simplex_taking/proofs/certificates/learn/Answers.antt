@@ -10,7 +10,7 @@ use Rattle.simplex_member.specs.Packet.{formats}
 use Rattle.simplex_member.specs.Point.{Came}
 use Rattle.simplex_member.specs.Recorded.{record_of}
 use Rattle.simplex_member.specs.Setup.{owner_of}
-use Rattle.simplex_recalling.specs.Learning.{first_of}
+use Rattle.simplex_core.specs.Learning.{first_of}
 use Rattle.simplex_core.specs.Standing.{begun_some, rises, room_of}
 use Rattle.simplex_core.specs.Leaving.{left_at_rest, left_by}
 use Rattle.simplex_taking.proofs.certificates.learn.Goals as goal

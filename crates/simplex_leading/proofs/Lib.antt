@@ -1,3 +1,0 @@
-mod Coming
-mod GivenUp
-mod Unnamed

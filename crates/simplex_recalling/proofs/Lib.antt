@@ -1,6 +1,0 @@
-mod Going
-mod Unknown
-mod Finding
-mod Gone
-mod Recalled
-mod SaidSo
