@@ -1,10 +1,11 @@
 -- A change of the votes of one view among those of all.
 use Rattle.std.proofs.Common.{◌≡◌, ◌≢◌, ◌≤◌, ◌<◌, ℕ, ◌==◌, Bool, true, false, [], ⊎_elim, refl, sym, ◌∙◌, subst, arith}
 use Rattle.std.specs.Prelude.{Option, Some, None, IfSome, IsSome, OnErr, Result, Ok, Err, is_some, nat_lt, unwrap_or}
-use Rattle.std.specs.BTreeMap.{BTreeMap, UpdatesBy, get, is_at}
+use Rattle.std.specs.BTreeMap.{BTreeMap, is_at}
 use Rattle.std.specs.BTreeSet.{BTreeSet, Updates, contains}
 use Rattle.std.specs.Option.{option_or}
 use Rattle.std.specs.Ordering.{nat_cmp}
+use Rattle.std.specs.declared.cmp.Reverse.{Reverse}
 use Rattle.std.proofs.lemmas.Bool.{and_right, cases_eq, cases_lt, eq-eqb, le-ltb, lt-ltb}
 use Rattle.std.proofs.lemmas.Bool.Decides.{nat_tests}
 use Rattle.std.proofs.lemmas.Grind.{common_steps}
@@ -15,14 +16,17 @@ use Rattle.simplex_verifier.specs.History.{History, Setup, leader_of}
 use Rattle.simplex_batcher.specs.declared.round.Round.{Round}
 use Rattle.simplex_batcher.specs.Rounds.{RoundKeeps}
 use Rattle.simplex_acceptance.specs.declared.rounds.Rounds.{Rounds}
-use Rattle.simplex_acceptance.specs.Standing.{Common, IsAtRest, IsKept, Stand, common_of, happened_from, come_up, is_passed, set_at, setup_at, up_from}
+use Rattle.simplex_acceptance.specs.Standing.{Common, IsAtRest, IsKept, Stand, Stores, as_key, common_of, happened_from, come_up, is_passed, latest_first, set_at, setup_at, stored, up_from}
 
--- a number is itself; two that are not one are apart in a map
+-- a number is itself; two that are not one are apart in a set, and as keys of a map
 pub itself : (n : ℕ) → (n == n) ≡ true
 itself n = eq-eqb n n refl
 
 pub apart-at : (at view : ℕ) → (at == view) ≡ false → is_at (nat_cmp at) view ≡ false
 apart-at at view ne = grind (arith, nat_tests, ne)
+
+pub keys-apart : (at view : ℕ) → (at == view) ≡ false → is_at (latest_first (as_key at)) (as_key view) ≡ false
+keys-apart at view ne = grind (arith, nat_tests, ne)
 
 pub some-is : {A : Type 0} {o : Option A} {x : A} → Some x ≡ o → IsSome o
 some-is e = subst (λ found. is_some found ≡ true) e refl
@@ -31,18 +35,18 @@ module _ {S D P G C : Type 0} (g : Ghosts S D P G C) (same : D → D → Bool) w
   -- of one view the votes changed, those of the others stand as before
   pub changed : (s : Common S) (old new : Rounds S D P G C) (at : ℕ) (up up' : ℕ → Option Bool) (happened happened' : ℕ → History S D P G C)
       → Stand g same s old up happened → common_of new ≡ common_of old
-      → ((u : ℕ) → (at == u) ≡ false → get nat_cmp new.by_view u ≡ get nat_cmp old.by_view u)
+      → ((u : ℕ) → (at == u) ≡ false → stored new.by_view u ≡ stored old.by_view u)
       → ((u : ℕ) → (at == u) ≡ false → (up' u ≡ up u) × (happened' u ≡ happened u))
       → ((u : ℕ) → (at == u) ≡ false → contains nat_cmp new.touched u ≡ false → contains nat_cmp old.touched u ≡ false)
       → ((u : ℕ) → (at == u) ≡ false → contains nat_cmp new.unled u ≡ false → contains nat_cmp old.unled u ≡ false)
-      → IsKept g same s at (get nat_cmp new.by_view at) (up' at) (happened' at)
+      → IsKept g same s at (stored new.by_view at) (up' at) (happened' at)
       → (contains nat_cmp new.touched at ≡ false → IfSome (up' at) (λ skipped. IsAtRest g same s at skipped (happened' at)))
       → (contains nat_cmp new.unled at ≡ false → IsSome (up' at) → leader_of (happened' at) ≢ None)
       → Stand g same s new up' happened'
   changed s old new at up up' happened happened' k shared rounds others touched unled here rest named = record {
     shared = shared ∙ k.shared;
     kept = λ u. ⊎_elim
-        (λ e. subst (λ (w : ℕ). IsKept g same s w (get nat_cmp new.by_view w) (up' w) (happened' w)) e here)
+        (λ e. subst (λ (w : ℕ). IsKept g same s w (stored new.by_view w) (up' w) (happened' w)) e here)
         (λ ne. let apart : (at == u) ≡ false = grind (arith, nat_tests) in let o = others u apart in rw (rounds u apart, o.0, o.1) (k.kept u))
         (cases_eq at u);
     at_rest = λ u. ⊎_elim
@@ -87,13 +91,13 @@ module _ {S D P G C : Type 0} where
   -- of the views from the floor on nothing changed
   pub record IsDropping (floor : ℕ) (old new : Rounds S D P G C) : Type 0 where
     pub shared : common_of new ≡ common_of old
-    pub rounds : (u : ℕ) → floor ≤ u → get nat_cmp new.by_view u ≡ get nat_cmp old.by_view u
+    pub rounds : (u : ℕ) → floor ≤ u → stored new.by_view u ≡ stored old.by_view u
     pub touched : (u : ℕ) → floor ≤ u → contains nat_cmp new.touched u ≡ contains nat_cmp old.touched u
     pub unled : (u : ℕ) → floor ≤ u → contains nat_cmp new.unled u ≡ contains nat_cmp old.unled u
 
 module _ {S D P G C : Type 0} (g : Ghosts S D P G C) (same : D → D → Bool) where
   -- the votes of the views below the floor are gone
-  pub dropped : (s : Common S) (floor : ℕ) (old new : Rounds S D P G C) (up : ℕ → Option Bool) (happened : ℕ → History S D P G C) → IsDropping floor old new → ((u : ℕ) → u < floor → get nat_cmp new.by_view u ≡ None)
+  pub dropped : (s : Common S) (floor : ℕ) (old new : Rounds S D P G C) (up : ℕ → Option Bool) (happened : ℕ → History S D P G C) → IsDropping floor old new → ((u : ℕ) → u < floor → stored new.by_view u ≡ None)
       → Stand g same s old up happened → Stand g same s new (up_from floor up) (happened_from floor happened)
   dropped s floor old new up happened d none k = record {
     shared = d.shared ∙ k.shared;
@@ -118,7 +122,7 @@ module _ {S D P G C : Type 0} (g : Ghosts S D P G C) (same : D → D → Bool) w
 module _ {S D P G C : Type 0} (g : Ghosts S D P G C) (same : D → D → Bool) where
   -- more views are looked at again, and nothing else changed
   pub widened : (s : Common S) (old new : Rounds S D P G C) (up : ℕ → Option Bool) (happened : ℕ → History S D P G C) → common_of new ≡ common_of old
-      → ((u : ℕ) → get nat_cmp new.by_view u ≡ get nat_cmp old.by_view u)
+      → ((u : ℕ) → stored new.by_view u ≡ stored old.by_view u)
       → ((u : ℕ) → contains nat_cmp new.touched u ≡ false → contains nat_cmp old.touched u ≡ false)
       → ((u : ℕ) → contains nat_cmp new.unled u ≡ false → contains nat_cmp old.unled u ≡ false)
       → Stand g same s old up happened → Stand g same s new up happened
@@ -142,21 +146,21 @@ pub lacks-not : (old new : BTreeSet ℕ) (view : ℕ) → Updates nat_cmp old ne
 lacks-not old new view up lacks = absurd (cc (up.1, lacks))
 
 -- a map with the same entries has the same at each view
-pub same-get : {X : Type 0} (old new : BTreeMap ℕ X) → new.entries ≡ old.entries → (u : ℕ) → get nat_cmp new u ≡ get nat_cmp old u
+pub same-get : {X : Type 0} (old new : BTreeMap (Reverse ℕ) X) → new.entries ≡ old.entries → (u : ℕ) → stored new u ≡ stored old u
 same-get old new e u = rw e refl
 
 module _ {S D P G C : Type 0} (g : Ghosts S D P G C) (same : D → D → Bool) where
   -- the round of a view that had none is among the others
   pub seated : (s : Common S) (old new : Rounds S D P G C) (up : ℕ → Option Bool) (happened : ℕ → History S D P G C) (view : ℕ) (round : Round S D P G C) (passed : Bool) (h : History S D P G C)
-      → Stand g same s old up happened → common_of new ≡ common_of old → UpdatesBy nat_cmp (nat_cmp view) old.by_view new.by_view (Some round) → new.touched ≡ old.touched → Updates nat_cmp old.unled new.unled view true
-      → get nat_cmp old.by_view view ≡ None → contains nat_cmp old.touched view ≡ true → RoundKeeps same g g.batchable (setup_at g s view passed) round h
+      → Stand g same s old up happened → common_of new ≡ common_of old → Stores old.by_view new.by_view view (Some round) → new.touched ≡ old.touched → Updates nat_cmp old.unled new.unled view true
+      → stored old.by_view view ≡ None → contains nat_cmp old.touched view ≡ true → RoundKeeps same g g.batchable (setup_at g s view passed) round h
       → Stand g same s new (come_up view passed up) (set_at view h happened)
   seated s old new up happened view round passed h k shared rounds same_touched unled none touched kept =
-      let bare = unknown g same s view (get nat_cmp old.by_view view) (up view) (happened view) none (k.kept view) in
-      let put_in : get nat_cmp new.by_view view ≡ Some round = rounds.1 in
+      let bare = unknown g same s view (stored old.by_view view) (up view) (happened view) none (k.kept view) in
+      let put_in : stored new.by_view view ≡ Some round = rounds.1 in
       let still : contains nat_cmp new.touched view ≡ true = subst (λ (t : BTreeSet ℕ). contains nat_cmp t view ≡ true) (sym same_touched) touched in
       changed g same s old new view up (come_up view passed up) happened (set_at view h happened) k shared
-      (λ u ne. rounds.2 u (apart-at view u ne))
+      (λ u ne. rounds.2 (as_key u) (keys-apart view u ne))
       (λ u ne. (rw ne refl, rw ne refl))
       (λ u ne. subst (λ (t : BTreeSet ℕ). contains nat_cmp t u ≡ false → contains nat_cmp old.touched u ≡ false) (sym same_touched) (λ no. no))
       (λ u ne. lacking old.unled new.unled view unled u)

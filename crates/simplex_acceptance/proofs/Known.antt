@@ -1,11 +1,12 @@
 -- What comes of a view whose votes came up before.
 use Rattle.std.proofs.Common.{◌≡◌, ◌≢◌, ℕ, ◌==◌, Bool, true, false, ◌∷◌, ⊎_elim, refl, sym, ◌∙◌, subst, arith}
 use Rattle.std.specs.Prelude.{◌↔◌, Option, Some, None, IfOk, IfErr, OnOk, OnErr, Result, Ok, Err, IfSome, IsSome, IsTrue, if◌then◌else◌, is_none, is_some}
-use Rattle.std.specs.BTreeMap.{BTreeMap, UpdatesBy, get}
+use Rattle.std.specs.BTreeMap.{BTreeMap}
 use Rattle.std.specs.BTreeSet.{BTreeSet, contains}
 use Rattle.std.specs.BTreeSet as sorted
 use Rattle.std.specs.Option.{option_or}
 use Rattle.std.specs.Ordering.{nat_cmp}
+use Rattle.std.specs.declared.cmp.Reverse.{Reverse}
 use Rattle.std.proofs.lemmas.Bool.{cases_eq}
 use Rattle.std.proofs.lemmas.Bool.Decides.{nat_tests}
 use Rattle.simplex_types.specs.declared.position.Round as position
@@ -26,8 +27,8 @@ use Rattle.simplex_batcher.specs.Admission.{AgreesWithOwn, IsAdmissionFault, IsB
 use Rattle.simplex_batcher.specs.Rounds.{RoundKeeps}
 use Rattle.simplex_batcher.specs.Rounds as one
 use Rattle.simplex_acceptance.specs.declared.rounds.Rounds.{Rounds}
-use Rattle.simplex_acceptance.specs.Standing.{AtEach, Common, IsAdmitted, IsAtRest, IsCast, IsKept, Stand, come_up, is_passed, put, set_at, setup_now}
-use Rattle.simplex_acceptance.proofs.Changing.{apart-at, changed, itself, kept-still, kept-up, known}
+use Rattle.simplex_acceptance.specs.Standing.{AtEach, Common, IsAdmitted, IsAtRest, IsCast, IsKept, Stand, Stores, as_key, come_up, is_passed, put, set_at, setup_now, stored}
+use Rattle.simplex_acceptance.proofs.Changing.{apart-at, changed, itself, kept-still, kept-up, keys-apart, known}
 
 -- a round is its epoch and its view
 pub round-of : (r : position.Round) (epoch view : ℕ) → r.epoch ≡ epoch → r.view ≡ view → r ≡ record { epoch = epoch; view = view }
@@ -46,7 +47,7 @@ option-some None b some = absurd (cc some)
 option-some (Some x) b some = refl
 
 module _ {S D P G C : Type 0} (g : Ghosts S D P G C) (same : D → D → Bool) (s : Common S) (mid : Rounds S D P G C) (up : ℕ → Option Bool) (happened : ℕ → History S D P G C) (view : ℕ) (k : Stand g same s mid up happened) where
-  module _ (current : ℕ) (round : Round S D P G C) (there : Some round ≡ get nat_cmp mid.by_view view) where
+  module _ (current : ℕ) (round : Round S D P G C) (there : Some round ≡ stored mid.by_view view) where
     pub kept-here : IsKept g same s view (Some round) (up view) (happened view)
     kept-here = subst (λ (o : Option (Round S D P G C)). IsKept g same s view o (up view) (happened view)) (sym there) (k.kept view)
 
@@ -58,13 +59,13 @@ module _ {S D P G C : Type 0} (g : Ghosts S D P G C) (same : D → D → Bool) (
     came-up None kept = absurd kept
     came-up (Some x) kept = refl
 
-    module _ (round' : Round S D P G C) (m : BTreeMap ℕ (Round S D P G C)) (updates : UpdatesBy nat_cmp (nat_cmp view) mid.by_view m (Some round')) (touched : contains nat_cmp mid.touched view ≡ true) where
+    module _ (round' : Round S D P G C) (m : BTreeMap (Reverse ℕ) (Round S D P G C)) (updates : Stores mid.by_view m view (Some round')) (touched : contains nat_cmp mid.touched view ≡ true) where
       -- its votes changed
       pub moved : (up' : ℕ → Option Bool) (happened' : ℕ → History S D P G C) → IsKept g same s view (Some round') (up' view) (happened' view)
           → ((u : ℕ) → (view == u) ≡ false → (up' u ≡ up u) × (happened' u ≡ happened u)) → (leader_of (happened view) ≢ None → leader_of (happened' view) ≢ None)
           → Stand g same s (record mid { by_view = m }) up' happened'
       moved up' happened' kept others led = changed g same s mid (record mid { by_view = m }) view up up' happened happened' k refl
-          (λ u ne. updates.2 u (apart-at view u ne)) others (λ u ne no. no) (λ u ne no. no)
+          (λ u ne. updates.2 (as_key u) (keys-apart view u ne)) others (λ u ne no. no) (λ u ne no. no)
           (subst (λ (o : Option (Round S D P G C)). IsKept g same s view o (up' view) (happened' view)) (sym updates.1) kept)
           (λ no. absurd (cc (touched, no)))
           (λ no some. led (k.named view no (came-up (up view) kept-here)))
@@ -103,7 +104,7 @@ module _ {S D P G C : Type 0} (g : Ghosts S D P G C) (same : D → D → Bool) (
   }
 
 module _ {S D P G C : Type 0} (g : Ghosts S D P G C) (same : D → D → Bool) (old mid : Rounds S D P G C) (opens : AtEach g same old (λ s up happened. Stand g same s mid up happened)) (view : ℕ) (round round' : Round S D P G C)
-    (m : BTreeMap ℕ (Round S D P G C)) (there : Some round ≡ get nat_cmp mid.by_view view) (updates : UpdatesBy nat_cmp (nat_cmp view) mid.by_view m (Some round')) (touched : contains nat_cmp mid.touched view ≡ true) where
+    (m : BTreeMap (Reverse ℕ) (Round S D P G C)) (there : Some round ≡ stored mid.by_view view) (updates : Stores mid.by_view m view (Some round')) (touched : contains nat_cmp mid.touched view ≡ true) where
   module _ (v : Vote S D P G C) (ours : view ≡ (vote_round v).view) where
     -- a vote from the network
     pub known-admitted : (current sender : ℕ) (r : Result (Admission S D P G C) BatcherFault)

@@ -1,10 +1,11 @@
 -- What comes of opening a view, and of what is done of one.
 use Rattle.std.proofs.Common.{◌≡◌, ◌≢◌, ℕ, ◌==◌, Bool, true, false, [], ◌∷◌, ⊎_elim, refl, sym, ◌∙◌, subst, arith}
 use Rattle.std.specs.Prelude.{◌↔◌, IsTrue, Option, Some, None, IfSome, IsSome, MatchOption, if◌then◌else◌, is_none, is_some, unwrap_or}
-use Rattle.std.specs.BTreeMap.{BTreeMap, UpdatesBy, get}
+use Rattle.std.specs.BTreeMap.{BTreeMap}
 use Rattle.std.specs.BTreeSet.{BTreeSet, contains}
 use Rattle.std.specs.BTreeSet as sorted
 use Rattle.std.specs.Ordering.{nat_cmp}
+use Rattle.std.specs.declared.cmp.Reverse.{Reverse}
 use Rattle.std.proofs.lemmas.Bool.{cases_eq, eq-eqb}
 use Rattle.std.proofs.lemmas.Bool.Decides.{nat_tests}
 use Rattle.simplex_types.specs.declared.scheme.Scheme.{Ghosts}
@@ -19,8 +20,8 @@ use Rattle.simplex_batcher.specs.Rounds as one
 use Rattle.simplex_acceptance.specs.declared.due.Due.{Due}
 use Rattle.simplex_acceptance.specs.declared.due.Due.TheVariants as due
 use Rattle.simplex_acceptance.specs.declared.rounds.Rounds.{Rounds}
-use Rattle.simplex_acceptance.specs.Standing.{Common, IsAtRest, IsDone, IsKept, IsRoundDone, Stand, come_up, is_passed, put, set_at, setup_at, setup_now}
-use Rattle.simplex_acceptance.proofs.Changing.{alike, apart-at, changed, itself, kept-still, unknown}
+use Rattle.simplex_acceptance.specs.Standing.{Common, IsAtRest, IsDone, IsKept, IsRoundDone, Stand, Stores, as_key, come_up, is_passed, put, set_at, setup_at, setup_now, stored}
+use Rattle.simplex_acceptance.proofs.Changing.{alike, apart-at, changed, itself, kept-still, keys-apart, unknown}
 use Rattle.simplex_acceptance.proofs.Known.{came-up, kept-here, moved, moved-set, moved-still, option-some, rested, stands-here}
 
 not-none : {A : Type 0} (o : Option A) → o ≢ None → is_none o ≡ false
@@ -52,10 +53,10 @@ module _ {S D P G C : Type 0} (g : Ghosts S D P G C) (same : D → D → Bool) w
   kept-none s view (Some r) (Some x) h none k = absurd (cc none)
 
   -- the votes of a view come up that did before
-  pub open-still : (s : Common S) (r : Rounds S D P G C) (up : ℕ → Option Bool) (happened : ℕ → History S D P G C) (view : ℕ) (b : Bool) → IsSome (get nat_cmp r.by_view view) → Stand g same s r up happened
+  pub open-still : (s : Common S) (r : Rounds S D P G C) (up : ℕ → Option Bool) (happened : ℕ → History S D P G C) (view : ℕ) (b : Bool) → IsSome (stored r.by_view view) → Stand g same s r up happened
       → Stand g same s r (come_up view b up) happened
   open-still s r up happened view b some k =
-      let came : IsSome (up view) = there-up s view (get nat_cmp r.by_view view) (up view) (happened view) some (k.kept view) in
+      let came : IsSome (up view) = there-up s view (stored r.by_view view) (up view) (happened view) some (k.kept view) in
       alike g same s r up (come_up view b up) happened happened
       (λ u. ⊎_elim
       (λ e. let here : (view == u) ≡ true = eq-eqb view u e in let up_u : IsSome (up u) = subst (λ (w : ℕ). IsSome (up w)) e came in rw here (option-some (up u) b up_u))
@@ -64,11 +65,11 @@ module _ {S D P G C : Type 0} (g : Ghosts S D P G C) (same : D → D → Bool) w
       (λ u. refl) k
 
   -- they come up, and nothing happened to them
-  pub open-first : (s : Common S) (old mid new : Rounds S D P G C) (up : ℕ → Option Bool) (happened : ℕ → History S D P G C) (view : ℕ) (b : Bool) → get nat_cmp old.by_view view ≡ None → Stand g same s old up happened → Stand g same s mid up happened
-      → (get nat_cmp mid.by_view view ≡ None → Stand g same s new (come_up view b up) (set_at view [] happened)) → Stand g same s new (come_up view b up) happened
+  pub open-first : (s : Common S) (old mid new : Rounds S D P G C) (up : ℕ → Option Bool) (happened : ℕ → History S D P G C) (view : ℕ) (b : Bool) → stored old.by_view view ≡ None → Stand g same s old up happened → Stand g same s mid up happened
+      → (stored mid.by_view view ≡ None → Stand g same s new (come_up view b up) (set_at view [] happened)) → Stand g same s new (come_up view b up) happened
   open-first s old mid new up happened view b none k k' seats =
-      let bare = unknown g same s view (get nat_cmp old.by_view view) (up view) (happened view) none (k.kept view) in
-      let still : get nat_cmp mid.by_view view ≡ None = kept-none s view (get nat_cmp mid.by_view view) (up view) (happened view) bare.0 (k'.kept view) in
+      let bare = unknown g same s view (stored old.by_view view) (up view) (happened view) none (k.kept view) in
+      let still : stored mid.by_view view ≡ None = kept-none s view (stored mid.by_view view) (up view) (happened view) bare.0 (k'.kept view) in
       alike g same s new (come_up view b up) (come_up view b up) (set_at view [] happened) happened (λ u. refl)
       (λ u. ⊎_elim
       (λ e. let here : (view == u) ≡ true = eq-eqb view u e in rw here (subst (λ (w : ℕ). happened w ≡ []) e bare.1))
@@ -77,15 +78,15 @@ module _ {S D P G C : Type 0} (g : Ghosts S D P G C) (same : D → D → Bool) w
       (seats still)
 
   -- the leader is named
-  pub known-led : (s : Common S) (mid : Rounds S D P G C) (up : ℕ → Option Bool) (happened : ℕ → History S D P G C) (view leader : ℕ) (round round' : Round S D P G C) (m : BTreeMap ℕ (Round S D P G C)) (t : BTreeSet ℕ)
-      → Some round ≡ get nat_cmp mid.by_view view → UpdatesBy nat_cmp (nat_cmp view) mid.by_view m (Some round') → contains nat_cmp mid.touched view ≡ true → sorted.UpdatesBy nat_cmp (nat_cmp view) mid.unled t false
+  pub known-led : (s : Common S) (mid : Rounds S D P G C) (up : ℕ → Option Bool) (happened : ℕ → History S D P G C) (view leader : ℕ) (round round' : Round S D P G C) (m : BTreeMap (Reverse ℕ) (Round S D P G C)) (t : BTreeSet ℕ)
+      → Some round ≡ stored mid.by_view view → Stores mid.by_view m view (Some round') → contains nat_cmp mid.touched view ≡ true → sorted.UpdatesBy nat_cmp (nat_cmp view) mid.unled t false
       → one.AtEach same g g.batchable round (λ st h. RoundKeeps same g g.batchable st round' (if is_none (leader_of h) then Led leader ∷ h else h)) → leader_of (happened view) ≡ None → Stand g same s mid up happened
       → Stand g same s (record mid { by_view = m; unled = t }) up (put view (Led leader) happened)
   known-led s mid up happened view leader round round' m t there updates touched led ok none k =
       let here = stands-here g same s mid up happened view k 0 round there in
       let stands = ok (setup_now g s up view 0) (happened view) here in
       changed g same s mid (record mid { by_view = m; unled = t }) view up up happened (put view (Led leader) happened) k refl
-      (λ u ne. updates.2 u (apart-at view u ne)) (λ u ne. (refl, rw ne refl)) (λ u ne no. no)
+      (λ u ne. updates.2 (as_key u) (keys-apart view u ne)) (λ u ne. (refl, rw ne refl)) (λ u ne no. no)
       (λ u ne no. sym (led.2 u (apart-at view u ne)) ∙ no)
       (subst (λ (o : Option (Round S D P G C)). IsKept g same s view o (up view) (put view (Led leader) happened view)) (sym updates.1)
       (rw (itself view) (kept-still g same s view round round' (up view) (is_passed s view 0) (happened view) (Led leader ∷ happened view) (kept-here g same s mid up happened view k 0 round there)
@@ -94,14 +95,14 @@ module _ {S D P G C : Type 0} (g : Ghosts S D P G C) (same : D → D → Bool) w
       (λ no some. rw (itself view) (λ never. absurd (cc never)))
 
   -- or it is named again
-  pub known-again : (s : Common S) (mid : Rounds S D P G C) (up : ℕ → Option Bool) (happened : ℕ → History S D P G C) (view leader : ℕ) (round round' : Round S D P G C) (m : BTreeMap ℕ (Round S D P G C)) (t : BTreeSet ℕ)
-      → Some round ≡ get nat_cmp mid.by_view view → UpdatesBy nat_cmp (nat_cmp view) mid.by_view m (Some round') → contains nat_cmp mid.touched view ≡ true → sorted.UpdatesBy nat_cmp (nat_cmp view) mid.unled t false
+  pub known-again : (s : Common S) (mid : Rounds S D P G C) (up : ℕ → Option Bool) (happened : ℕ → History S D P G C) (view leader : ℕ) (round round' : Round S D P G C) (m : BTreeMap (Reverse ℕ) (Round S D P G C)) (t : BTreeSet ℕ)
+      → Some round ≡ stored mid.by_view view → Stores mid.by_view m view (Some round') → contains nat_cmp mid.touched view ≡ true → sorted.UpdatesBy nat_cmp (nat_cmp view) mid.unled t false
       → one.AtEach same g g.batchable round (λ st h. RoundKeeps same g g.batchable st round' (if is_none (leader_of h) then Led leader ∷ h else h)) → leader_of (happened view) ≢ None → Stand g same s mid up happened
       → Stand g same s (record mid { by_view = m; unled = t }) up happened
   known-again s mid up happened view leader round round' m t there updates touched led ok known k =
       let stands = ok (setup_now g s up view 0) (happened view) (stands-here g same s mid up happened view k 0 round there) in
       changed g same s mid (record mid { by_view = m; unled = t }) view up up happened happened k refl
-      (λ u ne. updates.2 u (apart-at view u ne)) (λ u ne. (refl, refl)) (λ u ne no. no)
+      (λ u ne. updates.2 (as_key u) (keys-apart view u ne)) (λ u ne. (refl, refl)) (λ u ne no. no)
       (λ u ne no. sym (led.2 u (apart-at view u ne)) ∙ no)
       (subst (λ (o : Option (Round S D P G C)). IsKept g same s view o (up view) (happened view)) (sym updates.1)
       (kept-still g same s view round round' (up view) (is_passed s view 0) (happened view) (happened view) (kept-here g same s mid up happened view k 0 round there)
@@ -122,20 +123,20 @@ module _ {S D P G C : Type 0} (g : Ghosts S D P G C) (same : D → D → Bool) w
       go None e = rw e led
       go (Some c) e = rw e led
 
-  module _ (s : Common S) (old : Rounds S D P G C) (up : ℕ → Option Bool) (happened : ℕ → History S D P G C) (view : ℕ) (k : Stand g same s old up happened) (round round' : Round S D P G C) (there : Some round ≡ get nat_cmp old.by_view view) where
+  module _ (s : Common S) (old : Rounds S D P G C) (up : ℕ → Option Bool) (happened : ℕ → History S D P G C) (view : ℕ) (k : Stand g same s old up happened) (round round' : Round S D P G C) (there : Some round ≡ stored old.by_view view) where
     kept-at : (Q : Bool → Type 0) (o : Option Bool) (b : Bool) → IsKept g same s view (Some round) o (happened view) → Q (unwrap_or o b) → MatchOption o ⊥ Q
     kept-at Q None b kept q = absurd kept
     kept-at Q (Some x) b kept q = q
 
     -- nothing happened
-    pub same-still : (m : BTreeMap ℕ (Round S D P G C)) → UpdatesBy nat_cmp (nat_cmp view) old.by_view m (Some round') → RoundKeeps same g g.batchable (setup_now g s up view 0) round' (happened view) → Stand g same s (record old { by_view = m }) up happened
+    pub same-still : (m : BTreeMap (Reverse ℕ) (Round S D P G C)) → Stores old.by_view m view (Some round') → RoundKeeps same g g.batchable (setup_now g s up view 0) round' (happened view) → Stand g same s (record old { by_view = m }) up happened
     same-still m updates stands = changed g same s old (record old { by_view = m }) view up up happened happened k refl
-        (λ u ne. updates.2 u (apart-at view u ne)) (λ u ne. (refl, refl)) (λ u ne no. no) (λ u ne no. no)
+        (λ u ne. updates.2 (as_key u) (keys-apart view u ne)) (λ u ne. (refl, refl)) (λ u ne no. no) (λ u ne no. no)
         (subst (λ (o : Option (Round S D P G C)). IsKept g same s view o (up view) (happened view)) (sym updates.1)
         (kept-still g same s view round round' (up view) (is_passed s view 0) (happened view) (happened view) (kept-here g same s old up happened view k 0 round there) stands))
         (k.at_rest view) (k.named view)
 
-    module _ (m : BTreeMap ℕ (Round S D P G C)) (updates : UpdatesBy nat_cmp (nat_cmp view) old.by_view m (Some round')) (touched : contains nat_cmp old.touched view ≡ true) where
+    module _ (m : BTreeMap (Reverse ℕ) (Round S D P G C)) (updates : Stores old.by_view m view (Some round')) (touched : contains nat_cmp old.touched view ≡ true) where
       -- something was due
       pub known-done : (me : ℕ) (d : Due S D P G C) → me ≡ s.me → IsRoundDone g same (setup_now g s up view 0) (happened view) me round' (Some d) → IsDone g same s up happened (record old { by_view = m }) view (Some d)
       known-done me (due.Forwards p) is done = (
@@ -163,8 +164,8 @@ module _ {S D P G C : Type 0} (g : Ghosts S D P G C) (same : D → D → Bool) w
           (rest-at (λ skipped. IsAtRest g same s view skipped (happened view)) (up view) (is_passed s view 0) (record { no_construction = done.1; no_forward = subst (λ (i : ℕ). forwardable (happened view) i ≡ None) is done.0 }))
 
   -- a view without a round rests
-  pub none-rests : (s : Common S) (old : Rounds S D P G C) (up : ℕ → Option Bool) (happened : ℕ → History S D P G C) (view : ℕ) (t : BTreeSet ℕ) → get nat_cmp old.by_view view ≡ None → sorted.UpdatesBy nat_cmp (nat_cmp view) old.touched t false
+  pub none-rests : (s : Common S) (old : Rounds S D P G C) (up : ℕ → Option Bool) (happened : ℕ → History S D P G C) (view : ℕ) (t : BTreeSet ℕ) → stored old.by_view view ≡ None → sorted.UpdatesBy nat_cmp (nat_cmp view) old.touched t false
       → Stand g same s old up happened → Stand g same s (record old { touched = t }) up happened
   none-rests s old up happened view t none gone k =
-      let bare = unknown g same s view (get nat_cmp old.by_view view) (up view) (happened view) none (k.kept view) in
+      let bare = unknown g same s view (stored old.by_view view) (up view) (happened view) none (k.kept view) in
       rested g same s old up happened view k t gone (rw bare.0 tt)

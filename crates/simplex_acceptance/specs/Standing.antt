@@ -1,9 +1,11 @@
 -- What is kept of the votes of all views.
 use Rattle.std.specs.Prelude.{◌≡◌, ◌≢◌, ◌↔◌, ◌≤◌, ◌<◌, ◌==◌, ◌&&◌, nat_lt, not, ℕ, Bool, true, false, [], ◌∷◌, Option, Some, None, IfSome, IsSome, IsTrue, MatchOption, if◌then◌else◌, is_none, unwrap_or}
-use Rattle.std.specs.BTreeMap.{get}
+use Rattle.std.specs.BTreeMap.{BTreeMap, UpdatesBy, get}
 use Rattle.std.specs.BTreeSet.{contains}
 use Rattle.std.specs.Option.{option_or}
 use Rattle.std.specs.Ordering.{nat_cmp}
+use Rattle.std.specs.declared.cmp.Ordering.{Ordering}
+use Rattle.std.specs.declared.cmp.Reverse.{Reverse}
 use Rattle.simplex_committee.specs.Committee.{quorum}
 use Rattle.simplex_types.specs.declared.scheme.Scheme.{Ghosts}
 use Rattle.simplex_certificates.specs.declared.certificate.Certificate.{Certificate}
@@ -31,6 +33,22 @@ pub record Common (S : Type 0) : Type 0 where
   pub me : ℕ
   -- votes are kept in full for good
   pub tracks : Bool
+
+-- a view as a key, in the order in which the latest stands first
+abbrev pub as_key : ℕ → Reverse ℕ
+as_key view = record { 0 = view }
+
+abbrev pub latest_first : Reverse ℕ → Reverse ℕ → Ordering
+latest_first x y = nat_cmp y.0 x.0
+
+module _ {X : Type 0} where
+  -- what stands at a view
+  abbrev pub stored : BTreeMap (Reverse ℕ) X → ℕ → Option X
+  stored m view = get latest_first m (as_key view)
+
+  -- a view got this, or lost what it had, and all else stands as it did
+  abbrev pub Stores : BTreeMap (Reverse ℕ) X → BTreeMap (Reverse ℕ) X → ℕ → Option X → Type 0
+  Stores m m' view x = UpdatesBy latest_first (latest_first (as_key view)) m m' x
 
 -- a view whose votes come up at this current view is passed over: it is behind, and votes of such views are not kept
 abbrev pub is_passed : {S : Type 0} → Common S → ℕ → ℕ → Bool
@@ -63,7 +81,7 @@ module _ {S D P G C : Type 0} where
 
   -- of a view the rounds have what others had
   pub record AreAlike (old new : Rounds S D P G C) (view : ℕ) : Type 0 where
-    pub rounds : get nat_cmp new.by_view view ≡ get nat_cmp old.by_view view
+    pub rounds : stored new.by_view view ≡ stored old.by_view view
     pub touched : contains nat_cmp new.touched view ≡ contains nat_cmp old.touched view
     pub unled : contains nat_cmp new.unled view ≡ contains nat_cmp old.unled view
 
@@ -113,7 +131,7 @@ module _ {S D P G C : Type 0} (g : Ghosts S D P G C) (same : D → D → Bool) w
   -- and the leader of one that waits for none is named.
   pub record Stand (s : Common S) (r : Rounds S D P G C) (up : ℕ → Option Bool) (happened : ℕ → History S D P G C) : Type 0 where
     pub shared : common_of r ≡ s
-    pub kept : (view : ℕ) → IsKept s view (get nat_cmp r.by_view view) (up view) (happened view)
+    pub kept : (view : ℕ) → IsKept s view (stored r.by_view view) (up view) (happened view)
     pub at_rest : (view : ℕ) → contains nat_cmp r.touched view ≡ false → IfSome (up view) (λ skipped. IsAtRest s view skipped (happened view))
     pub named : (view : ℕ) → contains nat_cmp r.unled view ≡ false → IsSome (up view) → leader_of (happened view) ≢ None
 

@@ -1,7 +1,7 @@
 //! The rounds of votes of all views.
 
 ghost use Rattle.std.specs.Prelude.{◌≡◌, ◌≢◌, ◌==◌, ◌↔◌, ◌<◌, ◌≤◌, ℕ, [], true, false, Bool, Option, None, Some, IsSome, IsTrue, IfOk, IfErr, IfSome, OnOk, OnErr, MatchOption, if◌then◌else◌, unwrap_or, is_none};
-ghost use Rattle.std.specs.BTreeMap.{btree_map_len, get};
+ghost use Rattle.std.specs.BTreeMap.{btree_map_len};
 ghost use Rattle.std.specs.BTreeSet.{btree_set_len, contains};
 ghost use Rattle.std.specs.Ordering.{nat_cmp};
 ghost use Rattle.simplex_messages.specs.VoteParts.{vote_round};
@@ -12,7 +12,7 @@ ghost use Rattle.simplex_batcher.specs.Queries.{has_nullify, is_missing_voter};
 ghost use Rattle.simplex_batcher.specs.Admission.{AgreesWithOwn, IsCastFault};
 ghost use Rattle.simplex_batcher.specs.Rounds.{RoundKeeps};
 ghost use Rattle.simplex_batcher.specs.Rounds as one;
-ghost use Rattle.simplex_acceptance.specs.Standing.{AreAlike, AreAtRest, AreLedFrom, AtEach, Common, IsAdmitted, IsFirstUnled, IsCast, IsDone, IsRoundDone, Stand, come_up, common_of, happened_from, is_passed, put, set_at, setup_at, setup_now, up_from};
+ghost use Rattle.simplex_acceptance.specs.Standing.{AreAlike, AreAtRest, AreLedFrom, AtEach, Common, IsAdmitted, IsFirstUnled, IsCast, IsDone, IsRoundDone, Stand, come_up, common_of, happened_from, is_passed, put, set_at, setup_at, setup_now, stored, up_from};
 
 use crate::due::Due;
 use simplex_batcher::{Admission, BatcherFault, Round};
@@ -21,6 +21,7 @@ use simplex_types::{
     Digest, Epoch, Participant, Proposal, Round as Position, Scheme, View, Viewable,
 };
 use std::alloc::{AllocError, Global};
+use std::cmp::Reverse;
 use std::collections::{BTreeMap, BTreeSet};
 use std::ops::Bound;
 use std::rc::Rc;
@@ -33,7 +34,8 @@ pub(crate) struct Rounds<S: Scheme<D>, D: Digest> {
     epoch: Epoch,
     me: Participant,
     tracks: bool,
-    by_view: BTreeMap<View, Round<S, D>>,
+    /// The latest stands first: a search finds it at once, and it is asked for most.
+    by_view: BTreeMap<Reverse<View>, Round<S, D>>,
     /// The views of which something may be due.
     touched: BTreeSet<View>,
     /// The views whose leader may not be named yet.
@@ -86,12 +88,12 @@ impl<S: Scheme<D> + Drop, D: Digest> Rounds<S, D> {
 
     /// Puts the round of a view that had none to the others.
     fn seat(&mut self, view: View, round: Round<S, D>) -> Result<(), AllocError>
-        ensures seated { OnOk result (AtEach S.Scheme D.PartialEq.eq self.old (λ s up happened. get nat_cmp self.old.by_view view ≡ None → contains nat_cmp self.old.touched view ≡ true
+        ensures seated { OnOk result (AtEach S.Scheme D.PartialEq.eq self.old (λ s up happened. stored self.old.by_view view ≡ None → contains nat_cmp self.old.touched view ≡ true
             → (passed : Bool) (h : History S D S.PublicKey S.Signature S.Certificate) → RoundKeeps D.PartialEq.eq S.Scheme S.batchable (setup_at S.Scheme s view passed) round h → Stand S.Scheme D.PartialEq.eq s self.new (come_up view passed up) (set_at view h happened))) }
         ensures err { OnErr result (AtEach S.Scheme D.PartialEq.eq self.old (λ s up happened. Stand S.Scheme D.PartialEq.eq s self.new up happened)) }
     {
         self.unled.insert(view)?;
-        self.by_view.insert(view, round)?;
+        self.by_view.insert(Reverse(view), round)?;
         Ok(())
     }
 
@@ -108,7 +110,7 @@ impl<S: Scheme<D> + Drop, D: Digest> Rounds<S, D> {
     {
         let view = vote.view();
         self.touch(view)?;
-        match self.by_view.get_mut(&view) {
+        match self.by_view.get_mut(&Reverse(view)) {
             Some(round) => round.add_network(sender, vote),
             None => self.take_first(current, sender, vote),
         }
@@ -121,7 +123,7 @@ impl<S: Scheme<D> + Drop, D: Digest> Rounds<S, D> {
         sender: Participant,
         vote: Vote<S, D>,
     ) -> Result<Admission<S, D>, BatcherFault>
-        ensures admitted { IfOk result (λ a. AtEach S.Scheme D.PartialEq.eq self.old (λ s up happened. get nat_cmp self.old.by_view (vote_round vote).view ≡ None → contains nat_cmp self.old.touched (vote_round vote).view ≡ true
+        ensures admitted { IfOk result (λ a. AtEach S.Scheme D.PartialEq.eq self.old (λ s up happened. stored self.old.by_view (vote_round vote).view ≡ None → contains nat_cmp self.old.touched (vote_round vote).view ≡ true
             → IsAdmitted S.Scheme D.PartialEq.eq s up happened self.new current sender vote a)) }
         ensures refused { IfErr result (λ e. AtEach S.Scheme D.PartialEq.eq self.old (λ s up happened. (vote_round vote).epoch ≡ s.epoch → e ≡ Memory)) }
         ensures err { OnErr result (AtEach S.Scheme D.PartialEq.eq self.old (λ s up happened. Stand S.Scheme D.PartialEq.eq s self.new up happened)) }
@@ -153,7 +155,7 @@ impl<S: Scheme<D> + Drop, D: Digest> Rounds<S, D> {
     {
         let view = vote.view();
         self.touch(view)?;
-        match self.by_view.get_mut(&view) {
+        match self.by_view.get_mut(&Reverse(view)) {
             Some(round) => round.accept_vote(vote),
             None => self.cast_first(current, vote),
         }
@@ -165,10 +167,10 @@ impl<S: Scheme<D> + Drop, D: Digest> Rounds<S, D> {
         current: View,
         vote: Vote<S, D>,
     ) -> Result<Option<Activity<S, D>>, BatcherFault>
-        ensures cast { IfOk result (λ report. AtEach S.Scheme D.PartialEq.eq self.old (λ s up happened. get nat_cmp self.old.by_view (vote_round vote).view ≡ None → contains nat_cmp self.old.touched (vote_round vote).view ≡ true
+        ensures cast { IfOk result (λ report. AtEach S.Scheme D.PartialEq.eq self.old (λ s up happened. stored self.old.by_view (vote_round vote).view ≡ None → contains nat_cmp self.old.touched (vote_round vote).view ≡ true
             → IsCast S.Scheme D.PartialEq.eq s up happened self.new current vote report)) }
-        ensures refused { IfErr result (λ e. AtEach S.Scheme D.PartialEq.eq self.old (λ s up happened. get nat_cmp self.old.by_view (vote_round vote).view ≡ None → (vote_round vote).epoch ≡ s.epoch → AgreesWithOwn D.PartialEq.eq (happened (vote_round vote).view) vote → e ≡ Memory)) }
-        ensures why { IfErr result (λ e. AtEach S.Scheme D.PartialEq.eq self.old (λ s up happened. get nat_cmp self.old.by_view (vote_round vote).view ≡ None → IsCastFault D.PartialEq.eq (setup_now S.Scheme s up (vote_round vote).view current) (happened (vote_round vote).view) vote e)) }
+        ensures refused { IfErr result (λ e. AtEach S.Scheme D.PartialEq.eq self.old (λ s up happened. stored self.old.by_view (vote_round vote).view ≡ None → (vote_round vote).epoch ≡ s.epoch → AgreesWithOwn D.PartialEq.eq (happened (vote_round vote).view) vote → e ≡ Memory)) }
+        ensures why { IfErr result (λ e. AtEach S.Scheme D.PartialEq.eq self.old (λ s up happened. stored self.old.by_view (vote_round vote).view ≡ None → IsCastFault D.PartialEq.eq (setup_now S.Scheme s up (vote_round vote).view current) (happened (vote_round vote).view) vote e)) }
         ensures err { OnErr result (AtEach S.Scheme D.PartialEq.eq self.old (λ s up happened. Stand S.Scheme D.PartialEq.eq s self.new up happened)) }
     {
         let view = vote.view();
@@ -195,7 +197,7 @@ impl<S: Scheme<D> + Drop, D: Digest> Rounds<S, D> {
     {
         let view = certificate.view();
         self.touch(view)?;
-        match self.by_view.get_mut(&view) {
+        match self.by_view.get_mut(&Reverse(view)) {
             Some(round) => match round.record_certificate(certificate) {
                 Ok(_) => Ok(()),
                 Err(fault) => Err(fault),
@@ -210,7 +212,7 @@ impl<S: Scheme<D> + Drop, D: Digest> Rounds<S, D> {
         current: View,
         certificate: &Certificate<S, D>,
     ) -> Result<(), BatcherFault>
-        ensures certified { OnOk result (AtEach S.Scheme D.PartialEq.eq self.old (λ s up happened. let w = (certificate_round certificate.now).view in get nat_cmp self.old.by_view w ≡ None → contains nat_cmp self.old.touched w ≡ true
+        ensures certified { OnOk result (AtEach S.Scheme D.PartialEq.eq self.old (λ s up happened. let w = (certificate_round certificate.now).view in stored self.old.by_view w ≡ None → contains nat_cmp self.old.touched w ≡ true
             → Stand S.Scheme D.PartialEq.eq s self.new (come_up w (is_passed s w current) up) (put w (Certified certificate.now) happened))) }
         ensures refused { IfErr result (λ e. AtEach S.Scheme D.PartialEq.eq self.old (λ s up happened. (certificate_round certificate.now).epoch ≡ s.epoch → e ≡ Memory)) }
         ensures err { OnErr result (AtEach S.Scheme D.PartialEq.eq self.old (λ s up happened. Stand S.Scheme D.PartialEq.eq s self.new up happened)) }
@@ -231,7 +233,7 @@ impl<S: Scheme<D> + Drop, D: Digest> Rounds<S, D> {
         ensures opens { OnOk result (AtEach S.Scheme D.PartialEq.eq self.old (λ s up happened. Stand S.Scheme D.PartialEq.eq s self.new (come_up view (is_passed s view current) up) happened)) }
         ensures err { OnErr result (AtEach S.Scheme D.PartialEq.eq self.old (λ s up happened. Stand S.Scheme D.PartialEq.eq s self.new up happened)) }
     {
-        if self.by_view.contains_key(&view) {
+        if self.by_view.contains_key(&Reverse(view)) {
             return Ok(());
         }
         self.touch(view)?;
@@ -247,7 +249,7 @@ impl<S: Scheme<D> + Drop, D: Digest> Rounds<S, D> {
         ensures err { OnErr result (AtEach S.Scheme D.PartialEq.eq self.old (λ s up happened. Stand S.Scheme D.PartialEq.eq s self.new up happened)) }
     {
         self.touch(view)?;
-        match self.by_view.get_mut(&view) {
+        match self.by_view.get_mut(&Reverse(view)) {
             Some(round) => match round.set_leader(leader) {
                 Ok(()) => {
                     self.unled.remove(&view);
@@ -311,7 +313,7 @@ impl<S: Scheme<D> + Drop, D: Digest> Rounds<S, D> {
     fn is_up(&self, view: View) -> bool
         ensures { AtEach S.Scheme D.PartialEq.eq self.now (λ s up happened. IsTrue result ↔ IsSome (up view)) }
     {
-        self.by_view.contains_key(&view)
+        self.by_view.contains_key(&Reverse(view))
     }
 
     /// Does what is due of a view. Where nothing is, the view rests until it is touched again.
@@ -320,7 +322,7 @@ impl<S: Scheme<D> + Drop, D: Digest> Rounds<S, D> {
         ensures rests { IfOk result (λ due. is_none due ≡ true → contains nat_cmp self.old.touched view ≡ true → btree_set_len self.new.touched < btree_set_len self.old.touched) }
         ensures err { OnErr result (AtEach S.Scheme D.PartialEq.eq self.old (λ s up happened. Stand S.Scheme D.PartialEq.eq s self.new up happened)) }
     {
-        match self.by_view.get_mut(&view) {
+        match self.by_view.get_mut(&Reverse(view)) {
             Some(round) => match due_of(round, self.alloc, self.me) {
                 Ok(Some(due)) => Ok(Some(due)),
                 Ok(None) => {
@@ -367,7 +369,7 @@ impl<S: Scheme<D> + Drop, D: Digest> Rounds<S, D> {
     pub(crate) fn has_nullify(&self, view: View, signer: Participant) -> bool
         ensures { AtEach S.Scheme D.PartialEq.eq self.now (λ s up happened. result ≡ has_nullify (happened view) signer) }
     {
-        match self.by_view.get(&view) {
+        match self.by_view.get(&Reverse(view)) {
             Some(round) => round.has_nullify(signer),
             None => false,
         }
@@ -382,7 +384,7 @@ impl<S: Scheme<D> + Drop, D: Digest> Rounds<S, D> {
     ) -> bool
         ensures { AtEach S.Scheme D.PartialEq.eq self.now (λ s up happened. result ≡ is_missing_voter D.PartialEq.eq (happened view) proposal.now signer) }
     {
-        match self.by_view.get(&view) {
+        match self.by_view.get(&Reverse(view)) {
             Some(round) => round.is_missing_voter(proposal, signer),
             None => true,
         }
@@ -392,11 +394,12 @@ impl<S: Scheme<D> + Drop, D: Digest> Rounds<S, D> {
     pub(crate) fn drop_below(&mut self, floor: View)
         ensures { AtEach S.Scheme D.PartialEq.eq self.old (λ s up happened. Stand S.Scheme D.PartialEq.eq s self.new (up_from floor up) (happened_from floor happened)) }
     {
-        'views: while let Some((&first, _)) = self.by_view.first_key_value() {
-            if floor <= first {
+        'views: while let Some((first, _)) = self.by_view.last_key_value() {
+            if floor <= first.0 {
                 return;
             }
-            self.forget(first);
+            let view = first.0;
+            self.forget(view);
         }
     }
 
@@ -404,9 +407,9 @@ impl<S: Scheme<D> + Drop, D: Digest> Rounds<S, D> {
     fn forget(&mut self, view: View)
         ensures others { (u : ℕ) → (view == u) ≡ false → AreAlike self.old self.new u }
         ensures shared { common_of self.new ≡ common_of self.old }
-        ensures fewer { IsSome (get nat_cmp self.old.by_view view) → btree_map_len self.new.by_view < btree_map_len self.old.by_view }
+        ensures fewer { IsSome (stored self.old.by_view view) → btree_map_len self.new.by_view < btree_map_len self.old.by_view }
     {
-        self.by_view.remove(&view);
+        self.by_view.remove(&Reverse(view));
         self.touched.remove(&view);
         self.unled.remove(&view);
     }

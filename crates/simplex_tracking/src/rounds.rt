@@ -51,6 +51,16 @@ impl<S: Scheme<D> + Drop, D: Digest> Rounds<S, D> {
                 return Some(round);
             }
         }
+        self.search(view)
+    }
+
+    /// The same by a search. A call of its own, so that callers needn't have its code at hand.
+    #[inline(never)]
+    fn search(&self, view: View) -> Option<&Round<S, D>>
+        ensures { AtEach S.key_of self.now (λ s led past. MatchOption result ((past view ≡ []) × (led view ≡ None)) (λ r. IsTracked (past view) (led view) × one.Keeps S.key_of (setup_of s view) r.now (led view) (past view))) }
+    {
+        // The proof takes from the number that it has 64 bits.
+        let _number = view.get();
         self.by_view.get(&Reverse(view))
     }
 
@@ -86,6 +96,7 @@ impl<S: Scheme<D> + Drop, D: Digest> Rounds<S, D> {
     }
 
     /// The first view from this one on of which something is known, by a search.
+    #[inline(never)]
     fn search_from(&self, from: View) -> Option<View>
         ensures behind { IfSome result (λ first. from ≤ first) }
         ensures tracked { AtEach S.key_of self.now (λ s led past. MatchOption result (AreUntracked led past from (2 ^ 64)) (λ first. IsFirstTracked led past from first)) }
@@ -114,6 +125,18 @@ impl<S: Scheme<D> + Drop, D: Digest> Rounds<S, D> {
         if self.has(view) {
             return Ok(());
         }
+        self.add_fresh(view)?;
+        Ok(())
+    }
+
+    /// Gives a fresh round to a view that has none. A call of its own, since a round is wide, and mostly there is one.
+    #[inline(never)]
+    fn add_fresh(&mut self, view: View) -> Result<(), AllocError>
+        ensures there { OnOk result (IsSome (stored self.new.by_view view)) }
+        ensures opens { OnOk result (AtEach S.key_of self.old (λ s led past. stored self.old.by_view view ≡ None → IsOpen S.key_of s self.new led past view)) }
+    {
+        // The proof takes from the number that it has 64 bits.
+        let _number = view.get();
         let round = Round::new(self.scheme.clone()?, Position::new(self.epoch, view));
         self.by_view.insert(Reverse(view), round)?;
         Ok(())

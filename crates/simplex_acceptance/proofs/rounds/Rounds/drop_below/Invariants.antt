@@ -1,7 +1,5 @@
 use Rattle.std.proofs.Common.{◌≡◌, ◌≤◌, ℕ}
-use Rattle.std.specs.Ordering.{nat_cmp}
-use Rattle.std.specs.BTreeMap.{btree_map_len, get}
-use Rattle.std.specs.BTreeSet.{contains}
+use Rattle.std.specs.BTreeMap.{btree_map_len}
 use Rattle.simplex_acceptance.specs.Standing.{common_of}
 use Rattle.simplex_acceptance.proofs.Changing.{IsDropping}
 use Rattle.simplex_acceptance.proofs.rounds.Rounds.drop_below.Given as goal

@@ -1,9 +1,10 @@
-use Rattle.simplex_acceptance.proofs.Changing.{apart-at}
+use Rattle.simplex_acceptance.specs.Standing.{as_key}
+use Rattle.simplex_acceptance.proofs.Changing.{apart-at, keys-apart}
 use Rattle.simplex_acceptance.proofs.rounds.Rounds.forget.Goals as goal
 
 pub returns-clause-others : goal.returns-clause-others
 returns-clause-others g c = λ u ne. record {
-  rounds = c.remove.ensures.updates.2 u (apart-at c.args.view u ne);
+  rounds = c.remove.ensures.updates.2 (as_key u) (keys-apart c.args.view u ne);
   touched = c.remove-2.ensures.updates.2 u (apart-at c.args.view u ne);
   unled = c.remove-3.ensures.updates.2 u (apart-at c.args.view u ne);
 }

@@ -1,7 +1,7 @@
-use Rattle.std.proofs.Common.{refl, sym, ◌∙◌}
+use Rattle.std.proofs.Common.{refl}
 use Rattle.simplex_tracking.specs.Rounds.{Keep}
-use Rattle.simplex_tracking.proofs.Choices.{none_from_test, some-is}
-use Rattle.simplex_tracking.proofs.Tables.{AreOpen-new, AreOpen-there, same_setup}
+use Rattle.simplex_tracking.proofs.Choices.{none_from_test}
+use Rattle.simplex_tracking.proofs.Tables.{AreOpen-there}
 use Rattle.simplex_tracking.proofs.rounds.Rounds.add.Goals as goal
 
 pub returns-then-has-clause-opens : goal.returns-then-has-clause-opens
@@ -12,16 +12,5 @@ returns-then-has-clause-opens g c = λ s led past k. record {
   rounds = AreOpen-there c.args.view k.rounds c.get-number.ensures.fits (rw (← c.if-has.ensures) refl);
 }
 
-pub returns-clause-there : goal.returns-clause-there
-returns-clause-there g c = some-is (sym c.in_ok-insert.ensures.updates.1)
-
 pub returns-clause-opens : goal.returns-clause-opens
-unfolding Keep
-returns-clause-opens g c = λ s led past k.
-    let d = c.new-round.ensures in
-    let same = same_setup (c.in_ok-clone.ensures.cases ∙ k.scheme) (c.new.ensures.epoch ∙ k.epoch) c.new.ensures.view in
-    record {
-      scheme = k.scheme;
-      epoch = k.epoch;
-      rounds = AreOpen-new c.args.view k.rounds c.get-number.ensures.fits (none_from_test c.if-has.ensures) c.in_ok-insert.ensures.updates (rw same at d);
-    }
+returns-clause-opens g c = λ s led past k. c.in_ok-add_fresh.ensures.opens s led past k (none_from_test c.if-has.ensures)

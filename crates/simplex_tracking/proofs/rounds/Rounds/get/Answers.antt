@@ -1,12 +1,7 @@
 use Rattle.std.proofs.Common.{◌≡◌, Some, arith}
 use Rattle.std.proofs.lemmas.Bool.Decides.{nat_tests}
 use Rattle.simplex_tracking.specs.Rounds.{Keep, stored}
-use Rattle.simplex_tracking.proofs.Tables.{read-stands}
 use Rattle.simplex_tracking.proofs.rounds.Rounds.get.Goals as goal
-
-pub returns : goal.returns
-unfolding Keep
-returns g c = λ s led past k. read-stands g.S.Scheme.key_of s c.args.view (led c.args.view) (past c.args.view) c.get.result (rw c.get.ensures.value (k.rounds.at c.args.view c.get-number.ensures.fits))
 
 pub returns-then-eq : goal.returns-then-eq
 unfolding Keep
