@@ -1,6 +1,6 @@
 //! What is kept of each signer's votes of each round on a proposal.
 
-ghost use Rattle.std.specs.Prelude.{◌≡◌, ◌<◌, ◌↔◌, ◌++◌, ◌∷◌, [], List, OnOk, IsTrue, IfSome, MatchBool, Some, false, length, slice_get};
+ghost use Rattle.std.specs.Prelude.{◌≡◌, ◌≢◌, ◌<◌, ◌↔◌, ◌++◌, ◌∷◌, [], List, OnOk, IsTrue, IfSome, MatchBool, Some, false, length, slice_get};
 ghost use Rattle.std.specs.BTreeSet.{BTreeSet};
 ghost use Rattle.simplex_certificates.specs.declared.proposal_vote.ProposalVote.{ProposalVote};
 ghost use Rattle.simplex_messages.specs.Guilt.{votes_listed};
@@ -208,8 +208,7 @@ impl<K: ProposalKind<D>, S: Scheme<D>, D: Digest> Ballots<K, S, D> {
     {
         match self.kept.get(place) {
             None => false,
-            Some(Kept::Nothing) => false,
-            Some(_) => true,
+            Some(kept) => kept.is_any(),
         }
     }
 
@@ -222,8 +221,10 @@ impl<K: ProposalKind<D>, S: Scheme<D>, D: Digest> Ballots<K, S, D> {
         requires { AreApart self.now.kept.items place }
         ensures { result ≡ conflict_in suspect.now (slice_get self.now.kept.items place) }
     {
-        let (least, last) = self.kept.get(place)?.ends()?;
-        evidence_of(vote_from(suspect, &least), vote_from(suspect, &last))
+        match self.kept.get(place) {
+            None => None,
+            Some(kept) => conflict_from(suspect, kept),
+        }
     }
 
     /// Of the votes that verify of the suspect at the place the first for the least proposal.
@@ -283,6 +284,18 @@ impl<K: ProposalKind<D>, S: Listing<D>, D: Digest> Ballots<K, S, D> {
         }
         Ok(())
     }
+}
+
+/// The two votes that are kept of the suspect, if there are two.
+fn conflict_from<K: ProposalKind<D>, S: Scheme<D>, D: Digest>(
+    suspect: &Suspect,
+    kept: &Kept<D, S::Signature>,
+) -> Option<ConflictingVotes<K, S, D>>
+    requires { (a b : Cast D S.Signature) → kept.now ≡ Kept.Two a b → a.choice ≢ b.choice }
+    ensures { result ≡ conflict_in suspect.now (Some kept.now) }
+{
+    let (least, last) = kept.ends()?;
+    evidence_of(vote_from(suspect, &least), vote_from(suspect, &last))
 }
 
 /// The vote of the suspect that was cast so.

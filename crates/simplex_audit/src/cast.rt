@@ -79,7 +79,8 @@ pub(crate) enum Kept<D: Digest, G> {
 }
 
 impl<D: Digest, G: Copy> Kept<D, G> {
-    ghost use Rattle.std.specs.Prelude.{◌≡◌};
+    ghost use Rattle.std.specs.Prelude.{◌≡◌, false};
+    ghost use Rattle.simplex_audit.specs.declared.cast.Kept.{Kept};
     ghost use Rattle.simplex_audit.specs.Cast.{IsPlacedAt, IsSettled, ends_of};
 
     /// The first and the last of the verified votes that are kept, by what they are for: one vote twice where all
@@ -92,6 +93,16 @@ impl<D: Digest, G: Copy> Kept<D, G> {
             Kept::Claim(_) => None,
             Kept::One(only) => Some((*only, *only)),
             Kept::Two(least, next) => Some((*least, *next)),
+        }
+    }
+
+    /// Whether a vote is kept.
+    pub(crate) fn is_any(&self) -> bool
+        ensures { result ≡ false → self.now ≡ Kept.Nothing }
+    {
+        match self {
+            Kept::Nothing => false,
+            Kept::Claim(_) | Kept::One(_) | Kept::Two(_, _) => true,
         }
     }
 

@@ -1,14 +1,23 @@
-use Rattle.std.proofs.Common.{◌≡◌, ◌∙◌, length, refl, sym, ap, Some}
+use Rattle.std.proofs.Common.{◌≡◌, ◌∙◌, length, refl, ap, Some}
 use Rattle.std.specs.Prelude.{slice_get}
-use Rattle.std.proofs.lemmas.Option.{slice_get_read}
-use Rattle.simplex_audit.proofs.Ends.{conflict-made}
+use Rattle.std.proofs.lemmas.Option.{slice_get_past, slice_get_read}
 use Rattle.simplex_audit.proofs.ballots.Ballots.conflict.Goals as goal
 
-pub returns : goal.returns
-returns g c =
+pub returns-in-None : goal.returns-in-None
+returns-in-None g c =
+    let item = rw c.deref.ensures.value at c.in-None.ensures.lookup in
+    rw (slice_get_past c.args.self.now.kept.items c.args.place item.3) refl
+
+pub conflict_from-requires : goal.conflict_from-requires
+conflict_from-requires g c = λ x y two.
     let items = c.args.self.now.kept.items in
-    let item = rw c.deref.ensures.value at c.in_ok-get.ensures.lookup in
-    let kept = c.in_ok-get.field-0.now in
-    let found : slice_get items c.args.place ≡ Some kept = slice_get_read items (length items) c.args.place kept refl item.3.0 item.1 in
-    rw found (conflict-made c.args.suspect.now kept c.in_ok-least.least c.in_ok-least.last c.evidence_of.result (sym c.in_ok-least.ensures)
-    (λ x y two. c.requires x y (found ∙ ap Some two)) (rw (c.vote_from.ensures, c.vote_from-2.ensures) at c.evidence_of.ensures.exact) (rw (c.vote_from.ensures, c.vote_from-2.ensures) at c.evidence_of.ensures.evidence))
+    let item = rw c.deref.ensures.value at c.in-Some.ensures.lookup in
+    let found : slice_get items c.args.place ≡ Some c.in-Some.kept.now = slice_get_read items (length items) c.args.place c.in-Some.kept.now refl item.3.0 item.1 in
+    c.requires x y (found ∙ ap Some two)
+
+pub returns-in-Some : goal.returns-in-Some
+returns-in-Some g c =
+    let items = c.args.self.now.kept.items in
+    let item = rw c.deref.ensures.value at c.in-Some.ensures.lookup in
+    let found : slice_get items c.args.place ≡ Some c.in-Some.kept.now = slice_get_read items (length items) c.args.place c.in-Some.kept.now refl item.3.0 item.1 in
+    rw found c.conflict_from.ensures
