@@ -10,15 +10,37 @@ use simplex_messages::{
     ConflictingVotes, Finalizing, Notarizing, ProposalCertificate, ProposalKind, ProposalVote,
 };
 use simplex_types::{
-    Duplicate, EncodeSize, Epochable, MaxEncodeSize, Read, Sha256Digest, Viewable,
+    Duplicate, EncodeSize, Epochable, MaxEncodeSize, Read, Sha256Digest, Viewable, Write,
 };
 use std::hash::Hash;
 
+/// A message of any type. A call at a type pays for each bound, so there is one.
+trait Message: Read + EncodeSize + Epochable + Viewable + Duplicate + Eq + Hash + Drop {}
+
+impl<K: ProposalKind<Sha256Digest>, S: Committee> Message for ProposalVote<K, S, Sha256Digest> {}
+
+impl<K: ProposalKind<Sha256Digest>, S: Committee> Message
+    for ProposalCertificate<K, S, Sha256Digest> {}
+
+impl<K: ProposalKind<Sha256Digest>, S: Committee> Message
+    for ConflictingVotes<K, S, Sha256Digest> {}
+
+impl<S: Committee> Message for Nullify<S> {}
+
+impl<S: Committee> Message for Nullification<S> {}
+
+impl<S: Committee> Message for NullifyFinalize<S> {}
+
+impl<S: Committee> Message for Vote<S> {}
+
+impl<S: Committee> Message for Certificate<S> {}
+
+impl<S: Committee> Message for Artifact<S> {}
+
+impl<S: Committee> Message for Report<S> {}
+
 /// What is asked of a message of any type.
-fn of_message<T>(name: &str, words: &mut Words<'_>, say: &mut Say) -> Result<(), Trouble>
-where
-    T: Read + EncodeSize + Epochable + Viewable + Duplicate + Eq + Hash + Drop,
-{
+fn of_message<T: Message>(name: &str, words: &mut Words<'_>, say: &mut Say) -> Result<(), Trouble> {
     match name {
         "read" => values::read::<T>(words, say),
         "cuts" => values::cuts::<T>(words, say),
@@ -140,24 +162,31 @@ pub fn is_within<S: Committee>(words: &mut Words<'_>, say: &mut Say) -> Result<(
     say.truth(artifact.is_within(bound))
 }
 
+/// Says what the value becomes that the next word spells.
+fn say_become<T: Read + Drop, U: From<T> + Write + Drop>(
+    words: &mut Words<'_>,
+    say: &mut Say,
+) -> Result<(), Trouble> {
+    let value: T = words.value(say.alloc, u32::MAX)?;
+    say.value(&U::from(value))
+}
+
 /// `becomes vote BYTES`, `becomes certificate BYTES`: the artifact that it becomes.
 pub fn becomes<S: Committee>(words: &mut Words<'_>, say: &mut Say) -> Result<(), Trouble> {
-    let artifact = match words.word() {
-        "vote" => Artifact::<S>::from(words.value::<Vote<S>>(say.alloc, u32::MAX)?),
-        "certificate" => Artifact::<S>::from(words.value::<Certificate<S>>(say.alloc, u32::MAX)?),
-        _ => return Err(Trouble::Unreadable),
-    };
-    say.value(&artifact)
+    match words.word() {
+        "vote" => say_become::<Vote<S>, Artifact<S>>(words, say),
+        "certificate" => say_become::<Certificate<S>, Artifact<S>>(words, say),
+        _ => Err(Trouble::Unreadable),
+    }
 }
 
 /// `reports vote BYTES`, `reports certificate BYTES`: the report of it.
 pub fn reports<S: Committee>(words: &mut Words<'_>, say: &mut Say) -> Result<(), Trouble> {
-    let report = match words.word() {
-        "vote" => Report::<S>::from(words.value::<Vote<S>>(say.alloc, u32::MAX)?),
-        "certificate" => Report::<S>::from(words.value::<Certificate<S>>(say.alloc, u32::MAX)?),
-        _ => return Err(Trouble::Unreadable),
-    };
-    say.value(&report)
+    match words.word() {
+        "vote" => say_become::<Vote<S>, Report<S>>(words, say),
+        "certificate" => say_become::<Certificate<S>, Report<S>>(words, say),
+        _ => Err(Trouble::Unreadable),
+    }
 }
 
 /// `certification EPOCH VIEW TRUTH`: the artifact.

@@ -4,6 +4,7 @@ use crate::record::Record;
 use crate::{coverage, laws};
 use script_words::{Layer, Say, Trouble, Words};
 use simplex_record::Coverage;
+use simplex_signing::PlainScheme;
 use std::alloc::Global;
 
 /// A record, or views that are covered.
@@ -12,7 +13,7 @@ pub(crate) enum Desk {
     /// Before the first `reset`.
     Nothing,
     /// The record of a member.
-    Record(Record),
+    Record(Record<PlainScheme>),
     /// Covered views alone.
     Coverage(Coverage),
 }

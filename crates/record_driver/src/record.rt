@@ -1,28 +1,27 @@
-//! The record of a member.
+//! The record of a member, whatever its scheme: at one of them the calls would cost the prover several times as much.
 
 use script_certificates::CertificateWords;
 use script_words::{Committee, Say, Trouble, Words};
 use simplex_certificates::Artifact;
 use simplex_record::{Owner, Standing, check, first_refused};
 use simplex_rules::Kind;
-use simplex_signing::PlainScheme;
 use simplex_types::{Sha256Digest, Viewable};
 use std::alloc::Global;
 
-/// An artifact under the plain scheme.
-type Item = Artifact<PlainScheme, Sha256Digest>;
+/// An artifact of a member.
+type Item<S> = Artifact<S, Sha256Digest>;
 
 /// A list of artifacts, and what is kept of those that were added.
 #[derive(Drop)]
-pub(crate) struct Record {
+pub(crate) struct Record<S: Committee> {
     members: u32,
-    scheme: PlainScheme,
+    scheme: S,
     owner: Owner,
-    artifacts: Vec<Item>,
+    artifacts: Vec<Item<S>>,
     standing: Standing<Sha256Digest>,
 }
 
-impl Record {
+impl<S: Committee> Record<S> {
     /// `N LENGTH MEMBER EPOCH`: an empty record of this member of so many, in terms of so many views.
     pub(crate) fn new(words: &mut Words<'_>, alloc: Global) -> Result<Self, Trouble> {
         let members = words.index()?;
@@ -32,7 +31,7 @@ impl Record {
         words.end()?;
         Ok(Record {
             members,
-            scheme: PlainScheme::member_of(alloc, members, Some(signer), 0)?,
+            scheme: S::member_of(alloc, members, Some(signer), 0)?,
             owner: Owner {
                 epoch,
                 term_length,
@@ -44,7 +43,7 @@ impl Record {
     }
 
     /// The artifact that the words that are left stand for.
-    fn artifact(&self, words: &mut Words<'_>, alloc: Global) -> Result<Item, Trouble> {
+    fn artifact(&self, words: &mut Words<'_>, alloc: Global) -> Result<Item<S>, Trouble> {
         let item = words.artifact(alloc, self.members)?;
         words.end()?;
         Ok(item)
@@ -59,7 +58,7 @@ impl Record {
 
     /// `push_spelled BYTES`: the same of the artifact that the bytes spell.
     fn push_spelled(&mut self, words: &mut Words<'_>, say: &mut Say) -> Result<(), Trouble> {
-        let item: Item = words.value(say.alloc, self.members)?;
+        let item: Item<S> = words.value(say.alloc, self.members)?;
         words.end()?;
         self.artifacts.push(item)?;
         say.ok()

@@ -8,6 +8,7 @@ use crate::slots::call_slot;
 use crate::views::ViewRound;
 use script_words::{Layer, Say, Trouble, Words, play};
 use simplex_round::Slot;
+use simplex_signing::PlainScheme;
 use simplex_types::Sha256Digest;
 use std::alloc::Global;
 use std::io;
@@ -18,7 +19,7 @@ use std::process::ExitCode;
 enum Layers {
     Nothing,
     Slot(Slot<Sha256Digest>),
-    View(ViewRound),
+    View(ViewRound<PlainScheme>),
 }
 
 impl Layer for Layers {

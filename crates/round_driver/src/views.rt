@@ -1,11 +1,11 @@
-//! Calls on the round of a view.
+//! Calls on the round of a view, whatever its scheme: at one of them they would cost the prover several times as much.
 
 use script_certificates::{CertificateWords, SayCertificates};
-use script_words::{Committee, Say, Trouble, Words};
+use script_words::{Committee, Left, Say, Trouble, Words};
 use simplex_history::{TimeoutReason, Token};
 use simplex_round::{Leader, Round};
-use simplex_signing::{PlainKey, PlainScheme};
-use simplex_types::{Duplicate, Sha256Digest};
+use simplex_signing::PlainKey;
+use simplex_types::{Duplicate, Participant, Proposal, Scheme, Sha256Digest, View};
 use std::alloc::Global;
 use std::rc::Rc;
 
@@ -25,9 +25,9 @@ const REASONS: [TimeoutReason; 10] = [
 
 /// A round, and the size of its committee.
 #[derive(Drop)]
-pub(crate) struct ViewRound {
+pub(crate) struct ViewRound<S: Scheme<Sha256Digest>> {
     n: u32,
-    round: Round<PlainScheme, Sha256Digest>,
+    round: Round<S, Sha256Digest>,
 }
 
 /// Says when and why the view is given up, if it is.
@@ -42,14 +42,14 @@ fn say_timeout(next: Option<(u64, TimeoutReason)>, say: &mut Say) -> Result<(), 
     }
 }
 
-impl ViewRound {
+impl<S: Committee + Scheme<Sha256Digest, PublicKey = PlainKey>> ViewRound<S> {
     /// `N ME EPOCH VIEW`.
     pub(crate) fn new(alloc: Global, words: &mut Words<'_>) -> Result<Self, Trouble> {
         let n = words.index()?;
         let me = words.optional_member()?;
         let at = words.round()?;
         words.end()?;
-        let scheme = PlainScheme::member_of(alloc, n, me, 0)?;
+        let scheme = S::member_of(alloc, n, me, 0)?;
         let scheme = Rc::new(alloc, scheme)?;
         Ok(ViewRound {
             n,
@@ -64,13 +64,54 @@ impl ViewRound {
         words: &mut Words<'_>,
         say: &mut Say,
     ) -> Result<(), Trouble> {
+        match words.left() {
+            Left::Nothing => self.tell(name, say),
+            Left::Number(number) => self.call_on_number(name, number, say),
+            Left::Others => self.call_on_proposals(name, words, say),
+        }
+    }
+
+    /// The calls of a view, a moment or another number alone.
+    fn call_on_number(&mut self, name: &str, number: u64, say: &mut Say) -> Result<(), Trouble> {
         match name {
-            "set_leader" => self.set_leader(words, say),
-            "learn_leader" => self.learn_leader(words, say),
-            "is_signer" => self.is_signer(words, say),
-            "request" => self.request(words, say),
-            "is_requested" => self.is_requested(words, say),
-            _ => self.call_on_proposals(name, words, say),
+            "request" => say.truth(self.round.request(View::new(number))),
+            "is_requested" => say.truth(self.round.is_requested(View::new(number))),
+            "elapsed_since_start" => say.optional(self.round.elapsed_since_start(number)),
+            "elapsed_since_entry" => say.optional(self.round.elapsed_since_entry(number)),
+            "mark_entered" => {
+                self.round.mark_entered(number);
+                say.ok()
+            }
+            "set_certify_handle" => {
+                self.round.set_certify_handle(Token(number));
+                say.ok()
+            }
+            _ => self.call_on_small_number(name, number, say),
+        }
+    }
+
+    /// `certified T`, and the calls of a member alone.
+    fn call_on_small_number(
+        &mut self,
+        name: &str,
+        number: u64,
+        say: &mut Say,
+    ) -> Result<(), Trouble> {
+        let Ok(index) = u32::try_from(number) else {
+            return Err(Trouble::Unreadable);
+        };
+        match name {
+            "set_leader" => {
+                self.round.set_leader(Participant::new(index));
+                say.ok()
+            }
+            "learn_leader" => say.truth(self.round.learn_leader(Participant::new(index))),
+            "is_signer" => say.truth(self.round.is_signer(Participant::new(index))),
+            "certified" if index < 2 => {
+                self.round.certified(index == 1);
+                say.ok()
+            }
+            _ => Err(Trouble::Unreadable),
         }
     }
 
@@ -81,12 +122,12 @@ impl ViewRound {
         say: &mut Say,
     ) -> Result<(), Trouble> {
         match name {
-            "set_proposal" => self.set_proposal(words, say),
+            "set_proposal" => say.truth(self.round.set_proposal(&last_proposal(words)?)),
+            "add_recovered_proposal" => {
+                say.key_or(self.round.add_recovered_proposal(&last_proposal(words)?))
+            }
             "proposed" => self.proposed(words, say),
-            "add_recovered_proposal" => self.add_recovered_proposal(words, say),
             "set_verifying" => self.set_verifying(words, say),
-            "set_certify_handle" => self.set_certify_handle(words, say),
-            "certified" => self.certified(words, say),
             _ => self.call_on_time(name, words, say),
         }
     }
@@ -98,30 +139,15 @@ impl ViewRound {
         say: &mut Say,
     ) -> Result<(), Trouble> {
         match name {
-            "mark_entered" => self.mark_entered(words, say),
             "set_deadlines" => self.set_deadlines(words, say),
-            "latch_timeout" => self.latch_timeout(words, say),
             "next_timeout" => self.next_timeout(words, say),
-            "elapsed_since_start" => self.elapsed_since_start(words, say),
-            "elapsed_since_entry" => self.elapsed_since_entry(words, say),
-            _ => self.call_on_latches(name, words, say),
-        }
-    }
-
-    fn call_on_latches(
-        &mut self,
-        name: &str,
-        words: &mut Words<'_>,
-        say: &mut Say,
-    ) -> Result<(), Trouble> {
-        match name {
+            "latch_timeout" => {
+                let _first = self.latched(words)?;
+                say.ok()
+            }
             "is_first_latch" => {
                 let is_first = self.latched(words)?;
                 say.truth(is_first)
-            }
-            "latched_timeout" => {
-                words.end()?;
-                say_timeout(self.round.latched_timeout(), say)
             }
             _ => self.call_on_messages(name, words, say),
         }
@@ -138,65 +164,14 @@ impl ViewRound {
             "add_notarization" => self.add_notarization(words, say),
             "add_nullification" => self.add_nullification(words, say),
             "add_finalization" => self.add_finalization(words, say),
-            _ => {
-                words.end()?;
-                self.tell(name, say)
-            }
+            _ => Err(Trouble::Unreadable),
         }
-    }
-
-    fn set_leader(&mut self, words: &mut Words<'_>, say: &mut Say) -> Result<(), Trouble> {
-        let leader = words.member()?;
-        words.end()?;
-        self.round.set_leader(leader);
-        say.ok()
-    }
-
-    fn learn_leader(&mut self, words: &mut Words<'_>, say: &mut Say) -> Result<(), Trouble> {
-        let leader = words.member()?;
-        words.end()?;
-        say.truth(self.round.learn_leader(leader))
-    }
-
-    fn is_signer(&self, words: &mut Words<'_>, say: &mut Say) -> Result<(), Trouble> {
-        let signer = words.member()?;
-        words.end()?;
-        say.truth(self.round.is_signer(signer))
-    }
-
-    fn request(&mut self, words: &mut Words<'_>, say: &mut Say) -> Result<(), Trouble> {
-        let view = words.view()?;
-        words.end()?;
-        say.truth(self.round.request(view))
-    }
-
-    fn is_requested(&self, words: &mut Words<'_>, say: &mut Say) -> Result<(), Trouble> {
-        let view = words.view()?;
-        words.end()?;
-        say.truth(self.round.is_requested(view))
-    }
-
-    fn set_proposal(&mut self, words: &mut Words<'_>, say: &mut Say) -> Result<(), Trouble> {
-        let proposal = words.proposal()?;
-        words.end()?;
-        say.truth(self.round.set_proposal(&proposal))
     }
 
     fn proposed(&mut self, words: &mut Words<'_>, say: &mut Say) -> Result<(), Trouble> {
         let now = words.number()?;
-        let proposal = words.proposal()?;
-        words.end()?;
+        let proposal = last_proposal(words)?;
         say.truth(self.round.proposed(now, proposal))
-    }
-
-    fn add_recovered_proposal(
-        &mut self,
-        words: &mut Words<'_>,
-        say: &mut Say,
-    ) -> Result<(), Trouble> {
-        let proposal = words.proposal()?;
-        words.end()?;
-        say.key_or(self.round.add_recovered_proposal(&proposal))
     }
 
     fn set_verifying(&mut self, words: &mut Words<'_>, say: &mut Say) -> Result<(), Trouble> {
@@ -207,38 +182,12 @@ impl ViewRound {
         say.ok()
     }
 
-    fn set_certify_handle(&mut self, words: &mut Words<'_>, say: &mut Say) -> Result<(), Trouble> {
-        let handle = words.number()?;
-        words.end()?;
-        self.round.set_certify_handle(Token(handle));
-        say.ok()
-    }
-
-    fn certified(&mut self, words: &mut Words<'_>, say: &mut Say) -> Result<(), Trouble> {
-        let is_success = words.truth()?;
-        words.end()?;
-        self.round.certified(is_success);
-        say.ok()
-    }
-
-    fn mark_entered(&mut self, words: &mut Words<'_>, say: &mut Say) -> Result<(), Trouble> {
-        let now = words.number()?;
-        words.end()?;
-        self.round.mark_entered(now);
-        say.ok()
-    }
-
     fn set_deadlines(&mut self, words: &mut Words<'_>, say: &mut Say) -> Result<(), Trouble> {
         let leader = words.number()?;
         let certification = words.number()?;
         let stall = words.optional()?;
         words.end()?;
         self.round.set_deadlines(leader, certification, stall);
-        say.ok()
-    }
-
-    fn latch_timeout(&mut self, words: &mut Words<'_>, say: &mut Say) -> Result<(), Trouble> {
-        let _first = self.latched(words)?;
         say.ok()
     }
 
@@ -259,53 +208,35 @@ impl ViewRound {
         say_timeout(next, say)
     }
 
-    fn elapsed_since_start(&self, words: &mut Words<'_>, say: &mut Say) -> Result<(), Trouble> {
-        let now = words.number()?;
-        words.end()?;
-        say.optional(self.round.elapsed_since_start(now))
-    }
-
-    fn elapsed_since_entry(&self, words: &mut Words<'_>, say: &mut Say) -> Result<(), Trouble> {
-        let now = words.number()?;
-        words.end()?;
-        say.optional(self.round.elapsed_since_entry(now))
-    }
-
     fn replay(&mut self, words: &mut Words<'_>, say: &mut Say) -> Result<(), Trouble> {
-        let artifact = words.artifact::<PlainScheme>(say.alloc, self.n)?;
+        let artifact = words.artifact::<S>(say.alloc, self.n)?;
         words.end()?;
         self.round.replay(&artifact);
         say.ok()
     }
 
     fn add_notarization(&mut self, words: &mut Words<'_>, say: &mut Say) -> Result<(), Trouble> {
-        if words.word() != "notarization" {
-            return Err(Trouble::Unreadable);
-        }
-        let certificate = words.notarization::<PlainScheme>(say.alloc, self.n)?;
+        kind(words, "notarization")?;
+        let certificate = words.notarization::<S>(say.alloc, self.n)?;
         words.end()?;
         say_added(self.round.add_notarization(certificate), say)
     }
 
     fn add_nullification(&mut self, words: &mut Words<'_>, say: &mut Say) -> Result<(), Trouble> {
-        if words.word() != "nullification" {
-            return Err(Trouble::Unreadable);
-        }
-        let certificate = words.nullification::<PlainScheme>(say.alloc, self.n)?;
+        kind(words, "nullification")?;
+        let certificate = words.nullification::<S>(say.alloc, self.n)?;
         words.end()?;
         say.truth(self.round.add_nullification(certificate))
     }
 
     fn add_finalization(&mut self, words: &mut Words<'_>, say: &mut Say) -> Result<(), Trouble> {
-        if words.word() != "finalization" {
-            return Err(Trouble::Unreadable);
-        }
-        let certificate = words.finalization::<PlainScheme>(say.alloc, self.n)?;
+        kind(words, "finalization")?;
+        let certificate = words.finalization::<S>(say.alloc, self.n)?;
         words.end()?;
         say_added(self.round.add_finalization(certificate), say)
     }
 
-    /// The calls without words that change something.
+    /// The calls without words.
     fn tell(&mut self, name: &str, say: &mut Say) -> Result<(), Trouble> {
         match name {
             "clear_proposal_request" => {
@@ -321,6 +252,7 @@ impl ViewRound {
                 say.ok()
             }
             "abort_certify_handle" => self.abort_certify_handle(say),
+            "latched_timeout" => say_timeout(self.round.latched_timeout(), say),
             "request_verify" => say.truth(self.round.request_verify()),
             "verified" => say.truth(self.round.verified()),
             "try_propose" => say_leader(self.round.try_propose().as_ref(), say),
@@ -431,6 +363,21 @@ impl ViewRound {
         say.gap()?;
         say.payload(&parent_payload)
     }
+}
+
+/// A proposal that ends the line.
+fn last_proposal(words: &mut Words<'_>) -> Result<Proposal<Sha256Digest>, Trouble> {
+    let proposal = words.proposal()?;
+    words.end()?;
+    Ok(proposal)
+}
+
+/// The word of a kind.
+fn kind(words: &mut Words<'_>, kind: &str) -> Result<(), Trouble> {
+    if words.word() == kind {
+        return Ok(());
+    }
+    Err(Trouble::Unreadable)
 }
 
 /// The reason of this name.

@@ -137,16 +137,36 @@ pub fn assemble<S: Committee>(
     signers: &[u32],
     subject: &Subject<'_, Sha256Digest>,
 ) -> Result<S::Certificate, Trouble> {
+    let attestations = attestations_of::<S>(alloc, n, signers, subject)?;
+    let scheme = S::member_of(alloc, n, None, 0)?;
+    assemble_by(alloc, &scheme, &attestations)
+}
+
+/// Those attestations.
+fn attestations_of<S: Committee>(
+    alloc: Global,
+    n: u32,
+    signers: &[u32],
+    subject: &Subject<'_, Sha256Digest>,
+) -> Result<Vec<Attestation<S::Signature>>, Trouble> {
     let mut attestations = Vec::new(alloc);
     for signer in signers {
         let signer = Participant::new(*signer);
         attestations.push(attest::<S>(alloc, n, signer, Signing::GOOD, subject)?)?;
     }
-    let scheme = S::member_of(alloc, n, None, 0)?;
-    if !are_of_distinct_members(alloc, scheme.participants(), &attestations)? {
+    Ok(attestations)
+}
+
+/// The certificate that a committee makes of them.
+fn assemble_by<S: Committee>(
+    alloc: Global,
+    scheme: &S,
+    attestations: &[Attestation<S::Signature>],
+) -> Result<S::Certificate, Trouble> {
+    if !are_of_distinct_members(alloc, scheme.participants(), attestations)? {
         return Err(Trouble::Unreadable);
     }
-    match scheme.assemble(alloc, &attestations) {
+    match scheme.assemble(alloc, attestations) {
         Ok(certificate) => Ok(certificate),
         Err(AssemblyError::Memory) => Err(Trouble::Memory),
         Err(AssemblyError::InsufficientAttestations(..)) => Err(Trouble::Unreadable),

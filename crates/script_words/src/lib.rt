@@ -36,7 +36,8 @@
 //! All are `Unreadable` where the word isn't of that form; a number has one spelling, with no sign and no zero in
 //! front of it.
 //!
-//! - `word` (empty behind the last), `more`, `end`
+//! - `word` (empty behind the last), `more`, `end`; `left`, which reads none: [`Left`], whether nothing is left or a number
+//!   alone. A match of names behind that has no word to read, which would double what it costs the prover.
 //! - `number` (u64), `index` (u32), `small` (u8), `optional` (`-` or a u64), `truth` (`0`, `1`)
 //! - `member`, `optional_member`, `key`, `view`, `epoch`, `round`, `term_length`, `payload` (`k` for 32 bytes `k`)
 //! - `proposal` (`EPOCH VIEW PARENT K`), `context` (`EPOCH VIEW KEY PARENT_VIEW PARENT_K`)
@@ -71,4 +72,4 @@ pub use committee::{Committee, Signing, assemble, attest};
 pub use playing::{Layer, play};
 pub use say::Say;
 pub use trouble::Trouble;
-pub use words::Words;
+pub use words::{Left, Words};

@@ -75,16 +75,26 @@ fn play_lines<L: Layer, R: Read + Drop, W: Write>(
 ) -> Result<(), Broken> {
     let mut say = Say::new(alloc);
     for line in BufReader::new(alloc, input)?.lines(alloc) {
-        let line = line?;
-        say.clear();
-        let answer = answer_to(layer, &line, &mut say)?;
-        // A line is held back whole or not at all.
-        held.try_reserve(answer.len().saturating_add(1))?;
-        held.push_str(answer)?;
-        held.push('\n')?;
-        if held.len() >= PIECE {
-            write_out(output, held)?;
-        }
+        play_line(layer, &line?, &mut say, output, held)?;
+    }
+    Ok(())
+}
+
+/// Plays a line, whose answer is held back whole or not at all.
+fn play_line<L: Layer, W: Write>(
+    layer: &mut L,
+    line: &str,
+    say: &mut Say,
+    output: &mut W,
+    held: &mut String,
+) -> Result<(), Broken> {
+    say.clear();
+    let answer = answer_to(layer, line, say)?;
+    held.try_reserve(answer.len().saturating_add(1))?;
+    held.push_str(answer)?;
+    held.push('\n')?;
+    if held.len() >= PIECE {
+        write_out(output, held)?;
     }
     Ok(())
 }

@@ -9,6 +9,17 @@ use simplex_types::{
 };
 use std::alloc::Global;
 
+/// What is left of a line, where that tells calls apart before a word is read.
+#[derive(Clone, Copy)]
+pub enum Left {
+    /// No word.
+    Nothing,
+    /// One word, which spells this number.
+    Number(u64),
+    /// Anything else.
+    Others,
+}
+
 /// What is left of a line: words with one blank between two.
 #[derive(Drop)]
 pub struct Words<'a> {
@@ -42,6 +53,17 @@ impl<'a> Words<'a> {
     /// Whether a word is left.
     pub fn more(&self) -> bool {
         self.rest.is_some()
+    }
+
+    /// Whether nothing is left, or a number alone.
+    pub fn left(&self) -> Left {
+        let Some(rest) = self.rest else {
+            return Left::Nothing;
+        };
+        match number_of(rest) {
+            Ok(number) => Left::Number(number),
+            Err(_) => Left::Others,
+        }
     }
 
     /// Unreadable where a word is left.

@@ -1,7 +1,7 @@
 //! Words that only these scripts have.
 
 use script_certificates::CertificateWords;
-use script_words::{Committee, Trouble, Words};
+use script_words::{Committee, Left, Trouble, Words};
 use simplex_history::{HandoffAbandonedReason, TimeoutReason};
 use simplex_signing::PlainKey;
 use simplex_types::{Context, Sha256Digest, View};
@@ -42,16 +42,13 @@ const ABANDONED: [(&str, HandoffAbandonedReason); 7] = [
     ),
 ];
 
-/// A number that ends the line.
-pub fn last_number(words: &mut Words<'_>) -> Result<u64, Trouble> {
-    let number = words.number()?;
-    words.end()?;
-    Ok(number)
-}
-
-/// A view that ends the line.
-pub fn last_view(words: &mut Words<'_>) -> Result<View, Trouble> {
-    Ok(View::new(last_number(words)?))
+/// Two numbers that end the line.
+pub fn two_numbers(words: &mut Words<'_>) -> Result<(u64, u64), Trouble> {
+    let first = words.number()?;
+    match words.left() {
+        Left::Number(second) => Ok((first, second)),
+        _ => Err(Trouble::Unreadable),
+    }
 }
 
 /// A payload that ends the line.
@@ -75,8 +72,14 @@ pub fn last_truth(words: &mut Words<'_>) -> Result<bool, Trouble> {
     Ok(truth)
 }
 
+/// A view, and why it is given up, which end the line.
+pub fn view_and_reason(words: &mut Words<'_>) -> Result<(View, TimeoutReason), Trouble> {
+    let view = words.view()?;
+    Ok((view, last_reason(words)?))
+}
+
 /// Why a view is given up, which ends the line.
-pub fn last_reason(words: &mut Words<'_>) -> Result<TimeoutReason, Trouble> {
+fn last_reason(words: &mut Words<'_>) -> Result<TimeoutReason, Trouble> {
     let word = words.word();
     words.end()?;
     for reason in REASONS {

@@ -1,5 +1,6 @@
 //! The calls of a voter, whatever its scheme and whoever leads: at one of each they would cost the prover several times as
-//! much. Each group of them hands on to the next group what it doesn't know.
+//! much. What is left of a line tells calls of no word, of a number and of other words apart: a call that has a word to read in
+//! its arm costs twice as much. Each group of them hands on to the next group what it doesn't know.
 
 ghost use Rattle.std.specs.Prelude.{◌≡◌};
 
@@ -12,7 +13,7 @@ mod seeing;
 mod voting;
 
 use crate::setup::Setup;
-use script_words::{Committee, Say, Trouble, Words};
+use script_words::{Committee, Left, Say, Trouble, Words};
 use simplex_rules::Elector;
 use simplex_signing::PlainKey;
 use simplex_types::{Scheme, Sha256Digest};
@@ -48,6 +49,10 @@ impl<S: Committee + Scheme<Sha256Digest, PublicKey = PlainKey>, L: Elector<S, Sh
         words: &mut Words<'_>,
         say: &mut Say,
     ) -> Result<(), Trouble> {
-        self.standing(name, words, say)
+        match words.left() {
+            Left::Nothing => self.standing(name, say),
+            Left::Number(number) => self.at_once(name, number, say),
+            Left::Others => self.learnt(name, words, say),
+        }
     }
 }

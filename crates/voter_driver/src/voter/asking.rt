@@ -1,6 +1,6 @@
 //! What a voter asks its application to build.
 
-use crate::reading::{last_context, last_payload, last_view};
+use crate::reading::{last_context, last_payload};
 use crate::voter::Voter;
 use script_words::{Committee, Say, Trouble, Words};
 use simplex_history::HandoffAbandonedReason;
@@ -10,7 +10,7 @@ use simplex_types::{Scheme, Sha256Digest};
 use simplex_voter::ProposalRequest;
 
 /// Says what is to be built.
-fn request(
+pub(super) fn request(
     say: &mut Say,
     request: Option<ProposalRequest<Sha256Digest, PlainKey>>,
 ) -> Result<(), Trouble> {
@@ -58,20 +58,7 @@ impl<S: Committee + Scheme<Sha256Digest, PublicKey = PlainKey>, L: Elector<S, Sh
         say: &mut Say,
     ) -> Result<(), Trouble> {
         match name {
-            "try_propose" => {
-                words.end()?;
-                request(say, self.state.try_propose())
-            }
-            "proposed" => {
-                let now = words.number()?;
-                let context = words.context()?;
-                let payload = last_payload(words)?;
-                say.truth(self.state.proposed(now, &context, payload)?)
-            }
-            "release_proposal_request" => {
-                self.state.release_proposal_request(last_view(words)?)?;
-                say.ok()
-            }
+            "proposed" => self.proposed(words, say),
             "supersede_proposal_request" => {
                 let context = last_context(words)?;
                 say.truth(self.state.supersede_proposal_request(&context)?)
@@ -82,5 +69,13 @@ impl<S: Committee + Scheme<Sha256Digest, PublicKey = PlainKey>, L: Elector<S, Sh
             }
             _ => self.looked_at(name, words, say),
         }
+    }
+
+    /// `NOW CONTEXT K`: a block that was built.
+    fn proposed(&mut self, words: &mut Words<'_>, say: &mut Say) -> Result<(), Trouble> {
+        let now = words.number()?;
+        let context = words.context()?;
+        let payload = last_payload(words)?;
+        say.truth(self.state.proposed(now, &context, payload)?)
     }
 }

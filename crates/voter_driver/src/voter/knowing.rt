@@ -1,19 +1,15 @@
 //! What a voter tells.
 
-use crate::reading::{last_payload, last_view};
 use crate::voter::Voter;
+use crate::voter::looking::wanted;
+use crate::voter::voting::timeout;
 use script_certificates::SayCertificates;
-use script_words::{Committee, Say, Trouble, Words};
+use script_words::{Committee, Say, Trouble};
 use simplex_certificates::{Certificate, Finalization, Notarization, Nullification};
+use simplex_decisions::knowledge::Knowledge;
 use simplex_rules::Elector;
 use simplex_signing::PlainKey;
 use simplex_types::{Participant, Scheme, Sha256Digest, View};
-
-/// Says a number, where no word is left.
-fn alone(words: &Words<'_>, say: &mut Say, number: u64) -> Result<(), Trouble> {
-    words.end()?;
-    say.number(number)
-}
 
 /// Says who leads a view, where that is known.
 pub(super) fn leader(say: &mut Say, leader: Option<Participant>) -> Result<(), Trouble> {
@@ -55,102 +51,86 @@ fn helped<S: Committee>(
     say.certificate_or(best.as_ref())
 }
 
-/// `NOW VIEW`, which end the line.
-fn moment(words: &mut Words<'_>) -> Result<(u64, View), Trouble> {
-    let now = words.number()?;
-    Ok((now, last_view(words)?))
-}
-
 impl<S: Committee + Scheme<Sha256Digest, PublicKey = PlainKey>, L: Elector<S, Sha256Digest>> Voter<
     S,
     L,
 > {
     /// What is told of all views together.
-    pub fn standing(
-        &mut self,
-        name: &str,
-        words: &mut Words<'_>,
-        say: &mut Say,
-    ) -> Result<(), Trouble> {
+    pub fn standing(&mut self, name: &str, say: &mut Say) -> Result<(), Trouble> {
         match name {
-            "epoch" => alone(words, say, self.state.views().epoch().get()),
-            "current_view" => alone(words, say, self.state.current_view().get()),
-            "last_finalized" => alone(words, say, self.state.last_finalized().get()),
-            "min_active" => alone(words, say, self.state.views().min_active().get()),
-            "get_best_certificate" => {
-                words.end()?;
-                helped(say, self.state.get_best_certificate(say.alloc)?)
-            }
-            _ => self.course(name, words, say),
+            "epoch" => say.number(self.state.views().epoch().get()),
+            "current_view" => say.view(self.state.current_view()),
+            "last_finalized" => say.view(self.state.last_finalized()),
+            "min_active" => say.view(self.state.views().min_active()),
+            "genesis" => say.payload_or(Knowledge::<Sha256Digest>::genesis(self.state.views())),
+            "get_best_certificate" => helped(say, self.state.get_best_certificate(say.alloc)?),
+            _ => self.owed(name, say),
+        }
+    }
+
+    /// The calls of a moment or of a member, and those of a view.
+    pub fn at_once(&mut self, name: &str, number: u64, say: &mut Say) -> Result<(), Trouble> {
+        match name {
+            "try_verify" => wanted(say, &self.state.try_verify(number)?),
+            "next_timeout" => timeout(say, self.state.next_timeout(number)?),
+            "is_me" => self.is_me(number, say),
+            _ => self.course(name, View::new(number), say),
+        }
+    }
+
+    /// Whether the member of this index is the voter's.
+    fn is_me(&self, number: u64, say: &mut Say) -> Result<(), Trouble> {
+        match u32::try_from(number) {
+            Ok(index) => say.truth(self.state.views().is_me(Participant::new(index))),
+            Err(_) => Err(Trouble::Unreadable),
         }
     }
 
     /// Who leads a view, which messages of it are taken, and how far it has come.
-    fn course(&mut self, name: &str, words: &mut Words<'_>, say: &mut Say) -> Result<(), Trouble> {
+    fn course(&mut self, name: &str, view: View, say: &mut Say) -> Result<(), Trouble> {
         match name {
-            "leader_index" => leader(say, self.state.views().leader_index(last_view(words)?)),
-            "admits_vote" => say.truth(self.state.views().admits_vote(last_view(words)?)),
-            "admits_certificate" => say.truth(
-                self.state.views().admits_certificate(last_view(words)?),
-            ),
-            "voted_nullify" => say.truth(self.state.voted_nullify(last_view(words)?)),
-            "elapsed_since_start" => {
-                let (now, view) = moment(words)?;
-                say.optional(self.state.elapsed_since_start(now, view))
+            "leader_index" => leader(say, self.state.views().leader_index(view)),
+            "scheduled_leader" => leader(say, self.state.views().scheduled_leader(view)),
+            "admits_vote" => say.truth(self.state.views().admits_vote(view)),
+            "admits_certificate" => say.truth(self.state.views().admits_certificate(view)),
+            "voted_nullify" => say.truth(self.state.voted_nullify(view)),
+            "is_waiting" => {
+                say.truth(Knowledge::<Sha256Digest>::is_waiting(self.state.views(), view))
             }
-            "elapsed_since_entry" => {
-                let (now, view) = moment(words)?;
-                say.optional(self.state.elapsed_since_entry(now, view))
-            }
-            _ => self.kept(name, words, say),
+            _ => self.kept(name, view, say),
         }
     }
 
-    /// What is kept of a view, and of this member.
-    fn kept(&mut self, name: &str, words: &mut Words<'_>, say: &mut Say) -> Result<(), Trouble> {
+    /// What is kept of a view.
+    fn kept(&mut self, name: &str, view: View, say: &mut Say) -> Result<(), Trouble> {
         match name {
-            "notarization" => say.notarization_or(
-                self.state.views().notarization(last_view(words)?),
-            ),
-            "nullification" => say.nullification_or(
-                self.state.views().nullification(last_view(words)?),
-            ),
-            "finalization" => say.finalization_or(
-                self.state.views().finalization(last_view(words)?),
-            ),
+            "notarization" => say.notarization_or(self.state.views().notarization(view)),
+            "nullification" => say.nullification_or(self.state.views().nullification(view)),
+            "finalization" => say.finalization_or(self.state.views().finalization(view)),
             "forwardable_proposal" => {
-                say.proposal_or(self.state.views().forwardable_proposal(last_view(words)?))
+                say.proposal_or(self.state.views().forwardable_proposal(view))
             }
-            "parent_certified" => {
-                let view = words.view()?;
-                say.truth(self.state.parent_certified(view, last_payload(words)?))
-            }
-            "is_me" => {
-                let index = words.member()?;
-                words.end()?;
-                say.truth(self.state.views().is_me(index))
-            }
-            _ => self.sent(name, words, say),
+            "pending_verification" => say.proposal_or(Knowledge::<
+                Sha256Digest,
+            >::pending_verification(self.state.views(), view)),
+            _ => self.sent(name, view, say),
         }
     }
 
     /// What is handed out of a view.
-    fn sent(&mut self, name: &str, words: &mut Words<'_>, say: &mut Say) -> Result<(), Trouble> {
+    fn sent(&mut self, name: &str, view: View, say: &mut Say) -> Result<(), Trouble> {
         let alloc = say.alloc;
         match name {
             "broadcast_notarization" => {
-                let view = last_view(words)?;
                 notarized(say, self.state.broadcast_notarization(alloc, view)?)
             }
             "broadcast_nullification" => {
-                let view = last_view(words)?;
                 nullified(say, self.state.broadcast_nullification(alloc, view)?)
             }
             "broadcast_finalization" => {
-                let view = last_view(words)?;
                 finalized(say, self.state.broadcast_finalization(alloc, view)?)
             }
-            _ => self.learnt(name, words, say),
+            _ => self.voted(name, view, say),
         }
     }
 }

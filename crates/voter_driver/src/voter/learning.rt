@@ -8,7 +8,7 @@ use script_words::{Committee, Say, Trouble, Words};
 use simplex_certificates::{Artifact, Finalization, Notarization, Nullification};
 use simplex_rules::Elector;
 use simplex_signing::PlainKey;
-use simplex_types::{Scheme, Sha256Digest};
+use simplex_types::{Scheme, Sha256Digest, View};
 use std::alloc::Global;
 
 /// Says whether a certificate is the first of its view, and whose proposal it took the place of.
@@ -78,24 +78,33 @@ impl<S: Committee + Scheme<Sha256Digest, PublicKey = PlainKey>, L: Elector<S, Sh
         say: &mut Say,
     ) -> Result<(), Trouble> {
         match name {
-            "add_notarization" => {
-                let certificate = notarization(say.alloc, words, self.participants)?;
-                added(say, self.state.add_notarization(certificate)?)
-            }
-            "add_nullification" => {
-                let now = words.number()?;
-                let certificate = nullification(say.alloc, words, self.participants)?;
-                say.truth(self.state.add_nullification(now, certificate)?)
-            }
-            "add_finalization" => {
-                let now = words.number()?;
-                let certificate = finalization(say.alloc, words, self.participants)?;
-                added(say, self.state.add_finalization(now, certificate)?)
-            }
+            "add_notarization" => self.add_notarization(words, say),
+            "add_nullification" => self.add_nullification(words, say),
+            "add_finalization" => self.add_finalization(words, say),
             "certified" => self.judged(words, say),
             "set_proposal" => self.forwarded(words, say),
             _ => self.kept_on(name, words, say),
         }
+    }
+
+    /// `notarization ..`.
+    fn add_notarization(&mut self, words: &mut Words<'_>, say: &mut Say) -> Result<(), Trouble> {
+        let certificate = notarization(say.alloc, words, self.participants)?;
+        added(say, self.state.add_notarization(certificate)?)
+    }
+
+    /// `NOW nullification ..`.
+    fn add_nullification(&mut self, words: &mut Words<'_>, say: &mut Say) -> Result<(), Trouble> {
+        let now = words.number()?;
+        let certificate = nullification(say.alloc, words, self.participants)?;
+        say.truth(self.state.add_nullification(now, certificate)?)
+    }
+
+    /// `NOW finalization ..`.
+    fn add_finalization(&mut self, words: &mut Words<'_>, say: &mut Say) -> Result<(), Trouble> {
+        let now = words.number()?;
+        let certificate = finalization(say.alloc, words, self.participants)?;
+        added(say, self.state.add_finalization(now, certificate)?)
     }
 
     /// `NOW VIEW T`: a verdict.
@@ -114,7 +123,7 @@ impl<S: Committee + Scheme<Sha256Digest, PublicKey = PlainKey>, L: Elector<S, Sh
         say.truth(self.state.set_proposal(view, &proposal)?)
     }
 
-    /// What a voter starts from, takes from its record, and drops.
+    /// What a voter starts from, and takes from its record.
     fn kept_on(&mut self, name: &str, words: &mut Words<'_>, say: &mut Say) -> Result<(), Trouble> {
         match name {
             "set_genesis" => {
@@ -123,12 +132,7 @@ impl<S: Committee + Scheme<Sha256Digest, PublicKey = PlainKey>, L: Elector<S, Sh
                 say.ok()
             }
             "set_floor" => self.floored(words, say),
-            "replay" => {
-                let artifact = artifact(say.alloc, words, self.participants)?;
-                self.state.replay(&artifact)?;
-                say.ok()
-            }
-            "prune" => self.pruned(words, say),
+            "replay" => self.replayed(words, say),
             _ => self.built(name, words, say),
         }
     }
@@ -141,18 +145,29 @@ impl<S: Committee + Scheme<Sha256Digest, PublicKey = PlainKey>, L: Elector<S, Sh
         finalized(say, self.state.set_floor(alloc, now, floor)?)
     }
 
-    /// The views that a prune drops.
-    fn pruned(&mut self, words: &mut Words<'_>, say: &mut Say) -> Result<(), Trouble> {
-        words.end()?;
-        let views = self.state.prune(say.alloc)?;
-        let Some((first, rest)) = views.split_first() else {
-            return say.none();
-        };
-        say.view(*first)?;
-        for view in rest {
-            say.text(",")?;
-            say.view(*view)?;
-        }
-        Ok(())
+    /// An artifact of the record.
+    fn replayed(&mut self, words: &mut Words<'_>, say: &mut Say) -> Result<(), Trouble> {
+        let artifact = artifact(say.alloc, words, self.participants)?;
+        self.state.replay(&artifact)?;
+        say.ok()
     }
+
+    /// The views that a prune drops.
+    pub(super) fn pruned(&mut self, say: &mut Say) -> Result<(), Trouble> {
+        let views = self.state.prune(say.alloc)?;
+        say_views(say, &views)
+    }
+}
+
+/// Views with a comma between two, or `-`.
+fn say_views(say: &mut Say, views: &[View]) -> Result<(), Trouble> {
+    let Some((first, rest)) = views.split_first() else {
+        return say.none();
+    };
+    say.view(*first)?;
+    for view in rest {
+        say.text(",")?;
+        say.view(*view)?;
+    }
+    Ok(())
 }

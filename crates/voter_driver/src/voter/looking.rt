@@ -1,12 +1,12 @@
 //! What a voter asks its application, and others, about proposals.
 
-use crate::reading::{last_number, last_reason, last_view};
+use crate::reading::{two_numbers, view_and_reason};
 use crate::voter::Voter;
 use script_words::{Committee, Say, Trouble, Words};
 use simplex_history::Token;
 use simplex_rules::Elector;
 use simplex_signing::PlainKey;
-use simplex_types::{Proposal, Scheme, Sha256Digest};
+use simplex_types::{Proposal, Scheme, Sha256Digest, View};
 use simplex_voter::{CertificateFetch, Verify};
 
 /// Says what is asked for, to judge the proposals of others.
@@ -85,8 +85,6 @@ impl<S: Committee + Scheme<Sha256Digest, PublicKey = PlainKey>, L: Elector<S, Sh
         say: &mut Say,
     ) -> Result<(), Trouble> {
         match name {
-            "try_verify" => wanted(say, &self.state.try_verify(last_number(words)?)?),
-            "verified" => say.truth(self.state.verified(last_view(words)?)?),
             "verification_failed" => {
                 let _first = self.failed(words)?;
                 say.ok()
@@ -95,28 +93,29 @@ impl<S: Committee + Scheme<Sha256Digest, PublicKey = PlainKey>, L: Elector<S, Sh
                 let is_first = self.failed(words)?;
                 say.truth(is_first)
             }
-            "certify_candidates" => self.candidates(words, say),
             "set_certify_handle" => {
-                let view = words.view()?;
-                let handle = Token(last_number(words)?);
-                self.state.set_certify_handle(view, handle)?;
+                let (view, handle) = two_numbers(words)?;
+                self.state
+                    .set_certify_handle(View::new(view), Token(handle))?;
                 say.ok()
             }
-            _ => self.voted(name, words, say),
+            "try_verify_from" => {
+                let (now, from) = two_numbers(words)?;
+                wanted(say, &self.state.try_verify_from(now, View::new(from))?)
+            }
+            _ => self.given_up(name, words, say),
         }
     }
 
     /// `NOW VIEW REASON`: a proposal wasn't found good, and whether that is the first reason to give its view up.
     fn failed(&mut self, words: &mut Words<'_>) -> Result<bool, Trouble> {
         let now = words.number()?;
-        let view = words.view()?;
-        let reason = last_reason(words)?;
+        let (view, reason) = view_and_reason(words)?;
         Ok(self.state.verification_failed(now, view, reason)?)
     }
 
     /// What is to be asked for verdicts.
-    fn candidates(&mut self, words: &mut Words<'_>, say: &mut Say) -> Result<(), Trouble> {
-        words.end()?;
+    pub(super) fn candidates(&mut self, say: &mut Say) -> Result<(), Trouble> {
         let (proposals, certificates) = self.state.certify_candidates(say.alloc)?;
         say.text("ready ")?;
         ready(say, &proposals)?;

@@ -3,16 +3,15 @@
 //! `known VIEW` answers `known` and a word for all that is so of the view, `verifying VIEW` the proposal that is bound and
 //! its parent's payload: `PROPOSAL K`. Where nothing is known of a view, all that its round is asked is answered by `-`.
 
-use crate::reading::last_view;
+use crate::reading::{last_payload, two_numbers};
 use crate::voter::Voter;
-use crate::voter::knowing::leader;
 use crate::voter::owing::lowest;
 use script_words::{Committee, Say, Trouble, Words};
 use simplex_decisions::knowledge::Knowledge;
 use simplex_round::Round;
 use simplex_rules::Elector;
 use simplex_signing::PlainKey;
-use simplex_types::{Proposal, Scheme, Sha256Digest};
+use simplex_types::{Proposal, Scheme, Sha256Digest, View};
 
 /// What may be so of a view, with whether it is: of the proposal that it holds, of its certificates and its verdict, of
 /// the own votes, and of its entry.
@@ -46,103 +45,95 @@ fn bound(
     say.payload(&payload)
 }
 
+/// What is so of a view of which something is known.
+fn known<S: Committee>(round: &Round<S, Sha256Digest>, say: &mut Say) -> Result<(), Trouble> {
+    say.text("known")?;
+    for (word, is_so) in signs(round) {
+        if is_so {
+            say.gap()?;
+            say.text(word)?;
+        }
+    }
+    Ok(())
+}
+
+/// What the round of a view tells.
+fn told<S: Committee>(
+    round: &Round<S, Sha256Digest>,
+    name: &str,
+    say: &mut Say,
+) -> Result<(), Trouble> {
+    match name {
+        "known" => known(round, say),
+        "proposal" => say.proposal_or(round.proposal()),
+        "verifying" => bound(say, round.verifying()),
+        "certified_proposal" => say.proposal_or(round.certified_proposal()),
+        "pending_certification" => say.proposal_or(round.pending_certification()),
+        "stall_deadline" => say.optional(round.stall_deadline()),
+        _ => Err(Trouble::Unreadable),
+    }
+}
+
+/// The same where nothing is known of the view.
+fn untold(name: &str, say: &mut Say) -> Result<(), Trouble> {
+    match name {
+        "known"
+        | "proposal"
+        | "verifying"
+        | "certified_proposal"
+        | "pending_certification"
+        | "stall_deadline" => say.none(),
+        _ => Err(Trouble::Unreadable),
+    }
+}
+
 impl<S: Committee + Scheme<Sha256Digest, PublicKey = PlainKey>, L: Elector<S, Sha256Digest>> Voter<
     S,
     L,
 > {
-    /// What is known of a view, and what covers views.
-    pub fn seen(
-        &mut self,
-        name: &str,
-        words: &mut Words<'_>,
-        say: &mut Say,
-    ) -> Result<(), Trouble> {
-        match name {
-            "first_uncovered" => {
-                let parent = words.view()?;
-                let view = last_view(words)?;
-                let first = Knowledge::<Sha256Digest>::first_uncovered(
-                    self.state.views(),
-                    parent,
-                    view,
-                );
-                lowest(say, first)
-            }
-            "scheduled_leader" => {
-                leader(say, self.state.views().scheduled_leader(last_view(words)?))
-            }
-            "genesis" => {
-                words.end()?;
-                say.payload_or(Knowledge::<Sha256Digest>::genesis(self.state.views()))
-            }
-            "is_waiting" => {
-                let view = last_view(words)?;
-                say.truth(Knowledge::<Sha256Digest>::is_waiting(self.state.views(), view))
-            }
-            "pending_verification" => {
-                let view = last_view(words)?;
-                say.proposal_or(Knowledge::<Sha256Digest>::pending_verification(
-                    self.state.views(),
-                    view,
-                ))
-            }
-            _ => self.of_a_view(name, words, say),
+    /// What the round of a view tells.
+    pub fn of_a_view(&self, name: &str, view: View, say: &mut Say) -> Result<(), Trouble> {
+        match self.state.views().round(view) {
+            Some(round) => told(round, name, say),
+            None => untold(name, say),
         }
     }
 
-    /// What the round of a view tells.
-    fn of_a_view(
-        &mut self,
-        name: &str,
-        words: &mut Words<'_>,
-        say: &mut Say,
-    ) -> Result<(), Trouble> {
+    /// What is known of a view beside another word, and what covers views.
+    pub fn seen(&self, name: &str, words: &mut Words<'_>, say: &mut Say) -> Result<(), Trouble> {
         match name {
-            "known" => self.known(words, say),
-            "proposal" => match self.state.views().round(last_view(words)?) {
-                Some(round) => say.proposal_or(round.proposal()),
-                None => say.none(),
-            },
-            "verifying" => match self.state.views().round(last_view(words)?) {
-                Some(round) => bound(say, round.verifying()),
-                None => say.none(),
-            },
-            "is_requested" => {
-                let view = words.view()?;
-                let missing = last_view(words)?;
-                match self.state.views().round(view) {
-                    Some(round) => say.truth(round.is_requested(missing)),
-                    None => say.none(),
-                }
+            "elapsed_since_start" => {
+                let (now, view) = two_numbers(words)?;
+                say.optional(self.state.elapsed_since_start(now, View::new(view)))
             }
-            "certified_proposal" => match self.state.views().round(last_view(words)?) {
-                Some(round) => say.proposal_or(round.certified_proposal()),
-                None => say.none(),
-            },
-            "pending_certification" => match self.state.views().round(last_view(words)?) {
-                Some(round) => say.proposal_or(round.pending_certification()),
-                None => say.none(),
-            },
-            "stall_deadline" => match self.state.views().round(last_view(words)?) {
-                Some(round) => say.optional(round.stall_deadline()),
-                None => say.none(),
-            },
+            "elapsed_since_entry" => {
+                let (now, view) = two_numbers(words)?;
+                say.optional(self.state.elapsed_since_entry(now, View::new(view)))
+            }
+            "parent_certified" => {
+                let view = words.view()?;
+                say.truth(self.state.parent_certified(view, last_payload(words)?))
+            }
+            "first_uncovered" => {
+                let (parent, view) = two_numbers(words)?;
+                let (parent, view) = (View::new(parent), View::new(view));
+                let views = self.state.views();
+                lowest(
+                    say,
+                    Knowledge::<Sha256Digest>::first_uncovered(views, parent, view),
+                )
+            }
+            "is_requested" => self.is_requested(words, say),
             _ => Err(Trouble::Unreadable),
         }
     }
 
-    /// What is so of a view of which something is known.
-    fn known(&self, words: &mut Words<'_>, say: &mut Say) -> Result<(), Trouble> {
-        let Some(round) = self.state.views().round(last_view(words)?) else {
-            return say.none();
-        };
-        say.text("known")?;
-        for (word, is_so) in signs(round) {
-            if is_so {
-                say.gap()?;
-                say.text(word)?;
-            }
+    /// `VIEW MISSING`.
+    fn is_requested(&self, words: &mut Words<'_>, say: &mut Say) -> Result<(), Trouble> {
+        let (view, missing) = two_numbers(words)?;
+        match self.state.views().round(View::new(view)) {
+            Some(round) => say.truth(round.is_requested(View::new(missing))),
+            None => say.none(),
         }
-        Ok(())
     }
 }

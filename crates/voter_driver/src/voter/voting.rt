@@ -1,6 +1,6 @@
 //! What a voter votes, and when it gives a view up.
 
-use crate::reading::{last_number, last_reason, last_view};
+use crate::reading::view_and_reason;
 use crate::voter::Voter;
 use script_certificates::SayCertificates;
 use script_words::{Committee, Say, Trouble, Words};
@@ -8,7 +8,7 @@ use simplex_certificates::{Finalize, Notarize, Nullify};
 use simplex_history::TimeoutReason;
 use simplex_rules::Elector;
 use simplex_signing::PlainKey;
-use simplex_types::{Scheme, Sha256Digest};
+use simplex_types::{Scheme, Sha256Digest, View};
 
 /// Says a vote to notarize, where there is one.
 fn notarize<S: Committee>(
@@ -48,7 +48,7 @@ fn nullify<S: Committee>(
 }
 
 /// Says when and why the current view is given up, if it is.
-fn timeout(say: &mut Say, next: Option<(u64, TimeoutReason)>) -> Result<(), Trouble> {
+pub(super) fn timeout(say: &mut Say, next: Option<(u64, TimeoutReason)>) -> Result<(), Trouble> {
     match next {
         Some((moment, reason)) => {
             say.number(moment)?;
@@ -63,24 +63,28 @@ impl<S: Committee + Scheme<Sha256Digest, PublicKey = PlainKey>, L: Elector<S, Sh
     S,
     L,
 > {
-    /// What is voted, and when a view is given up.
-    pub fn voted(
+    /// What is voted in a view, and done with its proposal.
+    pub fn voted(&mut self, name: &str, view: View, say: &mut Say) -> Result<(), Trouble> {
+        match name {
+            "construct_notarize" => notarize(say, self.state.construct_notarize(view)?),
+            "construct_finalize" => finalize(say, self.state.construct_finalize(view)),
+            "verified" => say.truth(self.state.verified(view)?),
+            "release_proposal_request" => {
+                self.state.release_proposal_request(view)?;
+                say.ok()
+            }
+            _ => self.of_a_view(name, view, say),
+        }
+    }
+
+    /// When a view is given up.
+    pub fn given_up(
         &mut self,
         name: &str,
         words: &mut Words<'_>,
         say: &mut Say,
     ) -> Result<(), Trouble> {
         match name {
-            "construct_notarize" => {
-                notarize(say, self.state.construct_notarize(last_view(words)?)?)
-            }
-            "construct_finalize" => finalize(say, self.state.construct_finalize(last_view(words)?)),
-            "construct_nullify" => {
-                let view = words.view()?;
-                let reason = last_reason(words)?;
-                nullify(say, self.state.construct_nullify(view, reason)?)
-            }
-            "next_timeout" => timeout(say, self.state.next_timeout(last_number(words)?)?),
             "trigger_timeout" => {
                 let _first = self.latched(words)?;
                 say.ok()
@@ -89,15 +93,22 @@ impl<S: Committee + Scheme<Sha256Digest, PublicKey = PlainKey>, L: Elector<S, Sh
                 let is_first = self.latched(words)?;
                 say.truth(is_first)
             }
-            _ => self.owed(name, words, say),
+            "construct_nullify" => {
+                let (view, reason) = view_and_reason(words)?;
+                nullify(say, self.state.construct_nullify(view, reason)?)
+            }
+            "may_latch" => {
+                let (view, reason) = view_and_reason(words)?;
+                say.truth(self.state.may_latch(view, reason))
+            }
+            _ => self.seen(name, words, say),
         }
     }
 
     /// `NOW VIEW REASON`: why a view is given up, and whether that is the first reason.
     fn latched(&mut self, words: &mut Words<'_>) -> Result<bool, Trouble> {
         let now = words.number()?;
-        let view = words.view()?;
-        let reason = last_reason(words)?;
+        let (view, reason) = view_and_reason(words)?;
         Ok(self.state.trigger_timeout(now, view, reason)?)
     }
 }
