@@ -1,5 +1,5 @@
 -- What calls from C answer.
-use Rattle.std.specs.Prelude.{◌≡◌, ◌⊎◌, ℕ, ◌+◌, List, Option, None, Some, Result, Ok, Err, length}
+use Rattle.std.specs.Prelude.{◌≡◌, ◌⊎◌, ℕ, ◌+◌, List, Result, Ok, Err, length}
 use Rattle.simplex_codec.specs.declared.codec.CodecError.{CodecError}
 use Rattle.simplex_codec.specs.declared.codec.CodecError.TheVariants as codec
 use Rattle.simplex_codec.specs.Codec.{bytes_at}
@@ -13,25 +13,6 @@ use Rattle.simplex_certificates.specs.Certificate.{any_certificate_at}
 use Rattle.simplex_messages.specs.declared.vote.Vote.{Vote}
 use Rattle.simplex_messages.specs.Vote.{any_vote_at}
 use Rattle.simplex_record.specs.declared.owner.Owner.{Owner}
-use Rattle.simplex_c.specs.declared.status.Status.{Status}
-use Rattle.simplex_c.specs.declared.status.Status.TheVariants as status
-
--- the number of a status
-abbrev pub status_number : Status → ℕ
-status_number status.Done = 0
-status_number status.Memory = 1
-status_number status.Argument = 2
-status_number status.Room = 3
-status_number status.End = 4
-status_number status.Invalid = 5
-status_number status.TooLong = 6
-status_number status.Refused = 7
-status_number status.Foreign = 8
-
--- two numbers name a place, or none
-abbrev pub Names : ℕ → ℕ → Option ℕ → Type 0
-Names named place None = named ≡ 0
-Names named place (Some p) = (named ≡ 1) × (place ≡ p)
 
 -- the number of a refusal
 abbrev pub refusal_number : CodecError → ℕ

@@ -1,24 +1,20 @@
 //! Questions about bytes that a caller holds.
 
-ghost use Rattle.std.specs.Prelude.{◌≡◌, ◌≢◌, ◌<◌, ◌⊎◌, ℕ, List, Option, [], None, Some, length, take, codes, IfNone, IfOk, IfSome};
+ghost use Rattle.std.specs.Prelude.{◌≡◌, ◌≢◌, ◌<◌, ◌⊎◌, ℕ, List, Option, [], None, Some, length, take};
 ghost use Rattle.simplex_journal.specs.Record.{IsForeign};
 ghost use Rattle.simplex_record.specs.Lawful.{IsLawful, IsRefusedAt};
 ghost use Rattle.simplex_tooling.specs.Answers.{Entry, HoldsEntries, IsEntry, IsEvidence, attests_in, certifies_in, entry_spelling};
-ghost use Rattle.simplex_c.specs.Answers.{Names};
-ghost use Rattle.simplex_c.specs.declared.status.Status.TheVariants.{Done, Foreign as IsForeignEntry, Memory, Refused, Room};
+ghost use Rattle.simplex_hosted.specs.Answers.{Names};
+ghost use Rattle.simplex_hosted.specs.declared.status.Status.TheVariants.{Done, Foreign as IsForeignEntry, Memory, Refused, Room};
 
-use crate::found::Found;
-use crate::status::Status;
+use simplex_hosted::{Found, Status};
 use simplex_journal::{JournalFault, read_entries};
 use simplex_messages::Artifact;
-use simplex_record::{Owner, first_refused};
+use simplex_record::Owner;
 use simplex_signing::PlainScheme;
-use simplex_tooling::evidence_in;
+use simplex_tooling::{evidence_in, refused_in};
 use simplex_types::Sha256Digest;
-use std::alloc::{AllocError, Global};
-
-/// The base of the namespaces that the committees sign in.
-const BASE: &[u8; 7] = b"simplex";
+use std::alloc::Global;
 
 /// Puts an answer at the front of the caller's room, where it fits, and tells its size and the place that it names.
 fn put(answer: &[u8], place: Option<usize>, room: &mut [u8], found: &mut Found) -> Status
@@ -104,7 +100,7 @@ fn checked_entries(
     ensures lawful { result ≡ Done → IsLawful (attests_in members) (certifies_in members) owner artifacts.now × (found.new.length ≡ length artifacts.now) }
     ensures refused { result ≡ Refused → IsRefusedAt (attests_in members) (certifies_in members) owner artifacts.now found.new.place }
 {
-    match refused_of(alloc, members, owner, artifacts) {
+    match refused_in(alloc, members, owner, artifacts) {
         Ok(None) => {
             found.tell(artifacts.len(), None);
             Status::Done
@@ -115,28 +111,4 @@ fn checked_entries(
         }
         Err(_) => Status::Memory,
     }
-}
-
-/// The scheme of a committee of so many.
-fn scheme_of(alloc: Global, members: u16) -> Result<PlainScheme, AllocError>
-    requires { 0 < members }
-    ensures base { IfOk result (λ scheme. scheme.base ≡ codes "simplex") }
-    ensures members { IfOk result (λ scheme. scheme.participants ≡ members) }
-{
-    PlainScheme::new(alloc, BASE, u32::from(members), None)
-}
-
-/// The position of the first artifact that a lawful record of this owner refuses, if there is one.
-fn refused_of(
-    alloc: Global,
-    members: u16,
-    owner: Owner,
-    artifacts: &[Artifact<PlainScheme, Sha256Digest>],
-) -> Result<Option<usize>, AllocError>
-    requires { 0 < members }
-    ensures lawful { IfOk result (λ found. IfNone found (IsLawful (attests_in members) (certifies_in members) owner artifacts.now)) }
-    ensures refused { IfOk result (λ found. IfSome found (IsRefusedAt (attests_in members) (certifies_in members) owner artifacts.now)) }
-{
-    let scheme = scheme_of(alloc, members)?;
-    first_refused(alloc, &scheme, owner, artifacts)
 }

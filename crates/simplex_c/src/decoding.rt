@@ -2,11 +2,11 @@
 
 ghost use Rattle.std.specs.Prelude.{◌≡◌, ◌<◌};
 ghost use Rattle.simplex_cli.specs.Running.{report_at};
-ghost use Rattle.simplex_c.specs.Answers.{Tells, certificate_at, plain_artifact_at, status_number, vote_at};
-ghost use Rattle.simplex_c.specs.declared.status.Status.TheVariants.{Argument};
+ghost use Rattle.simplex_hosted.specs.Answers.{status_number};
+ghost use Rattle.simplex_c.specs.Answers.{Tells, certificate_at, plain_artifact_at, vote_at};
+ghost use Rattle.simplex_hosted.specs.declared.status.Status.TheVariants.{Argument};
 
-use crate::found::Found;
-use crate::status::Status;
+use simplex_hosted::{Found, Status};
 use simplex_messages::{Activity, Artifact, Certificate, Vote};
 use simplex_signing::PlainScheme;
 use simplex_types::{CodecError, Read, Sha256Digest};

@@ -7,19 +7,18 @@ ghost use Rattle.simplex_cli.specs.Running.{report_at};
 ghost use Rattle.simplex_journal.specs.Record.{IsForeign};
 ghost use Rattle.simplex_record.specs.Lawful.{IsLawful, IsRefusedAt};
 ghost use Rattle.simplex_tooling.specs.Answers.{Entry, HoldsEntries, IsEntry, IsEvidence, attests_in, certifies_in, entry_spelling};
-ghost use Rattle.simplex_c.specs.Answers.{Names, Tells, certificate_at, owner, plain_artifact_at, vote_at};
+ghost use Rattle.simplex_hosted.specs.Answers.{Names};
+ghost use Rattle.simplex_c.specs.Answers.{Tells, certificate_at, owner, plain_artifact_at, vote_at};
 
 mod answering;
 mod decoding;
-mod found;
-mod status;
 
 use answering::{audited, checked};
 use decoding::decoded;
-pub use found::Found;
+pub use simplex_hosted::Found;
+use simplex_hosted::Status;
 use simplex_record::Owner;
 use simplex_types::{Epoch, Participant, TermLength};
-use status::Status;
 use std::alloc::Global;
 
 /// The evidence that an audit of these reports of a committee finds, as reports.

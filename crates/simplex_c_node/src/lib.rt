@@ -4,19 +4,17 @@
 
 ghost use Rattle.std.specs.Prelude.{◌≡◌, ◌≢◌, ◌⊎◌, ◌≤◌};
 
-mod found;
 mod handle;
 mod loose;
 mod place;
 mod serving;
 mod session;
-mod status;
 
-pub use found::Found;
 pub use handle::Handle;
 pub use place::Place;
 use serving::{closed, opened, replies_taken, requests_taken, stepped};
-use status::Status;
+pub use simplex_hosted::Found;
+use simplex_hosted::Status;
 use std::alloc::Global;
 
 /// Opens a member's node at moment 0 over its record's bytes, which the host keeps; what that hands out waits as the first reply.

@@ -1,15 +1,13 @@
 //! Calls on a member's node.
 
 ghost use Rattle.std.specs.Prelude.{◌≡◌, ◌≢◌, ◌<◌, ◌⊎◌, Ok, Err};
-ghost use Rattle.simplex_c_node.specs.Answers.{Names};
+ghost use Rattle.simplex_hosted.specs.Answers.{Names};
 ghost use Rattle.simplex_c_node.specs.Serving.{ending_status, run_place, run_status, unopened_place, unopened_status, unstepped_status};
-ghost use Rattle.simplex_c_node.specs.declared.status.Status.TheVariants.{Argument, Done, Foreign, Invalid, Refused, Room};
+ghost use Rattle.simplex_hosted.specs.declared.status.Status.TheVariants.{Argument, Done, Foreign, Invalid, Refused, Room};
 
-use crate::found::Found;
 use crate::handle::Handle;
 use crate::session::Session;
-use crate::status::Status;
-use simplex_hosted::take_all;
+use simplex_hosted::{Found, Status, take_all};
 use simplex_member::{IoFault, NodeFault, OpenFault};
 use std::alloc::Global;
 

@@ -106,14 +106,8 @@ fn opened(
 ) -> Result<Session, OpenFault>
     requires { member < members }
 {
-    let Ok(scheme) = scheme(alloc, member, members) else {
-        return Err(OpenFault::Memory);
-    };
-    let Ok(elector) = elector(alloc, members) else {
-        return Err(OpenFault::Memory);
-    };
     let mut replies = Vec::new(alloc);
-    match begin(alloc, config(), scheme, elector, disk, &mut replies) {
+    match set_up(alloc, members, member, disk, &mut replies) {
         Ok(node) => Ok(Session {
             node,
             requests,
@@ -121,6 +115,25 @@ fn opened(
         }),
         Err(fault) => Err(fault),
     }
+}
+
+/// The node of a member over this disk, set up as the program's, and its first reply.
+fn set_up<K: Disk>(
+    alloc: Global,
+    members: u16,
+    member: u16,
+    disk: K,
+    replies: &mut Vec<u8>,
+) -> Result<Node<PlainScheme, RoundRobinElector, Sha256Digest, K>, OpenFault>
+    requires { member < members }
+{
+    let Ok(scheme) = scheme(alloc, member, members) else {
+        return Err(OpenFault::Memory);
+    };
+    let Ok(elector) = elector(alloc, members) else {
+        return Err(OpenFault::Memory);
+    };
+    begin(alloc, config(), scheme, elector, disk, replies)
 }
 
 /// Opens a member's record at moment 0, and spells what that hands out as a reply.

@@ -1,10 +1,11 @@
 //! What is answered to each request, about bytes that were read.
 
-ghost use Rattle.std.specs.Prelude.{◌≡◌, ◌++◌, ◌<◌, [], None, IfOk, IfSome, OnOk, codes, string_bytes};
+ghost use Rattle.std.specs.Prelude.{◌≡◌, ◌++◌, ◌<◌, [], None, IfNone, IfOk, IfSome, OnOk, codes, string_bytes};
 ghost use Rattle.std.specs.List.{flat_map};
 ghost use Rattle.std.specs.Option.{option_map_or};
 ghost use Rattle.simplex_cli.specs.Running.{report_spelling};
-ghost use Rattle.simplex_tooling.specs.Answers.{AreChecked, AreReports, IsAnswerTo, IsChecked, IsEvidence, IsRecordTold, lawful_line, refused_line};
+ghost use Rattle.simplex_record.specs.Lawful.{IsLawful, IsRefusedAt};
+ghost use Rattle.simplex_tooling.specs.Answers.{AreChecked, AreReports, IsAnswerTo, IsChecked, IsEvidence, IsRecordTold, attests_in, certifies_in, lawful_line, refused_line};
 ghost use Rattle.simplex_tooling.specs.Command.{IsAsked};
 ghost use Rattle.simplex_tooling.specs.Lines.{artifact_line, report_line};
 ghost use Rattle.simplex_tooling.specs.Parts.{place_line};
@@ -225,15 +226,30 @@ fn checked_entries(
     requires { 0 < count }
     ensures { IfOk result (λ answer. AreChecked style index count artifacts.now (string_bytes answer.0) answer.1) }
 {
-    let scheme = scheme_of(alloc, count)?;
     let owner = Owner {
         epoch: Epoch::new(0),
         term_length: TermLength::new(TERM),
         signer: Participant::new(u32::from(index)),
     };
-    let refused = first_refused(alloc, &scheme, owner, artifacts)?;
+    let refused = refused_in(alloc, count, owner, artifacts)?;
     let text = found_text(alloc, style, artifacts.len(), refused)?;
     Ok((text, refused))
+}
+
+/// The position of the first artifact that a lawful record of this owner, of a committee of so many, refuses, if there is one.
+/// Refused only where memory is.
+pub fn refused_in(
+    alloc: Global,
+    count: u16,
+    owner: Owner,
+    artifacts: &[Artifact<PlainScheme, Sha256Digest>],
+) -> Result<Option<usize>, AllocError>
+    requires { 0 < count }
+    ensures lawful { IfOk result (λ found. IfNone found (IsLawful (attests_in count) (certifies_in count) owner artifacts.now)) }
+    ensures refused { IfOk result (λ found. IfSome found (IsRefusedAt (attests_in count) (certifies_in count) owner artifacts.now)) }
+{
+    let scheme = scheme_of(alloc, count)?;
+    first_refused(alloc, &scheme, owner, artifacts)
 }
 
 /// The bytes of a text, and the place beside it.

@@ -10,7 +10,7 @@ mod program;
 mod reading;
 mod style;
 
-pub use answers::{answer_to, checked, dumped_record, dumped_reports, evidence_in};
+pub use answers::{answer_to, checked, dumped_record, dumped_reports, evidence_in, refused_in};
 pub use command::{Call, HELP, Request, VERSION, parse_call};
 pub use program::{misused, run_request, unopened, words_unread, write_answer};
 pub use style::Style;

@@ -4,10 +4,8 @@ use Rattle.simplex_tooling.proofs.answers.checked_entries.Goals as goal
 
 pub returns : goal.returns
 returns c =
-    let base = c.in_ok-scheme.ensures.base in
-    let count = c.in_ok-scheme.ensures.count in
     are_checked c.args.style c.args.index c.args.count c.args.artifacts.now (string_bytes c.in_ok-text.text) c.in_ok-refused.refused
-    (rw (base, count, c.new.ensures, c.new-2.ensures, c.new-3.ensures, c.from.ensures) at c.in_ok-refused.ensures.lawful)
-    (rw (base, count, c.new.ensures, c.new-2.ensures, c.new-3.ensures, c.from.ensures) at c.in_ok-refused.ensures.refused)
+    (rw (c.new.ensures, c.new-2.ensures, c.new-3.ensures, c.from.ensures) at c.in_ok-refused.ensures.lawful)
+    (rw (c.new.ensures, c.new-2.ensures, c.new-3.ensures, c.from.ensures) at c.in_ok-refused.ensures.refused)
     c.in_ok-text.ensures.lawful
     c.in_ok-text.ensures.refused

@@ -1,7 +1,7 @@
--- What calls from C answer.
+-- What calls answer a host.
 use Rattle.std.specs.Prelude.{◌≡◌, ℕ, Option, None, Some}
-use Rattle.simplex_c_node.specs.declared.status.Status.{Status}
-use Rattle.simplex_c_node.specs.declared.status.Status.TheVariants as status
+use Rattle.simplex_hosted.specs.declared.status.Status.{Status}
+use Rattle.simplex_hosted.specs.declared.status.Status.TheVariants as status
 
 -- the number of a status
 abbrev pub status_number : Status → ℕ
@@ -9,6 +9,7 @@ status_number status.Done = 0
 status_number status.Memory = 1
 status_number status.Argument = 2
 status_number status.Room = 3
+status_number status.End = 4
 status_number status.Invalid = 5
 status_number status.TooLong = 6
 status_number status.Refused = 7

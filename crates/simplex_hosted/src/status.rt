@@ -1,11 +1,11 @@
-//! What a call answers, as a number.
+//! What a call answers a host, as a number.
 
 ghost use Rattle.std.specs.Prelude.{◌≡◌};
-ghost use Rattle.simplex_c_node.specs.Answers.{status_number};
+ghost use Rattle.simplex_hosted.specs.Answers.{status_number};
 
 /// How a call ended.
-#[derive(Clone, Copy, PartialEq, Eq, Drop)]
-pub(crate) enum Status {
+#[derive(Drop)]
+pub enum Status {
     /// It did what was asked.
     Done,
     /// Memory ran out.
@@ -14,6 +14,8 @@ pub(crate) enum Status {
     Argument,
     /// The caller's buffer has no room for the answer.
     Room,
+    /// The bytes end within a value.
+    End,
     /// A byte or a value can't stand there.
     Invalid,
     /// A count is above its bound.
@@ -31,7 +33,7 @@ pub(crate) enum Status {
 impl Status {
     /// Its number, as the header has it.
     #[tactic(auto, unfolding(crate::specs::Answers::status_number))]
-    pub(crate) fn number(self) -> u32
+    pub fn number(self) -> u32
         ensures { result ≡ status_number self }
     {
         match self {
@@ -39,6 +41,7 @@ impl Status {
             Status::Memory => 1,
             Status::Argument => 2,
             Status::Room => 3,
+            Status::End => 4,
             Status::Invalid => 5,
             Status::TooLong => 6,
             Status::Refused => 7,

@@ -1,11 +1,11 @@
-//! What a call tells beside its status.
+//! What a call tells a host beside its status.
 
 ghost use Rattle.std.specs.Prelude.{◌≡◌};
-ghost use Rattle.simplex_c_node.specs.Answers.{Names};
+ghost use Rattle.simplex_hosted.specs.Answers.{Names};
 
-/// What a call tells beside its status. Any numbers may stand here before.
+/// What a call tells a host beside its status. Any numbers may stand here before.
 #[repr(C)]
-#[derive(Clone, Copy, Drop)]
+#[derive(Drop)]
 pub struct Found {
     /// How many bytes or entries there are.
     pub length: usize,
@@ -17,7 +17,7 @@ pub struct Found {
 
 impl Found {
     /// Tells a length, and a place if there is one.
-    pub(crate) fn tell(&mut self, length: usize, place: Option<u64>)
+    pub fn tell(&mut self, length: usize, place: Option<u64>)
         ensures length { self.new.length ≡ length }
         ensures place { Names self.new.named self.new.place place }
     {

@@ -1,0 +1,15 @@
+#!/bin/sh
+# committee.sh [--quick] [--runs N] [--views N] [--place FOLDER]: measures a committee of four in one process, driven from Rust by
+# bindings/rust, beside the same loop in Rattle, with records in files of that folder (/dev/shm); --quick lets fewer views go by.
+# COMMITTEE may name the program of committee/main.rt.txt, else it is proved and built here, which takes minutes to hours. The
+# static libraries have to stand where `rt lib` puts them (tools/test-bindings), or VOUMLIS_ARCHIVE names their folder.
+. "$(dirname "$0")/common.sh"
+
+(cd "$root/bindings/rust" && cargo build --offline --quiet --release --example committee --target-dir "$folder/target")
+if [ -z "${COMMITTEE:-}" ]; then
+    lay_out committee simplex_node simplex_member simplex_settings simplex_journal simplex_rules simplex_signing simplex_types
+    mkdir "$folder/records"
+    build "$folder/records" 1
+fi
+python3 -B "$here/measure_committee.py" --rust "$folder/target/release/examples/committee" \
+    --simplex "${COMMITTEE:-$folder/committee}" "$@"
