@@ -3,8 +3,8 @@
 ghost use Rattle.std.specs.Prelude.{◌≡◌, ◌++◌};
 
 use crate::hosting::{Host, Hosted};
-use simplex_signing::{Listed, Signature64};
-use simplex_types::{Attestation, Participant, Proposal, Scheme, Sha256Digest, Subject};
+use simplex_signing::Listed;
+use simplex_types::{Participant, Proposal, Scheme, Sha256Digest, Subject};
 use std::alloc::{AllocError, Global};
 
 /// A host with no key: its signatures are the hash twice, so anyone can make them.
@@ -46,21 +46,6 @@ fn committee(index: u32) -> Listed<Hosted<Keyless>> {
     Listed { committee }
 }
 
-/// What the hosts of so many members sign.
-fn signed_by(
-    alloc: Global,
-    signers: u32,
-    subject: &Subject<'_, Sha256Digest>,
-) -> Result<Vec<Attestation<Signature64>>, AllocError> {
-    let mut signed = Vec::new(alloc);
-    for index in 0..signers {
-        if let Some(attestation) = committee(index).sign(subject) {
-            signed.push(attestation)?;
-        }
-    }
-    Ok(signed)
-}
-
 /// Whether a certificate of what the hosts of so many members signed verifies at the fourth.
 pub(crate) fn certified_by(
     alloc: Global,
@@ -68,7 +53,12 @@ pub(crate) fn certified_by(
     proposal: &Proposal<Sha256Digest>,
 ) -> Result<bool, AllocError> {
     let subject = Subject::Notarize(proposal);
-    let signed = signed_by(alloc, signers, &subject)?;
+    let mut signed = Vec::new(alloc);
+    for index in 0..signers {
+        if let Some(attestation) = committee(index).sign(&subject) {
+            signed.push(attestation)?;
+        }
+    }
     let judge = committee(3);
     let Some(certificate) = judge.optimistic_assemble(alloc, &subject, &signed)? else {
         return Ok(false);
