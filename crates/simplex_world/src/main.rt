@@ -20,20 +20,25 @@
 //! ran out, 4 where reading or writing failed; else 0.
 #![tactic(auto)]
 
-mod keeper;
-mod medium;
+mod life;
 mod turns;
 
-use crate::keeper::Keeper;
+use crate::life::NodeLife;
+use simplex_node::Node;
 use simplex_rules::RoundRobinElector;
 use simplex_signing::PlainScheme;
+use simplex_types::Sha256Digest;
 use std::process::ExitCode;
 use std::{env, io};
+use world_members::Keeper;
 use world_network::TornDisk;
 use world_playing::play;
 
+/// A node of these worlds.
+type Open = Node<PlainScheme, RoundRobinElector, Sha256Digest, TornDisk>;
+
 /// A member of these worlds.
-type Seated = Keeper<PlainScheme, RoundRobinElector, TornDisk>;
+type Seated = Keeper<PlainScheme, TornDisk, Open, NodeLife>;
 
 /// Whether the words behind the program's name ask for JSON.
 fn asks_json(rt: &HostRuntime) -> io::Result<bool> {

@@ -2,10 +2,14 @@
 //! it crashes.
 #![tactic(auto)]
 
+mod keeper;
+mod life;
 mod member;
 mod seat;
 mod setup;
 
-pub use member::{Member, member_of};
+pub use keeper::Keeper;
+pub use life::{Life, Medium};
+pub use member::Member;
 pub use seat::{Halt, Seat};
 pub use setup::{config_of, rotation_of};

@@ -3,7 +3,7 @@
 use script_words::Committee;
 use simplex_member::{Action, Event, Reply};
 use simplex_types::Sha256Digest;
-use std::alloc::{AllocError, AllocFailed, Global};
+use std::alloc::Global;
 use world_network::Fuse;
 use world_scenario::{Broken, Scenario};
 
@@ -18,18 +18,6 @@ pub enum Halt {
     Lost,
     /// The run can't go on.
     Broken(Broken),
-}
-
-impl From<AllocError> for Halt {
-    fn from(_error: AllocError) -> Halt {
-        Halt::Broken(Broken::Memory)
-    }
-}
-
-impl<T: Drop> From<AllocFailed<T>> for Halt {
-    fn from(_error: AllocFailed<T>) -> Halt {
-        Halt::Broken(Broken::Memory)
-    }
 }
 
 /// A member's node, or the disk that is left of it.
