@@ -49,11 +49,7 @@ impl<S: Committee, K: Medium, N, T: Life<S, K, N>> Drop for Keeper<S, K, N, T> {
 
 impl<S: Committee, K: Medium, N, T: Life<S, K, N>> Keeper<S, K, N, T> {
     /// Opens the disk as this member of the committee.
-    fn open_as(
-        &mut self,
-        scheme: Rc<S>,
-        now: u64,
-    ) -> Result<Vec<Action<S, Sha256Digest>>, Halt> {
+    fn open_as(&mut self, scheme: Rc<S>, now: u64) -> Result<Vec<Action<S, Sha256Digest>>, Halt> {
         let Some(disk) = self.disk.take() else {
             return Err(Halt::Idle);
         };

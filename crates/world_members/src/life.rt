@@ -47,10 +47,7 @@ pub trait Life<S: Scheme<Sha256Digest>, K, N> {
     ) -> Result<(N, Vec<Action<S, Sha256Digest>>), (OpenFault, K)>;
 
     /// Takes an event.
-    fn step(
-        node: &mut N,
-        event: Event<Sha256Digest>,
-    ) -> Result<Reply<S, Sha256Digest>, NodeFault>;
+    fn step(node: &mut N, event: Event<Sha256Digest>) -> Result<Reply<S, Sha256Digest>, NodeFault>;
 
     /// Its current view.
     fn current_view(node: &N) -> u64;

@@ -209,7 +209,11 @@ fn liar_of<S: Committee>(
 }
 
 /// The committee as a member sees it.
-pub(crate) fn member_of<S: Committee>(alloc: Global, members: u32, index: u32) -> Result<S, Broken> {
+pub(crate) fn member_of<S: Committee>(
+    alloc: Global,
+    members: u32,
+    index: u32,
+) -> Result<S, Broken> {
     match S::member_of(alloc, members, Some(Participant::new(index)), 0) {
         Ok(scheme) => Ok(scheme),
         Err(Trouble::Memory) => Err(Broken::Memory),
