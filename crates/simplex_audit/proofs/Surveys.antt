@@ -82,6 +82,11 @@ module _ {K S D P G C : Type 0} where
     noted = λ w among. inl (subst (λ (x : ProposalVote K S D P G C). IsTrue (contains suspect_cmp t (suspect_of x))) (only_element v w among) there);
   }
 
+  -- the same of an answer that may be a refusal
+  pub OnOk-contested : {T E : Type 0} (r : Result T E) (m n : List (Round × Choice D)) (s t : BTreeSet Suspect) (v : ProposalVote K S D P G C) → Extends m n → OnOk r (IsSubset suspect_cmp s t) → OnOk r (IsTrue (contains suspect_cmp t (suspect_of v))) → OnOk r (Notes m n s t (v ∷ []))
+  OnOk-contested (Ok x) m n s t v extends stay there = Notes-contested m n s t v extends stay there
+  OnOk-contested (Err e) m n s t v extends stay there = tt
+
   -- the votes that a certificate lists
   module _ (lists : C → List (Attestation G)) (c : ProposalCertificate K S D P G C) where
     pub Notes-all_chosen : (m n : List (Round × Choice D)) (s : BTreeSet Suspect) → Extends m n → choice_in n c.proposal.round ≡ Some (choice_of c.proposal) → Notes m n s s (votes_listed lists c)
@@ -101,6 +106,10 @@ module _ {K S D P G C : Type 0} where
           let found = Contains-map (λ (a : Attestation G). vote_of_parts {K = K} {S = S} {P = P} {C = C} (c.proposal, a)) (lists c.certificate) w there in
           inl (subst (λ (x : ProposalVote K S D P G C). IsTrue (contains suspect_cmp t (suspect_of x))) found.2 (all found.0 found.1));
     }
+
+    pub OnOk-all_contested : {T E : Type 0} (r : Result T E) (m n : List (Round × Choice D)) (s t : BTreeSet Suspect) → Extends m n → OnOk r (IsSubset suspect_cmp s t) → OnOk r ((a : Attestation G) → Contains (lists c.certificate) a → IsTrue (contains suspect_cmp t (suspect_from c.proposal.round a.signer))) → OnOk r (Notes m n s t (votes_listed lists c))
+    OnOk-all_contested (Ok x) m n s t extends stay all = Notes-all_contested m n s t extends stay all
+    OnOk-all_contested (Err e) m n s t extends stay all = tt
 
   -- one vote, and then another, if that was noted
   pub OnOk-two : {T E : Type 0} (r : Result T E) (m n o : List (Round × Choice D)) (s t u : BTreeSet Suspect) (v w : ProposalVote K S D P G C) → Notes m n s t (v ∷ []) → OnOk r (Notes n o t u (w ∷ [])) → OnOk r (Notes m o s u (v ∷ w ∷ []))
@@ -172,6 +181,11 @@ module _ {S D P G C : Type 0} (lists : C → List (Attestation G)) where
       | inr last ↦ one.nullifies v last
     ];
   }
+
+  -- one more report, if it was noted
+  pub OnOk-surveyed-more : {T E : Type 0} (r : Result T E) (report : Activity S D P G C) (old new : Survey D) → OnOk r (SurveysOne lists report old new) → OnOk r ((reports : List (Activity S D P G C)) → AreSurveyed lists reports old → AreSurveyed lists (reports ++ report ∷ []) new)
+  OnOk-surveyed-more (Ok x) report old new one = λ reports all. surveyed-more reports report old new one all
+  OnOk-surveyed-more (Err e) report old new one = tt
 
   -- the contested, and those who voted to give up a round that was finalized, are all who may be guilty
   pub guilty-contested : (attests : ℕ → Statement D → G → Type 0) (reports : List (Activity S D P G C)) (old : Survey D) (contested : BTreeSet Suspect) → AreSurveyed lists reports old → IsSubset suspect_cmp old.contested contested

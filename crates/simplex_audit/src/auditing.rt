@@ -8,9 +8,9 @@ ghost use Rattle.simplex_messages.specs.declared.activity.Activity.{Activity};
 ghost use Rattle.simplex_audit.specs.Accountability.{IsContradicted, NamesAtLeast};
 ghost use Rattle.simplex_audit.specs.Audit.{IsAudit, IsRead, IsVerdict};
 ghost use Rattle.simplex_audit.specs.Counted.{Counts, CountsOne, CountsRead};
-ghost use Rattle.simplex_audit.specs.Survey.{AreSurveyed, HasGuilty, SurveysOne};
-ghost use Rattle.simplex_audit.specs.Tally.{HoldsReports};
+ghost use Rattle.simplex_audit.specs.Survey.{HasGuilty};
 
+use crate::counting::Counting;
 use crate::roster::Suspects;
 use crate::survey::Survey;
 use crate::tally::Tally;
@@ -57,7 +57,7 @@ fn contested<S: Listing<D>, D: Digest>(
     ensures { IfOk result (λ found. Counts (HasGuilty S.lists (S.attests scheme.now)) (Readable ⟦<Activity<S, D> as Write>⟧.fits (⟦<Activity<S, D> as Read>⟧.within (S.size scheme.now))) ⟦<Activity<S, D> as Write>⟧.spelling (⟦<Activity<S, D> as Read>⟧.reading (S.size scheme.now)) bytes.now found.1 found.0) }
 {
     let mut survey: Survey<D> = Survey::new::<S>(alloc);
-    let fault = survey_reports(alloc, scheme, participants, bytes, &mut survey)?;
+    let fault = count_reports::<S, D, (), Survey<D>>(alloc, participants, &(), bytes, &mut survey)?;
     let contested = survey.into_contested(alloc)?;
     Ok((contested, fault))
 }
@@ -77,139 +77,49 @@ fn evidence_among<S: Listing<D>, D: Digest>(
         return Ok(Vec::new(alloc));
     }
     let mut tally = Tally::new(alloc);
-    let _fault = count_reports(alloc, scheme, participants, contested, bytes, &mut tally)?;
+    let beside = (scheme, contested);
+    let _fault = count_reports::<S, D, (&S, &Suspects), Tally<S, D>>(
+        alloc,
+        participants,
+        &beside,
+        bytes,
+        &mut tally,
+    )?;
     tally.evidence(alloc, scheme, contested)
 }
 
-/// Notes the votes of the reports, and tells the place of the first byte at which none stands.
-fn survey_reports<S: Listing<D>, D: Digest>(
-    alloc: Global,
-    scheme: &S,
-    participants: u32,
-    bytes: &[u8],
-    survey: &mut Survey<D>,
-) -> Result<Option<usize>, AllocError>
-    requires bound { participants ≡ S.size scheme.now }
-    requires empty { AreSurveyed {S = S} {P = S.PublicKey} S.lists [] survey.old }
-    ensures { IfOk result (λ fault. Counts (AreSurveyed {S = S} {P = S.PublicKey} S.lists) (Readable ⟦<Activity<S, D> as Write>⟧.fits (⟦<Activity<S, D> as Read>⟧.within (S.size scheme.now))) ⟦<Activity<S, D> as Write>⟧.spelling (⟦<Activity<S, D> as Read>⟧.reading (S.size scheme.now)) bytes.now fault survey.new) }
-{
-    let mut rest = bytes;
-    while !rest.is_empty() {
-        if !survey_next(alloc, scheme, participants, &mut rest, survey)? {
-            return Ok(Some(bytes.len() - rest.len()));
-        }
-    }
-    Ok(None)
-}
-
-/// Notes the votes of the next report, or tells that none stands there. Most reports are loose notarizes, whose tag is 0. Each is read as
-/// such, since it would be laid down twice to become a report, which has room for the widest.
-fn survey_next<S: Listing<D>, D: Digest>(
-    alloc: Global,
-    scheme: &S,
-    participants: u32,
-    rest: &mut &[u8],
-    survey: &mut Survey<D>,
-) -> Result<bool, AllocError>
-    requires bound { participants ≡ S.size scheme.now }
-    ensures { IfOk result (λ counted. MatchBool counted
-        (CountsOne (AreSurveyed {S = S} {P = S.PublicKey} S.lists) (Readable ⟦<Activity<S, D> as Write>⟧.fits (⟦<Activity<S, D> as Read>⟧.within (S.size scheme.now))) ⟦<Activity<S, D> as Write>⟧.spelling rest.old.now rest.new.now survey.old survey.new)
-        (IsErr (⟦<Activity<S, D> as Read>⟧.reading (S.size scheme.now) rest.old.now) × (rest.new.now ≡ rest.old.now) × (survey.new ≡ survey.old))) }
-{
-    match behind_notarize(rest) {
-        Some(behind) => {
-            let mut after = behind;
-            let read: Result<Notarize<S, D>, CodecError> = next_message(
-                alloc,
-                &mut after,
-                participants,
-            );
-            match &read {
-                Ok(vote) => {
-                    survey.note_notarize(vote)?;
-                    *rest = after;
-                    Ok(true)
-                }
-                Err(CodecError::Memory) => Err(AllocError),
-                Err(_) => Ok(false),
-            }
-        }
-        None => survey_report(alloc, scheme, participants, rest, survey),
-    }
-}
-
-/// Notes the votes of the next report, of any kind, or tells that none stands there.
-#[inline(never)]
-fn survey_report<S: Listing<D>, D: Digest>(
-    alloc: Global,
-    scheme: &S,
-    participants: u32,
-    rest: &mut &[u8],
-    survey: &mut Survey<D>,
-) -> Result<bool, AllocError>
-    requires bound { participants ≡ S.size scheme.now }
-    ensures { IfOk result (λ counted. MatchBool counted
-        (CountsOne (AreSurveyed {S = S} {P = S.PublicKey} S.lists) (Readable ⟦<Activity<S, D> as Write>⟧.fits (⟦<Activity<S, D> as Read>⟧.within (S.size scheme.now))) ⟦<Activity<S, D> as Write>⟧.spelling rest.old.now rest.new.now survey.old survey.new)
-        (IsErr (⟦<Activity<S, D> as Read>⟧.reading (S.size scheme.now) rest.old.now) × (rest.new.now ≡ rest.old.now) × (survey.new ≡ survey.old))) }
-{
-    let read: Result<Activity<S, D>, CodecError> = next_message(alloc, rest, participants);
-    let noted = survey_read(&read, survey);
-    drop(read);
-    noted
-}
-
-/// Notes the votes of the report that was read, or tells that none was.
-fn survey_read<S: Listing<D>, D: Digest>(
-    read: &Result<Activity<S, D>, CodecError>,
-    survey: &mut Survey<D>,
-) -> Result<bool, AllocError>
-    ensures { IfOk result (CountsRead (AreSurveyed {S = S} {P = S.PublicKey} S.lists) read.now survey.old survey.new) }
-{
-    match read {
-        Ok(report) => {
-            survey.note_report(report)?;
-            Ok(true)
-        }
-        Err(CodecError::Memory) => Err(AllocError),
-        Err(_) => Ok(false),
-    }
-}
-
 /// Counts the votes of the reports, and tells the place of the first byte at which none stands.
-fn count_reports<S: Listing<D>, D: Digest>(
+fn count_reports<S: Listing<D>, D: Digest, B, T: Counting<S, D, B>>(
     alloc: Global,
-    scheme: &S,
     participants: u32,
-    contested: &Suspects,
+    beside: &B,
     bytes: &[u8],
-    tally: &mut Tally<S, D>,
+    kept: &mut T,
 ) -> Result<Option<usize>, AllocError>
-    requires bound { participants ≡ S.size scheme.now }
-    requires empty { HoldsReports S.lists (S.attests scheme.now) D.cmp contested.now [] tally.old }
-    ensures { IfOk result (λ fault. Counts (HoldsReports S.lists (S.attests scheme.now) D.cmp contested.now) (Readable ⟦<Activity<S, D> as Write>⟧.fits (⟦<Activity<S, D> as Read>⟧.within (S.size scheme.now))) ⟦<Activity<S, D> as Write>⟧.spelling (⟦<Activity<S, D> as Read>⟧.reading (S.size scheme.now)) bytes.now fault tally.new) }
+    requires empty { T.holds beside.now [] kept.old }
+    ensures { IfOk result (λ fault. Counts (T.holds beside.now) (Readable ⟦<Activity<S, D> as Write>⟧.fits (⟦<Activity<S, D> as Read>⟧.within participants)) ⟦<Activity<S, D> as Write>⟧.spelling (⟦<Activity<S, D> as Read>⟧.reading participants) bytes.now fault kept.new) }
 {
     let mut rest = bytes;
     while !rest.is_empty() {
-        if !count_next(alloc, scheme, participants, contested, &mut rest, tally)? {
+        if !count_next::<S, D, B, T>(alloc, participants, beside, &mut rest, kept)? {
             return Ok(Some(bytes.len() - rest.len()));
         }
     }
     Ok(None)
 }
 
-/// Counts the votes of the next report, or tells that none stands there. A loose notarize is read as such here too.
-fn count_next<S: Listing<D>, D: Digest>(
+/// Counts the votes of the next report, or tells that none stands there. Most reports are loose notarizes, whose tag is 0. Each is read as
+/// such, since it would be laid down twice to become a report, which has room for the widest.
+fn count_next<S: Listing<D>, D: Digest, B, T: Counting<S, D, B>>(
     alloc: Global,
-    scheme: &S,
     participants: u32,
-    contested: &Suspects,
+    beside: &B,
     rest: &mut &[u8],
-    tally: &mut Tally<S, D>,
+    kept: &mut T,
 ) -> Result<bool, AllocError>
-    requires bound { participants ≡ S.size scheme.now }
     ensures { IfOk result (λ counted. MatchBool counted
-        (CountsOne (HoldsReports S.lists (S.attests scheme.now) D.cmp contested.now) (Readable ⟦<Activity<S, D> as Write>⟧.fits (⟦<Activity<S, D> as Read>⟧.within (S.size scheme.now))) ⟦<Activity<S, D> as Write>⟧.spelling rest.old.now rest.new.now tally.old tally.new)
-        (IsErr (⟦<Activity<S, D> as Read>⟧.reading (S.size scheme.now) rest.old.now) × (rest.new.now ≡ rest.old.now) × (tally.new ≡ tally.old))) }
+        (CountsOne (T.holds beside.now) (Readable ⟦<Activity<S, D> as Write>⟧.fits (⟦<Activity<S, D> as Read>⟧.within participants)) ⟦<Activity<S, D> as Write>⟧.spelling rest.old.now rest.new.now kept.old kept.new)
+        (IsErr (⟦<Activity<S, D> as Read>⟧.reading participants rest.old.now) × (rest.new.now ≡ rest.old.now) × (kept.new ≡ kept.old))) }
 {
     match behind_notarize(rest) {
         Some(behind) => {
@@ -221,7 +131,7 @@ fn count_next<S: Listing<D>, D: Digest>(
             );
             match &read {
                 Ok(vote) => {
-                    tally.count_notarize(scheme, contested, vote)?;
+                    kept.add_notarize(beside, vote)?;
                     *rest = after;
                     Ok(true)
                 }
@@ -229,43 +139,40 @@ fn count_next<S: Listing<D>, D: Digest>(
                 Err(_) => Ok(false),
             }
         }
-        None => count_report(alloc, scheme, participants, contested, rest, tally),
+        None => count_report::<S, D, B, T>(alloc, participants, beside, rest, kept),
     }
 }
 
 /// Counts the votes of the next report, of any kind, or tells that none stands there.
 #[inline(never)]
-fn count_report<S: Listing<D>, D: Digest>(
+fn count_report<S: Listing<D>, D: Digest, B, T: Counting<S, D, B>>(
     alloc: Global,
-    scheme: &S,
     participants: u32,
-    contested: &Suspects,
+    beside: &B,
     rest: &mut &[u8],
-    tally: &mut Tally<S, D>,
+    kept: &mut T,
 ) -> Result<bool, AllocError>
-    requires bound { participants ≡ S.size scheme.now }
     ensures { IfOk result (λ counted. MatchBool counted
-        (CountsOne (HoldsReports S.lists (S.attests scheme.now) D.cmp contested.now) (Readable ⟦<Activity<S, D> as Write>⟧.fits (⟦<Activity<S, D> as Read>⟧.within (S.size scheme.now))) ⟦<Activity<S, D> as Write>⟧.spelling rest.old.now rest.new.now tally.old tally.new)
-        (IsErr (⟦<Activity<S, D> as Read>⟧.reading (S.size scheme.now) rest.old.now) × (rest.new.now ≡ rest.old.now) × (tally.new ≡ tally.old))) }
+        (CountsOne (T.holds beside.now) (Readable ⟦<Activity<S, D> as Write>⟧.fits (⟦<Activity<S, D> as Read>⟧.within participants)) ⟦<Activity<S, D> as Write>⟧.spelling rest.old.now rest.new.now kept.old kept.new)
+        (IsErr (⟦<Activity<S, D> as Read>⟧.reading participants rest.old.now) × (rest.new.now ≡ rest.old.now) × (kept.new ≡ kept.old))) }
 {
-    let read = next_message(alloc, rest, participants);
-    let counted = count_read(scheme, contested, &read, tally);
+    let read: Result<Activity<S, D>, CodecError> = next_message(alloc, rest, participants);
+    let counted = count_read::<S, D, B, T>(beside, &read, kept);
     drop(read);
     counted
 }
 
 /// Counts the votes of the report that was read, or tells that none was.
-fn count_read<S: Listing<D>, D: Digest>(
-    scheme: &S,
-    contested: &Suspects,
+fn count_read<S: Listing<D>, D: Digest, B, T: Counting<S, D, B>>(
+    beside: &B,
     read: &Result<Activity<S, D>, CodecError>,
-    tally: &mut Tally<S, D>,
+    kept: &mut T,
 ) -> Result<bool, AllocError>
-    ensures { IfOk result (CountsRead (HoldsReports S.lists (S.attests scheme.now) D.cmp contested.now) read.now tally.old tally.new) }
+    ensures { IfOk result (CountsRead (T.holds beside.now) read.now kept.old kept.new) }
 {
     match read {
         Ok(report) => {
-            tally.count_report(scheme, contested, report)?;
+            kept.add_report(beside, report)?;
             Ok(true)
         }
         Err(CodecError::Memory) => Err(AllocError),

@@ -5,6 +5,7 @@ mod auditing;
 mod ballots;
 mod cast;
 mod choices;
+mod counting;
 mod laws;
 mod nullifies;
 mod roster;

@@ -13,6 +13,7 @@ ghost use Rattle.simplex_audit.specs.Survey.{AreGivenUp, AreSurveyed, Notes, Sur
 
 use crate::cast::Suspect;
 use crate::choices::Choices;
+use crate::counting::Counting;
 use crate::roster::{Gathered, Suspects};
 use simplex_messages::{
     Activity, ConflictingVotes, Notarize, Nullification, ProposalCertificate, ProposalKind,
@@ -91,6 +92,19 @@ impl<D: Digest> Survey<D> {
     }
 }
 
+impl<S: Listing<D>, D: Digest> Counting<S, D, ()> for Survey<D> {
+    ghost holds = { λ _ reports survey. AreSurveyed S.lists reports survey };
+
+    fn add_report(&mut self, _beside: &(), report: &Activity<S, D>) -> Result<(), AllocError> {
+        self.note_report(report)
+    }
+
+    #[inline(always)]
+    fn add_notarize(&mut self, _beside: &(), vote: &Notarize<S, D>) -> Result<(), AllocError> {
+        self.note_notarize(vote)
+    }
+}
+
 /// Adds those who voted to give up a round that was finalized.
 fn contest<D: Digest>(
     nullified: &[Suspect],
@@ -119,10 +133,10 @@ fn note<K: ProposalKind<D>, S: Scheme<D>, D: Digest>(
 {
     // A copy, for the same reason.
     let proposal = vote.proposal;
-    if !chosen.choose(&proposal)? {
-        insert(contested, proposal.round, &vote.attestation)?;
+    if chosen.choose(&proposal)? {
+        return Ok(());
     }
-    Ok(())
+    insert(contested, proposal.round, &vote.attestation)
 }
 
 /// Notes what the votes are for that a report holds.
@@ -162,11 +176,11 @@ fn note_listed<K: ProposalKind<D>, S: Listing<D>, D: Digest>(
     ensures { OnOk result (Notes chosen.old chosen.new contested.old contested.new (votes_listed S.lists made.now)) }
 {
     let certified = made.proposal;
-    if !chosen.choose(&certified)? {
-        let listed = S::attestations(&made.certificate);
-        insert_all::<S, D>(contested, &certified.round, listed)?;
+    if chosen.choose(&certified)? {
+        return Ok(());
     }
-    Ok(())
+    let listed = S::attestations(&made.certificate);
+    insert_all(contested, &certified.round, listed)
 }
 
 /// Adds those whose nullifies a report holds.
@@ -193,7 +207,7 @@ fn insert_listed<S: Listing<D>, D: Digest>(
     ensures given_up { OnOk result (AreGivenUp nullified.new (nullifies_listed S.lists made.now)) }
 {
     let listed = S::attestations(&made.certificate);
-    insert_all::<S, D>(nullified, &made.round, listed)
+    insert_all(nullified, &made.round, listed)
 }
 
 /// Adds the signer in the round.
@@ -210,13 +224,13 @@ fn insert<G>(
 }
 
 /// Adds each signer of these in the round.
-fn insert_all<S: Scheme<D>, D: Digest>(
+fn insert_all<G>(
     suspects: &mut Gathered,
     round: &Round,
-    listed: &[Attestation<S::Signature>],
+    listed: &[Attestation<G>],
 ) -> Result<(), AllocError>
     ensures stay { OnOk result (IsSubset suspect_cmp suspects.old suspects.new) }
-    ensures added { OnOk result ((a : Attestation S.Signature) → Contains listed.now a → IsTrue (contains suspect_cmp suspects.new (record { round = round.now; signer = a.signer }))) }
+    ensures added { OnOk result ((a : Attestation G) → Contains listed.now a → IsTrue (contains suspect_cmp suspects.new (record { round = round.now; signer = a.signer }))) }
 {
     for attestation in listed {
         insert(suspects, *round, attestation)?;

@@ -12,6 +12,7 @@ ghost use Rattle.simplex_audit.specs.Tally.{AddsEvidence, AreApart, HoldsReports
 
 use crate::ballots::Ballots;
 use crate::cast::Suspect;
+use crate::counting::Counting;
 use crate::nullifies::Nullifies;
 use crate::roster::Suspects;
 use simplex_messages::{Activity, Finalizing, Notarize, Notarizing, NullifyFinalize};
@@ -165,6 +166,27 @@ impl<S: Listing<D>, D: Digest> Tally<S, D> {
         ensures { OnOk result ((reports : List (Activity S D S.PublicKey S.Signature S.Certificate)) → HoldsReports S.lists (S.attests scheme.now) D.cmp contested.now reports self.old → HoldsReports S.lists (S.attests scheme.now) D.cmp contested.now (reports ++ notarize_report vote.now ∷ []) self.new) }
     {
         self.notarizes.count(scheme, contested, vote)
+    }
+}
+
+impl<'a, S: Listing<D>, D: Digest> Counting<S, D, (&'a S, &'a Suspects)> for Tally<S, D> {
+    ghost holds = { λ beside reports tally. HoldsReports S.lists (S.attests beside.0.now) D.cmp beside.1.now reports tally };
+
+    fn add_report(
+        &mut self,
+        beside: &(&'a S, &'a Suspects),
+        report: &Activity<S, D>,
+    ) -> Result<(), AllocError> {
+        self.count_report(beside.0, beside.1, report)
+    }
+
+    #[inline(always)]
+    fn add_notarize(
+        &mut self,
+        beside: &(&'a S, &'a Suspects),
+        vote: &Notarize<S, D>,
+    ) -> Result<(), AllocError> {
+        self.count_notarize(beside.0, beside.1, vote)
     }
 }
 

@@ -38,6 +38,6 @@ returns g c =
     let n = g.S.Scheme.size c.args.scheme.now in
     let small = rw c.requires.bound at c.ranges.participants.fits in
     let codec = activity-IsCodec g.D.PartialEq.eq (bounded-IsCodec (g.met.D.Read.one_spelling n small) (g.met.D.Digest.unbounded n)) (bounded-IsCodec (g.met.S.Signature.Read.one_spelling n small) (g.met.S.Signature.Signature.unbounded n)) (g.met.S.Certificate.Read.one_spelling n small) in
-    let counts = c.in_ok-_fault.ensures in
-    IfOk-verdict g.S.Scheme.lists (g.S.Scheme.attests c.args.scheme.now) g.D.Ord.cmp c.args.contested.now c.count_reports.new.tally (λ evidence. evidence.items) _ counts.reports counts.holds
+    let counts = rw c.requires.bound at c.in_ok-_fault.ensures in
+    IfOk-verdict g.S.Scheme.lists (g.S.Scheme.attests c.args.scheme.now) g.D.Ord.cmp c.args.contested.now c.count_reports.new.kept (λ evidence. evidence.items) _ counts.reports counts.holds
     (λ reports fault read. IsRead-unique codec (shorter g.D.Write.spelling g.S.Signature.Write.spelling g.S.Certificate.Write.spelling) c.args.bytes.now counts.reports reports _ fault counts.read read) c.evidence.result c.evidence.ensures
