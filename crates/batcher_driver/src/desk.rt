@@ -1,30 +1,30 @@
-//! Calls on the votes of a round that count for certificates.
+//! Calls on the votes of a round that count for certificates, whatever the scheme: at one of them they would cost the prover
+//! several times as much.
 
 use crate::answers::{say_batch, say_fault};
 use script_messages::{CertificateWords, MessageWords};
 use script_words::{Committee, Say, Trouble, Words};
 use simplex_batcher::Verifier;
 use simplex_messages::Notarize;
-use simplex_signing::PlainScheme;
 use simplex_types::Sha256Digest;
 use std::alloc::Global;
 use std::rc::Rc;
 
 /// A verifier, and the size of its committee.
 #[derive(Drop)]
-pub(crate) struct Desk {
+pub(crate) struct Desk<S: Committee> {
     n: u32,
-    verifier: Verifier<PlainScheme, Sha256Digest>,
+    verifier: Verifier<S, Sha256Digest>,
 }
 
-impl Desk {
+impl<S: Committee> Desk<S> {
     /// `N NEEDED EPOCH VIEW`.
     pub(crate) fn new(alloc: Global, words: &mut Words<'_>) -> Result<Self, Trouble> {
         let n = words.index()?;
         let needed = words.index()?;
         let at = words.round()?;
         words.end()?;
-        let scheme = PlainScheme::member_of(alloc, n, None, 0)?;
+        let scheme = S::member_of(alloc, n, None, 0)?;
         let scheme = Rc::new(alloc, scheme)?;
         Ok(Desk {
             n,
@@ -61,7 +61,7 @@ impl Desk {
     /// `set_leader I -`, or `set_leader I VOTE` with the leader's notarize.
     fn set_leader(&mut self, words: &mut Words<'_>, say: &mut Say) -> Result<(), Trouble> {
         let leader = words.member()?;
-        let notarize: Option<Notarize<PlainScheme, Sha256Digest>> = match words.word() {
+        let notarize: Option<Notarize<S, Sha256Digest>> = match words.word() {
             "-" => None,
             "notarize" => Some(words.notarize(say.alloc, self.n)?),
             _ => return Err(Trouble::Unreadable),

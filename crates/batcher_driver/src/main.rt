@@ -22,7 +22,7 @@ enum Layers {
     Plain(Votes<PlainScheme>),
     Salted(Votes<SaltedScheme>),
     Serial(Votes<OneByOne>),
-    Desk(Desk),
+    Desk(Desk<PlainScheme>),
 }
 
 /// A round under the scheme of the next word.
