@@ -119,13 +119,7 @@ impl Streams {
         let mut faults = FakeWriter::new(say.alloc, self.faults);
         let (ended, disk) = drive(say.alloc, disk, index, count, &mut input, &mut output);
         let status = tell(say.alloc, ended, &mut faults);
-        say.number(u64::from(status))?;
-        say.gap()?;
-        say.number(input.left() as u64)?;
-        say.gap()?;
-        say.bytes(output.taken())?;
-        say.gap()?;
-        say_text(faults.taken(), say)?;
+        say_served(status, &input, &output, &faults, say)?;
         Ok(disk)
     }
 
@@ -174,6 +168,23 @@ fn say_all(
 ) -> Result<(), Trouble> {
     say.number(u64::from(status))?;
     say_moved(input, output, say)?;
+    say.gap()?;
+    say_text(faults.taken(), say)
+}
+
+/// The same with the output in digits.
+fn say_served(
+    status: u8,
+    input: &FakeReader<'_>,
+    output: &FakeWriter,
+    faults: &FakeWriter,
+    say: &mut Say,
+) -> Result<(), Trouble> {
+    say.number(u64::from(status))?;
+    say.gap()?;
+    say.number(input.left() as u64)?;
+    say.gap()?;
+    say.bytes(output.taken())?;
     say.gap()?;
     say_text(faults.taken(), say)
 }
