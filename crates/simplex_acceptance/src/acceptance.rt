@@ -85,10 +85,7 @@ impl<S: Scheme<D> + Drop, D: Digest> Acceptance<S, D> {
                 report: None,
             });
         }
-        match self.rounds.take_vote(self.current, sender, vote) {
-            Ok(admission) => Ok(admission),
-            Err(fault) => Err(fault),
-        }
+        self.rounds.take_vote(self.current, sender, vote)
     }
 
     /// Whether the votes of a view may be kept: it is not below the floor, and has room.
@@ -144,10 +141,7 @@ impl<S: Scheme<D> + Drop, D: Digest> Acceptance<S, D> {
         if !self.is_open_to(view) {
             return Ok(());
         }
-        match self.rounds.certify(self.current, certificate) {
-            Ok(()) => Ok(()),
-            Err(fault) => Err(fault),
-        }
+        self.rounds.certify(self.current, certificate)
     }
 
     /// Enters the current view, where it wasn't entered before, and drops what need not be kept any more: behind each point by which
@@ -198,10 +192,7 @@ impl<S: Scheme<D> + Drop, D: Digest> Acceptance<S, D> {
         ensures fault { IfErr result (λ e. AtEach S.Scheme D.PartialEq.eq self.old (λ s h. leader_of (votes_of s h view) ≡ None → e ≡ Memory)) }
         ensures err { OnErr result (AtEach S.Scheme D.PartialEq.eq self.old (λ s h. Keeps S.Scheme D.PartialEq.eq s self.new h)) }
     {
-        match self.rounds.lead(view, leader) {
-            Ok(()) => Ok(()),
-            Err(fault) => Err(fault),
-        }
+        self.rounds.lead(view, leader)
     }
 
     /// The first view from this one on whose votes came up and may wait for the name of their leader.
@@ -223,10 +214,7 @@ impl<S: Scheme<D> + Drop, D: Digest> Acceptance<S, D> {
         ensures none { IfOk result (λ due. is_none due ≡ true → AtEach S.Scheme D.PartialEq.eq self.old (λ s h. NoneIsDue S.Scheme D.PartialEq.eq s h × Keeps S.Scheme D.PartialEq.eq s self.new h)) }
         ensures err { OnErr result (AtEach S.Scheme D.PartialEq.eq self.old (λ s h. Keeps S.Scheme D.PartialEq.eq s self.new h)) }
     {
-        match self.rounds.next_due() {
-            Ok(due) => Ok(due),
-            Err(error) => Err(error),
-        }
+        self.rounds.next_due()
     }
 
     /// Whether a nullify of this member was accepted in the view.

@@ -1,21 +1,22 @@
 use Rattle.std.proofs.lemmas.Option.{IfSome_then}
+use Rattle.std.proofs.lemmas.Result.{IfErr-weaker, IfOk-weaker}
 use Rattle.simplex_member.specs.Layers.{stage, votes_of}
 use Rattle.simplex_acceptance.specs.Keeps.{Keeps, common_part}
 use Rattle.simplex_acceptance.proofs.Advancing.{does, none-is-due}
 use Rattle.simplex_acceptance.proofs.Answering.{still}
 use Rattle.simplex_acceptance.proofs.acceptance.Acceptance.next_due.Goals as goal
 
-pub returns-in-Ok-clause-done : goal.returns-in-Ok-clause-done
+pub returns-clause-done : goal.returns-clause-done
 unfolding Keeps
-returns-in-Ok-clause-done g c = IfSome_then c.in-Ok.due c.in-Ok.ensures.done
-    (λ x f s h k. does g.S.Scheme g.D.PartialEq.eq s c.args.self.now h k c.next_due.new.self x.0 x.1 (f (common_part s) (stage s h) (votes_of s h) k.rounds))
+returns-clause-done g c = IfOk-weaker c.next_due.result _ _ (λ due done. IfSome_then due done
+    (λ x f s h k. does g.S.Scheme g.D.PartialEq.eq s c.args.self.now h k c.next_due.new.self x.0 x.1 (f (common_part s) (stage s h) (votes_of s h) k.rounds))) c.next_due.ensures.done
 
-pub returns-in-Ok-clause-none : goal.returns-in-Ok-clause-none
+pub returns-clause-none : goal.returns-clause-none
 unfolding Keeps
-returns-in-Ok-clause-none g c = λ is s h k.
-    let rest = c.in-Ok.ensures.none is (common_part s) (stage s h) (votes_of s h) k.rounds in
-    (none-is-due g.S.Scheme g.D.PartialEq.eq s h rest.0, still g.S.Scheme g.D.PartialEq.eq s c.args.self.now h k c.next_due.new.self rest.1)
+returns-clause-none g c = IfOk-weaker c.next_due.result _ _ (λ due none. λ is s h k.
+    let rest = none is (common_part s) (stage s h) (votes_of s h) k.rounds in
+    (none-is-due g.S.Scheme g.D.PartialEq.eq s h rest.0, still g.S.Scheme g.D.PartialEq.eq s c.args.self.now h k c.next_due.new.self rest.1)) c.next_due.ensures.none
 
-pub returns-in-Err-clause-err : goal.returns-in-Err-clause-err
+pub returns-clause-err : goal.returns-clause-err
 unfolding Keeps
-returns-in-Err-clause-err g c = λ s h k. still g.S.Scheme g.D.PartialEq.eq s c.args.self.now h k c.next_due.new.self (c.in-Err.ensures.err (common_part s) (stage s h) (votes_of s h) k.rounds)
+returns-clause-err g c = IfErr-weaker c.next_due.result _ _ (λ error is. λ s h k. still g.S.Scheme g.D.PartialEq.eq s c.args.self.now h k c.next_due.new.self (is (common_part s) (stage s h) (votes_of s h) k.rounds)) c.next_due.ensures.err
