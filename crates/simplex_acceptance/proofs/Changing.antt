@@ -10,13 +10,14 @@ use Rattle.std.proofs.lemmas.Bool.{and_right, cases_eq, cases_lt, eq-eqb, le-ltb
 use Rattle.std.proofs.lemmas.Bool.Decides.{nat_tests}
 use Rattle.std.proofs.lemmas.Grind.{common_steps}
 use Rattle.simplex_committee.specs.Committee.{quorum}
+use Rattle.simplex_types.specs.LatestFirst.{as_key, latest_first, stored, Stores}
 use Rattle.simplex_types.specs.declared.position.Round as position
 use Rattle.simplex_types.specs.declared.scheme.Scheme.{Ghosts}
 use Rattle.simplex_verifier.specs.History.{History, Setup, leader_of}
 use Rattle.simplex_batcher.specs.declared.round.Round.{Round}
 use Rattle.simplex_batcher.specs.Rounds.{RoundKeeps}
 use Rattle.simplex_acceptance.specs.declared.rounds.Rounds.{Rounds}
-use Rattle.simplex_acceptance.specs.Standing.{Common, IsAtRest, IsKept, Stand, Stores, as_key, common_of, happened_from, come_up, is_passed, latest_first, set_at, setup_at, stored, up_from}
+use Rattle.simplex_acceptance.specs.Standing.{Common, IsAtRest, IsKept, Stand, common_of, happened_from, come_up, is_passed, set_at, setup_at, up_from}
 
 -- a number is itself; two that are not one are apart in a set, and as keys of a map
 pub itself : (n : ℕ) → (n == n) ≡ true

@@ -5,7 +5,7 @@ use Rattle.std.specs.BTreeMap.{BTreeMap, IsUpperBound, btree_map_len}
 use Rattle.std.specs.Ordering.{is_le, is_lt, nat_cmp}
 use Rattle.std.specs.declared.cmp.Reverse.{Reverse}
 use Rattle.std.proofs.lemmas.Bool.Decides.{nat_tests}
-use Rattle.simplex_acceptance.specs.Standing.{as_key, latest_first, stored}
+use Rattle.simplex_types.specs.LatestFirst.{as_key, latest_first, stored}
 
 not-below : (a b : ℕ) → is_lt (nat_cmp a b) ≡ false → b ≤ a
 not-below a b ge = grind (arith, nat_tests)

@@ -5,6 +5,7 @@ use Rattle.std.specs.BTreeSet.{contains}
 use Rattle.std.specs.Ordering.{nat_cmp}
 use Rattle.std.proofs.lemmas.Bool.{cases_eq, eq-eqb}
 use Rattle.std.proofs.lemmas.Bool.Decides.{nat_tests}
+use Rattle.simplex_types.specs.LatestFirst.{stored}
 use Rattle.simplex_types.specs.declared.scheme.Scheme.{Ghosts}
 use Rattle.simplex_certificates.specs.declared.certificate.Certificate.{Certificate}
 use Rattle.simplex_messages.specs.declared.vote.Vote.{Vote}
@@ -22,7 +23,7 @@ use Rattle.simplex_batcher.specs.Admission.{AgreesWithOwn, IsAdmissionFault, IsB
 use Rattle.simplex_batcher.specs.Rounds.{RoundKeeps}
 use Rattle.simplex_batcher.specs.Rounds as one
 use Rattle.simplex_acceptance.specs.declared.rounds.Rounds.{Rounds}
-use Rattle.simplex_acceptance.specs.Standing.{AtEach, Common, IsAdmitted, IsCast, Stand, come_up, common_of, is_passed, put, set_at, setup_at, setup_now, stored}
+use Rattle.simplex_acceptance.specs.Standing.{AtEach, Common, IsAdmitted, IsCast, Stand, come_up, common_of, is_passed, put, set_at, setup_at, setup_now}
 use Rattle.simplex_acceptance.proofs.Changing.{alike, unknown}
 use Rattle.simplex_acceptance.proofs.Known.{admission-memory, round-of}
 

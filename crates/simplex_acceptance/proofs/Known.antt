@@ -9,6 +9,7 @@ use Rattle.std.specs.Ordering.{nat_cmp}
 use Rattle.std.specs.declared.cmp.Reverse.{Reverse}
 use Rattle.std.proofs.lemmas.Bool.{cases_eq}
 use Rattle.std.proofs.lemmas.Bool.Decides.{nat_tests}
+use Rattle.simplex_types.specs.LatestFirst.{as_key, stored, Stores}
 use Rattle.simplex_types.specs.declared.position.Round as position
 use Rattle.simplex_types.specs.declared.scheme.Scheme.{Ghosts}
 use Rattle.simplex_certificates.specs.declared.certificate.Certificate.{Certificate}
@@ -27,7 +28,7 @@ use Rattle.simplex_batcher.specs.Admission.{AgreesWithOwn, IsAdmissionFault, IsB
 use Rattle.simplex_batcher.specs.Rounds.{RoundKeeps}
 use Rattle.simplex_batcher.specs.Rounds as one
 use Rattle.simplex_acceptance.specs.declared.rounds.Rounds.{Rounds}
-use Rattle.simplex_acceptance.specs.Standing.{AtEach, Common, IsAdmitted, IsAtRest, IsCast, IsKept, Stand, Stores, as_key, come_up, is_passed, put, set_at, setup_now, stored}
+use Rattle.simplex_acceptance.specs.Standing.{AtEach, Common, IsAdmitted, IsAtRest, IsCast, IsKept, Stand, come_up, is_passed, put, set_at, setup_now}
 use Rattle.simplex_acceptance.proofs.Changing.{apart-at, changed, itself, kept-still, kept-up, keys-apart, known}
 
 -- a round is its epoch and its view

@@ -8,6 +8,7 @@ use Rattle.std.specs.Ordering.{nat_cmp}
 use Rattle.std.specs.declared.cmp.Reverse.{Reverse}
 use Rattle.std.proofs.lemmas.Bool.{cases_eq, eq-eqb}
 use Rattle.std.proofs.lemmas.Bool.Decides.{nat_tests}
+use Rattle.simplex_types.specs.LatestFirst.{as_key, stored, Stores}
 use Rattle.simplex_types.specs.declared.scheme.Scheme.{Ghosts}
 use Rattle.simplex_certificates.specs.declared.certificate.Certificate.{Certificate}
 use Rattle.simplex_rules.specs.declared.kind.Kind.{Kind}
@@ -20,7 +21,7 @@ use Rattle.simplex_batcher.specs.Rounds as one
 use Rattle.simplex_acceptance.specs.declared.due.Due.{Due}
 use Rattle.simplex_acceptance.specs.declared.due.Due.TheVariants as due
 use Rattle.simplex_acceptance.specs.declared.rounds.Rounds.{Rounds}
-use Rattle.simplex_acceptance.specs.Standing.{Common, IsAtRest, IsDone, IsKept, IsRoundDone, Stand, Stores, as_key, come_up, is_passed, put, set_at, setup_at, setup_now, stored}
+use Rattle.simplex_acceptance.specs.Standing.{Common, IsAtRest, IsDone, IsKept, IsRoundDone, Stand, come_up, is_passed, put, set_at, setup_at, setup_now}
 use Rattle.simplex_acceptance.proofs.Changing.{alike, apart-at, changed, itself, kept-still, keys-apart, unknown}
 use Rattle.simplex_acceptance.proofs.Known.{came-up, kept-here, moved, moved-set, moved-still, option-some, rested, stands-here}
 

@@ -1,12 +1,10 @@
 -- What is kept of the votes of all views.
 use Rattle.std.specs.Prelude.{◌≡◌, ◌≢◌, ◌↔◌, ◌≤◌, ◌<◌, ◌==◌, ◌&&◌, nat_lt, not, ℕ, Bool, true, false, [], ◌∷◌, Option, Some, None, IfSome, IsSome, IsTrue, MatchOption, if◌then◌else◌, is_none, unwrap_or}
-use Rattle.std.specs.BTreeMap.{BTreeMap, UpdatesBy, get}
 use Rattle.std.specs.BTreeSet.{contains}
 use Rattle.std.specs.Option.{option_or}
 use Rattle.std.specs.Ordering.{nat_cmp}
-use Rattle.std.specs.declared.cmp.Ordering.{Ordering}
-use Rattle.std.specs.declared.cmp.Reverse.{Reverse}
 use Rattle.simplex_committee.specs.Committee.{quorum}
+use Rattle.simplex_types.specs.LatestFirst.{stored}
 use Rattle.simplex_types.specs.declared.scheme.Scheme.{Ghosts}
 use Rattle.simplex_certificates.specs.declared.certificate.Certificate.{Certificate}
 use Rattle.simplex_messages.specs.declared.vote.Vote.{Vote}
@@ -33,22 +31,6 @@ pub record Common (S : Type 0) : Type 0 where
   pub me : ℕ
   -- votes are kept in full for good
   pub tracks : Bool
-
--- a view as a key, in the order in which the latest stands first
-abbrev pub as_key : ℕ → Reverse ℕ
-as_key view = record { 0 = view }
-
-abbrev pub latest_first : Reverse ℕ → Reverse ℕ → Ordering
-latest_first x y = nat_cmp y.0 x.0
-
-module _ {X : Type 0} where
-  -- what stands at a view
-  abbrev pub stored : BTreeMap (Reverse ℕ) X → ℕ → Option X
-  stored m view = get latest_first m (as_key view)
-
-  -- a view got this, or lost what it had, and all else stands as it did
-  abbrev pub Stores : BTreeMap (Reverse ℕ) X → BTreeMap (Reverse ℕ) X → ℕ → Option X → Type 0
-  Stores m m' view x = UpdatesBy latest_first (latest_first (as_key view)) m m' x
 
 -- a view whose votes come up at this current view is passed over: it is behind, and votes of such views are not kept
 abbrev pub is_passed : {S : Type 0} → Common S → ℕ → ℕ → Bool

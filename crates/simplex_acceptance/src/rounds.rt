@@ -4,6 +4,7 @@ ghost use Rattle.std.specs.Prelude.{◌≡◌, ◌≢◌, ◌==◌, ◌↔◌, �
 ghost use Rattle.std.specs.BTreeMap.{btree_map_len};
 ghost use Rattle.std.specs.BTreeSet.{btree_set_len, contains};
 ghost use Rattle.std.specs.Ordering.{nat_cmp};
+ghost use Rattle.simplex_types.specs.LatestFirst.{stored};
 ghost use Rattle.simplex_messages.specs.VoteParts.{vote_round};
 ghost use Rattle.simplex_certificates.specs.Certificate.{certificate_round};
 ghost use Rattle.simplex_verifier.specs.declared.fault.BatcherFault.TheVariants.{Memory};
@@ -12,7 +13,7 @@ ghost use Rattle.simplex_batcher.specs.Queries.{has_nullify, is_missing_voter};
 ghost use Rattle.simplex_batcher.specs.Admission.{AgreesWithOwn, IsCastFault};
 ghost use Rattle.simplex_batcher.specs.Rounds.{RoundKeeps};
 ghost use Rattle.simplex_batcher.specs.Rounds as one;
-ghost use Rattle.simplex_acceptance.specs.Standing.{AreAlike, AreAtRest, AreLedFrom, AtEach, Common, IsAdmitted, IsFirstUnled, IsCast, IsDone, IsRoundDone, Stand, come_up, common_of, happened_from, is_passed, put, set_at, setup_at, setup_now, stored, up_from};
+ghost use Rattle.simplex_acceptance.specs.Standing.{AreAlike, AreAtRest, AreLedFrom, AtEach, Common, IsAdmitted, IsFirstUnled, IsCast, IsDone, IsRoundDone, Stand, come_up, common_of, happened_from, is_passed, put, set_at, setup_at, setup_now, up_from};
 
 use crate::due::Due;
 use simplex_batcher::{Admission, BatcherFault, Round};

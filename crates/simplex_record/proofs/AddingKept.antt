@@ -1,17 +1,17 @@
 -- What is kept of a record stays what its entries tell when one more entry stands behind them.
 use Rattle.std.specs.Prelude.{◌↔◌, ⊤}
 use Rattle.std.specs.BTreeMap.{BTreeMap}
-use Rattle.std.specs.BTreeMap as maps
 use Rattle.std.specs.BTreeSet.{BTreeSet}
-use Rattle.std.specs.BTreeSet as sets
 use Rattle.std.specs.List.{Contains}
 use Rattle.std.specs.Ordering.{nat_cmp, ord_max}
+use Rattle.std.specs.declared.cmp.Reverse.{Reverse}
 use Rattle.std.proofs.Common.{◌≡◌, ◌⊎◌, inl, inr, ⊎_elim, ℕ, ◌≤◌, ◌<◌, max, Bool, true, List, [], ◌∷◌, ◌++◌, Option, None, Some, refl, sym, ◌∙◌, ap, subst, arith}
 use Rattle.std.proofs.lemmas.Bool.Decides.{nat_tests}
 use Rattle.std.proofs.lemmas.List.Elements.{Contains-append_left, Contains-push, Contains-push_cases}
 use Rattle.std.proofs.lemmas.Option.{none-some}
 use Rattle.simplex_types.specs.declared.position.Round.{Round}
 use Rattle.simplex_types.specs.declared.proposal.Proposal.{Proposal}
+use Rattle.simplex_types.specs.LatestFirst.{Adds, Stores}
 use Rattle.simplex_types.specs.Positions.{HasRoom, InCoveringRange, term_end}
 use Rattle.simplex_types.specs.Subject.{Statement, notarize, nullify, finalize, statement_round}
 use Rattle.simplex_record.specs.declared.certificates.Certificates.{Certificates}
@@ -45,23 +45,23 @@ module _ {D : Type 0} (votes : Votes) (before : List (Entry D)) (keeps : KeepsVo
     finalizes = KeepsSet-same (λ view. vote_in (finalized_at view)) before x votes.finalizes (λ view. vote_in-none (finalized_at view) x never) keeps.finalizes;
   }
 
-  module _ (new : BTreeSet ℕ) where
+  module _ (new : BTreeSet (Reverse ℕ)) where
     -- a vote adds its view to those of its kind
-    pub KeepsVotes-notarize : (p : Proposal D) → sets.Updates nat_cmp votes.notarizes new p.round.view true → KeepsVotes (record votes { notarizes = new }) (before ++ voted (notarize p) ∷ [])
+    pub KeepsVotes-notarize : (p : Proposal D) → Adds votes.notarizes new p.round.view → KeepsVotes (record votes { notarizes = new }) (before ++ voted (notarize p) ∷ [])
     KeepsVotes-notarize p inserts = record {
       notarizes = KeepsSet-push (λ view. vote_in (notarized_at view)) before (voted (notarize p)) p.round.view p (λ view. refl) votes.notarizes new inserts keeps.notarizes;
       nullifies = KeepsSet-same (λ view. vote_in (nullified_at view)) before (voted (notarize p)) votes.nullifies (λ view. refl) keeps.nullifies;
       finalizes = KeepsSet-same (λ view. vote_in (finalized_at view)) before (voted (notarize p)) votes.finalizes (λ view. refl) keeps.finalizes;
     }
 
-    pub KeepsVotes-nullify : (r : Round) → sets.Updates nat_cmp votes.nullifies new r.view true → KeepsVotes (record votes { nullifies = new }) (before ++ voted (nullify r) ∷ [])
+    pub KeepsVotes-nullify : (r : Round) → Adds votes.nullifies new r.view → KeepsVotes (record votes { nullifies = new }) (before ++ voted (nullify r) ∷ [])
     KeepsVotes-nullify r inserts = record {
       notarizes = KeepsSet-same (λ view. vote_in (notarized_at view)) before (voted (nullify r)) votes.notarizes (λ view. refl) keeps.notarizes;
       nullifies = KeepsSet-push (λ view. vote_in (nullified_at view)) before (voted (nullify r)) r.view r (λ view. refl) votes.nullifies new inserts keeps.nullifies;
       finalizes = KeepsSet-same (λ view. vote_in (finalized_at view)) before (voted (nullify r)) votes.finalizes (λ view. refl) keeps.finalizes;
     }
 
-    pub KeepsVotes-finalize : (p : Proposal D) → sets.Updates nat_cmp votes.finalizes new p.round.view true → KeepsVotes (record votes { finalizes = new }) (before ++ voted (finalize p) ∷ [])
+    pub KeepsVotes-finalize : (p : Proposal D) → Adds votes.finalizes new p.round.view → KeepsVotes (record votes { finalizes = new }) (before ++ voted (finalize p) ∷ [])
     KeepsVotes-finalize p inserts = record {
       notarizes = KeepsSet-same (λ view. vote_in (notarized_at view)) before (voted (finalize p)) votes.notarizes (λ view. refl) keeps.notarizes;
       nullifies = KeepsSet-same (λ view. vote_in (nullified_at view)) before (voted (finalize p)) votes.nullifies (λ view. refl) keeps.nullifies;
@@ -178,7 +178,7 @@ module _ {D : Type 0} (views : ℕ) (certificates : Certificates D) (before : Li
       is_none s is = never (subst IsTaken (sym is) tt)
 
   -- a notarization adds its proposal
-  pub KeepsCertificates-notarize : (p : Proposal D) → MayTake views before (notarize p) → (new : BTreeMap ℕ (Proposal D)) → maps.Updates nat_cmp certificates.notarizations new p.round.view (Some p)
+  pub KeepsCertificates-notarize : (p : Proposal D) → MayTake views before (notarize p) → (new : BTreeMap (Reverse ℕ) (Proposal D)) → Stores certificates.notarizations new p.round.view (Some p)
       → KeepsCertificates views (record certificates { notarizations = new }) (before ++ taken (notarize p) ∷ [])
   KeepsCertificates-notarize p may new inserts = record {
     notarizations = KeepsMap-push (λ view. certificate_in (notarized_at view)) before (taken (notarize p)) p.round.view p (λ view. refl) certificates.notarizations new untold inserts keeps.notarizations;
@@ -193,7 +193,7 @@ module _ {D : Type 0} (views : ℕ) (certificates : Certificates D) (before : Li
       untold = certificates-nothing (notarized_at p.round.view) before (notarize-none (HasTaken before) p may.first)
 
   -- a nullification adds its view to those that are nullified, and the rest of the term to those that are covered
-  pub KeepsCertificates-nullify : (r : Round) → 0 < views → MayTake views before (nullify r) → (new : BTreeSet ℕ) (spans : List (ℕ × ℕ)) → sets.Updates nat_cmp certificates.nullifications new r.view true
+  pub KeepsCertificates-nullify : (r : Round) → 0 < views → MayTake views before (nullify r) → (new : BTreeSet (Reverse ℕ)) (spans : List (ℕ × ℕ)) → Adds certificates.nullifications new r.view
       → ((view : ℕ) → coverage.IsCovered spans view ↔ (coverage.IsCovered certificates.covered view ⊎ coverage.LiesIn (r.view, term_end views r.view) view))
       → KeepsCertificates views (record certificates { nullifications = new; covered = spans }) (before ++ taken (nullify r) ∷ [])
   KeepsCertificates-nullify r some may new spans inserts covers = record {
@@ -214,7 +214,7 @@ module _ {D : Type 0} (views : ℕ) (certificates : Certificates D) (before : Li
           )
 
   -- a finalization adds its view
-  pub KeepsCertificates-finalize : (p : Proposal D) → MayTake views before (finalize p) → (new : BTreeSet ℕ) → sets.Updates nat_cmp certificates.finalizations new p.round.view true
+  pub KeepsCertificates-finalize : (p : Proposal D) → MayTake views before (finalize p) → (new : BTreeSet (Reverse ℕ)) → Adds certificates.finalizations new p.round.view
       → KeepsCertificates views (record certificates { finalizations = new }) (before ++ taken (finalize p) ∷ [])
   KeepsCertificates-finalize p may new inserts = record {
     notarizations = KeepsMap-same (λ view. certificate_in (notarized_at view)) before (taken (finalize p)) certificates.notarizations (λ view. refl) keeps.notarizations;
@@ -240,7 +240,7 @@ module _ {D : Type 0} where
   verdict_at-none view (taken s) never = refl
   verdict_at-none view (judged r verdict) never = absurd (never tt)
 
-module _ {D : Type 0} (map : BTreeMap ℕ Bool) (before : List (Entry D)) (keeps : KeepsVerdicts map before) where
+module _ {D : Type 0} (map : BTreeMap (Reverse ℕ) Bool) (before : List (Entry D)) (keeps : KeepsVerdicts map before) where
   -- the verdicts stay where the new entry is none
   pub KeepsVerdicts-same : (x : Entry D) → (IsJudged x → ⊥) → KeepsVerdicts map (before ++ x ∷ [])
   KeepsVerdicts-same x never = record {
@@ -252,7 +252,7 @@ module _ {D : Type 0} (map : BTreeMap ℕ Bool) (before : List (Entry D)) (keeps
       was_before r verdict here = ⊎_elim (λ earlier. earlier) (λ new. absurd (never (subst IsJudged (sym new) tt))) (Contains-push_cases before x (judged r verdict) here)
 
   -- a verdict on a view that has none yet is added
-  pub KeepsVerdicts-judge : (r : Round) (verdict : Bool) → MayJudge before r → (new : BTreeMap ℕ Bool) → maps.Updates nat_cmp map new r.view (Some verdict) → KeepsVerdicts new (before ++ judged r verdict ∷ [])
+  pub KeepsVerdicts-judge : (r : Round) (verdict : Bool) → MayJudge before r → (new : BTreeMap (Reverse ℕ) Bool) → Stores map new r.view (Some verdict) → KeepsVerdicts new (before ++ judged r verdict ∷ [])
   KeepsVerdicts-judge r verdict may new inserts = record {
     verdicts = KeepsMap-push verdict_at before (judged r verdict) r.view verdict (λ view. refl) map new untold inserts keeps.verdicts;
     one_verdict = λ t u this that same here there. elim (pushed t this here) [
@@ -314,7 +314,7 @@ module _ {D : Type 0} (views : ℕ) (standing : Standing D) (before : List (Entr
   }
 
   -- a verdict changes the verdicts and the current view
-  pub KeepsViews-judged : (r : Round) (verdict : Bool) (verdicts : BTreeMap ℕ Bool) (current : ℕ) → KeepsVerdicts verdicts (before ++ judged r verdict ∷ [])
+  pub KeepsViews-judged : (r : Round) (verdict : Bool) (verdicts : BTreeMap (Reverse ℕ) Bool) (current : ℕ) → KeepsVerdicts verdicts (before ++ judged r verdict ∷ [])
       → current ≡ max standing.current_view (enters {D = D} views (judged r verdict))
       → KeepsViews views (record standing { verdicts = verdicts; current_view = current }) (before ++ judged r verdict ∷ [])
   KeepsViews-judged r verdict verdicts current kept current_is = record {

@@ -1,14 +1,13 @@
 -- What a list says when one more element stands behind it.
 use Rattle.std.specs.Prelude.{is_some}
-use Rattle.std.specs.BTreeMap.{BTreeMap, get}
-use Rattle.std.specs.BTreeMap as maps
-use Rattle.std.specs.BTreeSet.{BTreeSet, contains}
-use Rattle.std.specs.BTreeSet as sets
+use Rattle.std.specs.BTreeMap.{BTreeMap}
+use Rattle.std.specs.BTreeSet.{BTreeSet}
 use Rattle.std.specs.Option.{option_or}
-use Rattle.std.specs.Ordering.{nat_cmp}
+use Rattle.std.specs.declared.cmp.Reverse.{Reverse}
 use Rattle.std.proofs.Common.{◌≡◌, inl, inr, ℕ, ◌≤◌, ◌==◌, max, true, List, [], ◌∷◌, ◌++◌, Option, Some, None, sym, ◌∙◌, ap, subst, arith, if◌then◌else◌}
 use Rattle.std.proofs.lemmas.Bool.{cases_eq}
 use Rattle.std.proofs.lemmas.Bool.Decides.{nat_tests}
+use Rattle.simplex_types.specs.LatestFirst.{Adds, Stores, as_key, holds, stored}
 use Rattle.simplex_record.specs.Record.{Entry, greatest}
 use Rattle.simplex_record.specs.CheckerState.{KeepsSet, KeepsMap}
 use Rattle.simplex_record.specs.Told.{told}
@@ -49,34 +48,34 @@ module _ {X Y : Type 0} (f : X → Option Y) (xs : List X) (x : X) where
 
 module _ {D Y : Type 0} (f : ℕ → Entry D → Option Y) (before : List (Entry D)) (x : Entry D) where
   -- a set stays right where nothing is given of the new entry
-  pub KeepsSet-same : (set : BTreeSet ℕ) → ((view : ℕ) → f view x ≡ None) → KeepsSet f set before → KeepsSet f set (before ++ x ∷ [])
+  pub KeepsSet-same : (set : BTreeSet (Reverse ℕ)) → ((view : ℕ) → f view x ≡ None) → KeepsSet f set before → KeepsSet f set (before ++ x ∷ [])
   KeepsSet-same set none keeps = λ view. keeps view ∙ sym (ap is_some (told-same (f view) before x (none view)))
 
   -- and so does a map
-  pub KeepsMap-same : (map : BTreeMap ℕ Y) → ((view : ℕ) → f view x ≡ None) → KeepsMap f map before → KeepsMap f map (before ++ x ∷ [])
+  pub KeepsMap-same : (map : BTreeMap (Reverse ℕ) Y) → ((view : ℕ) → f view x ≡ None) → KeepsMap f map before → KeepsMap f map (before ++ x ∷ [])
   KeepsMap-same map none keeps = λ view. keeps view ∙ sym (told-same (f view) before x (none view))
 
   -- where something is given of the new entry at one view
   module _ (at : ℕ) (y : Y) (gives : (view : ℕ) → f view x ≡ (if at == view then Some y else None)) where
     -- a set stays right once it has the view
-    pub KeepsSet-push : (set new : BTreeSet ℕ) → sets.Updates nat_cmp set new at true → KeepsSet f set before → KeepsSet f new (before ++ x ∷ [])
+    pub KeepsSet-push : (set new : BTreeSet (Reverse ℕ)) → Adds set new at → KeepsSet f set before → KeepsSet f new (before ++ x ∷ [])
     KeepsSet-push set new inserts keeps = λ view. elim (cases_eq at view) [
       | inl same ↦
-          let has : contains nat_cmp new view ≡ true = grind (arith, nat_tests, inserts.0 view) in
+          let has : holds new view ≡ true = grind (arith, nat_tests, inserts.0 (as_key view)) in
           has ∙ sym (told-some_new (f view) before x y (gives view ∙ at_same view at y same))
       | inr other ↦
-          let kept : contains nat_cmp new view ≡ contains nat_cmp set view = grind (arith, nat_tests, inserts.0 view) in
+          let kept : holds new view ≡ holds set view = grind (arith, nat_tests, inserts.0 (as_key view)) in
           kept ∙ keeps view ∙ sym (ap is_some (told-same (f view) before x (gives view ∙ at_other view at y other)))
     ]
 
     -- and a map once it has the value at the view, of which nothing was told
-    pub KeepsMap-push : (map new : BTreeMap ℕ Y) → told (f at) before ≡ None → maps.Updates nat_cmp map new at (Some y) → KeepsMap f map before → KeepsMap f new (before ++ x ∷ [])
+    pub KeepsMap-push : (map new : BTreeMap (Reverse ℕ) Y) → told (f at) before ≡ None → Stores map new at (Some y) → KeepsMap f map before → KeepsMap f new (before ++ x ∷ [])
     KeepsMap-push map new nothing inserts keeps = λ view. elim (cases_eq at view) [
       | inl same ↦
-          let has : get nat_cmp new view ≡ Some y = grind (arith, nat_tests, inserts.0 view) in
+          let has : stored new view ≡ Some y = grind (arith, nat_tests, inserts.0 (as_key view)) in
           let untold : told (f view) before ≡ None = subst (λ (v : ℕ). told (f v) before ≡ None) same nothing in
           has ∙ sym (told-first (f view) before x untold ∙ gives view ∙ at_same view at y same)
       | inr other ↦
-          let kept : get nat_cmp new view ≡ get nat_cmp map view = grind (arith, nat_tests, inserts.0 view) in
+          let kept : stored new view ≡ stored map view = grind (arith, nat_tests, inserts.0 (as_key view)) in
           kept ∙ keeps view ∙ sym (told-same (f view) before x (gives view ∙ at_other view at y other))
     ]

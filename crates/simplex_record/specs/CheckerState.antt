@@ -1,10 +1,11 @@
 -- What is kept of a record while it is checked.
 use Rattle.std.specs.Prelude.{◌≡◌, ◌↔◌, ◌≤◌, ℕ, Bool, List, length, Option, is_some, MatchOption}
-use Rattle.std.specs.BTreeMap.{BTreeMap, get}
-use Rattle.std.specs.BTreeSet.{BTreeSet, contains}
-use Rattle.std.specs.Ordering.{nat_cmp}
+use Rattle.std.specs.BTreeMap.{BTreeMap}
+use Rattle.std.specs.BTreeSet.{BTreeSet}
+use Rattle.std.specs.declared.cmp.Reverse.{Reverse}
 use Rattle.simplex_types.specs.declared.position.Round.{Round}
 use Rattle.simplex_types.specs.declared.proposal.Proposal.{Proposal}
+use Rattle.simplex_types.specs.LatestFirst.{holds, stored}
 use Rattle.simplex_types.specs.Positions.{HasRoom}
 use Rattle.simplex_types.specs.Subject.{Statement, notarize, nullify, statement_round}
 use Rattle.simplex_record.specs.declared.certificates.Certificates.{Certificates}
@@ -17,12 +18,12 @@ use Rattle.simplex_record.specs.Told.{told, notarized_at, nullified_at, finalize
 
 module _ {D Y : Type 0} where
   -- the set has just the views of which f gives something in the entries
-  abbrev pub KeepsSet : (ℕ → Entry D → Option Y) → BTreeSet ℕ → List (Entry D) → Type 0
-  KeepsSet f set before = (view : ℕ) → contains nat_cmp set view ≡ is_some (told (f view) before)
+  abbrev pub KeepsSet : (ℕ → Entry D → Option Y) → BTreeSet (Reverse ℕ) → List (Entry D) → Type 0
+  KeepsSet f set before = (view : ℕ) → holds set view ≡ is_some (told (f view) before)
 
   -- the map has of each view what f first gives in the entries
-  abbrev pub KeepsMap : (ℕ → Entry D → Option Y) → BTreeMap ℕ Y → List (Entry D) → Type 0
-  KeepsMap f map before = (view : ℕ) → get nat_cmp map view ≡ told (f view) before
+  abbrev pub KeepsMap : (ℕ → Entry D → Option Y) → BTreeMap (Reverse ℕ) Y → List (Entry D) → Type 0
+  KeepsMap f map before = (view : ℕ) → stored map view ≡ told (f view) before
 
 module _ {D : Type 0} where
   -- the views of the member's votes are kept
@@ -41,7 +42,7 @@ module _ {D : Type 0} where
     pub room : (s : Statement D) → HasTaken before s → HasRoom views (statement_round s).view
 
   -- the verdicts are kept, one of each view
-  pub record KeepsVerdicts (map : BTreeMap ℕ Bool) (before : List (Entry D)) : Type 0 where
+  pub record KeepsVerdicts (map : BTreeMap (Reverse ℕ) Bool) (before : List (Entry D)) : Type 0 where
     pub verdicts : KeepsMap verdict_at map before
     pub one_verdict : (r t : Round) (this that : Bool) → r.view ≡ t.view → HasJudged before r this → HasJudged before t that → this ≡ that
 

@@ -10,6 +10,7 @@ ghost use Rattle.simplex_record.specs.CheckerState.{KeepsViews};
 use crate::standing::Standing;
 use simplex_types::{Digest, Proposal, Round, TermLength};
 use std::alloc::AllocError;
+use std::cmp::Reverse;
 
 impl<D: Digest> Standing<D> {
     /// Adds the member's vote to notarize the proposal.
@@ -17,7 +18,7 @@ impl<D: Digest> Standing<D> {
         ensures keeps { OnOk result ((views : ℕ) (before : List (Entry D)) → KeepsViews views self.old before → KeepsViews views self.new (before ++ voted (notarize proposal.now) ∷ [])) }
         ensures numbering { OnOk result (self.new.numbering ≡ self.old.numbering) }
     {
-        self.votes.notarizes.insert(proposal.round.view)?;
+        self.votes.notarizes.insert(Reverse(proposal.round.view))?;
         Ok(())
     }
 
@@ -26,7 +27,7 @@ impl<D: Digest> Standing<D> {
         ensures keeps { OnOk result ((views : ℕ) (before : List (Entry D)) → KeepsViews views self.old before → KeepsViews views self.new (before ++ voted (nullify round) ∷ [])) }
         ensures numbering { OnOk result (self.new.numbering ≡ self.old.numbering) }
     {
-        self.votes.nullifies.insert(round.view)?;
+        self.votes.nullifies.insert(Reverse(round.view))?;
         Ok(())
     }
 
@@ -35,7 +36,7 @@ impl<D: Digest> Standing<D> {
         ensures keeps { OnOk result ((views : ℕ) (before : List (Entry D)) → KeepsViews views self.old before → KeepsViews views self.new (before ++ voted (finalize proposal.now) ∷ [])) }
         ensures numbering { OnOk result (self.new.numbering ≡ self.old.numbering) }
     {
-        self.votes.finalizes.insert(proposal.round.view)?;
+        self.votes.finalizes.insert(Reverse(proposal.round.view))?;
         Ok(())
     }
 
@@ -46,7 +47,7 @@ impl<D: Digest> Standing<D> {
     {
         self.certificates
             .notarizations
-            .insert(proposal.round.view, *proposal)?;
+            .insert(Reverse(proposal.round.view), *proposal)?;
         Ok(())
     }
 
@@ -62,7 +63,9 @@ impl<D: Digest> Standing<D> {
     {
         let end = round.view.term_end(length);
         self.certificates.covered.cover(round.view, end)?;
-        self.certificates.nullifications.insert(round.view)?;
+        self.certificates
+            .nullifications
+            .insert(Reverse(round.view))?;
         self.current_view = self.current_view.max(end.next());
         Ok(())
     }
@@ -74,7 +77,7 @@ impl<D: Digest> Standing<D> {
         ensures numbering { OnOk result (self.new.numbering ≡ self.old.numbering) }
     {
         let view = proposal.round.view;
-        self.certificates.finalizations.insert(view)?;
+        self.certificates.finalizations.insert(Reverse(view))?;
         self.last_finalized = self.last_finalized.max(view);
         self.current_view = self.current_view.max(view.next());
         Ok(())
@@ -86,7 +89,7 @@ impl<D: Digest> Standing<D> {
         ensures keeps { OnOk result ((views : ℕ) (before : List (Entry D)) → KeepsViews views self.old before → MayJudge before round → KeepsViews views self.new (before ++ judged round verdict ∷ [])) }
         ensures numbering { OnOk result (self.new.numbering ≡ self.old.numbering) }
     {
-        self.verdicts.insert(round.view, verdict)?;
+        self.verdicts.insert(Reverse(round.view), verdict)?;
         if verdict {
             self.current_view = self.current_view.max(round.view.next());
         }

@@ -2,8 +2,7 @@
 //! and every addition takes a logarithmic time.
 
 ghost use Rattle.std.specs.Prelude.{◌≡◌, ◌↔◌, ◌<◌, ◌≤◌, ℕ, [], Bool, List, Some, IsTrue, true};
-ghost use Rattle.std.specs.BTreeMap.{get};
-ghost use Rattle.std.specs.Ordering.{nat_cmp};
+ghost use Rattle.simplex_types.specs.LatestFirst.{stored};
 ghost use Rattle.simplex_types.specs.Positions.{HasRoom};
 ghost use Rattle.simplex_types.specs.Subject.{notarize, nullify, finalize};
 ghost use Rattle.simplex_record.specs.Record.{Entry, HasVerdict, HasCertificate};
@@ -16,7 +15,9 @@ use crate::votes::Votes;
 use simplex_rules::Kind;
 use simplex_types::{Digest, Proposal, Round, TermLength, View};
 use std::alloc::Global;
+use std::cmp::Reverse;
 use std::collections::BTreeMap;
+use std::ops::Bound;
 
 /// What is kept of a record: all that the rules ask of it.
 #[derive(Drop)]
@@ -26,7 +27,7 @@ pub struct Standing<D: Digest> {
     /// What it has certificates for.
     pub(crate) certificates: Certificates<D>,
     /// The verdicts, by their views.
-    pub(crate) verdicts: BTreeMap<View, bool>,
+    pub(crate) verdicts: BTreeMap<Reverse<View>, bool>,
     /// The highest finalized view, or 0.
     pub(crate) last_finalized: View,
     /// The highest view that was entered, from 1 on.
@@ -54,7 +55,7 @@ impl<D: Digest> Standing<D> {
     pub fn verdict(&self, view: View) -> Option<bool>
         ensures { (views : ℕ) (before : List (Entry D)) → Keeps views self.now before → (verdict : Bool) → (result ≡ Some verdict) ↔ HasVerdict before view verdict }
     {
-        self.verdicts.get(&view).copied()
+        self.verdicts.get(&Reverse(view)).copied()
     }
 
     /// Whether a certificate of this kind and view is recorded.
@@ -62,9 +63,9 @@ impl<D: Digest> Standing<D> {
         ensures { (views : ℕ) (before : List (Entry D)) → Keeps views self.now before → IsTrue result ↔ HasCertificate before kind view }
     {
         match kind {
-            Kind::Notarization => self.certificates.notarizations.contains_key(&view),
-            Kind::Nullification => self.certificates.nullifications.contains(&view),
-            Kind::Finalization => self.certificates.finalizations.contains(&view),
+            Kind::Notarization => self.certificates.notarizations.contains_key(&Reverse(view)),
+            Kind::Nullification => self.certificates.nullifications.contains(&Reverse(view)),
+            Kind::Finalization => self.certificates.finalizations.contains(&Reverse(view)),
         }
     }
 
@@ -81,10 +82,10 @@ impl<D: Digest> Standing<D> {
         ensures parent_below { IsTrue result → proposal.now.parent < proposal.now.round.view }
     {
         let view = proposal.round.view;
-        if self.votes.notarizes.contains(&view) {
+        if self.votes.notarizes.contains(&Reverse(view)) {
             return false;
         }
-        if self.votes.nullifies.contains(&view) {
+        if self.votes.nullifies.contains(&Reverse(view)) {
             return false;
         }
         if proposal.parent >= view {
@@ -107,10 +108,10 @@ impl<D: Digest> Standing<D> {
         if round.view != self.current_view {
             return false;
         }
-        if self.votes.nullifies.contains(&round.view) {
+        if self.votes.nullifies.contains(&Reverse(round.view)) {
             return false;
         }
-        !self.votes.finalizes.contains(&round.view)
+        !self.votes.finalizes.contains(&Reverse(round.view))
     }
 
     /// Whether it may vote to finalize the proposal.
@@ -122,10 +123,10 @@ impl<D: Digest> Standing<D> {
         if self.last_finalized >= finalized {
             return false;
         }
-        if self.votes.nullifies.contains(&finalized) {
+        if self.votes.nullifies.contains(&Reverse(finalized)) {
             return false;
         }
-        if self.votes.finalizes.contains(&finalized) {
+        if self.votes.finalizes.contains(&Reverse(finalized)) {
             return false;
         }
         if !self.certificates.has_notarized(proposal) {
@@ -139,9 +140,9 @@ impl<D: Digest> Standing<D> {
 
     /// Whether the verdict on the view is true.
     fn is_certified(&self, view: View) -> bool
-        ensures { IsTrue result ↔ (get nat_cmp self.now.verdicts view ≡ Some true) }
+        ensures { IsTrue result ↔ (stored self.now.verdicts view ≡ Some true) }
     {
-        matches!(self.verdicts.get(&view), Some(true))
+        matches!(self.verdicts.get(&Reverse(view)), Some(true))
     }
 
     /// Whether each own nullify of an earlier view of the term lies at or below the last finalized view.
@@ -151,7 +152,11 @@ impl<D: Digest> Standing<D> {
     {
         let start = view.term_start(length);
         let low = start.max(self.last_finalized.next());
-        self.votes.nullifies.range(low..view).next().is_none()
+        let from_latest = (
+            Bound::Excluded(Reverse(view)),
+            Bound::Included(Reverse(low)),
+        );
+        self.votes.nullifies.range(from_latest).next().is_none()
     }
 
     /// Whether it may take a notarization of the proposal.
@@ -166,7 +171,7 @@ impl<D: Digest> Standing<D> {
         !self
             .certificates
             .notarizations
-            .contains_key(&proposal.round.view)
+            .contains_key(&Reverse(proposal.round.view))
     }
 
     /// Whether it may take a nullification of the round.
@@ -181,7 +186,10 @@ impl<D: Digest> Standing<D> {
         if !round.view.has_room(length) {
             return false;
         }
-        !self.certificates.nullifications.contains(&round.view)
+        !self
+            .certificates
+            .nullifications
+            .contains(&Reverse(round.view))
     }
 
     /// Whether it may take a finalization of the proposal.
@@ -196,7 +204,7 @@ impl<D: Digest> Standing<D> {
         !self
             .certificates
             .finalizations
-            .contains(&proposal.round.view)
+            .contains(&Reverse(proposal.round.view))
     }
 
     /// Whether it may record a verdict on the round.
@@ -207,7 +215,7 @@ impl<D: Digest> Standing<D> {
         if !round.view.has_room(length) {
             return false;
         }
-        if self.verdicts.contains_key(&round.view) {
+        if self.verdicts.contains_key(&Reverse(round.view)) {
             return false;
         }
         match self.certificates.notarized(round.view) {

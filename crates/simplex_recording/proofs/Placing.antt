@@ -1,9 +1,10 @@
 -- Where what is found of a view stands in a list that has one element more.
 use Rattle.std.proofs.Common.{◌≡◌, ◌∙◌, ℕ, Bool, true, false, List, [], ◌∷◌, ◌++◌, length, Option, Some, None, refl, sym, ap, subst, append_assoc, if◌then◌else◌}
 use Rattle.std.specs.Prelude.{◌==◌, MatchOption, slice_get}
-use Rattle.std.specs.BTreeMap.{BTreeMap, get}
+use Rattle.std.specs.BTreeMap.{BTreeMap}
 use Rattle.std.specs.Option.{option_or}
-use Rattle.std.specs.Ordering.{nat_cmp}
+use Rattle.std.specs.declared.cmp.Reverse.{Reverse}
+use Rattle.simplex_types.specs.LatestFirst.{stored}
 use Rattle.simplex_certificates.specs.declared.artifact.Artifact.{Artifact}
 use Rattle.simplex_certificates.specs.declared.artifact.Artifact.TheVariants as artifact
 use Rattle.simplex_certificates.specs.ProposalCertificate.{Notarization, Finalization}
@@ -143,23 +144,23 @@ module _ {S D P G C : Type 0} where
   is_finalization (artifact.Finalization d) c is = cc is
 
   -- the places behind one artifact more: a notarization, a finalization, or another
-  pub behind_notarization : (places : Places) (new : BTreeMap ℕ ℕ) (xs : List (Artifact S D P G C)) (x : Artifact S D P G C) (c : Notarization S D P G C) (place view : ℕ) → Some c ≡ as_notarization x → view ≡ c.proposal.round.view → place ≡ length xs
-      → ((v : ℕ) → get nat_cmp new v ≡ option_or (get nat_cmp places.notarizations v) (if view == v then Some place else None))
+  pub behind_notarization : (places : Places) (new : BTreeMap (Reverse ℕ) ℕ) (xs : List (Artifact S D P G C)) (x : Artifact S D P G C) (c : Notarization S D P G C) (place view : ℕ) → Some c ≡ as_notarization x → view ≡ c.proposal.round.view → place ≡ length xs
+      → ((v : ℕ) → stored new v ≡ option_or (stored places.notarizations v) (if view == v then Some place else None))
       → KeepsPlaces places xs → KeepsPlaces (record { notarizations = new; finalizations = places.finalizations }) (xs ++ x ∷ [])
   behind_notarization places new xs x c place view is of at put k =
-      let put_there : (v : ℕ) → get nat_cmp new v ≡ option_or (get nat_cmp places.notarizations v) (if c.proposal.round.view == v then Some place else None) =
-      λ v. put v ∙ ap (λ (u : ℕ). option_or (get nat_cmp places.notarizations v) (if u == v then Some place else None)) of in
+      let put_there : (v : ℕ) → stored new v ≡ option_or (stored places.notarizations v) (if c.proposal.round.view == v then Some place else None) =
+      λ v. put v ∙ ap (λ (u : ℕ). option_or (stored places.notarizations v) (if u == v then Some place else None)) of in
       subst (λ (y : Artifact S D P G C). KeepsPlaces (record { notarizations = new; finalizations = places.finalizations }) (xs ++ y ∷ [])) (is_notarization x c is) (record {
         notarizations = λ v. is_known notarization_in artifact.Notarization notarized-push xs c v place (c.proposal.round.view == v) _ _ refl at (put_there v) (k.notarizations v);
         finalizations = λ v. stays_known finalization_in artifact.Finalization finalized-push xs (artifact.Notarization c) v _ refl (k.finalizations v);
       })
 
-  pub behind_finalization : (places : Places) (new : BTreeMap ℕ ℕ) (xs : List (Artifact S D P G C)) (x : Artifact S D P G C) (c : Finalization S D P G C) (place view : ℕ) → Some c ≡ as_finalization x → view ≡ c.proposal.round.view → place ≡ length xs
-      → ((v : ℕ) → get nat_cmp new v ≡ option_or (get nat_cmp places.finalizations v) (if view == v then Some place else None))
+  pub behind_finalization : (places : Places) (new : BTreeMap (Reverse ℕ) ℕ) (xs : List (Artifact S D P G C)) (x : Artifact S D P G C) (c : Finalization S D P G C) (place view : ℕ) → Some c ≡ as_finalization x → view ≡ c.proposal.round.view → place ≡ length xs
+      → ((v : ℕ) → stored new v ≡ option_or (stored places.finalizations v) (if view == v then Some place else None))
       → KeepsPlaces places xs → KeepsPlaces (record { notarizations = places.notarizations; finalizations = new }) (xs ++ x ∷ [])
   behind_finalization places new xs x c place view is of at put k =
-      let put_there : (v : ℕ) → get nat_cmp new v ≡ option_or (get nat_cmp places.finalizations v) (if c.proposal.round.view == v then Some place else None) =
-      λ v. put v ∙ ap (λ (u : ℕ). option_or (get nat_cmp places.finalizations v) (if u == v then Some place else None)) of in
+      let put_there : (v : ℕ) → stored new v ≡ option_or (stored places.finalizations v) (if c.proposal.round.view == v then Some place else None) =
+      λ v. put v ∙ ap (λ (u : ℕ). option_or (stored places.finalizations v) (if u == v then Some place else None)) of in
       subst (λ (y : Artifact S D P G C). KeepsPlaces (record { notarizations = places.notarizations; finalizations = new }) (xs ++ y ∷ [])) (is_finalization x c is) (record {
         notarizations = λ v. stays_known notarization_in artifact.Notarization notarized-push xs (artifact.Finalization c) v _ refl (k.notarizations v);
         finalizations = λ v. is_known finalization_in artifact.Finalization finalized-push xs c v place (c.proposal.round.view == v) _ _ refl at (put_there v) (k.finalizations v);

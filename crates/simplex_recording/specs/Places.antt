@@ -1,7 +1,8 @@
 -- Where in a record the certificates of a view stand.
 use Rattle.std.specs.Prelude.{◌≡◌, ℕ, List, ◌∷◌, ◌++◌, length, Option, Some, None, MatchOption, slice_get}
-use Rattle.std.specs.BTreeMap.{BTreeMap, get}
-use Rattle.std.specs.Ordering.{nat_cmp}
+use Rattle.std.specs.BTreeMap.{BTreeMap}
+use Rattle.std.specs.declared.cmp.Reverse.{Reverse}
+use Rattle.simplex_types.specs.LatestFirst.{stored}
 use Rattle.simplex_certificates.specs.declared.artifact.Artifact.{Artifact}
 use Rattle.simplex_certificates.specs.declared.artifact.Artifact.TheVariants as artifact
 use Rattle.simplex_certificates.specs.declared.nullify.Nullify.{Nullify}
@@ -27,8 +28,8 @@ module _ {A X : Type 0} (found : List A → ℕ → Option X) (wrap : X → A) w
   IsFoundAt xs view place = (c : X) × (found xs view ≡ Some c) × StandsBehind xs place (wrap c)
 
   -- of each view it is known behind how many elements that stands which is found of it, or that none is
-  abbrev pub KnowsPlaces : BTreeMap ℕ ℕ → List A → Type 0
-  KnowsPlaces places xs = (view : ℕ) → MatchOption (get nat_cmp places view) (found xs view ≡ None) (IsFoundAt xs view)
+  abbrev pub KnowsPlaces : BTreeMap (Reverse ℕ) ℕ → List A → Type 0
+  KnowsPlaces places xs = (view : ℕ) → MatchOption (stored places view) (found xs view ≡ None) (IsFoundAt xs view)
 
 module _ {S D P G C : Type 0} where
   -- the notarization that an artifact is

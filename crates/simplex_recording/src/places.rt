@@ -1,24 +1,24 @@
 //! Where in a record the certificates of a view stand.
 
 ghost use Rattle.std.specs.Prelude.{◌≡◌, ◌==◌, ◌++◌, ◌∷◌, [], ℕ, List, length, Some, None, IfOk, OnOk, if◌then◌else◌};
-ghost use Rattle.std.specs.BTreeMap.{get};
 ghost use Rattle.std.specs.Option.{option_copied, option_or};
-ghost use Rattle.std.specs.Ordering.{nat_cmp};
+ghost use Rattle.simplex_types.specs.LatestFirst.{stored};
 ghost use Rattle.simplex_certificates.specs.declared.artifact.Artifact.{Artifact};
 ghost use Rattle.simplex_recording.specs.Places.{KeepsPlaces, as_finalization, as_notarization, as_nullify};
 
 use simplex_certificates::{Artifact, Finalization, Notarization, Nullify};
 use simplex_types::{Digest, Scheme, View, Viewable};
 use std::alloc::{AllocError, Global};
+use std::cmp::Reverse;
 use std::collections::BTreeMap;
 
 /// Behind how many artifacts the first notarization of each view stands, and the first finalization.
 #[derive(Drop)]
 pub(crate) struct Places {
     /// Those of the notarizations.
-    pub(crate) notarizations: BTreeMap<View, usize>,
+    pub(crate) notarizations: BTreeMap<Reverse<View>, usize>,
     /// Those of the finalizations.
-    pub(crate) finalizations: BTreeMap<View, usize>,
+    pub(crate) finalizations: BTreeMap<Reverse<View>, usize>,
 }
 
 impl Places {
@@ -58,13 +58,17 @@ impl Places {
 }
 
 /// Puts a place under the view, where none is.
-fn add_first(places: &mut BTreeMap<View, usize>, view: View, place: usize) -> Result<(), AllocError>
-    ensures { OnOk result ((v : ℕ) → get nat_cmp places.new v ≡ option_or (get nat_cmp places.old v) (if view == v then Some place else None)) }
+fn add_first(
+    places: &mut BTreeMap<Reverse<View>, usize>,
+    view: View,
+    place: usize,
+) -> Result<(), AllocError>
+    ensures { OnOk result ((v : ℕ) → stored places.new v ≡ option_or (stored places.old v) (if view == v then Some place else None)) }
 {
-    if places.contains_key(&view) {
+    if places.contains_key(&Reverse(view)) {
         return Ok(());
     }
-    places.insert(view, place)?;
+    places.insert(Reverse(view), place)?;
     Ok(())
 }
 

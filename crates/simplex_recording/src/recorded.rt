@@ -22,6 +22,7 @@ use simplex_record::{Owner, Standing, check};
 use simplex_rules::Kind;
 use simplex_types::{Digest, Scheme, TermLength, View, Viewable};
 use std::alloc::{AllocError, Global};
+use std::cmp::Reverse;
 
 /// What a member has recorded: the artifacts, and what is asked of them again and again. Each question takes
 /// a logarithmic time at most.
@@ -165,7 +166,7 @@ impl<S: Scheme<D>, D: Digest> Recorded<S, D> {
     pub fn notarization(&self, view: View) -> Option<&Notarization<S, D>>
         ensures { AtEach self.now (λ owner xs. option_copied result ≡ notarization_in xs view) }
     {
-        let place = self.places.notarizations.get(&view).copied();
+        let place = self.places.notarizations.get(&Reverse(view)).copied();
         match self.artifact_at(place) {
             Some(artifact) => notarization_of(artifact),
             None => None,
@@ -176,7 +177,7 @@ impl<S: Scheme<D>, D: Digest> Recorded<S, D> {
     pub fn finalization(&self, view: View) -> Option<&Finalization<S, D>>
         ensures { AtEach self.now (λ owner xs. option_copied result ≡ finalization_in xs view) }
     {
-        let place = self.places.finalizations.get(&view).copied();
+        let place = self.places.finalizations.get(&Reverse(view)).copied();
         match self.artifact_at(place) {
             Some(artifact) => finalization_of(artifact),
             None => None,

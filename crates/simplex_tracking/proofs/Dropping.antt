@@ -7,10 +7,11 @@ use Rattle.std.specs.BTreeMap.{BTreeMap, IsUpperBound, btree_map_len}
 use Rattle.std.proofs.lemmas.Bool.{cases_Bool, cases_eq, cases_lt}
 use Rattle.std.proofs.lemmas.Bool.Decides.{nat_tests}
 use Rattle.std.proofs.lemmas.Map.Keys.{le_from_is_le}
+use Rattle.simplex_types.specs.LatestFirst.{as_key, latest_first, stored, Stores}
 use Rattle.simplex_round.specs.declared.round.Round.{Round}
 use Rattle.simplex_history.specs.Past.{Item}
 use Rattle.simplex_history.specs.Pasts.{forget}
-use Rattle.simplex_tracking.specs.Rounds.{Common, AreKept, AreUntracked, IsFirstBelow, Stores, as_key, latest_first, stored, unled}
+use Rattle.simplex_tracking.specs.Rounds.{Common, AreKept, AreUntracked, IsFirstBelow, unled}
 use Rattle.simplex_tracking.specs.Tracked.{AreMembers}
 use Rattle.simplex_tracking.proofs.Finding.{bare_at, cases_there}
 use Rattle.simplex_tracking.proofs.Tables.{AreKept-at, AreKept-tracked}

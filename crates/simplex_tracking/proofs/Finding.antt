@@ -8,9 +8,10 @@ use Rattle.std.specs.BTreeMap.{BTreeMap, IsLowerBound}
 use Rattle.std.specs.BTreeMap.Range.{IsRangeOf}
 use Rattle.std.proofs.lemmas.Bool.Decides.{nat_tests}
 use Rattle.std.proofs.lemmas.Map.Keys.{ge_from_not_lt, le_from_not_gt}
+use Rattle.simplex_types.specs.LatestFirst.{as_key, latest_first, stored}
 use Rattle.simplex_round.specs.declared.round.Round.{Round}
 use Rattle.simplex_history.specs.Past.{Item}
-use Rattle.simplex_tracking.specs.Rounds.{Common, AreKept, AreUntracked, IsFirstTracked, IsRight, IsTracked, as_key, latest_first, stored}
+use Rattle.simplex_tracking.specs.Rounds.{Common, AreKept, AreUntracked, IsFirstTracked, IsRight, IsTracked}
 
 not_above : (a b : ℕ) → a ≤ b → is_gt (nat_cmp a b) ≡ false
 not_above a b le = grind (arith, nat_tests)

@@ -5,13 +5,14 @@ use Rattle.std.specs.Option.{option_copied_mut, option_or}
 use Rattle.std.specs.Prelude.{Option, Some, None, Bool, IsSome, OnSome}
 use Rattle.std.specs.declared.cmp.Reverse.{Reverse}
 use Rattle.std.specs.BTreeMap.{BTreeMap}
+use Rattle.simplex_types.specs.LatestFirst.{stored, Stores}
 use Rattle.simplex_round.specs.declared.round.Round.{Round}
 use Rattle.simplex_history.specs.Past.{Item}
 use Rattle.simplex_round.specs.Round as one
 use Rattle.simplex_tracking.specs.declared.rounds.Rounds.{Rounds}
 use Rattle.simplex_tracking.specs.Lending.{Follows}
 use Rattle.simplex_history.specs.Pasts.{put}
-use Rattle.simplex_tracking.specs.Rounds.{AtEach, Common, IsOpen, IsTracked, Keep, Stores, learn, setup_of, stored}
+use Rattle.simplex_tracking.specs.Rounds.{AtEach, Common, IsOpen, IsTracked, Keep, learn, setup_of}
 use Rattle.simplex_tracking.proofs.Choices.{is_itself, some-is}
 use Rattle.simplex_tracking.proofs.Tables.{AreKept-step, AreOpen-there, happened}
 

@@ -3,6 +3,7 @@ use Rattle.std.proofs.Common.{◌≡◌, ℕ, true, false, ◌==◌, ◌<◌, �
 use Rattle.std.specs.Borrow.{MutBor}
 use Rattle.std.specs.Option.{option_copied_mut, option_or}
 use Rattle.std.specs.Prelude.{Option, Some, None, Bool, MatchOption, IsSome, is_some, option_copied}
+use Rattle.simplex_types.specs.LatestFirst.{as_key, stored, Stores}
 use Rattle.simplex_types.specs.declared.position.Round as position
 use Rattle.simplex_types.specs.declared.proposal.Proposal.{Proposal}
 use Rattle.std.specs.declared.cmp.Reverse.{Reverse}
@@ -13,7 +14,7 @@ use Rattle.simplex_round.specs.declared.round.Round.{Round}
 use Rattle.simplex_round.specs.Round as one
 use Rattle.simplex_history.specs.Held.{held, Agrees}
 use Rattle.simplex_history.specs.Past.{Item, has_finalized, has_nullified, is_unlatched, offers}
-use Rattle.simplex_tracking.specs.Rounds.{Common, Stores, as_key, setup_of, stored, learn, IsTracked, IsRight, AreKept, AreOpen}
+use Rattle.simplex_tracking.specs.Rounds.{Common, setup_of, learn, IsTracked, IsRight, AreKept, AreOpen}
 use Rattle.simplex_tracking.specs.Tracked.{AreMembers}
 
 -- what stays the same of a round is what its view and what all rounds share say

@@ -1,10 +1,9 @@
 -- What the rounds of all views keep.
 use Rattle.std.specs.Prelude.{◌≡◌, ◌≢◌, ◌⊎◌, ◌↔◌, ◌<◌, ◌≤◌, ◌^◌, ◌==◌, ℕ, Bool, false, List, [], Option, Some, None, IsSome, IsTrue, MatchOption, nat_lt, if◌then◌else◌, ⊤}
 use Rattle.std.specs.Option.{option_or}
-use Rattle.std.specs.Ordering.{nat_cmp}
-use Rattle.std.specs.declared.cmp.Ordering.{Ordering}
 use Rattle.std.specs.declared.cmp.Reverse.{Reverse}
-use Rattle.std.specs.BTreeMap.{BTreeMap, UpdatesBy, get}
+use Rattle.std.specs.BTreeMap.{BTreeMap}
+use Rattle.simplex_types.specs.LatestFirst.{stored}
 use Rattle.simplex_certificates.specs.declared.artifact.Artifact.{Artifact}
 use Rattle.simplex_certificates.specs.declared.artifact.Artifact.TheVariants as artifact
 use Rattle.simplex_round.specs.declared.round.Round.{Round}
@@ -30,22 +29,6 @@ setup_of s view = record { scheme = s.scheme; round = record { epoch = s.epoch; 
 -- the leader of a view becomes known, where it isn't
 abbrev pub learn : ℕ → ℕ → (ℕ → Option ℕ) → ℕ → Option ℕ
 learn at i t view = if at == view then option_or (t at) (Some i) else t view
-
--- a view as a key, in the order in which the latest stands first
-abbrev pub as_key : ℕ → Reverse ℕ
-as_key view = record { 0 = view }
-
-abbrev pub latest_first : Reverse ℕ → Reverse ℕ → Ordering
-latest_first x y = nat_cmp y.0 x.0
-
-module _ {X : Type 0} where
-  -- what stands at a view
-  abbrev pub stored : BTreeMap (Reverse ℕ) X → ℕ → Option X
-  stored m view = get latest_first m (as_key view)
-
-  -- a view got this, or lost what it had, and all else stands as it did
-  abbrev pub Stores : BTreeMap (Reverse ℕ) X → BTreeMap (Reverse ℕ) X → ℕ → Option X → Type 0
-  Stores m m' view x = UpdatesBy latest_first (latest_first (as_key view)) m m' x
 
 -- of the views below the floor no leader is known any more
 abbrev pub unled : ℕ → (ℕ → Option ℕ) → ℕ → Option ℕ

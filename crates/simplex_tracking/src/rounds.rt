@@ -4,10 +4,11 @@
 ghost use Rattle.std.specs.Prelude.{◌≡◌, ◌<◌, ◌≤◌, ◌+◌, ◌^◌, ℕ, Bool, List, [], Option, Some, None, is_none, is_some, IsSome, IfSome, IfOk, OnOk, MatchOption};
 ghost use Rattle.std.specs.Borrow.{sem};
 ghost use Rattle.std.specs.BTreeMap.{btree_map_len};
+ghost use Rattle.simplex_types.specs.LatestFirst.{stored};
 ghost use Rattle.simplex_round.specs.Round as one;
 ghost use Rattle.simplex_tracking.specs.Lending.{LendsKnown, LendsOpen};
 ghost use Rattle.simplex_history.specs.Pasts.{forget};
-ghost use Rattle.simplex_tracking.specs.Rounds.{Common, Keep, AreUntracked, AtEach, IsFirstBelow, IsFirstTracked, IsOpen, IsTracked, Takes, learn, recalled, setup_of, stored, unled};
+ghost use Rattle.simplex_tracking.specs.Rounds.{Common, Keep, AreUntracked, AtEach, IsFirstBelow, IsFirstTracked, IsOpen, IsTracked, Takes, learn, recalled, setup_of, unled};
 
 use simplex_certificates::Artifact;
 use simplex_round::Round;

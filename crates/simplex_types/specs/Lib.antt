@@ -1,4 +1,5 @@
 pub mod Positions
+pub mod LatestFirst
 pub mod Round
 pub mod Proposal
 pub mod Attestation

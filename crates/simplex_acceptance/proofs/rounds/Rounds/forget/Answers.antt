@@ -1,4 +1,4 @@
-use Rattle.simplex_acceptance.specs.Standing.{as_key}
+use Rattle.simplex_types.specs.LatestFirst.{as_key}
 use Rattle.simplex_acceptance.proofs.Changing.{apart-at, keys-apart}
 use Rattle.simplex_acceptance.proofs.rounds.Rounds.forget.Goals as goal
 

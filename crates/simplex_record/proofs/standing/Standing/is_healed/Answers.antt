@@ -18,7 +18,7 @@ returns g c = λ before k.
       λ healed. elim (cases_option c.next-2.result) [
         | inl none ↦ false_not c.is_none.result (sym c.is_none.ensures ∙ ap is_some none)
         | inr some ↦
-            let first = first_between c.args.self.now.votes.nullifies c.max-low.result c.args.view c.range.result range some.0.now _ (rw some.1 at c.next-2.ensures.steps) in
-            absurd (none-healed c.args.self.now.votes before k.by_view.votes c.args.length c.args.view some.0.now healed (omega (arith, low_is, first)) (omega (arith, low_is, first, k.by_view.last_finalized)) first.1 first.2)
+            let first = first_between c.args.self.now.votes.nullifies c.max-low.result c.args.view c.range.result range some.0.now.0 _ (rw some.1 at c.next-2.ensures.steps) in
+            absurd (none-healed c.args.self.now.votes before k.by_view.votes c.args.length c.args.view some.0.now.0 healed (omega (arith, low_is, first)) (omega (arith, low_is, first, k.by_view.last_finalized)) first.1 first.2)
       ],
     )

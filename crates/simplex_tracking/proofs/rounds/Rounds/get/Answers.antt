@@ -1,6 +1,7 @@
 use Rattle.std.proofs.Common.{◌≡◌, Some, arith}
 use Rattle.std.proofs.lemmas.Bool.Decides.{nat_tests}
-use Rattle.simplex_tracking.specs.Rounds.{Keep, stored}
+use Rattle.simplex_types.specs.LatestFirst.{stored}
+use Rattle.simplex_tracking.specs.Rounds.{Keep}
 use Rattle.simplex_tracking.proofs.rounds.Rounds.get.Goals as goal
 
 pub returns-then-eq : goal.returns-then-eq

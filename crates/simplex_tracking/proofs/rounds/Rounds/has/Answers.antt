@@ -1,6 +1,6 @@
 use Rattle.std.proofs.Common.{◌≡◌, Some, refl, arith}
 use Rattle.std.proofs.lemmas.Bool.Decides.{nat_tests}
-use Rattle.simplex_tracking.specs.Rounds.{stored}
+use Rattle.simplex_types.specs.LatestFirst.{stored}
 use Rattle.simplex_tracking.proofs.rounds.Rounds.has.Goals as goal
 
 pub returns-then-eq : goal.returns-then-eq
