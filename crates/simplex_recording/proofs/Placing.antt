@@ -1,16 +1,33 @@
 -- Where what is found of a view stands in a list that has one element more.
-use Rattle.std.proofs.Common.{◌≡◌, ◌∙◌, ℕ, Bool, true, false, List, [], ◌∷◌, ◌++◌, length, Option, Some, None, refl, sym, ap, subst, append_assoc, if◌then◌else◌}
-use Rattle.std.specs.Prelude.{◌==◌, MatchOption, slice_get}
-use Rattle.std.specs.BTreeMap.{BTreeMap}
+use Rattle.std.proofs.Common.{◌≡◌, ◌∙◌, ℕ, Bool, true, false, List, [], ◌∷◌, ◌++◌, length, Option, Some, None, refl, sym, ap, subst, append_assoc, if◌then◌else◌, arith}
+use Rattle.std.specs.Prelude.{◌==◌, MatchOption, cond, is_some, slice_get}
+use Rattle.std.specs.BTreeMap.{BTreeMap, is_at}
 use Rattle.std.specs.Option.{option_or}
 use Rattle.std.specs.declared.cmp.Reverse.{Reverse}
-use Rattle.simplex_types.specs.LatestFirst.{stored}
+use Rattle.std.proofs.lemmas.Bool.{false≢true}
+use Rattle.std.proofs.lemmas.Bool.Decides.{nat_tests}
+use Rattle.simplex_types.specs.LatestFirst.{as_key, latest_first, stored}
 use Rattle.simplex_certificates.specs.declared.artifact.Artifact.{Artifact}
 use Rattle.simplex_certificates.specs.declared.artifact.Artifact.TheVariants as artifact
 use Rattle.simplex_certificates.specs.ProposalCertificate.{Notarization, Finalization}
 use Rattle.simplex_member.specs.Recorded.{finalization_in, notarization_in}
 use Rattle.simplex_recording.specs.declared.places.Places.{Places}
 use Rattle.simplex_recording.specs.Places.{KeepsPlaces, StandsBehind, IsFoundAt, as_finalization, as_notarization, at_place}
+
+-- the key of a view is that of another just where they are one
+same_view : (view v : ℕ) → is_at (latest_first (as_key view)) (as_key v) ≡ (view == v)
+same_view view v = grind (arith, nat_tests)
+
+put_first : {X : Type 0} (b : Bool) (old new : Option X) (x : X) → (b ≡ true → is_some old ≡ false) → new ≡ cond b (Some x) old → new ≡ option_or old (if b then Some x else None)
+put_first true None new x bare is = is
+put_first true (Some y) new x bare is = absurd (false≢true (sym (bare refl)))
+put_first false None new x bare is = is
+put_first false (Some y) new x bare is = is
+
+-- under each view stands what stood there, or else what was put
+pub put_under : {X : Type 0} (view v : ℕ) (old new : Option X) (x : X) → (view ≡ v → is_some old ≡ false) → new ≡ cond (is_at (latest_first (as_key view)) (as_key v)) (Some x) old → new ≡ option_or old (if view == v then Some x else None)
+put_under view v old new x bare is =
+    put_first (view == v) old new x (λ same. let one : view ≡ v = grind (arith, nat_tests, same) in bare one) (is ∙ ap (λ (b : Bool). cond b (Some x) old) (same_view view v))
 
 module _ {A : Type 0} where
   at_front : (front back : List A) (x : A) → slice_get (front ++ x ∷ back) (length front) ≡ Some x
