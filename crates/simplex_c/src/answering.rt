@@ -8,12 +8,8 @@ ghost use Rattle.simplex_hosted.specs.Answers.{Names};
 ghost use Rattle.simplex_hosted.specs.declared.status.Status.TheVariants.{Done, Foreign as IsForeignEntry, Memory, Refused, Room};
 
 use simplex_hosted::{Found, Status};
-use simplex_journal::{JournalFault, read_entries};
-use simplex_messages::Artifact;
 use simplex_record::Owner;
-use simplex_signing::PlainScheme;
-use simplex_tooling::{evidence_in, refused_in};
-use simplex_types::Sha256Digest;
+use simplex_tooling::{Checked, check_record, evidence_in};
 use std::alloc::Global;
 
 /// Puts an answer at the front of the caller's room, where it fits, and tells its size and the place that it names.
@@ -77,37 +73,18 @@ pub(crate) fn checked(
     ensures refused { result ≡ Refused → (artifacts : List Entry) × HoldsEntries stored.now artifacts × IsRefusedAt (attests_in members) (certifies_in members) owner artifacts found.new.place }
     ensures foreign { result ≡ IsForeignEntry → IsForeign [] IsEntry entry_spelling stored.now found.new.place }
 {
-    match read_entries(alloc, stored) {
-        Ok(entries) => checked_entries(alloc, members, owner, &entries.messages, found),
-        Err(JournalFault::Foreign(place)) => {
-            found.tell(0, Some(place));
-            Status::Foreign
-        }
-        Err(_) => Status::Memory,
-    }
-}
-
-/// The same of a record's artifacts.
-fn checked_entries(
-    alloc: Global,
-    members: u16,
-    owner: Owner,
-    artifacts: &[Artifact<PlainScheme, Sha256Digest>],
-    found: &mut Found,
-) -> Status
-    requires { 0 < members }
-    ensures answers { (result ≡ Done) ⊎ ((result ≡ Memory) ⊎ (result ≡ Refused)) }
-    ensures lawful { result ≡ Done → IsLawful (attests_in members) (certifies_in members) owner artifacts.now × (found.new.length ≡ length artifacts.now) }
-    ensures refused { result ≡ Refused → IsRefusedAt (attests_in members) (certifies_in members) owner artifacts.now found.new.place }
-{
-    match refused_in(alloc, members, owner, artifacts) {
-        Ok(None) => {
-            found.tell(artifacts.len(), None);
+    match check_record(alloc, members, owner, stored) {
+        Ok(Checked::Lawful { entries }) => {
+            found.tell(entries, None);
             Status::Done
         }
-        Ok(Some(entry)) => {
-            found.tell(artifacts.len(), Some(entry as u64));
+        Ok(Checked::Refused { entry, entries }) => {
+            found.tell(entries, Some(entry as u64));
             Status::Refused
+        }
+        Ok(Checked::Foreign { place }) => {
+            found.tell(0, Some(place));
+            Status::Foreign
         }
         Err(_) => Status::Memory,
     }

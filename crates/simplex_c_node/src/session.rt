@@ -1,6 +1,6 @@
 //! A member's node between two calls.
 
-ghost use Rattle.std.specs.Prelude.{◌≡◌, ◌<◌, ◌++◌, ℕ, None, Some, IfOk};
+ghost use Rattle.std.specs.Prelude.{◌≡◌, ◌<◌, ◌++◌, ℕ, None, Some, IfOk, OnOk};
 ghost use Rattle.simplex_certificates.specs.Artifact.{artifact_spelling};
 ghost use Rattle.simplex_codec.specs.Codec.{Readable};
 ghost use Rattle.simplex_member.specs.declared.action.Reply.{Reply};
@@ -29,11 +29,22 @@ use std::marker::Model;
 use std::rc::Rc;
 
 /// A member's node, what it asks of the host that keeps its record, and the replies that were not taken yet.
-#[derive(Drop)]
 pub(crate) struct Session {
     node: Node<PlainScheme, RoundRobinElector, Sha256Digest, HostedDisk>,
     requests: Requests,
     replies: Vec<u8>,
+}
+
+// The node lets itself go: so it is proved where a node is defined, and not once more here for all that it is made of.
+impl Drop for Session {
+    fn drop(self) {
+        let Session {
+            node,
+            requests: _,
+            replies: _,
+        } = self;
+        drop(node.close());
+    }
 }
 
 // Nothing of a node is told between two calls.
@@ -88,10 +99,10 @@ fn hosted(alloc: Global, stored: &[u8]) -> Result<(HostedDisk, Requests), AllocE
     Ok((HostedDisk::over(alloc, stored, shared), requests))
 }
 
-/// A session in a box.
-fn boxed(alloc: Global, session: Session) -> Result<Box<Session>, OpenFault> {
-    match Box::new(alloc, session) {
-        Ok(session) => Ok(session),
+/// A value in a box.
+fn boxed<T: Drop>(alloc: Global, value: T) -> Result<Box<T>, OpenFault> {
+    match Box::new(alloc, value) {
+        Ok(value) => Ok(value),
         Err(_) => Err(OpenFault::Memory),
     }
 }
@@ -149,16 +160,48 @@ fn begin<S: Scheme<D> + Drop, L: Elector<S, D>, D: Digest, K: Disk>(
     ensures opened { IfOk result (λ node. (index : ℕ) × (first : Reply S D S.PublicKey S.Signature S.Certificate) × (S.own scheme.value ≡ Some index) × (first.refused ≡ None) × (replies.new.items ≡ replies.old.items ++ spelled S.PublicKey.spelling D.spelling S.Signature.spelling S.Certificate.spelling first)
         × IsOpenAndSettled S.Scheme L.Elector K.Disk (formats D.PartialEq.eq D.spelling S.Signature.spelling S.Certificate.spelling D.reading S.Signature.reading S.Certificate.reading (S.size scheme.value)) (setup_of S.Scheme L.Elector config scheme.value elector index) (Readable ⟦<Artifact<S, D> as Spells>⟧.fits (⟦<Artifact<S, D> as Spelled>⟧.within 65535)) disk 0 node first.actions.items) }
 {
+    match node_over(alloc, config, scheme, elector, disk) {
+        Ok((node, first)) => match put_behind(alloc, first, replies) {
+            Ok(()) => Ok(node),
+            Err(_) => {
+                drop(node.close());
+                Err(OpenFault::Memory)
+            }
+        },
+        Err(fault) => Err(fault),
+    }
+}
+
+/// Puts a reply behind the replies.
+fn put_behind<S: Scheme<D>, D: Digest>(
+    alloc: Global,
+    reply: Reply<S, D>,
+    replies: &mut Vec<u8>,
+) -> Result<(), IoFault>
+    ensures { OnOk result (replies.new.items ≡ replies.old.items ++ spelled S.PublicKey.spelling D.spelling S.Signature.spelling S.Certificate.spelling reply) }
+{
+    write_out(alloc, &reply, replies)
+}
+
+/// The node over this disk, opened at moment 0, and what that hands out as a reply.
+fn node_over<S: Scheme<D> + Drop, L: Elector<S, D>, D: Digest, K: Disk>(
+    alloc: Global,
+    config: Config<D>,
+    scheme: Rc<S>,
+    elector: L,
+    disk: K,
+) -> Result<(Node<S, L, D, K>, Reply<S, D>), OpenFault>
+    requires { L.built_for elector (S.size scheme.value) }
+    ensures opened { IfOk result (λ r. (index : ℕ) × (S.own scheme.value ≡ Some index) × (r.1.refused ≡ None)
+        × IsOpenAndSettled S.Scheme L.Elector K.Disk (formats D.PartialEq.eq D.spelling S.Signature.spelling S.Certificate.spelling D.reading S.Signature.reading S.Certificate.reading (S.size scheme.value)) (setup_of S.Scheme L.Elector config scheme.value elector index) (Readable ⟦<Artifact<S, D> as Spells>⟧.fits (⟦<Artifact<S, D> as Spelled>⟧.within 65535)) disk 0 r.0 r.1.actions.items) }
+{
     match Node::open(alloc, config, scheme, elector, disk, 0) {
         Ok((node, actions)) => {
             let first = Reply {
                 refused: None,
                 actions,
             };
-            match write_out(alloc, &first, replies) {
-                Ok(()) => Ok(node),
-                Err(_) => Err(OpenFault::Memory),
-            }
+            Ok((node, first))
         }
         Err((fault, _)) => Err(fault),
     }

@@ -9,9 +9,13 @@ use Rattle.simplex_messages.specs.declared.activity.Activity.{Activity}
 use Rattle.simplex_messages.specs.Activity.{activity_spelling}
 
 -- a report takes a byte at least
-pub shorter : {S D P G C : Type 0} (p : D → List ℕ) (f : G → List ℕ) (g : C → List ℕ) (report : Activity S D P G C) (rest after : List ℕ) → rest ≡ activity_spelling p f g report ++ after → length after < length rest
+pub takes_a_byte : {S D P G C : Type 0} (p : D → List ℕ) (f : G → List ℕ) (g : C → List ℕ) (report : Activity S D P G C) → 0 < length (activity_spelling p f g report)
 unfolding activity_spelling
-shorter p f g report rest after spelled = omega (arith, ap length spelled, length-append (activity_spelling p f g report) after)
+takes_a_byte p f g report = omega arith
+
+-- so less is left behind it
+pub shorter : {A : Type 0} (spelling : A → List ℕ) (x : A) (rest after : List ℕ) → 0 < length (spelling x) → rest ≡ spelling x ++ after → length after < length rest
+shorter spelling x rest after takes spelled = omega (arith, takes, ap length spelled, length-append (spelling x) after)
 
 -- one more was read
 pub one_more : {A : Type 0} (spelling : A → List ℕ) (read : List A) (x : A) (bytes rest after : List ℕ) → bytes ≡ flat_map spelling read ++ rest → rest ≡ spelling x ++ after → bytes ≡ flat_map spelling (read ++ x ∷ []) ++ after

@@ -1,3 +1,2 @@
 pub mod Words
 pub mod Following
-pub mod Checking

@@ -18,6 +18,8 @@ use Rattle.simplex_journal.specs.Record.{IsFound, IsForeign}
 use Rattle.simplex_output.specs.Front.{AppendsFront}
 use Rattle.simplex_record.specs.declared.owner.Owner.{Owner}
 use Rattle.simplex_record.specs.Lawful.{IsLawful, IsRefusedAt}
+use Rattle.simplex_tooling.specs.declared.checking.Checked.{Checked}
+use Rattle.simplex_tooling.specs.declared.checking.Checked.TheVariants as checked
 use Rattle.simplex_tooling.specs.declared.command.Call.{Call}
 use Rattle.simplex_tooling.specs.declared.command.Request.{Request}
 use Rattle.simplex_tooling.specs.declared.command.Request.TheVariants as request
@@ -73,6 +75,18 @@ attests_in count = Attests (λ d. d) (codes "simplex") count
 
 abbrev pub certifies_in : ℕ → Statement (List ℕ) → List (Attestation (List ℕ)) → Type 0
 certifies_in count s listed = IsQuorum count (λ i a. attests_in count i s a) listed
+
+-- what holding these artifacts to the rules finds: that this owner's record of them is lawful, or its first entry that may not stand there
+abbrev pub AreHeld : ℕ → Owner → List Entry → Checked → Type 0
+AreHeld count owner artifacts (checked.Lawful entries) = IsLawful (attests_in count) (certifies_in count) owner artifacts × (entries ≡ length artifacts)
+AreHeld count owner artifacts (checked.Refused entry entries) = IsRefusedAt (attests_in count) (certifies_in count) owner artifacts entry × (entries ≡ length artifacts)
+AreHeld count owner artifacts (checked.Foreign place) = ⊥
+
+-- the same of the record that these bytes hold, or the place of its first foreign entry
+abbrev pub IsHeld : ℕ → Owner → List ℕ → Checked → Type 0
+IsHeld count owner bytes (checked.Lawful entries) = (artifacts : List Entry) × HoldsEntries bytes artifacts × AreHeld count owner artifacts (checked.Lawful entries)
+IsHeld count owner bytes (checked.Refused entry entries) = (artifacts : List Entry) × HoldsEntries bytes artifacts × AreHeld count owner artifacts (checked.Refused entry entries)
+IsHeld count owner bytes (checked.Foreign place) = IsForeign [] IsEntry entry_spelling bytes place
 
 -- the line of a lawful record, with how many entries it has
 abbrev pub lawful_line : Style → ℕ → List ℕ

@@ -1,42 +1,31 @@
 //! What is answered to each request, about bytes that were read.
 
-ghost use Rattle.std.specs.Prelude.{◌≡◌, ◌++◌, ◌<◌, [], None, IfNone, IfOk, IfSome, OnOk, codes, string_bytes};
+ghost use Rattle.std.specs.Prelude.{◌≡◌, ◌++◌, ◌<◌, [], IfOk, OnOk, codes, string_bytes};
 ghost use Rattle.std.specs.List.{flat_map};
 ghost use Rattle.std.specs.Option.{option_map_or};
 ghost use Rattle.simplex_cli.specs.Running.{report_spelling};
-ghost use Rattle.simplex_record.specs.Lawful.{IsLawful, IsRefusedAt};
-ghost use Rattle.simplex_tooling.specs.Answers.{AreChecked, AreReports, IsAnswerTo, IsChecked, IsEvidence, IsRecordTold, attests_in, certifies_in, lawful_line, refused_line};
+ghost use Rattle.simplex_tooling.specs.Answers.{AreReports, IsAnswerTo, IsChecked, IsEvidence, IsRecordTold, lawful_line, refused_line};
 ghost use Rattle.simplex_tooling.specs.Command.{IsAsked};
 ghost use Rattle.simplex_tooling.specs.Lines.{artifact_line, report_line};
 ghost use Rattle.simplex_tooling.specs.Parts.{place_line};
 
+use crate::checking::{Checked, check_record};
 use crate::command::{HELP, Request, VERSION};
 use crate::lines::{push_artifact, push_report};
 use crate::parts::{push_end, push_kind, push_number, push_place};
-use crate::reading::read_reports;
+use crate::reading::read_values;
+use crate::scheme::scheme_of;
 use crate::style::Style;
 use simplex_audit::{Audit, audit};
 use simplex_journal::{JournalFault, read_entries};
 use simplex_messages::{Activity, Artifact};
-use simplex_record::{Owner, first_refused};
+use simplex_record::Owner;
 use simplex_signing::PlainScheme;
 use simplex_types::{Epoch, Participant, Sha256Digest, TermLength, Write};
 use std::alloc::{AllocError, Global};
 
-/// The base of the namespaces that the committees sign in.
-const BASE: &[u8; 7] = b"simplex";
-
 /// How many views a term of the program's members has.
 const TERM: u32 = 4;
-
-/// The scheme of a committee of so many.
-fn scheme_of(alloc: Global, count: u16) -> Result<PlainScheme, AllocError>
-    requires { 0 < count }
-    ensures base { IfOk result (λ scheme. scheme.base ≡ codes "simplex") }
-    ensures count { IfOk result (λ scheme. scheme.participants ≡ count) }
-{
-    PlainScheme::new(alloc, BASE, u32::from(count), None)
-}
 
 /// The bytes of reports.
 fn spelled(
@@ -93,7 +82,7 @@ pub fn dumped_reports(
 ) -> Result<(String, Option<usize>), AllocError>
     ensures { IfOk result (λ answer. AreReports style count bytes.now (string_bytes answer.0) answer.1) }
 {
-    let (reports, fault) = read_reports(alloc, u32::from(count), bytes)?;
+    let (reports, fault) = read_values(alloc, u32::from(count), bytes)?;
     let mut text = report_lines(alloc, style, &reports)?;
     push_fault(&mut text, style, fault)?;
     Ok((text, fault))
@@ -177,22 +166,6 @@ fn refused_text(alloc: Global, style: Style, entry: usize) -> Result<String, All
     Ok(text)
 }
 
-/// The line of what was found of a record, and the entry that it names.
-fn found_text(
-    alloc: Global,
-    style: Style,
-    entries: usize,
-    refused: Option<usize>,
-) -> Result<String, AllocError>
-    ensures lawful { refused ≡ None → IfOk result (λ text. string_bytes text ≡ lawful_line style entries) }
-    ensures refused { IfSome refused (λ entry. IfOk result (λ text. string_bytes text ≡ refused_line style entry)) }
-{
-    match refused {
-        Some(entry) => refused_text(alloc, style, entry),
-        None => lawful_text(alloc, style, entries),
-    }
-}
-
 /// Whether the bytes hold a lawful record of this member of so many: its line, and what it names, which is the first entry
 /// that may not stand there, counted from 0, or the place of a foreign one. Refused only where memory is.
 pub fn checked(
@@ -205,51 +178,18 @@ pub fn checked(
     requires { 0 < count }
     ensures { IfOk result (λ answer. IsChecked style index count bytes.now (string_bytes answer.0) answer.1) }
 {
-    match read_entries(alloc, bytes) {
-        Ok(entries) => checked_entries(alloc, style, index, count, &entries.messages),
-        Err(JournalFault::Foreign(place)) => {
-            let text = foreign_line(alloc, style, place)?;
-            Ok((text, Some(place as usize)))
-        }
-        Err(_) => Err(AllocError),
-    }
-}
-
-/// The same of the record's artifacts.
-fn checked_entries(
-    alloc: Global,
-    style: Style,
-    index: u16,
-    count: u16,
-    artifacts: &[Artifact<PlainScheme, Sha256Digest>],
-) -> Result<(String, Option<usize>), AllocError>
-    requires { 0 < count }
-    ensures { IfOk result (λ answer. AreChecked style index count artifacts.now (string_bytes answer.0) answer.1) }
-{
     let owner = Owner {
         epoch: Epoch::new(0),
         term_length: TermLength::new(TERM),
         signer: Participant::new(u32::from(index)),
     };
-    let refused = refused_in(alloc, count, owner, artifacts)?;
-    let text = found_text(alloc, style, artifacts.len(), refused)?;
-    Ok((text, refused))
-}
-
-/// The position of the first artifact that a lawful record of this owner, of a committee of so many, refuses, if there is one.
-/// Refused only where memory is.
-pub fn refused_in(
-    alloc: Global,
-    count: u16,
-    owner: Owner,
-    artifacts: &[Artifact<PlainScheme, Sha256Digest>],
-) -> Result<Option<usize>, AllocError>
-    requires { 0 < count }
-    ensures lawful { IfOk result (λ found. IfNone found (IsLawful (attests_in count) (certifies_in count) owner artifacts.now)) }
-    ensures refused { IfOk result (λ found. IfSome found (IsRefusedAt (attests_in count) (certifies_in count) owner artifacts.now)) }
-{
-    let scheme = scheme_of(alloc, count)?;
-    first_refused(alloc, &scheme, owner, artifacts)
+    match check_record(alloc, count, owner, bytes)? {
+        Checked::Lawful { entries } => Ok((lawful_text(alloc, style, entries)?, None)),
+        Checked::Refused { entry, .. } => Ok((refused_text(alloc, style, entry)?, Some(entry))),
+        Checked::Foreign { place } => {
+            Ok((foreign_line(alloc, style, place)?, Some(place as usize)))
+        }
+    }
 }
 
 /// The bytes of a text, and the place beside it.

@@ -3,14 +3,17 @@
 #![tactic(auto)]
 
 mod answers;
+mod checking;
 mod command;
 mod lines;
 mod parts;
 mod program;
 mod reading;
+mod scheme;
 mod style;
 
-pub use answers::{answer_to, checked, dumped_record, dumped_reports, evidence_in, refused_in};
+pub use answers::{answer_to, checked, dumped_record, dumped_reports, evidence_in};
+pub use checking::{Checked, check_record};
 pub use command::{Call, HELP, Request, VERSION, parse_call};
 pub use program::{misused, run_request, unopened, words_unread, write_answer};
 pub use style::Style;

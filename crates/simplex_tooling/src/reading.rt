@@ -1,13 +1,10 @@
-//! The reports that bytes hold.
+//! The values that bytes hold.
 
-ghost use Rattle.std.specs.Prelude.{◌≡◌, ◌++◌, IfOk, IfSome, IfNone, IsErr};
+ghost use Rattle.std.specs.Prelude.{◌≡◌, ◌++◌, ◌<◌, IfOk, IfSome, IfNone, IsErr, length};
 ghost use Rattle.simplex_codec.specs.Codec.{Readable};
 ghost use Rattle.simplex_audit.specs.Audit.{IsRead};
-ghost use Rattle.simplex_cli.specs.Running.{IsReport, report_at, report_spelling};
 
-use simplex_messages::Activity;
-use simplex_signing::PlainScheme;
-use simplex_types::{CodecError, Read, Sha256Digest};
+use simplex_types::{CodecError, Read};
 use std::alloc::{AllocError, Global};
 
 /// The value at the front, or nothing where none stands there: then the bytes stand where they stood. Refused only where
@@ -29,22 +26,23 @@ fn next_value<M: Read + Drop>(
     }
 }
 
-/// The reports of a committee of so many members that the bytes hold, one behind the other, and the place of the first
-/// byte at which none stands, if there is one. Refused only where memory is.
-pub(crate) fn read_reports(
+/// The values that the bytes hold, one behind the other, and the place of the first byte at which none stands, if there is
+/// one. Refused only where memory is.
+pub(crate) fn read_values<M: Read + Drop>(
     alloc: Global,
-    count: u32,
+    bound: u32,
     bytes: &[u8],
-) -> Result<(Vec<Activity<PlainScheme, Sha256Digest>>, Option<usize>), AllocError>
-    ensures { IfOk result (λ found. IsRead (IsReport count) report_spelling (report_at count) bytes.now found.0.items found.1) }
+) -> Result<(Vec<M>, Option<usize>), AllocError>
+    requires { (value : M) → 0 < length (M.spelling value) }
+    ensures { IfOk result (λ found. IsRead (Readable M.fits (M.within bound)) M.spelling (M.reading bound) bytes.now found.0.items found.1) }
 {
-    let mut reports = Vec::new(alloc);
+    let mut values = Vec::new(alloc);
     let mut rest = bytes;
     while !rest.is_empty() {
-        match next_value(alloc, count, &mut rest)? {
-            Some(report) => reports.push(report)?,
-            None => return Ok((reports, Some(bytes.len() - rest.len()))),
+        match next_value(alloc, bound, &mut rest)? {
+            Some(value) => values.push(value)?,
+            None => return Ok((values, Some(bytes.len() - rest.len()))),
         }
     }
-    Ok((reports, None))
+    Ok((values, None))
 }

@@ -1,4 +1,4 @@
-use Rattle.simplex_tooling.proofs.answers.refused_in.Goals as goal
+use Rattle.simplex_tooling.proofs.checking.refused_in.Goals as goal
 
 pub returns-clause-lawful : goal.returns-clause-lawful
 returns-clause-lawful c = rw (c.in_ok-scheme.ensures.base, c.in_ok-scheme.ensures.count) at c.first_refused.ensures.lawful
