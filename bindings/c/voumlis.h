@@ -1,7 +1,7 @@
 /* Voumlis for C: the audit of reports, the check of a record, the reading of a message, and a member's node.
  *
- * Link libsimplex_c.a (`cd crates/simplex_c && rt lib` makes it), for a node libsimplex_c_node.a (made alike), and three functions
- * over one heap, which the toolchain's archive has, or a program of yours: docs/EMBEDDING.md.
+ * Link libsimplex_c.a (`cd crates/simplex_c && rt lib` makes it), and three functions over one heap, which the toolchain's archive
+ * has, or a program of yours: docs/EMBEDDING.md.
  *
  * WHAT IS TESTED. Each function below is C, and tests what can be tested before it calls the proved one of that name: that
  * no pointer is null where a length isn't 0, that no length is beyond half of the address space, that `found` and `node` are

@@ -1,1 +1,3 @@
 mod Telling
+pub mod Places
+pub mod Values

@@ -1,9 +1,10 @@
 -- What is answered to a request about these bytes, and which place is named.
-use Rattle.std.specs.Prelude.{◌≡◌, ◌⊎◌, ℕ, List, [], ◌++◌, length, map, All, codes, Option, None, Some, ⊤}
+use Rattle.std.specs.Prelude.{◌≡◌, ◌⊎◌, ℕ, List, [], ◌++◌, length, map, All, codes, Option, None, Some, Result, ⊤}
 use Rattle.std.specs.Option.{option_map_or}
 use Rattle.std.specs.List.{flat_map}
 use Rattle.std.specs.Fmt.{decimal}
 use Rattle.std.specs.Io.KnownBytes.{Appends}
+use Rattle.simplex_codec.specs.declared.codec.CodecError.{CodecError}
 use Rattle.simplex_codec.specs.Codec.{Readable}
 use Rattle.simplex_types.specs.declared.attestation.Attestation.{Attestation}
 use Rattle.simplex_signing.specs.AttestationList.{list_fits, list_within, list_spelling}
@@ -44,17 +45,32 @@ pub record IsEvidence (count : ℕ) (bytes : List ℕ) (written : List ℕ) (fau
   pub audit : IsPlainAudit count bytes evidence fault
   pub written_is : written ≡ flat_map report_spelling evidence
 
+-- messages that can be read, and how they are spelled
+module _ {M : Type 0} (Reads : M → Type 0) (spelling : M → List ℕ) where
+  -- these bytes are the record of these entries
+  pub record Holds (bytes : List ℕ) (entries : List M) : Type 0 where
+    pub fitting : All Reads entries
+    pub gate : ℕ
+    pub found : IsFound [] bytes gate (map spelling entries)
+
+  -- a line for each message that these bytes hold, as a reader takes them, and one for the place at which none stands, if there is one
+  pub record AreTold (reading : List ℕ → Result (M × List ℕ) CodecError) (line : M → List ℕ) (style : Style) (bytes text : List ℕ) (fault : Option ℕ) : Type 0 where
+    pub messages : List M
+    pub read : IsRead Reads spelling reading bytes messages fault
+    pub text_is : text ≡ flat_map line messages ++ option_map_or (place_line style (codes "fault")) fault []
+
+  -- a line for each entry of the record, or where one is foreign its place alone
+  abbrev pub AreEntriesTold : (M → List ℕ) → Style → List ℕ → List ℕ → Option ℕ → Type 0
+  AreEntriesTold line style bytes text None = (entries : List M) × Holds bytes entries × (text ≡ flat_map line entries)
+  AreEntriesTold line style bytes text (Some place) = IsForeign [] Reads spelling bytes place × (text ≡ place_line style (codes "foreign") place)
+
 -- a line for each report that these bytes hold, and one for the place at which none stands, if there is one
-pub record AreReports (style : Style) (count : ℕ) (bytes : List ℕ) (text : List ℕ) (fault : Option ℕ) : Type 0 where
-  pub reports : List Report
-  pub read : IsRead (IsReport count) report_spelling (report_at count) bytes reports fault
-  pub text_is : text ≡ flat_map (report_line style) reports ++ option_map_or (place_line style (codes "fault")) fault []
+abbrev pub AreReports : Style → ℕ → List ℕ → List ℕ → Option ℕ → Type 0
+AreReports style count bytes text fault = AreTold (IsReport count) report_spelling (report_at count) (report_line style) style bytes text fault
 
 -- these bytes are the record of these entries
-pub record HoldsEntries (bytes : List ℕ) (artifacts : List Entry) : Type 0 where
-  pub fitting : All IsEntry artifacts
-  pub gate : ℕ
-  pub found : IsFound [] bytes gate (map entry_spelling artifacts)
+abbrev pub HoldsEntries : List ℕ → List Entry → Type 0
+HoldsEntries = Holds IsEntry entry_spelling
 
 -- these bytes have a foreign entry at this place, and that is told
 abbrev pub IsForeignTold : Style → List ℕ → List ℕ → ℕ → Type 0
@@ -62,8 +78,7 @@ IsForeignTold style bytes text place = IsForeign [] IsEntry entry_spelling bytes
 
 -- a line for each entry of the record, or where one is foreign its place alone
 abbrev pub IsRecordTold : Style → List ℕ → List ℕ → Option ℕ → Type 0
-IsRecordTold style bytes text None = (artifacts : List Entry) × HoldsEntries bytes artifacts × (text ≡ flat_map (artifact_line style) artifacts)
-IsRecordTold style bytes text (Some place) = IsForeignTold style bytes text place
+IsRecordTold style bytes text place = AreEntriesTold IsEntry entry_spelling (artifact_line style) style bytes text place
 
 -- whose record it is: a member's of the program, in epoch 0 and terms of four views
 abbrev pub owner_of : ℕ → Owner

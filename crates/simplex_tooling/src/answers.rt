@@ -6,18 +6,15 @@ ghost use Rattle.std.specs.Option.{option_map_or};
 ghost use Rattle.simplex_cli.specs.Running.{report_spelling};
 ghost use Rattle.simplex_tooling.specs.Answers.{AreReports, IsAnswerTo, IsChecked, IsEvidence, IsRecordTold, lawful_line, refused_line};
 ghost use Rattle.simplex_tooling.specs.Command.{IsAsked};
-ghost use Rattle.simplex_tooling.specs.Lines.{artifact_line, report_line};
 ghost use Rattle.simplex_tooling.specs.Parts.{place_line};
 
 use crate::checking::{Checked, check_record};
 use crate::command::{HELP, Request, VERSION};
-use crate::lines::{push_artifact, push_report};
+use crate::dumping::{dumped_entries, dumped_messages, foreign_line};
 use crate::parts::{push_end, push_kind, push_number, push_place};
-use crate::reading::read_values;
 use crate::scheme::scheme_of;
 use crate::style::Style;
 use simplex_audit::{Audit, audit};
-use simplex_journal::{JournalFault, read_entries};
 use simplex_messages::{Activity, Artifact};
 use simplex_record::Owner;
 use simplex_signing::PlainScheme;
@@ -57,21 +54,6 @@ pub fn evidence_in(
     Ok((written, found.fault))
 }
 
-/// The lines of reports.
-fn report_lines(
-    alloc: Global,
-    style: Style,
-    reports: &[Activity<PlainScheme, Sha256Digest>],
-) -> Result<String, AllocError>
-    ensures { IfOk result (λ text. string_bytes text ≡ flat_map (report_line style) reports.now) }
-{
-    let mut text = String::new(alloc);
-    for report in reports {
-        push_report(alloc, &mut text, style, report)?;
-    }
-    Ok(text)
-}
-
 /// The lines of the reports of a committee of so many that the bytes hold, then the line of the first byte at which none
 /// stands, if there is one, and its place. Refused only where memory is.
 pub fn dumped_reports(
@@ -82,44 +64,7 @@ pub fn dumped_reports(
 ) -> Result<(String, Option<usize>), AllocError>
     ensures { IfOk result (λ answer. AreReports style count bytes.now (string_bytes answer.0) answer.1) }
 {
-    let (reports, fault) = read_values(alloc, u32::from(count), bytes)?;
-    let mut text = report_lines(alloc, style, &reports)?;
-    push_fault(&mut text, style, fault)?;
-    Ok((text, fault))
-}
-
-/// Ends the text with the line of a fault, if there is one.
-fn push_fault(text: &mut String, style: Style, fault: Option<usize>) -> Result<(), AllocError>
-    ensures { OnOk result (string_bytes text.new ≡ string_bytes text.old ++ option_map_or (place_line style (codes "fault")) fault []) }
-{
-    match fault {
-        Some(place) => push_place(text, style, "fault", place as u64),
-        None => Ok(()),
-    }
-}
-
-/// The lines of artifacts.
-fn artifact_lines(
-    alloc: Global,
-    style: Style,
-    artifacts: &[Artifact<PlainScheme, Sha256Digest>],
-) -> Result<String, AllocError>
-    ensures { IfOk result (λ text. string_bytes text ≡ flat_map (artifact_line style) artifacts.now) }
-{
-    let mut text = String::new(alloc);
-    for artifact in artifacts {
-        push_artifact(alloc, &mut text, style, artifact)?;
-    }
-    Ok(text)
-}
-
-/// The line of a foreign entry.
-fn foreign_line(alloc: Global, style: Style, place: u64) -> Result<String, AllocError>
-    ensures { IfOk result (λ text. string_bytes text ≡ place_line style (codes "foreign") place) }
-{
-    let mut text = String::new(alloc);
-    push_place(&mut text, style, "foreign", place)?;
-    Ok(text)
+    dumped_messages::<Activity<PlainScheme, Sha256Digest>>(alloc, style, u32::from(count), bytes)
 }
 
 /// The lines of the record that the bytes hold; where an entry is foreign, the line of its place alone, and the place.
@@ -131,17 +76,7 @@ pub fn dumped_record(
 ) -> Result<(String, Option<usize>), AllocError>
     ensures { IfOk result (λ answer. IsRecordTold style bytes.now (string_bytes answer.0) answer.1) }
 {
-    match read_entries(alloc, bytes) {
-        Ok(entries) => {
-            let text = artifact_lines(alloc, style, &entries.messages)?;
-            Ok((text, None))
-        }
-        Err(JournalFault::Foreign(place)) => {
-            let text = foreign_line(alloc, style, place)?;
-            Ok((text, Some(place as usize)))
-        }
-        Err(_) => Err(AllocError),
-    }
+    dumped_entries::<Artifact<PlainScheme, Sha256Digest>>(alloc, style, bytes)
 }
 
 /// The line of a lawful record of so many entries.

@@ -9,7 +9,7 @@ use crate::style::Style;
 use simplex_cli::{count_of, number_of};
 
 /// What the program is asked for.
-#[derive(Clone, Copy, Debug, PartialEq, Eq)]
+#[derive(Clone, Copy)]
 pub enum Request<'a> {
     /// The evidence that an audit of reports finds, as reports.
     Evidence {
@@ -42,7 +42,7 @@ pub enum Request<'a> {
 }
 
 /// A request, and how lines are to be written.
-#[derive(Clone, Copy, Debug, PartialEq, Eq)]
+#[derive(Clone, Copy)]
 pub struct Call<'a> {
     /// How lines are written.
     pub style: Style,

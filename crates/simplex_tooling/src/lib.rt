@@ -5,6 +5,7 @@
 mod answers;
 mod checking;
 mod command;
+mod dumping;
 mod lines;
 mod parts;
 mod program;

@@ -1,6 +1,6 @@
 //! The line of a message: its kind, then what stands in it, from left to right.
 
-ghost use Rattle.std.specs.Prelude.{◌≡◌, ◌++◌, OnOk, codes, string_bytes};
+ghost use Rattle.std.specs.Prelude.{◌≡◌, ◌++◌, ℕ, List, OnOk, codes, string_bytes};
 ghost use Rattle.std.specs.List.{flat_map};
 ghost use Rattle.simplex_tooling.specs.Parts.{round_fields, signature_field};
 ghost use Rattle.simplex_tooling.specs.Lines.{artifact_line, beside_line, certificate_line, conflicting_line, named_choice, nullification_line, nullify_line, other_fields, proposal_fields, report_line, signed_fields, verdict_line, vote_line};
@@ -17,6 +17,18 @@ use simplex_messages::{
 use simplex_signing::{AttestationList, PlainScheme, PlainSignature};
 use simplex_types::{Attestation, Proposal, Round, Sha256Digest};
 use std::alloc::{AllocError, Global};
+
+/// What has a line of its own.
+pub(crate) trait Line {
+    ghost use Rattle.simplex_tooling.specs.declared.style.Style.{Style};
+
+    /// The line, in this style.
+    ghost line: { Style → Self → List ℕ };
+
+    /// Ends the text with the line.
+    fn push_line(&self, alloc: Global, text: &mut String, style: Style) -> Result<(), AllocError>
+        ensures { OnOk result (string_bytes text.new ≡ string_bytes text.old ++ line style self.now) };
+}
 
 /// Ends the text with what a proposal says beside its round, under these names.
 #[tactic(auto, unfolding(crate::specs::Lines::named_choice))]
@@ -222,51 +234,47 @@ fn push_beside(
     push_end(text, style)
 }
 
-/// Ends the text with the line of a report.
-pub(crate) fn push_report(
-    alloc: Global,
-    text: &mut String,
-    style: Style,
-    report: &Activity<PlainScheme, Sha256Digest>,
-) -> Result<(), AllocError>
-    ensures { OnOk result (string_bytes text.new ≡ string_bytes text.old ++ report_line style report.now) }
-{
-    match report {
-        Activity::Notarize(it) => push_vote(alloc, text, style, "notarize", it),
-        Activity::Notarization(it) => push_certificate(alloc, text, style, "notarization", it),
-        Activity::Certification(it) => push_certificate(alloc, text, style, "certified", it),
-        Activity::Nullify(it) => push_nullify(alloc, text, style, it),
-        Activity::Nullification(it) => push_nullification(alloc, text, style, it),
-        Activity::Finalize(it) => push_vote(alloc, text, style, "finalize", it),
-        Activity::Finalization(it) => push_certificate(alloc, text, style, "finalization", it),
-        Activity::ConflictingNotarize(it) => {
-            let (first, second) = (it.first(), it.second());
-            push_conflicting(alloc, text, style, "conflicting-notarize", first, second)
+impl Line for Activity<PlainScheme, Sha256Digest> {
+    ghost line = { report_line };
+
+    fn push_line(&self, alloc: Global, text: &mut String, style: Style) -> Result<(), AllocError>
+        ensures { OnOk result (string_bytes text.new ≡ string_bytes text.old ++ report_line style self.now) }
+    {
+        match self {
+            Activity::Notarize(it) => push_vote(alloc, text, style, "notarize", it),
+            Activity::Notarization(it) => push_certificate(alloc, text, style, "notarization", it),
+            Activity::Certification(it) => push_certificate(alloc, text, style, "certified", it),
+            Activity::Nullify(it) => push_nullify(alloc, text, style, it),
+            Activity::Nullification(it) => push_nullification(alloc, text, style, it),
+            Activity::Finalize(it) => push_vote(alloc, text, style, "finalize", it),
+            Activity::Finalization(it) => push_certificate(alloc, text, style, "finalization", it),
+            Activity::ConflictingNotarize(it) => {
+                let (first, second) = (it.first(), it.second());
+                push_conflicting(alloc, text, style, "conflicting-notarize", first, second)
+            }
+            Activity::ConflictingFinalize(it) => {
+                let (first, second) = (it.first(), it.second());
+                push_conflicting(alloc, text, style, "conflicting-finalize", first, second)
+            }
+            Activity::NullifyFinalize(it) => push_beside(alloc, text, style, it),
         }
-        Activity::ConflictingFinalize(it) => {
-            let (first, second) = (it.first(), it.second());
-            push_conflicting(alloc, text, style, "conflicting-finalize", first, second)
-        }
-        Activity::NullifyFinalize(it) => push_beside(alloc, text, style, it),
     }
 }
 
-/// Ends the text with the line of an artifact of a record.
-pub(crate) fn push_artifact(
-    alloc: Global,
-    text: &mut String,
-    style: Style,
-    artifact: &Artifact<PlainScheme, Sha256Digest>,
-) -> Result<(), AllocError>
-    ensures { OnOk result (string_bytes text.new ≡ string_bytes text.old ++ artifact_line style artifact.now) }
-{
-    match artifact {
-        Artifact::Notarize(it) => push_vote(alloc, text, style, "notarize", it),
-        Artifact::Notarization(it) => push_certificate(alloc, text, style, "notarization", it),
-        Artifact::Certification(round, verdict) => push_verdict(text, style, *round, *verdict),
-        Artifact::Nullify(it) => push_nullify(alloc, text, style, it),
-        Artifact::Nullification(it) => push_nullification(alloc, text, style, it),
-        Artifact::Finalize(it) => push_vote(alloc, text, style, "finalize", it),
-        Artifact::Finalization(it) => push_certificate(alloc, text, style, "finalization", it),
+impl Line for Artifact<PlainScheme, Sha256Digest> {
+    ghost line = { artifact_line };
+
+    fn push_line(&self, alloc: Global, text: &mut String, style: Style) -> Result<(), AllocError>
+        ensures { OnOk result (string_bytes text.new ≡ string_bytes text.old ++ artifact_line style self.now) }
+    {
+        match self {
+            Artifact::Notarize(it) => push_vote(alloc, text, style, "notarize", it),
+            Artifact::Notarization(it) => push_certificate(alloc, text, style, "notarization", it),
+            Artifact::Certification(round, verdict) => push_verdict(text, style, *round, *verdict),
+            Artifact::Nullify(it) => push_nullify(alloc, text, style, it),
+            Artifact::Nullification(it) => push_nullification(alloc, text, style, it),
+            Artifact::Finalize(it) => push_vote(alloc, text, style, "finalize", it),
+            Artifact::Finalization(it) => push_certificate(alloc, text, style, "finalization", it),
+        }
     }
 }

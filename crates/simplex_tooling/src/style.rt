@@ -1,7 +1,7 @@
 //! How lines are written.
 
 /// How a line tells what stands in a message.
-#[derive(Clone, Copy, Debug, PartialEq, Eq)]
+#[derive(Clone, Copy)]
 pub enum Style {
     /// Words: the kind, then each name with its value.
     Plain,

@@ -1,0 +1,104 @@
+//! A member's node for callers in C, which hold it between two calls.
+
+ghost use Rattle.std.specs.Prelude.{◌≡◌, ◌≢◌, ◌⊎◌, ◌≤◌};
+
+use crate::handle::Handle;
+use crate::serving::{closed, opened, replies_taken, requests_taken, stepped};
+use simplex_hosted::{Found, Status};
+use std::alloc::Global;
+
+/// Opens a member's node at moment 0 over its record's bytes, which the host keeps; what that hands out waits as the first reply.
+///
+/// Answers 0 where it is open; 1 where memory ran out; 2 where there is no such member, or a node is open in `node`; 7 with the
+/// artifact of the record that the rules refuse; 8 with the place of an entry that is no artifact, in bytes; and 9 where the host
+/// could not be asked.
+#[unsafe(no_mangle)]
+pub extern "C" fn voumlis_proved_node_open(
+    alloc: Global,
+    members: u16,
+    member: u16,
+    stored: &[u8],
+    node: &mut Handle,
+    found: &mut Found,
+) -> u32
+    ensures stranger { members ≤ member → result ≡ 2 }
+    ensures occupied { node.old.live ≢ 0 → result ≡ 2 }
+    ensures opened { result ≡ 0 → node.new.live ≡ 1 }
+    ensures unopened { result ≢ 0 → node.new ≡ node.old }
+    ensures named { (result ≡ 7) ⊎ (result ≡ 8) → found.new.named ≡ 1 }
+    ensures statuses { result ≤ 10 }
+{
+    if member >= members {
+        return Status::Argument.number();
+    }
+    if node.live != 0 {
+        return Status::Argument.number();
+    }
+    opened(alloc, members, member, stored, node, found).number()
+}
+
+/// Has a node answer events, one behind another; the replies wait behind those that were not taken yet.
+///
+/// Answers 0 where the bytes ended between two events; 1 where memory ran out; 2 where no node is open; 5 with the place of the
+/// first byte at which no event stands; 6 behind 2^32 events; 9 where the host could not be asked; and 10 where a step failed before.
+#[unsafe(no_mangle)]
+pub extern "C" fn voumlis_proved_node_step(
+    alloc: Global,
+    node: &mut Handle,
+    events: &[u8],
+    found: &mut Found,
+) -> u32
+    ensures dead { node.old.live ≢ 1 → (result ≡ 2) × (node.new.live ≡ 0) }
+    ensures live { node.old.live ≡ 1 → node.new.live ≡ 1 }
+    ensures named { result ≡ 5 → found.new.named ≡ 1 }
+    ensures unnamed { result ≡ 0 → found.new.named ≡ 0 }
+    ensures statuses { result ≤ 10 }
+{
+    stepped(alloc, node, events, found).number()
+}
+
+/// Takes what the host is asked to do with the record, and tells its size.
+///
+/// Answers 0 where `room` begins with it, and it is asked no more; 2 where no node is open; and 3 where there is no room for it.
+#[unsafe(no_mangle)]
+pub extern "C" fn voumlis_proved_node_requests(
+    alloc: Global,
+    node: &mut Handle,
+    room: &mut [u8],
+    found: &mut Found,
+) -> u32
+    ensures dead { node.old.live ≢ 1 → (result ≡ 2) × (node.new.live ≡ 0) }
+    ensures live { node.old.live ≡ 1 → node.new.live ≡ 1 }
+    ensures unwritten { result ≢ 0 → room.new ≡ room.old }
+    ensures statuses { result ≤ 3 }
+{
+    requests_taken(alloc, node, room, found).number()
+}
+
+/// Takes the replies, and tells their size.
+///
+/// Answers 0 where `room` begins with them; 2 where no node is open; and 3 where there is no room for them.
+#[unsafe(no_mangle)]
+pub extern "C" fn voumlis_proved_node_replies(
+    alloc: Global,
+    node: &mut Handle,
+    room: &mut [u8],
+    found: &mut Found,
+) -> u32
+    ensures dead { node.old.live ≢ 1 → (result ≡ 2) × (node.new.live ≡ 0) }
+    ensures live { node.old.live ≡ 1 → node.new.live ≡ 1 }
+    ensures unwritten { result ≢ 0 → room.new ≡ room.old }
+    ensures statuses { result ≤ 3 }
+{
+    replies_taken(alloc, node, room, found).number()
+}
+
+/// Lets a node go. Answers 0, or 2 where none is open.
+#[unsafe(no_mangle)]
+pub extern "C" fn voumlis_proved_node_close(alloc: Global, node: &mut Handle) -> u32
+    ensures live { node.old.live ≡ 1 → result ≡ 0 }
+    ensures dead { node.old.live ≢ 1 → result ≡ 2 }
+    ensures left { node.new.live ≡ 0 }
+{
+    closed(alloc, node).number()
+}

@@ -1,0 +1,201 @@
+//! Calls on a member's node.
+
+ghost use Rattle.std.specs.Prelude.{◌≡◌, ◌≢◌, ◌<◌, ◌⊎◌, Ok, Err};
+ghost use Rattle.simplex_hosted.specs.Answers.{Names};
+ghost use Rattle.simplex_c.specs.Serving.{ending_status, run_place, run_status, unopened_place, unopened_status, unstepped_status};
+ghost use Rattle.simplex_hosted.specs.declared.status.Status.TheVariants.{Argument, Done, Foreign, Invalid, Refused, Room};
+
+use crate::handle::Handle;
+use crate::session::Session;
+use simplex_hosted::{Found, Status, take_all};
+use simplex_member::{IoFault, NodeFault, OpenFault};
+use std::alloc::Global;
+
+/// Opens a member's node over its record, where none is open yet.
+pub(crate) fn opened(
+    alloc: Global,
+    members: u16,
+    member: u16,
+    stored: &[u8],
+    node: &mut Handle,
+    found: &mut Found,
+) -> Status
+    requires { member < members }
+    ensures opened { result ≡ Done → node.new.live ≡ 1 }
+    ensures unopened { result ≢ Done → node.new ≡ node.old }
+    ensures named { (result ≡ Refused) ⊎ (result ≡ Foreign) → found.new.named ≡ 1 }
+{
+    match Session::open(alloc, members, member, stored) {
+        Ok(session) => {
+            found.tell(0, None);
+            *node = Handle::of(session);
+            Status::Done
+        }
+        Err(fault) => unopened(fault, found),
+    }
+}
+
+/// Has the node answer events.
+pub(crate) fn stepped(alloc: Global, node: &mut Handle, events: &[u8], found: &mut Found) -> Status
+    ensures dead { node.old.live ≢ 1 → (result ≡ Argument) × (node.new.live ≡ 0) }
+    ensures live { node.old.live ≡ 1 → node.new.live ≡ 1 }
+    ensures named { result ≡ Invalid → found.new.named ≡ 1 }
+    ensures unnamed { result ≢ Invalid → result ≢ Argument → found.new.named ≡ 0 }
+{
+    let Some(mut session) = node.taken(alloc) else {
+        return Status::Argument;
+    };
+    let ended = session.step(alloc, events);
+    *node = Handle::of(session);
+    told(ended, found)
+}
+
+/// Puts what the host is asked at the front of the room, where it fits.
+pub(crate) fn requests_taken(
+    alloc: Global,
+    node: &mut Handle,
+    room: &mut [u8],
+    found: &mut Found,
+) -> Status
+    ensures dead { node.old.live ≢ 1 → (result ≡ Argument) × (node.new.live ≡ 0) }
+    ensures live { node.old.live ≡ 1 → node.new.live ≡ 1 }
+    ensures answers { (result ≡ Done) ⊎ ((result ≡ Argument) ⊎ (result ≡ Room)) }
+    ensures unwritten { result ≢ Done → room.new ≡ room.old }
+{
+    let Some(session) = node.taken(alloc) else {
+        return Status::Argument;
+    };
+    let taken = session.requests().take(room);
+    *node = Handle::of(session);
+    fitted(taken, found)
+}
+
+/// Puts the replies at the front of the room, where they fit.
+pub(crate) fn replies_taken(
+    alloc: Global,
+    node: &mut Handle,
+    room: &mut [u8],
+    found: &mut Found,
+) -> Status
+    ensures dead { node.old.live ≢ 1 → (result ≡ Argument) × (node.new.live ≡ 0) }
+    ensures live { node.old.live ≡ 1 → node.new.live ≡ 1 }
+    ensures answers { (result ≡ Done) ⊎ ((result ≡ Argument) ⊎ (result ≡ Room)) }
+    ensures unwritten { result ≢ Done → room.new ≡ room.old }
+{
+    let Some(mut session) = node.taken(alloc) else {
+        return Status::Argument;
+    };
+    let taken = take_all(session.replies(), room);
+    *node = Handle::of(session);
+    fitted(taken, found)
+}
+
+/// Lets the node go.
+pub(crate) fn closed(alloc: Global, node: &mut Handle) -> Status
+    ensures live { node.old.live ≡ 1 → result ≡ Done }
+    ensures dead { node.old.live ≢ 1 → result ≡ Argument }
+    ensures left { node.new.live ≡ 0 }
+{
+    match node.taken(alloc) {
+        Some(_) => Status::Done,
+        None => Status::Argument,
+    }
+}
+
+/// Whether an answer fitted, and its size.
+fn fitted(taken: Result<usize, usize>, found: &mut Found) -> Status
+    ensures done { result ≡ Done → taken ≡ Ok found.new.length }
+    ensures room { result ≢ Done → (result ≡ Room) × (taken ≡ Err found.new.length) }
+{
+    match taken {
+        Ok(size) => {
+            found.tell(size, None);
+            Status::Done
+        }
+        Err(size) => {
+            found.tell(size, None);
+            Status::Room
+        }
+    }
+}
+
+/// How a call over events ended, and the place that is named, if one is.
+fn told(ended: Result<(), IoFault>, found: &mut Found) -> Status
+    ensures status { result ≡ run_status ended }
+    ensures place { Names found.new.named found.new.place (run_place ended) }
+    ensures named { result ≡ Invalid → found.new.named ≡ 1 }
+    ensures unnamed { result ≢ Invalid → found.new.named ≡ 0 }
+{
+    match ended {
+        Ok(()) => {
+            found.tell(0, None);
+            Status::Done
+        }
+        Err(IoFault::BadEvent(place)) => {
+            found.tell(0, Some(place));
+            Status::Invalid
+        }
+        Err(fault) => {
+            found.tell(0, None);
+            ending(fault)
+        }
+    }
+}
+
+/// Why a call over events ended before them.
+fn ending(fault: IoFault) -> Status
+    ensures { result ≡ ending_status fault }
+{
+    match fault {
+        IoFault::Read => Status::TooLong,
+        IoFault::Write | IoFault::Memory => Status::Memory,
+        IoFault::BadEvent(_) => Status::Invalid,
+        IoFault::Node(fault) => unstepped(fault),
+    }
+}
+
+/// Why a record was not opened, and the place that is named, if one is.
+fn unopened(fault: OpenFault, found: &mut Found) -> Status
+    ensures status { result ≡ unopened_status fault }
+    ensures place { Names found.new.named found.new.place (unopened_place fault) }
+    ensures named { (result ≡ Refused) ⊎ (result ≡ Foreign) → found.new.named ≡ 1 }
+{
+    match fault {
+        OpenFault::Foreign(place) => {
+            found.tell(0, Some(place));
+            Status::Foreign
+        }
+        OpenFault::Contradiction(position) => {
+            found.tell(0, Some(position as u64));
+            Status::Refused
+        }
+        fault => {
+            found.tell(0, None);
+            placeless(fault)
+        }
+    }
+}
+
+/// The same where no place is named.
+fn placeless(fault: OpenFault) -> Status
+    ensures { result ≡ unopened_status fault }
+{
+    match fault {
+        OpenFault::Foreign(_) => Status::Foreign,
+        OpenFault::Contradiction(_) => Status::Refused,
+        OpenFault::Device => Status::Device,
+        OpenFault::Memory => Status::Memory,
+        OpenFault::NoKey | OpenFault::Config(_) | OpenFault::MomentTooLate => Status::Argument,
+    }
+}
+
+/// Why a step failed.
+fn unstepped(fault: NodeFault) -> Status
+    ensures { result ≡ unstepped_status fault }
+{
+    match fault {
+        NodeFault::Memory => Status::Memory,
+        NodeFault::Device => Status::Device,
+        NodeFault::Failed => Status::Failed,
+    }
+}

@@ -1,4 +1,0 @@
-use Rattle.simplex_c_node.proofs.session.go_on.Goals as goal
-
-pub returns : goal.returns
-returns g c = c.run_io.ensures.answers
