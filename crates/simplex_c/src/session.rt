@@ -1,7 +1,6 @@
 //! A member's node between two calls.
 
 ghost use Rattle.std.specs.Prelude.{◌≡◌, ◌<◌, ◌++◌, ℕ, None, Some, IfOk, OnOk};
-ghost use Rattle.simplex_certificates.specs.Artifact.{artifact_spelling};
 ghost use Rattle.simplex_codec.specs.Codec.{Readable};
 ghost use Rattle.simplex_member.specs.declared.action.Reply.{Reply};
 ghost use Rattle.simplex_member.specs.Packet.{formats};

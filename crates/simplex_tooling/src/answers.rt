@@ -1,12 +1,10 @@
 //! What is answered to each request, about bytes that were read.
 
-ghost use Rattle.std.specs.Prelude.{◌≡◌, ◌++◌, ◌<◌, [], IfOk, OnOk, codes, string_bytes};
+ghost use Rattle.std.specs.Prelude.{◌≡◌, ◌<◌, IfOk, string_bytes};
 ghost use Rattle.std.specs.List.{flat_map};
-ghost use Rattle.std.specs.Option.{option_map_or};
 ghost use Rattle.simplex_cli.specs.Running.{report_spelling};
 ghost use Rattle.simplex_tooling.specs.Answers.{AreReports, IsAnswerTo, IsChecked, IsEvidence, IsRecordTold, lawful_line, refused_line};
 ghost use Rattle.simplex_tooling.specs.Command.{IsAsked};
-ghost use Rattle.simplex_tooling.specs.Parts.{place_line};
 
 use crate::checking::{Checked, check_record};
 use crate::command::{HELP, Request, VERSION};

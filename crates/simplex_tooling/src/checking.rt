@@ -1,6 +1,6 @@
 //! A record that is held to the rules of a lawful one.
 
-ghost use Rattle.std.specs.Prelude.{◌≡◌, ◌<◌, IfNone, IfOk, IfSome};
+ghost use Rattle.std.specs.Prelude.{◌<◌, IfNone, IfOk, IfSome};
 ghost use Rattle.simplex_record.specs.Lawful.{IsLawful, IsRefusedAt};
 ghost use Rattle.simplex_tooling.specs.Answers.{AreHeld, IsHeld, attests_in, certifies_in};
 

@@ -1,8 +1,8 @@
 //! The line of a message: its kind, then what stands in it, from left to right.
 
-ghost use Rattle.std.specs.Prelude.{◌≡◌, ◌++◌, ℕ, List, OnOk, codes, string_bytes};
+ghost use Rattle.std.specs.Prelude.{◌≡◌, ◌++◌, ℕ, List, OnOk, string_bytes};
 ghost use Rattle.std.specs.List.{flat_map};
-ghost use Rattle.simplex_tooling.specs.Parts.{round_fields, signature_field};
+ghost use Rattle.simplex_tooling.specs.Parts.{signature_field};
 ghost use Rattle.simplex_tooling.specs.Lines.{artifact_line, beside_line, certificate_line, conflicting_line, named_choice, nullification_line, nullify_line, other_fields, proposal_fields, report_line, signed_fields, verdict_line, vote_line};
 
 use crate::parts::{

@@ -1,7 +1,6 @@
 //! The program over any streams.
 
 ghost use Rattle.std.specs.Prelude.{◌≡◌, ◌≢◌, ◌⊎◌, None, Some, Ok, ℕ, IfSome, IfOk, IfErr};
-ghost use Rattle.std.specs.Io.KnownBytes.{Appends};
 ghost use Rattle.simplex_cli.specs.Lines.{trouble_line};
 ghost use Rattle.simplex_cli.specs.declared.trouble.Trouble.{Trouble};
 ghost use Rattle.simplex_cli.specs.declared.trouble.Trouble.TheVariants.{Device, Memory, Write};
