@@ -5,15 +5,13 @@ that the fault is told by its own number, that each later step answers that the 
 byte, is said by the journal of tools/make-journal-script. Behind each run the record is opened twice more, on a disk that works, and
 the member is given another payload for view 1: what it answers there is left to the model of a member.
 """
-import importlib.machinery
-import importlib.util
 from itertools import count
 
 from member import judging
 from member.codec import artifact_bytes, event_bytes
 from member.scheme import PlainScheme
 from member.values import FINALIZATION, FINALIZE, NOTARIZATION, NOTARIZE, BuiltAnswer, Proposal, VerdictAnswer, Verdict
-from script_rows import TOP, digits, truth
+from script_rows import digits, script_beside, truth
 
 RESET = "reset node plain 1 0 0 1 0 - 10 1000 2000 5000 - - disabled 1 1"
 OPEN_DEVICE, STEP_DEVICE, STEP_FAILED = (f"fault {it}" for it in (judging.DEVICE, judging.STEP_DEVICE, judging.STEP_FAILED))
@@ -21,15 +19,7 @@ A, B = bytes([0xAA]) * 32, bytes([0xBB]) * 32
 NEVER = 10**9
 
 
-def load(name):
-    """A script beside this one."""
-    loader = importlib.machinery.SourceFileLoader(name.replace("-", "_"), str(TOP / "tools" / name))
-    made = importlib.util.module_from_spec(importlib.util.spec_from_loader(loader.name, loader))
-    loader.exec_module(made)
-    return made
-
-
-journal = load("make-journal-script")
+journal = script_beside("make-journal-script")
 
 
 def script():

@@ -1,8 +1,18 @@
 """A script of calls with their answers: what `stdin` and `stdout` of a driver are."""
 
+import importlib.machinery
+import importlib.util
 from pathlib import Path
 
 TOP = Path(__file__).resolve().parent.parent
+
+
+def script_beside(name):
+    """A script beside this one, which has no ending to import it by."""
+    loader = importlib.machinery.SourceFileLoader(name.replace("-", "_"), str(TOP / "tools" / name))
+    made = importlib.util.module_from_spec(importlib.util.spec_from_loader(loader.name, loader))
+    loader.exec_module(made)
+    return made
 
 
 class Script:
@@ -56,3 +66,10 @@ def sum_of(data, before=0):
     for byte in data:
         before = (before * 31 + byte) % 65521
     return before
+
+
+def quoted(text):
+    """A text on one line, or the length and the sum of a long one."""
+    if len(text) > 1000:
+        return f"{len(text)} {sum_of(text.encode())}"
+    return '"' + text.replace("\n", "\\n") + '"'

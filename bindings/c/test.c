@@ -66,13 +66,25 @@ int main(void) {
     static const uint8_t verdict[] = {2, 0, 3, 1};
     static const uint8_t record[] = {1, 0, 0, 0, 4, 2, 0, 3, 1, 0};
 
+    found.named = 7;
     WANT(voumlis_decode(VOUMLIS_ARTIFACT, 4, verdict, 4, &found), VOUMLIS_DONE);
     want(__LINE__, (uint32_t)found.length, 4);
+    want(__LINE__, found.named, 0);
+    found.named = 7;
     WANT(voumlis_decode(VOUMLIS_ARTIFACT, 4, verdict, 3, &found), VOUMLIS_END);
+    want(__LINE__, found.named, 0);
     WANT(voumlis_decode(4, 4, verdict, 4, &found), VOUMLIS_ARGUMENT);
+    found.named = 7;
     WANT(voumlis_first_refused(4, 0, 4, 0, NULL, 0, &found), VOUMLIS_DONE);
+    want(__LINE__, (uint32_t)found.length, 0);
+    want(__LINE__, found.named, 0);
     WANT(voumlis_first_refused(4, 0, 4, 0, record, sizeof record, &found), VOUMLIS_REFUSED);
+    want(__LINE__, (uint32_t)found.length, 1);
     want(__LINE__, (uint32_t)found.place, 0);
+    want(__LINE__, found.named, 1);
+    WANT(voumlis_first_refused(4, 0, 4, 0, (const uint8_t *)"\1\0\0\0\1\7", 7, &found), VOUMLIS_FOREIGN);
+    want(__LINE__, (uint32_t)found.place, 0);
+    want(__LINE__, found.named, 1);
     WANT(voumlis_first_refused(4, 0, 0, 0, record, sizeof record, &found), VOUMLIS_ARGUMENT);
     WANT(voumlis_audit(4, NULL, 0, NULL, 0, &found), VOUMLIS_DONE);
     want(__LINE__, found.named, 0);

@@ -123,8 +123,8 @@ static inline uint32_t voumlis_audit(uint16_t members, const uint8_t *reports, s
 }
 
 /* Whether these bytes hold a lawful record of a member, in this epoch and terms of `term` views. DONE: a lawful record of
- * `found->length` entries. REFUSED: the place is the first entry that may not stand there. FOREIGN: the place, in bytes, of an
- * entry that is no artifact. ARGUMENT: no members, or a term of no view. */
+ * `found->length` entries. REFUSED: the place is the first of `found->length` entries that may not stand there. FOREIGN: the
+ * place, in bytes, of an entry that is no artifact. ARGUMENT: no members, or a term of no view. */
 static inline uint32_t voumlis_first_refused(uint16_t members, uint64_t epoch, uint32_t term, uint16_t member,
                                              const uint8_t *record, size_t record_length, struct voumlis_found *found) {
     if (!voumlis_fits(&record, record_length, found))

@@ -6,12 +6,12 @@ use common::bytes;
 use voumlis::{Record, first_refused};
 
 fn script(name: &str) -> Vec<String> {
-    let folder = concat!(env!("CARGO_MANIFEST_DIR"), "/../../crates/tooling_driver/");
+    let folder = concat!(env!("CARGO_MANIFEST_DIR"), "/../../crates/cli_driver/");
     let text = std::fs::read_to_string(format!("{folder}{name}")).unwrap();
     text.lines().map(String::from).collect()
 }
 
-/// What stands in the line of an answer, as `3 "refused entry 0\n" ""`.
+/// What stands in the line of an answer, as `3 0 "refused entry 0\n" ""`.
 fn told(answer: &str) -> Record {
     let line = answer.split('"').nth(1).unwrap().trim_end_matches("\\n");
     let (what, number) = line.rsplit_once(' ').unwrap();
@@ -28,16 +28,29 @@ fn records_are_lawful_or_refused_as_the_rows_say() {
     let (calls, answers) = (script("stdin"), script("stdout"));
     assert_eq!(calls.len(), answers.len());
     let (mut lawful, mut refused, mut foreign) = (0, 0, 0);
+    let (mut record, mut whole) = (Vec::new(), true);
     for (call, answer) in calls.iter().zip(&answers) {
         let words: Vec<&str> = call.split(' ').collect();
-        let ["run", "0", "-", record, "check", member, members, "r"] = words[..] else {
-            continue;
+        let (member, members) = match words[..] {
+            ["reset"] => {
+                (record, whole) = (Vec::new(), true);
+                continue;
+            }
+            ["append", "1", more] if answer != "unreadable" => {
+                record.extend(bytes(more));
+                continue;
+            }
+            ["append" | "reader" | "output", ..] => {
+                whole = false;
+                continue;
+            }
+            ["tool", "check", member, members, "r"] if whole && !record.is_empty() => {
+                (member, members)
+            }
+            _ => continue,
         };
-        if record == "-" {
-            continue;
-        }
         let (member, members) = (member.parse().unwrap(), members.parse().unwrap());
-        let found = first_refused(members, 0, 4, member, &bytes(record)).unwrap();
+        let found = first_refused(members, 0, 4, member, &record).unwrap();
         assert_eq!(found, told(answer), "{call}");
         match found {
             Record::Lawful(_) => lawful += 1,

@@ -1,5 +1,5 @@
-//! Plays scripts on the command line program: each line is a call, answered by a line. The streams that a call is given
-//! are fakes, which the lines before it describe.
+//! Plays scripts on the command line programs: each line is a call, answered by a line. The streams of a call are fakes,
+//! which the lines before it describe.
 //!
 //! | Line | Answer |
 //! |---|---|
@@ -8,6 +8,7 @@
 //! | `reader SIZE ROOM FAULT`, `output ..`, `faults ..` | `ok`: such is the stream of each call from here on |
 //! | `audit COUNT` | `STATUS LEFT OUTPUT FAULTS` of `audit_over` |
 //! | `run WORD ..` | the same of the program with these words |
+//! | `tool WORD ..` | the same of the program of tools; the input is the file that the words name, too |
 //! | `write COUNT` | what `write_audit` answers, then `LEFT OUTPUT` |
 //! | `serve INDEX COUNT` | `STATUS LEFT OUTPUT FAULTS` of a node's program over the disk; the output in digits |
 //! | `disk BYTES`, `fuse CALLS`, `fail_at CALLS` | `ok`: such a disk; behind so many calls all or one of it fail |
@@ -73,6 +74,7 @@ fn ask(streams: &Streams, name: &str, words: &mut Words<'_>, say: &mut Say) -> R
     match name {
         "audit" => streams.audit(words, say),
         "run" => streams.run(words, say),
+        "tool" => streams.tool(words, say),
         "write" => streams.write(words, say),
         "report" => streams.report(words, say),
         "unread" => streams.unread(words, say),

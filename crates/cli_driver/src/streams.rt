@@ -9,6 +9,7 @@ use script_words::{Say, Trouble, Words};
 use simplex_cli::{audit_over, report, run_words, words_unread, write_audit};
 use simplex_journal::MemoryDisk;
 use simplex_node_cli::{drive, tell};
+use simplex_tooling::{misused, parse_call, run_request};
 use std::alloc::Global;
 use std::io;
 
@@ -101,6 +102,19 @@ impl Streams {
         let mut output = FakeWriter::new(say.alloc, self.output);
         let mut faults = FakeWriter::new(say.alloc, self.faults);
         let status = run_words(say.alloc, &spoken, &mut input, &mut output, &mut faults);
+        say_all(status, &input, &output, &faults, say)
+    }
+
+    /// `tool WORD ..`.
+    pub(crate) fn tool(&self, words: &mut Words<'_>, say: &mut Say) -> Result<(), Trouble> {
+        let spoken = commands::spoken(words, say.alloc)?;
+        let mut input = self.read();
+        let mut output = FakeWriter::new(say.alloc, self.output);
+        let mut faults = FakeWriter::new(say.alloc, self.faults);
+        let status = match parse_call(&spoken) {
+            Some(call) => run_request(say.alloc, call, &mut input, &mut output, &mut faults),
+            None => misused(&mut faults),
+        };
         say_all(status, &input, &output, &faults, say)
     }
 

@@ -1,4 +1,4 @@
-//! The libraries in a program of one's own: a member votes, remembers, starts again, and an auditor reads reports.
+//! The libraries in a program of one's own: a member votes, remembers, starts again, an auditor reads reports, and hosts sign.
 #![tactic(auto)]
 
 ghost use Rattle.std.specs.Prelude.{◌<◌};
@@ -7,6 +7,8 @@ mod auditing;
 mod checking;
 mod deciding;
 mod gathering;
+mod hosting;
+mod keyless;
 mod recording;
 mod repairing;
 mod voting;
@@ -15,6 +17,7 @@ use auditing::guilty;
 use checking::first_breach;
 use deciding::{begun, vote_for};
 use gathering::{Certified, Gathered, hand_in, next_certificate};
+use keyless::certified_by;
 use recording::{Item, open_record, remember};
 use repairing::to_ask_for;
 use simplex_journal::FileDisk;
@@ -130,6 +133,15 @@ fn learn(rt: &HostRuntime) -> io::Result<()> {
     println!(rt; "a certificate, and views to ask others for: {views}")
 }
 
+/// In a scheme of one's own three members of four make a certificate, two don't.
+fn certify(rt: &HostRuntime) -> io::Result<()> {
+    for signers in 2..4 {
+        let verifies = certified_by(rt.alloc(), signers, &proposal(0xaa))?;
+        println!(rt; "a certificate of {signers} signatures of hosts: {verifies}")?;
+    }
+    Ok(())
+}
+
 fn main(rt: HostRuntime) -> io::Result<()> {
     let alloc = rt.alloc();
     start(&rt, 0xaa)?;
@@ -146,5 +158,5 @@ fn main(rt: HostRuntime) -> io::Result<()> {
     if let Some(place) = fault {
         println!(rt; "no report at byte {place}")?;
     }
-    Ok(())
+    certify(&rt)
 }

@@ -1,3 +1,6 @@
 pub mod Answers
+pub mod HostedDisk
 pub mod Place
+pub mod Requests
 pub mod Serving
+pub mod Statuses

@@ -6,8 +6,8 @@ use Rattle.simplex_member.specs.declared.fault.NodeFault.{NodeFault}
 use Rattle.simplex_member.specs.declared.fault.NodeFault.TheVariants as step
 use Rattle.simplex_member.specs.declared.fault.OpenFault.{OpenFault}
 use Rattle.simplex_member.specs.declared.fault.OpenFault.TheVariants as open_fault
-use Rattle.simplex_hosted.specs.declared.status.Status.{Status}
-use Rattle.simplex_hosted.specs.declared.status.Status.TheVariants as status
+use Rattle.simplex_c.specs.declared.status.Status.{Status}
+use Rattle.simplex_c.specs.declared.status.Status.TheVariants as status
 
 -- the status of a record that was not opened, and the place that is named
 abbrev pub unopened_status : OpenFault → Status

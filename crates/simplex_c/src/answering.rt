@@ -4,10 +4,11 @@ ghost use Rattle.std.specs.Prelude.{◌≡◌, ◌≢◌, ◌<◌, ◌⊎◌, �
 ghost use Rattle.simplex_journal.specs.Record.{IsForeign};
 ghost use Rattle.simplex_record.specs.Lawful.{IsLawful, IsRefusedAt};
 ghost use Rattle.simplex_tooling.specs.Answers.{Entry, HoldsEntries, IsEntry, IsEvidence, attests_in, certifies_in, entry_spelling};
-ghost use Rattle.simplex_hosted.specs.Answers.{Names};
-ghost use Rattle.simplex_hosted.specs.declared.status.Status.TheVariants.{Done, Foreign as IsForeignEntry, Memory, Refused, Room};
+ghost use Rattle.simplex_c.specs.Statuses.{Names};
+ghost use Rattle.simplex_c.specs.declared.status.Status.TheVariants.{Done, Foreign as IsForeignEntry, Memory, Refused, Room};
 
-use simplex_hosted::{Found, Status};
+use crate::found::Found;
+use crate::status::Status;
 use simplex_record::Owner;
 use simplex_tooling::{Checked, check_record, evidence_in};
 use std::alloc::Global;
@@ -70,8 +71,10 @@ pub(crate) fn checked(
     requires { 0 < members }
     ensures answers { (result ≡ Done) ⊎ ((result ≡ Memory) ⊎ ((result ≡ Refused) ⊎ (result ≡ IsForeignEntry))) }
     ensures lawful { result ≡ Done → (artifacts : List Entry) × HoldsEntries stored.now artifacts × IsLawful (attests_in members) (certifies_in members) owner artifacts × (found.new.length ≡ length artifacts) }
-    ensures refused { result ≡ Refused → (artifacts : List Entry) × HoldsEntries stored.now artifacts × IsRefusedAt (attests_in members) (certifies_in members) owner artifacts found.new.place }
+    ensures refused { result ≡ Refused → (artifacts : List Entry) × HoldsEntries stored.now artifacts × IsRefusedAt (attests_in members) (certifies_in members) owner artifacts found.new.place × (found.new.length ≡ length artifacts) }
     ensures foreign { result ≡ IsForeignEntry → IsForeign [] IsEntry entry_spelling stored.now found.new.place }
+    ensures named { (result ≡ Refused) ⊎ (result ≡ IsForeignEntry) → found.new.named ≡ 1 }
+    ensures unnamed { result ≡ Done → found.new.named ≡ 0 }
 {
     match check_record(alloc, members, owner, stored) {
         Ok(Checked::Lawful { entries }) => {

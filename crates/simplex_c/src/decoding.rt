@@ -1,12 +1,13 @@
 //! Messages of any kind, read as far as their refusal.
 
-ghost use Rattle.std.specs.Prelude.{◌≡◌, ◌<◌};
+ghost use Rattle.std.specs.Prelude.{◌≡◌, ◌<◌, ◌≤◌};
 ghost use Rattle.simplex_cli.specs.Running.{report_at};
-ghost use Rattle.simplex_hosted.specs.Answers.{status_number};
-ghost use Rattle.simplex_c.specs.Answers.{Tells, certificate_at, plain_artifact_at, vote_at};
-ghost use Rattle.simplex_hosted.specs.declared.status.Status.TheVariants.{Argument};
+ghost use Rattle.simplex_c.specs.Statuses.{status_number};
+ghost use Rattle.simplex_c.specs.Answers.{Tells, certificate_at, plain_artifact_at, refusal_number, vote_at};
+ghost use Rattle.simplex_c.specs.declared.status.Status.TheVariants.{Argument};
 
-use simplex_hosted::{Found, Status};
+use crate::found::Found;
+use crate::status::Status;
 use simplex_messages::{Activity, Artifact, Certificate, Vote};
 use simplex_signing::PlainScheme;
 use simplex_types::{CodecError, Read, Sha256Digest};
@@ -25,6 +26,7 @@ pub(crate) fn decoded(
     ensures artifact { kind ≡ 2 → Tells (plain_artifact_at members bytes.now) bytes.now (status_number result) found.new.length }
     ensures report { kind ≡ 3 → Tells (report_at members bytes.now) bytes.now (status_number result) found.new.length }
     ensures unknown { 3 < kind → result ≡ Argument }
+    ensures unnamed { kind ≤ 3 → found.new.named ≡ 0 }
 {
     if kind == 0 {
         return told::<Vote<PlainScheme, Sha256Digest>>(alloc, members, bytes, found);
@@ -43,17 +45,26 @@ pub(crate) fn decoded(
 
 /// Reads the value at the front, and tells how many bytes it takes.
 fn told<M: Read + Drop>(alloc: Global, bound: u32, bytes: &[u8], found: &mut Found) -> Status
-    ensures { Tells (M.reading bound bytes.now) bytes.now (status_number result) found.new.length }
+    ensures tells { Tells (M.reading bound bytes.now) bytes.now (status_number result) found.new.length }
+    ensures unnamed { found.new.named ≡ 0 }
 {
     let mut rest = bytes;
-    match M::read_cfg(alloc, &mut rest, bound) {
-        Ok(_) => {
-            found.tell(bytes.len() - rest.len(), None);
-            return Status::Done;
-        }
-        Err(CodecError::End) => return Status::End,
-        Err(CodecError::Invalid) => return Status::Invalid,
-        Err(CodecError::TooLong) => return Status::TooLong,
-        Err(CodecError::Memory) => return Status::Memory,
+    let (size, status) = match M::read_cfg(alloc, &mut rest, bound) {
+        Ok(_) => (bytes.len() - rest.len(), Status::Done),
+        Err(refusal) => (0, refused(refusal)),
+    };
+    found.tell(size, None);
+    status
+}
+
+/// The status of a refusal.
+fn refused(refusal: CodecError) -> Status
+    ensures { status_number result ≡ refusal_number refusal }
+{
+    match refusal {
+        CodecError::End => Status::End,
+        CodecError::Invalid => Status::Invalid,
+        CodecError::TooLong => Status::TooLong,
+        CodecError::Memory => Status::Memory,
     }
 }

@@ -5,14 +5,19 @@
 
 mod answering;
 mod decoding;
+mod disk;
+mod found;
 mod handle;
 mod loose;
 mod node;
 mod place;
 mod questions;
+mod requests;
 mod serving;
 mod session;
+mod status;
 
+pub use found::Found;
 pub use handle::Handle;
 pub use node::{
     voumlis_proved_node_close, voumlis_proved_node_open, voumlis_proved_node_replies,
@@ -20,4 +25,3 @@ pub use node::{
 };
 pub use place::Place;
 pub use questions::{voumlis_proved_audit, voumlis_proved_decode, voumlis_proved_first_refused};
-pub use simplex_hosted::Found;

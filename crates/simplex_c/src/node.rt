@@ -2,9 +2,10 @@
 
 ghost use Rattle.std.specs.Prelude.{◌≡◌, ◌≢◌, ◌⊎◌, ◌≤◌};
 
+use crate::found::Found;
 use crate::handle::Handle;
 use crate::serving::{closed, opened, replies_taken, requests_taken, stepped};
-use simplex_hosted::{Found, Status};
+use crate::status::Status;
 use std::alloc::Global;
 
 /// Opens a member's node at moment 0 over its record's bytes, which the host keeps; what that hands out waits as the first reply.
@@ -26,6 +27,7 @@ pub extern "C" fn voumlis_proved_node_open(
     ensures opened { result ≡ 0 → node.new.live ≡ 1 }
     ensures unopened { result ≢ 0 → node.new ≡ node.old }
     ensures named { (result ≡ 7) ⊎ (result ≡ 8) → found.new.named ≡ 1 }
+    ensures unnamed { (result ≡ 0) ⊎ (result ≡ 9) → found.new.named ≡ 0 }
     ensures statuses { result ≤ 10 }
 {
     if member >= members {
@@ -51,7 +53,7 @@ pub extern "C" fn voumlis_proved_node_step(
     ensures dead { node.old.live ≢ 1 → (result ≡ 2) × (node.new.live ≡ 0) }
     ensures live { node.old.live ≡ 1 → node.new.live ≡ 1 }
     ensures named { result ≡ 5 → found.new.named ≡ 1 }
-    ensures unnamed { result ≡ 0 → found.new.named ≡ 0 }
+    ensures unnamed { result ≢ 2 → result ≢ 5 → found.new.named ≡ 0 }
     ensures statuses { result ≤ 10 }
 {
     stepped(alloc, node, events, found).number()
@@ -70,6 +72,7 @@ pub extern "C" fn voumlis_proved_node_requests(
     ensures dead { node.old.live ≢ 1 → (result ≡ 2) × (node.new.live ≡ 0) }
     ensures live { node.old.live ≡ 1 → node.new.live ≡ 1 }
     ensures unwritten { result ≢ 0 → room.new ≡ room.old }
+    ensures unnamed { result ≢ 2 → found.new.named ≡ 0 }
     ensures statuses { result ≤ 3 }
 {
     requests_taken(alloc, node, room, found).number()
@@ -88,6 +91,7 @@ pub extern "C" fn voumlis_proved_node_replies(
     ensures dead { node.old.live ≢ 1 → (result ≡ 2) × (node.new.live ≡ 0) }
     ensures live { node.old.live ≡ 1 → node.new.live ≡ 1 }
     ensures unwritten { result ≢ 0 → room.new ≡ room.old }
+    ensures unnamed { result ≢ 2 → found.new.named ≡ 0 }
     ensures statuses { result ≤ 3 }
 {
     replies_taken(alloc, node, room, found).number()

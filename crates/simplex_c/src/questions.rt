@@ -5,12 +5,13 @@ ghost use Rattle.simplex_cli.specs.Running.{report_at};
 ghost use Rattle.simplex_journal.specs.Record.{IsForeign};
 ghost use Rattle.simplex_record.specs.Lawful.{IsLawful, IsRefusedAt};
 ghost use Rattle.simplex_tooling.specs.Answers.{Entry, HoldsEntries, IsEntry, IsEvidence, attests_in, certifies_in, entry_spelling};
-ghost use Rattle.simplex_hosted.specs.Answers.{Names};
+ghost use Rattle.simplex_c.specs.Statuses.{Names};
 ghost use Rattle.simplex_c.specs.Answers.{Tells, certificate_at, owner, plain_artifact_at, vote_at};
 
 use crate::answering::{audited, checked};
 use crate::decoding::decoded;
-use simplex_hosted::{Found, Status};
+use crate::found::Found;
+use crate::status::Status;
 use simplex_record::Owner;
 use simplex_types::{Epoch, Participant, TermLength};
 use std::alloc::Global;
@@ -43,8 +44,8 @@ pub extern "C" fn voumlis_proved_audit(
 /// Whether these bytes hold a lawful record of this member.
 ///
 /// Answers 0 where they do, with the number of its entries as the length; 1 where memory ran out; 2 where there are no members
-/// or a term has no view; 7 with the first entry that a lawful record refuses, counted from 0; and 8 with the place of an entry
-/// that is no artifact, in bytes.
+/// or a term has no view; 7 with the number of its entries and the first that a lawful record refuses, counted from 0; and 8 with
+/// the place of an entry that is no artifact, in bytes.
 #[unsafe(no_mangle)]
 pub extern "C" fn voumlis_proved_first_refused(
     alloc: Global,
@@ -59,8 +60,10 @@ pub extern "C" fn voumlis_proved_first_refused(
     ensures no_term { term ≡ 0 → result ≡ 2 }
     ensures asked { members ≢ 0 → term ≢ 0 → result ≢ 2 }
     ensures lawful { result ≡ 0 → (artifacts : List Entry) × HoldsEntries stored.now artifacts × IsLawful (attests_in members) (certifies_in members) (owner epoch term member) artifacts × (found.new.length ≡ length artifacts) }
-    ensures refused { result ≡ 7 → (artifacts : List Entry) × HoldsEntries stored.now artifacts × IsRefusedAt (attests_in members) (certifies_in members) (owner epoch term member) artifacts found.new.place }
+    ensures refused { result ≡ 7 → (artifacts : List Entry) × HoldsEntries stored.now artifacts × IsRefusedAt (attests_in members) (certifies_in members) (owner epoch term member) artifacts found.new.place × (found.new.length ≡ length artifacts) }
     ensures foreign { result ≡ 8 → IsForeign [] IsEntry entry_spelling stored.now found.new.place }
+    ensures named { (result ≡ 7) ⊎ (result ≡ 8) → found.new.named ≡ 1 }
+    ensures unnamed { result ≡ 0 → found.new.named ≡ 0 }
     ensures statuses { (result ≤ 2) ⊎ ((result ≡ 7) ⊎ (result ≡ 8)) }
 {
     if members == 0 {
@@ -81,7 +84,7 @@ pub extern "C" fn voumlis_proved_first_refused(
 /// committee of so many members, signed by the plain scheme.
 ///
 /// Answers 0 with the message's size, 1 where memory ran out, 2 where there is no such kind, 4 where the bytes end within the
-/// message, 5 where a byte or value can't stand there, and 6 where a count is above its bound.
+/// message, 5 where a byte or value can't stand there, and 6 where a count is above its bound. No place is named.
 #[unsafe(no_mangle)]
 pub extern "C" fn voumlis_proved_decode(
     alloc: Global,
@@ -95,6 +98,7 @@ pub extern "C" fn voumlis_proved_decode(
     ensures artifact { kind ≡ 2 → Tells (plain_artifact_at members bytes.now) bytes.now result found.new.length }
     ensures report { kind ≡ 3 → Tells (report_at members bytes.now) bytes.now result found.new.length }
     ensures unknown { 3 < kind → result ≡ 2 }
+    ensures unnamed { kind ≤ 3 → found.new.named ≡ 0 }
 {
     decoded(alloc, kind, members, bytes, found).number()
 }

@@ -1,13 +1,15 @@
 //! Calls on a member's node.
 
 ghost use Rattle.std.specs.Prelude.{◌≡◌, ◌≢◌, ◌<◌, ◌⊎◌, Ok, Err};
-ghost use Rattle.simplex_hosted.specs.Answers.{Names};
+ghost use Rattle.simplex_c.specs.Statuses.{Names};
 ghost use Rattle.simplex_c.specs.Serving.{ending_status, run_place, run_status, unopened_place, unopened_status, unstepped_status};
-ghost use Rattle.simplex_hosted.specs.declared.status.Status.TheVariants.{Argument, Done, Foreign, Invalid, Refused, Room};
+ghost use Rattle.simplex_c.specs.declared.status.Status.TheVariants.{Argument, Device, Done, Foreign, Invalid, Refused, Room};
 
+use crate::found::Found;
 use crate::handle::Handle;
+use crate::requests::take_all;
 use crate::session::Session;
-use simplex_hosted::{Found, Status, take_all};
+use crate::status::Status;
 use simplex_member::{IoFault, NodeFault, OpenFault};
 use std::alloc::Global;
 
@@ -24,6 +26,7 @@ pub(crate) fn opened(
     ensures opened { result ≡ Done → node.new.live ≡ 1 }
     ensures unopened { result ≢ Done → node.new ≡ node.old }
     ensures named { (result ≡ Refused) ⊎ (result ≡ Foreign) → found.new.named ≡ 1 }
+    ensures unnamed { (result ≡ Done) ⊎ (result ≡ Device) → found.new.named ≡ 0 }
 {
     match Session::open(alloc, members, member, stored) {
         Ok(session) => {
@@ -61,6 +64,7 @@ pub(crate) fn requests_taken(
     ensures live { node.old.live ≡ 1 → node.new.live ≡ 1 }
     ensures answers { (result ≡ Done) ⊎ ((result ≡ Argument) ⊎ (result ≡ Room)) }
     ensures unwritten { result ≢ Done → room.new ≡ room.old }
+    ensures unnamed { result ≢ Argument → found.new.named ≡ 0 }
 {
     let Some(session) = node.taken(alloc) else {
         return Status::Argument;
@@ -81,6 +85,7 @@ pub(crate) fn replies_taken(
     ensures live { node.old.live ≡ 1 → node.new.live ≡ 1 }
     ensures answers { (result ≡ Done) ⊎ ((result ≡ Argument) ⊎ (result ≡ Room)) }
     ensures unwritten { result ≢ Done → room.new ≡ room.old }
+    ensures unnamed { result ≢ Argument → found.new.named ≡ 0 }
 {
     let Some(mut session) = node.taken(alloc) else {
         return Status::Argument;
@@ -106,6 +111,7 @@ pub(crate) fn closed(alloc: Global, node: &mut Handle) -> Status
 fn fitted(taken: Result<usize, usize>, found: &mut Found) -> Status
     ensures done { result ≡ Done → taken ≡ Ok found.new.length }
     ensures room { result ≢ Done → (result ≡ Room) × (taken ≡ Err found.new.length) }
+    ensures unnamed { found.new.named ≡ 0 }
 {
     match taken {
         Ok(size) => {
@@ -159,6 +165,7 @@ fn unopened(fault: OpenFault, found: &mut Found) -> Status
     ensures status { result ≡ unopened_status fault }
     ensures place { Names found.new.named found.new.place (unopened_place fault) }
     ensures named { (result ≡ Refused) ⊎ (result ≡ Foreign) → found.new.named ≡ 1 }
+    ensures unnamed { (result ≡ Done) ⊎ (result ≡ Device) → found.new.named ≡ 0 }
 {
     match fault {
         OpenFault::Foreign(place) => {

@@ -1,6 +1,6 @@
 //! A member's node between two calls.
 
-ghost use Rattle.std.specs.Prelude.{◌≡◌, ◌<◌, ◌++◌, ℕ, None, Some, IfOk, OnOk};
+ghost use Rattle.std.specs.Prelude.{◌≡◌, ◌<◌, ◌++◌, ℕ, None, Some, IfOk};
 ghost use Rattle.simplex_codec.specs.Codec.{Readable};
 ghost use Rattle.simplex_member.specs.declared.action.Reply.{Reply};
 ghost use Rattle.simplex_member.specs.Packet.{formats};
@@ -10,18 +10,18 @@ ghost use Rattle.simplex_node.specs.Opening.{IsOpenAndSettled};
 ghost use Rattle.simplex_running.specs.Running.{RunFails, RunsTo};
 ghost use Rattle.simplex_streaming.specs.Streaming.{EndsIn, spelled};
 
+use crate::disk::HostedDisk;
+use crate::requests::Requests;
 use simplex_certificates::Artifact;
 use simplex_decisions::config::Config;
-use simplex_hosted::{HostedDisk, Requests};
 use simplex_journal::Disk;
 use simplex_member::{IoFault, OpenFault, Reply};
 use simplex_node::Node;
 use simplex_rules::Elector;
 use simplex_rules::elector::RoundRobinElector;
-use simplex_running::run_io;
+use simplex_running::{open_io, run_io};
 use simplex_settings::{config, elector, scheme};
 use simplex_signing::PlainScheme;
-use simplex_streaming::write_out;
 use simplex_types::{Digest, Read as Spelled, Scheme, Sha256Digest, Write as Spells};
 use std::alloc::{AllocError, Global};
 use std::marker::Model;
@@ -99,7 +99,9 @@ fn hosted(alloc: Global, stored: &[u8]) -> Result<(HostedDisk, Requests), AllocE
 }
 
 /// A value in a box.
-fn boxed<T: Drop>(alloc: Global, value: T) -> Result<Box<T>, OpenFault> {
+fn boxed<T: Drop>(alloc: Global, value: T) -> Result<Box<T>, OpenFault>
+    ensures { IfOk result (λ it. it.value ≡ value) }
+{
     match Box::new(alloc, value) {
         Ok(value) => Ok(value),
         Err(_) => Err(OpenFault::Memory),
@@ -159,48 +161,11 @@ fn begin<S: Scheme<D> + Drop, L: Elector<S, D>, D: Digest, K: Disk>(
     ensures opened { IfOk result (λ node. (index : ℕ) × (first : Reply S D S.PublicKey S.Signature S.Certificate) × (S.own scheme.value ≡ Some index) × (first.refused ≡ None) × (replies.new.items ≡ replies.old.items ++ spelled S.PublicKey.spelling D.spelling S.Signature.spelling S.Certificate.spelling first)
         × IsOpenAndSettled S.Scheme L.Elector K.Disk (formats D.PartialEq.eq D.spelling S.Signature.spelling S.Certificate.spelling D.reading S.Signature.reading S.Certificate.reading (S.size scheme.value)) (setup_of S.Scheme L.Elector config scheme.value elector index) (Readable ⟦<Artifact<S, D> as Spells>⟧.fits (⟦<Artifact<S, D> as Spelled>⟧.within 65535)) disk 0 node first.actions.items) }
 {
-    match node_over(alloc, config, scheme, elector, disk) {
-        Ok((node, first)) => match put_behind(alloc, first, replies) {
-            Ok(()) => Ok(node),
-            Err(_) => {
-                drop(node.close());
-                Err(OpenFault::Memory)
-            }
-        },
-        Err(fault) => Err(fault),
-    }
-}
-
-/// Puts a reply behind the replies.
-fn put_behind<S: Scheme<D>, D: Digest>(
-    alloc: Global,
-    reply: Reply<S, D>,
-    replies: &mut Vec<u8>,
-) -> Result<(), IoFault>
-    ensures { OnOk result (replies.new.items ≡ replies.old.items ++ spelled S.PublicKey.spelling D.spelling S.Signature.spelling S.Certificate.spelling reply) }
-{
-    write_out(alloc, &reply, replies)
-}
-
-/// The node over this disk, opened at moment 0, and what that hands out as a reply.
-fn node_over<S: Scheme<D> + Drop, L: Elector<S, D>, D: Digest, K: Disk>(
-    alloc: Global,
-    config: Config<D>,
-    scheme: Rc<S>,
-    elector: L,
-    disk: K,
-) -> Result<(Node<S, L, D, K>, Reply<S, D>), OpenFault>
-    requires { L.built_for elector (S.size scheme.value) }
-    ensures opened { IfOk result (λ r. (index : ℕ) × (S.own scheme.value ≡ Some index) × (r.1.refused ≡ None)
-        × IsOpenAndSettled S.Scheme L.Elector K.Disk (formats D.PartialEq.eq D.spelling S.Signature.spelling S.Certificate.spelling D.reading S.Signature.reading S.Certificate.reading (S.size scheme.value)) (setup_of S.Scheme L.Elector config scheme.value elector index) (Readable ⟦<Artifact<S, D> as Spells>⟧.fits (⟦<Artifact<S, D> as Spelled>⟧.within 65535)) disk 0 r.0 r.1.actions.items) }
-{
-    match Node::open(alloc, config, scheme, elector, disk, 0) {
-        Ok((node, actions)) => {
-            let first = Reply {
-                refused: None,
-                actions,
-            };
-            Ok((node, first))
+    match open_io(alloc, config, scheme, elector, disk, 0, replies) {
+        Ok((node, Ok(()))) => Ok(node),
+        Ok((node, Err(_))) => {
+            drop(node.close());
+            Err(OpenFault::Memory)
         }
         Err((fault, _)) => Err(fault),
     }

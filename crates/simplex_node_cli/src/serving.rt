@@ -8,18 +8,17 @@ ghost use Rattle.simplex_member.specs.Packet.{formats};
 ghost use Rattle.simplex_member.specs.Setup.{setup_of};
 ghost use Rattle.simplex_node.specs.Keeps.{AtOwn};
 ghost use Rattle.simplex_node_cli.specs.declared.ending.Ending.TheVariants.{Open};
-ghost use Rattle.simplex_node_cli.specs.Serving.{Serves, ServesOver, ended_of};
-ghost use Rattle.simplex_streaming.specs.Streaming.{spelled};
+ghost use Rattle.simplex_node_cli.specs.Serving.{Answers, AnswersBefore, ServesOver, ended_of};
+ghost use Rattle.simplex_streaming.specs.Streaming.{EndsIn, spelled};
 
 use crate::ending::Ending;
 use simplex_certificates::Artifact;
 use simplex_decisions::config::Config;
 use simplex_journal::Disk;
-use simplex_member::{IoFault, Reply};
+use simplex_member::IoFault;
 use simplex_node::Node;
 use simplex_rules::Elector;
-use simplex_running::run_io;
-use simplex_streaming::write_out;
+use simplex_running::{open_io, run_io};
 use simplex_types::{Digest, Read as Spelled, Scheme, Write as Spells};
 use std::alloc::Global;
 use std::io::{Read, Write};
@@ -30,7 +29,7 @@ use std::rc::Rc;
 ///
 /// # Errors
 ///
-/// [`Ending::Open`] where the record was not opened: then nothing was written. Else the ending of what [`write_out`] or
+/// [`Ending::Open`] where the record was not opened: then nothing was written. Else the ending of what [`open_io`] or
 /// [`run_io`] answered.
 pub fn serve_over<S: Scheme<D> + Drop, L: Elector<S, D>, D: Digest, K: Disk, R: Read, W: Write>(
     alloc: Global,
@@ -46,30 +45,24 @@ pub fn serve_over<S: Scheme<D> + Drop, L: Elector<S, D>, D: Digest, K: Disk, R: 
     ensures { ((why : OpenFault) × (result.0 ≡ Err (Open why)) × (output.new ≡ output.old))
         ⊎ ((ended : Result ⊤ IoFault) × (index : ℕ) × (result.0 ≡ ended_of ended) × (S.own scheme.value ≡ Some index) × ServesOver S.Scheme K.Disk (formats D.PartialEq.eq D.spelling S.Signature.spelling S.Certificate.spelling D.reading S.Signature.reading S.Certificate.reading (S.size scheme.value)) (setup_of S.Scheme L.Elector config scheme.value elector index) D.fits D.spelling (spelled S.PublicKey.spelling D.spelling S.Signature.spelling S.Certificate.spelling) (D.reading 65535) (Readable ⟦<Artifact<S, D> as Spells>⟧.fits (⟦<Artifact<S, D> as Spelled>⟧.within 65535)) disk now ended (R.remaining input.old) (W.contents output.old) (W.contents output.new)) }
 {
-    match Node::open(alloc, config, scheme, elector, disk, now) {
-        Ok((node, actions)) => {
-            let first = Reply {
-                refused: None,
-                actions,
-            };
-            serve(alloc, node, first, input, output)
-        }
+    match open_io(alloc, config, scheme, elector, disk, now, output) {
+        Ok((node, Ok(()))) => serve(alloc, node, input, output),
+        Ok((node, Err(fault))) => (Err(Ending::of(fault)), node.close()),
         Err((fault, disk)) => (Err(Ending::Open(fault)), disk),
     }
 }
 
-/// Writes the first reply, and answers the events of the input. With the disk.
+/// Answers the events of the input. With the disk.
 fn serve<S: Scheme<D> + Drop, L: Elector<S, D>, D: Digest, K: Disk, R: Read, W: Write>(
     alloc: Global,
     node: Node<S, L, D, K>,
-    first: Reply<S, D>,
     input: &mut R,
     output: &mut W,
 ) -> (Result<(), Ending>, K)
-    ensures { AtOwn S.Scheme L.Elector K.Disk (formats D.PartialEq.eq D.spelling S.Signature.spelling S.Certificate.spelling D.reading S.Signature.reading S.Certificate.reading) node (λ f s h. (ended : Result ⊤ IoFault) × (result.0 ≡ ended_of ended) × Serves S.Scheme f s D.fits D.spelling (spelled S.PublicKey.spelling D.spelling S.Signature.spelling S.Certificate.spelling) (D.reading 65535) h first ended (R.remaining input.old) (W.contents output.old) (W.contents output.new)) }
+    ensures { AtOwn S.Scheme L.Elector K.Disk (formats D.PartialEq.eq D.spelling S.Signature.spelling S.Certificate.spelling D.reading S.Signature.reading S.Certificate.reading) node (λ f s h. (ended : Result ⊤ IoFault) × (result.0 ≡ ended_of ended) × EndsIn D.fits D.spelling (spelled S.PublicKey.spelling D.spelling S.Signature.spelling S.Certificate.spelling) (D.reading 65535) (Answers S.Scheme f s h) (AnswersBefore S.Scheme f s h) ended (R.remaining input.old) (W.contents output.old) (W.contents output.new)) }
 {
     let mut node = node;
-    let ended = speak(alloc, &mut node, &first, input, output);
+    let ended = run_io(alloc, &mut node, input, output);
     (told(ended), node.close())
 }
 
@@ -80,21 +73,5 @@ fn told(ended: Result<(), IoFault>) -> Result<(), Ending>
     match ended {
         Ok(()) => Ok(()),
         Err(fault) => Err(Ending::of(fault)),
-    }
-}
-
-/// Writes the first reply, and answers the events of the input.
-fn speak<S: Scheme<D> + Drop, L: Elector<S, D>, D: Digest, K: Disk, R: Read, W: Write>(
-    alloc: Global,
-    node: &mut Node<S, L, D, K>,
-    first: &Reply<S, D>,
-    input: &mut R,
-    output: &mut W,
-) -> Result<(), IoFault>
-    ensures { AtOwn S.Scheme L.Elector K.Disk (formats D.PartialEq.eq D.spelling S.Signature.spelling S.Certificate.spelling D.reading S.Signature.reading S.Certificate.reading) node.old (λ f s h. Serves S.Scheme f s D.fits D.spelling (spelled S.PublicKey.spelling D.spelling S.Signature.spelling S.Certificate.spelling) (D.reading 65535) h first.now result (R.remaining input.old) (W.contents output.old) (W.contents output.new)) }
-{
-    match write_out(alloc, first, output) {
-        Ok(()) => run_io(alloc, node, input, output),
-        Err(fault) => Err(fault),
     }
 }

@@ -1,11 +1,14 @@
 -- What a run of a node over events comes to, and what a crash meanwhile leaves.
-use Rattle.std.specs.Prelude.{◌≡◌, ◌≢◌, ◌⊎◌, ◌++◌, ℕ, false, true, List, ◌∷◌, Option, IfSome}
+use Rattle.std.specs.Prelude.{◌≡◌, ◌≢◌, ◌⊎◌, ◌++◌, ℕ, false, true, List, ◌∷◌, Option, IfSome, Result, IfErr, OnOk}
+use Rattle.std.specs.Io.KnownBytes.{Appends}
 use Rattle.simplex_types.specs.declared.scheme.Scheme.{Ghosts}
 use Rattle.simplex_rules.specs.declared.elector.Elector as elector
 use Rattle.simplex_journal.specs.declared.disk.Disk as disk
 use Rattle.simplex_journal.specs.Disk.{Call, LeavesOnly, counted}
 use Rattle.simplex_member.specs.declared.action.Reply.{Reply}
 use Rattle.simplex_member.specs.declared.event.Event.{Event}
+use Rattle.simplex_member.specs.declared.fault.IoFault.{IoFault}
+use Rattle.simplex_member.specs.declared.fault.IoFault.TheVariants as fault
 use Rattle.simplex_member.specs.declared.fault.NodeFault.{NodeFault}
 use Rattle.simplex_member.specs.declared.fault.NodeFault.TheVariants.{Device, Failed}
 use Rattle.simplex_member.specs.Member.{IsReached, Run}
@@ -14,11 +17,18 @@ use Rattle.simplex_member.specs.Point.{History}
 use Rattle.simplex_member.specs.Setup.{Setup}
 use Rattle.simplex_node.specs.declared.node.Node.{Node}
 use Rattle.simplex_node.specs.Keeps.{NodeKeeps, disk_of, has_failed}
+use Rattle.simplex_output.specs.Front.{AppendsFront}
 use Rattle.simplex_streaming.specs.Streaming.{StandInFront}
 
 -- a disk was asked for nothing since, or a crash at any moment since leaves what has P
 abbrev pub LeavesAtMost : List Call → List Call → (List ℕ → Type 0) → Type 0
 LeavesAtMost old new P = (new ≡ old) ⊎ LeavesOnly old new P
+
+-- a reply was written whole, or, where memory ran out or a write failed, a front of it
+pub record IsWritten {S D P G C A : Type 0} (w : Reply S D P G C → List ℕ) (reply : Reply S D P G C) (ended : Result A IoFault) (old new : Option (List ℕ)) : Type 0 where
+  pub whole : OnOk ended (Appends old new (w reply))
+  pub front : AppendsFront old new (w reply)
+  pub faults : IfErr ended (λ why. (why ≡ fault.Memory) ⊎ (why ≡ fault.Write))
 
 module _ {S D P G C : Type 0} (g : Ghosts S D P G C) (f : Formats S D P G C) (s : Setup S D C) where
   -- an image reads as what a run over these events may leave: what the step over one of them may leave, behind the steps over those before it

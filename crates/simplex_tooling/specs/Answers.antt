@@ -59,11 +59,6 @@ module _ {M : Type 0} (Reads : M → Type 0) (spelling : M → List ℕ) where
     pub read : IsRead Reads spelling reading bytes messages fault
     pub text_is : text ≡ flat_map line messages ++ option_map_or (place_line style (codes "fault")) fault []
 
-  -- a line for each entry of the record, or where one is foreign its place alone
-  abbrev pub AreEntriesTold : (M → List ℕ) → Style → List ℕ → List ℕ → Option ℕ → Type 0
-  AreEntriesTold line style bytes text None = (entries : List M) × Holds bytes entries × (text ≡ flat_map line entries)
-  AreEntriesTold line style bytes text (Some place) = IsForeign [] Reads spelling bytes place × (text ≡ place_line style (codes "foreign") place)
-
 -- a line for each report that these bytes hold, and one for the place at which none stands, if there is one
 abbrev pub AreReports : Style → ℕ → List ℕ → List ℕ → Option ℕ → Type 0
 AreReports style count bytes text fault = AreTold (IsReport count) report_spelling (report_at count) (report_line style) style bytes text fault
@@ -72,13 +67,10 @@ AreReports style count bytes text fault = AreTold (IsReport count) report_spelli
 abbrev pub HoldsEntries : List ℕ → List Entry → Type 0
 HoldsEntries = Holds IsEntry entry_spelling
 
--- these bytes have a foreign entry at this place, and that is told
-abbrev pub IsForeignTold : Style → List ℕ → List ℕ → ℕ → Type 0
-IsForeignTold style bytes text place = IsForeign [] IsEntry entry_spelling bytes place × (text ≡ place_line style (codes "foreign") place)
-
 -- a line for each entry of the record, or where one is foreign its place alone
 abbrev pub IsRecordTold : Style → List ℕ → List ℕ → Option ℕ → Type 0
-IsRecordTold style bytes text place = AreEntriesTold IsEntry entry_spelling (artifact_line style) style bytes text place
+IsRecordTold style bytes text None = (entries : List Entry) × HoldsEntries bytes entries × (text ≡ flat_map (artifact_line style) entries)
+IsRecordTold style bytes text (Some place) = IsForeign [] IsEntry entry_spelling bytes place × (text ≡ place_line style (codes "foreign") place)
 
 -- whose record it is: a member's of the program, in epoch 0 and terms of four views
 abbrev pub owner_of : ℕ → Owner
@@ -111,14 +103,15 @@ lawful_line style entries = kind_words style (codes "lawful") ++ (field style (c
 abbrev pub refused_line : Style → ℕ → List ℕ
 refused_line style entry = kind_words style (codes "refused") ++ (field style (codes "entry") (decimal entry) ++ line_end style)
 
--- that this record of a member is lawful, or its first entry that may not stand there
-abbrev pub AreChecked : Style → ℕ → ℕ → List Entry → List ℕ → Option ℕ → Type 0
-AreChecked style index count artifacts text None = IsLawful (attests_in count) (certifies_in count) (owner_of index) artifacts × (text ≡ lawful_line style (length artifacts))
-AreChecked style index count artifacts text (Some entry) = IsRefusedAt (attests_in count) (certifies_in count) (owner_of index) artifacts entry × (text ≡ refused_line style entry)
+-- how what was found of a record is told, and which entry or place is named
+abbrev pub IsSaid : Style → Checked → List ℕ → Option ℕ → Type 0
+IsSaid style (checked.Lawful entries) text named = (text ≡ lawful_line style entries) × (named ≡ None)
+IsSaid style (checked.Refused entry entries) text named = (text ≡ refused_line style entry) × (named ≡ Some entry)
+IsSaid style (checked.Foreign place) text named = (text ≡ place_line style (codes "foreign") place) × (named ≡ Some place)
 
--- the same of the record that these bytes hold, or the place of its first foreign entry
+-- that the record of a member of so many that these bytes hold is lawful, or its first entry that may not stand there
 abbrev pub IsChecked : Style → ℕ → ℕ → List ℕ → List ℕ → Option ℕ → Type 0
-IsChecked style index count bytes text named = ((artifacts : List Entry) × HoldsEntries bytes artifacts × AreChecked style index count artifacts text named) ⊎ ((place : ℕ) × (named ≡ Some place) × IsForeignTold style bytes text place)
+IsChecked style index count bytes text named = (found : Checked) × IsHeld count (owner_of index) bytes found × IsSaid style found text named
 
 -- what is answered to each request
 abbrev pub IsAnswerTo : Style → Request → List ℕ → List ℕ → Option ℕ → Type 0

@@ -57,8 +57,8 @@ module _ {S P : Type 0} where
   nullification_line style c = kind_words style (codes "nullification") ++ (round_fields style c.round ++ (flat_map (signature_field style) c.certificate ++ line_end style))
 
   -- the line of two votes of one signer for different proposals of one round
-  unfoldable pub conflicting_line : {K : Type 0} → Style → List ℕ → ProposalVote K S (List ℕ) P (List ℕ) (List (Attestation (List ℕ))) → ProposalVote K S (List ℕ) P (List ℕ) (List (Attestation (List ℕ))) → List ℕ
-  conflicting_line style kind first second = kind_words style kind ++ (proposal_fields style first.proposal ++ (signed_fields style first.attestation ++ (other_fields style second.proposal second.attestation.signature ++ line_end style)))
+  unfoldable pub conflicting_line : {K : Type 0} → Style → List ℕ → ProposalVote K S (List ℕ) P (List ℕ) (List (Attestation (List ℕ))) × ProposalVote K S (List ℕ) P (List ℕ) (List (Attestation (List ℕ))) → List ℕ
+  conflicting_line style kind x = kind_words style kind ++ (proposal_fields style x.0.proposal ++ (signed_fields style x.0.attestation ++ (other_fields style x.1.proposal x.1.attestation.signature ++ line_end style)))
 
   -- the line of a nullify of one signer and its finalize for a proposal of the round
   unfoldable pub beside_line : Style → Nullify S (List ℕ) P (List ℕ) (List (Attestation (List ℕ))) × Finalize S (List ℕ) P (List ℕ) (List (Attestation (List ℕ))) → List ℕ
@@ -73,8 +73,8 @@ module _ {S P : Type 0} where
   report_line style (activity.Nullification c) = nullification_line style c
   report_line style (activity.Finalize v) = vote_line style (codes "finalize") v
   report_line style (activity.Finalization c) = certificate_line style (codes "finalization") c
-  report_line style (activity.ConflictingNotarize x) = conflicting_line style (codes "conflicting-notarize") x.0 x.1
-  report_line style (activity.ConflictingFinalize x) = conflicting_line style (codes "conflicting-finalize") x.0 x.1
+  report_line style (activity.ConflictingNotarize x) = conflicting_line style (codes "conflicting-notarize") x
+  report_line style (activity.ConflictingFinalize x) = conflicting_line style (codes "conflicting-finalize") x
   report_line style (activity.NullifyFinalize x) = beside_line style x
 
   -- the line of an artifact

@@ -2,18 +2,19 @@
 
 ghost use Rattle.std.specs.Prelude.{◌≡◌, ◌<◌, IfOk, string_bytes};
 ghost use Rattle.std.specs.List.{flat_map};
-ghost use Rattle.simplex_cli.specs.Running.{report_spelling};
-ghost use Rattle.simplex_tooling.specs.Answers.{AreReports, IsAnswerTo, IsChecked, IsEvidence, IsRecordTold, lawful_line, refused_line};
+ghost use Rattle.simplex_tooling.specs.Answers.{AreReports, IsAnswerTo, IsChecked, IsEvidence, IsRecordTold, IsSaid, lawful_line, refused_line};
 ghost use Rattle.simplex_tooling.specs.Command.{IsAsked};
 
 use crate::checking::{Checked, check_record};
 use crate::command::{HELP, Request, VERSION};
-use crate::dumping::{dumped_entries, dumped_messages, foreign_line};
+use crate::dumping::{dumped_messages, foreign_line, lines_of};
 use crate::parts::{push_end, push_kind, push_number, push_place};
+use crate::reading::entries_of;
 use crate::scheme::scheme_of;
 use crate::style::Style;
 use simplex_audit::{Audit, audit};
-use simplex_messages::{Activity, Artifact};
+use simplex_journal::JournalFault;
+use simplex_messages::Activity;
 use simplex_record::Owner;
 use simplex_signing::PlainScheme;
 use simplex_types::{Epoch, Participant, Sha256Digest, TermLength, Write};
@@ -22,16 +23,13 @@ use std::alloc::{AllocError, Global};
 /// How many views a term of the program's members has.
 const TERM: u32 = 4;
 
-/// The bytes of reports.
-fn spelled(
-    alloc: Global,
-    reports: &[Activity<PlainScheme, Sha256Digest>],
-) -> Result<Vec<u8>, AllocError>
-    ensures { IfOk result (λ bytes. bytes.items ≡ flat_map report_spelling reports.now) }
+/// The bytes of values, one behind the other.
+fn spelled<M: Write>(alloc: Global, values: &[M]) -> Result<Vec<u8>, AllocError>
+    ensures { IfOk result (λ bytes. bytes.items ≡ flat_map M.spelling values.now) }
 {
     let mut bytes = Vec::new(alloc);
-    for report in reports {
-        report.append(&mut bytes)?;
+    for value in values {
+        value.append(&mut bytes)?;
     }
     Ok(bytes)
 }
@@ -74,7 +72,13 @@ pub fn dumped_record(
 ) -> Result<(String, Option<usize>), AllocError>
     ensures { IfOk result (λ answer. IsRecordTold style bytes.now (string_bytes answer.0) answer.1) }
 {
-    dumped_entries::<Artifact<PlainScheme, Sha256Digest>>(alloc, style, bytes)
+    match entries_of(alloc, bytes) {
+        Ok(entries) => Ok((lines_of(alloc, style, &entries)?, None)),
+        Err(JournalFault::Foreign(place)) => {
+            Ok((foreign_line(alloc, style, place)?, Some(place as usize)))
+        }
+        Err(_) => Err(AllocError),
+    }
 }
 
 /// The line of a lawful record of so many entries.
@@ -116,7 +120,19 @@ pub fn checked(
         term_length: TermLength::new(TERM),
         signer: Participant::new(u32::from(index)),
     };
-    match check_record(alloc, count, owner, bytes)? {
+    let found = check_record(alloc, count, owner, bytes)?;
+    said(alloc, style, found)
+}
+
+/// The line of what was found of a record, and what it names.
+fn said(
+    alloc: Global,
+    style: Style,
+    found: Checked,
+) -> Result<(String, Option<usize>), AllocError>
+    ensures { IfOk result (λ answer. IsSaid style found (string_bytes answer.0) answer.1) }
+{
+    match found {
         Checked::Lawful { entries } => Ok((lawful_text(alloc, style, entries)?, None)),
         Checked::Refused { entry, .. } => Ok((refused_text(alloc, style, entry)?, Some(entry))),
         Checked::Foreign { place } => {

@@ -4,8 +4,9 @@ ghost use Rattle.std.specs.Prelude.{◌<◌, IfNone, IfOk, IfSome};
 ghost use Rattle.simplex_record.specs.Lawful.{IsLawful, IsRefusedAt};
 ghost use Rattle.simplex_tooling.specs.Answers.{AreHeld, IsHeld, attests_in, certifies_in};
 
+use crate::reading::entries_of;
 use crate::scheme::scheme_of;
-use simplex_journal::{JournalFault, read_entries};
+use simplex_journal::JournalFault;
 use simplex_messages::Artifact;
 use simplex_record::{Owner, first_refused};
 use simplex_signing::PlainScheme;
@@ -44,8 +45,8 @@ pub fn check_record(
     requires { 0 < count }
     ensures { IfOk result (IsHeld count owner bytes.now) }
 {
-    match read_entries(alloc, bytes) {
-        Ok(entries) => check_artifacts(alloc, count, owner, &entries.messages),
+    match entries_of(alloc, bytes) {
+        Ok(entries) => check_artifacts(alloc, count, owner, &entries),
         Err(JournalFault::Foreign(place)) => Ok(Checked::Foreign { place }),
         Err(_) => Err(AllocError),
     }

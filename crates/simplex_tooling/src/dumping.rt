@@ -4,14 +4,13 @@ ghost use Rattle.std.specs.Prelude.{◌≡◌, ◌++◌, ◌<◌, [], IfOk, OnOk
 ghost use Rattle.std.specs.List.{flat_map};
 ghost use Rattle.std.specs.Option.{option_map_or};
 ghost use Rattle.simplex_codec.specs.Codec.{Readable};
-ghost use Rattle.simplex_tooling.specs.Answers.{AreEntriesTold, AreTold};
+ghost use Rattle.simplex_tooling.specs.Answers.{AreTold};
 ghost use Rattle.simplex_tooling.specs.Parts.{place_line};
 
 use crate::lines::Line;
 use crate::parts::push_place;
 use crate::reading::read_values;
 use crate::style::Style;
-use simplex_journal::{JournalFault, read_entries};
 use simplex_types::Read;
 use std::alloc::{AllocError, Global};
 
@@ -32,30 +31,8 @@ pub(crate) fn dumped_messages<M: Line + Read + Drop>(
     Ok((text, fault))
 }
 
-/// The lines of the record that the bytes hold; where an entry is foreign, the line of its place alone, and the place.
-/// Refused only where memory is.
-pub(crate) fn dumped_entries<M: Line + Read + Drop>(
-    alloc: Global,
-    style: Style,
-    bytes: &[u8],
-) -> Result<(String, Option<usize>), AllocError>
-    ensures { IfOk result (λ answer. AreEntriesTold (Readable M.fits (M.within 65535)) M.spelling (M.line style) style bytes.now (string_bytes answer.0) answer.1) }
-{
-    match read_entries::<M>(alloc, bytes) {
-        Ok(entries) => {
-            let text = lines_of(alloc, style, &entries.messages)?;
-            Ok((text, None))
-        }
-        Err(JournalFault::Foreign(place)) => {
-            let text = foreign_line(alloc, style, place)?;
-            Ok((text, Some(place as usize)))
-        }
-        Err(_) => Err(AllocError),
-    }
-}
-
 /// The lines of messages.
-fn lines_of<M: Line>(alloc: Global, style: Style, messages: &[M]) -> Result<String, AllocError>
+pub(crate) fn lines_of<M: Line>(alloc: Global, style: Style, messages: &[M]) -> Result<String, AllocError>
     ensures { IfOk result (λ text. string_bytes text ≡ flat_map (M.line style) messages.now) }
 {
     let mut text = String::new(alloc);

@@ -11,8 +11,8 @@ use crate::parts::{
 };
 use crate::style::Style;
 use simplex_messages::{
-    Activity, Artifact, Nullification, Nullify, NullifyFinalize, ProposalCertificate, ProposalKind,
-    ProposalVote,
+    Activity, Artifact, ConflictingVotes, Nullification, Nullify, NullifyFinalize,
+    ProposalCertificate, ProposalKind, ProposalVote,
 };
 use simplex_signing::{AttestationList, PlainScheme, PlainSignature};
 use simplex_types::{Attestation, Proposal, Round, Sha256Digest};
@@ -191,11 +191,12 @@ fn push_conflicting<K: ProposalKind<Sha256Digest>>(
     text: &mut String,
     style: Style,
     kind: &str,
-    first: &ProposalVote<K, PlainScheme, Sha256Digest>,
-    second: &ProposalVote<K, PlainScheme, Sha256Digest>,
+    evidence: &ConflictingVotes<K, PlainScheme, Sha256Digest>,
 ) -> Result<(), AllocError>
-    ensures { OnOk result (string_bytes text.new ≡ string_bytes text.old ++ conflicting_line style kind.now first.now second.now) }
+    ensures { OnOk result (string_bytes text.new ≡ string_bytes text.old ++ conflicting_line style kind.now evidence.now) }
 {
+    let first = evidence.first();
+    let second = evidence.second();
     push_kind(text, style, kind)?;
     push_proposal(text, style, &first.proposal)?;
     push_signed(alloc, text, style, &first.attestation)?;
@@ -249,12 +250,10 @@ impl Line for Activity<PlainScheme, Sha256Digest> {
             Activity::Finalize(it) => push_vote(alloc, text, style, "finalize", it),
             Activity::Finalization(it) => push_certificate(alloc, text, style, "finalization", it),
             Activity::ConflictingNotarize(it) => {
-                let (first, second) = (it.first(), it.second());
-                push_conflicting(alloc, text, style, "conflicting-notarize", first, second)
+                push_conflicting(alloc, text, style, "conflicting-notarize", it)
             }
             Activity::ConflictingFinalize(it) => {
-                let (first, second) = (it.first(), it.second());
-                push_conflicting(alloc, text, style, "conflicting-finalize", first, second)
+                push_conflicting(alloc, text, style, "conflicting-finalize", it)
             }
             Activity::NullifyFinalize(it) => push_beside(alloc, text, style, it),
         }

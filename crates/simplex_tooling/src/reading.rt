@@ -1,10 +1,16 @@
 //! The values that bytes hold.
 
-ghost use Rattle.std.specs.Prelude.{◌≡◌, ◌++◌, ◌<◌, IfOk, IfSome, IfNone, IsErr, length};
+ghost use Rattle.std.specs.Prelude.{◌≡◌, ◌++◌, ◌<◌, ℕ, [], Err, IfOk, IfSome, IfNone, IsErr, length};
 ghost use Rattle.simplex_codec.specs.Codec.{Readable};
 ghost use Rattle.simplex_audit.specs.Audit.{IsRead};
+ghost use Rattle.simplex_journal.specs.declared.fault.JournalFault.TheVariants.{Foreign};
+ghost use Rattle.simplex_journal.specs.Record.{IsForeign};
+ghost use Rattle.simplex_tooling.specs.Answers.{HoldsEntries, IsEntry, entry_spelling};
 
-use simplex_types::{CodecError, Read};
+use simplex_journal::{JournalFault, read_entries};
+use simplex_messages::Artifact;
+use simplex_signing::PlainScheme;
+use simplex_types::{CodecError, Read, Sha256Digest};
 use std::alloc::{AllocError, Global};
 
 /// The value at the front, or nothing where none stands there: then the bytes stand where they stood. Refused only where
@@ -45,4 +51,22 @@ pub(crate) fn read_values<M: Read + Drop>(
         }
     }
     Ok((values, None))
+}
+
+/// The entries of the record that the bytes hold.
+///
+/// # Errors
+///
+/// [`JournalFault::Foreign`] with the place of the first entry that is no artifact, else where memory ran out.
+pub(crate) fn entries_of(
+    alloc: Global,
+    bytes: &[u8],
+) -> Result<Vec<Artifact<PlainScheme, Sha256Digest>>, JournalFault>
+    ensures entries { IfOk result (λ entries. HoldsEntries bytes.now entries.items) }
+    ensures foreign { (place : ℕ) → result ≡ Err (Foreign place) → IsForeign [] IsEntry entry_spelling bytes.now place }
+{
+    match read_entries(alloc, bytes) {
+        Ok(entries) => Ok(entries.messages),
+        Err(fault) => Err(fault),
+    }
 }

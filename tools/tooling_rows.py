@@ -1,24 +1,16 @@
-#!/usr/bin/env python3
-"""make-tooling-script: writes crates/tooling_driver/stdin and stdout.
+"""What crates/cli_driver is asked of the program of tools, with the answers: rows that make-cli-script puts behind its own.
 
-The answers come from this file, which is written from docs/FORMATS.md ("simplex_tool"), over tools/audited.py for
-evidence, bench/vectors.py for what is read, and the rules in tools/make-record-script for the first refused entry. It
-never runs the driver. Inputs are those of docs/vectors.json, and some that are made up here.
+The answers come from this file, which is written from docs/FORMATS.md ("simplex_tool"), over audited.py for evidence,
+bench/vectors.py for what is read, and the rules in make-record-script for the first refused entry. It never runs the
+driver. Inputs are those of docs/vectors.json, and some that are made up here.
 """
-import argparse
-import importlib.machinery
-import importlib.util
+
 import json
 import random
-import sys
-from pathlib import Path
 
-sys.dont_write_bytecode = True
-TOP = Path(__file__).resolve().parent.parent
-
-import audited  # noqa: E402
-from artifact_bytes import artifact_of, certificate, certification, proposal, round_of, vote  # noqa: E402
-from script_rows import Script, digits, sum_of  # noqa: E402
+import audited
+from artifact_bytes import artifact_of, certificate, certification, proposal, round_of, vote
+from script_rows import TOP, digits, quoted, script_beside, sum_of
 
 HELP = """usage: simplex_tool [--json] COMMAND, under the plain scheme over the base simplex
   evidence COUNT              the evidence that simplex audit finds in reports on standard input, as reports
@@ -28,18 +20,10 @@ HELP = """usage: simplex_tool [--json] COMMAND, under the plain scheme over the 
   --help, --version
 """
 VERSION = "simplex_tool: version 1 of the formats\n"
-TERM, MOST = 4, 2000
+TERM = 4
 
 
-def script_of(name):
-    """A script beside this one."""
-    loader = importlib.machinery.SourceFileLoader(name.replace("-", "_"), str(TOP / "tools" / name))
-    made = importlib.util.module_from_spec(importlib.util.spec_from_loader(loader.name, loader))
-    loader.exec_module(made)
-    return made
-
-
-journal, rules = script_of("make-journal-script"), script_of("make-record-script")
+journal, rules = script_beside("make-journal-script"), script_beside("make-record-script")
 
 
 def line(is_json, kind, fields):
@@ -171,29 +155,41 @@ def answer(words, data):
 
 def told(data):
     """Bytes as an answer tells them."""
-    if len(data) > MOST:
-        return f"{len(data)} {sum_of(data)}"
     try:
-        return '"' + data.decode().replace("\n", "\\n") + '"'
+        return quoted(data.decode())
     except UnicodeDecodeError:
-        return digits(data)
+        return digits(data) if len(data) <= 1000 else f"{len(data)} {sum_of(data)}"
 
 
 def needs_input(words):
     return not {"--help", "--version"} & set(words)
 
 
+def given(script, data, fails, room):
+    """The streams: an input, of which each read may fail, and how many bytes the output takes."""
+    script.reset()
+    if data:
+        script.ask(f"append 1 {digits(data)}", len(data))
+    if fails:
+        script.ask("reader - - other 0", "ok")
+    if room is not None:
+        script.ask(f"output - {room} never", "ok")
+
+
 def run(script, words, data=b"", fails=False, room=None):
-    call = f"run {int(fails)} {'-' if room is None else room} {digits(data)}" + "".join(f" {it or '-'}" for it in words)
+    """The program with these words, over such streams; what is left of the input stands behind the status."""
+    given(script, data, fails, room)
+    call = "tool" + "".join(f" {it or '-'}" for it in words)
     got = answer(words, data)
     if got is None:
-        return script.ask(call, f"2 {told(b'')} {told(HELP.encode())}")
+        return script.ask(call, f"2 {len(data)} {told(b'')} {told(HELP.encode())}")
     if fails and needs_input(words):
-        return script.ask(call, f"1 {told(b'')} {told(b'error: device' + bytes([10]))}")
+        return script.ask(call, f"1 {len(data)} {told(b'')} {told(b'error: device' + bytes([10]))}")
     output, named = got
+    left = 0 if needs_input(words) else len(data)
     if room is not None and room < len(output):
-        return script.ask(call, f"1 {told(output[:room])} {told(b'error: write' + bytes([10]))}")
-    script.ask(call, f"{0 if named is None else 3} {told(output)} {told(b'')}")
+        return script.ask(call, f"1 {left} {told(output[:room])} {told(b'error: write' + bytes([10]))}")
+    return script.ask(call, f"{0 if named is None else 3} {left} {told(output)} {told(b'')}")
 
 
 # ---- rows
@@ -300,18 +296,11 @@ def script_of_reports(chance):
     return [check_baseline.some_input(random.Random(chance.randrange(10**6))) for _ in range(60)]
 
 
-def main():
-    argparse.ArgumentParser(description=__doc__, formatter_class=argparse.RawDescriptionHelpFormatter).parse_args()
-    script, chance = Script(), random.Random(54)
+def tooling_rows(script):
+    """All of them."""
+    chance = random.Random(54)
     words_of_calls(script)
     streams(script)
     of_vectors(script)
     records(script, chance)
     made_up(script, chance)
-    script.note("what is no call of the driver")
-    for words in ("run", "run 0", "run 2 - -", "run 0 x -", "run 0 - 0", "runs 0 - -"):
-        script.ask(words, "unreadable")
-    script.write("tooling_driver")
-
-
-main()

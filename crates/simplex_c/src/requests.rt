@@ -1,7 +1,7 @@
 //! What a host is asked to do with the bytes that it keeps.
 
 ghost use Rattle.std.specs.Prelude.{◌≡◌, ◌++◌, ◌≤◌, ◌<◌, [], ◌⊎◌, length, take, Ok, Err, OnErr, OnOk};
-ghost use Rattle.simplex_hosted.specs.Requests.{cutting, fixing, number, writing};
+ghost use Rattle.simplex_c.specs.Requests.{cutting, fixing, number, writing};
 
 use std::alloc::{AllocError, Global};
 use std::cell::RefCell;
@@ -9,27 +9,27 @@ use std::rc::Rc;
 
 /// What was asked and was not taken yet, the oldest first. It is shared by the disk, which adds to it, and by whoever takes it.
 #[derive(Drop)]
-pub struct Requests {
+pub(crate) struct Requests {
     list: Rc<RefCell<Vec<u8>>>,
 }
 
 impl Requests {
     /// Nothing was asked.
-    pub fn new(alloc: Global) -> Result<Requests, AllocError> {
+    pub(crate) fn new(alloc: Global) -> Result<Requests, AllocError> {
         Ok(Requests {
             list: Rc::new(alloc, RefCell::new(Vec::new(alloc)))?,
         })
     }
 
     /// The same list once more.
-    pub fn shared(&self) -> Result<Requests, AllocError> {
+    pub(crate) fn shared(&self) -> Result<Requests, AllocError> {
         Ok(Requests {
             list: Rc::clone(&self.list)?,
         })
     }
 
     /// Puts all that was asked at the front of the room and forgets it, where it fits, and answers its size.
-    pub fn take(&self, room: &mut [u8]) -> Result<usize, usize>
+    pub(crate) fn take(&self, room: &mut [u8]) -> Result<usize, usize>
         ensures { OnErr result (room.new ≡ room.old) }
     {
         match self.list.try_borrow_mut() {
@@ -64,7 +64,7 @@ impl Requests {
 }
 
 /// Puts all at the front of the room and empties the list, where it fits, and answers its size.
-pub fn take_all(list: &mut Vec<u8>, room: &mut [u8]) -> Result<usize, usize>
+pub(crate) fn take_all(list: &mut Vec<u8>, room: &mut [u8]) -> Result<usize, usize>
     ensures taken { OnOk result (list.new.items ≡ []) }
     ensures done { OnOk result ((length list.old.items ≤ length room.old) × (take (length list.old.items) room.new ≡ list.old.items)) }
     ensures size { (size : _) → (result ≡ Ok size ⊎ result ≡ Err size) → size ≡ length list.old.items }

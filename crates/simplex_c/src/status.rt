@@ -1,11 +1,11 @@
 //! What a call answers a host, as a number.
 
 ghost use Rattle.std.specs.Prelude.{◌≡◌};
-ghost use Rattle.simplex_hosted.specs.Answers.{status_number};
+ghost use Rattle.simplex_c.specs.Statuses.{status_number};
 
 /// How a call ended.
 #[derive(Drop)]
-pub enum Status {
+pub(crate) enum Status {
     /// It did what was asked.
     Done,
     /// Memory ran out.
@@ -32,8 +32,8 @@ pub enum Status {
 
 impl Status {
     /// Its number, as the header has it.
-    #[tactic(auto, unfolding(crate::specs::Answers::status_number))]
-    pub fn number(self) -> u32
+    #[tactic(auto, unfolding(crate::specs::Statuses::status_number))]
+    pub(crate) fn number(self) -> u32
         ensures { result ≡ status_number self }
     {
         match self {

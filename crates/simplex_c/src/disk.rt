@@ -14,7 +14,7 @@ use std::marker::Model;
 /// Once something was asked the bytes that were handed in are let go, and a read fails: a journal reads as it is opened, and no
 /// more. After a change that could not be asked every call fails, until the record is opened anew.
 #[derive(Drop)]
-pub struct HostedDisk {
+pub(crate) struct HostedDisk {
     alloc: Global,
     record_bytes: Vec<u8>,
     changed: bool,
@@ -25,7 +25,7 @@ pub struct HostedDisk {
 }
 
 impl Model for HostedDisk {
-    ghost use Rattle.simplex_hosted.specs.HostedDisk.{HostedState};
+    ghost use Rattle.simplex_c.specs.HostedDisk.{HostedState};
 
     ghost Value = { HostedState };
 
@@ -40,7 +40,7 @@ impl Model for HostedDisk {
 
 impl HostedDisk {
     /// A disk over a record's bytes, which asks by this list.
-    pub fn over(alloc: Global, record_bytes: Vec<u8>, requests: Requests) -> HostedDisk
+    pub(crate) fn over(alloc: Global, record_bytes: Vec<u8>, requests: Requests) -> HostedDisk
         ensures { result ≡ record { record_bytes = record_bytes.items; changed = false; length = length record_bytes.items; failures = 0; broken = false } }
     {
         let length = record_bytes.len() as u64;

@@ -1,7 +1,7 @@
 //! What a call tells a host beside its status.
 
 ghost use Rattle.std.specs.Prelude.{◌≡◌};
-ghost use Rattle.simplex_hosted.specs.Answers.{Names};
+ghost use Rattle.simplex_c.specs.Statuses.{Names};
 
 /// What a call tells a host beside its status. Any numbers may stand here before.
 #[repr(C)]
@@ -17,7 +17,7 @@ pub struct Found {
 
 impl Found {
     /// Tells a length, and a place if there is one.
-    pub fn tell(&mut self, length: usize, place: Option<u64>)
+    pub(crate) fn tell(&mut self, length: usize, place: Option<u64>)
         ensures length { self.new.length ≡ length }
         ensures place { Names self.new.named self.new.place place }
     {

@@ -1,7 +1,7 @@
 -- What calls answer a host.
 use Rattle.std.specs.Prelude.{◌≡◌, ℕ, Option, None, Some}
-use Rattle.simplex_hosted.specs.declared.status.Status.{Status}
-use Rattle.simplex_hosted.specs.declared.status.Status.TheVariants as status
+use Rattle.simplex_c.specs.declared.status.Status.{Status}
+use Rattle.simplex_c.specs.declared.status.Status.TheVariants as status
 
 -- the number of a status
 abbrev pub status_number : Status → ℕ
