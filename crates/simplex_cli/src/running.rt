@@ -7,18 +7,13 @@ ghost use Rattle.simplex_cli.specs.declared.trouble.Trouble.{Trouble};
 ghost use Rattle.simplex_cli.specs.declared.trouble.Trouble.TheVariants.{Write};
 ghost use Rattle.simplex_output.specs.Front.{AppendsFront};
 
+use crate::auditing::plain_audit;
 use crate::input::read_all;
 use crate::lines::text_of;
 use crate::trouble::Trouble;
-use simplex_audit::{Audit, audit};
 use simplex_output::write_whole;
-use simplex_signing::PlainScheme;
-use simplex_types::Sha256Digest;
 use std::alloc::{AllocError, Global};
 use std::io::{Read, Write};
-
-/// The base of the namespaces that the program's committees sign in.
-const BASE: &[u8; 7] = b"simplex";
 
 /// Audits the reports of `input` under the plain scheme of `count` members, and writes the lines of
 /// the audit to `output`.
@@ -107,8 +102,7 @@ fn answer_to(
     requires { 0 < count }
     ensures { IfOk result (λ answer. IsAnswer count bytes.items answer.1 (string_bytes answer.0)) }
 {
-    let scheme = PlainScheme::new(alloc, BASE, u32::from(count), None)?;
-    let found: Audit<PlainScheme, Sha256Digest> = audit(alloc, &scheme, &bytes)?;
+    let found = plain_audit(alloc, count, &bytes)?;
     drop(bytes);
     let text = text_of(alloc, &found)?;
     Ok((text, found.fault))

@@ -10,9 +10,8 @@ use crate::command::{HELP, Request, VERSION};
 use crate::dumping::{dumped_messages, foreign_line, lines_of};
 use crate::parts::{push_end, push_kind, push_number, push_place};
 use crate::reading::entries_of;
-use crate::scheme::scheme_of;
 use crate::style::Style;
-use simplex_audit::{Audit, audit};
+use simplex_cli::plain_audit;
 use simplex_journal::JournalFault;
 use simplex_messages::Activity;
 use simplex_record::Owner;
@@ -44,8 +43,7 @@ pub fn evidence_in(
     requires { 0 < count }
     ensures { IfOk result (λ answer. IsEvidence count bytes.now answer.0.items answer.1) }
 {
-    let scheme = scheme_of(alloc, count)?;
-    let found: Audit<PlainScheme, Sha256Digest> = audit(alloc, &scheme, bytes)?;
+    let found = plain_audit(alloc, count, bytes)?;
     let written = spelled(alloc, &found.evidence)?;
     Ok((written, found.fault))
 }

@@ -5,7 +5,7 @@ ghost use Rattle.simplex_record.specs.Lawful.{IsLawful, IsRefusedAt};
 ghost use Rattle.simplex_tooling.specs.Answers.{AreHeld, IsHeld, attests_in, certifies_in};
 
 use crate::reading::entries_of;
-use crate::scheme::scheme_of;
+use simplex_cli::scheme_of;
 use simplex_journal::JournalFault;
 use simplex_messages::Artifact;
 use simplex_record::{Owner, first_refused};

@@ -10,7 +10,6 @@ mod lines;
 mod parts;
 mod program;
 mod reading;
-mod scheme;
 mod style;
 
 pub use answers::{answer_to, checked, dumped_record, dumped_reports, evidence_in};
