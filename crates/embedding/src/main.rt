@@ -20,7 +20,7 @@ use gathering::{Certified, Gathered, hand_in, next_certificate};
 use keyless::certified_by;
 use recording::{Item, open_record, remember};
 use repairing::to_ask_for;
-use simplex_journal::FileDisk;
+use simplex_journal::{FileDisk, Journal};
 use simplex_messages::{Activity, Notarize, Vote};
 use simplex_resolver::State as Repair;
 use simplex_signing::PlainScheme;
@@ -72,11 +72,22 @@ fn start(rt: &HostRuntime, byte: u8) -> io::Result<()> {
     }
     let count = record.len();
     println!(rt; "artifacts in a lawful record: {count}")?;
-    let mut known = recalled(scheme.clone()?, first_round(), Participant::new(1), &record);
-    let Some(vote) = vote_on(&scheme, &mut known, &proposal(byte)) else {
+    answer(rt, &scheme, &mut journal, &record, byte)
+}
+
+/// It votes, if it may, and remembers that before the vote may be sent.
+fn answer(
+    rt: &HostRuntime,
+    scheme: &Rc<PlainScheme>,
+    journal: &mut Journal<Item, FileDisk>,
+    record: &[Item],
+    byte: u8,
+) -> io::Result<()> {
+    let mut known = recalled(scheme.clone()?, first_round(), Participant::new(1), record);
+    let Some(vote) = vote_on(scheme, &mut known, &proposal(byte)) else {
         return println!(rt; "no vote");
     };
-    match remember(&mut journal, &Item::Notarize(vote)) {
+    match remember(journal, &Item::Notarize(vote)) {
         Ok(true) => println!(rt; "a vote that may be sent"),
         Ok(false) | Err(_) => println!(rt; "a vote that may not be sent"),
     }

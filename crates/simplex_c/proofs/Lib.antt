@@ -1,3 +1,2 @@
-mod Telling
 pub mod Places
 pub mod Values

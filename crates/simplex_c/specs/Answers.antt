@@ -1,18 +1,10 @@
 -- What calls from C answer.
-use Rattle.std.specs.Prelude.{◌≡◌, ◌⊎◌, ℕ, ◌+◌, List, Result, Ok, Err, length}
+use Rattle.std.specs.Prelude.{◌≡◌, ◌⊎◌, ℕ, Option, None, Some, Result, Ok, Err}
 use Rattle.simplex_codec.specs.declared.codec.CodecError.{CodecError}
 use Rattle.simplex_codec.specs.declared.codec.CodecError.TheVariants as codec
-use Rattle.simplex_codec.specs.Codec.{bytes_at}
-use Rattle.simplex_types.specs.declared.attestation.Attestation.{Attestation}
-use Rattle.simplex_signing.specs.AttestationList.{list_at}
-use Rattle.simplex_signing.specs.Plain.{Committee}
-use Rattle.simplex_certificates.specs.declared.artifact.Artifact.{Artifact}
-use Rattle.simplex_certificates.specs.declared.certificate.Certificate.{Certificate}
-use Rattle.simplex_certificates.specs.Artifact.{artifact_at}
-use Rattle.simplex_certificates.specs.Certificate.{any_certificate_at}
-use Rattle.simplex_messages.specs.declared.vote.Vote.{Vote}
-use Rattle.simplex_messages.specs.Vote.{any_vote_at}
 use Rattle.simplex_record.specs.declared.owner.Owner.{Owner}
+use Rattle.simplex_tooling.specs.declared.decoding.Kind.{Kind}
+use Rattle.simplex_tooling.specs.declared.decoding.Kind.TheVariants as kind
 
 -- the number of a refusal
 abbrev pub refusal_number : CodecError → ℕ
@@ -21,27 +13,18 @@ refusal_number codec.Invalid = 5
 refusal_number codec.TooLong = 6
 refusal_number codec.Memory = 1
 
--- what reading these bytes gives is told by a number, and of a value by its size
-abbrev pub IsTold : {A : Type 0} → Result (A × List ℕ) CodecError → List ℕ → ℕ → ℕ → Type 0
-IsTold (Ok found) bytes answer size = (answer ≡ 0) × (length bytes ≡ size + length found.1)
-IsTold (Err trouble) bytes answer size = answer ≡ refusal_number trouble
+-- a size is told with 0, a refusal by its number; or memory ran out
+abbrev pub Tells : Result ℕ CodecError → ℕ → ℕ → Type 0
+Tells (Ok size) answer length = (answer ≡ 1) ⊎ ((answer ≡ 0) × (length ≡ size))
+Tells (Err trouble) answer length = (answer ≡ 1) ⊎ (answer ≡ refusal_number trouble)
 
--- the same, or memory ran out
-abbrev pub Tells : {A : Type 0} → Result (A × List ℕ) CodecError → List ℕ → ℕ → ℕ → Type 0
-Tells read bytes answer size = (answer ≡ 1) ⊎ IsTold read bytes answer size
-
--- how messages of the plain scheme are read, lists below a bound
-abbrev pub Listed : Type 0
-Listed = List (Attestation (List ℕ))
-
-abbrev pub vote_at : List ℕ → Result (Vote Committee (List ℕ) ℕ (List ℕ) Listed × List ℕ) CodecError
-vote_at = any_vote_at (bytes_at 32) (bytes_at 32)
-
-abbrev pub certificate_at : ℕ → List ℕ → Result (Certificate Committee (List ℕ) ℕ (List ℕ) Listed × List ℕ) CodecError
-certificate_at members = any_certificate_at (bytes_at 32) (list_at (bytes_at 32) members)
-
-abbrev pub plain_artifact_at : ℕ → List ℕ → Result (Artifact Committee (List ℕ) ℕ (List ℕ) Listed × List ℕ) CodecError
-plain_artifact_at members = artifact_at (bytes_at 32) (bytes_at 32) (list_at (bytes_at 32) members)
+-- the kind that a number names: 0 a vote, 1 a certificate, 2 an artifact, 3 a report
+abbrev pub kind_at : ℕ → Option Kind
+kind_at 0 = Some kind.Vote
+kind_at 1 = Some kind.Certificate
+kind_at 2 = Some kind.Artifact
+kind_at 3 = Some kind.Report
+kind_at n = None
 
 -- whose record it is
 abbrev pub owner : ℕ → ℕ → ℕ → Owner

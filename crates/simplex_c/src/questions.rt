@@ -1,12 +1,12 @@
 //! What a caller in C asks of bytes that it holds.
 
-ghost use Rattle.std.specs.Prelude.{◌≡◌, ◌≢◌, ◌<◌, ◌⊎◌, ◌≤◌, ℕ, List, Option, [], length, take};
-ghost use Rattle.simplex_cli.specs.Running.{report_at};
+ghost use Rattle.std.specs.Prelude.{◌≡◌, ◌≢◌, ◌<◌, ◌⊎◌, ◌≤◌, ℕ, List, Option, [], IfNone, IfSome, length, take};
 ghost use Rattle.simplex_journal.specs.Record.{IsForeign};
 ghost use Rattle.simplex_record.specs.Lawful.{IsLawful, IsRefusedAt};
 ghost use Rattle.simplex_tooling.specs.Answers.{Entry, HoldsEntries, IsEntry, IsEvidence, attests_in, certifies_in, entry_spelling};
+ghost use Rattle.simplex_tooling.specs.Decoding.{message_size};
 ghost use Rattle.simplex_c.specs.Statuses.{Names};
-ghost use Rattle.simplex_c.specs.Answers.{Tells, certificate_at, owner, plain_artifact_at, vote_at};
+ghost use Rattle.simplex_c.specs.Answers.{Tells, kind_at, owner};
 
 use crate::answering::{audited, checked};
 use crate::decoding::decoded;
@@ -93,12 +93,9 @@ pub extern "C" fn voumlis_proved_decode(
     bytes: &[u8],
     found: &mut Found,
 ) -> u32
-    ensures vote { kind ≡ 0 → Tells (vote_at bytes.now) bytes.now result found.new.length }
-    ensures certificate { kind ≡ 1 → Tells (certificate_at members bytes.now) bytes.now result found.new.length }
-    ensures artifact { kind ≡ 2 → Tells (plain_artifact_at members bytes.now) bytes.now result found.new.length }
-    ensures report { kind ≡ 3 → Tells (report_at members bytes.now) bytes.now result found.new.length }
-    ensures unknown { 3 < kind → result ≡ 2 }
-    ensures unnamed { kind ≤ 3 → found.new.named ≡ 0 }
+    ensures known { IfSome (kind_at kind) (λ it. Tells (message_size it members bytes.now) result found.new.length) }
+    ensures unknown { IfNone (kind_at kind) (result ≡ 2) }
+    ensures unnamed { IfSome (kind_at kind) (λ _. found.new.named ≡ 0) }
 {
     decoded(alloc, kind, members, bytes, found).number()
 }

@@ -24,7 +24,7 @@ use Rattle.simplex_node_cli.specs.declared.ending.Ending.{Ending}
 use Rattle.simplex_node_cli.specs.Serving.{Answers, AnswersBefore, ServesOver, ended_of}
 
 -- a run that ended before its input
-broken_off : IoFault → Result ⊤ IoFault
+abbrev broken_off : IoFault → Result ⊤ IoFault
 broken_off why = Err why
 
 is_broken_off : (why : IoFault) → (why ≡ fault.Memory) ⊎ (why ≡ fault.Write) → (broken_off why ≡ Err fault.Memory) ⊎ (broken_off why ≡ Err fault.Write)

@@ -46,8 +46,10 @@ pub fn serve_over<S: Scheme<D> + Drop, L: Elector<S, D>, D: Digest, K: Disk, R: 
         ⊎ ((ended : Result ⊤ IoFault) × (index : ℕ) × (result.0 ≡ ended_of ended) × (S.own scheme.value ≡ Some index) × ServesOver S.Scheme K.Disk (formats D.PartialEq.eq D.spelling S.Signature.spelling S.Certificate.spelling D.reading S.Signature.reading S.Certificate.reading (S.size scheme.value)) (setup_of S.Scheme L.Elector config scheme.value elector index) D.fits D.spelling (spelled S.PublicKey.spelling D.spelling S.Signature.spelling S.Certificate.spelling) (D.reading 65535) (Readable ⟦<Artifact<S, D> as Spells>⟧.fits (⟦<Artifact<S, D> as Spelled>⟧.within 65535)) disk now ended (R.remaining input.old) (W.contents output.old) (W.contents output.new)) }
 {
     match open_io(alloc, config, scheme, elector, disk, now, output) {
-        Ok((node, Ok(()))) => serve(alloc, node, input, output),
-        Ok((node, Err(fault))) => (Err(Ending::of(fault)), node.close()),
+        Ok((node, written)) => match written {
+            Ok(()) => serve(alloc, node, input, output),
+            Err(fault) => (Err(Ending::of(fault)), node.close()),
+        },
         Err((fault, disk)) => (Err(Ending::Open(fault)), disk),
     }
 }

@@ -1,5 +1,5 @@
 -- Reports that are read one behind the other.
-use Rattle.std.proofs.Common.{◌≡◌, ◌<◌, ℕ, List, [], ◌∷◌, ◌++◌, length, length-append, sym, ap, ◌∙◌, append_assoc, arith}
+use Rattle.std.proofs.Common.{◌≡◌, ◌<◌, ◌≤◌, ℕ, List, [], ◌∷◌, ◌++◌, length, length-append, sym, ap, ◌∙◌, append_assoc, arith}
 use Rattle.std.specs.Prelude.{All, OnOk, Result, Ok, Err}
 use Rattle.std.specs.List.{flat_map}
 use Rattle.std.proofs.lemmas.List.{append-nil}
@@ -12,6 +12,10 @@ use Rattle.simplex_messages.specs.Activity.{activity_spelling}
 pub takes_a_byte : {S D P G C : Type 0} (p : D → List ℕ) (f : G → List ℕ) (g : C → List ℕ) (report : Activity S D P G C) → 0 < length (activity_spelling p f g report)
 unfolding activity_spelling
 takes_a_byte p f g report = omega arith
+
+-- what is left behind something is no longer than all
+pub behind : (all front rest : List ℕ) → all ≡ front ++ rest → length rest ≤ length all
+behind all front rest spelled = omega (arith, ap length spelled, length-append front rest)
 
 -- so less is left behind it
 pub shorter : {A : Type 0} (spelling : A → List ℕ) (x : A) (rest after : List ℕ) → 0 < length (spelling x) → rest ≡ spelling x ++ after → length after < length rest

@@ -1,4 +1,5 @@
-pub mod Parts
-pub mod Lines
-pub mod Command
 pub mod Answers
+pub mod Command
+pub mod Decoding
+pub mod Lines
+pub mod Parts

@@ -5,6 +5,7 @@
 mod answers;
 mod checking;
 mod command;
+mod decoding;
 mod dumping;
 mod lines;
 mod parts;
@@ -15,5 +16,6 @@ mod style;
 pub use answers::{answer_to, checked, dumped_record, dumped_reports, evidence_in};
 pub use checking::{Checked, check_record};
 pub use command::{Call, HELP, Request, VERSION, parse_call};
+pub use decoding::{Kind, message_size};
 pub use program::{misused, run_request, unopened, words_unread, write_answer};
 pub use style::Style;
