@@ -1,5 +1,5 @@
 -- What calls from C answer.
-use Rattle.std.specs.Prelude.{◌≡◌, ◌⊎◌, ℕ, Option, None, Some, Result, Ok, Err}
+use Rattle.std.specs.Prelude.{◌≡◌, ◌⊎◌, if◌then◌else◌, nat_eq, ℕ, Option, None, Some, Result, Ok, Err}
 use Rattle.simplex_codec.specs.declared.codec.CodecError.{CodecError}
 use Rattle.simplex_codec.specs.declared.codec.CodecError.TheVariants as codec
 use Rattle.simplex_record.specs.declared.owner.Owner.{Owner}
@@ -20,11 +20,7 @@ Tells (Err trouble) answer length = (answer ≡ 1) ⊎ (answer ≡ refusal_numbe
 
 -- the kind that a number names: 0 a vote, 1 a certificate, 2 an artifact, 3 a report
 abbrev pub kind_at : ℕ → Option Kind
-kind_at 0 = Some kind.Vote
-kind_at 1 = Some kind.Certificate
-kind_at 2 = Some kind.Artifact
-kind_at 3 = Some kind.Report
-kind_at n = None
+kind_at n = if nat_eq n 0 then Some kind.Vote else if nat_eq n 1 then Some kind.Certificate else if nat_eq n 2 then Some kind.Artifact else if nat_eq n 3 then Some kind.Report else None
 
 -- whose record it is
 abbrev pub owner : ℕ → ℕ → ℕ → Owner

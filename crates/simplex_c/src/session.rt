@@ -17,10 +17,10 @@ use simplex_decisions::config::Config;
 use simplex_journal::Disk;
 use simplex_member::{IoFault, OpenFault, Reply};
 use simplex_node::Node;
+use simplex_node_cli::{config, elector, scheme};
 use simplex_rules::Elector;
 use simplex_rules::elector::RoundRobinElector;
 use simplex_running::{open_io, run_io};
-use simplex_settings::{config, elector, scheme};
 use simplex_signing::PlainScheme;
 use simplex_types::{Digest, Read as Spelled, Scheme, Sha256Digest, Write as Spells};
 use std::alloc::{AllocError, Global};
@@ -162,11 +162,13 @@ fn begin<S: Scheme<D> + Drop, L: Elector<S, D>, D: Digest, K: Disk>(
         × IsOpenAndSettled S.Scheme L.Elector K.Disk (formats D.PartialEq.eq D.spelling S.Signature.spelling S.Certificate.spelling D.reading S.Signature.reading S.Certificate.reading (S.size scheme.value)) (setup_of S.Scheme L.Elector config scheme.value elector index) (Readable ⟦<Artifact<S, D> as Spells>⟧.fits (⟦<Artifact<S, D> as Spelled>⟧.within 65535)) disk 0 node first.actions.items) }
 {
     match open_io(alloc, config, scheme, elector, disk, 0, replies) {
-        Ok((node, Ok(()))) => Ok(node),
-        Ok((node, Err(_))) => {
-            drop(node.close());
-            Err(OpenFault::Memory)
-        }
+        Ok((node, written)) => match written {
+            Ok(()) => Ok(node),
+            Err(_) => {
+                drop(node.close());
+                Err(OpenFault::Memory)
+            }
+        },
         Err((fault, _)) => Err(fault),
     }
 }

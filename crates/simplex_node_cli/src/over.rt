@@ -7,9 +7,9 @@ ghost use Rattle.simplex_output.specs.Front.{AppendsFront};
 
 use crate::ending::Ending;
 use crate::serving::serve_over;
+use crate::settings::{config, elector, scheme};
 use crate::telling::tell;
 use simplex_journal::Disk;
-use simplex_settings::{config, elector, scheme};
 use std::alloc::Global;
 use std::io::{Read, Write};
 

@@ -1,4 +1,6 @@
 use Rattle.simplex_c.proofs.session.begin.Goals as goal
 
-pub returns-in-Ok-default-Ok : goal.returns-in-Ok-default-Ok
-returns-in-Ok-default-Ok g c = record { opened = (c.in-Ok-default-Ok.ensures.opened.0, c.in-Ok-default-Ok.ensures.opened.1, c.in-Ok-default-Ok.ensures.opened.2, c.in-Ok-default-Ok.ensures.opened.3, c.in-Ok-default-Ok.ensures.opened.4.whole, c.in-Ok-default-Ok.ensures.opened.5) }
+pub returns-in-Ok-written : goal.returns-in-Ok-written
+returns-in-Ok-written g c =
+    let opened = c.in-Ok.ensures.opened in
+    record { opened = (opened.0, opened.1, opened.2, opened.3, rw c.in-Ok-written.is at opened.4.whole, opened.5) }
