@@ -1,6 +1,6 @@
 //! A disk whose bytes a host keeps.
 
-ghost use Rattle.std.specs.Prelude.{◌≡◌, ◌≤◌, ◌+◌, [], is_ok, false, true, max, length, take, drop, None, Some, Ok, Err, IfOk, IfSome, OnOk, OnErr, IsErr};
+ghost use Rattle.std.specs.Prelude.{◌≡◌, ◌+◌, [], is_ok, false, true, max, length, take, drop, IfOk, OnOk, OnErr, IsErr};
 ghost use Rattle.simplex_journal.specs.Disk.{counted};
 
 use crate::requests::Requests;

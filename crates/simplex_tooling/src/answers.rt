@@ -8,7 +8,7 @@ ghost use Rattle.simplex_tooling.specs.Command.{IsAsked};
 use crate::checking::{Checked, check_record};
 use crate::command::{HELP, Request, VERSION};
 use crate::dumping::{dumped_messages, foreign_line, lines_of};
-use crate::parts::{push_end, push_kind, push_number, push_place};
+use crate::parts::{push_end, push_kind, push_number};
 use crate::reading::entries_of;
 use crate::style::Style;
 use simplex_cli::plain_audit;
