@@ -296,9 +296,23 @@ def script_of_reports(chance):
     return [check_baseline.some_input(random.Random(chance.randrange(10**6))) for _ in range(60)]
 
 
+def sizes(script):
+    script.note("the messages of docs/vectors.json: whole, with a byte behind, a byte short, and what is refused")
+    kinds = ("vote", "certificate", "artifact", "report")
+    for row in VECTORS["read"]:
+        if row["type"] in kinds and row["scheme"] == "plain":
+            call, data = f"size {row['type']} {row['members']}", bytes.fromhex(row["bytes"])
+            for given, answer in ((data, len(data)), (data + b"\xff", len(data)), (data[:-1], "End")):
+                script.ask(f"{call} {digits(given)}", answer)
+    for row in VECTORS["refused"]:
+        if row["type"] in kinds and row["scheme"] == "plain":
+            script.ask(f"size {row['type']} {row['members']} {row['bytes'] or '-'}", row["trouble"])
+
+
 def tooling_rows(script):
     """All of them."""
     chance = random.Random(54)
+    sizes(script)
     words_of_calls(script)
     streams(script)
     of_vectors(script)

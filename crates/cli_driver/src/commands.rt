@@ -1,8 +1,9 @@
-//! The words of the command line, and the names of troubles.
+//! The words of the command line, the names of troubles, and the sizes of messages.
 
 use crate::texts::say_text;
 use script_words::{Say, Trouble, Words};
 use simplex_cli::{Command, USAGE, number_of, parse_words};
+use simplex_tooling::{Kind, message_size};
 use std::alloc::Global;
 
 /// How many words a command line has at most.
@@ -97,4 +98,27 @@ pub(crate) fn line(words: &mut Words<'_>, say: &mut Say) -> Result<(), Trouble> 
     let trouble = trouble_of(words.word())?;
     words.end()?;
     say_text(trouble.line().as_bytes(), say)
+}
+
+/// The kind of message of a name.
+fn kind_of(word: &str) -> Result<Kind, Trouble> {
+    match word {
+        "vote" => Ok(Kind::Vote),
+        "certificate" => Ok(Kind::Certificate),
+        "artifact" => Ok(Kind::Artifact),
+        "report" => Ok(Kind::Report),
+        _ => Err(Trouble::Unreadable),
+    }
+}
+
+/// `size KIND COUNT BYTES`.
+pub(crate) fn size(words: &mut Words<'_>, say: &mut Say) -> Result<(), Trouble> {
+    let kind = kind_of(words.word())?;
+    let members = words.index()?;
+    let bytes = words.bytes(say.alloc)?;
+    words.end()?;
+    match message_size(say.alloc, kind, members, &bytes) {
+        Ok(size) => say.number(size as u64),
+        Err(refusal) => say.fault(refusal),
+    }
 }

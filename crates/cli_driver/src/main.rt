@@ -16,6 +16,7 @@
 //! | `report OUTCOME`, `unread KIND` | `STATUS FAULTS` of `report`, and of `words_unread` after such an error |
 //! | `parse WORD ..` | `audit COUNT`, `node PATH INDEX COUNT`, or `-` |
 //! | `number WORD` | the number, or `-` |
+//! | `size KIND COUNT BYTES` | how many bytes the message at their front takes, or its refusal |
 //! | `usage`, `line TROUBLE` | the text |
 //!
 //! SIZE is how many bytes a read or write moves at most, ROOM how many the stream has or takes in all: a reader ends
@@ -89,6 +90,7 @@ fn ask_words(name: &str, words: &mut Words<'_>, say: &mut Say) -> Result<(), Tro
         "number" => commands::number(words, say),
         "usage" => commands::usage(words, say),
         "line" => commands::line(words, say),
+        "size" => commands::size(words, say),
         _ => Err(Trouble::Unreadable),
     }
 }
