@@ -123,11 +123,7 @@ pub fn checked(
 }
 
 /// The line of what was found of a record, and what it names.
-fn said(
-    alloc: Global,
-    style: Style,
-    found: Checked,
-) -> Result<(String, Option<usize>), AllocError>
+fn said(alloc: Global, style: Style, found: Checked) -> Result<(String, Option<usize>), AllocError>
     ensures { IfOk result (λ answer. IsSaid style found (string_bytes answer.0) answer.1) }
 {
     match found {

@@ -32,7 +32,11 @@ pub(crate) fn dumped_messages<M: Line + Read + Drop>(
 }
 
 /// The lines of messages.
-pub(crate) fn lines_of<M: Line>(alloc: Global, style: Style, messages: &[M]) -> Result<String, AllocError>
+pub(crate) fn lines_of<M: Line>(
+    alloc: Global,
+    style: Style,
+    messages: &[M],
+) -> Result<String, AllocError>
     ensures { IfOk result (λ text. string_bytes text ≡ flat_map (M.line style) messages.now) }
 {
     let mut text = String::new(alloc);

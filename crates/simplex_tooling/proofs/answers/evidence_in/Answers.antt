@@ -4,4 +4,5 @@ pub returns : goal.returns
 returns c = record {
   evidence = c.in_ok-found.found.evidence.items;
   audit = c.in_ok-found.ensures;
-  written_is = rw c.deref.ensures.value at c.in_ok-written.ensures }
+  written_is = rw c.deref.ensures.value at c.in_ok-written.ensures;
+}
