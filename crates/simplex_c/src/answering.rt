@@ -8,13 +8,14 @@ ghost use Rattle.simplex_c.specs.Statuses.{Names};
 ghost use Rattle.simplex_c.specs.declared.status.Status.TheVariants.{Done, Foreign as IsForeignEntry, Memory, Refused, Room};
 
 use crate::found::Found;
+use crate::room::put;
 use crate::status::Status;
 use simplex_record::Owner;
 use simplex_tooling::{Checked, check_record, evidence_in};
 use std::alloc::Global;
 
 /// Puts an answer at the front of the caller's room, where it fits, and tells its size and the place that it names.
-fn put(answer: &[u8], place: Option<usize>, room: &mut [u8], found: &mut Found) -> Status
+fn answered(answer: &[u8], place: Option<usize>, room: &mut [u8], found: &mut Found) -> Status
     ensures names { Names found.new.named found.new.place place }
     ensures length { found.new.length ≡ length answer.now }
     ensures answers { (result ≡ Done) ⊎ (result ≡ Room) }
@@ -22,11 +23,9 @@ fn put(answer: &[u8], place: Option<usize>, room: &mut [u8], found: &mut Found) 
     ensures room { result ≡ Room → (room.new ≡ room.old) × (length room.old < length answer.now) }
 {
     found.tell(answer.len(), wide(place));
-    if room.len() < answer.len() {
+    if !put(answer, room) {
         return Status::Room;
     }
-    let (front, _) = room.split_at_mut(answer.len());
-    front.copy_from_slice(answer);
     Status::Done
 }
 
@@ -55,7 +54,7 @@ pub(crate) fn audited(
     ensures unwritten { result ≢ Done → room.new ≡ room.old }
 {
     match evidence_in(alloc, members, reports) {
-        Ok((written, fault)) => put(&written, fault, room, found),
+        Ok((written, fault)) => answered(&written, fault, room, found),
         Err(_) => Status::Memory,
     }
 }

@@ -13,6 +13,7 @@ mod node;
 mod place;
 mod questions;
 mod requests;
+mod room;
 mod serving;
 mod session;
 mod status;

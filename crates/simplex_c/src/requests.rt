@@ -3,6 +3,7 @@
 ghost use Rattle.std.specs.Prelude.{◌≡◌, ◌++◌, ◌≤◌, ◌<◌, [], ◌⊎◌, length, take, Ok, Err, OnErr, OnOk};
 ghost use Rattle.simplex_c.specs.Requests.{cutting, fixing, number, writing};
 
+use crate::room::put;
 use std::alloc::{AllocError, Global};
 use std::cell::RefCell;
 use std::rc::Rc;
@@ -73,11 +74,9 @@ pub(crate) fn take_all(list: &mut Vec<u8>, room: &mut [u8]) -> Result<usize, usi
     ensures kept { OnErr result (list.new.items ≡ list.old.items) }
 {
     let size = list.len();
-    if room.len() < size {
+    if !put(list, room) {
         return Err(size);
     }
-    let (front, _) = room.split_at_mut(size);
-    front.copy_from_slice(list);
     list.clear();
     Ok(size)
 }
