@@ -6,7 +6,7 @@
 
 rustc -O --edition 2021 -o "$folder/baseline" "$here/baseline/batcher.rs"
 if [ -z "${BATCHER:-}" ]; then
-    lay_out batcher simplex_batcher simplex_messages simplex_signing simplex_types
+    lay_out batcher simplex_batcher simplex_messages simplex_types types_core
     build add 4 1
 fi
 python3 -B "$here/measure_batcher.py" --baseline "$folder/baseline" \

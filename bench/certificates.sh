@@ -5,7 +5,7 @@
 
 rustc -O --edition 2021 -o "$folder/baseline" "$here/baseline/certificates.rs"
 if [ -z "${CERTIFICATES:-}" ]; then
-    lay_out certificates simplex_messages simplex_signing simplex_types
+    lay_out certificates simplex_messages simplex_types types_core
     python3 -B "$here/measure_certificates.py" --input 4 >"$folder/four"
     build write 4 1 <"$folder/four"
 fi

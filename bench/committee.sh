@@ -7,7 +7,7 @@
 
 (cd "$root/bindings/rust" && cargo build --offline --quiet --release --example committee --target-dir "$folder/target")
 if [ -z "${COMMITTEE:-}" ]; then
-    lay_out committee simplex_node simplex_member simplex_node_cli simplex_journal simplex_rules simplex_signing simplex_types
+    lay_out committee node_steps simplex_member simplex_cli journal_single types_terms simplex_types types_core
     mkdir "$folder/records"
     build "$folder/records" 1
 fi

@@ -6,7 +6,7 @@
 
 rustc -O --edition 2021 -o "$folder/baseline" "$here/baseline/journal.rs"
 if [ -z "${JOURNAL:-}" ]; then
-    lay_out journal simplex_journal simplex_messages simplex_signing simplex_types
+    lay_out journal journal_single simplex_messages simplex_types types_core
     build memory 1
 fi
 python3 -B "$here/measure_journal.py" --place "$folder" --baseline "$folder/baseline" \

@@ -17,7 +17,7 @@ QUICK_VIEWS = 100
 RUNS = 11
 QUICK_RUNS = 5
 MEMBERS = 4
-NAMES = ("`bindings/rust`", "`simplex_node`")
+NAMES = ("`bindings/rust`", "`node_steps`")
 
 
 def arguments():

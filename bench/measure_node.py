@@ -34,7 +34,7 @@ SHAPES = {
 FEW = 12
 COUNTED = {4: 240, 100: 48, 1000: 12}
 DISK_VIEWS = 240
-NAMES = ("plain Rust", "`simplex_node`")
+NAMES = ("plain Rust", "`node_steps`")
 
 
 def arguments():
@@ -100,7 +100,7 @@ def measure(programs, shape, members, behind, runs):
 
 
 def by_size(programs, runs):
-    print("| Views | Members | Plain Rust, µs | `simplex_node`, µs | Ratio | Median of the runs' ratios |")
+    print("| Views | Members | Plain Rust, µs | `node_steps`, µs | Ratio | Median of the runs' ratios |")
     print("|---|---:|---:|---:|---:|---:|")
     for shape, meaning in SHAPES.items():
         for members in MEMBERS:
@@ -130,7 +130,7 @@ def instructions(program, shape, members, views):
 def count(programs):
     """Prints the instructions for a view of each program, less those of making its packets."""
     print("Instructions for one view.\n")
-    print("| Views | Members | Plain Rust | `simplex_node` | Ratio |")
+    print("| Views | Members | Plain Rust | `node_steps` | Ratio |")
     print("|---|---:|---:|---:|---:|")
     for shape, meaning in SHAPES.items():
         for members in MEMBERS:
@@ -216,7 +216,7 @@ def on_disk(programs, folder, members, runs):
 
 def on_disks(programs, folder, runs):
     print(f"A view with the record in a file, median of {runs} rounds of {DISK_VIEWS} views, wall time with all else of a run.\n")
-    print("| Members | Syncs a view | As many bare syncs, ms | Plain Rust, ms | `simplex_node`, ms | To plain Rust | To bare syncs |")
+    print("| Members | Syncs a view | As many bare syncs, ms | Plain Rust, ms | `node_steps`, ms | To plain Rust | To bare syncs |")
     print("|---:|---:|---:|---:|---:|---:|---:|")
     for members in MEMBERS[:2]:
         on_disk(programs, folder, members, runs)

@@ -70,7 +70,7 @@ def measure(programs, shape, members, behind, runs):
 
 
 def by_size(programs, runs):
-    print("| Views | Members | Plain Rust, ns | `simplex_voter`, ns | Ratio | Median of the runs' ratios |")
+    print("| Views | Members | Plain Rust, ns | `simplex_state`, ns | Ratio | Median of the runs' ratios |")
     print("|---|---:|---:|---:|---:|---:|")
     for shape, meaning in BY_SIZE.items():
         for members in MEMBERS:
@@ -87,7 +87,7 @@ def by_history(programs, runs, histories):
         reached = [behind for behind in histories if behind <= greatest]
         rest = " | " * (len(histories) - len(reached))
         cells = [measure(programs, shape, 4, behind, runs) for behind in reached]
-        for place, program in enumerate(("plain Rust", "`simplex_voter`")):
+        for place, program in enumerate(("plain Rust", "`simplex_state`")):
             print(f"| {meaning} | {program} | " + " | ".join(f"{least[place]:,.0f}" for least, _ in cells) + rest + " |")
         print("| | ratio, by medians | " + " | ".join(f"{median:.2f}" for _, median in cells) + rest + " |")
 

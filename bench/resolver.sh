@@ -5,7 +5,7 @@
 
 rustc -O --edition 2021 -o "$folder/baseline" "$here/baseline/resolver.rs"
 if [ -z "${RESOLVER:-}" ]; then
-    lay_out resolver simplex_resolver simplex_messages simplex_signing simplex_types
+    lay_out resolver simplex_resolver simplex_messages simplex_types types_core
     build row 1 1
 fi
 python3 -B "$here/measure_resolver.py" --baseline "$folder/baseline" \

@@ -5,7 +5,7 @@
 
 rustc -O --edition 2021 -o "$folder/baseline" "$here/baseline/voter.rs"
 if [ -z "${VOTER:-}" ]; then
-    lay_out voter simplex_voter simplex_resolver simplex_history simplex_rules simplex_messages simplex_signing simplex_types
+    lay_out voter simplex_state simplex_resolver voter_history types_terms simplex_messages simplex_types types_core
     build finalized 4 1 1
 fi
 python3 -B "$here/measure_voter.py" --baseline "$folder/baseline" \

@@ -1,4 +1,4 @@
-"""What crates/cli_driver is asked of the program of tools, with the answers: rows that make-cli-script puts behind its own.
+"""What crates/run_cli is asked of the program of tools, with the answers: rows that make-cli-script puts behind its own.
 
 The answers come from this file, which is written from docs/FORMATS.md ("simplex_tool"), over audited.py for evidence,
 bench/vectors.py for what is read, and the rules in make-record-script for the first refused entry. It never runs the

@@ -1,4 +1,4 @@
-//! A member's node in plain Rust: what `simplex_node` is measured against.
+//! A member's node in plain Rust: what `node_steps` is measured against.
 //!
 //! Takes the words that `../node/main.rt.txt` takes, hands the same events to a node of the same rules, and prints the same of
 //! what came of them, and the nanoseconds of a view of its own median chunk. Like the other baselines it is good portable code: no crates,

@@ -1,4 +1,4 @@
-//! A member that votes, in plain Rust: what `simplex_voter` is measured against.
+//! A member that votes, in plain Rust: what `simplex_state` is measured against.
 //!
 //! Takes the words that `../voter/main.rt.txt` takes, makes the same calls in the same order, and prints the same sum over
 //! the answers, and the nanoseconds of its own median chunk. Like the other baselines it is good portable code: no crates, no intrinsics.

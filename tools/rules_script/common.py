@@ -1,4 +1,4 @@
-"""What all parts of the script of crates/rules_driver share."""
+"""What all parts of the script of crates/run_rules share."""
 
 from script_rows import Script
 

@@ -1,4 +1,4 @@
-"""Calls and answers of a voter as the words of crates/voter_driver."""
+"""Calls and answers of a voter as the words of crates/run_state."""
 from dataclasses import dataclass
 
 from member.scheme import PlainScheme

@@ -6,7 +6,7 @@ use common::bytes;
 use voumlis::{Record, first_refused};
 
 fn script(name: &str) -> Vec<String> {
-    let folder = concat!(env!("CARGO_MANIFEST_DIR"), "/../../crates/cli_driver/");
+    let folder = concat!(env!("CARGO_MANIFEST_DIR"), "/../../crates/run_cli/");
     let text = std::fs::read_to_string(format!("{folder}{name}")).unwrap();
     text.lines().map(String::from).collect()
 }

@@ -1,10 +1,10 @@
 //! The audit.
 
-use simplex_audit::{Audit, audit};
 use simplex_messages::Activity;
-use simplex_signing::PlainScheme;
-use simplex_types::{Attributable, Participant, Sha256Digest};
+use simplex_rules::{Audit, audit};
+use simplex_types::PlainScheme;
 use std::alloc::{AllocError, Global};
+use types_core::{Attributable, Participant, Sha256Digest};
 
 /// The members that the reports convict, by epoch, view, member and kind of guilt, and the place of the first byte at which
 /// no report stands, if there is one.

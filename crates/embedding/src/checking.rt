@@ -2,9 +2,9 @@
 
 use crate::recording::Item;
 use simplex_record::{Owner, first_refused};
-use simplex_signing::PlainScheme;
-use simplex_types::{Epoch, Participant, TermLength};
+use simplex_types::PlainScheme;
 use std::alloc::{AllocError, Global};
+use types_core::{Epoch, Participant, TermLength};
 
 /// The first place at which these artifacts break a rule as the record of this member in epoch 0, where each view has a
 /// leader of its own.

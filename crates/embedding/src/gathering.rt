@@ -2,9 +2,9 @@
 
 use simplex_batcher::{BatcherFault, Round as Votes};
 use simplex_messages::{Certificate, Vote};
-use simplex_signing::PlainScheme;
-use simplex_types::{Participant, Sha256Digest};
+use simplex_types::PlainScheme;
 use std::alloc::{AllocError, Global};
+use types_core::{Participant, Sha256Digest};
 
 /// The votes of one round.
 pub(crate) type Gathered = Votes<PlainScheme, Sha256Digest>;

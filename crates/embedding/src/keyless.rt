@@ -3,9 +3,9 @@
 ghost use Rattle.std.specs.Prelude.{◌≡◌, ◌++◌};
 
 use crate::hosting::{Host, Hosted};
-use simplex_signing::Listed;
-use simplex_types::{Participant, Proposal, Scheme, Sha256Digest, Subject};
+use simplex_types::Listed;
 use std::alloc::{AllocError, Global};
+use types_core::{Participant, Proposal, Scheme, Sha256Digest, Subject};
 
 /// A host with no key: its signatures are the hash twice, so anyone can make them.
 #[derive(Drop)]

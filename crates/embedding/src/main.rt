@@ -17,17 +17,17 @@ use auditing::guilty;
 use checking::first_breach;
 use deciding::{begun, vote_for};
 use gathering::{Certified, Gathered, hand_in, next_certificate};
+use journal_single::{FileDisk, Journal};
 use keyless::certified_by;
 use recording::{Item, open_record, remember};
 use repairing::to_ask_for;
-use simplex_journal::{FileDisk, Journal};
 use simplex_messages::{Activity, Notarize, Vote};
 use simplex_resolver::State as Repair;
-use simplex_signing::PlainScheme;
-use simplex_types::{Epoch, Participant, Proposal, Round, Sha256Digest, TermLength, View, Write};
+use simplex_types::PlainScheme;
 use std::alloc::{AllocError, Global};
 use std::rc::Rc;
 use std::{fs, io};
+use types_core::{Epoch, Participant, Proposal, Round, Sha256Digest, TermLength, View, Write};
 use voting::{recalled, vote_on};
 
 /// View 1 of epoch 0.

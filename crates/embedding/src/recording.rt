@@ -1,10 +1,10 @@
 //! The journal.
 
-use simplex_journal::{BOUND, Disk, Journal, JournalFault};
+use journal_single::{BOUND, Disk, Journal, JournalFault};
 use simplex_messages::Artifact;
-use simplex_signing::PlainScheme;
-use simplex_types::Sha256Digest;
+use simplex_types::PlainScheme;
 use std::alloc::Global;
+use types_core::Sha256Digest;
 
 /// What a record is made of.
 pub(crate) type Item = Artifact<PlainScheme, Sha256Digest>;

@@ -3,9 +3,9 @@
 
 ghost use Rattle.std.specs.Prelude.{◌<◌};
 
-use simplex_cli::{Command, Trouble, parse_words, report, run_words, words_unread};
-use simplex_journal::FileDisk;
-use simplex_node_cli::node_over;
+use cli_audit::{Command, Trouble, parse_words, report, run_words, words_unread};
+use journal_single::FileDisk;
+use simplex_cli::node_over;
 use std::fs::File;
 use std::process::ExitCode;
 use std::{env, io};

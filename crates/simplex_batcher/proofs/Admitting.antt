@@ -4,16 +4,16 @@ use Rattle.std.specs.Prelude.{Option, None, Some, IfSome, MatchOption, is_none, 
 use Rattle.std.specs.List.{Contains}
 use Rattle.std.specs.Option.{option_and_then}
 use Rattle.std.proofs.lemmas.List.Elements.{Contains-append_right}
-use Rattle.simplex_types.specs.declared.proposal.Proposal.{Proposal}
+use Rattle.types_core.specs.declared.proposal.Proposal.{Proposal}
 use Rattle.simplex_messages.specs.declared.vote.Vote.{Vote}
 use Rattle.simplex_messages.specs.declared.vote.Vote.TheVariants as vote
 use Rattle.simplex_messages.specs.VoteParts.{vote_signer, vote_round}
-use Rattle.simplex_verifier.specs.History.{History, Setup, accepted, takes, recorded, is_kept_in_full, forwardable, has_forwarded}
-use Rattle.simplex_verifier.specs.Lawful.{IsNew}
-use Rattle.simplex_admission.specs.Evidence.{evidence}
-use Rattle.simplex_admission.specs.Blocking.{Offends}
+use Rattle.batcher_verifier.specs.History.{History, Setup, accepted, takes, recorded, is_kept_in_full, forwardable, has_forwarded}
+use Rattle.batcher_verifier.specs.Lawful.{IsNew}
+use Rattle.batcher_admission.specs.Evidence.{evidence}
+use Rattle.batcher_admission.specs.Blocking.{Offends}
 use Rattle.simplex_batcher.specs.Admission.{IsBlocked, contradicts, AgreesWithOwn}
-use Rattle.simplex_verifier.specs.Votes.{is_in_way, vote_kind}
+use Rattle.batcher_verifier.specs.Votes.{is_in_way, vote_kind}
 
 -- nothing is there
 pub none-there : {X : Type 0} (P : X → Type 0) (o : Option X) → is_none o ≡ true → MatchOption o ⊥ P → ⊥

@@ -1,19 +1,19 @@
 -- Three constructions in a row are enough.
 use Rattle.std.proofs.Common.{◌≡◌, ◌≤◌, ◌<◌, ℕ, suc, Bool, false, List, [], ◌∷◌, ◌++◌, refl, ap, arith, length, length-append}
 use Rattle.std.specs.Prelude.{Option, None, Some, MatchOption, is_none, is_some, true}
-use Rattle.simplex_types.specs.declared.scheme.Scheme.{Ghosts}
-use Rattle.simplex_certificates.specs.declared.certificate.Certificate.{Certificate}
-use Rattle.simplex_rules.specs.declared.kind.Kind.{Kind}
-use Rattle.simplex_rules.specs.declared.kind.Kind.TheVariants.{Notarization, Nullification, Finalization}
-use Rattle.simplex_verifier.specs.declared.batch.Batch.{Batch}
+use Rattle.types_core.specs.declared.scheme.Scheme.{Ghosts}
+use Rattle.messages_certificates.specs.declared.certificate.Certificate.{Certificate}
+use Rattle.types_terms.specs.declared.kind.Kind.{Kind}
+use Rattle.types_terms.specs.declared.kind.Kind.TheVariants.{Notarization, Nullification, Finalization}
+use Rattle.batcher_verifier.specs.declared.batch.Batch.{Batch}
 use Rattle.simplex_batcher.specs.declared.call.Call.{Call}
 use Rattle.simplex_batcher.specs.declared.call.Call.TheVariants.{TryConstruct}
 use Rattle.simplex_batcher.specs.declared.call.Answer.{Answer}
 use Rattle.simplex_batcher.specs.declared.call.Answer.TheVariants as answer
-use Rattle.simplex_verifier.specs.History.{History, Setup, next_kind}
-use Rattle.simplex_verifier.specs.Lawful.{IsConsistent}
-use Rattle.simplex_verifier.specs.Quorums.{AllCertified}
-use Rattle.simplex_verifier.specs.ConstructionResult.{after, after_construction, kinds_left, IsBatch, IsConstruction}
+use Rattle.batcher_verifier.specs.History.{History, Setup, next_kind}
+use Rattle.batcher_verifier.specs.Lawful.{IsConsistent}
+use Rattle.batcher_verifier.specs.Quorums.{AllCertified}
+use Rattle.batcher_verifier.specs.ConstructionResult.{after, after_construction, kinds_left, IsBatch, IsConstruction}
 use Rattle.simplex_batcher.specs.Run.{AnswersAre, after_call, after_all, EndsInConstructions}
 
 -- none is left

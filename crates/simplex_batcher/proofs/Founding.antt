@@ -1,14 +1,14 @@
 -- What a construction gives rests on accepted votes, said of the kind that is due.
 use Rattle.std.proofs.Common.{◌≡◌, Bool, true, refl, ap, sym}
 use Rattle.std.specs.Prelude.{Option, None, Some, IfSome, MatchOption}
-use Rattle.simplex_types.specs.declared.scheme.Scheme.{Ghosts}
-use Rattle.simplex_certificates.specs.declared.certificate.Certificate.{Certificate}
-use Rattle.simplex_rules.specs.declared.kind.Kind.{Kind}
-use Rattle.simplex_judging.specs.KindOrder.{in_turn}
-use Rattle.simplex_verifier.specs.declared.batch.Batch.{Batch}
-use Rattle.simplex_verifier.specs.Votes.{certificate_kind}
-use Rattle.simplex_verifier.specs.History.{History, Setup, is_due, next_kind}
-use Rattle.simplex_verifier.specs.ConstructionResult.{IsFounded, IsBatch}
+use Rattle.types_core.specs.declared.scheme.Scheme.{Ghosts}
+use Rattle.messages_certificates.specs.declared.certificate.Certificate.{Certificate}
+use Rattle.types_terms.specs.declared.kind.Kind.{Kind}
+use Rattle.batcher_assembly.specs.KindOrder.{in_turn}
+use Rattle.batcher_verifier.specs.declared.batch.Batch.{Batch}
+use Rattle.batcher_verifier.specs.Votes.{certificate_kind}
+use Rattle.batcher_verifier.specs.History.{History, Setup, is_due, next_kind}
+use Rattle.batcher_verifier.specs.ConstructionResult.{IsFounded, IsBatch}
 use Rattle.simplex_batcher.proofs.Admitting.{found-there}
 
 -- what follows of the one that is there, follows

@@ -1,14 +1,14 @@
 -- No member has two accepted votes of a kind, and so what is asked about them can be looked up.
 use Rattle.std.proofs.Common.{◌≡◌, ℕ, Bool, true, false, not, ◌&&◌, ◌||◌, ◌==◌, List, [], ◌∷◌, refl, ap, sym, ◌∙◌, arith}
 use Rattle.std.specs.Prelude.{Option, None, Some, find, is_some, is_none, if◌then◌else◌, ⊤}
-use Rattle.simplex_types.specs.Subject.{Statement}
-use Rattle.simplex_types.specs.declared.proposal.Proposal.{Proposal}
+use Rattle.types_core.specs.Subject.{Statement}
+use Rattle.types_core.specs.declared.proposal.Proposal.{Proposal}
 use Rattle.simplex_messages.specs.declared.vote.Vote.{Vote}
 use Rattle.simplex_messages.specs.declared.vote.Vote.TheVariants as vote
 use Rattle.simplex_messages.specs.VoteParts.{vote_signer}
-use Rattle.simplex_verifier.specs.Votes.{is_in_way, is_notarize_of, is_other_of}
-use Rattle.simplex_verifier.specs.History.{History, accepted, Taken, Cast, Certified, Led, Judged, Forwarded, Setup}
-use Rattle.simplex_verifier.specs.Lawful.{IsLawful}
+use Rattle.batcher_verifier.specs.Votes.{is_in_way, is_notarize_of, is_other_of}
+use Rattle.batcher_verifier.specs.History.{History, accepted, Taken, Cast, Certified, Led, Judged, Forwarded, Setup}
+use Rattle.batcher_verifier.specs.Lawful.{IsLawful}
 use Rattle.simplex_batcher.specs.Queries.{passes, is_nullify, has_nullify, is_backing, is_missing_voter}
 
 module _ {X : Type 0} where

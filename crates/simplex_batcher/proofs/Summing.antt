@@ -1,19 +1,19 @@
 -- The votes that constructions judge came from the network.
 use Rattle.std.proofs.Common.{◌≡◌, ◌≤◌, ℕ, Bool, true, false, ◌+◌, List, [], ◌∷◌, arith, length}
 use Rattle.std.specs.Prelude.{Option, None, Some, MatchOption, is_none, is_some, if◌then◌else◌}
-use Rattle.simplex_types.specs.declared.scheme.Scheme.{Ghosts}
+use Rattle.types_core.specs.declared.scheme.Scheme.{Ghosts}
 use Rattle.simplex_messages.specs.declared.vote.Vote.{Vote}
-use Rattle.simplex_certificates.specs.declared.certificate.Certificate.{Certificate}
-use Rattle.simplex_rules.specs.declared.kind.Kind.{Kind}
-use Rattle.simplex_verifier.specs.declared.batch.Batch.{Batch}
+use Rattle.messages_certificates.specs.declared.certificate.Certificate.{Certificate}
+use Rattle.types_terms.specs.declared.kind.Kind.{Kind}
+use Rattle.batcher_verifier.specs.declared.batch.Batch.{Batch}
 use Rattle.simplex_batcher.specs.declared.call.Call.{Call}
 use Rattle.simplex_batcher.specs.declared.call.Call.TheVariants.{AddNetwork, AcceptVote, RecordCertificate, SetLeader, TryConstruct, TryForwardProposal, Ask}
 use Rattle.simplex_batcher.specs.declared.call.Question.TheVariants.{HasCertificate, HasNullify, IsMissingVoter, MissingVoters, Belongs, BelongsCertificate}
 use Rattle.simplex_batcher.specs.declared.call.Answer.{Answer}
 use Rattle.simplex_batcher.specs.declared.call.Answer.TheVariants as answer
-use Rattle.simplex_verifier.specs.History.{History, Event, Taken, Cast, Certified, Led, Forwarded, Setup, taken, takes, recorded, leader_of, forwardable, next_kind}
-use Rattle.simplex_verifier.specs.ConstructionResult.{after, after_construction, IsBatch, IsConstruction}
-use Rattle.simplex_verifier.specs.Spending.{waits, Spends}
+use Rattle.batcher_verifier.specs.History.{History, Event, Taken, Cast, Certified, Led, Forwarded, Setup, taken, takes, recorded, leader_of, forwardable, next_kind}
+use Rattle.batcher_verifier.specs.ConstructionResult.{after, after_construction, IsBatch, IsConstruction}
+use Rattle.batcher_verifier.specs.Spending.{waits, Spends}
 use Rattle.simplex_batcher.specs.Run.{Answers, AnswersAre, after_call, after_all, processed_of, processed_in}
 
 module _ {S D P G C : Type 0} (g : Ghosts S D P G C) (same : D → D → Bool) (s : Setup S)

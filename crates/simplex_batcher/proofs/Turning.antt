@@ -1,12 +1,12 @@
 -- The kinds, taken in turn.
 use Rattle.std.proofs.Common.{◌≡◌, ◌<◌, ◌+◌, ℕ, suc, Bool, true, false, List, refl, arith, drop, get_or, drop-cons}
 use Rattle.std.specs.Prelude.{Option, Some, None, MatchOption, find}
-use Rattle.simplex_certificates.specs.declared.certificate.Certificate.{Certificate}
-use Rattle.simplex_rules.specs.declared.kind.Kind.{Kind}
-use Rattle.simplex_judging.specs.KindOrder.{in_turn}
-use Rattle.simplex_verifier.specs.declared.batch.Batch.{Batch}
-use Rattle.simplex_verifier.specs.History.{History, accepted, has_forwarded}
-use Rattle.simplex_verifier.specs.ConstructionResult.{after}
+use Rattle.messages_certificates.specs.declared.certificate.Certificate.{Certificate}
+use Rattle.types_terms.specs.declared.kind.Kind.{Kind}
+use Rattle.batcher_assembly.specs.KindOrder.{in_turn}
+use Rattle.batcher_verifier.specs.declared.batch.Batch.{Batch}
+use Rattle.batcher_verifier.specs.History.{History, accepted, has_forwarded}
+use Rattle.batcher_verifier.specs.ConstructionResult.{after}
 use Rattle.simplex_batcher.specs.Rounds.{AreNew}
 
 -- the kind whose turn it is, where it passes, and where it doesn't

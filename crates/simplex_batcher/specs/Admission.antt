@@ -3,13 +3,13 @@ use Rattle.std.specs.Prelude.{true, is_some, ⊤, ◌≡◌, ◌≢◌, ℕ, Boo
 use Rattle.std.specs.Option.{option_and_then}
 use Rattle.simplex_messages.specs.declared.vote.Vote.{Vote}
 use Rattle.simplex_messages.specs.declared.activity.Activity.{Activity}
-use Rattle.simplex_admission.specs.Evidence.{as_report, evidence}
-use Rattle.simplex_admission.specs.Blocking.{IsBlockedFor, evidence_against}
+use Rattle.batcher_admission.specs.Evidence.{as_report, evidence}
+use Rattle.batcher_admission.specs.Blocking.{IsBlockedFor, evidence_against}
 use Rattle.simplex_messages.specs.VoteParts.{vote_signer, vote_round}
-use Rattle.simplex_verifier.specs.declared.fault.BatcherFault.{BatcherFault}
-use Rattle.simplex_verifier.specs.declared.fault.BatcherFault.TheVariants.{WrongRound, OtherLeader, Contradicts, Memory}
-use Rattle.simplex_verifier.specs.Votes.{vote_kind}
-use Rattle.simplex_verifier.specs.History.{History, Setup, accepted, given, recorded, takes, is_kept_in_full}
+use Rattle.batcher_verifier.specs.declared.fault.BatcherFault.{BatcherFault}
+use Rattle.batcher_verifier.specs.declared.fault.BatcherFault.TheVariants.{WrongRound, OtherLeader, Contradicts, Memory}
+use Rattle.batcher_verifier.specs.Votes.{vote_kind}
+use Rattle.batcher_verifier.specs.History.{History, Setup, accepted, given, recorded, takes, is_kept_in_full}
 
 module _ {S D P G C : Type 0} where
   -- the sender of this vote is blocked: it names another, or the vote offends the recorded one

@@ -1,13 +1,13 @@
 -- What can be asked about the accepted votes, own ones among them.
 use Rattle.std.specs.Prelude.{◌==◌, ◌&&◌, ℕ, Bool, false, List, Option, None, Some, find, filter, is_none, is_some}
 use Rattle.std.specs.List.{range_with_len}
-use Rattle.simplex_types.specs.declared.proposal.Proposal.{Proposal}
+use Rattle.types_core.specs.declared.proposal.Proposal.{Proposal}
 use Rattle.simplex_messages.specs.declared.vote.Vote.{Vote}
 use Rattle.simplex_messages.specs.declared.vote.Vote.TheVariants as vote
 use Rattle.simplex_messages.specs.VoteParts.{vote_signer}
-use Rattle.simplex_rules.specs.declared.kind.Kind.TheVariants.{Nullification}
-use Rattle.simplex_verifier.specs.Votes.{is_kind, is_proposal, vote_kind}
-use Rattle.simplex_verifier.specs.History.{History, Setup, accepted}
+use Rattle.types_terms.specs.declared.kind.Kind.TheVariants.{Nullification}
+use Rattle.batcher_verifier.specs.Votes.{is_kind, is_proposal, vote_kind}
+use Rattle.batcher_verifier.specs.History.{History, Setup, accepted}
 
 -- there is one, and it passes
 abbrev pub passes : {X : Type 0} → (X → Bool) → Option X → Bool

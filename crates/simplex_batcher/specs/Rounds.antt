@@ -1,12 +1,12 @@
 -- What a round keeps of a history.
 use Rattle.std.specs.Prelude.{◌≡◌, ◌<◌, All, ℕ, Bool, None, [], ◌∷◌, ⊤}
-use Rattle.simplex_types.specs.Subject.{Statement}
-use Rattle.simplex_types.specs.declared.scheme.Scheme.{Ghosts}
+use Rattle.types_core.specs.Subject.{Statement}
+use Rattle.types_core.specs.declared.scheme.Scheme.{Ghosts}
 use Rattle.simplex_batcher.specs.declared.round.Round.{Round}
-use Rattle.simplex_verifier.specs.History.{History, Taken, Cast, Certified, Led, Judged, Forwarded, Setup, accepted, recorded, has_forwarded}
-use Rattle.simplex_verifier.specs.Lawful.{IsLawful, IsConsistent}
+use Rattle.batcher_verifier.specs.History.{History, Taken, Cast, Certified, Led, Judged, Forwarded, Setup, accepted, recorded, has_forwarded}
+use Rattle.batcher_verifier.specs.Lawful.{IsLawful, IsConsistent}
 use Rattle.simplex_messages.specs.VoteParts.{vote_signer}
-use Rattle.simplex_verifier.specs.Keeping.{VerifierKeeps, kept-consistent}
+use Rattle.batcher_verifier.specs.Keeping.{VerifierKeeps, kept-consistent}
 
 -- nothing stood in the way of any accepted vote when it came
 abbrev pub AreNew : {S D P G C : Type 0} → History S D P G C → Type 0

@@ -1,29 +1,29 @@
 -- The answers to a list of calls.
 use Rattle.std.specs.Prelude.{◌≡◌, ◌≢◌, ◌↔◌, ℕ, Bool, false, IsTrue, List, [], ◌∷◌, ◌++◌, ◌+◌, if◌then◌else◌, Option, None, Some, IfSome, MatchOption, is_none, is_some, ⊤}
-use Rattle.simplex_types.specs.Subject.{Statement}
-use Rattle.simplex_types.specs.declared.scheme.Scheme.{Ghosts}
+use Rattle.types_core.specs.Subject.{Statement}
+use Rattle.types_core.specs.declared.scheme.Scheme.{Ghosts}
 use Rattle.simplex_messages.specs.declared.vote.Vote.{Vote}
-use Rattle.simplex_certificates.specs.declared.certificate.Certificate.{Certificate}
+use Rattle.messages_certificates.specs.declared.certificate.Certificate.{Certificate}
 use Rattle.simplex_messages.specs.declared.activity.Activity.{Activity}
 use Rattle.simplex_messages.specs.VoteParts.{vote_round}
-use Rattle.simplex_certificates.specs.Certificate.{certificate_round}
-use Rattle.simplex_verifier.specs.declared.fault.BatcherFault.TheVariants.{WrongRound, OtherLeader, Memory}
-use Rattle.simplex_rules.specs.declared.kind.Kind.TheVariants.{Notarization}
-use Rattle.simplex_admission.specs.declared.admission.Admission.{Admission}
-use Rattle.simplex_verifier.specs.declared.batch.Batch.{Batch}
+use Rattle.messages_certificates.specs.Certificate.{certificate_round}
+use Rattle.batcher_verifier.specs.declared.fault.BatcherFault.TheVariants.{WrongRound, OtherLeader, Memory}
+use Rattle.types_terms.specs.declared.kind.Kind.TheVariants.{Notarization}
+use Rattle.batcher_admission.specs.declared.admission.Admission.{Admission}
+use Rattle.batcher_verifier.specs.declared.batch.Batch.{Batch}
 use Rattle.simplex_batcher.specs.declared.call.Call.{Call}
 use Rattle.simplex_batcher.specs.declared.call.Call.TheVariants.{AddNetwork, AcceptVote, RecordCertificate, SetLeader, TryConstruct, TryForwardProposal, Ask}
 use Rattle.simplex_batcher.specs.declared.call.Question.{Question}
 use Rattle.simplex_batcher.specs.declared.call.Question.TheVariants.{HasCertificate, HasNullify, IsMissingVoter, MissingVoters, Belongs, BelongsCertificate}
 use Rattle.simplex_batcher.specs.declared.call.Answer.{Answer}
 use Rattle.simplex_batcher.specs.declared.call.Answer.TheVariants as answer
-use Rattle.simplex_verifier.specs.Votes.{certificate_kind}
-use Rattle.simplex_verifier.specs.History.{History, Taken, Cast, Certified, Led, Forwarded, Setup, takes, recorded, selected, leader_of, is_complete, forwardable, next_kind}
-use Rattle.simplex_verifier.specs.Lawful.{VoteAttests}
+use Rattle.batcher_verifier.specs.Votes.{certificate_kind}
+use Rattle.batcher_verifier.specs.History.{History, Taken, Cast, Certified, Led, Forwarded, Setup, takes, recorded, selected, leader_of, is_complete, forwardable, next_kind}
+use Rattle.batcher_verifier.specs.Lawful.{VoteAttests}
 use Rattle.simplex_batcher.specs.Queries.{has_nullify, is_missing_voter, missing_voters}
-use Rattle.simplex_admission.specs.Evidence.{as_report}
+use Rattle.batcher_admission.specs.Evidence.{as_report}
 use Rattle.simplex_batcher.specs.Admission.{IsBlocked, report_of, contradicts, IsAdmissionFault, IsCastFault}
-use Rattle.simplex_verifier.specs.ConstructionResult.{after_construction, IsConstruction}
+use Rattle.batcher_verifier.specs.ConstructionResult.{after_construction, IsConstruction}
 
 module _ {S D P G C : Type 0} where
   -- what a call asks: that an own vote attests

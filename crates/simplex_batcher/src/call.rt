@@ -1,9 +1,9 @@
 //! Calls on a round, and their answers, as values.
 
-use simplex_admission::Admission;
+use batcher_admission::Admission;
+use batcher_verifier::{Batch, BatcherFault, Kind};
 use simplex_messages::{Activity, Certificate, Vote};
-use simplex_types::{Digest, Participant, Proposal, Scheme};
-use simplex_verifier::{Batch, BatcherFault, Kind};
+use types_core::{Digest, Participant, Proposal, Scheme};
 
 /// A call on a round.
 #[derive(Drop)]

@@ -6,8 +6,8 @@ mod round;
 mod running;
 mod votes;
 
+pub use batcher_admission::Admission;
+pub use batcher_verifier::{Batch, BatcherFault, Kind, Verifier, no_quorum_is_lost};
 pub use call::{Answer, Call, Question};
 pub use round::Round;
 pub use running::run;
-pub use simplex_admission::Admission;
-pub use simplex_verifier::{Batch, BatcherFault, Kind, Verifier, no_quorum_is_lost};

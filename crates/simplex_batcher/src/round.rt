@@ -2,33 +2,33 @@
 
 ghost use Rattle.std.specs.Prelude.{◌≡◌, ◌≢◌, ◌↔◌, ◌<◌, ◌∷◌, [], ◌&&◌, ℕ, List, All, Contains, Bool, true, false, Err, Option, Some, None, find, IsTrue, IfOk, IfErr, IfSome, MatchOption, OnOk, OnErr, is_none, is_some, if◌then◌else◌};
 ghost use Rattle.std.specs.Option.{option_copied};
-ghost use Rattle.simplex_committee.specs.Committee.{quorum};
-ghost use Rattle.simplex_types.specs.declared.attestation.Attestation.{Attestation};
+ghost use Rattle.types_quorum.specs.Committee.{quorum};
+ghost use Rattle.types_core.specs.declared.attestation.Attestation.{Attestation};
 ghost use Rattle.simplex_messages.specs.VoteParts.{vote_round, vote_signer};
-ghost use Rattle.simplex_certificates.specs.Certificate.{certificate_round, certificate_statement, certified_by};
-ghost use Rattle.simplex_verifier.specs.declared.fault.BatcherFault.TheVariants.{WrongRound, OtherLeader, Contradicts, Memory};
-ghost use Rattle.simplex_rules.specs.declared.kind.Kind.TheVariants.{Notarization};
-ghost use Rattle.simplex_verifier.specs.Votes.{vote_kind, certificate_kind};
-ghost use Rattle.simplex_verifier.specs.History.{Taken, Cast, Certified, Led, Forwarded, recorded, selected, leader_of, takes, is_kept_in_full, is_complete, forwardable, is_another, next_kind};
-ghost use Rattle.simplex_verifier.specs.Lawful.{IsNew, VoteAttests, Allowed};
-ghost use Rattle.simplex_verifier.specs.Quorums.{AllCertified};
-ghost use Rattle.simplex_admission.specs.Evidence.{as_report, evidence};
+ghost use Rattle.messages_certificates.specs.Certificate.{certificate_round, certificate_statement, certified_by};
+ghost use Rattle.batcher_verifier.specs.declared.fault.BatcherFault.TheVariants.{WrongRound, OtherLeader, Contradicts, Memory};
+ghost use Rattle.types_terms.specs.declared.kind.Kind.TheVariants.{Notarization};
+ghost use Rattle.batcher_verifier.specs.Votes.{vote_kind, certificate_kind};
+ghost use Rattle.batcher_verifier.specs.History.{Taken, Cast, Certified, Led, Forwarded, recorded, selected, leader_of, takes, is_kept_in_full, is_complete, forwardable, is_another, next_kind};
+ghost use Rattle.batcher_verifier.specs.Lawful.{IsNew, VoteAttests, Allowed};
+ghost use Rattle.batcher_verifier.specs.Quorums.{AllCertified};
+ghost use Rattle.batcher_admission.specs.Evidence.{as_report, evidence};
 ghost use Rattle.simplex_batcher.specs.Admission.{contradicts, IsBlocked, report_of, AgreesWithOwn, IsAdmissionFault, IsCastFault};
-ghost use Rattle.simplex_verifier.specs.ConstructionResult.{after, after_construction, kinds_left, HasFailed, IsBatch, IsReadable, IsVoted};
+ghost use Rattle.batcher_verifier.specs.ConstructionResult.{after, after_construction, kinds_left, HasFailed, IsBatch, IsReadable, IsVoted};
 ghost use Rattle.simplex_batcher.specs.Rounds.{RoundKeeps, AtEach};
 
 use crate::votes::{notarized_in, round_of, round_of_certificate};
-use simplex_admission::{Admission, are_against, copied, refusal, report};
-use simplex_judging::in_turn;
-use simplex_messages::{Activity, Certificate, Vote};
-use simplex_types::{Attributable, Digest, Participant, Proposal, Round as Rnd, Scheme};
-use simplex_verifier::{
+use batcher_admission::{Admission, are_against, copied, refusal, report};
+use batcher_assembly::in_turn;
+use batcher_verifier::{
     Batch, BatcherFault, Kind, Verifier, batches_rest_on_accepted_votes, constructions_end,
     forwarding_changes_no_votes, kind_of, kind_of_certificate, no_quorum_is_lost,
     what_is_due_has_no_certificate, what_is_new_may_be_added,
 };
+use simplex_messages::{Activity, Certificate, Vote};
 use std::alloc::{AllocError, Global};
 use std::rc::Rc;
+use types_core::{Attributable, Digest, Participant, Proposal, Round as Rnd, Scheme};
 
 mod queries;
 

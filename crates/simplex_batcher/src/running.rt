@@ -1,18 +1,18 @@
 //! Lists of calls.
 
 ghost use Rattle.std.specs.Prelude.{◌≡◌, ◌≤◌, List, All, IfOk, OnErr, length, false};
-ghost use Rattle.simplex_verifier.specs.History.{taken};
-ghost use Rattle.simplex_verifier.specs.Quorums.{AllCertified};
+ghost use Rattle.batcher_verifier.specs.History.{taken};
+ghost use Rattle.batcher_verifier.specs.Quorums.{AllCertified};
 ghost use Rattle.simplex_batcher.specs.Rounds.{RoundKeeps, AtEach};
 ghost use Rattle.simplex_batcher.specs.Run.{IsAsked, AnswersQuestion, Answers, AnswersAre, after_call, after_all, processed_in, EndsInConstructions};
 
 use crate::call::{Answer, Call, Question};
 use crate::round::Round;
-use simplex_types::{Digest, Scheme};
-use simplex_verifier::{
+use batcher_verifier::{
     BatcherFault, constructions_end, no_more_are_judged_than_came, no_quorum_is_lost,
 };
 use std::alloc::{AllocError, Global};
+use types_core::{Digest, Scheme};
 
 /// Answers a question.
 fn answer<S: Scheme<D>, D: Digest>(

@@ -2,13 +2,13 @@
 
 ghost use Rattle.std.specs.Prelude.{◌≡◌};
 ghost use Rattle.simplex_messages.specs.VoteParts.{vote_round};
-ghost use Rattle.simplex_certificates.specs.Certificate.{certificate_round};
-ghost use Rattle.simplex_verifier.specs.Votes.{notarized_proposal};
+ghost use Rattle.messages_certificates.specs.Certificate.{certificate_round};
+ghost use Rattle.batcher_verifier.specs.Votes.{notarized_proposal};
 ghost use Rattle.std.specs.Option.{option_and_then, option_copied};
 ghost use Rattle.simplex_batcher.specs.Queries.{is_nullify, is_backing};
 
 use simplex_messages::{Certificate, Vote};
-use simplex_types::{Digest, Proposal, Round, Scheme};
+use types_core::{Digest, Proposal, Round, Scheme};
 
 /// The round that a vote is of.
 pub(crate) fn round_of<S: Scheme<D>, D: Digest>(vote: &Vote<S, D>) -> Round

@@ -1,10 +1,10 @@
 -- What calls from C answer.
 use Rattle.std.specs.Prelude.{◌≡◌, ◌⊎◌, if◌then◌else◌, nat_eq, ℕ, Option, None, Some, Result, Ok, Err}
-use Rattle.simplex_codec.specs.declared.codec.CodecError.{CodecError}
-use Rattle.simplex_codec.specs.declared.codec.CodecError.TheVariants as codec
+use Rattle.types_codec.specs.declared.codec.CodecError.{CodecError}
+use Rattle.types_codec.specs.declared.codec.CodecError.TheVariants as codec
 use Rattle.simplex_record.specs.declared.owner.Owner.{Owner}
-use Rattle.simplex_tooling.specs.declared.decoding.Kind.{Kind}
-use Rattle.simplex_tooling.specs.declared.decoding.Kind.TheVariants as kind
+use Rattle.cli_tool.specs.declared.decoding.Kind.{Kind}
+use Rattle.cli_tool.specs.declared.decoding.Kind.TheVariants as kind
 
 -- the number of a refusal
 abbrev pub refusal_number : CodecError → ℕ

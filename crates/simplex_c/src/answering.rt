@@ -1,17 +1,17 @@
 //! Questions about bytes that a caller holds.
 
 ghost use Rattle.std.specs.Prelude.{◌≡◌, ◌≢◌, ◌<◌, ◌⊎◌, ℕ, List, Option, [], None, Some, length, take};
-ghost use Rattle.simplex_journal.specs.Record.{IsForeign};
+ghost use Rattle.journal_single.specs.Record.{IsForeign};
 ghost use Rattle.simplex_record.specs.Lawful.{IsLawful, IsRefusedAt};
-ghost use Rattle.simplex_tooling.specs.Answers.{Entry, HoldsEntries, IsEntry, IsEvidence, attests_in, certifies_in, entry_spelling};
+ghost use Rattle.cli_tool.specs.Answers.{Entry, HoldsEntries, IsEntry, IsEvidence, attests_in, certifies_in, entry_spelling};
 ghost use Rattle.simplex_c.specs.Statuses.{Names};
 ghost use Rattle.simplex_c.specs.declared.status.Status.TheVariants.{Done, Foreign as IsForeignEntry, Memory, Refused, Room};
 
 use crate::found::Found;
 use crate::room::put;
 use crate::status::Status;
+use cli_tool::{Checked, check_record, evidence_in};
 use simplex_record::Owner;
-use simplex_tooling::{Checked, check_record, evidence_in};
 use std::alloc::Global;
 
 /// Puts an answer at the front of the caller's room, where it fits, and tells its size and the place that it names.

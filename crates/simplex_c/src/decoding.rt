@@ -1,16 +1,16 @@
 //! Messages of any kind, read as far as their refusal.
 
 ghost use Rattle.std.specs.Prelude.{◌≡◌, IfNone, IfSome};
-ghost use Rattle.simplex_tooling.specs.Decoding.{message_size};
+ghost use Rattle.cli_tool.specs.Decoding.{message_size};
 ghost use Rattle.simplex_c.specs.Answers.{Tells, kind_at, refusal_number};
 ghost use Rattle.simplex_c.specs.Statuses.{status_number};
 ghost use Rattle.simplex_c.specs.declared.status.Status.TheVariants.{Argument};
 
 use crate::found::Found;
 use crate::status::Status;
-use simplex_tooling::{Kind, message_size};
-use simplex_types::CodecError;
+use cli_tool::{Kind, message_size};
 use std::alloc::Global;
+use types_core::CodecError;
 
 /// Reads a message of this kind at the front of the bytes, and tells how many bytes it takes.
 pub(crate) fn decoded(

@@ -1,10 +1,10 @@
 //! A disk whose bytes a host keeps.
 
 ghost use Rattle.std.specs.Prelude.{◌≡◌, ◌+◌, [], is_ok, false, true, max, length, take, drop, IfOk, OnOk, OnErr, IsErr};
-ghost use Rattle.simplex_journal.specs.Disk.{counted};
+ghost use Rattle.journal_single.specs.Disk.{counted};
 
 use crate::requests::Requests;
-use simplex_journal::{Disk, DiskFault};
+use journal_single::{Disk, DiskFault};
 use std::alloc::{AllocError, Global};
 use std::marker::Model;
 

@@ -1,10 +1,10 @@
 //! What a caller in C asks of bytes that it holds.
 
 ghost use Rattle.std.specs.Prelude.{◌≡◌, ◌≢◌, ◌<◌, ◌⊎◌, ◌≤◌, ℕ, List, Option, [], IfNone, IfSome, length, take};
-ghost use Rattle.simplex_journal.specs.Record.{IsForeign};
+ghost use Rattle.journal_single.specs.Record.{IsForeign};
 ghost use Rattle.simplex_record.specs.Lawful.{IsLawful, IsRefusedAt};
-ghost use Rattle.simplex_tooling.specs.Answers.{Entry, HoldsEntries, IsEntry, IsEvidence, attests_in, certifies_in, entry_spelling};
-ghost use Rattle.simplex_tooling.specs.Decoding.{message_size};
+ghost use Rattle.cli_tool.specs.Answers.{Entry, HoldsEntries, IsEntry, IsEvidence, attests_in, certifies_in, entry_spelling};
+ghost use Rattle.cli_tool.specs.Decoding.{message_size};
 ghost use Rattle.simplex_c.specs.Statuses.{Names};
 ghost use Rattle.simplex_c.specs.Answers.{Tells, kind_at, owner};
 
@@ -13,8 +13,8 @@ use crate::decoding::decoded;
 use crate::found::Found;
 use crate::status::Status;
 use simplex_record::Owner;
-use simplex_types::{Epoch, Participant, TermLength};
 use std::alloc::Global;
+use types_core::{Epoch, Participant, TermLength};
 
 /// The evidence that an audit of these reports of a committee finds, as reports.
 ///

@@ -1,31 +1,31 @@
 //! A member's node between two calls.
 
 ghost use Rattle.std.specs.Prelude.{◌≡◌, ◌<◌, ◌++◌, ℕ, None, Some, IfOk};
-ghost use Rattle.simplex_codec.specs.Codec.{Readable};
+ghost use Rattle.types_codec.specs.Codec.{Readable};
 ghost use Rattle.simplex_member.specs.declared.action.Reply.{Reply};
 ghost use Rattle.simplex_member.specs.Packet.{formats};
 ghost use Rattle.simplex_member.specs.Setup.{setup_of};
-ghost use Rattle.simplex_node.specs.Keeps.{AtOwn};
-ghost use Rattle.simplex_node.specs.Opening.{IsOpenAndSettled};
-ghost use Rattle.simplex_running.specs.Running.{RunFails, RunsTo};
-ghost use Rattle.simplex_streaming.specs.Streaming.{EndsIn, spelled};
+ghost use Rattle.node_steps.specs.Keeps.{AtOwn};
+ghost use Rattle.node_steps.specs.Opening.{IsOpenAndSettled};
+ghost use Rattle.simplex_node.specs.Running.{RunFails, RunsTo};
+ghost use Rattle.node_streams.specs.Streaming.{EndsIn, spelled};
 
 use crate::disk::HostedDisk;
 use crate::requests::Requests;
-use simplex_certificates::Artifact;
-use simplex_decisions::config::Config;
-use simplex_journal::Disk;
+use journal_single::Disk;
+use messages_certificates::Artifact;
+use node_steps::Node;
+use simplex_cli::{config, elector, scheme};
 use simplex_member::{IoFault, OpenFault, Reply};
-use simplex_node::Node;
-use simplex_node_cli::{config, elector, scheme};
-use simplex_rules::Elector;
-use simplex_rules::elector::RoundRobinElector;
-use simplex_running::{open_io, run_io};
-use simplex_signing::PlainScheme;
-use simplex_types::{Digest, Read as Spelled, Scheme, Sha256Digest, Write as Spells};
+use simplex_node::{open_io, run_io};
+use simplex_types::PlainScheme;
 use std::alloc::{AllocError, Global};
 use std::marker::Model;
 use std::rc::Rc;
+use types_core::{Digest, Read as Spelled, Scheme, Sha256Digest, Write as Spells};
+use types_terms::Elector;
+use types_terms::elector::RoundRobinElector;
+use voter_rules::config::Config;
 
 /// A member's node, what it asks of the host that keeps its record, and the replies that were not taken yet.
 pub(crate) struct Session {

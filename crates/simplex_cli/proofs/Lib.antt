@@ -1,3 +1,2 @@
-pub mod Numerals
-pub mod Counts
-pub mod Implied
+mod Served
+mod Statuses

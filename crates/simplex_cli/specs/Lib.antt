@@ -1,4 +1,2 @@
-pub mod Command
-pub mod Lines
-pub mod Running
-pub mod Words
+pub mod Ending
+pub mod Serving

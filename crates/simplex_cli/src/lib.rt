@@ -1,17 +1,14 @@
-//! The command line program: its words, the audit that it runs, and the lines that it prints.
+//! The program that runs one member's node over a record and streams.
 #![tactic(auto)]
 
-mod auditing;
-mod command;
-mod input;
-mod lines;
-mod program;
-mod running;
-mod trouble;
+mod ending;
+mod over;
+mod serving;
+mod settings;
+mod telling;
 
-pub use auditing::{plain_audit, scheme_of};
-pub use command::{Command, USAGE, count_of, number_of, parse_words};
-pub use input::{InputError, read_all};
-pub use program::{run_words, words_unread};
-pub use running::{audit_over, report, write_audit};
-pub use trouble::Trouble;
+pub use ending::Ending;
+pub use over::{drive, node_over};
+pub use serving::serve_over;
+pub use settings::{config, elector, scheme};
+pub use telling::tell;

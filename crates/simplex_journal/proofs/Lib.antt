@@ -1,5 +1,7 @@
-pub mod Stages
-pub mod Repairing
-pub mod Reopened
-pub mod Held
+pub mod Readings
+pub mod Finishing
+pub mod Reopening
+pub mod Entering
+pub mod Rewriting
+pub mod Spelled
 pub mod Histories

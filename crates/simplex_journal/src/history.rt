@@ -1,196 +1,214 @@
-//! Whole histories of a journal: openings, appends and crashes, one after the other.
+//! Whole histories of a journal over two disks: openings, appends, rewrites and crashes, one after the other.
 
-ghost use Rattle.std.specs.Prelude.{◌≡◌, ℕ, List, [], ◌∷◌, map, reverse, All, IfOk, IfErr};
-ghost use Rattle.simplex_codec.specs.Codec.{Readable};
-ghost use Rattle.simplex_journal.specs.Disk.{Call, MayLeave};
-ghost use Rattle.simplex_journal.specs.declared.history.Event.{Event};
-ghost use Rattle.simplex_journal.specs.declared.history.Request.TheVariants.{Open, Append, Crash};
-ghost use Rattle.simplex_journal.specs.History.{OfMessage, request_of, disk_of, MayRead, AtEachEvent, IsTrueOf, Finds, Remembers, IsAnswer, IsStage, GoesOn, failures_after, failures_told, Comes, CameBy};
+ghost use Rattle.std.specs.Prelude.{◌≡◌, ◌-◌, ◌^◌, ℕ, List, [], ◌∷◌, map, reverse, All, IfOk, IfErr};
+ghost use Rattle.types_codec.specs.Codec.{Readable};
+ghost use Rattle.journal_single.specs.Disk.{MayLeave};
+ghost use Rattle.journal_single.specs.Record.{FitsBelow};
+ghost use Rattle.simplex_journal.specs.declared.history.PairEvent.{PairEvent};
+ghost use Rattle.simplex_journal.specs.declared.history.PairRequest.TheVariants.{Open, Append, Rewrite, Crash};
+ghost use Rattle.simplex_journal.specs.History.{Both, of_both, OfMessages, request_of, disks_of, MayRead, AtEachEvent, IsTrueOf, Finds, Remembers, IsAnswer, IsStage, GoesOn, Comes, CameBy};
 
-use crate::disk::Disk;
-use crate::entries::BOUND;
-use crate::fault::JournalFault;
-use crate::journal::Journal;
-use crate::memory_disk::MemoryDisk;
-use simplex_types::{EncodeSize, Read};
+use crate::fault::PairFault;
+use crate::pair::Pair;
+use journal_single::{BOUND, Crash, Disk};
 use std::alloc::{AllocError, Global};
+use types_core::{EncodeSize, Read};
 
-/// A disk that a crash may come to.
-pub trait Crash: Disk {
-    /// The first became the second by a crash.
-    ghost crashed: { Self → Self → Type 0 };
-
-    /// A crash, and a restart: what stands on the disk then is one of the contents that the crash may
-    /// leave, and so is what a further crash may leave of it.
-    fn crash(&mut self)
-        ensures left { Self.keeps → (image : List ℕ) → MayLeave (Self.calls self.new) image → MayLeave (Self.calls self.old) image }
-        ensures no_fault { Self.failed self.new ≡ Self.failed self.old }
-        ensures came { crashed self.old self.new };
-}
-
-/// A crash of the process alone: all that was written is there, as much in doubt as before.
-impl Crash for MemoryDisk {
-    ghost crashed = { λ old new. new ≡ old };
-
-    fn crash(&mut self)
-        ensures left { (image : List ℕ) → MayLeave self.new.calls image → MayLeave self.old.calls image }
-        ensures no_fault { self.new.failures ≡ self.old.failures }
-        ensures came { self.new ≡ self.old }
-    {
-        // All that was written is there.
-    }
-}
-
-/// What is asked in a history of a disk.
-#[derive(Debug, Drop, PartialEq, Eq)]
-pub enum Request<M> {
-    /// To open the disk, after closing the journal that is open.
+/// What is asked in a history of two disks.
+#[derive(Drop)]
+pub enum PairRequest<M> {
+    /// To open both, after closing the journal that is open.
     Open,
     /// To append a message to the journal that is open.
     Append(M),
-    /// A crash, after which no journal is open.
+    /// To make a list the record of the journal that is open.
+    Rewrite(Vec<M>),
+    /// A crash of both, after which no journal is open.
     Crash,
 }
 
 /// What came of a request.
-#[derive(Debug, Drop, PartialEq, Eq)]
-pub enum Event<M> {
-    /// The disk was opened, and holds these messages.
+#[derive(Drop)]
+pub enum PairEvent<M> {
+    /// The disks were opened, and their record is these messages.
     Opened(Vec<M>),
     /// The opening was refused, and no journal is open.
-    OpenFailed(JournalFault),
+    OpenFailed(PairFault),
     /// The message was appended: its append answered `Ok`.
     Appended(M),
     /// The append of the message was refused.
-    AppendFailed(M, JournalFault),
-    /// No journal was open to which the message could be appended, and the disk was asked nothing.
-    NotOpen(M),
+    AppendFailed(M, PairFault),
+    /// No journal was open to which the message could be appended, and the disks were asked nothing.
+    AppendNotOpen(M),
+    /// The list was made the record: its rewrite answered `Ok`.
+    Rewritten(Vec<M>),
+    /// The rewrite was refused.
+    RewriteFailed(Vec<M>, PairFault),
+    /// No journal was open that could be rewritten, and the disks were asked nothing.
+    RewriteNotOpen(Vec<M>),
     /// The crash came.
     Crashed,
 }
 
-/// What came of all requests, the oldest first, and the disk then.
+/// What came of all requests, the oldest first, and the disks then.
 #[derive(Drop)]
-pub struct History<M, K: Disk> {
+pub struct PairHistory<M, K: Disk> {
     /// One event for each request.
-    pub events: Vec<Event<M>>,
-    /// The disk, with no journal open.
-    pub disk: K,
+    pub events: Vec<PairEvent<M>>,
+    /// The first disk, with no journal open.
+    pub first: K,
+    /// The second.
+    pub second: K,
 }
 
-/// A disk between two requests.
+/// Two disks between two requests.
 #[derive(Drop)]
 enum Stage<M: Read + EncodeSize, K: Disk> {
-    Open(Journal<M, K>),
-    Closed(K),
+    Open(Pair<M, K>),
+    Closed(K, K),
 }
 
 impl<M: Read + EncodeSize + Drop, K: Crash> Stage<M, K> {
-    /// The disk, after closing the journal that is open.
-    fn into_disk(self) -> K
-        ensures { result ≡ disk_of self }
+    /// The disks, after closing the journal that is open.
+    fn into_disks(self) -> (K, K)
+        ensures first { result.0 ≡ (disks_of self).first }
+        ensures second { result.1 ≡ (disks_of self).second }
     {
         match self {
-            Stage::Open(journal) => journal.close(),
-            Stage::Closed(disk) => disk,
+            Stage::Open(pair) => pair.close(),
+            Stage::Closed(first, second) => (first, second),
         }
     }
 
-    /// Opens the disk, after closing the journal that is open.
-    fn open(self, alloc: Global) -> (Self, Event<M>)
+    /// Opens the disks, after closing the journal that is open.
+    fn open(self, alloc: Global) -> (Self, PairEvent<M>)
         ensures asked { request_of result.1 ≡ Open }
-        ensures answer { (history : List (Event M)) → IsStage self history → IsAnswer history result.1 × IsStage result.0 (result.1 ∷ history) }
-        ensures cause { K.failed (disk_of result.0) ≡ failures_after result.1 (K.failed (disk_of self)) }
-        ensures comes { Comes K.keeps K.calls K.crashed K.failed result.1 (disk_of self) (disk_of result.0) }
-        ensures stands { K.keeps → GoesOn (Readable M.fits (M.within BOUND)) M.spelling K.seen K.calls self result.0 result.1 }
+        ensures answer { (history : List (PairEvent M)) → IsStage self history → IsAnswer history result.1 × IsStage result.0 (result.1 ∷ history) }
+        ensures comes { Comes (FitsBelow (2 ^ 32 - 1) (Readable M.fits (M.within BOUND)) M.spelling) M.spelling K.keeps K.seen K.calls K.crashed K.failed result.1 (disks_of self) (disks_of result.0) }
+        ensures stands { K.keeps → GoesOn (FitsBelow (2 ^ 32 - 1) (Readable M.fits (M.within BOUND)) M.spelling) M.spelling K.seen K.calls self result.0 result.1 }
     {
-        match Journal::open(alloc, self.into_disk()) {
-            Ok((journal, messages)) => (Stage::Open(journal), Event::Opened(messages)),
-            Err((fault, disk)) => (Stage::Closed(disk), Event::OpenFailed(fault)),
+        let (first, second) = self.into_disks();
+        match Pair::open(alloc, first, second) {
+            Ok((pair, messages)) => (Stage::Open(pair), PairEvent::Opened(messages)),
+            Err((fault, first, second)) => (
+                Stage::Closed(first, second),
+                PairEvent::OpenFailed(fault),
+            ),
         }
     }
 
     /// Appends a message to the journal that is open.
-    fn append(self, message: M) -> (Self, Event<M>)
+    fn append(self, message: M) -> (Self, PairEvent<M>)
         requires { M.within BOUND message }
         ensures asked { request_of result.1 ≡ Append message }
-        ensures answer { (history : List (Event M)) → IsStage self history → IsAnswer history result.1 × IsStage result.0 (result.1 ∷ history) }
-        ensures cause { K.failed (disk_of result.0) ≡ failures_after result.1 (K.failed (disk_of self)) }
-        ensures comes { Comes K.keeps K.calls K.crashed K.failed result.1 (disk_of self) (disk_of result.0) }
-        ensures stands { K.keeps → GoesOn (Readable M.fits (M.within BOUND)) M.spelling K.seen K.calls self result.0 result.1 }
+        ensures answer { (history : List (PairEvent M)) → IsStage self history → IsAnswer history result.1 × IsStage result.0 (result.1 ∷ history) }
+        ensures comes { Comes (FitsBelow (2 ^ 32 - 1) (Readable M.fits (M.within BOUND)) M.spelling) M.spelling K.keeps K.seen K.calls K.crashed K.failed result.1 (disks_of self) (disks_of result.0) }
+        ensures stands { K.keeps → GoesOn (FitsBelow (2 ^ 32 - 1) (Readable M.fits (M.within BOUND)) M.spelling) M.spelling K.seen K.calls self result.0 result.1 }
     {
-        let mut journal = match self {
-            Stage::Open(journal) => journal,
-            Stage::Closed(disk) => return (Stage::Closed(disk), Event::NotOpen(message)),
+        let mut pair = match self {
+            Stage::Open(pair) => pair,
+            Stage::Closed(first, second) => {
+                return (
+                    Stage::Closed(first, second),
+                    PairEvent::AppendNotOpen(message),
+                );
+            }
         };
-        match journal.append(&message) {
-            Ok(()) => (Stage::Open(journal), Event::Appended(message)),
-            Err(fault) => (Stage::Open(journal), Event::AppendFailed(message, fault)),
+        match pair.append(&message) {
+            Ok(()) => (Stage::Open(pair), PairEvent::Appended(message)),
+            Err(fault) => (Stage::Open(pair), PairEvent::AppendFailed(message, fault)),
+        }
+    }
+
+    /// Makes a list the record of the journal that is open.
+    fn rewrite(self, list: Vec<M>) -> (Self, PairEvent<M>)
+        requires { All (M.within BOUND) list.items }
+        ensures asked { request_of result.1 ≡ Rewrite list }
+        ensures answer { (history : List (PairEvent M)) → IsStage self history → IsAnswer history result.1 × IsStage result.0 (result.1 ∷ history) }
+        ensures comes { Comes (FitsBelow (2 ^ 32 - 1) (Readable M.fits (M.within BOUND)) M.spelling) M.spelling K.keeps K.seen K.calls K.crashed K.failed result.1 (disks_of self) (disks_of result.0) }
+        ensures stands { K.keeps → GoesOn (FitsBelow (2 ^ 32 - 1) (Readable M.fits (M.within BOUND)) M.spelling) M.spelling K.seen K.calls self result.0 result.1 }
+    {
+        let mut pair = match self {
+            Stage::Open(pair) => pair,
+            Stage::Closed(first, second) => {
+                return (
+                    Stage::Closed(first, second),
+                    PairEvent::RewriteNotOpen(list),
+                );
+            }
+        };
+        match pair.rewrite(&list) {
+            Ok(()) => (Stage::Open(pair), PairEvent::Rewritten(list)),
+            Err(fault) => (Stage::Open(pair), PairEvent::RewriteFailed(list, fault)),
         }
     }
 
     /// A crash, which takes the journal that is open.
-    fn crash(self) -> (Self, Event<M>)
+    fn crash(self) -> (Self, PairEvent<M>)
         ensures asked { request_of result.1 ≡ Crash }
-        ensures answer { (history : List (Event M)) → IsStage self history → IsAnswer history result.1 × IsStage result.0 (result.1 ∷ history) }
-        ensures cause { K.failed (disk_of result.0) ≡ failures_after result.1 (K.failed (disk_of self)) }
-        ensures comes { Comes K.keeps K.calls K.crashed K.failed result.1 (disk_of self) (disk_of result.0) }
-        ensures stands { K.keeps → GoesOn (Readable M.fits (M.within BOUND)) M.spelling K.seen K.calls self result.0 result.1 }
+        ensures answer { (history : List (PairEvent M)) → IsStage self history → IsAnswer history result.1 × IsStage result.0 (result.1 ∷ history) }
+        ensures comes { Comes (FitsBelow (2 ^ 32 - 1) (Readable M.fits (M.within BOUND)) M.spelling) M.spelling K.keeps K.seen K.calls K.crashed K.failed result.1 (disks_of self) (disks_of result.0) }
+        ensures stands { K.keeps → GoesOn (FitsBelow (2 ^ 32 - 1) (Readable M.fits (M.within BOUND)) M.spelling) M.spelling K.seen K.calls self result.0 result.1 }
     {
-        let mut disk = self.into_disk();
-        disk.crash();
-        (Stage::Closed(disk), Event::Crashed)
+        let (mut first, mut second) = self.into_disks();
+        first.crash();
+        second.crash();
+        (Stage::Closed(first, second), PairEvent::Crashed)
     }
 
     /// Does what is asked.
-    fn step(self, alloc: Global, request: Request<M>) -> (Self, Event<M>)
-        requires { OfMessage (M.within BOUND) request }
+    fn step(self, alloc: Global, request: PairRequest<M>) -> (Self, PairEvent<M>)
+        requires { OfMessages (M.within BOUND) request }
         ensures asked { request_of result.1 ≡ request }
-        ensures answer { (history : List (Event M)) → IsStage self history → IsAnswer history result.1 × IsStage result.0 (result.1 ∷ history) }
-        ensures cause { K.failed (disk_of result.0) ≡ failures_after result.1 (K.failed (disk_of self)) }
-        ensures comes { Comes K.keeps K.calls K.crashed K.failed result.1 (disk_of self) (disk_of result.0) }
-        ensures stands { K.keeps → GoesOn (Readable M.fits (M.within BOUND)) M.spelling K.seen K.calls self result.0 result.1 }
+        ensures answer { (history : List (PairEvent M)) → IsStage self history → IsAnswer history result.1 × IsStage result.0 (result.1 ∷ history) }
+        ensures comes { Comes (FitsBelow (2 ^ 32 - 1) (Readable M.fits (M.within BOUND)) M.spelling) M.spelling K.keeps K.seen K.calls K.crashed K.failed result.1 (disks_of self) (disks_of result.0) }
+        ensures stands { K.keeps → GoesOn (FitsBelow (2 ^ 32 - 1) (Readable M.fits (M.within BOUND)) M.spelling) M.spelling K.seen K.calls self result.0 result.1 }
     {
         match request {
-            Request::Open => self.open(alloc),
-            Request::Append(message) => self.append(message),
-            Request::Crash => self.crash(),
+            PairRequest::Open => self.open(alloc),
+            PairRequest::Append(message) => self.append(message),
+            PairRequest::Rewrite(list) => self.rewrite(list),
+            PairRequest::Crash => self.crash(),
         }
     }
 }
 
-/// Does what is asked of a disk, one after the other, and tells what came of each request.
+/// Does what is asked of two disks, one after the other, and tells what came of each request.
 ///
-/// Whatever a crash leaves at any moment, inside a call too, reads as what the last opening found,
-/// followed by a prefix of the messages whose append was begun since then and not refused, with all
-/// that were acknowledged. What an opening has found every later one finds, also where openings between
-/// were refused. A crash inside a call is told as that call, failed for the disk, and then a crash. The disk
-/// came from the one that was given by these events alone, one after the other. Each message has to be one
-/// that can be read again, as for [`Journal::append`].
+/// Whatever a crash leaves at any moment reads as the record that the last call has left; inside an append or
+/// a rewrite, and after one that failed for a disk, as the record from before that call or the one that it
+/// was to make, and as nothing else. The next opening finds it, also where openings between were refused. So
+/// each opening finds what was found and acknowledged before it, back to the last rewrite. A crash inside a
+/// call is told as that call, failed for a disk, and then a crash of both. The disks came from those that
+/// were given by these events alone, one after the other. Each message has to be one that can be read again,
+/// as for [`Pair::append`].
 ///
 /// # Errors
 ///
-/// Memory for the events is refused, before the disk is asked anything. The disk comes back.
+/// Memory for the events is refused, before the disks are asked anything. They come back.
 pub fn run<M: Read + EncodeSize + Drop, K: Crash>(
     alloc: Global,
-    disk: K,
-    requests: Vec<Request<M>>,
-) -> Result<History<M, K>, (AllocError, K)>
-    requires { All (OfMessage (M.within BOUND)) requests.items }
+    first: K,
+    second: K,
+    requests: Vec<PairRequest<M>>,
+) -> Result<PairHistory<M, K>, (AllocError, K, K)>
+    requires { All (OfMessages (M.within BOUND)) requests.items }
     ensures asked { IfOk result (λ history. map request_of history.events.items ≡ requests.items) }
     ensures answers { IfOk result (λ history. AtEachEvent IsAnswer (reverse history.events.items)) }
-    ensures cause { IfOk result (λ history. K.failed history.disk ≡ failures_told (K.failed disk) (reverse history.events.items)) }
-    ensures came { IfOk result (λ history. CameBy M.spelling K.keeps K.calls K.crashed K.failed disk (reverse history.events.items) history.disk) }
-    ensures refusals { IfOk result (λ history. K.keeps → AtEachEvent (IsTrueOf (Readable M.fits (M.within BOUND)) M.spelling (K.calls disk)) (reverse history.events.items)) }
-    ensures finds { IfOk result (λ history. K.keeps → AtEachEvent (Finds M.spelling (K.calls disk)) (reverse history.events.items)) }
+    ensures came { IfOk result (λ history. CameBy (FitsBelow (2 ^ 32 - 1) (Readable M.fits (M.within BOUND)) M.spelling) M.spelling K.keeps K.seen K.calls K.crashed K.failed
+        (record { first = first; second = second }) (reverse history.events.items) (record { first = history.first; second = history.second })) }
+    ensures refusals { IfOk result (λ history. K.keeps → AtEachEvent (IsTrueOf M.spelling) (reverse history.events.items)) }
+    ensures finds { IfOk result (λ history. K.keeps → AtEachEvent (Finds M.spelling (record { first = K.calls first; second = K.calls second })) (reverse history.events.items)) }
     ensures remembers { IfOk result (λ history. K.keeps → AtEachEvent Remembers (reverse history.events.items)) }
-    ensures next_opening { IfOk result (λ history. K.keeps → (image : List ℕ) → MayLeave (K.calls history.disk) image → MayRead M.spelling (K.calls disk) (reverse history.events.items) image) }
-    ensures untouched { IfErr result (λ refused. refused.1 ≡ disk) }
+    ensures next_opening { IfOk result (λ history. K.keeps → (one two : List ℕ) → MayLeave (K.calls history.first) one → MayLeave (K.calls history.second) two
+        → MayRead M.spelling (record { first = K.calls first; second = K.calls second }) (reverse history.events.items) one two) }
+    ensures untouched_first { IfErr result (λ refused. refused.1 ≡ first) }
+    ensures untouched_second { IfErr result (λ refused. refused.2 ≡ second) }
 {
     let Ok(mut events) = Vec::with_capacity(alloc, requests.len()) else {
-        return Err((AllocError, disk));
+        return Err((AllocError, first, second));
     };
-    let mut stage = Stage::Closed(disk);
+    let mut stage = Stage::Closed(first, second);
     for request in requests {
         let (next, event) = stage.step(alloc, request);
         stage = next;
@@ -198,8 +216,10 @@ pub fn run<M: Read + EncodeSize + Drop, K: Crash>(
             unreachable!()
         };
     }
-    Ok(History {
+    let (first, second) = stage.into_disks();
+    Ok(PairHistory {
         events,
-        disk: stage.into_disk(),
+        first,
+        second,
     })
 }

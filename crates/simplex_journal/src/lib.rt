@@ -1,22 +1,14 @@
-//! A list of artifacts that survives a crash at any moment, on any disk that keeps the stated model.
+//! A list of messages over two disks, which can be made shorter: a rewrite puts another list in its place, and a
+//! crash at any moment leaves the old list or the new one.
 #![tactic(auto)]
 
-mod disk;
-mod entries;
+mod disks;
 mod fault;
-mod file_disk;
 mod history;
-mod journal;
-mod laws;
-mod memory_disk;
 mod opening;
+mod pair;
+mod spelling;
 
-pub use disk::{Disk, DiskFault};
-pub use entries::{BOUND, Entries, read_entries, read_entries_below};
-pub use fault::JournalFault;
-pub use file_disk::FileDisk;
-pub use history::{Crash, Event, History, Request, run};
-pub use journal::{Journal, spelled};
-pub use laws::a_disk_reads_as_one_record;
-pub use memory_disk::MemoryDisk;
-pub use opening::read_disk;
+pub use fault::PairFault;
+pub use history::{PairEvent, PairHistory, PairRequest, run};
+pub use pair::Pair;

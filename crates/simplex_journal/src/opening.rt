@@ -1,137 +1,159 @@
 //! The steps of an opening.
 
-ghost use Rattle.std.specs.Prelude.{◌≡◌, ◌≢◌, ◌+◌, ◌<◌, ◌≤◌, ◌^◌, List, ℕ, length, map, [], ◌∷◌, All, IfErr, IfOk, OnOk, OnErr, is_ok, IsErrOf, true, false, ◌⊎◌};
-ghost use Rattle.simplex_codec.specs.Codec.{Readable};
-ghost use Rattle.simplex_journal.specs.declared.fault.JournalFault.TheVariants.{Device, Foreign, Memory};
-ghost use Rattle.simplex_journal.specs.Disk.{MayLeave, LeavesOnly, Synced, counted};
-ghost use Rattle.simplex_journal.specs.Record.{Reads, IsForeign, IsFound, IsFixed, IsAtRest, IsReopened};
+ghost use Rattle.std.specs.Prelude.{◌≡◌, ◌≢◌, ◌+◌, ◌-◌, ◌<◌, ◌≤◌, ◌^◌, ◌⊎◌, ◌∷◌, List, ℕ, length, map, [], All, IfErr, IfOk, OnOk, OnErr, is_ok, IsErrOf, true, false};
+ghost use Rattle.types_codec.specs.Codec.{Readable};
+ghost use Rattle.simplex_journal.specs.declared.fault.PairFault.TheVariants.{Device, Foreign, Memory};
+ghost use Rattle.journal_single.specs.Disk.{MayLeave, LeavesOnly, Synced, counted};
+ghost use Rattle.journal_single.specs.Record.{IsFixed, FitsBelow};
+ghost use Rattle.journal_generations.specs.Generation.{OneCounted};
+ghost use Rattle.simplex_journal.specs.Reading.{ReadsAs, ReadsPair, IsFoundOf, IsForeignOf, IsForeignPair, IsAtRestOf, IsPairAtRest, BothLeaveOnly, IsPairReopened};
 
-use crate::disk::{Disk, DiskFault};
-use crate::entries::{BOUND, Entries, read_entries};
-use crate::fault::JournalFault;
-use simplex_types::Read;
+use crate::fault::PairFault;
+use crate::spelling::TOO_LONG;
+use journal_generations::{begin, close_gate, is_first_read, record_in};
+use journal_single::{BOUND, Disk, DiskFault, JournalFault, read_disk, read_entries_below};
 use std::alloc::Global;
+use types_core::Read;
 
-/// Cuts behind the last gate, and closes it.
-pub(crate) fn repair<K: Disk>(disk: &mut K, gate: u64) -> Result<(), DiskFault>
-    requires room { gate < 2 ^ 63 }
-    requires found { K.keeps → (bodies : List (List ℕ)) × IsFound [] (K.seen disk.old) gate bodies }
-    requires some { K.keeps → gate < length (K.seen disk.old) }
-    ensures ok { OnOk result ((bodies : List (List ℕ)) → K.keeps → IsFixed (K.seen disk.old) (K.calls disk.old) → IsFound [] (K.seen disk.old) gate bodies
-        → IsAtRest [] (K.seen disk.new) (K.calls disk.new) gate bodies) }
-    ensures any_moment { (bodies : List (List ℕ)) → K.keeps → IsFixed (K.seen disk.old) (K.calls disk.old) → IsFound [] (K.seen disk.old) gate bodies
-        → LeavesOnly (K.calls disk.old) (K.calls disk.new) (λ image. Reads image bodies) }
-    ensures cause { K.failed disk.new ≡ counted (is_ok result) (K.failed disk.old) }
-{
-    disk.cut(gate + 1)?;
-    // The cut has to be on the disk first: behind a gate that is torn open, what was there would count.
-    disk.sync()?;
-    disk.write_at(gate, &[0])?;
-    disk.sync()?;
-    Ok(())
-}
-
-/// Writes the first gate of an empty disk.
-pub(crate) fn begin<K: Disk>(disk: &mut K) -> Result<(), DiskFault>
-    requires empty { K.keeps → K.seen disk.old ≡ [] }
-    ensures ok { OnOk result (K.keeps → IsAtRest [] (K.seen disk.new) (K.calls disk.new) 0 []) }
-    ensures any_moment { K.keeps → IsFixed (K.seen disk.old) (K.calls disk.old) → LeavesOnly (K.calls disk.old) (K.calls disk.new) (λ image. Reads image []) }
-    ensures cause { K.failed disk.new ≡ counted (is_ok result) (K.failed disk.old) }
-{
-    disk.write_at(0, &[0])?;
-    disk.sync()?;
-    Ok(())
-}
-
-/// Reads all that a disk holds, and asks no more of it.
-///
-/// # Errors
-///
-/// [`JournalFault::Device`] and [`JournalFault::Memory`].
-pub fn read_disk<K: Disk>(alloc: Global, disk: &mut K) -> Result<Vec<u8>, JournalFault>
-    ensures bytes { IfOk result (λ bytes. K.keeps → bytes.items ≡ K.seen disk.old) }
-    ensures seen { OnOk result (K.keeps → K.seen disk.new ≡ K.seen disk.old) }
-    ensures seen_of_others { IfErr result (λ fault. fault ≢ Device → K.keeps → K.seen disk.new ≡ K.seen disk.old) }
-    ensures calls { K.keeps → K.calls disk.new ≡ K.calls disk.old }
-    ensures device { IsErrOf result JournalFault.Device → K.failed disk.new ≡ counted false (K.failed disk.old) }
-    ensures no_fault { OnOk result (K.failed disk.new ≡ K.failed disk.old) }
-    ensures no_fault_of_others { IfErr result (λ fault. fault ≢ Device → K.failed disk.new ≡ K.failed disk.old) }
-    ensures faults { IfErr result (λ fault. (fault ≡ Device) ⊎ (fault ≡ Memory)) }
-{
-    let Ok(len) = disk.len() else {
-        return Err(JournalFault::Device);
-    };
-    let Ok(size) = usize::try_from(len) else {
-        return Err(JournalFault::Memory);
-    };
-    let Ok(mut bytes) = vec![in alloc; 0u8; size] else {
-        return Err(JournalFault::Memory);
-    };
-    match disk.read(0, &mut bytes) {
-        Ok(()) => Ok(bytes),
-        Err(_) => Err(JournalFault::Device),
-    }
+/// The record of a disk, and where it stands.
+#[derive(Drop)]
+pub(crate) struct Found<M> {
+    pub(crate) messages: Vec<M>,
+    pub(crate) generation: u32,
+    pub(crate) gate: u64,
 }
 
 /// Closes the last gate, or writes the first one.
 fn finish<K: Disk>(disk: &mut K, gate: u64, is_empty: bool) -> Result<(), DiskFault>
     requires room { gate < 2 ^ 63 }
-    requires found { K.keeps → (bodies : List (List ℕ)) × IsFound [] (K.seen disk.old) gate bodies }
     requires some { K.keeps → is_empty ≡ false → gate < length (K.seen disk.old) }
     requires none { K.keeps → is_empty ≡ true → K.seen disk.old ≡ [] }
-    ensures ok { OnOk result ((bodies : List (List ℕ)) → K.keeps → IsFixed (K.seen disk.old) (K.calls disk.old) → IsFound [] (K.seen disk.old) gate bodies
-        → IsAtRest [] (K.seen disk.new) (K.calls disk.new) gate bodies) }
-    ensures any_moment { (bodies : List (List ℕ)) → K.keeps → IsFixed (K.seen disk.old) (K.calls disk.old) → IsFound [] (K.seen disk.old) gate bodies
-        → LeavesOnly (K.calls disk.old) (K.calls disk.new) (λ image. Reads image bodies) }
+    ensures ok { OnOk result ((g : ℕ) (bodies : List (List ℕ)) → K.keeps → IsFoundOf g (K.seen disk.old) gate bodies → IsAtRestOf g (K.seen disk.new) (K.calls disk.new) gate bodies) }
+    ensures any_moment { (g : ℕ) (bodies : List (List ℕ)) → K.keeps → IsFixed (K.seen disk.old) (K.calls disk.old) → IsFoundOf g (K.seen disk.old) gate bodies
+        → LeavesOnly (K.calls disk.old) (K.calls disk.new) (λ image. ReadsAs image g bodies) }
     ensures cause { K.failed disk.new ≡ counted (is_ok result) (K.failed disk.old) }
 {
     if is_empty {
-        match begin(disk) {
-            Ok(()) => return Ok(()),
-            Err(fault) => return Err(fault),
-        }
+        return begin(disk);
     }
-    match repair(disk, gate) {
-        Ok(()) => Ok(()),
-        Err(fault) => Err(fault),
+    close_gate(disk, gate)
+}
+
+/// Reads the record of a disk.
+fn read_record<M: Read + Drop, K: Disk>(
+    alloc: Global,
+    disk: &mut K,
+) -> Result<(Found<M>, bool), PairFault>
+    ensures found { IfOk result (λ read. K.keeps → IsFoundOf read.0.generation (K.seen disk.old) read.0.gate (map M.spelling read.0.messages.items)) }
+    ensures fitting { IfOk result (λ read. All (FitsBelow (2 ^ 32 - 1) (Readable M.fits (M.within BOUND)) M.spelling) read.0.messages.items) }
+    ensures room { IfOk result (λ read. read.0.gate < 2 ^ 63) }
+    ensures some { IfOk result (λ read. K.keeps → read.1 ≡ false → read.0.gate < length (K.seen disk.old)) }
+    ensures none { IfOk result (λ read. K.keeps → read.1 ≡ true → K.seen disk.old ≡ []) }
+    ensures seen { OnOk result (K.keeps → K.seen disk.new ≡ K.seen disk.old) }
+    ensures seen_of_others { IfErr result (λ fault. fault ≢ Device → K.keeps → K.seen disk.new ≡ K.seen disk.old) }
+    ensures calls { K.keeps → K.calls disk.new ≡ K.calls disk.old }
+    ensures device { IsErrOf result PairFault.Device → K.failed disk.new ≡ counted false (K.failed disk.old) }
+    ensures no_fault { OnOk result (K.failed disk.new ≡ K.failed disk.old) }
+    ensures no_fault_of_others { IfErr result (λ fault. fault ≢ Device → K.failed disk.new ≡ K.failed disk.old) }
+    ensures foreign { IfErr result (λ fault. (place : ℕ) → fault ≡ Foreign place → K.keeps → (g : ℕ) × IsForeignOf (FitsBelow (2 ^ 32 - 1) (Readable M.fits (M.within BOUND)) M.spelling) M.spelling (K.seen disk.old) g place) }
+    ensures faults { IfErr result (λ fault. (fault ≡ Device) ⊎ ((fault ≡ Memory) ⊎ ((place : ℕ) × (fault ≡ Foreign place)))) }
+{
+    let bytes = match read_disk(alloc, disk) {
+        Ok(bytes) => bytes,
+        Err(JournalFault::Device) => return Err(PairFault::Device),
+        Err(_) => return Err(PairFault::Memory),
+    };
+    let (generation, record) = record_in(&bytes);
+    let start = (bytes.len() - record.len()) as u64;
+    match read_entries_below(alloc, record, TOO_LONG) {
+        Ok(entries) => {
+            let found = Found {
+                messages: entries.messages,
+                generation,
+                gate: start + entries.gate as u64,
+            };
+            Ok((found, bytes.is_empty()))
+        }
+        Err(JournalFault::Foreign(place)) => Err(PairFault::Foreign(start + place)),
+        Err(_) => Err(PairFault::Memory),
     }
 }
 
-/// Opens any disk. It may fail, or a crash may come, at any point.
-pub(crate) fn open_disk<M: Read + Drop, K: Disk>(
-    alloc: Global,
-    disk: &mut K,
-) -> Result<Entries<M>, JournalFault>
-    ensures ok { IfOk result (λ entries. K.keeps → IsAtRest [] (K.seen disk.new) (K.calls disk.new) entries.gate (map M.spelling entries.messages.items)) }
-    ensures fitting { IfOk result (λ entries. All (Readable M.fits (M.within BOUND)) entries.messages.items) }
-    ensures found { IfOk result (λ entries. K.keeps → (before : List ℕ) × MayLeave (K.calls disk.old) before × Reads before (map M.spelling entries.messages.items)) }
-    ensures reading { IfOk result (λ entries. K.keeps → Reads (K.seen disk.old) (map M.spelling entries.messages.items)) }
-    // After a crash at any moment of the opening the disk reads as a record that a crash before it might have left.
-    ensures any_moment { K.keeps → LeavesOnly (K.calls disk.old) (K.calls disk.new) (IsReopened (K.calls disk.old)) }
-    ensures device { IsErrOf result JournalFault.Device → K.failed disk.new ≡ counted false (K.failed disk.old) }
+/// Reads the record of a disk and closes its last gate.
+fn settle<M: Read + Drop, K: Disk>(alloc: Global, disk: &mut K) -> Result<Found<M>, PairFault>
+    ensures ok { IfOk result (λ found. K.keeps → IsAtRestOf found.generation (K.seen disk.new) (K.calls disk.new) found.gate (map M.spelling found.messages.items)) }
+    ensures fitting { IfOk result (λ found. All (FitsBelow (2 ^ 32 - 1) (Readable M.fits (M.within BOUND)) M.spelling) found.messages.items) }
+    ensures reading { IfOk result (λ found. K.keeps → ReadsAs (K.seen disk.old) found.generation (map M.spelling found.messages.items)) }
+    // A crash at any moment leaves a disk of the same generation that reads the same.
+    ensures any_moment { (g : ℕ) (bodies : List (List ℕ)) → K.keeps → IsFixed (K.seen disk.old) (K.calls disk.old) → ReadsAs (K.seen disk.old) g bodies
+        → LeavesOnly (K.calls disk.old) (K.calls disk.new) (λ image. ReadsAs image g bodies) }
+    ensures room { IfOk result (λ found. found.gate < 2 ^ 63) }
+    ensures seen_of_others { IfErr result (λ fault. fault ≢ Device → K.keeps → K.seen disk.new ≡ K.seen disk.old) }
+    ensures calls_of_others { IfErr result (λ fault. fault ≢ Device → K.keeps → K.calls disk.new ≡ K.calls disk.old) }
+    ensures device { IsErrOf result PairFault.Device → K.failed disk.new ≡ counted false (K.failed disk.old) }
     ensures no_fault { OnOk result (K.failed disk.new ≡ K.failed disk.old) }
     ensures no_fault_of_others { IfErr result (λ fault. fault ≢ Device → K.failed disk.new ≡ K.failed disk.old) }
-    ensures foreign { IfErr result (λ fault. (place : ℕ) → fault ≡ Foreign place → K.keeps → IsForeign [] (Readable M.fits (M.within BOUND)) M.spelling (K.seen disk.new) place) }
-    ensures foreign_reading { IfErr result (λ fault. (place : ℕ) → fault ≡ Foreign place → K.keeps → IsForeign [] (Readable M.fits (M.within BOUND)) M.spelling (K.seen disk.old) place) }
+    ensures foreign { IfErr result (λ fault. (place : ℕ) → fault ≡ Foreign place → K.keeps → (g : ℕ) × IsForeignOf (FitsBelow (2 ^ 32 - 1) (Readable M.fits (M.within BOUND)) M.spelling) M.spelling (K.seen disk.old) g place) }
     ensures faults { IfErr result (λ fault. (fault ≡ Device) ⊎ ((fault ≡ Memory) ⊎ ((place : ℕ) × (fault ≡ Foreign place)))) }
-    // After any other fault than the disk's own nothing was written or cut.
-    ensures untouched { IfErr result (λ fault. fault ≢ Device → K.keeps → K.calls disk.new ≡ Synced (K.seen disk.new) ∷ K.calls disk.old) }
 {
-    // What was found may go on only once it is fixed, or a crash could still take it back.
-    match disk.sync() {
-        Ok(()) => {}
-        Err(_) => return Err(JournalFault::Device),
+    let (found, is_empty) = match read_record(alloc, disk) {
+        Ok(read) => read,
+        Err(fault) => return Err(fault),
+    };
+    match finish(disk, found.gate, is_empty) {
+        Ok(()) => Ok(found),
+        Err(_) => Err(PairFault::Device),
     }
-    let bytes = match read_disk(alloc, disk) {
-        Ok(bytes) => bytes,
-        Err(fault) => return Err(fault),
+}
+
+/// Syncs two disks: what was found may go on only once it is fixed, or a crash could still take it back.
+fn sync_both<K: Disk>(first: &mut K, second: &mut K) -> Result<(), DiskFault>
+    ensures fixed { OnOk result (K.keeps → (K.calls first.new ≡ Synced (K.seen first.old) ∷ K.calls first.old) × (K.calls second.new ≡ Synced (K.seen second.old) ∷ K.calls second.old)) }
+    ensures seen { OnOk result (K.keeps → (K.seen first.new ≡ K.seen first.old) × (K.seen second.new ≡ K.seen second.old)) }
+    ensures first_left { K.keeps → LeavesOnly (K.calls first.old) (K.calls first.new) (MayLeave (K.calls first.old)) }
+    ensures second_left { K.keeps → LeavesOnly (K.calls second.old) (K.calls second.new) (MayLeave (K.calls second.old)) }
+    ensures cause { OneCounted (is_ok result) (K.failed first.old) (K.failed first.new) (K.failed second.old) (K.failed second.new) }
+{
+    first.sync()?;
+    second.sync()?;
+    Ok(())
+}
+
+/// Syncs two disks, chooses the one that is read, and settles its record. Answers it, and whether the first
+/// disk was chosen.
+pub(crate) fn open_disks<M: Read + Drop, K: Disk>(
+    alloc: Global,
+    first: &mut K,
+    second: &mut K,
+) -> Result<(Found<M>, bool), PairFault>
+    ensures ok { IfOk result (λ opened. K.keeps → IsPairAtRest opened.1 opened.0.generation (K.seen first.new) (K.calls first.new) (K.seen second.new) (K.calls second.new) opened.0.gate (map M.spelling opened.0.messages.items)) }
+    ensures fitting { IfOk result (λ opened. All (FitsBelow (2 ^ 32 - 1) (Readable M.fits (M.within BOUND)) M.spelling) opened.0.messages.items) }
+    ensures reading { IfOk result (λ opened. K.keeps → ReadsPair (K.seen first.old) (K.seen second.old) (map M.spelling opened.0.messages.items)) }
+    // After a crash at any moment both read as something that a crash before the opening might have left of both.
+    ensures any_moment { K.keeps → BothLeaveOnly (K.calls first.old) (K.calls first.new) (K.calls second.old) (K.calls second.new) (IsPairReopened (K.calls first.old) (K.calls second.old)) }
+    ensures room { IfOk result (λ opened. opened.0.gate < 2 ^ 63) }
+    // After any other fault than the disks' own nothing was written or cut.
+    ensures untouched { IfErr result (λ fault. fault ≢ Device → K.keeps → (K.calls first.new ≡ Synced (K.seen first.new) ∷ K.calls first.old) × (K.calls second.new ≡ Synced (K.seen second.new) ∷ K.calls second.old)) }
+    ensures device { IsErrOf result PairFault.Device → OneCounted false (K.failed first.old) (K.failed first.new) (K.failed second.old) (K.failed second.new) }
+    ensures no_fault { OnOk result ((K.failed first.new ≡ K.failed first.old) × (K.failed second.new ≡ K.failed second.old)) }
+    ensures no_fault_of_others { IfErr result (λ fault. fault ≢ Device → (K.failed first.new ≡ K.failed first.old) × (K.failed second.new ≡ K.failed second.old)) }
+    ensures foreign { IfErr result (λ fault. (place : ℕ) → fault ≡ Foreign place → K.keeps → IsForeignPair (FitsBelow (2 ^ 32 - 1) (Readable M.fits (M.within BOUND)) M.spelling) M.spelling (K.seen first.old) (K.seen second.old) place) }
+    ensures faults { IfErr result (λ fault. (fault ≡ Device) ⊎ ((fault ≡ Memory) ⊎ ((place : ℕ) × (fault ≡ Foreign place)))) }
+{
+    if sync_both(first, second).is_err() {
+        return Err(PairFault::Device);
+    }
+    let Ok(is_first) = is_first_read(first, second) else {
+        return Err(PairFault::Device);
     };
-    let entries = match read_entries(alloc, &bytes) {
-        Ok(entries) => entries,
-        Err(fault) => return Err(fault),
-    };
-    match finish(disk, entries.gate as u64, bytes.is_empty()) {
-        Ok(()) => Ok(entries),
-        Err(_) => Err(JournalFault::Device),
+    if is_first {
+        return match settle(alloc, first) {
+            Ok(found) => Ok((found, true)),
+            Err(fault) => Err(fault),
+        };
+    }
+    match settle(alloc, second) {
+        Ok(found) => Ok((found, false)),
+        Err(fault) => Err(fault),
     }
 }

@@ -1,14 +1,14 @@
 -- The repair and the voter have the same last finalized view.
 use Rattle.std.proofs.Common.{◌≡◌, ℕ, Bool, true, false, List, [], ◌∷◌, ◌++◌, Option, Some, None, refl, ◌∙◌, ap, arith}
 use Rattle.std.specs.Prelude.{if◌then◌else◌, max, option_map, option_to_list, unwrap_or}
-use Rattle.simplex_certificates.specs.declared.artifact.Artifact.{Artifact}
-use Rattle.simplex_certificates.specs.declared.artifact.Artifact.TheVariants as artifact
-use Rattle.simplex_certificates.specs.declared.certificate.Certificate.{Certificate}
-use Rattle.simplex_certificates.specs.declared.certificate.Certificate.TheVariants as certificate
+use Rattle.messages_certificates.specs.declared.artifact.Artifact.{Artifact}
+use Rattle.messages_certificates.specs.declared.artifact.Artifact.TheVariants as artifact
+use Rattle.messages_certificates.specs.declared.certificate.Certificate.{Certificate}
+use Rattle.messages_certificates.specs.declared.certificate.Certificate.TheVariants as certificate
 use Rattle.simplex_messages.specs.declared.vote.Vote.TheVariants as vote
-use Rattle.simplex_rules.specs.declared.kind.Kind.TheVariants as kind
-use Rattle.simplex_history.specs.History as views
-use Rattle.simplex_history.specs.History.{finalized, last_finalized, pruned, sent}
+use Rattle.types_terms.specs.declared.kind.Kind.TheVariants as kind
+use Rattle.voter_history.specs.History as views
+use Rattle.voter_history.specs.History.{finalized, last_finalized, pruned, sent}
 use Rattle.simplex_resolver.specs.History as repair
 use Rattle.simplex_resolver.specs.History.{Item, item_of}
 use Rattle.simplex_member.specs.Layers.{finalized_of, finalizes_above, finds, latest, repair_found, repair_items, repair_of, takes_certificate, takes_outcome, voter_of, voter_points}

@@ -1,6 +1,6 @@
 -- Histories of which each point was allowed after those before it.
 use Rattle.std.proofs.Common.{List, [], ◌∷◌, sym, subst}
-use Rattle.simplex_types.specs.declared.scheme.Scheme.{Ghosts}
+use Rattle.types_core.specs.declared.scheme.Scheme.{Ghosts}
 use Rattle.simplex_member.specs.Allowed.{AreAllowed}
 use Rattle.simplex_member.specs.Member.{Goes}
 use Rattle.simplex_member.specs.Packet.{Formats}

@@ -4,28 +4,28 @@ use Rattle.std.specs.Prelude.{Contains, IfSome, option_map, ⊤}
 use Rattle.std.proofs.lemmas.List.{append-nil, map-append}
 use Rattle.std.proofs.lemmas.List.Elements.{Contains-append_left, Contains-push_cases}
 use Rattle.std.proofs.lemmas.Option.{none-some}
-use Rattle.simplex_committee.specs.Counting.{Contains-cases, Contains-head}
-use Rattle.simplex_types.specs.declared.position.Round.{Round}
-use Rattle.simplex_types.specs.declared.proposal.Proposal.{Proposal}
-use Rattle.simplex_types.specs.declared.scheme.Scheme.{Ghosts}
-use Rattle.simplex_types.specs.Quorum.{IsQuorum}
-use Rattle.simplex_types.specs.Subject.{Statement, notarize, nullify, finalize}
-use Rattle.simplex_certificates.specs.declared.artifact.Artifact.{Artifact}
-use Rattle.simplex_certificates.specs.declared.certificate.Certificate.{Certificate}
-use Rattle.simplex_certificates.specs.declared.certificate.Certificate.TheVariants as certificate
-use Rattle.simplex_certificates.specs.ProposalCertificate.{Notarization}
-use Rattle.simplex_certificates.specs.Artifact.{certificate_artifact}
+use Rattle.types_quorum.specs.Counting.{Contains-cases, Contains-head}
+use Rattle.types_core.specs.declared.position.Round.{Round}
+use Rattle.types_core.specs.declared.proposal.Proposal.{Proposal}
+use Rattle.types_core.specs.declared.scheme.Scheme.{Ghosts}
+use Rattle.types_core.specs.Quorum.{IsQuorum}
+use Rattle.types_core.specs.Subject.{Statement, notarize, nullify, finalize}
+use Rattle.messages_certificates.specs.declared.artifact.Artifact.{Artifact}
+use Rattle.messages_certificates.specs.declared.certificate.Certificate.{Certificate}
+use Rattle.messages_certificates.specs.declared.certificate.Certificate.TheVariants as certificate
+use Rattle.messages_certificates.specs.ProposalCertificate.{Notarization}
+use Rattle.messages_certificates.specs.Artifact.{certificate_artifact}
 use Rattle.simplex_messages.specs.declared.vote.Vote.{Vote}
 use Rattle.simplex_messages.specs.declared.vote.Vote.TheVariants as vote
 use Rattle.simplex_messages.specs.VoteParts.{vote_artifact}
 use Rattle.simplex_record.specs.Chain.{JudgesOnGround, MayFollowOnGround, StandsOnGround}
 use Rattle.simplex_record.specs.Record.{Entry, entry, entries, HasJudged, HasTaken, HasVoted}
 use Rattle.simplex_record.specs.Record as recorded
-use Rattle.simplex_history.specs.History.{scheduled_leader}
-use Rattle.simplex_rules.specs.declared.kind.Kind.{Kind}
-use Rattle.simplex_verifier.specs.declared.batch.Batch.{Batch}
-use Rattle.simplex_laws.specs.Alone.{DueNotarizeIsOnGroundOrNext, DueVerdictOfOneIsOnGround, GroundStays, VotesOnGroundOrNext}
-use Rattle.simplex_laws.specs.Matching.{EachHistoryMatches}
+use Rattle.voter_history.specs.History.{scheduled_leader}
+use Rattle.types_terms.specs.declared.kind.Kind.{Kind}
+use Rattle.batcher_verifier.specs.declared.batch.Batch.{Batch}
+use Rattle.voter_laws.specs.Alone.{DueNotarizeIsOnGroundOrNext, DueVerdictOfOneIsOnGround, GroundStays, VotesOnGroundOrNext}
+use Rattle.voter_laws.specs.Matching.{EachHistoryMatches}
 use Rattle.simplex_member.specs.declared.event.Event.{Event}
 use Rattle.simplex_member.specs.declared.event.Event.TheVariants as event
 use Rattle.simplex_member.specs.declared.refusal.Refusal.TheVariants as refusal

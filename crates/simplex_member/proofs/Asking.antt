@@ -3,23 +3,23 @@ use Rattle.std.proofs.Common.{◌≡◌, ◌⊎◌, inl, inr, ⊎_elim, ℕ, ◌
 use Rattle.std.specs.Prelude.{Contains, ◌||◌, option_map, option_to_list}
 use Rattle.std.proofs.lemmas.Bool.{cases_lt, eqb-true}
 use Rattle.std.proofs.lemmas.List.Elements.{Contains-append_cases, Contains-append_left}
-use Rattle.simplex_committee.specs.Counting.{Contains-head, Contains-nil, Contains-rest}
-use Rattle.simplex_types.specs.declared.position.Round.{Round}
-use Rattle.simplex_types.specs.declared.scheme.Scheme.{Ghosts}
-use Rattle.simplex_types.specs.Positions.{HasRoom, term_end}
-use Rattle.simplex_types.specs.Subject.{Statement, notarize, nullify, finalize, statement_round}
-use Rattle.simplex_certificates.specs.declared.artifact.Artifact.{Artifact}
-use Rattle.simplex_certificates.specs.declared.artifact.Artifact.TheVariants as artifact
-use Rattle.simplex_certificates.specs.declared.certificate.Certificate.{Certificate}
-use Rattle.simplex_certificates.specs.declared.certificate.Certificate.TheVariants as certificate
-use Rattle.simplex_certificates.specs.Artifact.{certificate_artifact}
-use Rattle.simplex_certificates.specs.Certificate.{certificate_round}
-use Rattle.simplex_rules.specs.Spans.{term_end-above}
-use Rattle.simplex_rules.specs.Windows.{AdmitsOutbound}
+use Rattle.types_quorum.specs.Counting.{Contains-head, Contains-nil, Contains-rest}
+use Rattle.types_core.specs.declared.position.Round.{Round}
+use Rattle.types_core.specs.declared.scheme.Scheme.{Ghosts}
+use Rattle.types_core.specs.Positions.{HasRoom, term_end}
+use Rattle.types_core.specs.Subject.{Statement, notarize, nullify, finalize, statement_round}
+use Rattle.messages_certificates.specs.declared.artifact.Artifact.{Artifact}
+use Rattle.messages_certificates.specs.declared.artifact.Artifact.TheVariants as artifact
+use Rattle.messages_certificates.specs.declared.certificate.Certificate.{Certificate}
+use Rattle.messages_certificates.specs.declared.certificate.Certificate.TheVariants as certificate
+use Rattle.messages_certificates.specs.Artifact.{certificate_artifact}
+use Rattle.messages_certificates.specs.Certificate.{certificate_round}
+use Rattle.types_terms.specs.Spans.{term_end-above}
+use Rattle.types_terms.specs.Windows.{AdmitsOutbound}
 use Rattle.simplex_record.specs.Record.{taken, current_view, entries, entry, enters, HasTaken}
-use Rattle.simplex_decisions.specs.Requests.{IsOpen}
-use Rattle.simplex_laws.specs.Matching.{EachHistoryMatches}
-use Rattle.simplex_laws.specs.Missing.{IsMissing}
+use Rattle.voter_rules.specs.Requests.{IsOpen}
+use Rattle.voter_laws.specs.Matching.{EachHistoryMatches}
+use Rattle.voter_laws.specs.Missing.{IsMissing}
 use Rattle.simplex_resolver.specs.declared.ask.Ask.{Ask}
 use Rattle.simplex_resolver.specs.declared.ask.Kind as repair
 use Rattle.simplex_resolver.specs.declared.ask.Kind.TheVariants as repair_kind

@@ -4,21 +4,21 @@ use Rattle.std.specs.Prelude.{Contains, IsSome, if◌then◌else◌, option_map}
 use Rattle.std.proofs.lemmas.Bool.{false≢true}
 use Rattle.std.proofs.lemmas.Bool.Decides.{Decides-eqb}
 use Rattle.std.proofs.lemmas.Option.{none-some}
-use Rattle.simplex_committee.specs.Counting.{Contains-cases, Contains-nil}
-use Rattle.simplex_types.specs.declared.position.Round.{Round}
-use Rattle.simplex_types.specs.declared.proposal.Proposal.{Proposal}
-use Rattle.simplex_types.specs.declared.scheme.Scheme.{Ghosts}
-use Rattle.simplex_types.specs.Positions.{HasRoom}
-use Rattle.simplex_types.specs.Subject.{notarize}
-use Rattle.simplex_certificates.specs.declared.artifact.Artifact.{Artifact}
-use Rattle.simplex_certificates.specs.declared.artifact.Artifact.TheVariants as artifact
-use Rattle.simplex_certificates.specs.ProposalCertificate.{Notarization}
+use Rattle.types_quorum.specs.Counting.{Contains-cases, Contains-nil}
+use Rattle.types_core.specs.declared.position.Round.{Round}
+use Rattle.types_core.specs.declared.proposal.Proposal.{Proposal}
+use Rattle.types_core.specs.declared.scheme.Scheme.{Ghosts}
+use Rattle.types_core.specs.Positions.{HasRoom}
+use Rattle.types_core.specs.Subject.{notarize}
+use Rattle.messages_certificates.specs.declared.artifact.Artifact.{Artifact}
+use Rattle.messages_certificates.specs.declared.artifact.Artifact.TheVariants as artifact
+use Rattle.messages_certificates.specs.ProposalCertificate.{Notarization}
 use Rattle.simplex_record.specs.Record as recorded
 use Rattle.simplex_record.specs.Record.{Entry, entry, entries}
-use Rattle.simplex_history.specs.History.{seen}
-use Rattle.simplex_history.specs.Past as past
-use Rattle.simplex_laws.specs.Matching.{EachHistoryMatches}
-use Rattle.simplex_laws.specs.Recording.{EachRecordIsKnown, IsKnown}
+use Rattle.voter_history.specs.History.{seen}
+use Rattle.voter_history.specs.Past as past
+use Rattle.voter_laws.specs.Matching.{EachHistoryMatches}
+use Rattle.voter_laws.specs.Recording.{EachRecordIsKnown, IsKnown}
 use Rattle.simplex_member.specs.Allowed.{Allowed, AreAllowed, MayRecord}
 use Rattle.simplex_member.specs.Asked.{IsAwaited}
 use Rattle.simplex_member.specs.Laws.{IsJudgeable}

@@ -4,32 +4,32 @@ use Rattle.std.specs.Prelude.{Contains, IfSome, IsSome, MatchBool, find, if◌th
 use Rattle.std.specs.Option.{option_or}
 use Rattle.std.proofs.lemmas.Bool.{and_parts, eqb-true, le-ltb}
 use Rattle.std.proofs.lemmas.Option.{none-some}
-use Rattle.simplex_committee.specs.Counting.{Contains-cases, Contains-head, Contains-rest}
-use Rattle.simplex_types.specs.declared.attestation.Attestation.{Attestation}
-use Rattle.simplex_types.specs.declared.position.Round.{Round}
-use Rattle.simplex_types.specs.declared.scheme.Scheme.{Ghosts}
-use Rattle.simplex_committee.specs.Committee.{quorum}
-use Rattle.simplex_types.specs.Subject.{notarize, nullify, finalize}
-use Rattle.simplex_certificates.specs.declared.artifact.Artifact.TheVariants as artifact
-use Rattle.simplex_certificates.specs.declared.certificate.Certificate.{Certificate}
-use Rattle.simplex_certificates.specs.declared.certificate.Certificate.TheVariants as certificate
+use Rattle.types_quorum.specs.Counting.{Contains-cases, Contains-head, Contains-rest}
+use Rattle.types_core.specs.declared.attestation.Attestation.{Attestation}
+use Rattle.types_core.specs.declared.position.Round.{Round}
+use Rattle.types_core.specs.declared.scheme.Scheme.{Ghosts}
+use Rattle.types_quorum.specs.Committee.{quorum}
+use Rattle.types_core.specs.Subject.{notarize, nullify, finalize}
+use Rattle.messages_certificates.specs.declared.artifact.Artifact.TheVariants as artifact
+use Rattle.messages_certificates.specs.declared.certificate.Certificate.{Certificate}
+use Rattle.messages_certificates.specs.declared.certificate.Certificate.TheVariants as certificate
 use Rattle.simplex_messages.specs.declared.vote.Vote.{Vote}
 use Rattle.simplex_messages.specs.declared.vote.Vote.TheVariants as vote
-use Rattle.simplex_certificates.specs.Artifact.{certificate_artifact}
+use Rattle.messages_certificates.specs.Artifact.{certificate_artifact}
 use Rattle.simplex_messages.specs.VoteParts.{vote_artifact}
-use Rattle.simplex_certificates.specs.Certificate.{certificate_round, certificate_statement, certified_by}
+use Rattle.messages_certificates.specs.Certificate.{certificate_round, certificate_statement, certified_by}
 use Rattle.simplex_messages.specs.VoteParts.{vote_round, vote_signer}
 use Rattle.simplex_record.specs.Record.{Entry, entry, entries, HasVoted}
 use Rattle.simplex_record.specs.Rules.{MayFollow}
-use Rattle.simplex_rules.specs.declared.kind.Kind.{Kind}
-use Rattle.simplex_verifier.specs.declared.batch.Batch.{Batch}
-use Rattle.simplex_verifier.specs.Votes.{is_in_way, vote_attestation, vote_statement}
-use Rattle.simplex_verifier.specs.History as votes
-use Rattle.simplex_verifier.specs.History.{Taken, Cast, Certified, Led, Forwarded, accepted, forwardable, has_forwarded, is_ready, leader_of, recorded}
-use Rattle.simplex_verifier.specs.Lawful as lawful
-use Rattle.simplex_verifier.specs.Lawful.{IsLawful, IsRight}
-use Rattle.simplex_verifier.specs.ConstructionResult.{IsBatch, IsCertificateOn, IsFounded, IsOfVerified, IsOfWaiting, after}
-use Rattle.simplex_verifier.specs.Quorums.{AllCertified}
+use Rattle.types_terms.specs.declared.kind.Kind.{Kind}
+use Rattle.batcher_verifier.specs.declared.batch.Batch.{Batch}
+use Rattle.batcher_verifier.specs.Votes.{is_in_way, vote_attestation, vote_statement}
+use Rattle.batcher_verifier.specs.History as votes
+use Rattle.batcher_verifier.specs.History.{Taken, Cast, Certified, Led, Forwarded, accepted, forwardable, has_forwarded, is_ready, leader_of, recorded}
+use Rattle.batcher_verifier.specs.Lawful as lawful
+use Rattle.batcher_verifier.specs.Lawful.{IsLawful, IsRight}
+use Rattle.batcher_verifier.specs.ConstructionResult.{IsBatch, IsCertificateOn, IsFounded, IsOfVerified, IsOfWaiting, after}
+use Rattle.batcher_verifier.specs.Quorums.{AllCertified}
 use Rattle.simplex_member.specs.Allowed.{Allowed, AreAllowed, MayRecord}
 use Rattle.simplex_member.specs.Laws.{IsOfVote, RoundLaws}
 use Rattle.simplex_member.specs.Layers.{all_votes, floor_of, opened, opens, passes_over, stage, votes_of, votes_setup}

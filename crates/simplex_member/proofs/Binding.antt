@@ -3,27 +3,27 @@ use Rattle.std.proofs.Common.{◌≡◌, ◌≢◌, ◌⊎◌, inl, inr, ⊎_eli
 use Rattle.std.specs.Prelude.{IsSome, if◌then◌else◌, is_some, not, ◌&&◌, option_map, unwrap_or}
 use Rattle.std.proofs.lemmas.Bool.{eqb-true}
 use Rattle.std.proofs.lemmas.Option.{none-some}
-use Rattle.simplex_types.specs.declared.context.Context.{Context}
-use Rattle.simplex_types.specs.declared.position.Round.{Round}
-use Rattle.simplex_types.specs.declared.proposal.Proposal.{Proposal}
-use Rattle.simplex_types.specs.declared.scheme.Scheme.{Ghosts}
-use Rattle.simplex_certificates.specs.declared.artifact.Artifact.TheVariants as artifact
-use Rattle.simplex_certificates.specs.declared.certificate.Certificate.{Certificate}
-use Rattle.simplex_certificates.specs.declared.certificate.Certificate.TheVariants as certificate
+use Rattle.types_core.specs.declared.context.Context.{Context}
+use Rattle.types_core.specs.declared.position.Round.{Round}
+use Rattle.types_core.specs.declared.proposal.Proposal.{Proposal}
+use Rattle.types_core.specs.declared.scheme.Scheme.{Ghosts}
+use Rattle.messages_certificates.specs.declared.artifact.Artifact.TheVariants as artifact
+use Rattle.messages_certificates.specs.declared.certificate.Certificate.{Certificate}
+use Rattle.messages_certificates.specs.declared.certificate.Certificate.TheVariants as certificate
 use Rattle.simplex_messages.specs.declared.vote.Vote.TheVariants as vote
-use Rattle.simplex_history.specs.Held.{IsVerifyAsked}
-use Rattle.simplex_history.specs.Past as past
-use Rattle.simplex_rules.specs.declared.kind.Kind.TheVariants as kind
-use Rattle.simplex_history.specs.History as views
-use Rattle.simplex_history.specs.History.{finalized, last_finalized, pruned, seen, sent}
-use Rattle.simplex_history.specs.Leaders.{leader}
-use Rattle.simplex_decisions.specs.Ancestry.{held_at}
-use Rattle.simplex_decisions.specs.VotesDue.{NotarizeIsDue}
-use Rattle.simplex_decisions.specs.GivingUp.{IsTracked}
-use Rattle.simplex_laws.specs.Matching.{IsBound}
-use Rattle.simplex_decisions.specs.Building.{proposal_on}
-use Rattle.simplex_verifier.specs.History as votes
-use Rattle.simplex_verifier.specs.History.{forwardable, has_forwarded, is_another, leader_of, selected}
+use Rattle.voter_history.specs.Held.{IsVerifyAsked}
+use Rattle.voter_history.specs.Past as past
+use Rattle.types_terms.specs.declared.kind.Kind.TheVariants as kind
+use Rattle.voter_history.specs.History as views
+use Rattle.voter_history.specs.History.{finalized, last_finalized, pruned, seen, sent}
+use Rattle.voter_history.specs.Leaders.{leader}
+use Rattle.voter_rules.specs.Ancestry.{held_at}
+use Rattle.voter_rules.specs.VotesDue.{NotarizeIsDue}
+use Rattle.voter_rules.specs.GivingUp.{IsTracked}
+use Rattle.voter_laws.specs.Matching.{IsBound}
+use Rattle.voter_rules.specs.Building.{proposal_on}
+use Rattle.batcher_verifier.specs.History as votes
+use Rattle.batcher_verifier.specs.History.{forwardable, has_forwarded, is_another, leader_of, selected}
 use Rattle.simplex_member.specs.Allowed.{Allowed, AreAllowed}
 use Rattle.simplex_member.specs.Asked.{build_at, check_at}
 use Rattle.simplex_member.specs.Laws.{AreTracked, RoundLaws}

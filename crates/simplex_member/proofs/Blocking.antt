@@ -1,7 +1,7 @@
 -- Whom a node blocks: whose packet it refuses, and whose vote a construction finds false.
 use Rattle.std.proofs.Common.{ℕ, [], ◌∷◌, Option, Some, None, refl, ap, subst, arith}
 use Rattle.std.specs.Prelude.{Contains}
-use Rattle.simplex_types.specs.declared.scheme.Scheme.{Ghosts}
+use Rattle.types_core.specs.declared.scheme.Scheme.{Ghosts}
 use Rattle.simplex_messages.specs.declared.vote.Vote.TheVariants as vote
 use Rattle.simplex_member.specs.Deeds.{Deed, Sends, Blocks, deeds_of}
 use Rattle.simplex_member.specs.Packet.{Formats, of_vote}

@@ -4,19 +4,19 @@ use Rattle.std.specs.Prelude.{IsSome, if◌then◌else◌, nat_lt, nat_le, ⊤}
 use Rattle.std.specs.Option.{option_or}
 use Rattle.std.proofs.lemmas.Bool.{eqb-true, le-ltb}
 use Rattle.std.proofs.lemmas.Option.{none-some}
-use Rattle.simplex_types.specs.declared.proposal.Proposal.{Proposal}
-use Rattle.simplex_rules.specs.declared.kind.Kind.TheVariants as kind
-use Rattle.simplex_types.specs.Positions.{next_term_start}
-use Rattle.simplex_history.specs.declared.timeout_reason.TimeoutReason.TheVariants as reason
-use Rattle.simplex_history.specs.Held as offer
-use Rattle.simplex_history.specs.Held.{held, IsConfirmed, IsVerifyAsked}
-use Rattle.simplex_history.specs.Past as past
-use Rattle.simplex_history.specs.Past.{Item}
-use Rattle.simplex_history.specs.Leaders.{extend}
-use Rattle.simplex_history.specs.Pasts.{bind, put}
-use Rattle.simplex_history.specs.History as views
-use Rattle.simplex_history.specs.History.{started, notarized, nullified, finalized, judged, forwarded, built, confirmed, unbound, latched, build_asked, build_released, verify_asked, ancestry_asked, certify_asked, certify_waited, voted_notarize, voted_nullify, voted_finalize, recalled_notarize, recalled_nullify, recalled_finalize, recalled_verdict, sent, polled, pruned, current, enter, later, min_active, seen, undecided_payload}
-use Rattle.simplex_history.specs.Leaders.{inherits, leader, named, named_early}
+use Rattle.types_core.specs.declared.proposal.Proposal.{Proposal}
+use Rattle.types_terms.specs.declared.kind.Kind.TheVariants as kind
+use Rattle.types_core.specs.Positions.{next_term_start}
+use Rattle.voter_history.specs.declared.timeout_reason.TimeoutReason.TheVariants as reason
+use Rattle.voter_history.specs.Held as offer
+use Rattle.voter_history.specs.Held.{held, IsConfirmed, IsVerifyAsked}
+use Rattle.voter_history.specs.Past as past
+use Rattle.voter_history.specs.Past.{Item}
+use Rattle.voter_history.specs.Leaders.{extend}
+use Rattle.voter_history.specs.Pasts.{bind, put}
+use Rattle.voter_history.specs.History as views
+use Rattle.voter_history.specs.History.{started, notarized, nullified, finalized, judged, forwarded, built, confirmed, unbound, latched, build_asked, build_released, verify_asked, ancestry_asked, certify_asked, certify_waited, voted_notarize, voted_nullify, voted_finalize, recalled_notarize, recalled_nullify, recalled_finalize, recalled_verdict, sent, polled, pruned, current, enter, later, min_active, seen, undecided_payload}
+use Rattle.voter_history.specs.Leaders.{inherits, leader, named, named_early}
 use Rattle.simplex_member.proofs.Rising.{all-rise}
 use Rattle.simplex_member.proofs.Lists.{some-is}
 

@@ -4,28 +4,28 @@ use Rattle.std.specs.Prelude.{Contains, ◌&&◌, if◌then◌else◌, nat_lt, o
 use Rattle.std.specs.Option.{option_and_then}
 use Rattle.std.proofs.lemmas.Option.{none-some}
 use Rattle.std.proofs.lemmas.List.Elements.{Contains-append_cases}
-use Rattle.simplex_committee.specs.Counting.{Contains-nil}
-use Rattle.simplex_types.specs.declared.scheme.Scheme.{Ghosts}
-use Rattle.simplex_types.specs.Quorum.{IsQuorum}
-use Rattle.simplex_types.specs.Subject.{Statement}
-use Rattle.simplex_certificates.specs.declared.artifact.Artifact.{Artifact}
-use Rattle.simplex_certificates.specs.declared.artifact.Artifact.TheVariants as artifact
-use Rattle.simplex_certificates.specs.declared.certificate.Certificate.{Certificate}
-use Rattle.simplex_certificates.specs.declared.certificate.Certificate.TheVariants as certificate
-use Rattle.simplex_certificates.specs.Artifact.{certificate_artifact}
-use Rattle.simplex_certificates.specs.Certificate.{certificate_statement, certified_by}
-use Rattle.simplex_certificates.specs.ProposalCertificate.{Notarization}
-use Rattle.simplex_certificates.specs.ProposalVote.{contradict}
-use Rattle.simplex_certificates.specs.StandsBeside.{stands_beside}
+use Rattle.types_quorum.specs.Counting.{Contains-nil}
+use Rattle.types_core.specs.declared.scheme.Scheme.{Ghosts}
+use Rattle.types_core.specs.Quorum.{IsQuorum}
+use Rattle.types_core.specs.Subject.{Statement}
+use Rattle.messages_certificates.specs.declared.artifact.Artifact.{Artifact}
+use Rattle.messages_certificates.specs.declared.artifact.Artifact.TheVariants as artifact
+use Rattle.messages_certificates.specs.declared.certificate.Certificate.{Certificate}
+use Rattle.messages_certificates.specs.declared.certificate.Certificate.TheVariants as certificate
+use Rattle.messages_certificates.specs.Artifact.{certificate_artifact}
+use Rattle.messages_certificates.specs.Certificate.{certificate_statement, certified_by}
+use Rattle.messages_certificates.specs.ProposalCertificate.{Notarization}
+use Rattle.messages_certificates.specs.ProposalVote.{contradict}
+use Rattle.messages_certificates.specs.StandsBeside.{stands_beside}
 use Rattle.simplex_messages.specs.declared.activity.Activity.{Activity}
 use Rattle.simplex_messages.specs.declared.activity.Activity.TheVariants as activity
 use Rattle.simplex_messages.specs.declared.vote.Vote.{Vote}
 use Rattle.simplex_messages.specs.declared.vote.Vote.TheVariants as vote
 use Rattle.simplex_messages.specs.VoteParts.{vote_round, vote_signer}
-use Rattle.simplex_admission.specs.Evidence.{as_report, evidence}
+use Rattle.batcher_admission.specs.Evidence.{as_report, evidence}
 use Rattle.simplex_batcher.specs.Admission.{report_of}
-use Rattle.simplex_verifier.specs.History.{is_kept_in_full, recorded, takes}
-use Rattle.simplex_verifier.specs.Votes.{vote_kind}
+use Rattle.batcher_verifier.specs.History.{is_kept_in_full, recorded, takes}
+use Rattle.batcher_verifier.specs.Votes.{vote_kind}
 use Rattle.simplex_record.specs.World.{World, IsCorrect}
 use Rattle.simplex_member.specs.declared.event.Event.{Event}
 use Rattle.simplex_member.specs.declared.event.Event.TheVariants as event

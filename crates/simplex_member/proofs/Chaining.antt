@@ -2,14 +2,14 @@
 use Rattle.std.proofs.Common.{◌≡◌, ◌≢◌, ℕ, true, List, [], ◌∷◌, ◌++◌, Option, Some, None, refl, sym, ◌∙◌, ap, subst, arith, append_assoc}
 use Rattle.std.specs.Prelude.{IfSome}
 use Rattle.std.proofs.lemmas.List.{append-nil, map-append}
-use Rattle.simplex_types.specs.declared.scheme.Scheme.{Ghosts}
-use Rattle.simplex_certificates.specs.declared.artifact.Artifact.{Artifact}
+use Rattle.types_core.specs.declared.scheme.Scheme.{Ghosts}
+use Rattle.messages_certificates.specs.declared.artifact.Artifact.{Artifact}
 use Rattle.simplex_record.specs.declared.owner.Owner.{Owner}
 use Rattle.simplex_record.specs.Chain.{MayFollowOnGround, StandsOnGround}
 use Rattle.simplex_record.specs.Record.{Entry, entry, entries}
 use Rattle.simplex_record.specs.World.{World, IsCorrect}
-use Rattle.simplex_history.specs.History.{scheduled_leader}
-use Rattle.simplex_laws.specs.Matching.{DueNotarizeIsOnGround, DueVerdictIsOnGround, EachHistoryMatches}
+use Rattle.voter_history.specs.History.{scheduled_leader}
+use Rattle.voter_laws.specs.Matching.{DueNotarizeIsOnGround, DueVerdictIsOnGround, EachHistoryMatches}
 use Rattle.simplex_member.specs.declared.event.Event.{Event}
 use Rattle.simplex_member.specs.Allowed.{AreAllowed}
 use Rattle.simplex_member.specs.Layers.{is_begun}

@@ -1,7 +1,7 @@
 -- Two comparisons that hold of equals alone are one.
 use Rattle.std.proofs.Common.{◌≡◌, Bool, true, false, refl, subst}
 use Rattle.std.specs.Prelude.{◌↔◌, IsTrue}
-use Rattle.simplex_types.specs.declared.scheme.Scheme.{Ghosts}
+use Rattle.types_core.specs.declared.scheme.Scheme.{Ghosts}
 use Rattle.simplex_member.specs.Laws.{RoundLaws}
 use Rattle.simplex_member.proofs.Telling.{apart}
 

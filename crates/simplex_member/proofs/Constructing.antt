@@ -3,27 +3,27 @@ use Rattle.std.proofs.Common.{◌≡◌, ⊎_elim, ℕ, ◌<◌, ◌≤◌, ◌&
 use Rattle.std.specs.Prelude.{Contains, IfSome, IsSome, MatchBool, if◌then◌else◌, filter, is_some, nat_le, nat_lt, not, option_map, unwrap_or}
 use Rattle.std.proofs.lemmas.Bool.{and_parts, leb-true, ltb-true}
 use Rattle.std.proofs.lemmas.List.Elements.{All-contains}
-use Rattle.simplex_committee.specs.Committee.{faults-few, quorum}
-use Rattle.simplex_committee.specs.Counting.{Contains-cases, Contains-nil}
-use Rattle.simplex_types.specs.declared.position.Round.{Round}
-use Rattle.simplex_types.specs.declared.scheme.Scheme.{Ghosts}
-use Rattle.simplex_types.specs.Subject.{Statement, notarize, nullify, finalize, statement_round}
-use Rattle.simplex_types.specs.Positions.{HasRoom}
-use Rattle.simplex_certificates.specs.declared.certificate.Certificate.{Certificate}
-use Rattle.simplex_certificates.specs.declared.certificate.Certificate.TheVariants as certificate
-use Rattle.simplex_certificates.specs.Artifact.{certificate_artifact}
-use Rattle.simplex_certificates.specs.Certificate.{certificate_round, certificate_statement, certified_by}
+use Rattle.types_quorum.specs.Committee.{faults-few, quorum}
+use Rattle.types_quorum.specs.Counting.{Contains-cases, Contains-nil}
+use Rattle.types_core.specs.declared.position.Round.{Round}
+use Rattle.types_core.specs.declared.scheme.Scheme.{Ghosts}
+use Rattle.types_core.specs.Subject.{Statement, notarize, nullify, finalize, statement_round}
+use Rattle.types_core.specs.Positions.{HasRoom}
+use Rattle.messages_certificates.specs.declared.certificate.Certificate.{Certificate}
+use Rattle.messages_certificates.specs.declared.certificate.Certificate.TheVariants as certificate
+use Rattle.messages_certificates.specs.Artifact.{certificate_artifact}
+use Rattle.messages_certificates.specs.Certificate.{certificate_round, certificate_statement, certified_by}
 use Rattle.simplex_messages.specs.declared.vote.Vote.{Vote}
 use Rattle.simplex_record.specs.Record.{entries, HasTaken}
 use Rattle.simplex_record.specs.Rules.{AreAlike, HasParentBelow, MayTake}
-use Rattle.simplex_rules.specs.declared.kind.Kind.{Kind}
-use Rattle.simplex_rules.specs.declared.kind.Kind.TheVariants.{Notarization, Nullification, Finalization}
-use Rattle.simplex_verifier.specs.declared.batch.Batch.{Batch}
-use Rattle.simplex_verifier.specs.History as votes
-use Rattle.simplex_verifier.specs.History.{Taken, Cast, Judged, accepted, context, counting, is_candidate, is_complete, is_due, is_ready, is_worth_judging, next_kind, selected, verified, waiting}
-use Rattle.simplex_verifier.specs.Lawful.{IsLawful}
-use Rattle.simplex_verifier.specs.ConstructionResult.{IsBatch, IsCertificateOn, IsFounded, IsOfVerified, IsOfWaiting}
-use Rattle.simplex_verifier.specs.Votes.{is_kind, vote_kind, vote_statement}
+use Rattle.types_terms.specs.declared.kind.Kind.{Kind}
+use Rattle.types_terms.specs.declared.kind.Kind.TheVariants.{Notarization, Nullification, Finalization}
+use Rattle.batcher_verifier.specs.declared.batch.Batch.{Batch}
+use Rattle.batcher_verifier.specs.History as votes
+use Rattle.batcher_verifier.specs.History.{Taken, Cast, Judged, accepted, context, counting, is_candidate, is_complete, is_due, is_ready, is_worth_judging, next_kind, selected, verified, waiting}
+use Rattle.batcher_verifier.specs.Lawful.{IsLawful}
+use Rattle.batcher_verifier.specs.ConstructionResult.{IsBatch, IsCertificateOn, IsFounded, IsOfVerified, IsOfWaiting}
+use Rattle.batcher_verifier.specs.Votes.{is_kind, vote_kind, vote_statement}
 use Rattle.simplex_member.specs.Allowed.{Allowed, AreAllowed, MayRecord}
 use Rattle.simplex_member.specs.Laws.{RecordLaws, RoundLaws}
 use Rattle.simplex_member.specs.Layers.{all_votes, floor_of, is_begun, passes_over, stage, votes_of, votes_setup}

@@ -4,25 +4,25 @@ use Rattle.std.specs.Prelude.{Contains, ◌+◌, ◌-◌, ◌&&◌, if◌then◌
 use Rattle.std.specs.Option.{option_or}
 use Rattle.std.proofs.lemmas.Option.{none-some}
 use Rattle.std.proofs.lemmas.List.Elements.{Contains-append_cases}
-use Rattle.simplex_committee.specs.Counting.{Contains-cases, Contains-head, Contains-nil, Contains-rest}
-use Rattle.simplex_types.specs.Positions.{term_end, term_start}
-use Rattle.simplex_certificates.specs.declared.artifact.Artifact.{Artifact}
-use Rattle.simplex_certificates.specs.declared.artifact.Artifact.TheVariants as artifact
-use Rattle.simplex_certificates.specs.declared.certificate.Certificate.{Certificate}
-use Rattle.simplex_certificates.specs.declared.certificate.Certificate.TheVariants as certificate
-use Rattle.simplex_certificates.specs.declared.nullification.Nullification.{Nullification}
-use Rattle.simplex_certificates.specs.Artifact.{certificate_artifact}
-use Rattle.simplex_certificates.specs.ProposalCertificate.{Notarization, Finalization}
+use Rattle.types_quorum.specs.Counting.{Contains-cases, Contains-head, Contains-nil, Contains-rest}
+use Rattle.types_core.specs.Positions.{term_end, term_start}
+use Rattle.messages_certificates.specs.declared.artifact.Artifact.{Artifact}
+use Rattle.messages_certificates.specs.declared.artifact.Artifact.TheVariants as artifact
+use Rattle.messages_certificates.specs.declared.certificate.Certificate.{Certificate}
+use Rattle.messages_certificates.specs.declared.certificate.Certificate.TheVariants as certificate
+use Rattle.messages_certificates.specs.declared.nullification.Nullification.{Nullification}
+use Rattle.messages_certificates.specs.Artifact.{certificate_artifact}
+use Rattle.messages_certificates.specs.ProposalCertificate.{Notarization, Finalization}
 use Rattle.simplex_messages.specs.declared.vote.Vote.{Vote}
 use Rattle.simplex_messages.specs.declared.vote.Vote.TheVariants as vote
-use Rattle.simplex_rules.specs.declared.kind.Kind.TheVariants as kind
-use Rattle.simplex_history.specs.declared.timeout_reason.TimeoutReason.TheVariants as reason
-use Rattle.simplex_history.specs.Held as offer
-use Rattle.simplex_history.specs.History as views
-use Rattle.simplex_history.specs.History.{current, later, last_finalized, min_active, seen}
-use Rattle.simplex_history.specs.Past as past
-use Rattle.simplex_decisions.specs.Answers.{best_certificate, covering_nullification, entry_certificate, last_of}
-use Rattle.simplex_decisions.specs.Building.{proposal_on}
+use Rattle.types_terms.specs.declared.kind.Kind.TheVariants as kind
+use Rattle.voter_history.specs.declared.timeout_reason.TimeoutReason.TheVariants as reason
+use Rattle.voter_history.specs.Held as offer
+use Rattle.voter_history.specs.History as views
+use Rattle.voter_history.specs.History.{current, later, last_finalized, min_active, seen}
+use Rattle.voter_history.specs.Past as past
+use Rattle.voter_rules.specs.Answers.{best_certificate, covering_nullification, entry_certificate, last_of}
+use Rattle.voter_rules.specs.Building.{proposal_on}
 use Rattle.simplex_member.specs.Layers.{casts, finalizes_above, finds, latest, reason_of, takes_certificate, takes_outcome, voter_of, voter_points}
 use Rattle.simplex_member.specs.Point.{Outcome, Counts, Falls, Passes, Point, Opened, Found, Began, Came, Built, Checked, Judged, Forwards, Constructs, Latches, Looks, AsksBuild, AsksVerify, AsksCertify, GivesBack, PutsOff, Resolves, Votes, Repeats, History}
 use Rattle.simplex_member.specs.Recorded.{record_of, recorded_by}

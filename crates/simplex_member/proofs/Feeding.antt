@@ -1,9 +1,9 @@
 -- What holds of each point of a member's life: of what it found, of what came in, and of all that takes nothing in.
 use Rattle.std.proofs.Common.{◌≡◌, ⊎_elim, ℕ, suc, Bool, true, false, List, [], ◌∷◌, ◌++◌, Option, Some, None, refl, sym, subst, arith}
 use Rattle.std.specs.Prelude.{Contains, ⊤}
-use Rattle.simplex_committee.specs.Counting.{Contains-cases, Contains-head, Contains-rest}
-use Rattle.simplex_types.specs.declared.scheme.Scheme.{Ghosts}
-use Rattle.simplex_certificates.specs.declared.artifact.Artifact.{Artifact}
+use Rattle.types_quorum.specs.Counting.{Contains-cases, Contains-head, Contains-rest}
+use Rattle.types_core.specs.declared.scheme.Scheme.{Ghosts}
+use Rattle.messages_certificates.specs.declared.artifact.Artifact.{Artifact}
 use Rattle.simplex_record.specs.World.{World}
 use Rattle.simplex_member.specs.declared.event.Event.{Event}
 use Rattle.simplex_member.specs.declared.event.Event.TheVariants as event

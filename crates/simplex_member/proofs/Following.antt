@@ -1,14 +1,14 @@
 -- What is due may be recorded, of each history that points led to.
 use Rattle.std.proofs.Common.{List, [], ◌∷◌, arith}
-use Rattle.simplex_types.specs.declared.scheme.Scheme.{Ghosts}
-use Rattle.simplex_certificates.specs.declared.nullify.Nullify.{Nullify}
+use Rattle.types_core.specs.declared.scheme.Scheme.{Ghosts}
+use Rattle.messages_certificates.specs.declared.nullify.Nullify.{Nullify}
 use Rattle.simplex_messages.specs.declared.vote.Vote.{Vote}
 use Rattle.simplex_messages.specs.declared.vote.Vote.TheVariants as vote
-use Rattle.simplex_certificates.specs.ProposalVote.{Finalize}
+use Rattle.messages_certificates.specs.ProposalVote.{Finalize}
 use Rattle.simplex_messages.specs.VoteParts.{vote_artifact}
 use Rattle.simplex_record.specs.Record.{entry, entries}
 use Rattle.simplex_record.specs.Rules.{MayFollow}
-use Rattle.simplex_laws.specs.Matching.{EachHistoryMatches, DueMayBeNotarized, DueMayBeNullified, DueMayBeFinalized}
+use Rattle.voter_laws.specs.Matching.{EachHistoryMatches, DueMayBeNotarized, DueMayBeNullified, DueMayBeFinalized}
 use Rattle.simplex_member.specs.Allowed.{AreAllowed, VoteIsDue}
 use Rattle.simplex_member.specs.Laws.{DueIsBound}
 use Rattle.simplex_member.specs.Member.{Goes}

@@ -1,21 +1,21 @@
 -- What is recorded stands on ground.
 use Rattle.std.proofs.Common.{◌≡◌, ◌≢◌, ⊎_elim, inl, inr, ℕ, true, false, [], ◌∷◌, Option, Some, None, sym, ◌∙◌, subst, arith}
 use Rattle.std.specs.Prelude.{Contains, IfSome, option_map}
-use Rattle.simplex_committee.specs.Counting.{Contains-cases}
-use Rattle.simplex_types.specs.declared.position.Round.{Round}
-use Rattle.simplex_types.specs.declared.proposal.Proposal.{Proposal}
-use Rattle.simplex_types.specs.declared.scheme.Scheme.{Ghosts}
-use Rattle.simplex_types.specs.Subject.{notarize, finalize}
-use Rattle.simplex_certificates.specs.declared.artifact.Artifact.{Artifact}
-use Rattle.simplex_certificates.specs.declared.certificate.Certificate.{Certificate}
-use Rattle.simplex_certificates.specs.declared.certificate.Certificate.TheVariants as certificate
-use Rattle.simplex_certificates.specs.Artifact.{certificate_artifact}
+use Rattle.types_quorum.specs.Counting.{Contains-cases}
+use Rattle.types_core.specs.declared.position.Round.{Round}
+use Rattle.types_core.specs.declared.proposal.Proposal.{Proposal}
+use Rattle.types_core.specs.declared.scheme.Scheme.{Ghosts}
+use Rattle.types_core.specs.Subject.{notarize, finalize}
+use Rattle.messages_certificates.specs.declared.artifact.Artifact.{Artifact}
+use Rattle.messages_certificates.specs.declared.certificate.Certificate.{Certificate}
+use Rattle.messages_certificates.specs.declared.certificate.Certificate.TheVariants as certificate
+use Rattle.messages_certificates.specs.Artifact.{certificate_artifact}
 use Rattle.simplex_messages.specs.declared.vote.Vote.TheVariants as vote
 use Rattle.simplex_record.specs.Chain.{IsGround, JudgesOnGround, MayFollowOnGround}
 use Rattle.simplex_record.specs.Record as recorded
 use Rattle.simplex_record.specs.Record.{entry, entries}
-use Rattle.simplex_history.specs.History.{scheduled_leader}
-use Rattle.simplex_laws.specs.Matching.{DueNotarizeIsOnGround, DueVerdictIsOnGround, EachHistoryMatches}
+use Rattle.voter_history.specs.History.{scheduled_leader}
+use Rattle.voter_laws.specs.Matching.{DueNotarizeIsOnGround, DueVerdictIsOnGround, EachHistoryMatches}
 use Rattle.simplex_member.specs.Allowed.{Allowed, AreAllowed}
 use Rattle.simplex_member.specs.Layers.{is_begun, known_of}
 use Rattle.simplex_member.specs.Laws.{RoundLaws}

@@ -1,8 +1,8 @@
 -- A lawful record, and one more artifact behind it, or none.
 use Rattle.std.proofs.Common.{List, Option, Some, None}
 use Rattle.std.specs.Prelude.{IfSome}
-use Rattle.simplex_types.specs.declared.scheme.Scheme.{Ghosts}
-use Rattle.simplex_certificates.specs.declared.artifact.Artifact.{Artifact}
+use Rattle.types_core.specs.declared.scheme.Scheme.{Ghosts}
+use Rattle.messages_certificates.specs.declared.artifact.Artifact.{Artifact}
 use Rattle.simplex_record.specs.declared.owner.Owner.{Owner}
 use Rattle.simplex_record.specs.Lawful.{Fits, IsLawful}
 use Rattle.simplex_member.specs.Laws.{RecordLaws}

@@ -2,23 +2,23 @@
 use Rattle.std.proofs.Common.{◌≡◌, ⊎_elim, ℕ, Bool, true, false, List, [], ◌∷◌, ◌++◌, map, Option, Some, None, refl, subst}
 use Rattle.std.specs.Prelude.{Contains, ◌-◌, nat_lt, option_map, option_to_list, unwrap_or}
 use Rattle.std.proofs.lemmas.List.Elements.{Contains-append_cases}
-use Rattle.simplex_types.specs.declared.context.Context.{Context}
-use Rattle.simplex_types.specs.declared.position.Round.{Round}
-use Rattle.simplex_types.specs.declared.proposal.Proposal.{Proposal}
-use Rattle.simplex_types.specs.declared.scheme.Scheme.{Ghosts}
+use Rattle.types_core.specs.declared.context.Context.{Context}
+use Rattle.types_core.specs.declared.position.Round.{Round}
+use Rattle.types_core.specs.declared.proposal.Proposal.{Proposal}
+use Rattle.types_core.specs.declared.scheme.Scheme.{Ghosts}
 use Rattle.simplex_messages.specs.declared.activity.Activity.{Activity}
-use Rattle.simplex_certificates.specs.declared.artifact.Artifact.{Artifact}
-use Rattle.simplex_certificates.specs.declared.artifact.Artifact.TheVariants as artifact
-use Rattle.simplex_certificates.specs.declared.certificate.Certificate.{Certificate}
-use Rattle.simplex_certificates.specs.declared.certificate.Certificate.TheVariants as certificate
+use Rattle.messages_certificates.specs.declared.artifact.Artifact.{Artifact}
+use Rattle.messages_certificates.specs.declared.artifact.Artifact.TheVariants as artifact
+use Rattle.messages_certificates.specs.declared.certificate.Certificate.{Certificate}
+use Rattle.messages_certificates.specs.declared.certificate.Certificate.TheVariants as certificate
 use Rattle.simplex_messages.specs.declared.vote.Vote.TheVariants as vote
-use Rattle.simplex_certificates.specs.Artifact.{certificate_artifact}
+use Rattle.messages_certificates.specs.Artifact.{certificate_artifact}
 use Rattle.simplex_messages.specs.VoteParts.{vote_artifact}
-use Rattle.simplex_certificates.specs.ProposalCertificate.{Finalization}
-use Rattle.simplex_admission.specs.Evidence.{as_report}
-use Rattle.simplex_history.specs.Past.{forwardable_proposal}
-use Rattle.simplex_history.specs.History.{seen}
-use Rattle.simplex_history.specs.Leaders.{leader}
+use Rattle.messages_certificates.specs.ProposalCertificate.{Finalization}
+use Rattle.batcher_admission.specs.Evidence.{as_report}
+use Rattle.voter_history.specs.Past.{forwardable_proposal}
+use Rattle.voter_history.specs.History.{seen}
+use Rattle.voter_history.specs.Leaders.{leader}
 use Rattle.simplex_resolver.specs.Answers.{produced}
 use Rattle.simplex_member.specs.Deeds.{Deed, Way, HandsTo, Sends, Serves, Blocks, Builds, Verifies, Certifies, HandsOn, Finalizes, Reports, built_deeds, certificate_deeds, deeds_of, entered_deeds, entry_deeds, final_deeds, hands_on, own_way, recipients, report_deeds, silent}
 use Rattle.simplex_member.specs.Layers.{current_of, finalized_of, repair_of, voter_of}

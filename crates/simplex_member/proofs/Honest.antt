@@ -3,23 +3,23 @@ use Rattle.std.proofs.Common.{◌≡◌, ⊎_elim, ℕ, false, List, [], ◌∷�
 use Rattle.std.specs.Prelude.{Contains, option_map, option_to_list, ⊤}
 use Rattle.std.proofs.lemmas.Option.{none-some}
 use Rattle.std.proofs.lemmas.List.Elements.{Contains-append_left, Contains-append_right}
-use Rattle.simplex_committee.specs.Counting.{Contains-head, Contains-rest}
-use Rattle.simplex_types.specs.declared.attestation.Attestation.{Attestation}
-use Rattle.simplex_types.specs.declared.scheme.Scheme.{Ghosts}
-use Rattle.simplex_types.specs.Subject.{Statement}
-use Rattle.simplex_certificates.specs.declared.artifact.Artifact.{Artifact}
-use Rattle.simplex_certificates.specs.declared.artifact.Artifact.TheVariants as artifact
-use Rattle.simplex_certificates.specs.declared.certificate.Certificate.{Certificate}
-use Rattle.simplex_certificates.specs.declared.certificate.Certificate.TheVariants as certificate
+use Rattle.types_quorum.specs.Counting.{Contains-head, Contains-rest}
+use Rattle.types_core.specs.declared.attestation.Attestation.{Attestation}
+use Rattle.types_core.specs.declared.scheme.Scheme.{Ghosts}
+use Rattle.types_core.specs.Subject.{Statement}
+use Rattle.messages_certificates.specs.declared.artifact.Artifact.{Artifact}
+use Rattle.messages_certificates.specs.declared.artifact.Artifact.TheVariants as artifact
+use Rattle.messages_certificates.specs.declared.certificate.Certificate.{Certificate}
+use Rattle.messages_certificates.specs.declared.certificate.Certificate.TheVariants as certificate
 use Rattle.simplex_messages.specs.declared.vote.Vote.{Vote}
 use Rattle.simplex_messages.specs.declared.vote.Vote.TheVariants as vote
-use Rattle.simplex_certificates.specs.Artifact.{certificate_artifact}
+use Rattle.messages_certificates.specs.Artifact.{certificate_artifact}
 use Rattle.simplex_messages.specs.VoteParts.{vote_artifact}
-use Rattle.simplex_certificates.specs.Certificate.{certificate_statement, certified_by}
+use Rattle.messages_certificates.specs.Certificate.{certificate_statement, certified_by}
 use Rattle.simplex_record.specs.declared.owner.Owner.{Owner}
 use Rattle.simplex_record.specs.Record.{Entry, entry, entries, HasVoted}
 use Rattle.simplex_record.specs.World.{World, IsCorrect, IsHonest}
-use Rattle.simplex_verifier.specs.Votes.{vote_attestation, vote_statement}
+use Rattle.batcher_verifier.specs.Votes.{vote_attestation, vote_statement}
 use Rattle.simplex_member.specs.declared.event.Event.{Event}
 use Rattle.simplex_member.specs.Allowed.{Allowed, AreAllowed}
 use Rattle.simplex_member.specs.Laws.{IsKnownVote, IsOfVote, RecordedAreHonest, RoundLaws}

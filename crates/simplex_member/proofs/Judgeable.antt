@@ -1,15 +1,15 @@
 -- A verdict that was asked for may be recorded, by the voter's laws.
 use Rattle.std.proofs.Common.{◌≡◌, ⊎_elim, [], ◌∷◌, sym, ◌∙◌, subst, arith}
 use Rattle.std.specs.Prelude.{Contains}
-use Rattle.simplex_committee.specs.Counting.{Contains-cases}
-use Rattle.simplex_types.specs.declared.position.Round.{Round}
-use Rattle.simplex_types.specs.declared.proposal.Proposal.{Proposal}
-use Rattle.simplex_types.specs.declared.scheme.Scheme.{Ghosts}
-use Rattle.simplex_types.specs.Subject.{notarize}
+use Rattle.types_quorum.specs.Counting.{Contains-cases}
+use Rattle.types_core.specs.declared.position.Round.{Round}
+use Rattle.types_core.specs.declared.proposal.Proposal.{Proposal}
+use Rattle.types_core.specs.declared.scheme.Scheme.{Ghosts}
+use Rattle.types_core.specs.Subject.{notarize}
 use Rattle.simplex_record.specs.Record as recorded
 use Rattle.simplex_record.specs.Record.{Entry, entry, entries, HasTaken}
 use Rattle.simplex_record.specs.Rules.{MayJudge}
-use Rattle.simplex_laws.specs.Matching.{EachHistoryMatches}
+use Rattle.voter_laws.specs.Matching.{EachHistoryMatches}
 use Rattle.simplex_member.specs.Allowed.{Allowed, AreAllowed}
 use Rattle.simplex_member.specs.Asked.{IsAwaited}
 use Rattle.simplex_member.specs.Packet.{Formats}

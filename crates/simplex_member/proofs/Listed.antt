@@ -3,24 +3,24 @@ use Rattle.std.proofs.Common.{◌≡◌, ◌⊎◌, inl, inr, ⊎_elim, ℕ, ◌
 use Rattle.std.specs.Prelude.{Contains, IfSome, if◌then◌else◌}
 use Rattle.std.proofs.lemmas.Bool.{eqb-true}
 use Rattle.std.proofs.lemmas.Option.{none-some}
-use Rattle.simplex_committee.specs.Counting.{Contains-cases, Contains-head, Contains-rest}
-use Rattle.simplex_types.specs.declared.position.Round.{Round}
-use Rattle.simplex_types.specs.declared.scheme.Scheme.{Ghosts}
-use Rattle.simplex_certificates.specs.declared.artifact.Artifact.TheVariants as artifact
-use Rattle.simplex_certificates.specs.declared.certificate.Certificate.{Certificate}
-use Rattle.simplex_certificates.specs.declared.certificate.Certificate.TheVariants as certificate
+use Rattle.types_quorum.specs.Counting.{Contains-cases, Contains-head, Contains-rest}
+use Rattle.types_core.specs.declared.position.Round.{Round}
+use Rattle.types_core.specs.declared.scheme.Scheme.{Ghosts}
+use Rattle.messages_certificates.specs.declared.artifact.Artifact.TheVariants as artifact
+use Rattle.messages_certificates.specs.declared.certificate.Certificate.{Certificate}
+use Rattle.messages_certificates.specs.declared.certificate.Certificate.TheVariants as certificate
 use Rattle.simplex_messages.specs.declared.vote.Vote.{Vote}
 use Rattle.simplex_messages.specs.declared.vote.Vote.TheVariants as vote
 use Rattle.simplex_messages.specs.VoteParts.{vote_artifact}
-use Rattle.simplex_certificates.specs.Certificate.{certificate_round}
+use Rattle.messages_certificates.specs.Certificate.{certificate_round}
 use Rattle.simplex_messages.specs.VoteParts.{vote_round, vote_signer}
 use Rattle.simplex_record.specs.Record.{entry, voted}
-use Rattle.simplex_rules.specs.declared.kind.Kind.{Kind}
-use Rattle.simplex_verifier.specs.declared.batch.Batch.{Batch}
-use Rattle.simplex_verifier.specs.Votes.{vote_attestation, vote_statement}
-use Rattle.simplex_verifier.specs.History as votes
-use Rattle.simplex_verifier.specs.History.{Taken, Cast, Certified, Led, Judged, Forwarded, accepted, context, is_candidate, is_complete, is_ready, selected, verified, vote_in, waiting}
-use Rattle.simplex_verifier.specs.ConstructionResult.{after}
+use Rattle.types_terms.specs.declared.kind.Kind.{Kind}
+use Rattle.batcher_verifier.specs.declared.batch.Batch.{Batch}
+use Rattle.batcher_verifier.specs.Votes.{vote_attestation, vote_statement}
+use Rattle.batcher_verifier.specs.History as votes
+use Rattle.batcher_verifier.specs.History.{Taken, Cast, Certified, Led, Judged, Forwarded, accepted, context, is_candidate, is_complete, is_ready, selected, verified, vote_in, waiting}
+use Rattle.batcher_verifier.specs.ConstructionResult.{after}
 use Rattle.simplex_member.specs.Allowed.{Allowed, AreAllowed, MayRecord}
 use Rattle.simplex_member.specs.Laws.{IsKnownVote}
 use Rattle.simplex_member.specs.Layers.{all_votes}

@@ -4,7 +4,7 @@ use Rattle.std.specs.Prelude.{All, Contains, IfSome, if◌then◌else◌, option
 use Rattle.std.proofs.lemmas.List.{append-nil, map-append}
 use Rattle.std.proofs.lemmas.List.Elements.{All-append, All-cons, All-contains, All-nil, Contains-append_left, Contains-push, Contains-push_cases}
 use Rattle.std.proofs.lemmas.Option.{none-some}
-use Rattle.simplex_committee.specs.Counting.{Contains-cases, Contains-head, Contains-rest}
+use Rattle.types_quorum.specs.Counting.{Contains-cases, Contains-head, Contains-rest}
 use Rattle.simplex_member.specs.Recorded.{put_behind}
 
 pub some-is : {X : Type 0} (x y : X) → Some x ≡ Some y → x ≡ y

@@ -6,46 +6,46 @@ use Rattle.std.proofs.lemmas.Bool.{cases_lt, eqb-true, le-ltb, ltb-false, ltb-tr
 use Rattle.std.proofs.lemmas.Grind.{common_steps}
 use Rattle.std.proofs.lemmas.List.Elements.{All-contains, Contains-append_left}
 use Rattle.std.proofs.lemmas.Option.{none-some}
-use Rattle.simplex_committee.specs.Committee.{faults-few}
-use Rattle.simplex_committee.specs.Counting.{Contains-cases, Contains-head, Contains-nil, Contains-rest, in_or_not}
-use Rattle.simplex_types.specs.declared.attestation.Attestation.{Attestation}
-use Rattle.simplex_types.specs.declared.position.Round.{Round}
-use Rattle.simplex_types.specs.declared.scheme.Scheme.{Ghosts}
-use Rattle.simplex_types.specs.Overlap.{signers}
-use Rattle.simplex_types.specs.Positions.{next_term_start, term_end, term_start}
-use Rattle.simplex_types.specs.Quorum.{IsQuorum}
-use Rattle.simplex_types.specs.Subject.{Statement}
-use Rattle.simplex_certificates.specs.declared.artifact.Artifact.{Artifact}
-use Rattle.simplex_certificates.specs.declared.artifact.Artifact.TheVariants as artifact
-use Rattle.simplex_certificates.specs.declared.certificate.Certificate.{Certificate}
-use Rattle.simplex_certificates.specs.declared.certificate.Certificate.TheVariants as certificate
-use Rattle.simplex_certificates.specs.declared.nullify.Nullify.{Nullify}
-use Rattle.simplex_certificates.specs.Artifact.{certificate_artifact}
-use Rattle.simplex_certificates.specs.Certificate.{certificate_round, certificate_statement, certified_by}
-use Rattle.simplex_certificates.specs.ProposalCertificate.{Finalization, Notarization}
-use Rattle.simplex_certificates.specs.ProposalVote.{Finalize}
+use Rattle.types_quorum.specs.Committee.{faults-few}
+use Rattle.types_quorum.specs.Counting.{Contains-cases, Contains-head, Contains-nil, Contains-rest, in_or_not}
+use Rattle.types_core.specs.declared.attestation.Attestation.{Attestation}
+use Rattle.types_core.specs.declared.position.Round.{Round}
+use Rattle.types_core.specs.declared.scheme.Scheme.{Ghosts}
+use Rattle.types_core.specs.Overlap.{signers}
+use Rattle.types_core.specs.Positions.{next_term_start, term_end, term_start}
+use Rattle.types_core.specs.Quorum.{IsQuorum}
+use Rattle.types_core.specs.Subject.{Statement}
+use Rattle.messages_certificates.specs.declared.artifact.Artifact.{Artifact}
+use Rattle.messages_certificates.specs.declared.artifact.Artifact.TheVariants as artifact
+use Rattle.messages_certificates.specs.declared.certificate.Certificate.{Certificate}
+use Rattle.messages_certificates.specs.declared.certificate.Certificate.TheVariants as certificate
+use Rattle.messages_certificates.specs.declared.nullify.Nullify.{Nullify}
+use Rattle.messages_certificates.specs.Artifact.{certificate_artifact}
+use Rattle.messages_certificates.specs.Certificate.{certificate_round, certificate_statement, certified_by}
+use Rattle.messages_certificates.specs.ProposalCertificate.{Finalization, Notarization}
+use Rattle.messages_certificates.specs.ProposalVote.{Finalize}
 use Rattle.simplex_messages.specs.declared.vote.Vote.{Vote}
 use Rattle.simplex_messages.specs.declared.vote.Vote.TheVariants as vote
 use Rattle.simplex_messages.specs.VoteParts.{vote_artifact, vote_round, vote_signer}
-use Rattle.simplex_rules.specs.declared.kind.Kind.TheVariants as sent_kind
-use Rattle.simplex_rules.specs.Spans.{ends-before, term_end-above, term_end-le}
+use Rattle.types_terms.specs.declared.kind.Kind.TheVariants as sent_kind
+use Rattle.types_terms.specs.Spans.{ends-before, term_end-above, term_end-le}
 use Rattle.simplex_record.specs.Record as recorded
 use Rattle.simplex_record.specs.Record.{Entry, current_view, entries, entry, enters, greatest, HasTaken}
-use Rattle.simplex_rules.specs.declared.kind.Kind.{Kind}
-use Rattle.simplex_verifier.specs.declared.batch.Batch.{Batch}
-use Rattle.simplex_verifier.specs.History.{accepted}
-use Rattle.simplex_verifier.specs.Votes.{vote_statement}
+use Rattle.types_terms.specs.declared.kind.Kind.{Kind}
+use Rattle.batcher_verifier.specs.declared.batch.Batch.{Batch}
+use Rattle.batcher_verifier.specs.History.{accepted}
+use Rattle.batcher_verifier.specs.Votes.{vote_statement}
 use Rattle.simplex_batcher.specs.Queries.{is_nullify}
-use Rattle.simplex_history.specs.declared.timeout_reason.TimeoutReason.{TimeoutReason}
-use Rattle.simplex_history.specs.declared.timeout_reason.TimeoutReason.TheVariants as reason
-use Rattle.simplex_history.specs.Leaders.{extend}
-use Rattle.simplex_history.specs.History as views
-use Rattle.simplex_history.specs.History.{current, last_finalized, scheduled_leader, seen}
-use Rattle.simplex_history.specs.Leaders.{handoff_leader, inherits, leader, named, named_early}
-use Rattle.simplex_history.specs.Past as past
-use Rattle.simplex_decisions.specs.GivingUp.{IsTracked, NullifyIsDue}
-use Rattle.simplex_laws.specs.Matching.{EachHistoryMatches}
-use Rattle.simplex_laws.specs.Recording.{EachRecordIsKnown, IsKnown}
+use Rattle.voter_history.specs.declared.timeout_reason.TimeoutReason.{TimeoutReason}
+use Rattle.voter_history.specs.declared.timeout_reason.TimeoutReason.TheVariants as reason
+use Rattle.voter_history.specs.Leaders.{extend}
+use Rattle.voter_history.specs.History as views
+use Rattle.voter_history.specs.History.{current, last_finalized, scheduled_leader, seen}
+use Rattle.voter_history.specs.Leaders.{handoff_leader, inherits, leader, named, named_early}
+use Rattle.voter_history.specs.Past as past
+use Rattle.voter_rules.specs.GivingUp.{IsTracked, NullifyIsDue}
+use Rattle.voter_laws.specs.Matching.{EachHistoryMatches}
+use Rattle.voter_laws.specs.Recording.{EachRecordIsKnown, IsKnown}
 use Rattle.simplex_member.specs.declared.event.Event.{Event}
 use Rattle.simplex_member.specs.declared.event.Event.TheVariants as event
 use Rattle.simplex_member.specs.Allowed.{Allowed, AreAllowed, HasReason}

@@ -1,22 +1,22 @@
 -- A certificate that a correct member makes is sound, whether or not it comes to record it.
 use Rattle.std.proofs.Common.{◌≡◌, ⊎_elim, ℕ, Option, Some, sym, ◌∙◌, ap, subst}
 use Rattle.std.specs.Prelude.{Contains, IfSome, option_map}
-use Rattle.simplex_types.specs.declared.attestation.Attestation.{Attestation}
-use Rattle.simplex_types.specs.declared.scheme.Scheme.{Ghosts}
-use Rattle.simplex_types.specs.Quorum.{IsQuorum}
-use Rattle.simplex_types.specs.Subject.{Statement}
-use Rattle.simplex_certificates.specs.declared.certificate.Certificate.{Certificate}
-use Rattle.simplex_certificates.specs.declared.certificate.Certificate.TheVariants as certificate
-use Rattle.simplex_certificates.specs.Artifact.{certificate_artifact}
-use Rattle.simplex_certificates.specs.Certificate.{certificate_statement, certified_by}
+use Rattle.types_core.specs.declared.attestation.Attestation.{Attestation}
+use Rattle.types_core.specs.declared.scheme.Scheme.{Ghosts}
+use Rattle.types_core.specs.Quorum.{IsQuorum}
+use Rattle.types_core.specs.Subject.{Statement}
+use Rattle.messages_certificates.specs.declared.certificate.Certificate.{Certificate}
+use Rattle.messages_certificates.specs.declared.certificate.Certificate.TheVariants as certificate
+use Rattle.messages_certificates.specs.Artifact.{certificate_artifact}
+use Rattle.messages_certificates.specs.Certificate.{certificate_statement, certified_by}
 use Rattle.simplex_messages.specs.declared.vote.Vote.{Vote}
 use Rattle.simplex_messages.specs.VoteParts.{vote_artifact, vote_signer}
 use Rattle.simplex_record.specs.declared.owner.Owner.{Owner}
 use Rattle.simplex_record.specs.Record.{Entry, entry, entries, HasVoted}
 use Rattle.simplex_record.specs.World.{World, IsCorrect, IsHonest, IsSound}
-use Rattle.simplex_verifier.specs.Votes.{vote_attestation, vote_statement}
-use Rattle.simplex_rules.specs.declared.kind.Kind.{Kind}
-use Rattle.simplex_verifier.specs.declared.batch.Batch.{Batch}
+use Rattle.batcher_verifier.specs.Votes.{vote_attestation, vote_statement}
+use Rattle.types_terms.specs.declared.kind.Kind.{Kind}
+use Rattle.batcher_verifier.specs.declared.batch.Batch.{Batch}
 use Rattle.simplex_member.specs.Allowed.{Allowed, MayRecord}
 use Rattle.simplex_member.specs.Laws.{HasHeard, HasReached, IsKnownVote, RoundLaws}
 use Rattle.simplex_member.specs.Lives.{AreMembers, IsHonestVote, Members}

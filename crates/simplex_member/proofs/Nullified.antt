@@ -2,23 +2,23 @@
 use Rattle.std.proofs.Common.{◌≡◌, ℕ, Bool, true, false, List, [], ◌∷◌, refl, sym, ◌∙◌, subst}
 use Rattle.std.specs.Prelude.{Contains, if◌then◌else◌}
 use Rattle.std.proofs.lemmas.List.Sorted.{Contains-permutation, IsPermutation-reverse}
-use Rattle.simplex_committee.specs.Counting.{Contains-head, Contains-rest}
-use Rattle.simplex_types.specs.declared.position.Round.{Round}
-use Rattle.simplex_types.specs.declared.scheme.Scheme.{Ghosts}
-use Rattle.simplex_types.specs.Subject.{notarize, nullify, finalize}
-use Rattle.simplex_certificates.specs.declared.artifact.Artifact.{Artifact}
-use Rattle.simplex_certificates.specs.declared.artifact.Artifact.TheVariants as artifact
-use Rattle.simplex_certificates.specs.declared.nullify.Nullify.{Nullify}
-use Rattle.simplex_rules.specs.declared.kind.Kind.TheVariants as kind
+use Rattle.types_quorum.specs.Counting.{Contains-head, Contains-rest}
+use Rattle.types_core.specs.declared.position.Round.{Round}
+use Rattle.types_core.specs.declared.scheme.Scheme.{Ghosts}
+use Rattle.types_core.specs.Subject.{notarize, nullify, finalize}
+use Rattle.messages_certificates.specs.declared.artifact.Artifact.{Artifact}
+use Rattle.messages_certificates.specs.declared.artifact.Artifact.TheVariants as artifact
+use Rattle.messages_certificates.specs.declared.nullify.Nullify.{Nullify}
+use Rattle.types_terms.specs.declared.kind.Kind.TheVariants as kind
 use Rattle.simplex_record.specs.Record as recorded
 use Rattle.simplex_record.specs.Record.{Entry, entry, entries}
-use Rattle.simplex_history.specs.declared.timeout_reason.TimeoutReason.TheVariants as reason
-use Rattle.simplex_history.specs.Held as offer
-use Rattle.simplex_history.specs.History as views
-use Rattle.simplex_history.specs.History.{later, seen}
-use Rattle.simplex_history.specs.Past as past
-use Rattle.simplex_laws.specs.Matching as matching
-use Rattle.simplex_laws.specs.Matching.{round_of, told}
+use Rattle.voter_history.specs.declared.timeout_reason.TimeoutReason.TheVariants as reason
+use Rattle.voter_history.specs.Held as offer
+use Rattle.voter_history.specs.History as views
+use Rattle.voter_history.specs.History.{later, seen}
+use Rattle.voter_history.specs.Past as past
+use Rattle.voter_laws.specs.Matching as matching
+use Rattle.voter_laws.specs.Matching.{round_of, told}
 use Rattle.simplex_member.specs.Allowed.{AreAllowed}
 use Rattle.simplex_member.specs.Laws.{HasNullified}
 use Rattle.simplex_member.specs.Layers.{voter_of}

@@ -1,15 +1,15 @@
 -- The voter's part of a history is orderly.
 use Rattle.std.proofs.Common.{◌≡◌, ℕ, Bool, true, false, List, [], ◌∷◌, ◌++◌, Option, Some, None, refl}
 use Rattle.std.specs.Prelude.{if◌then◌else◌, option_map, unwrap_or, ⊤}
-use Rattle.simplex_types.specs.declared.scheme.Scheme.{Ghosts}
-use Rattle.simplex_certificates.specs.declared.artifact.Artifact.TheVariants as artifact
-use Rattle.simplex_certificates.specs.declared.certificate.Certificate.{Certificate}
-use Rattle.simplex_certificates.specs.declared.certificate.Certificate.TheVariants as certificate
+use Rattle.types_core.specs.declared.scheme.Scheme.{Ghosts}
+use Rattle.messages_certificates.specs.declared.artifact.Artifact.TheVariants as artifact
+use Rattle.messages_certificates.specs.declared.certificate.Certificate.{Certificate}
+use Rattle.messages_certificates.specs.declared.certificate.Certificate.TheVariants as certificate
 use Rattle.simplex_messages.specs.declared.vote.Vote.TheVariants as vote
-use Rattle.simplex_history.specs.History as views
-use Rattle.simplex_history.specs.History.{finalized, voted_notarize, voted_finalize, sent, pruned}
-use Rattle.simplex_laws.specs.Matching.{OwnWereTaken}
-use Rattle.simplex_rules.specs.declared.kind.Kind.TheVariants as kind
+use Rattle.voter_history.specs.History as views
+use Rattle.voter_history.specs.History.{finalized, voted_notarize, voted_finalize, sent, pruned}
+use Rattle.voter_laws.specs.Matching.{OwnWereTaken}
+use Rattle.types_terms.specs.declared.kind.Kind.TheVariants as kind
 use Rattle.simplex_member.specs.Allowed.{Allowed, AreAllowed}
 use Rattle.simplex_member.specs.Layers.{finalizes_above, takes_certificate, takes_outcome, voter_of}
 use Rattle.simplex_member.specs.Packet.{Formats}

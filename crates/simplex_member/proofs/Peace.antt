@@ -3,28 +3,28 @@ use Rattle.std.proofs.Common.{◌≡◌, ◌⊎◌, inl, inr, ⊎_elim, ℕ, Boo
 use Rattle.std.specs.Prelude.{Contains, MatchOption, find, if◌then◌else◌, nat_lt}
 use Rattle.std.proofs.lemmas.Option.{none-some}
 use Rattle.std.proofs.lemmas.List.Elements.{All-contains}
-use Rattle.simplex_committee.specs.Counting.{Contains-cases, Contains-head, Contains-rest}
-use Rattle.simplex_types.specs.declared.position.Round.{Round}
-use Rattle.simplex_types.specs.declared.scheme.Scheme.{Ghosts}
-use Rattle.simplex_certificates.specs.declared.artifact.Artifact.{Artifact}
-use Rattle.simplex_certificates.specs.declared.artifact.Artifact.TheVariants as artifact
-use Rattle.simplex_certificates.specs.declared.certificate.Certificate.{Certificate}
+use Rattle.types_quorum.specs.Counting.{Contains-cases, Contains-head, Contains-rest}
+use Rattle.types_core.specs.declared.position.Round.{Round}
+use Rattle.types_core.specs.declared.scheme.Scheme.{Ghosts}
+use Rattle.messages_certificates.specs.declared.artifact.Artifact.{Artifact}
+use Rattle.messages_certificates.specs.declared.artifact.Artifact.TheVariants as artifact
+use Rattle.messages_certificates.specs.declared.certificate.Certificate.{Certificate}
 use Rattle.simplex_messages.specs.declared.vote.Vote.{Vote}
 use Rattle.simplex_messages.specs.declared.vote.Vote.TheVariants as vote
 use Rattle.simplex_messages.specs.VoteParts.{vote_artifact}
 use Rattle.simplex_messages.specs.VoteParts.{vote_round, vote_signer}
-use Rattle.simplex_admission.specs.Evidence.{AreForTwo}
-use Rattle.simplex_admission.specs.Blocking.{Offends}
+use Rattle.batcher_admission.specs.Evidence.{AreForTwo}
+use Rattle.batcher_admission.specs.Blocking.{Offends}
 use Rattle.simplex_batcher.specs.Admission.{IsBlocked}
 use Rattle.simplex_record.specs.declared.owner.Owner.{Owner}
 use Rattle.simplex_record.specs.Lawful.{Fits}
 use Rattle.simplex_record.specs.Record.{Entry, entry, entries}
-use Rattle.simplex_rules.specs.declared.kind.Kind.{Kind}
-use Rattle.simplex_verifier.specs.declared.batch.Batch.{Batch}
-use Rattle.simplex_verifier.specs.ConstructionResult.{HasFailed}
+use Rattle.types_terms.specs.declared.kind.Kind.{Kind}
+use Rattle.batcher_verifier.specs.declared.batch.Batch.{Batch}
+use Rattle.batcher_verifier.specs.ConstructionResult.{HasFailed}
 use Rattle.simplex_record.specs.World.{World, IsCorrect}
-use Rattle.simplex_verifier.specs.Votes.{is_in_way, vote_attestation, vote_kind, vote_statement}
-use Rattle.simplex_verifier.specs.History.{accepted, is_kept_in_full, recorded}
+use Rattle.batcher_verifier.specs.Votes.{is_in_way, vote_attestation, vote_kind, vote_statement}
+use Rattle.batcher_verifier.specs.History.{accepted, is_kept_in_full, recorded}
 use Rattle.simplex_member.specs.Allowed.{Allowed, AreAllowed}
 use Rattle.simplex_member.specs.Laws.{AreReadBack, DoAttestAlike, HasHeard, IsKnownVote, IsOwnAndSound, RecordLaws, RoundLaws}
 use Rattle.simplex_member.specs.Layers.{all_votes, floor_of, stage, votes_of, votes_setup}

@@ -4,30 +4,30 @@ use Rattle.std.specs.Prelude.{All, Contains, IfSome, IsSome, ◌⊎◌, ◌^◌,
 use Rattle.std.specs.Option.{option_or}
 use Rattle.std.proofs.lemmas.Bool.{le-ltb, lt-ltb, ltb-false, ltb-true}
 use Rattle.std.proofs.lemmas.Option.{none-some}
-use Rattle.simplex_committee.specs.Counting.{Contains-cases, Contains-head, Contains-rest, NoneTwice, NoneTwice-cons, escapes, no_longer}
-use Rattle.simplex_types.specs.declared.attestation.Attestation.{Attestation}
-use Rattle.simplex_types.specs.declared.position.Round.{Round}
-use Rattle.simplex_types.specs.declared.scheme.Scheme.{Ghosts}
-use Rattle.simplex_types.specs.Overlap.{AttestsIn, signers, signers-AreQuorum, two_quorums_attest}
-use Rattle.simplex_types.specs.Quorum.{IsQuorum}
-use Rattle.simplex_types.specs.Subject.{Statement, notarize, nullify, finalize, statement_round}
-use Rattle.simplex_certificates.specs.declared.artifact.Artifact.TheVariants as artifact
-use Rattle.simplex_certificates.specs.declared.certificate.Certificate.{Certificate}
-use Rattle.simplex_certificates.specs.declared.certificate.Certificate.TheVariants as certificate
-use Rattle.simplex_certificates.specs.Artifact.{certificate_artifact}
-use Rattle.simplex_certificates.specs.Certificate.{certificate_round, certificate_statement, certified_by}
+use Rattle.types_quorum.specs.Counting.{Contains-cases, Contains-head, Contains-rest, NoneTwice, NoneTwice-cons, escapes, no_longer}
+use Rattle.types_core.specs.declared.attestation.Attestation.{Attestation}
+use Rattle.types_core.specs.declared.position.Round.{Round}
+use Rattle.types_core.specs.declared.scheme.Scheme.{Ghosts}
+use Rattle.types_core.specs.Overlap.{AttestsIn, signers, signers-AreQuorum, two_quorums_attest}
+use Rattle.types_core.specs.Quorum.{IsQuorum}
+use Rattle.types_core.specs.Subject.{Statement, notarize, nullify, finalize, statement_round}
+use Rattle.messages_certificates.specs.declared.artifact.Artifact.TheVariants as artifact
+use Rattle.messages_certificates.specs.declared.certificate.Certificate.{Certificate}
+use Rattle.messages_certificates.specs.declared.certificate.Certificate.TheVariants as certificate
+use Rattle.messages_certificates.specs.Artifact.{certificate_artifact}
+use Rattle.messages_certificates.specs.Certificate.{certificate_round, certificate_statement, certified_by}
 use Rattle.simplex_messages.specs.declared.vote.Vote.{Vote}
 use Rattle.simplex_messages.specs.declared.vote.Vote.TheVariants as vote
 use Rattle.simplex_messages.specs.VoteParts.{vote_round, vote_signer}
 use Rattle.simplex_record.specs.Record as recorded
 use Rattle.simplex_record.specs.Record.{Entry, entry, entries, HasTaken}
 use Rattle.simplex_record.specs.Rules.{AreAlike, MayTake}
-use Rattle.simplex_rules.specs.declared.kind.Kind.{Kind}
-use Rattle.simplex_verifier.specs.declared.batch.Batch.{Batch}
-use Rattle.simplex_verifier.specs.ConstructionResult.{after}
-use Rattle.simplex_verifier.specs.History as votes
-use Rattle.simplex_verifier.specs.History.{Taken, Cast, Certified, Led, Judged, Forwarded, accepted}
-use Rattle.simplex_verifier.specs.Votes.{is_in_way, vote_statement}
+use Rattle.types_terms.specs.declared.kind.Kind.{Kind}
+use Rattle.batcher_verifier.specs.declared.batch.Batch.{Batch}
+use Rattle.batcher_verifier.specs.ConstructionResult.{after}
+use Rattle.batcher_verifier.specs.History as votes
+use Rattle.batcher_verifier.specs.History.{Taken, Cast, Certified, Led, Judged, Forwarded, accepted}
+use Rattle.batcher_verifier.specs.Votes.{is_in_way, vote_statement}
 use Rattle.simplex_member.specs.declared.event.Event.{Event}
 use Rattle.simplex_member.specs.Allowed.{Allowed, AreAllowed, MayRecord}
 use Rattle.simplex_member.specs.Laws.{IsKnownVote, IsOfVote, RecordLaws, RoundLaws, raises}

@@ -3,26 +3,26 @@ use Rattle.std.proofs.Common.{◌≡◌, ◌≢◌, ⊎_elim, ℕ, ◌≤◌, Bo
 use Rattle.std.specs.Prelude.{Contains, if◌then◌else◌, option_map, unwrap_or}
 use Rattle.std.proofs.lemmas.Option.{none-some}
 use Rattle.std.proofs.lemmas.List.Elements.{Contains-append_cases, Contains-append_left, Contains-append_right}
-use Rattle.simplex_committee.specs.Counting.{Contains-cases, Contains-head}
-use Rattle.simplex_types.specs.declared.proposal.Proposal.{Proposal}
-use Rattle.simplex_types.specs.declared.scheme.Scheme.{Ghosts}
-use Rattle.simplex_certificates.specs.declared.artifact.Artifact.TheVariants as artifact
-use Rattle.simplex_certificates.specs.declared.certificate.Certificate.{Certificate}
-use Rattle.simplex_certificates.specs.declared.certificate.Certificate.TheVariants as certificate
-use Rattle.simplex_certificates.specs.Artifact.{certificate_artifact}
-use Rattle.simplex_views.specs.Views.{recalls}
+use Rattle.types_quorum.specs.Counting.{Contains-cases, Contains-head}
+use Rattle.types_core.specs.declared.proposal.Proposal.{Proposal}
+use Rattle.types_core.specs.declared.scheme.Scheme.{Ghosts}
+use Rattle.messages_certificates.specs.declared.artifact.Artifact.TheVariants as artifact
+use Rattle.messages_certificates.specs.declared.certificate.Certificate.{Certificate}
+use Rattle.messages_certificates.specs.declared.certificate.Certificate.TheVariants as certificate
+use Rattle.messages_certificates.specs.Artifact.{certificate_artifact}
+use Rattle.voter_views.specs.Views.{recalls}
 use Rattle.simplex_messages.specs.declared.vote.Vote.TheVariants as vote
-use Rattle.simplex_certificates.specs.declared.nullify.Nullify.{Nullify}
-use Rattle.simplex_certificates.specs.ProposalVote.{Finalize}
+use Rattle.messages_certificates.specs.declared.nullify.Nullify.{Nullify}
+use Rattle.messages_certificates.specs.ProposalVote.{Finalize}
 use Rattle.simplex_record.specs.Record.{Entry, entry, entries}
 use Rattle.simplex_record.specs.Rules.{MayFollow, MayNullify, MayFinalize, MayNotarize}
-use Rattle.simplex_history.specs.Past as past
-use Rattle.simplex_history.specs.History as views
-use Rattle.simplex_history.specs.History.{judged, recalled_verdict, seen, voted_notarize, voted_finalize}
-use Rattle.simplex_decisions.specs.VotesDue.{NotarizeIsDue, FinalizeIsDue}
-use Rattle.simplex_decisions.specs.Ancestry.{held_at}
-use Rattle.simplex_laws.specs.Matching as matching
-use Rattle.simplex_laws.specs.Matching.{IsOrderly, Matches, IsBound, EachHistoryMatches, DueMayBeNotarized, DueMayBeNullified, DueMayBeFinalized}
+use Rattle.voter_history.specs.Past as past
+use Rattle.voter_history.specs.History as views
+use Rattle.voter_history.specs.History.{judged, recalled_verdict, seen, voted_notarize, voted_finalize}
+use Rattle.voter_rules.specs.VotesDue.{NotarizeIsDue, FinalizeIsDue}
+use Rattle.voter_rules.specs.Ancestry.{held_at}
+use Rattle.voter_laws.specs.Matching as matching
+use Rattle.voter_laws.specs.Matching.{IsOrderly, Matches, IsBound, EachHistoryMatches, DueMayBeNotarized, DueMayBeNullified, DueMayBeFinalized}
 use Rattle.simplex_member.specs.Allowed.{Allowed, AreAllowed, GivesUp, VoteIsDue}
 use Rattle.simplex_member.specs.Layers.{current_of, finalizes_above, given, known_of, latest, takes_certificate, takes_outcome, voter_of, voter_points}
 use Rattle.simplex_member.specs.Packet.{Formats}

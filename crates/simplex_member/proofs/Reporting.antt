@@ -4,20 +4,20 @@ use Rattle.std.specs.Prelude.{Contains, ◌&&◌, if◌then◌else◌, nat_lt, o
 use Rattle.std.specs.Option.{option_and_then}
 use Rattle.std.proofs.lemmas.Option.{none-some}
 use Rattle.std.proofs.lemmas.List.Elements.{Contains-append_cases}
-use Rattle.simplex_committee.specs.Counting.{Contains-cases, Contains-head, Contains-nil, Contains-rest}
-use Rattle.simplex_types.specs.declared.attestation.Attestation.{Attestation}
-use Rattle.simplex_types.specs.declared.scheme.Scheme.{Ghosts}
-use Rattle.simplex_types.specs.Subject.{Statement, notarize, nullify, finalize}
-use Rattle.simplex_certificates.specs.declared.artifact.Artifact.{Artifact}
-use Rattle.simplex_certificates.specs.declared.artifact.Artifact.TheVariants as artifact
-use Rattle.simplex_certificates.specs.declared.certificate.Certificate.{Certificate}
-use Rattle.simplex_certificates.specs.declared.certificate.Certificate.TheVariants as certificate
-use Rattle.simplex_certificates.specs.declared.nullify.Nullify.{Nullify}
-use Rattle.simplex_certificates.specs.Artifact.{certificate_artifact}
-use Rattle.simplex_certificates.specs.Nullify.{nullify_of_parts}
-use Rattle.simplex_certificates.specs.ProposalCertificate.{Notarization}
-use Rattle.simplex_certificates.specs.ProposalVote.{Finalize, Notarize, contradict, vote_of_parts}
-use Rattle.simplex_certificates.specs.StandsBeside.{stands_beside}
+use Rattle.types_quorum.specs.Counting.{Contains-cases, Contains-head, Contains-nil, Contains-rest}
+use Rattle.types_core.specs.declared.attestation.Attestation.{Attestation}
+use Rattle.types_core.specs.declared.scheme.Scheme.{Ghosts}
+use Rattle.types_core.specs.Subject.{Statement, notarize, nullify, finalize}
+use Rattle.messages_certificates.specs.declared.artifact.Artifact.{Artifact}
+use Rattle.messages_certificates.specs.declared.artifact.Artifact.TheVariants as artifact
+use Rattle.messages_certificates.specs.declared.certificate.Certificate.{Certificate}
+use Rattle.messages_certificates.specs.declared.certificate.Certificate.TheVariants as certificate
+use Rattle.messages_certificates.specs.declared.nullify.Nullify.{Nullify}
+use Rattle.messages_certificates.specs.Artifact.{certificate_artifact}
+use Rattle.messages_certificates.specs.Nullify.{nullify_of_parts}
+use Rattle.messages_certificates.specs.ProposalCertificate.{Notarization}
+use Rattle.messages_certificates.specs.ProposalVote.{Finalize, Notarize, contradict, vote_of_parts}
+use Rattle.messages_certificates.specs.StandsBeside.{stands_beside}
 use Rattle.simplex_messages.specs.declared.activity.Activity.{Activity}
 use Rattle.simplex_messages.specs.declared.activity.Activity.TheVariants as activity
 use Rattle.simplex_messages.specs.declared.vote.Vote.{Vote}
@@ -25,10 +25,10 @@ use Rattle.simplex_messages.specs.declared.vote.Vote.TheVariants as vote
 use Rattle.simplex_messages.specs.Activity.{certificate_activity}
 use Rattle.simplex_messages.specs.Guilt.{notarizes_in}
 use Rattle.simplex_messages.specs.VoteParts.{vote_artifact, vote_round, vote_signer}
-use Rattle.simplex_admission.specs.Evidence.{as_report, evidence}
+use Rattle.batcher_admission.specs.Evidence.{as_report, evidence}
 use Rattle.simplex_batcher.specs.Admission.{report_of}
-use Rattle.simplex_verifier.specs.History.{accepted, is_kept_in_full, recorded, takes}
-use Rattle.simplex_verifier.specs.Votes.{is_in_way, vote_kind, vote_statement}
+use Rattle.batcher_verifier.specs.History.{accepted, is_kept_in_full, recorded, takes}
+use Rattle.batcher_verifier.specs.Votes.{is_in_way, vote_kind, vote_statement}
 use Rattle.simplex_record.specs.declared.owner.Owner.{Owner}
 use Rattle.simplex_record.specs.Record.{Entry, entry, entries, voted, HasVoted}
 use Rattle.simplex_record.specs.Rules.{MayFollow, StandsInTheWay}

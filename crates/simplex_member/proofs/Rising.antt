@@ -1,10 +1,10 @@
 -- The current view and the last finalized one never fall.
 use Rattle.std.proofs.Common.{ℕ, ◌≤◌, ◌+◌, true, false, List, [], ◌∷◌, ◌++◌, sym, subst, arith}
 use Rattle.std.specs.Prelude.{max}
-use Rattle.simplex_types.specs.declared.scheme.Scheme.{Ghosts}
-use Rattle.simplex_types.specs.Positions.{next_term_start}
-use Rattle.simplex_history.specs.History as views
-use Rattle.simplex_history.specs.History.{started, nullified, finalized, judged, current, last_finalized}
+use Rattle.types_core.specs.declared.scheme.Scheme.{Ghosts}
+use Rattle.types_core.specs.Positions.{next_term_start}
+use Rattle.voter_history.specs.History as views
+use Rattle.voter_history.specs.History.{started, nullified, finalized, judged, current, last_finalized}
 use Rattle.simplex_member.specs.Layers.{current_of, finalized_of, latest, voter_of, voter_points}
 use Rattle.simplex_member.specs.Member.{Goes}
 use Rattle.simplex_member.specs.Packet.{Formats}

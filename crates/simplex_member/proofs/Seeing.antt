@@ -2,15 +2,15 @@
 use Rattle.std.proofs.Common.{◌≡◌, ⊎_elim, ℕ, ◌+◌, ◌==◌, Bool, true, false, List, [], ◌∷◌, ◌++◌, Option, Some, None, refl, subst}
 use Rattle.std.specs.Prelude.{Contains, if◌then◌else◌, nat_le, nat_lt, ⊤}
 use Rattle.std.proofs.lemmas.Bool.{eqb-true}
-use Rattle.simplex_committee.specs.Counting.{Contains-cases, Contains-nil}
-use Rattle.simplex_types.specs.declared.proposal.Proposal.{Proposal}
-use Rattle.simplex_types.specs.Positions.{next_term_start}
-use Rattle.simplex_history.specs.declared.timeout_reason.TimeoutReason.TheVariants as reason
-use Rattle.simplex_history.specs.Held as offer
-use Rattle.simplex_history.specs.History as views
-use Rattle.simplex_history.specs.History.{current, enter, later, min_active, seen, sent_item, undecided_payload}
-use Rattle.simplex_history.specs.Past as past
-use Rattle.simplex_history.specs.Pasts.{bind, put}
+use Rattle.types_quorum.specs.Counting.{Contains-cases, Contains-nil}
+use Rattle.types_core.specs.declared.proposal.Proposal.{Proposal}
+use Rattle.types_core.specs.Positions.{next_term_start}
+use Rattle.voter_history.specs.declared.timeout_reason.TimeoutReason.TheVariants as reason
+use Rattle.voter_history.specs.Held as offer
+use Rattle.voter_history.specs.History as views
+use Rattle.voter_history.specs.History.{current, enter, later, min_active, seen, sent_item, undecided_payload}
+use Rattle.voter_history.specs.Past as past
+use Rattle.voter_history.specs.Pasts.{bind, put}
 
 module _ {S D P G C : Type 0} (Good : past.Item S D P G C → Type 0) where
   abbrev pub AreGood : List (past.Item S D P G C) → Type 0

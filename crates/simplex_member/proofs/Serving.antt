@@ -3,17 +3,17 @@ use Rattle.std.proofs.Common.{◌≡◌, ⊎_elim, ℕ, ◌==◌, Bool, true, fa
 use Rattle.std.specs.Prelude.{Contains, option_map, option_to_list, unwrap_or}
 use Rattle.std.proofs.lemmas.Option.{none-some}
 use Rattle.std.proofs.lemmas.List.Elements.{Contains-append_cases}
-use Rattle.simplex_committee.specs.Counting.{Contains-cases, Contains-nil}
-use Rattle.simplex_types.specs.declared.position.Round.{Round}
-use Rattle.simplex_types.specs.declared.proposal.Proposal.{Proposal}
-use Rattle.simplex_types.specs.declared.scheme.Scheme.{Ghosts}
-use Rattle.simplex_types.specs.Subject.{notarize}
-use Rattle.simplex_certificates.specs.declared.artifact.Artifact.{Artifact}
-use Rattle.simplex_certificates.specs.declared.artifact.Artifact.TheVariants as artifact
-use Rattle.simplex_certificates.specs.declared.certificate.Certificate.{Certificate}
-use Rattle.simplex_certificates.specs.declared.certificate.Certificate.TheVariants as certificate
-use Rattle.simplex_certificates.specs.Artifact.{certificate_artifact}
-use Rattle.simplex_certificates.specs.ProposalCertificate.{Notarization}
+use Rattle.types_quorum.specs.Counting.{Contains-cases, Contains-nil}
+use Rattle.types_core.specs.declared.position.Round.{Round}
+use Rattle.types_core.specs.declared.proposal.Proposal.{Proposal}
+use Rattle.types_core.specs.declared.scheme.Scheme.{Ghosts}
+use Rattle.types_core.specs.Subject.{notarize}
+use Rattle.messages_certificates.specs.declared.artifact.Artifact.{Artifact}
+use Rattle.messages_certificates.specs.declared.artifact.Artifact.TheVariants as artifact
+use Rattle.messages_certificates.specs.declared.certificate.Certificate.{Certificate}
+use Rattle.messages_certificates.specs.declared.certificate.Certificate.TheVariants as certificate
+use Rattle.messages_certificates.specs.Artifact.{certificate_artifact}
+use Rattle.messages_certificates.specs.ProposalCertificate.{Notarization}
 use Rattle.simplex_record.specs.Record.{Entry, entry, entries, taken, HasTaken}
 use Rattle.simplex_resolver.specs.Answers.{WhatIsProducedCame, brings, produced}
 use Rattle.simplex_resolver.specs.History as repair

@@ -3,8 +3,8 @@ use Rattle.std.proofs.Common.{◌≡◌, ⊎_elim, ℕ, Bool, true, false, List,
 use Rattle.std.specs.Prelude.{Contains, if◌then◌else◌}
 use Rattle.std.proofs.lemmas.Option.{none-some}
 use Rattle.std.proofs.lemmas.List.Elements.{Contains-append_cases}
-use Rattle.simplex_committee.specs.Counting.{Contains-cases}
-use Rattle.simplex_types.specs.declared.scheme.Scheme.{Ghosts}
+use Rattle.types_quorum.specs.Counting.{Contains-cases}
+use Rattle.types_core.specs.declared.scheme.Scheme.{Ghosts}
 use Rattle.simplex_messages.specs.declared.vote.Vote.{Vote}
 use Rattle.simplex_record.specs.World.{World, IsCorrect}
 use Rattle.simplex_member.specs.Allowed.{AreAllowed}

@@ -3,16 +3,16 @@ use Rattle.std.proofs.Common.{◌≡◌, ℕ, ◌<◌, Bool, List, [], ◌∷◌
 use Rattle.std.specs.Prelude.{◌-◌, ◌^◌, option_map}
 use Rattle.std.proofs.lemmas.List.{append-nil}
 use Rattle.std.proofs.lemmas.Option.{none-some}
-use Rattle.simplex_codec.specs.declared.codec.CodecError.{CodecError}
-use Rattle.simplex_codec.specs.Codec.{IsCodec, Readable}
-use Rattle.simplex_codec.specs.Varint.{varint, varint_at, varint-IsCodec}
-use Rattle.simplex_certificates.specs.declared.artifact.Artifact.TheVariants as artifact
-use Rattle.simplex_certificates.specs.declared.certificate.Certificate.{Certificate}
-use Rattle.simplex_certificates.specs.declared.certificate.Certificate.TheVariants as certificate
-use Rattle.simplex_certificates.specs.Artifact.{artifact_fits, artifact_within}
-use Rattle.simplex_certificates.specs.Certificate.{any_certificate_at, any_certificate_fits, any_certificate_spelling, any_certificate_within, any_certificate-IsCodec, certificate_round}
-use Rattle.simplex_certificates.specs.Nullification.{nullification_fits}
-use Rattle.simplex_certificates.specs.ProposalCertificate.{certificate_fits}
+use Rattle.types_codec.specs.declared.codec.CodecError.{CodecError}
+use Rattle.types_codec.specs.Codec.{IsCodec, Readable}
+use Rattle.types_codec.specs.Varint.{varint, varint_at, varint-IsCodec}
+use Rattle.messages_certificates.specs.declared.artifact.Artifact.TheVariants as artifact
+use Rattle.messages_certificates.specs.declared.certificate.Certificate.{Certificate}
+use Rattle.messages_certificates.specs.declared.certificate.Certificate.TheVariants as certificate
+use Rattle.messages_certificates.specs.Artifact.{artifact_fits, artifact_within}
+use Rattle.messages_certificates.specs.Certificate.{any_certificate_at, any_certificate_fits, any_certificate_spelling, any_certificate_within, any_certificate-IsCodec, certificate_round}
+use Rattle.messages_certificates.specs.Nullification.{nullification_fits}
+use Rattle.messages_certificates.specs.ProposalCertificate.{certificate_fits}
 use Rattle.simplex_messages.specs.declared.vote.Vote.{Vote}
 use Rattle.simplex_messages.specs.declared.vote.Vote.TheVariants as vote
 use Rattle.simplex_messages.specs.Vote.{any_vote_at, any_vote_fits, any_vote_spelling, any_vote-IsCodec}

@@ -4,24 +4,24 @@ use Rattle.std.specs.Prelude.{Contains, IfSome, if◌then◌else◌, option_map,
 use mathlib.Core.List.{reverse, reverse-cons}
 use Rattle.std.proofs.lemmas.Bool.{both_ways}
 use Rattle.std.proofs.lemmas.List.{append-nil}
-use Rattle.simplex_types.specs.declared.position.Round.{Round}
-use Rattle.simplex_types.specs.declared.proposal.Proposal.{Proposal}
-use Rattle.simplex_types.specs.declared.scheme.Scheme.{Ghosts}
-use Rattle.simplex_types.specs.Subject.{notarize, nullify}
-use Rattle.simplex_certificates.specs.declared.artifact.Artifact.{Artifact}
-use Rattle.simplex_certificates.specs.declared.artifact.Artifact.TheVariants as artifact
-use Rattle.simplex_certificates.specs.declared.certificate.Certificate.{Certificate}
-use Rattle.simplex_certificates.specs.declared.certificate.Certificate.TheVariants as certificate
+use Rattle.types_core.specs.declared.position.Round.{Round}
+use Rattle.types_core.specs.declared.proposal.Proposal.{Proposal}
+use Rattle.types_core.specs.declared.scheme.Scheme.{Ghosts}
+use Rattle.types_core.specs.Subject.{notarize, nullify}
+use Rattle.messages_certificates.specs.declared.artifact.Artifact.{Artifact}
+use Rattle.messages_certificates.specs.declared.artifact.Artifact.TheVariants as artifact
+use Rattle.messages_certificates.specs.declared.certificate.Certificate.{Certificate}
+use Rattle.messages_certificates.specs.declared.certificate.Certificate.TheVariants as certificate
 use Rattle.simplex_messages.specs.declared.vote.Vote.TheVariants as vote
-use Rattle.simplex_certificates.specs.Artifact.{certificate_artifact}
+use Rattle.messages_certificates.specs.Artifact.{certificate_artifact}
 use Rattle.simplex_record.specs.Record as recorded
 use Rattle.simplex_record.specs.Record.{Entry, entry, entries}
-use Rattle.simplex_history.specs.Past as past
-use Rattle.simplex_rules.specs.declared.kind.Kind.TheVariants as kind
-use Rattle.simplex_history.specs.History as views
-use Rattle.simplex_history.specs.History.{finalized, pruned, sent, seen}
-use Rattle.simplex_laws.specs.Matching as matching
-use Rattle.simplex_laws.specs.Matching.{told}
+use Rattle.voter_history.specs.Past as past
+use Rattle.types_terms.specs.declared.kind.Kind.TheVariants as kind
+use Rattle.voter_history.specs.History as views
+use Rattle.voter_history.specs.History.{finalized, pruned, sent, seen}
+use Rattle.voter_laws.specs.Matching as matching
+use Rattle.voter_laws.specs.Matching.{told}
 use Rattle.simplex_member.specs.Allowed.{Allowed, AreAllowed, MayRecord}
 use Rattle.simplex_member.specs.Layers.{finalizes_above, takes_certificate, takes_outcome, voter_of}
 use Rattle.simplex_member.specs.Packet.{Formats}

@@ -3,14 +3,14 @@ use Rattle.std.proofs.Common.{◌≡◌, ℕ, zero, suc, ◌+◌, ◌-◌, ◌�
 use Rattle.std.specs.Prelude.{IfSome, if◌then◌else◌, is_none, is_some, max, nat_le, nat_lt, ◌&&◌, ◌||◌, option_and_then, option_map, ⊤}
 use Rattle.std.specs.Option.{option_or}
 use Rattle.std.proofs.lemmas.Option.{none-some}
-use Rattle.simplex_types.specs.Positions.{term_start}
-use Rattle.simplex_history.specs.declared.timeout_reason.TimeoutReason.{TimeoutReason}
-use Rattle.simplex_history.specs.declared.timeout_reason.TimeoutReason.TheVariants as reason
-use Rattle.simplex_history.specs.Held.{held}
-use Rattle.simplex_history.specs.History as views
-use Rattle.simplex_history.specs.History.{current, last_finalized, later, seen}
-use Rattle.simplex_history.specs.Past as past
-use Rattle.simplex_decisions.specs.GivingUp.{NullifyIsDue, earlier, first_from, has_budget, oldest_entered, term_deadline, timeout, timeout_of}
+use Rattle.types_core.specs.Positions.{term_start}
+use Rattle.voter_history.specs.declared.timeout_reason.TimeoutReason.{TimeoutReason}
+use Rattle.voter_history.specs.declared.timeout_reason.TimeoutReason.TheVariants as reason
+use Rattle.voter_history.specs.Held.{held}
+use Rattle.voter_history.specs.History as views
+use Rattle.voter_history.specs.History.{current, last_finalized, later, seen}
+use Rattle.voter_history.specs.Past as past
+use Rattle.voter_rules.specs.GivingUp.{NullifyIsDue, earlier, first_from, has_budget, oldest_entered, term_deadline, timeout, timeout_of}
 use Rattle.simplex_member.specs.Setup.{Setup, DeadlinesLieAhead, IsInTime}
 use Rattle.simplex_member.proofs.Lists.{if-some, some-is}
 use Rattle.simplex_member.proofs.Seeing.{AreGood}

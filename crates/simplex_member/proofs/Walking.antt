@@ -2,9 +2,9 @@
 use Rattle.std.proofs.Common.{◌≡◌, ◌⊎◌, inl, inr, ⊎_elim, ℕ, List, [], ◌∷◌, ◌++◌, Option, Some, None, refl, sym, ◌∙◌, ap, subst, arith, append_assoc}
 use Rattle.std.specs.Prelude.{Contains, option_map, option_to_list, unwrap_or}
 use Rattle.std.proofs.lemmas.List.Elements.{Contains-append_cases, Contains-append_left, Contains-append_right}
-use Rattle.simplex_committee.specs.Counting.{Contains-cases, Contains-head, Contains-rest}
-use Rattle.simplex_types.specs.declared.scheme.Scheme.{Ghosts}
-use Rattle.simplex_certificates.specs.declared.artifact.Artifact.{Artifact}
+use Rattle.types_quorum.specs.Counting.{Contains-cases, Contains-head, Contains-rest}
+use Rattle.types_core.specs.declared.scheme.Scheme.{Ghosts}
+use Rattle.messages_certificates.specs.declared.artifact.Artifact.{Artifact}
 use Rattle.simplex_record.specs.World.{World, IsCorrect}
 use Rattle.simplex_member.specs.declared.event.Event.{Event}
 use Rattle.simplex_member.specs.declared.refusal.Refusal.{Refusal}

@@ -1,38 +1,38 @@
 -- What may come next: what was due, or came, by the layers' own words.
 use Rattle.std.specs.Prelude.{◌≡◌, ◌≢◌, ◌⊎◌, ◌↔◌, ◌+◌, ◌<◌, ◌≤◌, ℕ, Bool, true, false, [], ◌∷◌, Contains, Option, Some, None, IfSome, IsSome, IsTrue, ⊤}
-use Rattle.simplex_types.specs.declared.context.Context.{Context}
-use Rattle.simplex_types.specs.declared.proposal.Proposal.{Proposal}
-use Rattle.simplex_types.specs.declared.scheme.Scheme.{Ghosts}
-use Rattle.simplex_types.specs.Positions.{HasRoom}
-use Rattle.simplex_certificates.specs.declared.artifact.Artifact.{Artifact}
-use Rattle.simplex_certificates.specs.declared.artifact.Artifact.TheVariants as artifact
-use Rattle.simplex_certificates.specs.declared.certificate.Certificate.{Certificate}
-use Rattle.simplex_certificates.specs.declared.nullify.Nullify.{Nullify}
+use Rattle.types_core.specs.declared.context.Context.{Context}
+use Rattle.types_core.specs.declared.proposal.Proposal.{Proposal}
+use Rattle.types_core.specs.declared.scheme.Scheme.{Ghosts}
+use Rattle.types_core.specs.Positions.{HasRoom}
+use Rattle.messages_certificates.specs.declared.artifact.Artifact.{Artifact}
+use Rattle.messages_certificates.specs.declared.artifact.Artifact.TheVariants as artifact
+use Rattle.messages_certificates.specs.declared.certificate.Certificate.{Certificate}
+use Rattle.messages_certificates.specs.declared.nullify.Nullify.{Nullify}
 use Rattle.simplex_messages.specs.declared.vote.Vote.{Vote}
 use Rattle.simplex_messages.specs.declared.vote.Vote.TheVariants as vote
-use Rattle.simplex_certificates.specs.Certificate.{certificate_round}
+use Rattle.messages_certificates.specs.Certificate.{certificate_round}
 use Rattle.simplex_messages.specs.VoteParts.{vote_round, vote_signer}
-use Rattle.simplex_rules.specs.Windows.{Retains}
+use Rattle.types_terms.specs.Windows.{Retains}
 use Rattle.simplex_record.specs.Lawful.{Fits}
 use Rattle.simplex_record.specs.Rules.{HasParentBelow}
-use Rattle.simplex_history.specs.declared.timeout_reason.TimeoutReason.{TimeoutReason}
-use Rattle.simplex_history.specs.declared.timeout_reason.TimeoutReason.TheVariants as reason
-use Rattle.simplex_history.specs.Held.{held, Agrees}
-use Rattle.simplex_history.specs.Past as past
-use Rattle.simplex_tracking.specs.Rounds.{Takes}
-use Rattle.simplex_history.specs.History.{seen}
-use Rattle.simplex_history.specs.Leaders.{leader}
-use Rattle.simplex_decisions.specs.Ancestry.{held_at, IsSteady}
-use Rattle.simplex_decisions.specs.Answers.{best_certificate}
-use Rattle.simplex_decisions.specs.VotesDue.{NotarizeIsDue, FinalizeIsDue}
-use Rattle.simplex_decisions.specs.GivingUp.{NullifyIsDue, MayLatch, IsTracked}
-use Rattle.simplex_decisions.specs.Requests.{BuildIsDue, IsHandoff, IsCaptured, IsSuperseded, StopsHandoff, VerifyIsDue, IsInvalid, CertifyIsDue, IsPutOff, CertificateIsWanted}
-use Rattle.simplex_history.specs.declared.handoff_abandoned_reason.HandoffAbandonedReason.{HandoffAbandonedReason}
-use Rattle.simplex_decisions.specs.Building.{IsContextOf, IsKeyOfLeader, proposal_on}
-use Rattle.simplex_laws.specs.Missing.{IsMissing}
-use Rattle.simplex_verifier.specs.Votes.{vote_statement}
-use Rattle.simplex_verifier.specs.History.{forwardable, leader_of, next_kind, takes}
-use Rattle.simplex_verifier.specs.ConstructionResult.{IsBatch}
+use Rattle.voter_history.specs.declared.timeout_reason.TimeoutReason.{TimeoutReason}
+use Rattle.voter_history.specs.declared.timeout_reason.TimeoutReason.TheVariants as reason
+use Rattle.voter_history.specs.Held.{held, Agrees}
+use Rattle.voter_history.specs.Past as past
+use Rattle.voter_rounds.specs.Rounds.{Takes}
+use Rattle.voter_history.specs.History.{seen}
+use Rattle.voter_history.specs.Leaders.{leader}
+use Rattle.voter_rules.specs.Ancestry.{held_at, IsSteady}
+use Rattle.voter_rules.specs.Answers.{best_certificate}
+use Rattle.voter_rules.specs.VotesDue.{NotarizeIsDue, FinalizeIsDue}
+use Rattle.voter_rules.specs.GivingUp.{NullifyIsDue, MayLatch, IsTracked}
+use Rattle.voter_rules.specs.Requests.{BuildIsDue, IsHandoff, IsCaptured, IsSuperseded, StopsHandoff, VerifyIsDue, IsInvalid, CertifyIsDue, IsPutOff, CertificateIsWanted}
+use Rattle.voter_history.specs.declared.handoff_abandoned_reason.HandoffAbandonedReason.{HandoffAbandonedReason}
+use Rattle.voter_rules.specs.Building.{IsContextOf, IsKeyOfLeader, proposal_on}
+use Rattle.voter_laws.specs.Missing.{IsMissing}
+use Rattle.batcher_verifier.specs.Votes.{vote_statement}
+use Rattle.batcher_verifier.specs.History.{forwardable, leader_of, next_kind, takes}
+use Rattle.batcher_verifier.specs.ConstructionResult.{IsBatch}
 use Rattle.simplex_batcher.specs.Queries.{has_nullify}
 use Rattle.simplex_resolver.specs.declared.ask.Ask.{Ask}
 use Rattle.simplex_resolver.specs.declared.ask.Kind as repair

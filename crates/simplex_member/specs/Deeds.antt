@@ -1,31 +1,31 @@
 -- What a node hands out.
 use Rattle.std.specs.Prelude.{◌≡◌, ◌==◌, ◌-◌, ◌++◌, nat_lt, nat_eq, not, ℕ, Bool, true, false, map, filter, List, [], ◌∷◌, Option, Some, None, option_map, option_to_list, unwrap_or, if◌then◌else◌, ⊤}
 use Rattle.std.specs.Option.{option_eq}
-use Rattle.simplex_types.specs.declared.scheme.Scheme.{Ghosts}
-use Rattle.simplex_types.specs.declared.context.Context.{Context}
-use Rattle.simplex_types.specs.declared.position.Round.{Round}
-use Rattle.simplex_types.specs.declared.proposal.Proposal.{Proposal}
+use Rattle.types_core.specs.declared.scheme.Scheme.{Ghosts}
+use Rattle.types_core.specs.declared.context.Context.{Context}
+use Rattle.types_core.specs.declared.position.Round.{Round}
+use Rattle.types_core.specs.declared.proposal.Proposal.{Proposal}
 use Rattle.simplex_messages.specs.declared.activity.Activity.{Activity}
-use Rattle.simplex_certificates.specs.declared.artifact.Artifact.{Artifact}
-use Rattle.simplex_certificates.specs.declared.artifact.Artifact.TheVariants as artifact
-use Rattle.simplex_certificates.specs.declared.certificate.Certificate.{Certificate}
-use Rattle.simplex_certificates.specs.declared.certificate.Certificate.TheVariants as certificate
+use Rattle.messages_certificates.specs.declared.artifact.Artifact.{Artifact}
+use Rattle.messages_certificates.specs.declared.artifact.Artifact.TheVariants as artifact
+use Rattle.messages_certificates.specs.declared.certificate.Certificate.{Certificate}
+use Rattle.messages_certificates.specs.declared.certificate.Certificate.TheVariants as certificate
 use Rattle.simplex_messages.specs.declared.vote.Vote.TheVariants as vote
-use Rattle.simplex_certificates.specs.Artifact.{certificate_artifact}
+use Rattle.messages_certificates.specs.Artifact.{certificate_artifact}
 use Rattle.simplex_messages.specs.VoteParts.{vote_artifact}
-use Rattle.simplex_certificates.specs.ProposalCertificate.{Finalization}
-use Rattle.simplex_admission.specs.Evidence.{as_report}
-use Rattle.simplex_decisions.specs.declared.config.ForwardPolicy.{ForwardPolicy}
-use Rattle.simplex_decisions.specs.declared.config.ForwardPolicy.TheVariants as policy
-use Rattle.simplex_history.specs.Past.{forwardable_proposal}
-use Rattle.simplex_history.specs.History.{seen}
-use Rattle.simplex_history.specs.Leaders.{leader}
+use Rattle.messages_certificates.specs.ProposalCertificate.{Finalization}
+use Rattle.batcher_admission.specs.Evidence.{as_report}
+use Rattle.voter_rules.specs.declared.config.ForwardPolicy.{ForwardPolicy}
+use Rattle.voter_rules.specs.declared.config.ForwardPolicy.TheVariants as policy
+use Rattle.voter_history.specs.Past.{forwardable_proposal}
+use Rattle.voter_history.specs.History.{seen}
+use Rattle.voter_history.specs.Leaders.{leader}
 use Rattle.simplex_batcher.specs.Queries.{missing_voters}
 use Rattle.simplex_resolver.specs.Answers.{produced}
 use Rattle.simplex_member.specs.declared.action.Action.{Action}
 use Rattle.simplex_member.specs.declared.action.Action.TheVariants as action
-use Rattle.simplex_rules.specs.declared.plan.Plan.{Plan}
-use Rattle.simplex_rules.specs.declared.plan.Plan.TheVariants as plan
+use Rattle.types_terms.specs.declared.plan.Plan.{Plan}
+use Rattle.types_terms.specs.declared.plan.Plan.TheVariants as plan
 use Rattle.simplex_member.specs.declared.event.Channel.TheVariants as channel
 use Rattle.simplex_member.specs.Layers.{current_of, finalized_of, repair_of, voter_of, votes_of, votes_setup}
 use Rattle.simplex_member.specs.Packet.{Formats, Packet, of_vote, of_certificate, of_ask, packet_channel}

@@ -1,30 +1,30 @@
 -- What follows from the member model, as statements. Each is proved where a function without a body has it as a clause (`laws.rt`): what
 -- stands in no clause there is not proved.
 use Rattle.std.specs.Prelude.{◌≡◌, ◌≢◌, ◌↔◌, IsTrue, ◌⊎◌, ◌≤◌, ◌<◌, ◌+◌, ◌^◌, ◌++◌, ℕ, true, false, List, [], ◌∷◌, Contains, IsSome, Option, Some, nat_lt, if◌then◌else◌, Bool, None, IfSome, option_map, map, All, ⊤}
-use Rattle.simplex_types.specs.declared.attestation.Attestation.{Attestation}
-use Rattle.simplex_types.specs.declared.context.Context.{Context}
-use Rattle.simplex_types.specs.declared.position.Round.{Round}
-use Rattle.simplex_types.specs.declared.proposal.Proposal.{Proposal}
-use Rattle.simplex_types.specs.declared.scheme.Scheme.{Ghosts}
-use Rattle.simplex_types.specs.Positions.{HasRoom}
-use Rattle.simplex_types.specs.Subject.{Statement}
-use Rattle.simplex_certificates.specs.declared.artifact.Artifact.{Artifact}
-use Rattle.simplex_certificates.specs.declared.certificate.Certificate.{Certificate}
-use Rattle.simplex_certificates.specs.declared.certificate.Certificate.TheVariants as certificate
-use Rattle.simplex_certificates.specs.declared.nullify.Nullify.{Nullify}
-use Rattle.simplex_certificates.specs.ProposalCertificate.{Notarization}
-use Rattle.simplex_certificates.specs.ProposalVote.{Finalize, Notarize}
+use Rattle.types_core.specs.declared.attestation.Attestation.{Attestation}
+use Rattle.types_core.specs.declared.context.Context.{Context}
+use Rattle.types_core.specs.declared.position.Round.{Round}
+use Rattle.types_core.specs.declared.proposal.Proposal.{Proposal}
+use Rattle.types_core.specs.declared.scheme.Scheme.{Ghosts}
+use Rattle.types_core.specs.Positions.{HasRoom}
+use Rattle.types_core.specs.Subject.{Statement}
+use Rattle.messages_certificates.specs.declared.artifact.Artifact.{Artifact}
+use Rattle.messages_certificates.specs.declared.certificate.Certificate.{Certificate}
+use Rattle.messages_certificates.specs.declared.certificate.Certificate.TheVariants as certificate
+use Rattle.messages_certificates.specs.declared.nullify.Nullify.{Nullify}
+use Rattle.messages_certificates.specs.ProposalCertificate.{Notarization}
+use Rattle.messages_certificates.specs.ProposalVote.{Finalize, Notarize}
 use Rattle.simplex_messages.specs.declared.activity.Activity.{Activity}
 use Rattle.simplex_messages.specs.declared.activity.Activity.TheVariants as activity
 use Rattle.simplex_messages.specs.Guilt.{finalizes_in, notarizes_in, nullifies_in}
 use Rattle.simplex_messages.specs.declared.vote.Vote.{Vote}
 use Rattle.simplex_messages.specs.declared.vote.Vote.TheVariants as vote
-use Rattle.simplex_certificates.specs.Artifact.{certificate_artifact}
+use Rattle.messages_certificates.specs.Artifact.{certificate_artifact}
 use Rattle.simplex_messages.specs.VoteParts.{vote_artifact}
-use Rattle.simplex_certificates.specs.Certificate.{certificate_round, certificate_statement, certified_by}
+use Rattle.messages_certificates.specs.Certificate.{certificate_round, certificate_statement, certified_by}
 use Rattle.simplex_messages.specs.VoteParts.{vote_round, vote_signer}
-use Rattle.simplex_rules.specs.declared.kind.Kind.{Kind}
-use Rattle.simplex_rules.specs.Windows.{HasExactly}
+use Rattle.types_terms.specs.declared.kind.Kind.{Kind}
+use Rattle.types_terms.specs.Windows.{HasExactly}
 use Rattle.simplex_record.specs.Record.{entries, entry, HasVoted}
 use Rattle.simplex_record.specs.Rules.{HasParentBelow, MayFollow, MayJudge, StandsInTheWay}
 use Rattle.simplex_record.specs.declared.owner.Owner.{Owner}
@@ -33,22 +33,22 @@ use Rattle.simplex_record.specs.Chain.{MayFollowOnGround, OneChain, StandsOnGrou
 use Rattle.simplex_record.specs.World.{World, IsCorrect, IsHonest, IsSound}
 use Rattle.simplex_record.specs.Agreement.{OneProposalAView, NoFinalizedViewNullified, NoFinalizedViewSkipped}
 use Rattle.simplex_batcher.specs.Admission.{IsBlocked}
-use Rattle.simplex_verifier.specs.declared.batch.Batch.{Batch}
-use Rattle.simplex_verifier.specs.Votes.{vote_attestation, vote_statement}
-use Rattle.simplex_verifier.specs.ConstructionResult.{HasFailed, IsBatch, IsFounded}
-use Rattle.simplex_verifier.specs.History as votes
-use Rattle.simplex_verifier.specs.Lawful as lawful
-use Rattle.simplex_types.specs.Batching.{AreFailing}
-use Rattle.simplex_verifier.specs.Quorums.{AllCertified}
-use Rattle.simplex_history.specs.Past as past
-use Rattle.simplex_history.specs.History.{later, scheduled_leader, seen}
-use Rattle.simplex_decisions.specs.Ancestry.{held_at}
-use Rattle.simplex_decisions.specs.VotesDue.{NotarizeIsDue}
-use Rattle.simplex_decisions.specs.GivingUp.{IsTracked}
-use Rattle.simplex_laws.specs.Matching as voter
-use Rattle.simplex_laws.specs.Matching.{IsOrderly, IsBound, round_of}
-use Rattle.simplex_laws.specs.Placing.{AreOfTheirViews}
-use Rattle.simplex_journal.specs.Record.{Reads}
+use Rattle.batcher_verifier.specs.declared.batch.Batch.{Batch}
+use Rattle.batcher_verifier.specs.Votes.{vote_attestation, vote_statement}
+use Rattle.batcher_verifier.specs.ConstructionResult.{HasFailed, IsBatch, IsFounded}
+use Rattle.batcher_verifier.specs.History as votes
+use Rattle.batcher_verifier.specs.Lawful as lawful
+use Rattle.types_core.specs.Batching.{AreFailing}
+use Rattle.batcher_verifier.specs.Quorums.{AllCertified}
+use Rattle.voter_history.specs.Past as past
+use Rattle.voter_history.specs.History.{later, scheduled_leader, seen}
+use Rattle.voter_rules.specs.Ancestry.{held_at}
+use Rattle.voter_rules.specs.VotesDue.{NotarizeIsDue}
+use Rattle.voter_rules.specs.GivingUp.{IsTracked}
+use Rattle.voter_laws.specs.Matching as voter
+use Rattle.voter_laws.specs.Matching.{IsOrderly, IsBound, round_of}
+use Rattle.voter_laws.specs.Placing.{AreOfTheirViews}
+use Rattle.journal_single.specs.Record.{Reads}
 use Rattle.simplex_member.specs.declared.action.Reply.{Reply}
 use Rattle.simplex_member.specs.declared.event.Channel.{Channel}
 use Rattle.simplex_member.specs.declared.event.Event.{Event}
@@ -58,7 +58,7 @@ use Rattle.simplex_member.specs.Asked.{IsAwaited, build_at, check_at}
 use Rattle.simplex_member.specs.declared.refusal.Refusal.{Refusal}
 use Rattle.simplex_member.specs.First.{IsFirst}
 use Rattle.simplex_member.specs.Refusals.{refused_deeds, tests}
-use Rattle.simplex_admission.specs.Evidence.{as_report}
+use Rattle.batcher_admission.specs.Evidence.{as_report}
 use Rattle.simplex_resolver.specs.declared.ask.Ask.{Ask}
 use Rattle.simplex_resolver.specs.Answers.{produced}
 use Rattle.simplex_resolver.specs.History as repair

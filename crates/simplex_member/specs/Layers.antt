@@ -1,28 +1,28 @@
 -- What a node's history says of its voter, of the votes of each view, and of its repair.
 use Rattle.std.specs.Prelude.{◌==◌, ◌+◌, ◌*◌, ◌^◌, ◌&&◌, ◌||◌, ◌++◌, nat_lt, not, ℕ, Bool, true, false, List, [], ◌∷◌, Option, Some, None, option_map, option_to_list, unwrap_or, if◌then◌else◌}
 use Rattle.std.specs.Option.{option_or}
-use Rattle.simplex_types.specs.declared.scheme.Scheme.{Ghosts}
-use Rattle.simplex_committee.specs.Committee.{quorum}
-use Rattle.simplex_types.specs.Positions.{next_term_start}
-use Rattle.simplex_certificates.specs.declared.artifact.Artifact.{Artifact}
-use Rattle.simplex_certificates.specs.declared.artifact.Artifact.TheVariants as artifact
-use Rattle.simplex_certificates.specs.declared.certificate.Certificate.{Certificate}
-use Rattle.simplex_certificates.specs.declared.certificate.Certificate.TheVariants as certificate
+use Rattle.types_core.specs.declared.scheme.Scheme.{Ghosts}
+use Rattle.types_quorum.specs.Committee.{quorum}
+use Rattle.types_core.specs.Positions.{next_term_start}
+use Rattle.messages_certificates.specs.declared.artifact.Artifact.{Artifact}
+use Rattle.messages_certificates.specs.declared.artifact.Artifact.TheVariants as artifact
+use Rattle.messages_certificates.specs.declared.certificate.Certificate.{Certificate}
+use Rattle.messages_certificates.specs.declared.certificate.Certificate.TheVariants as certificate
 use Rattle.simplex_messages.specs.declared.vote.Vote.{Vote}
 use Rattle.simplex_messages.specs.declared.vote.Vote.TheVariants as vote
-use Rattle.simplex_certificates.specs.Artifact.{artifact_round, certificate_artifact}
-use Rattle.simplex_certificates.specs.Certificate.{as_notarization, certificate_round}
+use Rattle.messages_certificates.specs.Artifact.{artifact_round, certificate_artifact}
+use Rattle.messages_certificates.specs.Certificate.{as_notarization, certificate_round}
 use Rattle.simplex_messages.specs.VoteParts.{vote_round}
-use Rattle.simplex_history.specs.declared.timeout_reason.TimeoutReason.{TimeoutReason}
-use Rattle.simplex_history.specs.declared.timeout_reason.TimeoutReason.TheVariants as reason
-use Rattle.simplex_history.specs.History as views
-use Rattle.simplex_history.specs.History.{started, notarized, nullified, finalized, judged, forwarded, built, confirmed, unbound, latched, build_asked, build_released, verify_asked, ancestry_asked, certify_asked, certify_waited, voted_notarize, voted_nullify, voted_finalize, polled, pruned, current, last_finalized, min_active}
-use Rattle.simplex_history.specs.Known.{Known, known}
-use Rattle.simplex_views.specs.Views.{recalls}
-use Rattle.simplex_decisions.specs.Building.{proposal_on}
-use Rattle.simplex_verifier.specs.History as votes
-use Rattle.simplex_verifier.specs.History.{Taken, Cast, Certified, Led, Forwarded}
-use Rattle.simplex_verifier.specs.ConstructionResult.{after}
+use Rattle.voter_history.specs.declared.timeout_reason.TimeoutReason.{TimeoutReason}
+use Rattle.voter_history.specs.declared.timeout_reason.TimeoutReason.TheVariants as reason
+use Rattle.voter_history.specs.History as views
+use Rattle.voter_history.specs.History.{started, notarized, nullified, finalized, judged, forwarded, built, confirmed, unbound, latched, build_asked, build_released, verify_asked, ancestry_asked, certify_asked, certify_waited, voted_notarize, voted_nullify, voted_finalize, polled, pruned, current, last_finalized, min_active}
+use Rattle.voter_history.specs.Known.{Known, known}
+use Rattle.voter_views.specs.Views.{recalls}
+use Rattle.voter_rules.specs.Building.{proposal_on}
+use Rattle.batcher_verifier.specs.History as votes
+use Rattle.batcher_verifier.specs.History.{Taken, Cast, Certified, Led, Forwarded}
+use Rattle.batcher_verifier.specs.ConstructionResult.{after}
 use Rattle.simplex_resolver.specs.History as repair
 use Rattle.simplex_resolver.specs.History.{Item, Replayed, item_of}
 use Rattle.simplex_member.specs.Packet.{Formats}

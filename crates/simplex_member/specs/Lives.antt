@@ -1,13 +1,13 @@
 -- A member's life: openings one after another, each with the events that came, until a crash or a fault. And worlds of such members.
 use Rattle.std.specs.Prelude.{◌≡◌, ◌<◌, ◌≤◌, ◌++◌, ℕ, List, [], ◌∷◌, length, Contains, Option, Some, None, IfSome, option_map, option_to_list, unwrap_or, ⊤}
-use Rattle.simplex_types.specs.declared.scheme.Scheme.{Ghosts}
-use Rattle.simplex_committee.specs.Committee.{faults}
-use Rattle.simplex_certificates.specs.declared.artifact.Artifact.{Artifact}
+use Rattle.types_core.specs.declared.scheme.Scheme.{Ghosts}
+use Rattle.types_quorum.specs.Committee.{faults}
+use Rattle.messages_certificates.specs.declared.artifact.Artifact.{Artifact}
 use Rattle.simplex_messages.specs.declared.vote.Vote.{Vote}
 use Rattle.simplex_messages.specs.VoteParts.{vote_signer}
 use Rattle.simplex_record.specs.Record.{entries, HasVoted}
 use Rattle.simplex_record.specs.World.{World, IsCorrect, IsHonest, IsAlike}
-use Rattle.simplex_verifier.specs.Votes.{vote_statement, vote_attestation}
+use Rattle.batcher_verifier.specs.Votes.{vote_statement, vote_attestation}
 use Rattle.simplex_member.specs.declared.event.Channel.{Channel}
 use Rattle.simplex_member.specs.declared.event.Channel.TheVariants as channel
 use Rattle.simplex_member.specs.declared.event.Event.{Event}

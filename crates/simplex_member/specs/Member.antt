@@ -1,23 +1,23 @@
 -- The member model: how a node goes from point to point, what a step and an opening are, and a whole run.
 use Rattle.std.specs.Prelude.{◌≡◌, ◌≢◌, ◌⊎◌, ◌<◌, ◌++◌, ℕ, Bool, true, false, map, List, [], ◌∷◌, Option, Some, None, IsSome, MatchOption, ⊤}
-use Rattle.simplex_types.specs.declared.context.Context.{Context}
-use Rattle.simplex_types.specs.declared.proposal.Proposal.{Proposal}
-use Rattle.simplex_types.specs.declared.scheme.Scheme.{Ghosts}
-use Rattle.simplex_certificates.specs.declared.artifact.Artifact.{Artifact}
+use Rattle.types_core.specs.declared.context.Context.{Context}
+use Rattle.types_core.specs.declared.proposal.Proposal.{Proposal}
+use Rattle.types_core.specs.declared.scheme.Scheme.{Ghosts}
+use Rattle.messages_certificates.specs.declared.artifact.Artifact.{Artifact}
 use Rattle.simplex_messages.specs.VoteParts.{vote_signer}
-use Rattle.simplex_history.specs.declared.timeout_reason.TimeoutReason.{TimeoutReason}
-use Rattle.simplex_history.specs.declared.timeout_reason.TimeoutReason.TheVariants as reason
-use Rattle.simplex_history.specs.Past as past
-use Rattle.simplex_history.specs.History.{latched, seen}
-use Rattle.simplex_history.specs.Leaders.{leader}
-use Rattle.simplex_decisions.specs.VotesDue.{NotarizeIsDue, FinalizeIsDue}
-use Rattle.simplex_decisions.specs.GivingUp.{NullifyIsDue, MayLatch}
-use Rattle.simplex_decisions.specs.Requests.{NoBuildIsDue, VerifyIsDue, CertifyIsDue, IsPutOff}
-use Rattle.simplex_laws.specs.Missing.{IsMissing}
-use Rattle.simplex_verifier.specs.History.{forwardable, leader_of, next_kind}
+use Rattle.voter_history.specs.declared.timeout_reason.TimeoutReason.{TimeoutReason}
+use Rattle.voter_history.specs.declared.timeout_reason.TimeoutReason.TheVariants as reason
+use Rattle.voter_history.specs.Past as past
+use Rattle.voter_history.specs.History.{latched, seen}
+use Rattle.voter_history.specs.Leaders.{leader}
+use Rattle.voter_rules.specs.VotesDue.{NotarizeIsDue, FinalizeIsDue}
+use Rattle.voter_rules.specs.GivingUp.{NullifyIsDue, MayLatch}
+use Rattle.voter_rules.specs.Requests.{NoBuildIsDue, VerifyIsDue, CertifyIsDue, IsPutOff}
+use Rattle.voter_laws.specs.Missing.{IsMissing}
+use Rattle.batcher_verifier.specs.History.{forwardable, leader_of, next_kind}
 use Rattle.simplex_resolver.specs.declared.ask.Ask.{Ask}
 use Rattle.simplex_resolver.specs.declared.ask.Kind as repair
-use Rattle.simplex_journal.specs.Record.{Reads}
+use Rattle.journal_single.specs.Record.{Reads}
 use Rattle.simplex_member.specs.declared.action.Action.{Action}
 use Rattle.simplex_member.specs.declared.action.Reply.{Reply}
 use Rattle.simplex_member.specs.declared.event.Event.{Event}

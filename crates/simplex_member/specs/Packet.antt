@@ -1,17 +1,17 @@
 -- What members send one another: votes, certificates, and asks for the certificates of a view.
 use Rattle.std.specs.Prelude.{◌≡◌, ℕ, ◌^◌, ◌-◌, Bool, List, [], ◌∷◌, Option, Some, None, Result, Ok, Err, option_map}
-use Rattle.simplex_codec.specs.declared.codec.CodecError.{CodecError}
-use Rattle.simplex_codec.specs.Varint.{varint, varint_at}
+use Rattle.types_codec.specs.declared.codec.CodecError.{CodecError}
+use Rattle.types_codec.specs.Varint.{varint, varint_at}
 use Rattle.simplex_messages.specs.declared.activity.Activity.{Activity}
-use Rattle.simplex_certificates.specs.declared.artifact.Artifact.{Artifact}
-use Rattle.simplex_certificates.specs.declared.artifact.Artifact.TheVariants as artifact
-use Rattle.simplex_certificates.specs.declared.certificate.Certificate.{Certificate}
-use Rattle.simplex_certificates.specs.declared.certificate.Certificate.TheVariants as certificate
+use Rattle.messages_certificates.specs.declared.artifact.Artifact.{Artifact}
+use Rattle.messages_certificates.specs.declared.artifact.Artifact.TheVariants as artifact
+use Rattle.messages_certificates.specs.declared.certificate.Certificate.{Certificate}
+use Rattle.messages_certificates.specs.declared.certificate.Certificate.TheVariants as certificate
 use Rattle.simplex_messages.specs.declared.vote.Vote.{Vote}
 use Rattle.simplex_messages.specs.declared.vote.Vote.TheVariants as vote
 use Rattle.simplex_messages.specs.Activity.{activity_spelling}
-use Rattle.simplex_certificates.specs.Artifact.{artifact_spelling}
-use Rattle.simplex_certificates.specs.Certificate.{any_certificate_spelling, any_certificate_at}
+use Rattle.messages_certificates.specs.Artifact.{artifact_spelling}
+use Rattle.messages_certificates.specs.Certificate.{any_certificate_spelling, any_certificate_at}
 use Rattle.simplex_messages.specs.Vote.{any_vote_spelling, any_vote_at}
 use Rattle.simplex_member.specs.declared.event.Channel.{Channel}
 use Rattle.simplex_member.specs.declared.event.Channel.TheVariants as channel

@@ -2,11 +2,11 @@
 use Rattle.std.specs.Prelude.{◌==◌, ◌++◌, ℕ, true, false, List, [], ◌∷◌, Option, Some, None, option_map, option_to_list, if◌then◌else◌}
 use Rattle.simplex_messages.specs.declared.activity.Activity.{Activity}
 use Rattle.simplex_messages.specs.declared.activity.Activity.TheVariants as activity
-use Rattle.simplex_certificates.specs.declared.artifact.Artifact.{Artifact}
-use Rattle.simplex_certificates.specs.declared.artifact.Artifact.TheVariants as artifact
-use Rattle.simplex_certificates.specs.Artifact.{certificate_artifact}
+use Rattle.messages_certificates.specs.declared.artifact.Artifact.{Artifact}
+use Rattle.messages_certificates.specs.declared.artifact.Artifact.TheVariants as artifact
+use Rattle.messages_certificates.specs.Artifact.{certificate_artifact}
 use Rattle.simplex_messages.specs.VoteParts.{vote_artifact}
-use Rattle.simplex_certificates.specs.ProposalCertificate.{Notarization, Finalization}
+use Rattle.messages_certificates.specs.ProposalCertificate.{Notarization, Finalization}
 use Rattle.simplex_member.specs.Point.{Point, Found, Came, Judged, Constructs, Votes, History}
 
 -- a list, and behind it one more, if there is one

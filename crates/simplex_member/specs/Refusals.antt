@@ -1,17 +1,17 @@
 -- Why events are refused: the first test that applies.
 use Rattle.std.specs.Prelude.{◌≡◌, ◌≢◌, ◌<◌, ◌≤◌, ◌++◌, ℕ, Bool, true, false, map, List, [], ◌∷◌, Option, Some, None, option_to_list, if◌then◌else◌, ⊤}
-use Rattle.simplex_types.specs.declared.scheme.Scheme.{Ghosts}
-use Rattle.simplex_types.specs.Positions.{HasRoom}
-use Rattle.simplex_types.specs.Subject.{Statement}
-use Rattle.simplex_certificates.specs.declared.certificate.Certificate.{Certificate}
+use Rattle.types_core.specs.declared.scheme.Scheme.{Ghosts}
+use Rattle.types_core.specs.Positions.{HasRoom}
+use Rattle.types_core.specs.Subject.{Statement}
+use Rattle.messages_certificates.specs.declared.certificate.Certificate.{Certificate}
 use Rattle.simplex_messages.specs.declared.vote.Vote.{Vote}
-use Rattle.simplex_certificates.specs.Certificate.{certificate_round, certificate_statement, certified_by}
+use Rattle.messages_certificates.specs.Certificate.{certificate_round, certificate_statement, certified_by}
 use Rattle.simplex_messages.specs.VoteParts.{vote_round, vote_signer}
-use Rattle.simplex_rules.specs.Windows.{Admits, Retains}
+use Rattle.types_terms.specs.Windows.{Admits, Retains}
 use Rattle.simplex_record.specs.Record.{entries, HasTaken}
 use Rattle.simplex_record.specs.Rules.{AreAlike, HasParentBelow}
-use Rattle.simplex_verifier.specs.Votes.{vote_statement}
-use Rattle.simplex_verifier.specs.History.{takes}
+use Rattle.batcher_verifier.specs.Votes.{vote_statement}
+use Rattle.batcher_verifier.specs.History.{takes}
 use Rattle.simplex_batcher.specs.Admission.{IsBlocked, report_of}
 use Rattle.simplex_member.specs.declared.event.Event.{Event}
 use Rattle.simplex_member.specs.declared.event.Event.TheVariants as event

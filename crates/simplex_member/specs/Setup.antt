@@ -1,15 +1,15 @@
 -- What stays the same through an opening of a member's node.
 use Rattle.std.specs.Prelude.{◌≡◌, ◌<◌, ◌+◌, ◌^◌, ℕ, Bool, max, unwrap_or, Option, Some, None, IfSome}
-use Rattle.simplex_types.specs.declared.scheme.Scheme.{Ghosts}
-use Rattle.simplex_rules.specs.declared.elector.Elector as elector
+use Rattle.types_core.specs.declared.scheme.Scheme.{Ghosts}
+use Rattle.types_terms.specs.declared.elector.Elector as elector
 use Rattle.simplex_record.specs.declared.owner.Owner.{Owner}
-use Rattle.simplex_decisions.specs.declared.config.Config.{Config}
-use Rattle.simplex_decisions.specs.declared.config.ForwardPolicy.{ForwardPolicy}
-use Rattle.simplex_decisions.specs.declared.config.SkipPolicy.{SkipPolicy}
-use Rattle.simplex_decisions.specs.declared.config.SkipPolicy.TheVariants as skip
-use Rattle.simplex_history.specs.History as views
-use Rattle.simplex_views.specs.Views.{built}
-use Rattle.simplex_decisions.specs.Ancestry.{Member, member}
+use Rattle.voter_rules.specs.declared.config.Config.{Config}
+use Rattle.voter_rules.specs.declared.config.ForwardPolicy.{ForwardPolicy}
+use Rattle.voter_rules.specs.declared.config.SkipPolicy.{SkipPolicy}
+use Rattle.voter_rules.specs.declared.config.SkipPolicy.TheVariants as skip
+use Rattle.voter_history.specs.History as views
+use Rattle.voter_views.specs.Views.{built}
+use Rattle.voter_rules.specs.Ancestry.{Member, member}
 
 pub record Setup (S D C : Type 0) : Type 0 where
   -- what stays the same of its voter: the scheme, the epoch, the terms, whom the elector names, times

@@ -1,15 +1,15 @@
 -- Events and replies as bytes.
 use Rattle.std.specs.Prelude.{◌≡◌, ◌⊎◌, ℕ, Bool, true, false, List, [], ◌∷◌, ◌++◌, length, flat_map, Option, Some, None}
-use Rattle.simplex_types.specs.Context.{context_spelling}
-use Rattle.simplex_types.specs.Proposal.{proposal_spelling}
-use Rattle.simplex_types.specs.Round.{round_spelling}
-use Rattle.simplex_codec.specs.Truth.{truth_spelling}
-use Rattle.simplex_codec.specs.Varint.{varint}
+use Rattle.types_core.specs.Context.{context_spelling}
+use Rattle.types_core.specs.Proposal.{proposal_spelling}
+use Rattle.types_core.specs.Round.{round_spelling}
+use Rattle.types_codec.specs.Truth.{truth_spelling}
+use Rattle.types_codec.specs.Varint.{varint}
 use Rattle.simplex_messages.specs.Activity.{activity_spelling}
 use Rattle.simplex_member.specs.declared.action.Action.{Action}
 use Rattle.simplex_member.specs.declared.action.Action.TheVariants as action
-use Rattle.simplex_rules.specs.declared.plan.Plan.{Plan}
-use Rattle.simplex_rules.specs.declared.plan.Plan.TheVariants as plan
+use Rattle.types_terms.specs.declared.plan.Plan.{Plan}
+use Rattle.types_terms.specs.declared.plan.Plan.TheVariants as plan
 use Rattle.simplex_member.specs.declared.action.Reply.{Reply}
 use Rattle.simplex_member.specs.declared.event.Channel.{Channel}
 use Rattle.simplex_member.specs.declared.event.Channel.TheVariants as channel

@@ -3,8 +3,8 @@
 use crate::event::Channel;
 use crate::refusal::Refusal;
 use simplex_messages::Activity;
-use simplex_rules::Plan;
-use simplex_types::{Context, Digest, Participant, Proposal, Scheme};
+use types_core::{Context, Digest, Participant, Proposal, Scheme};
+use types_terms::Plan;
 
 /// What a node hands out.
 #[derive(Drop)]

@@ -1,7 +1,7 @@
 //! What a node asked other members for.
 
 use simplex_resolver::Ask;
-use simplex_types::{Participant, View};
+use types_core::{Participant, View};
 
 /// An ask that was sent.
 #[derive(Clone, Copy, PartialEq, Eq, PartialOrd, Ord)]

@@ -1,6 +1,6 @@
 //! Why a node did not open, or can go on no more.
 
-use simplex_decisions::config::ConfigFault;
+use voter_rules::config::ConfigFault;
 
 /// Why a step did nothing that counts.
 #[derive(Clone, Copy, Debug, Drop, PartialEq, Eq)]

@@ -1,30 +1,30 @@
 //! What follows from the member model.
 
 ghost use Rattle.std.specs.Prelude.{◌≡◌, ◌<◌, ◌^◌, ℕ};
-ghost use Rattle.simplex_codec.specs.Codec.{Readable};
-ghost use Rattle.simplex_certificates.specs.Artifact.{artifact_fits, artifact_spelling, artifact_within};
+ghost use Rattle.types_codec.specs.Codec.{Readable};
+ghost use Rattle.messages_certificates.specs.Artifact.{artifact_fits, artifact_spelling, artifact_within};
 ghost use Rattle.simplex_member.specs.Laws.{AcceptedAreKnown, Agree, AgreeIfHonest, AreReadBack, AwaitedIsJudgeable, AwaitedMayBeRecorded, BlockedByRefusalAlone, CanBeSent, ConstructionsBlockNone, CorrectVotesAreSound, CorrectVotesContradictNone, DeedsAreDone, DeedsAreOfPoints, DueFinalizeMayBeRecorded, DueIsBound, DueMayBeRecorded, DueNullifyMayBeRecorded, EarlyIsInTime, EmptyIsOpened, FinalizeAlike, HandedCertificatesAreSound, IsExact, KnownNullifiesAreRecorded, LeftStandsOnGround, LieOnOneChain, LivesLeaveLawful, MadeAreHonest, MadeAreSound, MadeIsAllowed, MadeListVotes, NeverContradicts, NextStandsOnGround, NoQuorumIsLost, NoneIsBlamed, OneIsRead, OwnVotesAgree, ProposalsLieInTheirViews, ReachedAreGoneTo, RecordLaws, RecordsGrow, RecordsStandOnGround, RecordsStayLawful, ReportedCertify, ReportsAreHonest, RequestsAreTracked, RoundLaws, RunsAreStretches, StepsOfSeveralRaiseLittle, StepsRaiseLittle, ViewsNeverFall, VotersAreOrderly, VotersTellTheRecord, VotesAreLawful, VotesAreRecorded, VotesWereDue};
 ghost use Rattle.simplex_member.specs.Packet.{Formats, formats};
 ghost use Rattle.simplex_member.specs.Setup.{Setup};
 
-use simplex_certificates::Artifact;
-use simplex_journal::a_disk_reads_as_one_record;
-use simplex_laws::{
-    a_lone_member_stands_on_ground, what_is_due_may_be_recorded, what_is_due_stands_on_ground,
-    what_is_known_is_recorded, what_is_recorded_is_known,
+use batcher_verifier::{
+    batches_rest_on_accepted_votes, lawful_histories_are_consistent,
+    no_quorum_is_lost as no_quorum_of_a_round_is_lost, verdicts_on_attestations_are_right,
+    votes_are_of_the_round, votes_that_count_state_it, votes_that_count_were_accepted,
+    what_is_due_has_no_certificate,
 };
+use journal_single::a_disk_reads_as_one_record;
+use messages_certificates::Artifact;
 use simplex_record::{
     a_lawful_record_grows, agreement, chain, ever_lawful_members_vote_lawfully,
     no_own_vote_stands_in_the_way, records_stand_on_ground as ground,
     whole_records_are_ever_lawful,
 };
 use simplex_resolver::what_is_produced_came;
-use simplex_types::{Digest, Listing, Scheme};
-use simplex_verifier::{
-    batches_rest_on_accepted_votes, lawful_histories_are_consistent,
-    no_quorum_is_lost as no_quorum_of_a_round_is_lost, verdicts_on_attestations_are_right,
-    votes_are_of_the_round, votes_that_count_state_it, votes_that_count_were_accepted,
-    what_is_due_has_no_certificate,
+use types_core::{Digest, Listing, Scheme};
+use voter_laws::{
+    a_lone_member_stands_on_ground, what_is_due_may_be_recorded, what_is_due_stands_on_ground,
+    what_is_known_is_recorded, what_is_recorded_is_known,
 };
 
 /// What the laws below take from those of the votes of a round.

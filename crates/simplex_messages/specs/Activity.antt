@@ -1,21 +1,21 @@
 -- Reports: what they are of and what they claim, and their bytes.
 use Rattle.std.specs.Prelude.{◌≡◌, ℕ, Bool, List, ◌∷◌, ◌++◌, Result, Ok, refl, ⊤}
-use Rattle.simplex_codec.specs.declared.codec.CodecError.{CodecError}
-use Rattle.simplex_types.specs.declared.position.Round.{Round}
-use Rattle.simplex_codec.specs.Codec.{IsCodec, IsChoice, Readable, TakesBehind, or_at, nothing_at, tagged_at, tagged-IsCodec, or-taken, nothing-taken}
-use Rattle.simplex_types.specs.Subject.{Statement, notarize, nullify, finalize}
+use Rattle.types_codec.specs.declared.codec.CodecError.{CodecError}
+use Rattle.types_core.specs.declared.position.Round.{Round}
+use Rattle.types_codec.specs.Codec.{IsCodec, IsChoice, Readable, TakesBehind, or_at, nothing_at, tagged_at, tagged-IsCodec, or-taken, nothing-taken}
+use Rattle.types_core.specs.Subject.{Statement, notarize, nullify, finalize}
 use Rattle.simplex_messages.specs.declared.activity.Activity.{Activity}
 use Rattle.simplex_messages.specs.declared.activity.Activity.TheVariants as activity
 use Rattle.simplex_messages.specs.declared.vote.Vote.{Vote}
 use Rattle.simplex_messages.specs.declared.vote.Vote.TheVariants as vote
-use Rattle.simplex_certificates.specs.declared.certificate.Certificate.{Certificate}
-use Rattle.simplex_certificates.specs.declared.certificate.Certificate.TheVariants as certificate
-use Rattle.simplex_certificates.specs.declared.nullify.Nullify.{Nullify}
-use Rattle.simplex_certificates.specs.declared.nullification.Nullification.{Nullification}
-use Rattle.simplex_certificates.specs.ProposalVote.{Notarize, Finalize, IsAttested, vote_spelling, vote_fits, vote_at, vote-IsCodec}
-use Rattle.simplex_certificates.specs.Nullify.{NullifyIsAttested, nullify_spelling, nullify_fits, nullify_at, nullify-IsCodec}
-use Rattle.simplex_certificates.specs.ProposalCertificate.{Notarization, Finalization, certificate_spelling, certificate_fits, certificate_at, certificate-IsCodec}
-use Rattle.simplex_certificates.specs.Nullification.{nullification_spelling, nullification_fits, nullification_at, nullification-IsCodec}
+use Rattle.messages_certificates.specs.declared.certificate.Certificate.{Certificate}
+use Rattle.messages_certificates.specs.declared.certificate.Certificate.TheVariants as certificate
+use Rattle.messages_certificates.specs.declared.nullify.Nullify.{Nullify}
+use Rattle.messages_certificates.specs.declared.nullification.Nullification.{Nullification}
+use Rattle.messages_certificates.specs.ProposalVote.{Notarize, Finalize, IsAttested, vote_spelling, vote_fits, vote_at, vote-IsCodec}
+use Rattle.messages_certificates.specs.Nullify.{NullifyIsAttested, nullify_spelling, nullify_fits, nullify_at, nullify-IsCodec}
+use Rattle.messages_certificates.specs.ProposalCertificate.{Notarization, Finalization, certificate_spelling, certificate_fits, certificate_at, certificate-IsCodec}
+use Rattle.messages_certificates.specs.Nullification.{nullification_spelling, nullification_fits, nullification_at, nullification-IsCodec}
 use Rattle.simplex_messages.specs.ConflictingVotes.{conflicting_spelling, conflicting_fits, conflicting_at, conflicting-IsCodec}
 use Rattle.simplex_messages.specs.NullifyFinalize.{beside_spelling, beside_fits, beside_at, beside-IsCodec}
 

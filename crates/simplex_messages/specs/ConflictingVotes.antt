@@ -1,9 +1,9 @@
 -- Two votes that contradict each other.
 use Rattle.std.specs.Prelude.{◌≡◌, ℕ, Bool, true, List, ◌++◌, Result}
-use Rattle.simplex_codec.specs.declared.codec.CodecError.{CodecError}
-use Rattle.simplex_codec.specs.Codec.{IsCodec, both_at, checked_at, both-IsCodec, checked-IsCodec}
-use Rattle.simplex_certificates.specs.declared.proposal_vote.ProposalVote.{ProposalVote}
-use Rattle.simplex_certificates.specs.ProposalVote.{vote_spelling, vote_fits, vote_at, vote-IsCodec, contradict}
+use Rattle.types_codec.specs.declared.codec.CodecError.{CodecError}
+use Rattle.types_codec.specs.Codec.{IsCodec, both_at, checked_at, both-IsCodec, checked-IsCodec}
+use Rattle.messages_certificates.specs.declared.proposal_vote.ProposalVote.{ProposalVote}
+use Rattle.messages_certificates.specs.ProposalVote.{vote_spelling, vote_fits, vote_at, vote-IsCodec, contradict}
 
 -- evidence of the kind K and the scheme S on payloads D, with keys P, signatures G and certificates C
 module _ {K S D P G C : Type 0} where

@@ -3,17 +3,17 @@ use Rattle.std.specs.Prelude.{◌≡◌, ◌<◌, ◌⊎◌, ℕ, List, [], ◌�
 use Rattle.std.specs.List.{flat_map}
 use Rattle.std.specs.declared.cmp.Ordering.{Ordering}
 use Rattle.std.specs.declared.cmp.Ordering.TheVariants.{Less}
-use Rattle.simplex_types.specs.declared.attestation.Attestation.{Attestation}
-use Rattle.simplex_types.specs.declared.position.Round.{Round}
-use Rattle.simplex_types.specs.declared.proposal.Proposal.{Proposal}
-use Rattle.simplex_types.specs.Subject.{Statement, finalize}
-use Rattle.simplex_certificates.specs.declared.nullification.Nullification.{Nullification}
-use Rattle.simplex_certificates.specs.declared.nullify.Nullify.{Nullify}
-use Rattle.simplex_certificates.specs.declared.proposal_certificate.ProposalCertificate.{ProposalCertificate}
-use Rattle.simplex_certificates.specs.declared.proposal_vote.ProposalVote.{ProposalVote}
-use Rattle.simplex_certificates.specs.Nullify.{NullifyIsAttested, nullify_of_parts}
-use Rattle.simplex_certificates.specs.StandsBeside.{StandsBeside}
-use Rattle.simplex_certificates.specs.ProposalVote.{Notarize, Finalize, Contradict, IsAttested, vote_of_parts}
+use Rattle.types_core.specs.declared.attestation.Attestation.{Attestation}
+use Rattle.types_core.specs.declared.position.Round.{Round}
+use Rattle.types_core.specs.declared.proposal.Proposal.{Proposal}
+use Rattle.types_core.specs.Subject.{Statement, finalize}
+use Rattle.messages_certificates.specs.declared.nullification.Nullification.{Nullification}
+use Rattle.messages_certificates.specs.declared.nullify.Nullify.{Nullify}
+use Rattle.messages_certificates.specs.declared.proposal_certificate.ProposalCertificate.{ProposalCertificate}
+use Rattle.messages_certificates.specs.declared.proposal_vote.ProposalVote.{ProposalVote}
+use Rattle.messages_certificates.specs.Nullify.{NullifyIsAttested, nullify_of_parts}
+use Rattle.messages_certificates.specs.StandsBeside.{StandsBeside}
+use Rattle.messages_certificates.specs.ProposalVote.{Notarize, Finalize, Contradict, IsAttested, vote_of_parts}
 use Rattle.simplex_messages.specs.declared.activity.Activity.{Activity}
 use Rattle.simplex_messages.specs.declared.activity.Activity.TheVariants as activity
 

@@ -1,11 +1,11 @@
 -- A nullify and a finalize of one signer and one round.
 use Rattle.std.specs.Prelude.{◌≡◌, ℕ, true, List, ◌++◌, Result}
-use Rattle.simplex_codec.specs.declared.codec.CodecError.{CodecError}
-use Rattle.simplex_codec.specs.Codec.{IsCodec, both_at, checked_at, both-IsCodec, checked-IsCodec}
-use Rattle.simplex_certificates.specs.declared.nullify.Nullify.{Nullify}
-use Rattle.simplex_certificates.specs.StandsBeside.{stands_beside}
-use Rattle.simplex_certificates.specs.ProposalVote.{Finalize, vote_spelling, vote_fits, vote_at, vote-IsCodec}
-use Rattle.simplex_certificates.specs.Nullify.{nullify_spelling, nullify_fits, nullify_at, nullify-IsCodec}
+use Rattle.types_codec.specs.declared.codec.CodecError.{CodecError}
+use Rattle.types_codec.specs.Codec.{IsCodec, both_at, checked_at, both-IsCodec, checked-IsCodec}
+use Rattle.messages_certificates.specs.declared.nullify.Nullify.{Nullify}
+use Rattle.messages_certificates.specs.StandsBeside.{stands_beside}
+use Rattle.messages_certificates.specs.ProposalVote.{Finalize, vote_spelling, vote_fits, vote_at, vote-IsCodec}
+use Rattle.messages_certificates.specs.Nullify.{nullify_spelling, nullify_fits, nullify_at, nullify-IsCodec}
 
 -- votes of the scheme S on payloads D, with keys P, signatures G and certificates C
 module _ {S D P G C : Type 0} where

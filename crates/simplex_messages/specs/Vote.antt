@@ -1,12 +1,12 @@
 -- Votes of the three kinds as bytes.
 use Rattle.std.specs.Prelude.{◌≡◌, ℕ, List, ◌∷◌, ◌++◌, Result, Ok, refl}
-use Rattle.simplex_codec.specs.declared.codec.CodecError.{CodecError}
-use Rattle.simplex_codec.specs.Codec.{IsCodec, IsChoice, TakesBehind, or_at, nothing_at, tagged_at, tagged-IsCodec, or-taken, nothing-taken}
-use Rattle.simplex_certificates.specs.declared.nullify.Nullify.{Nullify}
+use Rattle.types_codec.specs.declared.codec.CodecError.{CodecError}
+use Rattle.types_codec.specs.Codec.{IsCodec, IsChoice, TakesBehind, or_at, nothing_at, tagged_at, tagged-IsCodec, or-taken, nothing-taken}
+use Rattle.messages_certificates.specs.declared.nullify.Nullify.{Nullify}
 use Rattle.simplex_messages.specs.declared.vote.Vote.{Vote}
 use Rattle.simplex_messages.specs.declared.vote.Vote.TheVariants as vote
-use Rattle.simplex_certificates.specs.ProposalVote.{Notarize, Finalize, vote_spelling, vote_fits, vote_at, vote-IsCodec}
-use Rattle.simplex_certificates.specs.Nullify.{nullify_spelling, nullify_fits, nullify_at, nullify-IsCodec}
+use Rattle.messages_certificates.specs.ProposalVote.{Notarize, Finalize, vote_spelling, vote_fits, vote_at, vote-IsCodec}
+use Rattle.messages_certificates.specs.Nullify.{nullify_spelling, nullify_fits, nullify_at, nullify-IsCodec}
 
 -- a vote of the scheme S on payloads D, with keys P, signatures G and certificates C
 module _ {S D P G C : Type 0} where

@@ -1,10 +1,10 @@
 -- What a vote of any kind belongs to, and what it is in a record.
 use Rattle.std.specs.Prelude.{ℕ}
-use Rattle.simplex_types.specs.declared.position.Round.{Round}
+use Rattle.types_core.specs.declared.position.Round.{Round}
 use Rattle.simplex_messages.specs.declared.vote.Vote.{Vote}
 use Rattle.simplex_messages.specs.declared.vote.Vote.TheVariants as vote
-use Rattle.simplex_certificates.specs.declared.artifact.Artifact.{Artifact}
-use Rattle.simplex_certificates.specs.declared.artifact.Artifact.TheVariants as artifact
+use Rattle.messages_certificates.specs.declared.artifact.Artifact.{Artifact}
+use Rattle.messages_certificates.specs.declared.artifact.Artifact.TheVariants as artifact
 
 module _ {S D P G C : Type 0} where
   -- the round that the vote is of

@@ -1,21 +1,21 @@
 //! What a member reports.
 
 ghost use Rattle.std.specs.Prelude.{◌≡◌, ◌≤◌, IfNone, IfSome, Err};
-ghost use Rattle.simplex_codec.specs.Codec.{Gives};
-ghost use Rattle.simplex_codec.specs.declared.codec.CodecError.TheVariants.{End};
+ghost use Rattle.types_codec.specs.Codec.{Gives};
+ghost use Rattle.types_codec.specs.declared.codec.CodecError.TheVariants.{End};
 ghost use Rattle.simplex_messages.specs.Activity.{activity_behind};
 
 use crate::conflicting_votes::{ConflictingFinalize, ConflictingNotarize};
 use crate::nullify_finalize::NullifyFinalize;
 use crate::vote::Vote;
-use simplex_certificates::{
+use messages_certificates::{
     Certificate, Finalization, Finalize, Notarization, Notarize, Nullification, Nullify,
 };
-use simplex_types::{
+use std::alloc::{AllocError, Global};
+use types_core::{
     CodecError, Digest, Duplicate, EncodeSize, Epoch, Epochable, Read, Round, Scheme, View,
     Viewable, Write,
 };
-use std::alloc::{AllocError, Global};
 
 /// A report: what a member saw of the others, or did itself.
 #[derive_where(PartialEq, Eq, Hash; D, S::Signature, S::Certificate)]
@@ -269,7 +269,7 @@ impl<S: Scheme<D>, D: Digest> EncodeSize for Activity<S, D> {
 }
 
 impl<S: Scheme<D>, D: Digest> Read for Activity<S, D> {
-    ghost use Rattle.simplex_codec.specs.Codec.{bounded-IsCodec};
+    ghost use Rattle.types_codec.specs.Codec.{bounded-IsCodec};
     ghost use Rattle.simplex_messages.specs.Activity.{activity_at, activity_within, activity_within-weaker, activity-IsCodec};
 
     ghost within = { λ n. activity_within (S.Certificate.within n) };

@@ -6,9 +6,9 @@ ghost use Rattle.std.specs.FinMap as finite;
 ghost use Rattle.std.specs.Iterator.{YieldsFirstRef, item_count as items_left};
 ghost use Rattle.simplex_messages.specs.AttributableMap.{item_of, items_of, item_count, RisesBySigner, HoldsFirstItems};
 
-use simplex_types::{Attributable, Participant};
 use std::alloc::{AllocError, Global};
 use std::marker::Model;
+use types_core::{Attributable, Participant};
 
 /// A finite map of the first item of each signer below `participants`.
 #[derive(Drop)]

@@ -2,13 +2,13 @@
 
 ghost use Rattle.std.specs.Prelude.{◌≡◌};
 
-use simplex_certificates::{Finalizing, Notarizing, ProposalKind, ProposalVote};
-use simplex_types::{
+use messages_certificates::{Finalizing, Notarizing, ProposalKind, ProposalVote};
+use std::alloc::{AllocError, Global};
+use std::marker::Model;
+use types_core::{
     Attributable, CodecError, Digest, Duplicate, EncodeSize, Epoch, Epochable, MaxEncodeSize,
     Participant, Read, Round, Scheme, View, Viewable, Write,
 };
-use std::alloc::{AllocError, Global};
-use std::marker::Model;
 
 /// Evidence of two notarizes.
 pub type ConflictingNotarize<S, D> = ConflictingVotes<Notarizing, S, D>;
@@ -28,8 +28,8 @@ pub struct ConflictingVotes<K: ProposalKind<D>, S: Scheme<D>, D: Digest> {
 
 impl<K: ProposalKind<D>, S: Scheme<D>, D: Digest> Model for ConflictingVotes<K, S, D> {
     ghost use Rattle.std.specs.Prelude.{◌≡◌, true};
-    ghost use Rattle.simplex_certificates.specs.ProposalVote.{contradict};
-    ghost use Rattle.simplex_certificates.specs.declared.proposal_vote.ProposalVote.{ProposalVote};
+    ghost use Rattle.messages_certificates.specs.ProposalVote.{contradict};
+    ghost use Rattle.messages_certificates.specs.declared.proposal_vote.ProposalVote.{ProposalVote};
 
     ghost Value = { ProposalVote K S D S.PublicKey S.Signature S.Certificate × ProposalVote K S D S.PublicKey S.Signature S.Certificate };
 
@@ -42,7 +42,7 @@ impl<K: ProposalKind<D>, S: Scheme<D>, D: Digest> Model for ConflictingVotes<K, 
 
 impl<K: ProposalKind<D>, S: Scheme<D>, D: Digest> ConflictingVotes<K, S, D> {
     ghost use Rattle.std.specs.Prelude.{◌≡◌, ◌↔◌, IsTrue};
-    ghost use Rattle.simplex_certificates.specs.ProposalVote.{Contradict, IsAttested};
+    ghost use Rattle.messages_certificates.specs.ProposalVote.{Contradict, IsAttested};
 
     /// The evidence of two votes that contradict each other. [`ProposalVote::contradicts`] is the test.
     pub fn new(first: ProposalVote<K, S, D>, second: ProposalVote<K, S, D>) -> Self
@@ -156,7 +156,7 @@ impl<K: ProposalKind<D>, S: Scheme<D>, D: Digest> MaxEncodeSize for ConflictingV
 
 impl<K: ProposalKind<D>, S: Scheme<D>, D: Digest> Read for ConflictingVotes<K, S, D> {
     ghost use Rattle.std.specs.Prelude.{⊤};
-    ghost use Rattle.simplex_codec.specs.Codec.{bounded-IsCodec, unbounded-IsCodec};
+    ghost use Rattle.types_codec.specs.Codec.{bounded-IsCodec, unbounded-IsCodec};
     ghost use Rattle.simplex_messages.specs.ConflictingVotes.{conflicting_at, conflicting-IsCodec};
 
     ghost within = { λ _ _. ⊤ };

@@ -1,20 +1,20 @@
 //! The laws of comparing messages.
 
 ghost use Rattle.std.specs.Prelude.{◌≡◌, ◌↔◌, IsTrue};
-ghost use Rattle.simplex_certificates.specs.declared.proposal_vote.ProposalVote.{ProposalVote};
-ghost use Rattle.simplex_certificates.specs.declared.nullify.Nullify.{Nullify};
-ghost use Rattle.simplex_certificates.specs.declared.proposal_certificate.ProposalCertificate.{ProposalCertificate};
-ghost use Rattle.simplex_certificates.specs.declared.nullification.Nullification.{Nullification};
-ghost use Rattle.simplex_certificates.specs.ProposalVote.{Finalize};
+ghost use Rattle.messages_certificates.specs.declared.proposal_vote.ProposalVote.{ProposalVote};
+ghost use Rattle.messages_certificates.specs.declared.nullify.Nullify.{Nullify};
+ghost use Rattle.messages_certificates.specs.declared.proposal_certificate.ProposalCertificate.{ProposalCertificate};
+ghost use Rattle.messages_certificates.specs.declared.nullification.Nullification.{Nullification};
+ghost use Rattle.messages_certificates.specs.ProposalVote.{Finalize};
 ghost use Rattle.simplex_messages.specs.declared.activity.Activity.{Activity};
 
 use crate::activity::Activity;
 use crate::conflicting_votes::ConflictingVotes;
 use crate::nullify_finalize::NullifyFinalize;
-use simplex_certificates::{
+use messages_certificates::{
     Finalizing, Notarizing, Nullification, Nullify, ProposalCertificate, ProposalKind, ProposalVote,
 };
-use simplex_types::{Digest, Scheme};
+use types_core::{Digest, Scheme};
 
 /// Equality of votes, certificates and evidence is identity. By the laws of `Hash`, equal ones then hash
 /// alike.

@@ -1,4 +1,4 @@
-//! Votes of any kind, evidence and reports. What stands in `simplex_certificates` is passed on.
+//! Votes of any kind, evidence and reports. What stands in `messages_certificates` is passed on.
 #![tactic(auto)]
 
 mod activity;
@@ -13,10 +13,10 @@ pub use activity::Activity;
 pub use attributable_map::{AttributableMap, AttributableMapIter};
 pub use conflicting_votes::{ConflictingFinalize, ConflictingNotarize, ConflictingVotes};
 pub use laws::{equal_messages_are_one, equal_reports_are_one};
-pub use nullify_finalize::NullifyFinalize;
-pub use simplex_certificates::{
+pub use messages_certificates::{
     Artifact, Attested, Certificate, Finalization, Finalize, Finalizing, Notarization, Notarize,
     Notarizing, Nullification, Nullify, ProposalCertificate, ProposalKind, ProposalVote,
 };
+pub use nullify_finalize::NullifyFinalize;
 pub use verifying::verify_certificates;
 pub use vote::Vote;

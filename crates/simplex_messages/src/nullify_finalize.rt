@@ -2,13 +2,13 @@
 
 ghost use Rattle.std.specs.Prelude.{◌≡◌};
 
-use simplex_certificates::{Finalize, Nullify};
-use simplex_types::{
+use messages_certificates::{Finalize, Nullify};
+use std::alloc::{AllocError, Global};
+use std::marker::Model;
+use types_core::{
     Attributable, CodecError, Digest, Duplicate, EncodeSize, Epoch, Epochable, MaxEncodeSize,
     Participant, Read, Round, Scheme, View, Viewable, Write,
 };
-use std::alloc::{AllocError, Global};
-use std::marker::Model;
 
 /// Evidence against a signer: its votes to give a round up and to finalize a proposal of it.
 #[derive_where(PartialEq, Eq, Hash; D, S::Signature)]
@@ -20,9 +20,9 @@ pub struct NullifyFinalize<S: Scheme<D>, D: Digest> {
 
 impl<S: Scheme<D>, D: Digest> Model for NullifyFinalize<S, D> {
     ghost use Rattle.std.specs.Prelude.{◌≡◌, true};
-    ghost use Rattle.simplex_certificates.specs.ProposalVote.{Finalize};
-    ghost use Rattle.simplex_certificates.specs.StandsBeside.{stands_beside};
-    ghost use Rattle.simplex_certificates.specs.declared.nullify.Nullify.{Nullify};
+    ghost use Rattle.messages_certificates.specs.ProposalVote.{Finalize};
+    ghost use Rattle.messages_certificates.specs.StandsBeside.{stands_beside};
+    ghost use Rattle.messages_certificates.specs.declared.nullify.Nullify.{Nullify};
 
     ghost Value = { Nullify S D S.PublicKey S.Signature S.Certificate × Finalize S D S.PublicKey S.Signature S.Certificate };
 
@@ -35,10 +35,10 @@ impl<S: Scheme<D>, D: Digest> Model for NullifyFinalize<S, D> {
 
 impl<S: Scheme<D>, D: Digest> NullifyFinalize<S, D> {
     ghost use Rattle.std.specs.Prelude.{◌≡◌, ◌↔◌, IsTrue};
-    ghost use Rattle.simplex_types.specs.Subject.{finalize};
-    ghost use Rattle.simplex_certificates.specs.ProposalVote.{IsAttested};
-    ghost use Rattle.simplex_certificates.specs.Nullify.{NullifyIsAttested};
-    ghost use Rattle.simplex_certificates.specs.StandsBeside.{StandsBeside};
+    ghost use Rattle.types_core.specs.Subject.{finalize};
+    ghost use Rattle.messages_certificates.specs.ProposalVote.{IsAttested};
+    ghost use Rattle.messages_certificates.specs.Nullify.{NullifyIsAttested};
+    ghost use Rattle.messages_certificates.specs.StandsBeside.{StandsBeside};
 
     /// The evidence of two votes of one signer and one round. [`Nullify::stands_beside`] is the test.
     pub fn new(nullify: Nullify<S, D>, finalize: Finalize<S, D>) -> Self
@@ -152,7 +152,7 @@ impl<S: Scheme<D>, D: Digest> MaxEncodeSize for NullifyFinalize<S, D> {
 
 impl<S: Scheme<D>, D: Digest> Read for NullifyFinalize<S, D> {
     ghost use Rattle.std.specs.Prelude.{⊤};
-    ghost use Rattle.simplex_codec.specs.Codec.{bounded-IsCodec, unbounded-IsCodec};
+    ghost use Rattle.types_codec.specs.Codec.{bounded-IsCodec, unbounded-IsCodec};
     ghost use Rattle.simplex_messages.specs.NullifyFinalize.{beside_at, beside-IsCodec};
 
     ghost within = { λ _ _. ⊤ };

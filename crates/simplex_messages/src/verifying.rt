@@ -2,11 +2,11 @@
 
 ghost use Rattle.std.specs.Prelude.{◌↔◌, IfOk, IsTrue};
 ghost use Rattle.std.specs.List.{AllZip};
-ghost use Rattle.simplex_certificates.specs.Certificate.{certificate_statement, certified_by};
+ghost use Rattle.messages_certificates.specs.Certificate.{certificate_statement, certified_by};
 
-use simplex_certificates::Certificate;
-use simplex_types::{Digest, Scheme};
+use messages_certificates::Certificate;
 use std::alloc::{AllocError, Global};
+use types_core::{Digest, Scheme};
 
 /// Whether each certificate certifies what it is on: an answer for each, in their order. Refused
 /// only where memory is.

@@ -1,15 +1,15 @@
 //! Votes of the three kinds.
 
 ghost use Rattle.std.specs.Prelude.{◌≡◌};
-ghost use Rattle.simplex_codec.specs.Codec.{Gives};
+ghost use Rattle.types_codec.specs.Codec.{Gives};
 ghost use Rattle.simplex_messages.specs.Vote.{any_vote_behind};
 
-use simplex_certificates::{Artifact, Finalize, Notarize, Nullify};
-use simplex_types::{
+use messages_certificates::{Artifact, Finalize, Notarize, Nullify};
+use std::alloc::{AllocError, Global};
+use types_core::{
     Attributable, CodecError, Digest, Duplicate, EncodeSize, Epoch, Epochable, MaxEncodeSize,
     Participant, Read, Round, Scheme, View, Viewable, Write,
 };
-use std::alloc::{AllocError, Global};
 
 /// A vote of any kind.
 #[derive_where(PartialEq, Eq, Hash; D, S::Signature)]
@@ -153,7 +153,7 @@ impl<S: Scheme<D>, D: Digest> MaxEncodeSize for Vote<S, D> {
 
 impl<S: Scheme<D>, D: Digest> Read for Vote<S, D> {
     ghost use Rattle.std.specs.Prelude.{⊤};
-    ghost use Rattle.simplex_codec.specs.Codec.{bounded-IsCodec, unbounded-IsCodec};
+    ghost use Rattle.types_codec.specs.Codec.{bounded-IsCodec, unbounded-IsCodec};
     ghost use Rattle.simplex_messages.specs.Vote.{any_vote_at, any_vote-IsCodec};
 
     ghost within = { λ _ _. ⊤ };

@@ -4,23 +4,23 @@ use Rattle.std.specs.Prelude.{Contains, ⊤}
 use Rattle.std.specs.List.{flat_map}
 use Rattle.std.specs.declared.cmp.Ordering.{Ordering}
 use Rattle.std.proofs.lemmas.List.Elements.{Contains-append_cases, Contains-append_right}
-use Rattle.simplex_committee.specs.Counting.{Contains-head, Contains-rest}
-use Rattle.simplex_types.specs.declared.position.Round.{Round}
-use Rattle.simplex_types.specs.declared.proposal.Proposal.{Proposal}
-use Rattle.simplex_types.specs.declared.scheme.Scheme.{Ghosts}
-use Rattle.simplex_types.specs.Subject.{Statement, notarize, nullify, finalize}
-use Rattle.simplex_certificates.specs.declared.certificate.Certificate.{Certificate}
-use Rattle.simplex_certificates.specs.declared.certificate.Certificate.TheVariants as certificate
-use Rattle.simplex_certificates.specs.declared.nullify.Nullify.{Nullify}
-use Rattle.simplex_certificates.specs.Certificate.{certificate_statement, certified_by}
-use Rattle.simplex_certificates.specs.ProposalCertificate.{Notarization}
-use Rattle.simplex_certificates.specs.ProposalVote.{Finalize, Notarize}
+use Rattle.types_quorum.specs.Counting.{Contains-head, Contains-rest}
+use Rattle.types_core.specs.declared.position.Round.{Round}
+use Rattle.types_core.specs.declared.proposal.Proposal.{Proposal}
+use Rattle.types_core.specs.declared.scheme.Scheme.{Ghosts}
+use Rattle.types_core.specs.Subject.{Statement, notarize, nullify, finalize}
+use Rattle.messages_certificates.specs.declared.certificate.Certificate.{Certificate}
+use Rattle.messages_certificates.specs.declared.certificate.Certificate.TheVariants as certificate
+use Rattle.messages_certificates.specs.declared.nullify.Nullify.{Nullify}
+use Rattle.messages_certificates.specs.Certificate.{certificate_statement, certified_by}
+use Rattle.messages_certificates.specs.ProposalCertificate.{Notarization}
+use Rattle.messages_certificates.specs.ProposalVote.{Finalize, Notarize}
 use Rattle.simplex_messages.specs.declared.activity.Activity.{Activity}
 use Rattle.simplex_messages.specs.declared.activity.Activity.TheVariants as activity
 use Rattle.simplex_messages.specs.declared.vote.Vote.TheVariants as vote
 use Rattle.simplex_messages.specs.Guilt.{finalizes_in, notarizes_in, nullifies_in, finalizes_of, notarizes_of, nullifies_of}
-use Rattle.simplex_audit.specs.Accountability.{HoldNotarization, IsContradicted}
-use Rattle.simplex_audit.specs.Audit.{Accusation, IsAccused, IsLeast, IsVerdict, accused}
+use Rattle.simplex_rules.specs.Accountability.{HoldNotarization, IsContradicted}
+use Rattle.simplex_rules.specs.Audit.{Accusation, IsAccused, IsLeast, IsVerdict, accused}
 use Rattle.simplex_record.specs.Record.{entries, HasVoted}
 use Rattle.simplex_record.specs.World.{World, IsCorrect}
 use Rattle.simplex_member.specs.Laws.{IsHonestReport, OwnVotesAgree, ReportedCertify, ReportsAreHonest, reported_certificate}

@@ -1,10 +1,10 @@
 -- Each verifying certificate that is there is sound.
 use Rattle.std.proofs.Common.{⊎_elim, ℕ, subst}
-use Rattle.simplex_types.specs.declared.scheme.Scheme.{Ghosts}
-use Rattle.simplex_types.specs.Quorum.{IsQuorum}
-use Rattle.simplex_types.specs.Subject.{Statement}
-use Rattle.simplex_certificates.specs.declared.certificate.Certificate.{Certificate}
-use Rattle.simplex_certificates.specs.Certificate.{certificate_statement, certified_by}
+use Rattle.types_core.specs.declared.scheme.Scheme.{Ghosts}
+use Rattle.types_core.specs.Quorum.{IsQuorum}
+use Rattle.types_core.specs.Subject.{Statement}
+use Rattle.messages_certificates.specs.declared.certificate.Certificate.{Certificate}
+use Rattle.messages_certificates.specs.Certificate.{certificate_statement, certified_by}
 use Rattle.simplex_record.specs.World.{World, IsCorrect, IsHonest, IsSound}
 use Rattle.simplex_member.specs.Laws.{MadeAreSound}
 use Rattle.simplex_member.specs.Lives.{AreMembers, Members}

@@ -2,14 +2,14 @@
 use Rattle.std.specs.Prelude.{◌<◌, ◌+◌, ℕ, List, Contains, ◌≡◌, Option, None, IfSome, Result, ⊤}
 use Rattle.std.specs.List.{flat_map}
 use Rattle.std.specs.declared.cmp.Ordering.{Ordering}
-use Rattle.simplex_codec.specs.declared.codec.CodecError.{CodecError}
-use Rattle.simplex_types.specs.declared.position.Round.{Round}
-use Rattle.simplex_types.specs.declared.scheme.Scheme.{Ghosts}
-use Rattle.simplex_committee.specs.Committee.{faults}
-use Rattle.simplex_certificates.specs.declared.artifact.Artifact.{Artifact}
+use Rattle.types_codec.specs.declared.codec.CodecError.{CodecError}
+use Rattle.types_core.specs.declared.position.Round.{Round}
+use Rattle.types_core.specs.declared.scheme.Scheme.{Ghosts}
+use Rattle.types_quorum.specs.Committee.{faults}
+use Rattle.messages_certificates.specs.declared.artifact.Artifact.{Artifact}
 use Rattle.simplex_messages.specs.declared.activity.Activity.{Activity}
-use Rattle.simplex_audit.specs.Accountability.{IsContradicted, NamesAtLeast}
-use Rattle.simplex_audit.specs.Audit.{Accusation, IsAccused, IsAudit, IsVerdict}
+use Rattle.simplex_rules.specs.Accountability.{IsContradicted, NamesAtLeast}
+use Rattle.simplex_rules.specs.Audit.{Accusation, IsAccused, IsAudit, IsVerdict}
 use Rattle.simplex_record.specs.World.{World, IsCorrect}
 use Rattle.simplex_member.specs.Deeds.{Reports}
 use Rattle.simplex_member.specs.Lives.{AreMembers, HandedOut, Members}

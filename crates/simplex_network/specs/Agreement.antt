@@ -1,12 +1,12 @@
 -- What members agree on: statements, over all verifying certificates that one of them was handed, or made, or that stand elsewhere.
 use Rattle.std.specs.Prelude.{◌≡◌, ◌<◌, ◌≤◌, List}
-use Rattle.simplex_types.specs.declared.proposal.Proposal.{Proposal}
-use Rattle.simplex_types.specs.declared.scheme.Scheme.{Ghosts}
-use Rattle.simplex_types.specs.Positions.{InCoveringRange}
-use Rattle.simplex_certificates.specs.declared.certificate.Certificate.{Certificate}
-use Rattle.simplex_certificates.specs.declared.certificate.Certificate.TheVariants as certificate
-use Rattle.simplex_certificates.specs.declared.nullification.Nullification.{Nullification}
-use Rattle.simplex_certificates.specs.ProposalCertificate.{Notarization, Finalization}
+use Rattle.types_core.specs.declared.proposal.Proposal.{Proposal}
+use Rattle.types_core.specs.declared.scheme.Scheme.{Ghosts}
+use Rattle.types_core.specs.Positions.{InCoveringRange}
+use Rattle.messages_certificates.specs.declared.certificate.Certificate.{Certificate}
+use Rattle.messages_certificates.specs.declared.certificate.Certificate.TheVariants as certificate
+use Rattle.messages_certificates.specs.declared.nullification.Nullification.{Nullification}
+use Rattle.messages_certificates.specs.ProposalCertificate.{Notarization, Finalization}
 use Rattle.simplex_record.specs.Agreement.{IsFor}
 use Rattle.simplex_record.specs.Chain.{LeadDown}
 use Rattle.simplex_record.specs.World.{World, IsSound}

@@ -1,12 +1,12 @@
 -- A network: a committee of which some may do anything, and what each of the others was handed, did, and recorded.
 use Rattle.std.specs.Prelude.{◌≡◌, ◌⊎◌, ℕ, Option, Some}
-use Rattle.simplex_types.specs.declared.scheme.Scheme.{Ghosts}
-use Rattle.simplex_certificates.specs.declared.certificate.Certificate.{Certificate}
-use Rattle.simplex_certificates.specs.Certificate.{certificate_statement, certified_by}
+use Rattle.types_core.specs.declared.scheme.Scheme.{Ghosts}
+use Rattle.messages_certificates.specs.declared.certificate.Certificate.{Certificate}
+use Rattle.messages_certificates.specs.Certificate.{certificate_statement, certified_by}
 use Rattle.simplex_record.specs.World.{World, IsCorrect, IsHonest}
-use Rattle.simplex_history.specs.History.{scheduled_leader}
-use Rattle.simplex_rules.specs.declared.kind.Kind.{Kind}
-use Rattle.simplex_verifier.specs.declared.batch.Batch.{Batch}
+use Rattle.voter_history.specs.History.{scheduled_leader}
+use Rattle.types_terms.specs.declared.kind.Kind.{Kind}
+use Rattle.batcher_verifier.specs.declared.batch.Batch.{Batch}
 use Rattle.simplex_member.specs.Allowed.{Allowed}
 use Rattle.simplex_member.specs.Laws.{HasReached}
 use Rattle.simplex_member.specs.Lives.{CameIn, IsWorldOfLives, Members}

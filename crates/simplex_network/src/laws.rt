@@ -1,13 +1,12 @@
 //! What correct members agree on, and whom nobody ever blames.
 
 ghost use Rattle.std.specs.Prelude.{◌<◌, ◌^◌};
-ghost use Rattle.simplex_codec.specs.Codec.{Readable};
+ghost use Rattle.types_codec.specs.Codec.{Readable};
 ghost use Rattle.simplex_member.specs.Laws.{AreReadBack, IsExact, NoneIsBlamed};
 ghost use Rattle.simplex_member.specs.Packet.{Formats, formats};
 ghost use Rattle.simplex_network.specs.Accountability.{ContradictionsNameEnough, JoinedAreAudited, NoneIsNamed, ReportedNameEnough};
 ghost use Rattle.simplex_network.specs.Agreement.{AllAreSound, FinalizedViewsLieOnOneChain, NoFinalizedViewIsNullified, NoFinalizedViewIsSkipped, NoViewHasTwoProposals};
 
-use simplex_audit::{a_contradicted_round_names_enough, joined_reports_are_read};
 use simplex_member::{
     accepted_votes_are_known, agreement_of_lives, deeds_are_done, deeds_are_of_their_points,
     finalized_views_lie_on_one_chain, histories_of_lives_are_gone_to, made_certificates_are_sound,
@@ -15,7 +14,8 @@ use simplex_member::{
     reports_are_honest,
 };
 use simplex_messages::Activity;
-use simplex_types::{Digest, Listing, Read, Write};
+use simplex_rules::{a_contradicted_round_names_enough, joined_reports_are_read};
+use types_core::{Digest, Listing, Read, Write};
 
 /// The law of agreement. In a committee of any size, with terms of any length, let no more members be excused from
 /// all rules than may be faulty. Let each other member run one node after another, through any number of openings,

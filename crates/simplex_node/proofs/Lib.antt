@@ -1,3 +1,4 @@
-mod Testing
-mod Whole
-mod Stepped
+pub mod Listed
+pub mod Passing
+pub mod Stepped
+pub mod Streamed

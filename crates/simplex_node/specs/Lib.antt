@@ -1,3 +1,2 @@
-pub mod Keeps
-pub mod Opening
+pub mod Running
 pub mod Stepping

@@ -1,32 +1,26 @@
--- What is answered to an event.
-use Rattle.std.specs.Prelude.{◌≡◌, true, Some, Result, IfOk, IsOk}
-use Rattle.simplex_types.specs.declared.scheme.Scheme.{Ghosts}
-use Rattle.simplex_rules.specs.declared.elector.Elector as elector
-use Rattle.simplex_journal.specs.declared.disk.Disk as disk
-use Rattle.simplex_journal.specs.Disk.{LeavesOnly}
+-- What a step of a node is by its contract.
+use Rattle.std.specs.Prelude.{◌≡◌, ℕ, false, true, Result, IfOk, IsErrOf, OnErr, OnOk}
+use Rattle.types_core.specs.declared.scheme.Scheme.{Ghosts}
+use Rattle.types_terms.specs.declared.elector.Elector as elector
+use Rattle.journal_single.specs.declared.disk.Disk as disk
+use Rattle.journal_single.specs.Disk.{LeavesOnly, counted}
 use Rattle.simplex_member.specs.declared.action.Reply.{Reply}
 use Rattle.simplex_member.specs.declared.event.Event.{Event}
 use Rattle.simplex_member.specs.declared.fault.NodeFault.{NodeFault}
-use Rattle.simplex_member.specs.declared.refusal.Refusal.{Refusal}
-use Rattle.simplex_member.specs.First.{IsFirst}
+use Rattle.simplex_member.specs.declared.fault.NodeFault.TheVariants.{Device, Failed, Memory}
 use Rattle.simplex_member.specs.Member.{IsReached, Steps}
 use Rattle.simplex_member.specs.Packet.{Formats}
 use Rattle.simplex_member.specs.Point.{History}
-use Rattle.simplex_member.specs.Refusals.{needs_nothing, tests}
-use Rattle.simplex_member.specs.Setup.{Setup}
-use Rattle.simplex_core.specs.declared.node_core.Core.{Core}
-use Rattle.simplex_core.specs.Keeps.{CoreKeeps, disk_of}
+use Rattle.node_steps.specs.declared.node.Node.{Node}
+use Rattle.node_steps.specs.Keeps.{AtOwn, NodeKeeps, disk_of, has_failed}
 
-module _ {S L D P G C K : Type 0} (g : Ghosts S D P G C) (e : elector.Ghosts L S D P G C) (k : disk.Ghosts K) (f : Formats S D P G C) (s : Setup S D C) where
-  -- an event was answered, with all that is due behind it: the node made a step, a crash at any moment leaves a point of it, and what
-  -- needs neither memory nor the disk was told where it is the first reason
-  pub record IsAnsweredWhole (old new : Core S L D K P G C) (h : History S D P G C) (event : Event D) (answer : Result (Reply S D P G C) NodeFault) : Type 0 where
-    pub ok : IfOk answer (λ reply. (end : History S D P G C) × Steps g f s h event reply end × CoreKeeps g e k f s new end)
-    pub any_moment : k.keeps → LeavesOnly (k.calls (disk_of old)) (k.calls (disk_of new)) (IsReached g f s h event)
-    pub without_memory : (r : Refusal) → IsFirst (tests g f s h event) (Some r) → needs_nothing r ≡ true → IsOk answer
-
-  -- behind a reply by which the node came from one history to another it goes on until nothing is due. A crash at any moment leaves a
-  -- point of the whole step
-  pub record GoesOn (old new : Core S L D K P G C) (h mid : History S D P G C) (event : Event D) (answer : Result (Reply S D P G C) NodeFault) : Type 0 where
-    pub ok : IfOk answer (λ reply. (end : History S D P G C) × Steps g f s h event reply end × CoreKeeps g e k f s new end)
-    pub any_moment : k.keeps → LeavesOnly (k.calls (disk_of old)) (k.calls (disk_of new)) (IsReached g f s h event)
+-- the step of a node over an event may answer so, and leave this node
+pub record IsStep {S L D P G C K : Type 0} (g : Ghosts S D P G C) (e : elector.Ghosts L S D P G C) (k : disk.Ghosts K) (formats : ℕ → Formats S D P G C) (old : Node S L D K P G C) (event : Event D) (answer : Result (Reply S D P G C) NodeFault) (new : Node S L D K P G C) : Type 0 where
+  pub ok : IfOk answer (λ reply. AtOwn g e k formats old (λ f s h. (end : History S D P G C) × Steps g f s h event reply end × NodeKeeps g e k f s new end))
+  pub failed : OnErr answer (has_failed new ≡ true)
+  pub refused_if_failed : has_failed old ≡ true → IsErrOf answer Failed × (new ≡ old)
+  pub failed_before : IsErrOf answer Failed → has_failed old ≡ true
+  pub device : IsErrOf answer Device → k.failed (disk_of new) ≡ counted false (k.failed (disk_of old))
+  pub no_device : IsErrOf answer Memory → k.failed (disk_of new) ≡ k.failed (disk_of old)
+  pub no_fault : OnOk answer (k.failed (disk_of new) ≡ k.failed (disk_of old))
+  pub any_moment : AtOwn g e k formats old (λ f s h. k.keeps → LeavesOnly (k.calls (disk_of old)) (k.calls (disk_of new)) (IsReached g f s h event))

@@ -1,11 +1,11 @@
-//! The node of one member.
+//! A node over a list of events, and over streams, with its opening.
 #![tactic(auto)]
 
-mod answering;
-mod node;
 mod opening;
+mod running;
 mod stepping;
+mod streaming;
 
-pub use node::Node;
-pub use simplex_network::{accountability, agreement};
-pub use simplex_record::{Owner, first_refused};
+pub use opening::open_io;
+pub use running::run;
+pub use streaming::run_io;

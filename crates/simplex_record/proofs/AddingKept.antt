@@ -9,11 +9,11 @@ use Rattle.std.proofs.Common.{◌≡◌, ◌⊎◌, inl, inr, ⊎_elim, ℕ, ◌
 use Rattle.std.proofs.lemmas.Bool.Decides.{nat_tests}
 use Rattle.std.proofs.lemmas.List.Elements.{Contains-append_left, Contains-push, Contains-push_cases}
 use Rattle.std.proofs.lemmas.Option.{none-some}
-use Rattle.simplex_types.specs.declared.position.Round.{Round}
-use Rattle.simplex_types.specs.declared.proposal.Proposal.{Proposal}
-use Rattle.simplex_types.specs.LatestFirst.{Adds, Stores}
-use Rattle.simplex_types.specs.Positions.{HasRoom, InCoveringRange, term_end}
-use Rattle.simplex_types.specs.Subject.{Statement, notarize, nullify, finalize, statement_round}
+use Rattle.types_core.specs.declared.position.Round.{Round}
+use Rattle.types_core.specs.declared.proposal.Proposal.{Proposal}
+use Rattle.types_core.specs.LatestFirst.{Adds, Stores}
+use Rattle.types_core.specs.Positions.{HasRoom, InCoveringRange, term_end}
+use Rattle.types_core.specs.Subject.{Statement, notarize, nullify, finalize, statement_round}
 use Rattle.simplex_record.specs.declared.certificates.Certificates.{Certificates}
 use Rattle.simplex_record.specs.declared.standing.Standing.{Standing}
 use Rattle.simplex_record.specs.declared.votes.Votes.{Votes}

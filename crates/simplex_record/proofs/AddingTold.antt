@@ -7,7 +7,7 @@ use Rattle.std.specs.declared.cmp.Reverse.{Reverse}
 use Rattle.std.proofs.Common.{◌≡◌, inl, inr, ℕ, ◌≤◌, ◌==◌, max, true, List, [], ◌∷◌, ◌++◌, Option, Some, None, sym, ◌∙◌, ap, subst, arith, if◌then◌else◌}
 use Rattle.std.proofs.lemmas.Bool.{cases_eq}
 use Rattle.std.proofs.lemmas.Bool.Decides.{nat_tests}
-use Rattle.simplex_types.specs.LatestFirst.{Adds, Stores, as_key, holds, stored}
+use Rattle.types_core.specs.LatestFirst.{Adds, Stores, as_key, holds, stored}
 use Rattle.simplex_record.specs.Record.{Entry, greatest}
 use Rattle.simplex_record.specs.CheckerState.{KeepsSet, KeepsMap}
 use Rattle.simplex_record.specs.Told.{told}

@@ -1,10 +1,10 @@
 -- A record is checked artifact by artifact.
 use Rattle.std.proofs.Common.{◌≡◌, ◌⊎◌, inl, inr, ⊎_elim, ℕ, zero, suc, ◌+◌, ◌-◌, ◌<◌, ◌^◌, List, [], ◌∷◌, ◌++◌, length, get_or, drop, refl, sym, ◌∙◌, ap, subst, arith, append_assoc, length-append}
 use Rattle.std.proofs.lemmas.List.{append-nil, map-append}
-use Rattle.simplex_types.specs.declared.position.Round.{Round}
-use Rattle.simplex_types.specs.Positions.{HasRoom}
-use Rattle.simplex_types.specs.Subject.{Statement, notarize}
-use Rattle.simplex_certificates.specs.declared.artifact.Artifact.{Artifact}
+use Rattle.types_core.specs.declared.position.Round.{Round}
+use Rattle.types_core.specs.Positions.{HasRoom}
+use Rattle.types_core.specs.Subject.{Statement, notarize}
+use Rattle.messages_certificates.specs.declared.artifact.Artifact.{Artifact}
 use Rattle.simplex_record.specs.declared.certificates.Certificates.{Certificates}
 use Rattle.simplex_record.specs.declared.owner.Owner.{Owner}
 use Rattle.simplex_record.specs.declared.standing.Standing.{Standing}
@@ -12,7 +12,7 @@ use Rattle.simplex_record.specs.Record.{Entry, voted, taken, judged, entry, entr
 use Rattle.simplex_record.specs.Rules.{MayFollow, MayJudge, LeavesRoom}
 use Rattle.simplex_record.specs.Lawful.{Fits, IsLawful, IsRefusedAt}
 use Rattle.simplex_record.specs.CheckerState.{Keeps, KeepsCertificates}
-use Rattle.simplex_rules.specs.Spans.{term_end-le}
+use Rattle.types_terms.specs.Spans.{term_end-le}
 
 -- a view with room isn't the last
 pub room-next : (views view : ℕ) → 0 < views → HasRoom views view → view + 1 < 2 ^ 64

@@ -1,9 +1,9 @@
 -- A record stands on ground as long as what is recorded behind it may follow on ground.
 use Rattle.std.proofs.Common.{◌≡◌, inl, inr, ⊎_elim, ℕ, true, List, [], ◌∷◌, ◌++◌, Option, subst, arith}
 use Rattle.std.proofs.lemmas.List.Elements.{Contains-append_left, Contains-push_cases}
-use Rattle.simplex_types.specs.declared.position.Round.{Round}
-use Rattle.simplex_types.specs.declared.proposal.Proposal.{Proposal}
-use Rattle.simplex_types.specs.Subject.{notarize, finalize}
+use Rattle.types_core.specs.declared.position.Round.{Round}
+use Rattle.types_core.specs.declared.proposal.Proposal.{Proposal}
+use Rattle.types_core.specs.Subject.{notarize, finalize}
 use Rattle.simplex_record.specs.Record.{Entry, voted, taken, judged}
 use Rattle.simplex_record.specs.Chain.{IsGround, JudgesOnGround, VotesOnGround, StandsOnGround, MayFollowOnGround}
 

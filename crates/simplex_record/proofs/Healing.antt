@@ -6,10 +6,10 @@ use Rattle.std.proofs.Common.{◌≡◌, inl, inr, ◌≤◌, ◌<◌, ℕ, true
 use Rattle.std.proofs.lemmas.Bool.{cases_lt}
 use Rattle.std.proofs.lemmas.Bool.Decides.{nat_tests}
 use Rattle.std.proofs.lemmas.Option.{none-some}
-use Rattle.simplex_types.specs.declared.position.Round.{Round}
-use Rattle.simplex_types.specs.LatestFirst.{as_key, holds, latest_first}
-use Rattle.simplex_types.specs.Positions.{term_start}
-use Rattle.simplex_types.specs.Subject.{Statement, notarize, nullify, finalize}
+use Rattle.types_core.specs.declared.position.Round.{Round}
+use Rattle.types_core.specs.LatestFirst.{as_key, holds, latest_first}
+use Rattle.types_core.specs.Positions.{term_start}
+use Rattle.types_core.specs.Subject.{Statement, notarize, nullify, finalize}
 use Rattle.simplex_record.specs.declared.votes.Votes.{Votes}
 use Rattle.simplex_record.specs.Record.{Entry, HasVoted, last_finalized}
 use Rattle.simplex_record.specs.Rules.{HasNoOpenNullify}

@@ -1,7 +1,7 @@
 -- Where elements stand in a list.
 use Rattle.std.proofs.Common.{◌≡◌, ◌⊎◌, inl, inr, ⊎_elim, List, [], ◌∷◌, ◌++◌, get_or, drop, map, refl, sym, ap, subst, arith}
 use Rattle.std.specs.List.{Contains}
-use Rattle.simplex_committee.specs.Counting.{Contains-cases, Contains-head, Contains-rest}
+use Rattle.types_quorum.specs.Counting.{Contains-cases, Contains-head, Contains-rest}
 
 module _ {X : Type 0} where
   -- two places of a list are one, or one stands before the other

@@ -1,7 +1,7 @@
 -- Where the last own nullify stands, when one more entry stands behind the others.
 use Rattle.std.proofs.Common.{◌≡◌, ⊎_elim, ℕ, ◌+◌, Bool, true, false, List, [], ◌∷◌, ◌++◌, length, Option, None, Some, if◌then◌else◌, refl, sym, ◌∙◌, ap, subst, append_assoc, length-append, arith}
 use Rattle.std.proofs.lemmas.List.Elements.{Contains-push_cases}
-use Rattle.simplex_types.specs.Subject.{notarize, nullify, finalize}
+use Rattle.types_core.specs.Subject.{notarize, nullify, finalize}
 use Rattle.simplex_record.specs.declared.numbering.Numbering.{Numbering}
 use Rattle.simplex_record.specs.Record.{Entry, voted, taken, judged, IsNullify, IsLastNullify}
 use Rattle.simplex_record.specs.CheckerState.{TellsLastNullify, KeepsNumbering}

@@ -6,17 +6,17 @@ use Rattle.std.proofs.Common.{◌≡◌, inl, inr, ℕ, ◌<◌, nat_eq, Bool, t
 use Rattle.std.proofs.lemmas.Bool.{and_parts}
 use Rattle.std.proofs.lemmas.Bool.Decides.{nat_tests}
 use Rattle.std.proofs.lemmas.Option.{none-some}
-use Rattle.simplex_types.specs.declared.position.Round.{Round}
-use Rattle.simplex_types.specs.declared.proposal.Proposal.{Proposal}
-use Rattle.simplex_types.specs.LatestFirst.{holds, stored}
-use Rattle.simplex_types.specs.Subject.{Statement, notarize, nullify, finalize}
+use Rattle.types_core.specs.declared.position.Round.{Round}
+use Rattle.types_core.specs.declared.proposal.Proposal.{Proposal}
+use Rattle.types_core.specs.LatestFirst.{holds, stored}
+use Rattle.types_core.specs.Subject.{Statement, notarize, nullify, finalize}
 use Rattle.simplex_record.specs.declared.certificates.Certificates.{Certificates}
 use Rattle.simplex_record.specs.declared.votes.Votes.{Votes}
 use Rattle.simplex_record.specs.Record.{Entry, voted, taken, judged, HasVoted, HasTaken, HasJudged, HasVerdict, HasCertificate, finalizes, last_finalized}
 use Rattle.simplex_record.specs.Rules.{AreAlike, HasNoVoteLike}
 use Rattle.simplex_record.specs.CheckerState.{KeepsVotes, KeepsCertificates, KeepsVerdicts}
 use Rattle.simplex_record.specs.Told.{told, certificate_in, notarized_at, nullified_at, finalized_at, verdict_at}
-use Rattle.simplex_rules.specs.declared.kind.Kind.TheVariants as kind
+use Rattle.types_terms.specs.declared.kind.Kind.TheVariants as kind
 use Rattle.simplex_record.proofs.Figures.{greatest-at}
 use Rattle.simplex_record.proofs.Telling.{is_some-false, is_some-true, some-once, cases_option, told-none, told-some, told-nothing, votes-none, votes-nothing, certificates-none, certificates-nothing, certificates-some, notarize-alike, notarize-none, nullify-alike, nullify-none, finalize-alike, finalize-none, at_same, at_other, of_view}
 

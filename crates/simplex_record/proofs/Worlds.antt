@@ -4,20 +4,20 @@ use Rattle.std.specs.Prelude.{⊤, unwrap_or, All, length}
 use Rattle.std.specs.List.{Contains}
 use Rattle.std.proofs.lemmas.Bool.{cases_eq, cases_lt}
 use Rattle.std.proofs.lemmas.List.Elements.{All-contains}
-use Rattle.simplex_types.specs.declared.attestation.Attestation.{Attestation}
-use Rattle.simplex_types.specs.declared.position.Round.{Round}
-use Rattle.simplex_types.specs.declared.proposal.Proposal.{Proposal}
-use Rattle.simplex_types.specs.Positions.{term_start, IsTermStart, InCoveringRange}
-use Rattle.simplex_types.specs.Quorum.{IsQuorum}
-use Rattle.simplex_committee.specs.Committee.{faults, quorum}
-use Rattle.simplex_committee.specs.Counting.{Contains-head, Contains-rest, escapes}
-use Rattle.simplex_types.specs.Overlap.{signers, AttestsIn, signers-AreQuorum, signers-attest}
-use Rattle.simplex_committee.specs.Committee.{AreQuorum, two_quorums_meet}
-use Rattle.simplex_types.specs.Subject.{Statement, notarize, nullify, finalize}
-use Rattle.simplex_certificates.specs.declared.certificate.Certificate.{Certificate}
-use Rattle.simplex_certificates.specs.declared.certificate.Certificate.TheVariants as certificate
-use Rattle.simplex_certificates.specs.Certificate.{certificate_statement, certified_by}
-use Rattle.simplex_certificates.specs.Artifact.{certificate_artifact}
+use Rattle.types_core.specs.declared.attestation.Attestation.{Attestation}
+use Rattle.types_core.specs.declared.position.Round.{Round}
+use Rattle.types_core.specs.declared.proposal.Proposal.{Proposal}
+use Rattle.types_core.specs.Positions.{term_start, IsTermStart, InCoveringRange}
+use Rattle.types_core.specs.Quorum.{IsQuorum}
+use Rattle.types_quorum.specs.Committee.{faults, quorum}
+use Rattle.types_quorum.specs.Counting.{Contains-head, Contains-rest, escapes}
+use Rattle.types_core.specs.Overlap.{signers, AttestsIn, signers-AreQuorum, signers-attest}
+use Rattle.types_quorum.specs.Committee.{AreQuorum, two_quorums_meet}
+use Rattle.types_core.specs.Subject.{Statement, notarize, nullify, finalize}
+use Rattle.messages_certificates.specs.declared.certificate.Certificate.{Certificate}
+use Rattle.messages_certificates.specs.declared.certificate.Certificate.TheVariants as certificate
+use Rattle.messages_certificates.specs.Certificate.{certificate_statement, certified_by}
+use Rattle.messages_certificates.specs.Artifact.{certificate_artifact}
 use Rattle.simplex_record.specs.Record.{entries, HasVoted, HasTaken, HasJudged}
 use Rattle.simplex_record.specs.declared.owner.Owner.{Owner}
 use Rattle.simplex_record.specs.World.{World, IsCorrect, IsSound, IsAlike, IsWorld}

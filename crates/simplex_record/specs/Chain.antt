@@ -1,14 +1,14 @@
 -- One chain: from a finalized view the parents of proposals lead down to every lower finalized view. And what a member's
 -- run supplies for it, beyond the rules.
 use Rattle.std.specs.Prelude.{◌≡◌, ◌⊎◌, ℕ, ◌≤◌, ◌<◌, true, false, List, [], ◌∷◌, Contains, Option, Some, ⊤}
-use Rattle.simplex_types.specs.declared.attestation.Attestation.{Attestation}
-use Rattle.simplex_types.specs.declared.position.Round.{Round}
-use Rattle.simplex_types.specs.declared.proposal.Proposal.{Proposal}
-use Rattle.simplex_types.specs.Positions.{IsTermStart}
-use Rattle.simplex_types.specs.Subject.{Statement, notarize, nullify, finalize}
-use Rattle.simplex_certificates.specs.declared.artifact.Artifact.TheVariants as artifact
-use Rattle.simplex_certificates.specs.declared.certificate.Certificate.TheVariants as certificate
-use Rattle.simplex_certificates.specs.ProposalCertificate.{Notarization, Finalization}
+use Rattle.types_core.specs.declared.attestation.Attestation.{Attestation}
+use Rattle.types_core.specs.declared.position.Round.{Round}
+use Rattle.types_core.specs.declared.proposal.Proposal.{Proposal}
+use Rattle.types_core.specs.Positions.{IsTermStart}
+use Rattle.types_core.specs.Subject.{Statement, notarize, nullify, finalize}
+use Rattle.messages_certificates.specs.declared.artifact.Artifact.TheVariants as artifact
+use Rattle.messages_certificates.specs.declared.certificate.Certificate.TheVariants as certificate
+use Rattle.messages_certificates.specs.ProposalCertificate.{Notarization, Finalization}
 use Rattle.simplex_record.specs.Record.{Entry, voted, taken, judged, entries, HasVoted, HasTaken, HasJudged}
 use Rattle.simplex_record.specs.World.{World, IsCorrect, IsSound}
 

@@ -3,11 +3,11 @@ use Rattle.std.specs.Prelude.{◌≡◌, ◌↔◌, ◌≤◌, ℕ, Bool, List, 
 use Rattle.std.specs.BTreeMap.{BTreeMap}
 use Rattle.std.specs.BTreeSet.{BTreeSet}
 use Rattle.std.specs.declared.cmp.Reverse.{Reverse}
-use Rattle.simplex_types.specs.declared.position.Round.{Round}
-use Rattle.simplex_types.specs.declared.proposal.Proposal.{Proposal}
-use Rattle.simplex_types.specs.LatestFirst.{holds, stored}
-use Rattle.simplex_types.specs.Positions.{HasRoom}
-use Rattle.simplex_types.specs.Subject.{Statement, notarize, nullify, statement_round}
+use Rattle.types_core.specs.declared.position.Round.{Round}
+use Rattle.types_core.specs.declared.proposal.Proposal.{Proposal}
+use Rattle.types_core.specs.LatestFirst.{holds, stored}
+use Rattle.types_core.specs.Positions.{HasRoom}
+use Rattle.types_core.specs.Subject.{Statement, notarize, nullify, statement_round}
 use Rattle.simplex_record.specs.declared.certificates.Certificates.{Certificates}
 use Rattle.simplex_record.specs.declared.numbering.Numbering.{Numbering}
 use Rattle.simplex_record.specs.declared.standing.Standing.{Standing}

@@ -1,11 +1,11 @@
 -- Lawful records.
 use Rattle.std.specs.Prelude.{◌≡◌, ℕ, nat_lt, List, [], ◌∷◌, ◌++◌, length, Contains, ⊤}
 use Rattle.std.specs.List.{filter}
-use Rattle.simplex_types.specs.declared.attestation.Attestation.{Attestation}
-use Rattle.simplex_types.specs.Subject.{Statement, notarize, nullify, finalize, statement_round}
-use Rattle.simplex_certificates.specs.declared.artifact.Artifact.{Artifact}
-use Rattle.simplex_certificates.specs.declared.artifact.Artifact.TheVariants as artifact
-use Rattle.simplex_certificates.specs.ProposalCertificate.{Finalization}
+use Rattle.types_core.specs.declared.attestation.Attestation.{Attestation}
+use Rattle.types_core.specs.Subject.{Statement, notarize, nullify, finalize, statement_round}
+use Rattle.messages_certificates.specs.declared.artifact.Artifact.{Artifact}
+use Rattle.messages_certificates.specs.declared.artifact.Artifact.TheVariants as artifact
+use Rattle.messages_certificates.specs.ProposalCertificate.{Finalization}
 use Rattle.simplex_record.specs.declared.owner.Owner.{Owner}
 use Rattle.simplex_record.specs.Record.{entry, entries, last_finalized}
 use Rattle.simplex_record.specs.Rules.{MayFollow, MayEverFollow, StandsByVotes, reach}

@@ -1,9 +1,9 @@
 -- What may stand behind a record: one rule a line.
 use Rattle.std.specs.Prelude.{◌≡◌, ◌⊎◌, ℕ, ◌≤◌, ◌<◌, Bool, true, List, ⊤}
-use Rattle.simplex_types.specs.declared.position.Round.{Round}
-use Rattle.simplex_types.specs.declared.proposal.Proposal.{Proposal}
-use Rattle.simplex_types.specs.Positions.{term_start, term_end, HasRoom}
-use Rattle.simplex_types.specs.Subject.{Statement, notarize, nullify, finalize, statement_round}
+use Rattle.types_core.specs.declared.position.Round.{Round}
+use Rattle.types_core.specs.declared.proposal.Proposal.{Proposal}
+use Rattle.types_core.specs.Positions.{term_start, term_end, HasRoom}
+use Rattle.types_core.specs.Subject.{Statement, notarize, nullify, finalize, statement_round}
 use Rattle.simplex_record.specs.Record.{Entry, voted, taken, judged, HasVoted, HasTaken, HasJudged, last_finalized, current_view, IsCovered, floor}
 
 module _ {D : Type 0} where

@@ -1,8 +1,8 @@
 -- Which views a nullification covers, as a span from its view to the end of its term.
 use Rattle.std.proofs.Common.{ℕ, zero, suc, ◌≡◌, ◌<◌, ◌+◌, ◌*◌, ◌/◌, ◌↔◌, arith}
 use Rattle.std.proofs.lemmas.Grind.{common_steps}
-use Rattle.simplex_types.specs.Positions.{term_start, term_end, InCoveringRange}
-use Rattle.simplex_rules.specs.Spans.{term_end-le, term_start-le}
+use Rattle.types_core.specs.Positions.{term_start, term_end, InCoveringRange}
+use Rattle.types_terms.specs.Spans.{term_end-le, term_start-le}
 use Rattle.simplex_record.specs.Coverage.{LiesIn}
 
 -- the views that a nullification covers are those from its own to the end of its term

@@ -1,9 +1,9 @@
 -- What a record tells of one view, kind by kind.
 use Rattle.std.specs.Prelude.{◌==◌, ℕ, Bool, List, [], ◌∷◌, Option, Some, None, if◌then◌else◌}
 use Rattle.std.specs.Option.{option_or}
-use Rattle.simplex_types.specs.declared.position.Round.{Round}
-use Rattle.simplex_types.specs.declared.proposal.Proposal.{Proposal}
-use Rattle.simplex_types.specs.Subject.{Statement, notarize, nullify, finalize}
+use Rattle.types_core.specs.declared.position.Round.{Round}
+use Rattle.types_core.specs.declared.proposal.Proposal.{Proposal}
+use Rattle.types_core.specs.Subject.{Statement, notarize, nullify, finalize}
 use Rattle.simplex_record.specs.Record.{Entry, voted, taken, judged}
 
 -- the first that f gives of a list

@@ -1,16 +1,16 @@
 //! Adding artifacts to what is kept of a record.
 
 ghost use Rattle.std.specs.Prelude.{◌≡◌, ◌++◌, ◌∷◌, ◌+◌, ◌<◌, ◌^◌, [], ℕ, List, OnOk};
-ghost use Rattle.simplex_types.specs.Positions.{HasRoom};
-ghost use Rattle.simplex_types.specs.Subject.{notarize, nullify, finalize};
+ghost use Rattle.types_core.specs.Positions.{HasRoom};
+ghost use Rattle.types_core.specs.Subject.{notarize, nullify, finalize};
 ghost use Rattle.simplex_record.specs.Record.{Entry, voted, taken, judged};
 ghost use Rattle.simplex_record.specs.Rules.{MayTake, MayJudge};
 ghost use Rattle.simplex_record.specs.CheckerState.{KeepsViews};
 
 use crate::standing::Standing;
-use simplex_types::{Digest, Proposal, Round, TermLength};
 use std::alloc::AllocError;
 use std::cmp::Reverse;
+use types_core::{Digest, Proposal, Round, TermLength};
 
 impl<D: Digest> Standing<D> {
     /// Adds the member's vote to notarize the proposal.

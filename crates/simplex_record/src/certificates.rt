@@ -2,14 +2,14 @@
 
 ghost use Rattle.std.specs.Prelude.{◌≡◌, ◌↔◌, ℕ, Some, None, IsTrue, false};
 ghost use Rattle.std.specs.Option.{option_copied};
-ghost use Rattle.simplex_types.specs.LatestFirst.{holds, stored};
+ghost use Rattle.types_core.specs.LatestFirst.{holds, stored};
 ghost use Rattle.simplex_record.specs.Coverage.{IsCovered};
 
 use crate::coverage::Coverage;
-use simplex_types::{Digest, Proposal, View};
 use std::alloc::{AllocError, Global};
 use std::cmp::Reverse;
 use std::collections::{BTreeMap, BTreeSet};
+use types_core::{Digest, Proposal, View};
 
 /// What a record's member has certificates for, that of the latest view first.
 #[derive(Drop)]

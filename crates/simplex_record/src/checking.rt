@@ -8,9 +8,9 @@ ghost use Rattle.simplex_record.specs.CheckerState.{Keeps, KeepsViews};
 
 use crate::owner::Owner;
 use crate::standing::Standing;
-use simplex_certificates::Artifact;
-use simplex_types::{Digest, Epoch, Epochable, Participant, Scheme, TermLength, Viewable};
+use messages_certificates::Artifact;
 use std::alloc::{AllocError, Global};
+use types_core::{Digest, Epoch, Epochable, Participant, Scheme, TermLength, Viewable};
 
 /// The position of the first artifact that a lawful record of this owner refuses, or `None` where the
 /// record is lawful. It takes a logarithmic time for each artifact beside what the scheme takes to verify

@@ -3,11 +3,11 @@
 ghost use Rattle.std.specs.Prelude.{◌≡◌, ◌↔◌, ◌⊎◌, ◌+◌, ◌^◌, ◌<◌, ◌≤◌, ℕ, Contains, IfNone, IfSome, IsNone, IsTrue, OnErr, OnOk};
 ghost use Rattle.simplex_record.specs.Coverage.{AreCoveredBetween, IsCovered, IsFirstUncovered, LiesIn};
 
-use simplex_types::View;
 use std::alloc::{AllocError, Global};
 use std::collections::BTreeMap;
 use std::marker::Model;
 use std::ops::Bound;
+use types_core::View;
 
 /// The views that nullifications cover, in spans as long as they can be: between any two of them
 /// lies a view that none covers. Asking takes a time logarithmic in the number of spans, and so

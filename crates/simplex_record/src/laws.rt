@@ -1,20 +1,20 @@
 //! Agreement of members whose records are lawful, and the chain that what they finalize is.
 
 ghost use Rattle.std.specs.Prelude.{◌≡◌, ℕ, Bool, List, [], ◌∷◌, ◌++◌, Option};
-ghost use Rattle.simplex_certificates.specs.declared.artifact.Artifact.{Artifact};
+ghost use Rattle.messages_certificates.specs.declared.artifact.Artifact.{Artifact};
 ghost use Rattle.simplex_record.specs.declared.owner.Owner.{Owner};
 ghost use Rattle.simplex_record.specs.Chain.{StandsOnGround, MayFollowOnGround, AllStandOnGround, OneChain};
-ghost use Rattle.simplex_types.specs.declared.position.Round.{Round};
-ghost use Rattle.simplex_types.specs.declared.proposal.Proposal.{Proposal};
-ghost use Rattle.simplex_types.specs.Subject.{Statement, notarize};
-ghost use Rattle.simplex_certificates.specs.declared.artifact.Artifact.TheVariants as artifact;
+ghost use Rattle.types_core.specs.declared.position.Round.{Round};
+ghost use Rattle.types_core.specs.declared.proposal.Proposal.{Proposal};
+ghost use Rattle.types_core.specs.Subject.{Statement, notarize};
+ghost use Rattle.messages_certificates.specs.declared.artifact.Artifact.TheVariants as artifact;
 ghost use Rattle.simplex_record.specs.Record.{Entry, voted, entries, HasVoted, HasTaken};
 ghost use Rattle.simplex_record.specs.Rules.{MayFollow, StandsInTheWay};
 ghost use Rattle.simplex_record.specs.Lawful.{Fits, IsLawful, IsEverLawful, VotesLawfully};
 ghost use Rattle.simplex_record.specs.World.{World, IsWorld};
 ghost use Rattle.simplex_record.specs.Agreement.{OneProposalAView, NoFinalizedViewNullified, NoFinalizedViewSkipped};
 
-use simplex_types::{Digest, Listing, Scheme};
+use types_core::{Digest, Listing, Scheme};
 
 /// The law of agreement. In a committee of any size, with terms of any length, let no more members be
 /// excused from all rules than may be faulty. Of each other member let the scheme be of the committee's

@@ -1,6 +1,6 @@
 //! Whose record it is.
 
-use simplex_types::{Epoch, Participant, TermLength};
+use types_core::{Epoch, Participant, TermLength};
 
 /// The member that a record is of, and what its committee goes by.
 #[derive(Clone, Copy, Debug, PartialEq, Eq)]

@@ -2,9 +2,9 @@
 //! and every addition takes a logarithmic time.
 
 ghost use Rattle.std.specs.Prelude.{◌≡◌, ◌↔◌, ◌<◌, ◌≤◌, ℕ, [], Bool, List, Some, IsTrue, true};
-ghost use Rattle.simplex_types.specs.LatestFirst.{stored};
-ghost use Rattle.simplex_types.specs.Positions.{HasRoom};
-ghost use Rattle.simplex_types.specs.Subject.{notarize, nullify, finalize};
+ghost use Rattle.types_core.specs.LatestFirst.{stored};
+ghost use Rattle.types_core.specs.Positions.{HasRoom};
+ghost use Rattle.types_core.specs.Subject.{notarize, nullify, finalize};
 ghost use Rattle.simplex_record.specs.Record.{Entry, HasVerdict, HasCertificate};
 ghost use Rattle.simplex_record.specs.Rules.{MayNotarize, MayNullify, MayFinalize, MayTake, MayJudge, HasNoOpenNullify};
 ghost use Rattle.simplex_record.specs.CheckerState.{Keeps, TellsLastNullify};
@@ -12,12 +12,12 @@ ghost use Rattle.simplex_record.specs.CheckerState.{Keeps, TellsLastNullify};
 use crate::certificates::Certificates;
 use crate::numbering::Numbering;
 use crate::votes::Votes;
-use simplex_rules::Kind;
-use simplex_types::{Digest, Proposal, Round, TermLength, View};
 use std::alloc::Global;
 use std::cmp::Reverse;
 use std::collections::BTreeMap;
 use std::ops::Bound;
+use types_core::{Digest, Proposal, Round, TermLength, View};
+use types_terms::Kind;
 
 /// What is kept of a record: all that the rules ask of it.
 #[derive(Drop)]

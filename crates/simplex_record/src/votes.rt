@@ -1,12 +1,12 @@
 //! The views that a record's member voted in.
 
 ghost use Rattle.std.specs.Prelude.{◌≡◌, ℕ, false};
-ghost use Rattle.simplex_types.specs.LatestFirst.{holds};
+ghost use Rattle.types_core.specs.LatestFirst.{holds};
 
-use simplex_types::View;
 use std::alloc::{AllocError, Global};
 use std::cmp::Reverse;
 use std::collections::BTreeSet;
+use types_core::View;
 
 /// The views that a record's member voted in, by what it voted for, the latest first.
 #[derive(Drop)]

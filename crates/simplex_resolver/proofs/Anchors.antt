@@ -2,7 +2,7 @@
 use Rattle.std.specs.Prelude.{map, not}
 use Rattle.std.proofs.Common.{◌≡◌, inl, inr, ◌≤◌, ◌<◌, ◌+◌, ℕ, zero, suc, Bool, true, false, List, [], ◌∷◌, ◌++◌, refl, sym, ◌∙◌, ap, arith, append_assoc, append-nil, if◌then◌else◌}
 use Rattle.std.proofs.lemmas.Bool.{cases_lt}
-use Rattle.simplex_types.specs.Positions.{term_end, next_term_start}
+use Rattle.types_core.specs.Positions.{term_end, next_term_start}
 use Rattle.simplex_resolver.specs.declared.effect.Effect.{Effect}
 use Rattle.simplex_resolver.specs.History.{Item, covered, current, has_failed}
 use Rattle.simplex_resolver.specs.Outstanding.{AreAnchors, AreMissing, Scans, fetch, fetches, fetch_failed, is_missing, when}

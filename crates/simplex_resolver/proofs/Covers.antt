@@ -9,7 +9,7 @@ use Rattle.std.specs.declared.ops.Bound.TheVariants.{Included}
 use Rattle.std.proofs.lemmas.Bool.{cases_eq, cases_lt}
 use Rattle.std.proofs.lemmas.Bool.Decides.{nat_tests}
 use Rattle.std.proofs.lemmas.Map.Keys.{ge_from_not_lt, le_from_not_gt}
-use Rattle.simplex_types.specs.Positions.{term_start, term_end}
+use Rattle.types_core.specs.Positions.{term_start, term_end}
 use Rattle.simplex_resolver.specs.declared.held.Held.{Held}
 use Rattle.simplex_resolver.specs.History.{Item, Nullified, Notarized, Finalized, Judged, Replayed, covered, covers, finalized, floor, nullification}
 use Rattle.simplex_resolver.specs.Answers.{highest_nullification, covering}

@@ -1,10 +1,10 @@
 -- What comes with a certificate of each kind.
 use Rattle.std.proofs.Common.{◌≡◌, sym, ◌∙◌, ap, ℕ, List}
-use Rattle.simplex_certificates.specs.declared.certificate.Certificate.{Certificate}
-use Rattle.simplex_certificates.specs.declared.certificate.Certificate.TheVariants as certificate
-use Rattle.simplex_certificates.specs.declared.nullification.Nullification.{Nullification}
-use Rattle.simplex_certificates.specs.ProposalCertificate.{Notarization, Finalization}
-use Rattle.simplex_certificates.specs.Certificate.{certificate_round}
+use Rattle.messages_certificates.specs.declared.certificate.Certificate.{Certificate}
+use Rattle.messages_certificates.specs.declared.certificate.Certificate.TheVariants as certificate
+use Rattle.messages_certificates.specs.declared.nullification.Nullification.{Nullification}
+use Rattle.messages_certificates.specs.ProposalCertificate.{Notarization, Finalization}
+use Rattle.messages_certificates.specs.Certificate.{certificate_round}
 use Rattle.simplex_resolver.specs.History.{Nullified, Notarized, Finalized, item_of}
 
 module _ {S D P G C : Type 0} (spelling : Certificate S D P G C → List ℕ) (x : Certificate S D P G C) (v : ℕ) (view : v ≡ (certificate_round x).view) where

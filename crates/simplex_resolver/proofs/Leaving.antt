@@ -3,7 +3,7 @@ use Rattle.std.specs.Prelude.{map, max, nat_lt, nat_le, not, ◌||◌, ◌&&◌}
 use Rattle.std.proofs.Common.{◌≡◌, ◌⊎◌, inl, inr, ⊎_elim, ◌↔◌, ◌≤◌, ◌<◌, ◌==◌, ◌+◌, ℕ, Bool, true, false, List, [], ◌∷◌, ◌++◌, refl, sym, subst, ◌∙◌, ap, arith, if◌then◌else◌}
 use Rattle.std.proofs.lemmas.Bool.{cases_eq, cases_lt}
 use Rattle.std.proofs.lemmas.Bool.Decides.{nat_tests}
-use Rattle.simplex_types.specs.Positions.{term_start, term_end, next_term_start, IsTermStart}
+use Rattle.types_core.specs.Positions.{term_start, term_end, next_term_start, IsTermStart}
 use Rattle.simplex_resolver.specs.declared.effect.Effect.{Effect}
 use Rattle.simplex_resolver.specs.declared.effect.Effect.TheVariants as effect
 use Rattle.simplex_resolver.specs.declared.ask.Kind.TheVariants as kind

@@ -5,7 +5,7 @@ use Rattle.std.proofs.Math.Nat.{div-lt_iff_lt-mul, le-div_iff_mul-le, mul-le-mul
 use Rattle.std.proofs.lemmas.Grind.{common_steps}
 use Rattle.std.proofs.lemmas.Bool.{cases_eq, cases_lt}
 use Rattle.std.proofs.lemmas.Bool.Decides.{nat_tests}
-use Rattle.simplex_types.specs.Positions.{term_index, term_start, term_end, next_term_start, IsTermStart, HasRoom}
+use Rattle.types_core.specs.Positions.{term_index, term_start, term_end, next_term_start, IsTermStart, HasRoom}
 use Rattle.simplex_resolver.specs.Outstanding.{term_start_from, scan_start}
 use Rattle.simplex_resolver.proofs.Choices.{nat_le-yes, if_other}
 

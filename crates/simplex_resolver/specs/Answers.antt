@@ -1,7 +1,7 @@
 -- What is settled, and what is served.
 use Rattle.std.specs.Prelude.{◌≡◌, ℕ, zero, suc, ◌&&◌, ◌||◌, Bool, true, false, nat_lt, nat_le, List, Contains, Option, None, Some, if◌then◌else◌}
 use Rattle.std.specs.Option.{option_or}
-use Rattle.simplex_types.specs.Positions.{term_start}
+use Rattle.types_core.specs.Positions.{term_start}
 use Rattle.simplex_resolver.specs.declared.ask.Kind.{Kind}
 use Rattle.simplex_resolver.specs.declared.ask.Kind.TheVariants as kind
 use Rattle.simplex_resolver.specs.History.{Item, Nullified, Notarized, Finalized, Judged, Replayed, finalized, floor, nullification, certified, finalization, covered, has_failed, is_known}

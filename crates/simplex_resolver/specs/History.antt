@@ -1,9 +1,9 @@
 -- What came to a member of certificates and verdicts, and what follows from all of it. Lists have the newest first.
 use Rattle.std.specs.Prelude.{ℕ, ◌==◌, ◌&&◌, ◌||◌, Bool, true, false, nat_lt, nat_le, max, List, [], ◌∷◌, Option, None, Some, if◌then◌else◌}
 use Rattle.std.specs.Option.{option_or}
-use Rattle.simplex_types.specs.Positions.{term_start}
-use Rattle.simplex_certificates.specs.declared.certificate.Certificate.{Certificate}
-use Rattle.simplex_certificates.specs.declared.certificate.Certificate.TheVariants as certificate
+use Rattle.types_core.specs.Positions.{term_start}
+use Rattle.messages_certificates.specs.declared.certificate.Certificate.{Certificate}
+use Rattle.messages_certificates.specs.declared.certificate.Certificate.TheVariants as certificate
 
 -- What can come: a certificate of a view, a verdict on a notarization of a view, each with the bytes of the certificate
 -- where it can be served, and the end of the replay.

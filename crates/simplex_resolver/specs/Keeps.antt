@@ -4,7 +4,7 @@ use Rattle.std.specs.Ordering.{nat_cmp}
 use Rattle.std.specs.Option.{option_map}
 use Rattle.std.specs.BTreeMap.{get}
 use Rattle.std.specs.BTreeSet.{contains}
-use Rattle.simplex_types.specs.Positions.{term_end}
+use Rattle.types_core.specs.Positions.{term_end}
 use Rattle.simplex_record.specs.Coverage.{IsCovered}
 use Rattle.simplex_resolver.specs.declared.held.Held.{Held}
 use Rattle.simplex_resolver.specs.declared.scanner.Scanner.{Scanner}

@@ -1,6 +1,6 @@
 -- Which views a member has to repair, and what each item asks for and settles.
 use Rattle.std.specs.Prelude.{◌≡◌, ◌⊎◌, ◌↔◌, ◌==◌, ◌&&◌, ◌||◌, ◌+◌, ◌≤◌, ◌<◌, ℕ, Bool, true, false, not, nat_lt, nat_le, List, [], ◌∷◌, ◌++◌, map, MatchBool, if◌then◌else◌}
-use Rattle.simplex_types.specs.Positions.{term_start, term_end, next_term_start, IsTermStart}
+use Rattle.types_core.specs.Positions.{term_start, term_end, next_term_start, IsTermStart}
 use Rattle.simplex_resolver.specs.declared.effect.Effect.{Effect}
 use Rattle.simplex_resolver.specs.declared.effect.Effect.TheVariants as effect
 use Rattle.simplex_resolver.specs.declared.ask.Kind.TheVariants as kind

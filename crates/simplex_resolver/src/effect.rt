@@ -5,8 +5,8 @@ ghost use Rattle.simplex_resolver.specs.Asking.{reason_word};
 ghost use Rattle.simplex_resolver.specs.Outstanding.{fetch, fetch_failed, settled_notarization, settled_nullifications, when};
 
 use crate::ask::Kind;
-use simplex_types::View;
 use std::alloc::AllocError;
+use types_core::View;
 
 /// Why a view is fetched.
 #[derive(Clone, Copy, Debug, PartialEq, Eq)]

@@ -9,11 +9,11 @@ ghost use Rattle.simplex_resolver.specs.Keeps.{HasGap};
 
 use crate::ask::Kind;
 use crate::effect::Effect;
-use simplex_types::View;
 use std::alloc::{AllocError, Global};
 use std::collections::{BTreeSet, btree_set};
 use std::marker::Model;
 use std::ops::Bound;
+use types_core::View;
 
 /// The gaps in what a member holds: the views that it has to repair, as effects open and close them.
 #[derive(Drop)]

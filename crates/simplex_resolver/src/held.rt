@@ -5,16 +5,16 @@ ghost use Rattle.std.specs.Option.{option_map};
 ghost use Rattle.std.specs.Ordering.{nat_cmp};
 ghost use Rattle.std.specs.BTreeMap.{get};
 ghost use Rattle.std.specs.BTreeSet.{contains};
-ghost use Rattle.simplex_types.specs.Positions.{HasRoom, term_start, term_end};
+ghost use Rattle.types_core.specs.Positions.{HasRoom, term_start, term_end};
 ghost use Rattle.simplex_resolver.specs.History.{Nullified, Notarized, Finalized, Judged, finalized, finalization, covered, has_failed, is_known};
 ghost use Rattle.simplex_resolver.specs.Answers.{covering, servable};
 ghost use Rattle.simplex_resolver.specs.Keeps.{Holds, AtEachHeld};
 
 use simplex_record::Coverage;
-use simplex_types::{TermLength, View, Write};
 use std::alloc::{AllocError, Global};
 use std::collections::{BTreeMap, BTreeSet};
 use std::ops::Bound;
+use types_core::{TermLength, View, Write};
 
 /// The certificates and verdicts that are held: those that reach above the last finalized view, each spelled once, and
 /// the highest finalization.

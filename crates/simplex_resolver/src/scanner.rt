@@ -1,14 +1,14 @@
 //! What came to a member, and what a scan over it asks for.
 
 ghost use Rattle.std.specs.Prelude.{◌<◌};
-ghost use Rattle.simplex_types.specs.Positions.{HasRoom};
+ghost use Rattle.types_core.specs.Positions.{HasRoom};
 
 use crate::effect::{Effect, push_if};
 use crate::held::Held;
 use crate::terms::{scan_start, terms_between};
-use simplex_certificates::{Certificate, Notarization};
-use simplex_types::{Digest, Scheme, TermLength, View, Viewable, Write};
+use messages_certificates::{Certificate, Notarization};
 use std::alloc::{AllocError, Global};
+use types_core::{Digest, Scheme, TermLength, View, Viewable, Write};
 
 /// The certificates and verdicts that came to a member, and the effects that follow from each. After an `Err` of one of its
 /// calls it may be used no more.
@@ -28,7 +28,7 @@ pub(crate) struct Scanner {
 
 impl Scanner {
     ghost use Rattle.std.specs.Prelude.{◌≡◌, ◌+◌, ◌++◌, ◌∷◌, [], ℕ, List, not, nat_lt, ◌&&◌, OnOk, IfOk, true, false, map};
-    ghost use Rattle.simplex_certificates.specs.Certificate.{any_certificate_spelling, certificate_round, as_notarization};
+    ghost use Rattle.messages_certificates.specs.Certificate.{any_certificate_spelling, certificate_round, as_notarization};
     ghost use Rattle.simplex_resolver.specs.declared.effect.Effect.{Effect};
     ghost use Rattle.simplex_resolver.specs.History.{Item, Nullified, Notarized, Finalized, Judged, Replayed, item_of, covered, floor, live};
     ghost use Rattle.simplex_resolver.specs.Outstanding.{Gives, Scans, ScansBehind, AreMissing, fetch_failed, scanned};

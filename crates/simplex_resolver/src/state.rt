@@ -1,14 +1,14 @@
 //! The state of a member's repair.
 
-ghost use Rattle.simplex_types.specs.Positions.{HasRoom};
+ghost use Rattle.types_core.specs.Positions.{HasRoom};
 
 use crate::ask::Kind;
 use crate::effect::Effect;
 use crate::gaps::{Gaps, Outstanding};
 use crate::scanner::Scanner;
-use simplex_certificates::{Certificate, Notarization};
-use simplex_types::{Digest, Scheme, TermLength, View, Viewable};
+use messages_certificates::{Certificate, Notarization};
 use std::alloc::{AllocError, Global};
+use types_core::{Digest, Scheme, TermLength, View, Viewable};
 
 /// The certificates and verdicts that came to a member, what it has to ask for by them, and what it answers to those
 /// who ask it. It asks for nothing before the end of the replay of its record.
@@ -27,7 +27,7 @@ impl State {
     ghost use Rattle.std.specs.Ordering.{nat_cmp};
     ghost use Rattle.std.specs.List.Sorted.{IsStrictlySortedBy};
     ghost use Rattle.std.specs.Option.{option_map};
-    ghost use Rattle.simplex_certificates.specs.Certificate.{any_certificate_spelling, certificate_round, as_notarization};
+    ghost use Rattle.messages_certificates.specs.Certificate.{any_certificate_spelling, certificate_round, as_notarization};
     ghost use Rattle.simplex_resolver.specs.History.{Judged, Replayed, item_of};
     ghost use Rattle.simplex_resolver.specs.Outstanding.{Gives, IsOutstanding};
     ghost use Rattle.simplex_resolver.specs.Answers.{is_settled, is_key_settled, is_uncertifiable, produced};

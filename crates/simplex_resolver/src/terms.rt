@@ -1,10 +1,10 @@
 //! Where scans begin, and how many terms they pass.
 
 ghost use Rattle.std.specs.Prelude.{◌≡◌, ◌≤◌, ◌<◌, ◌+◌, ◌-◌, ◌^◌};
-ghost use Rattle.simplex_types.specs.Positions.{next_term_start, term_index, HasRoom};
+ghost use Rattle.types_core.specs.Positions.{next_term_start, term_index, HasRoom};
 ghost use Rattle.simplex_resolver.specs.Outstanding.{scan_start, term_start_from};
 
-use simplex_types::{TermLength, View};
+use types_core::{TermLength, View};
 
 /// The first term start from the view on.
 pub(crate) fn term_start_from(view: View, length: TermLength) -> View

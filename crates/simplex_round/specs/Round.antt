@@ -1,14 +1,14 @@
 -- At which list of what happened a round of a view stands, and what its calls answer.
 use Rattle.std.specs.Prelude.{◌≡◌, ◌⊎◌, ℕ, List, ◌∷◌, Option, Some, option_map}
 use Rattle.std.specs.Option.{ForSome}
-use Rattle.simplex_types.specs.declared.position.Round.{Round}
-use Rattle.simplex_certificates.specs.declared.artifact.Artifact.{Artifact}
-use Rattle.simplex_certificates.specs.declared.artifact.Artifact.TheVariants as artifact
+use Rattle.types_core.specs.declared.position.Round.{Round}
+use Rattle.messages_certificates.specs.declared.artifact.Artifact.{Artifact}
+use Rattle.messages_certificates.specs.declared.artifact.Artifact.TheVariants as artifact
 use Rattle.simplex_round.specs.declared.leader.Leader.{Leader}
 use Rattle.simplex_round.specs.declared.round.Round as kept
 use Rattle.simplex_round.specs.Slot as slot
-use Rattle.simplex_history.specs.Held.{recorded, held, Agrees, Differs}
-use Rattle.simplex_history.specs.Past.{Item, offered, sent_notarization, sent_nullification, sent_finalization, voted_notarize, voted_nullify, voted_finalize, judged, offers, notarization, nullification, finalization, has_sent_notarization, has_sent_nullification, has_sent_finalization, has_notarized, has_nullified, has_finalized, verdict, is_certify_asked, certify_handle, last_asked, binding, entered_at, proposed_at, leader_deadline, certification_deadline, armed_stall, latch, retry}
+use Rattle.voter_history.specs.Held.{recorded, held, Agrees, Differs}
+use Rattle.voter_history.specs.Past.{Item, offered, sent_notarization, sent_nullification, sent_finalization, voted_notarize, voted_nullify, voted_finalize, judged, offers, notarization, nullification, finalization, has_sent_notarization, has_sent_nullification, has_sent_finalization, has_notarized, has_nullified, has_finalized, verdict, is_certify_asked, certify_handle, last_asked, binding, entered_at, proposed_at, leader_deadline, certification_deadline, armed_stall, latch, retry}
 
 -- what stays the same through a round's life: the member's view of its committee, and which round it is
 pub record Setup (S : Type 0) : Type 0 where

@@ -1,12 +1,12 @@
 -- At which list of offers a slot stands, and what its calls answer.
 use Rattle.std.specs.Prelude.{◌≡◌, ◌≢◌, ◌↔◌, List, Option, Some, None, IsSome, IsTrue}
-use Rattle.simplex_types.specs.declared.proposal.Proposal.{Proposal}
+use Rattle.types_core.specs.declared.proposal.Proposal.{Proposal}
 use Rattle.simplex_round.specs.declared.slot.Slot.{Slot}
 use Rattle.simplex_round.specs.declared.slot.Status.{Status}
 use Rattle.simplex_round.specs.declared.slot.Status.TheVariants as status
 use Rattle.simplex_round.specs.declared.slot.Change.{Change}
 use Rattle.simplex_round.specs.declared.slot.Change.TheVariants as change
-use Rattle.simplex_history.specs.Held.{Offer, held, IsTainted, IsConfirmed, IsVerified, IsUnverified, IsBuildAsked, IsVerifyAsked}
+use Rattle.voter_history.specs.Held.{Offer, held, IsTainted, IsConfirmed, IsVerified, IsUnverified, IsBuildAsked, IsVerifyAsked}
 
 module _ {D : Type 0} where
   -- the status by what was offered: exactly one holds

@@ -1,7 +1,7 @@
 //! The leader of a view.
 
-use simplex_types::{Duplicate, Participant, PublicKey};
 use std::alloc::{AllocError, Global};
+use types_core::{Duplicate, Participant, PublicKey};
 
 /// The leader of a view: a member of the committee.
 #[derive(Debug, Drop)]

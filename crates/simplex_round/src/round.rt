@@ -14,10 +14,10 @@ ghost use Rattle.simplex_round.specs.Round.{Keeps, AtEach, IsLeader};
 
 use crate::leader::Leader;
 use crate::slot::Slot;
-use simplex_certificates::{Finalization, Notarization, Nullification};
-use simplex_history::{TimeoutReason, Token};
-use simplex_types::{Digest, Participant, Proposal, Round as Position, Scheme, View};
+use messages_certificates::{Finalization, Notarization, Nullification};
 use std::rc::Rc;
+use types_core::{Digest, Participant, Proposal, Round as Position, Scheme, View};
+use voter_history::{TimeoutReason, Token};
 
 /// Which votes this member cast.
 #[derive(Drop)]

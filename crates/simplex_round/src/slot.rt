@@ -1,11 +1,11 @@
 //! The proposal of a view.
 
 ghost use Rattle.std.specs.Prelude.{◌≡◌, ◌↔◌, [], ◌∷◌, IsTrue, MatchBool, MatchOption, option_copied};
-ghost use Rattle.simplex_history.specs.Held.{forwarded, certified, recorded, confirmed, building, released, verifying, held, Agrees, Differs, IsTainted, IsUnequivocated, IsUnverified, BuildIsOpen, IsVerifyAsked};
+ghost use Rattle.voter_history.specs.Held.{forwarded, certified, recorded, confirmed, building, released, verifying, held, Agrees, Differs, IsTainted, IsUnequivocated, IsUnverified, BuildIsOpen, IsVerifyAsked};
 ghost use Rattle.simplex_round.specs.Slot.{Keeps, AtEach, Becomes, HasStatus, IsChange, KeepsHeld, TakesPlace};
 
-use simplex_types::{Digest, Duplicate, Proposal};
 use std::alloc::{AllocError, Global};
+use types_core::{Digest, Duplicate, Proposal};
 
 /// How far a view is with its proposal.
 #[derive(Clone, Copy, Debug, PartialEq, Eq, Default)]

@@ -1,7 +1,8 @@
-pub mod Terms
-pub mod Kind
-pub mod Rotation
-pub mod Shuffle
-pub mod RotationLaws
-pub mod Windows
-pub mod Spans
+pub mod Cast
+pub mod Kept
+pub mod Tally
+pub mod Choices
+pub mod Survey
+pub mod Audit
+pub mod Accountability
+pub mod Counted

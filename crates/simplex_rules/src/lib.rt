@@ -1,22 +1,19 @@
-//! Who leads a view, and which views a member listens to.
+//! Who is guilty by a list of reports.
 #![tactic(auto)]
 
-pub mod elector;
-mod kind;
-mod lookahead;
-mod plan;
-mod terms;
-mod viewport;
+mod auditing;
+mod ballots;
+mod cast;
+mod choices;
+mod laws;
+mod nullifies;
+mod roster;
+mod survey;
+mod tally;
+mod verdict;
 
-pub use elector::{
-    Elector, Mode, RoundRobin, RoundRobinElector, a_seed_makes_one_order, a_term_has_one_leader,
-    each_participant_leads_once,
+pub use auditing::audit;
+pub use laws::{
+    a_contradicted_round_names_enough, joined_reports_are_read, names_rest_on_the_reports,
 };
-pub use kind::Kind;
-pub use lookahead::{
-    Lookahead, admission_limit_is_the_last_view_listened_to, few_views_ahead_are_listened_to,
-    issuance_floor_leaves_the_optimistic_views_between, what_is_spoken_of_is_listened_to,
-};
-pub use plan::Plan;
-pub use terms::Terms;
-pub use viewport::Viewport;
+pub use verdict::Audit;

@@ -1,9 +1,9 @@
 //! `simplex_tool`: hands the program's words, its streams and the file that they name to the library.
 #![tactic(auto)]
 
-ghost use Rattle.simplex_tooling.specs.Command.{IsAsked};
+ghost use Rattle.cli_tool.specs.Command.{IsAsked};
 
-use simplex_tooling::{Call, Request, misused, parse_call, run_request, unopened, words_unread};
+use cli_tool::{Call, Request, misused, parse_call, run_request, unopened, words_unread};
 use std::fs::File;
 use std::process::ExitCode;
 use std::{env, io};

@@ -1,3 +1,4 @@
-pub mod Signed
-pub mod Terms
-pub mod Sorting
+pub mod Ascending
+pub mod Bounds
+pub mod Failing
+pub mod Signatures

@@ -1,31 +1,20 @@
-//! Positions, values as bytes, proposals and signing schemes: what every layer of the node stands on.
+//! Schemes whose certificates list their attestations: what makes one of whoever signs, the plain and the salted one.
 #![tactic(auto)]
 
-mod attestation;
-mod attributes;
-mod context;
-mod digest;
-mod duplicate;
-mod key;
-mod membership;
-mod position;
-mod proposal;
-mod scheme;
-mod spelling;
-mod subject;
+mod attestation_list;
+mod attesting;
+mod hashing;
+mod listed;
+mod plain;
+mod salted;
+mod signature;
+mod signing;
 
-pub use attestation::{Attestation, Signature};
-pub use attributes::{Attributable, Epochable, Viewable};
-pub use context::{Context, equal_contexts_are_one};
-pub use digest::{Digest, Sha256Digest};
-pub use duplicate::Duplicate;
-pub use key::PublicKey;
-pub use membership::are_of_distinct_members;
-pub use position::{Epoch, Participant, Round, TermLength, View, ViewDelta};
-pub use proposal::{Proposal, proposals_are_ordered};
-pub use scheme::{Aggregate, AssemblyError, Listing, Scheme};
-pub use simplex_codec::{
-    CodecError, EncodeSize, MaxEncodeSize, Read, Write, decode_cfg, numbers_have_one_spelling,
-};
-pub use simplex_committee::{faults, quorum, two_quorums_share_members};
-pub use subject::{Namespace, Subject, signed_bytes_name_one_subject};
+pub use attestation_list::AttestationList;
+pub use attesting::{Attesting, failing_signers, list_of_quorum, lists_quorum};
+pub use hashing::hash_signed;
+pub use listed::Listed;
+pub use plain::{Plain, PlainKey, PlainScheme, PlainSignature};
+pub use salted::{Salted, SaltedScheme, SaltedSignature, signatures_of_two_counters_differ};
+pub use signature::Signature64;
+pub use signing::Signing;

@@ -5,12 +5,12 @@ ghost use Rattle.std.specs.Prelude.{◌≡◌};
 
 use crate::medium::Medium;
 use crate::turns::Turns;
-use script_words::Committee;
+use node_steps::Node;
 use simplex_member::{Action, Event, NodeFault, OpenFault, Reply};
-use simplex_node::Node;
-use simplex_types::Sha256Digest;
 use std::alloc::Global;
 use std::rc::Rc;
+use test_words::Committee;
+use types_core::Sha256Digest;
 use world_members::{Halt, Seat, config_of, member_of};
 use world_network::Fuse;
 use world_scenario::{Broken, Scenario, Times};

@@ -25,10 +25,10 @@ mod medium;
 mod turns;
 
 use crate::keeper::Keeper;
-use simplex_rules::RoundRobinElector;
-use simplex_signing::PlainScheme;
+use simplex_types::PlainScheme;
 use std::process::ExitCode;
 use std::{env, io};
+use types_terms::RoundRobinElector;
 use world_network::TornDisk;
 use world_playing::play;
 

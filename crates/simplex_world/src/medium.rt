@@ -1,6 +1,6 @@
 //! The disks of members.
 
-use simplex_journal::Disk;
+use journal_single::Disk;
 use std::alloc::Global;
 use world_network::{Fuse, TornDisk};
 

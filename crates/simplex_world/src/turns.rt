@@ -2,10 +2,10 @@
 
 ghost use Rattle.std.specs.Prelude.{◌<◌, IfOk};
 
-use simplex_rules::RoundRobinElector;
-use simplex_rules::elector::{Config, Elector};
-use simplex_types::{Scheme, Sha256Digest};
 use std::alloc::{AllocError, Global};
+use types_core::{Scheme, Sha256Digest};
+use types_terms::RoundRobinElector;
+use types_terms::elector::{Config, Elector};
 use world_members::rotation_of;
 use world_scenario::Times;
 

@@ -2,12 +2,12 @@
 
 use crate::parcel::{Handed, Lie, Parcel};
 use crate::saying::{Saying, Sayings};
-use script_words::Committee;
-use simplex_fakes::Chance;
 use simplex_member::Channel;
 use simplex_messages::{Finalize, Notarize, Nullify, Vote};
-use simplex_types::{Participant, Proposal, Sha256Digest, Viewable, Write, decode_cfg};
 use std::alloc::{AllocError, Global};
+use test_schemes::Chance;
+use test_words::Committee;
+use types_core::{Participant, Proposal, Sha256Digest, Viewable, Write, decode_cfg};
 use world_network::Payloads;
 use world_scenario::Ways;
 

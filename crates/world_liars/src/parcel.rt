@@ -1,7 +1,7 @@
 //! What a liar is handed, and what it sends.
 
 use simplex_member::Channel;
-use simplex_types::Participant;
+use types_core::Participant;
 
 /// A packet that a node hands out.
 #[derive(Clone, Copy)]

@@ -1,8 +1,8 @@
 //! What a two-faced liar has said already, and to whom.
 
 use simplex_messages::Vote;
-use simplex_types::{Scheme, Sha256Digest, Viewable};
 use std::alloc::{AllocError, Global};
+use types_core::{Scheme, Sha256Digest, Viewable};
 
 /// How many sayings are kept at most.
 const MOST_SAYINGS: usize = 256;

@@ -2,7 +2,7 @@
 
 use crate::chronicle::Chronicle;
 use crate::reports::Reports;
-use simplex_cli::{Trouble, write_audit};
+use cli_audit::{Trouble, write_audit};
 use std::alloc::{AllocError, Global};
 use world_scenario::{Broken, Scenario};
 

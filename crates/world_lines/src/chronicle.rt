@@ -1,8 +1,8 @@
 //! The lines on what happens.
 
-use simplex_types::{Proposal, Sha256Digest, Viewable, faults};
 use std::alloc::{AllocError, Global};
 use std::io::Write;
+use types_core::{Proposal, Sha256Digest, Viewable, faults};
 use world_network::{Ground, number_of};
 use world_scenario::{Broken, Scenario, Teller, Ways};
 

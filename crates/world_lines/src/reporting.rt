@@ -2,8 +2,8 @@
 
 use crate::chronicle::Chronicle;
 use simplex_messages::{Activity, Nullify};
-use simplex_types::{Attributable, Proposal, Scheme, Sha256Digest, Viewable};
 use std::alloc::AllocError;
+use types_core::{Attributable, Proposal, Scheme, Sha256Digest, Viewable};
 
 impl Chronicle {
     /// A member reported something: its own votes, certificates, good verdicts and evidence are told.

@@ -1,9 +1,9 @@
 //! The reports of all correct members, one behind the other.
 
 use simplex_messages::Activity;
-use simplex_types::{Scheme, Sha256Digest, Write};
 use std::alloc::{AllocError, Global};
 use std::collections::BTreeMap;
+use types_core::{Scheme, Sha256Digest, Write};
 
 /// How many reports are known at most.
 const MOST_SEEN: usize = 65_536;

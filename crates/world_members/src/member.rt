@@ -1,11 +1,11 @@
 //! A member of a world.
 
 use crate::seat::Seat;
-use script_words::{Committee, Trouble};
-use simplex_types::{Participant, Sha256Digest};
 use std::alloc::{AllocError, Global};
 use std::cell::Cell;
 use std::rc::Rc;
+use test_words::{Committee, Trouble};
+use types_core::{Participant, Sha256Digest};
 use world_liars::Liar;
 use world_network::{Fuse, NO_FUSE};
 use world_scenario::{Broken, Crash, Scenario};

@@ -1,9 +1,9 @@
 //! What a world asks of a member's node.
 
-use script_words::Committee;
 use simplex_member::{Action, Event, Reply};
-use simplex_types::Sha256Digest;
 use std::alloc::{AllocError, AllocFailed, Global};
+use test_words::Committee;
+use types_core::Sha256Digest;
 use world_network::Fuse;
 use world_scenario::{Broken, Scenario};
 

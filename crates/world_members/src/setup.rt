@@ -2,9 +2,9 @@
 
 ghost use Rattle.std.specs.Prelude.{◌<◌};
 
-use simplex_decisions::config::{Config, ForwardPolicy, SkipBudget, SkipPolicy};
-use simplex_rules::elector::RoundRobin;
-use simplex_types::{Epoch, Sha256Digest, TermLength, ViewDelta};
+use types_core::{Epoch, Sha256Digest, TermLength, ViewDelta};
+use types_terms::elector::RoundRobin;
+use voter_rules::config::{Config, ForwardPolicy, SkipBudget, SkipPolicy};
 use world_network::genesis;
 use world_scenario::Times;
 

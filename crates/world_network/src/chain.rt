@@ -1,8 +1,8 @@
 //! The chain of what was finalized first, against which all else that is finalized is held.
 
 use crate::payloads::Payloads;
-use simplex_types::{Proposal, Sha256Digest, Viewable};
 use std::alloc::{AllocError, Global};
+use types_core::{Proposal, Sha256Digest, Viewable};
 
 /// A finalized view and its payload.
 #[derive(Clone, Copy, PartialEq, Eq)]

@@ -1,13 +1,13 @@
 //! A disk in memory that can be cut off inside a call.
 
 ghost use Rattle.std.specs.Prelude.{◌≡◌, [], is_ok};
-ghost use Rattle.simplex_journal.specs.Disk.{counted};
+ghost use Rattle.journal_single.specs.Disk.{counted};
 
-use simplex_fakes::Chance;
-use simplex_journal::{Disk, DiskFault};
+use journal_single::{Disk, DiskFault};
 use std::alloc::Global;
 use std::cell::Cell;
 use std::rc::Rc;
+use test_schemes::Chance;
 
 /// A fuse that never blows.
 pub const NO_FUSE: u64 = u64::MAX;

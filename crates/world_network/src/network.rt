@@ -1,10 +1,10 @@
 //! What is under way: packets and answers of the application, which come at moments that chance picks.
 
-use simplex_fakes::Chance;
 use simplex_member::{Channel, Event};
-use simplex_types::{Participant, Sha256Digest};
 use std::alloc::{AllocError, Global};
 use std::collections::BTreeMap;
+use test_schemes::Chance;
+use types_core::{Participant, Sha256Digest};
 use world_scenario::{Scenario, Span};
 
 /// What comes to a member.

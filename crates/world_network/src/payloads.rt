@@ -1,7 +1,7 @@
 //! The application of all members: which payloads were built, and what it finds of them.
 
-use simplex_types::{Context, Digest, Proposal, PublicKey, Sha256Digest, Viewable};
 use std::alloc::{AllocError, Global};
+use types_core::{Context, Digest, Proposal, PublicKey, Sha256Digest, Viewable};
 
 /// The payload that view 0 stands for.
 pub fn genesis() -> Sha256Digest {

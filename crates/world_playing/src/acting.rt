@@ -1,11 +1,11 @@
 //! What is done with what a node hands out.
 
 use crate::world::{World, index_of};
-use script_words::Committee;
 use simplex_member::{Action, Event};
 use simplex_messages::Activity;
-use simplex_types::{Proposal, Sha256Digest, Viewable};
 use std::alloc::AllocError;
+use test_words::Committee;
+use types_core::{Proposal, Sha256Digest, Viewable};
 use world_liars::{Handed, Lie, Parcel};
 use world_members::Seat;
 use world_network::{Ground, Packet};

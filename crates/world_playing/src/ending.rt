@@ -1,8 +1,8 @@
 //! The end of a run: a table of the members, the audit of their reports, and the status.
 
 use crate::world::World;
-use script_words::Committee;
 use std::alloc::AllocError;
+use test_words::Committee;
 use world_lines::{Findings, Standing, Sums};
 use world_members::{Member, Seat};
 use world_scenario::Broken;

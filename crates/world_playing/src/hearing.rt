@@ -1,9 +1,9 @@
 //! What comes to a member.
 
 use crate::world::{World, index_of};
-use script_words::Committee;
 use simplex_member::Event;
-use simplex_types::{Participant, Sha256Digest};
+use test_words::Committee;
+use types_core::{Participant, Sha256Digest};
 use world_liars::{Handed, Parcel};
 use world_members::Seat;
 use world_network::{Arrival, Packet};

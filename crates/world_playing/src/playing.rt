@@ -1,10 +1,10 @@
 //! Scenarios of an input, run one behind the other.
 
 use crate::world::World;
-use script_words::Committee;
-use simplex_decisions::config::check_config;
 use std::alloc::Global;
 use std::io::{BufRead, BufReader, Read, Write};
+use test_words::Committee;
+use voter_rules::config::check_config;
 use world_members::{Seat, config_of};
 use world_scenario::{Broken, Detail, Refusal, Scenario, Teller};
 

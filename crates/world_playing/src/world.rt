@@ -1,11 +1,11 @@
 //! The world of a scenario: its members, what is under way, and what comes next.
 
-use script_words::Committee;
-use simplex_fakes::Chance;
 use simplex_member::{Action, Event, Reply};
-use simplex_types::Sha256Digest;
 use std::alloc::Global;
 use std::io::Write;
+use test_schemes::Chance;
+use test_words::Committee;
+use types_core::Sha256Digest;
 use world_lines::{Chronicle, Reports};
 use world_members::{Halt, Member, Seat};
 use world_network::{Chain, Network, Payloads};

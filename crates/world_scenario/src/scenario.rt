@@ -1,8 +1,8 @@
 //! What is to happen: the lines of a scenario.
 
 use crate::refusal::Refusal;
-use script_words::Words;
 use std::alloc::Global;
+use test_words::Words;
 
 /// The most members of a committee here.
 const MOST_MEMBERS: u64 = 64;

@@ -2,16 +2,16 @@
 
 ghost use Rattle.std.specs.Prelude.{◌≡◌, ◌||◌, ℕ, IfOk, find};
 ghost use Rattle.std.specs.Option.{option_copied};
-ghost use Rattle.simplex_verifier.specs.Votes.{is_notarize_of, is_other_of};
-ghost use Rattle.simplex_verifier.specs.History.{accepted};
+ghost use Rattle.batcher_verifier.specs.Votes.{is_notarize_of, is_other_of};
+ghost use Rattle.batcher_verifier.specs.History.{accepted};
 ghost use Rattle.simplex_batcher.specs.Queries.{passes, is_nullify, is_backing, has_nullify, is_missing_voter, missing_voters};
 ghost use Rattle.simplex_batcher.specs.Rounds.{AtEach};
 
 use crate::round::Round;
 use crate::votes::{is_backing, is_nullify};
 use simplex_messages::Vote;
-use simplex_types::{Digest, Participant, Proposal, Scheme};
 use std::alloc::{AllocError, Global};
+use types_core::{Digest, Participant, Proposal, Scheme};
 
 impl<S: Scheme<D>, D: Digest> Round<S, D> {
     /// Whether a nullify of this member was accepted, its own ones among them.

@@ -1,14 +1,14 @@
 //! The certificates of the view.
 
 ghost use Rattle.std.specs.Prelude.{◌≡◌, if◌then◌else◌, true, false, ◌∷◌, None, is_some, is_none, IfOk, OnErr, option_copied, option_map};
-ghost use Rattle.simplex_history.specs.Held.{held, Agrees, Differs};
-ghost use Rattle.simplex_history.specs.Past.{notarized, nullified, finalized, sent_notarization, sent_nullification, sent_finalization, offers, notarization, nullification, finalization, has_sent_notarization, has_sent_nullification, has_sent_finalization};
+ghost use Rattle.voter_history.specs.Held.{held, Agrees, Differs};
+ghost use Rattle.voter_history.specs.Past.{notarized, nullified, finalized, sent_notarization, sent_nullification, sent_finalization, offers, notarization, nullification, finalization, has_sent_notarization, has_sent_nullification, has_sent_finalization};
 ghost use Rattle.simplex_round.specs.Round.{AtEach, Becomes};
 
 use crate::round::Round;
-use simplex_certificates::{Finalization, Notarization, Nullification};
-use simplex_types::{Digest, Duplicate, Scheme};
+use messages_certificates::{Finalization, Notarization, Nullification};
 use std::alloc::{AllocError, Global};
+use types_core::{Digest, Duplicate, Scheme};
 
 /// A copy of the certificate, where there is one that was not handed out.
 fn unsent<C: Duplicate>(

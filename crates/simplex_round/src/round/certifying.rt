@@ -1,13 +1,13 @@
 //! Verdicts, and what the certificates support.
 
 ghost use Rattle.std.specs.Prelude.{◌≡◌, ◌||◌, ◌∷◌, is_some, option_map};
-ghost use Rattle.simplex_history.specs.Past.{certifying, aborted, judged, notarization, finalization, verdict, certify_handle, uncertified_proposal, certified_proposal, forwardable_proposal, certificate_payload, verdict_is_true, verdict_is_false};
-ghost use Rattle.simplex_types.specs.declared.proposal.Proposal.{Proposal};
+ghost use Rattle.voter_history.specs.Past.{certifying, aborted, judged, notarization, finalization, verdict, certify_handle, uncertified_proposal, certified_proposal, forwardable_proposal, certificate_payload, verdict_is_true, verdict_is_false};
+ghost use Rattle.types_core.specs.declared.proposal.Proposal.{Proposal};
 ghost use Rattle.simplex_round.specs.Round.{AtEach, Becomes};
 
 use crate::round::Round;
-use simplex_history::Token;
-use simplex_types::{Digest, Proposal, Scheme};
+use types_core::{Digest, Proposal, Scheme};
+use voter_history::Token;
 
 impl<S: Scheme<D>, D: Digest> Round<S, D> {
     /// The notarized proposal, until a verdict came, was asked for or given up.

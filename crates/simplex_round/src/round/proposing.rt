@@ -1,14 +1,14 @@
 //! Builds, and what is offered to the proposal.
 
 ghost use Rattle.std.specs.Prelude.{◌≡◌, ◌↔◌, if◌then◌else◌, false, ◌∷◌, None, is_some, IsTrue, MatchBool, MatchOption, option_map};
-ghost use Rattle.simplex_history.specs.Held.{forwarded, certified, confirmed, building, released, held, Agrees, Differs, IsVerified, IsUnverified, IsUnequivocated};
-ghost use Rattle.simplex_history.specs.Past.{offered, built, offers, has_nullified, MayPropose};
+ghost use Rattle.voter_history.specs.Held.{forwarded, certified, confirmed, building, released, held, Agrees, Differs, IsVerified, IsUnverified, IsUnequivocated};
+ghost use Rattle.voter_history.specs.Past.{offered, built, offers, has_nullified, MayPropose};
 ghost use Rattle.simplex_round.specs.Round.{Keeps, AtEach, Becomes, IsLeader};
 
 use crate::leader::Leader;
 use crate::round::Round;
 use crate::slot::{Change, Status};
-use simplex_types::{Digest, Proposal, Scheme};
+use types_core::{Digest, Proposal, Scheme};
 
 impl<S: Scheme<D>, D: Digest> Round<S, D> {
     /// Whether a build is to be asked for: this member leads, didn't give the view up, holds nothing and asked

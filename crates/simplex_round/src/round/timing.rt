@@ -2,12 +2,12 @@
 
 ghost use Rattle.std.specs.Prelude.{◌≡◌, ◌∷◌, false, is_some};
 ghost use Rattle.std.specs.Option.{option_or};
-ghost use Rattle.simplex_history.specs.Past.{entered, armed, latched, polled, entered_at, proposed_at, deadline, elapsed, is_unlatched, latch, stall_deadline, first_timeout, next_timeout};
+ghost use Rattle.voter_history.specs.Past.{entered, armed, latched, polled, entered_at, proposed_at, deadline, elapsed, is_unlatched, latch, stall_deadline, first_timeout, next_timeout};
 ghost use Rattle.simplex_round.specs.Round.{AtEach, Becomes};
 
 use crate::round::Round;
-use simplex_history::TimeoutReason;
-use simplex_types::{Digest, Scheme};
+use types_core::{Digest, Scheme};
+use voter_history::TimeoutReason;
 
 impl<S: Scheme<D>, D: Digest> Round<S, D> {
     /// Takes in when the view was entered. The first entry counts.

@@ -1,13 +1,13 @@
 //! Verifications of the held proposal, and what it rests on.
 
 ghost use Rattle.std.specs.Prelude.{◌≡◌, ◌≢◌, ◌↔◌, if◌then◌else◌, ◌∷◌, Some, None, IsSome, IsTrue, IfSome};
-ghost use Rattle.simplex_history.specs.Held.{verifying, held};
-ghost use Rattle.simplex_history.specs.Past.{offered, asked, bound, unbound, offers, last_asked, binding, MayVerify};
+ghost use Rattle.voter_history.specs.Held.{verifying, held};
+ghost use Rattle.voter_history.specs.Past.{offered, asked, bound, unbound, offers, last_asked, binding, MayVerify};
 ghost use Rattle.simplex_round.specs.Round.{AtEach, Becomes, IsLeader};
 
 use crate::leader::Leader;
 use crate::round::Round;
-use simplex_types::{Digest, Proposal, Scheme, View};
+use types_core::{Digest, Proposal, Scheme, View};
 
 impl<S: Scheme<D>, D: Digest> Round<S, D> {
     /// Whether a verification may be asked for: another member leads, this one didn't give the view up and

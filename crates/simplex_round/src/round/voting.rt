@@ -1,13 +1,13 @@
 //! Own votes, and what a record says of them.
 
 ghost use Rattle.std.specs.Prelude.{◌≡◌, ◌↔◌, if◌then◌else◌, ◌∷◌, Some, None, is_some, IsTrue, MatchOption};
-ghost use Rattle.simplex_history.specs.Held.{held};
-ghost use Rattle.simplex_history.specs.Past.{voted_notarize, voted_nullify, voted_finalize, offers, has_notarized, has_nullified, has_finalized, MayNotarize, MayFinalize};
+ghost use Rattle.voter_history.specs.Held.{held};
+ghost use Rattle.voter_history.specs.Past.{voted_notarize, voted_nullify, voted_finalize, offers, has_notarized, has_nullified, has_finalized, MayNotarize, MayFinalize};
 ghost use Rattle.simplex_round.specs.Round.{AtEach, Becomes, Recalls};
 
 use crate::round::Round;
-use simplex_certificates::Artifact;
-use simplex_types::{Digest, Proposal, Scheme};
+use messages_certificates::Artifact;
+use types_core::{Digest, Proposal, Scheme};
 
 impl<S: Scheme<D>, D: Digest> Round<S, D> {
     /// Whether a notarize was voted.

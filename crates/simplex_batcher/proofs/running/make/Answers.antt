@@ -1,8 +1,8 @@
 use Rattle.std.proofs.Common.{◌≡◌, refl}
 use Rattle.std.specs.Prelude.{Option, None, Some, MatchOption, is_none}
-use Rattle.simplex_rules.specs.declared.kind.Kind.{Kind}
-use Rattle.simplex_verifier.specs.History.{next_kind}
-use Rattle.simplex_verifier.specs.ConstructionResult.{IsBatch}
+use Rattle.types_terms.specs.declared.kind.Kind.{Kind}
+use Rattle.batcher_verifier.specs.History.{next_kind}
+use Rattle.batcher_verifier.specs.ConstructionResult.{IsBatch}
 use Rattle.simplex_batcher.proofs.Admitting.{some-at}
 use Rattle.simplex_batcher.proofs.running.make.Goals as goal
 

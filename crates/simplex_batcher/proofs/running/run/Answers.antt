@@ -4,7 +4,7 @@ use Rattle.simplex_batcher.specs.Run.{after_call}
 use Rattle.simplex_batcher.proofs.Reaching.{Reached-start, Reached-asked, Reached-step, Reached-end}
 use Rattle.simplex_batcher.proofs.Summing.{processed-taken}
 use Rattle.simplex_batcher.proofs.Ending.{three-enough}
-use Rattle.simplex_verifier.specs.Keeping.{kept-consistent, kept-needed}
+use Rattle.batcher_verifier.specs.Keeping.{kept-consistent, kept-needed}
 use Rattle.simplex_batcher.specs.Rounds.{RoundKeeps}
 use Rattle.simplex_batcher.proofs.running.run.Goals as goal
 

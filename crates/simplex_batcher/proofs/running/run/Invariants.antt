@@ -1,7 +1,7 @@
 use Rattle.std.proofs.Common.{◌≤◌, ◌+◌, length}
 use Rattle.std.specs.Prelude.{vec_len, vec_capacity}
 use Rattle.std.specs.List.{All}
-use Rattle.simplex_verifier.specs.History.{History, Setup}
+use Rattle.batcher_verifier.specs.History.{History, Setup}
 use Rattle.simplex_batcher.specs.Run.{IsAsked}
 use Rattle.simplex_batcher.specs.Rounds.{RoundKeeps}
 use Rattle.simplex_batcher.proofs.Reaching.{Reached}

@@ -2,7 +2,7 @@ use Rattle.std.proofs.Common.{◌≢◌, ⊎_elim, ℕ, ◌==◌, [], subst, sym
 use Rattle.std.proofs.lemmas.Bool.{cases_Bool, eqb-true}
 use Rattle.simplex_record.specs.Chain.{MayFollowOnGround, StandsOnGround}
 use Rattle.simplex_record.specs.Record.{entries, entry}
-use Rattle.simplex_history.specs.History.{scheduled_leader}
+use Rattle.voter_history.specs.History.{scheduled_leader}
 use Rattle.simplex_member.specs.Recorded.{record_of, recorded_by}
 use Rattle.simplex_member.proofs.Allowing.{begun-allowed}
 use Rattle.simplex_member.proofs.Alone.{alone-stands, lives-alone, next-stands, nothing-alone}

@@ -1,5 +1,5 @@
 use Rattle.std.proofs.Common.{map, subst}
-use Rattle.simplex_journal.specs.Record.{Reads}
+use Rattle.journal_single.specs.Record.{Reads}
 use Rattle.simplex_member.specs.Recorded.{record_of}
 use Rattle.simplex_member.proofs.laws.one_record_is_read.Goals as goal
 

@@ -1,4 +1,4 @@
-use Rattle.simplex_codec.specs.Codec.{bounded-IsCodec}
+use Rattle.types_codec.specs.Codec.{bounded-IsCodec}
 use Rattle.simplex_member.proofs.Spellings.{can-be-sent, read-back}
 use Rattle.simplex_member.proofs.laws.packets_are_read_back.Goals as goal
 

@@ -1,6 +1,6 @@
 use Rattle.std.proofs.Common.{take, IsTrue, ◌↔◌}
 use Rattle.std.specs.List.{AllZip}
-use Rattle.simplex_certificates.specs.Certificate.{certificate_statement, certified_by}
+use Rattle.messages_certificates.specs.Certificate.{certificate_statement, certified_by}
 use Rattle.simplex_messages.proofs.verifying.verify_certificates.Given as goal
 
 -- each certificate so far has its answer

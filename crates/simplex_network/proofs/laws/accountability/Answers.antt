@@ -1,10 +1,10 @@
 use Rattle.std.proofs.Common.{ℕ, ◌+◌, List, subst}
 use Rattle.std.proofs.lemmas.List.Elements.{All-contains_itself}
-use Rattle.simplex_codec.specs.Codec.{bounded-IsCodec}
-use Rattle.simplex_committee.specs.Committee.{faults}
+use Rattle.types_codec.specs.Codec.{bounded-IsCodec}
+use Rattle.types_quorum.specs.Committee.{faults}
 use Rattle.simplex_messages.specs.declared.activity.Activity.{Activity}
-use Rattle.simplex_audit.specs.Accountability.{NamesAtLeast}
-use Rattle.simplex_audit.specs.Audit.{IsVerdict}
+use Rattle.simplex_rules.specs.Accountability.{NamesAtLeast}
+use Rattle.simplex_rules.specs.Audit.{IsVerdict}
 use Rattle.simplex_member.specs.Packet.{Formats, formats}
 use Rattle.simplex_network.proofs.Naming.{none-named, some-member, verified}
 use Rattle.simplex_network.proofs.Readable.{report-read}

@@ -1,4 +1,4 @@
-use Rattle.simplex_certificates.specs.declared.certificate.Certificate.TheVariants as certificate
+use Rattle.messages_certificates.specs.declared.certificate.Certificate.TheVariants as certificate
 use Rattle.simplex_network.proofs.Sound.{all-sound}
 use Rattle.simplex_network.proofs.laws.agreement.Goals as goal
 

@@ -1,9 +1,9 @@
 use Rattle.std.proofs.Common.{◌≡◌, ◌∙◌, ◌<◌, sym, refl, true}
 use Rattle.std.specs.Prelude.{Some}
-use Rattle.simplex_verifier.specs.History.{recorded}
+use Rattle.batcher_verifier.specs.History.{recorded}
 use Rattle.simplex_batcher.specs.Admission.{contradicts}
 use Rattle.simplex_messages.specs.VoteParts.{vote_signer}
-use Rattle.simplex_verifier.specs.Keeping.{kept-members}
+use Rattle.batcher_verifier.specs.Keeping.{kept-members}
 use Rattle.simplex_batcher.proofs.Admitting.{own-agrees, free-new}
 use Rattle.simplex_batcher.specs.Rounds.{RoundKeeps}
 use Rattle.simplex_batcher.proofs.round.Round.accept_vote.Goals as goal

@@ -1,5 +1,5 @@
 use Rattle.std.proofs.Common.{◌≡◌, sym, refl, true}
-use Rattle.simplex_verifier.specs.History.{takes}
+use Rattle.batcher_verifier.specs.History.{takes}
 use Rattle.simplex_batcher.proofs.Admitting.{taken-new, taken-member}
 use Rattle.simplex_batcher.proofs.round.Round.add_network.Goals as goal
 

@@ -1,8 +1,8 @@
 use Rattle.std.proofs.Common.{◌≡◌, ◌∙◌, refl, sym, false, get_or}
 use Rattle.std.specs.Prelude.{Some, is_none}
-use Rattle.simplex_rules.specs.declared.kind.Kind.TheVariants.{Notarization}
-use Rattle.simplex_verifier.specs.History.{is_due, next_kind}
-use Rattle.simplex_verifier.specs.ConstructionResult.{after, IsBatch}
+use Rattle.types_terms.specs.declared.kind.Kind.TheVariants.{Notarization}
+use Rattle.batcher_verifier.specs.History.{is_due, next_kind}
+use Rattle.batcher_verifier.specs.ConstructionResult.{after, IsBatch}
 use Rattle.simplex_batcher.specs.Rounds.{RoundKeeps}
 use Rattle.simplex_batcher.proofs.Turning.{turn-here, turn-past, match-at, after-accepted, after-new, after-forwarded}
 use Rattle.simplex_batcher.proofs.round.Round.construct_first.Goals as goal

@@ -1,7 +1,7 @@
 use Rattle.std.proofs.Common.{◌≡◌, drop}
 use Rattle.std.specs.Prelude.{find}
-use Rattle.simplex_judging.specs.KindOrder.{in_turn}
-use Rattle.simplex_verifier.specs.History.{is_due, next_kind}
+use Rattle.batcher_assembly.specs.KindOrder.{in_turn}
+use Rattle.batcher_verifier.specs.History.{is_due, next_kind}
 use Rattle.simplex_batcher.specs.Rounds.{AtEach, RoundKeeps}
 use Rattle.simplex_batcher.proofs.round.Round.construct_first.Given as goal
 

@@ -1,5 +1,5 @@
 use Rattle.std.proofs.Common.{◌≡◌, ◌∙◌, refl, arith, max}
-use Rattle.simplex_committee.specs.Committee.{quorum}
+use Rattle.types_quorum.specs.Committee.{quorum}
 use Rattle.std.proofs.lemmas.List.Elements.{All-nil}
 use Rattle.simplex_batcher.specs.Rounds.{RoundKeeps}
 use Rattle.simplex_batcher.proofs.round.Round.new.Goals as goal

@@ -2,10 +2,10 @@ use Rattle.std.proofs.Common.{◌≡◌, ◌≢◌, ◌∷◌, ◌∙◌, ℕ, B
 use Rattle.std.specs.Prelude.{Option, None, Some, IfSome, is_none, if◌then◌else◌}
 use Rattle.std.specs.Option.{option_and_then}
 use Rattle.std.proofs.lemmas.Bool.{cases_eq}
-use Rattle.simplex_types.specs.declared.scheme.Scheme.{Ghosts}
-use Rattle.simplex_verifier.specs.Votes.{notarized_proposal}
-use Rattle.simplex_verifier.specs.History.{History, Setup, Led, leader_of, notarized_by}
-use Rattle.simplex_verifier.specs.Keeping.{VerifierKeeps}
+use Rattle.types_core.specs.declared.scheme.Scheme.{Ghosts}
+use Rattle.batcher_verifier.specs.Votes.{notarized_proposal}
+use Rattle.batcher_verifier.specs.History.{History, Setup, Led, leader_of, notarized_by}
+use Rattle.batcher_verifier.specs.Keeping.{VerifierKeeps}
 use Rattle.simplex_batcher.specs.declared.round.Round.{Round}
 use Rattle.simplex_batcher.specs.Rounds.{IsRoundKept, RoundKeeps}
 use Rattle.simplex_batcher.proofs.round.Round.set_leader.Goals as goal

@@ -1,12 +1,12 @@
 use Rattle.std.proofs.Common.{◌≡◌, ◌∙◌, refl, sym}
 use Rattle.std.specs.Prelude.{Option, None, Some, MatchOption}
-use Rattle.simplex_certificates.specs.declared.certificate.Certificate.{Certificate}
-use Rattle.simplex_rules.specs.declared.kind.Kind.{Kind}
-use Rattle.simplex_verifier.specs.declared.batch.Batch.{Batch}
-use Rattle.simplex_verifier.specs.History.{History, next_kind}
-use Rattle.simplex_verifier.specs.ConstructionResult.{after, after_construction}
+use Rattle.messages_certificates.specs.declared.certificate.Certificate.{Certificate}
+use Rattle.types_terms.specs.declared.kind.Kind.{Kind}
+use Rattle.batcher_verifier.specs.declared.batch.Batch.{Batch}
+use Rattle.batcher_verifier.specs.History.{History, next_kind}
+use Rattle.batcher_verifier.specs.ConstructionResult.{after, after_construction}
 use Rattle.simplex_batcher.specs.Rounds.{RoundKeeps}
-use Rattle.simplex_verifier.specs.Keeping.{kept-consistent, kept-needed}
+use Rattle.batcher_verifier.specs.Keeping.{kept-consistent, kept-needed}
 use Rattle.simplex_batcher.proofs.Admitting.{nothing, some-at}
 use Rattle.simplex_batcher.proofs.Ending.{made-fewer}
 use Rattle.simplex_batcher.proofs.Founding.{some-more, match-more, founded-next, next-due}

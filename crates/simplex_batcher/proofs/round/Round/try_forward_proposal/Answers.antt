@@ -1,6 +1,6 @@
 use Rattle.std.proofs.Common.{◌≡◌, sym, ◌∙◌, refl}
 use Rattle.std.specs.Prelude.{Some}
-use Rattle.simplex_verifier.specs.History.{forwardable}
+use Rattle.batcher_verifier.specs.History.{forwardable}
 use Rattle.simplex_batcher.proofs.Admitting.{not-yet}
 use Rattle.simplex_batcher.specs.Rounds.{RoundKeeps}
 use Rattle.simplex_batcher.proofs.round.Round.try_forward_proposal.Goals as goal

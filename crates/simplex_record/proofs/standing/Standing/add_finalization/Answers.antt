@@ -1,5 +1,5 @@
 use Rattle.std.proofs.Common.{arith}
-use Rattle.simplex_types.specs.Subject.{finalize}
+use Rattle.types_core.specs.Subject.{finalize}
 use Rattle.simplex_record.proofs.AddingKept.{KeepsCertificates-finalize, KeepsViews-taken, greater}
 use Rattle.simplex_record.proofs.standing.Standing.add_finalization.Goals as goal
 

@@ -1,4 +1,4 @@
-use Rattle.simplex_types.specs.Subject.{finalize}
+use Rattle.types_core.specs.Subject.{finalize}
 use Rattle.simplex_record.proofs.AddingKept.{KeepsVotes-finalize, KeepsViews-voted}
 use Rattle.simplex_record.proofs.standing.Standing.add_finalize.Goals as goal
 

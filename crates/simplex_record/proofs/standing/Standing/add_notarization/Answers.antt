@@ -1,5 +1,5 @@
 use Rattle.std.proofs.Common.{arith}
-use Rattle.simplex_types.specs.Subject.{notarize}
+use Rattle.types_core.specs.Subject.{notarize}
 use Rattle.simplex_record.proofs.AddingKept.{KeepsCertificates-notarize, KeepsViews-taken}
 use Rattle.simplex_record.proofs.standing.Standing.add_notarization.Goals as goal
 

@@ -1,4 +1,4 @@
-use Rattle.simplex_types.specs.Subject.{notarize}
+use Rattle.types_core.specs.Subject.{notarize}
 use Rattle.simplex_record.proofs.AddingKept.{KeepsVotes-notarize, KeepsViews-voted}
 use Rattle.simplex_record.proofs.standing.Standing.add_notarize.Goals as goal
 

@@ -1,5 +1,5 @@
 use Rattle.std.proofs.Common.{arith}
-use Rattle.simplex_types.specs.Subject.{nullify}
+use Rattle.types_core.specs.Subject.{nullify}
 use Rattle.simplex_record.proofs.AddingKept.{KeepsCertificates-nullify, KeepsViews-taken, greater}
 use Rattle.simplex_record.proofs.standing.Standing.add_nullification.Goals as goal
 

@@ -1,4 +1,4 @@
-use Rattle.simplex_types.specs.Subject.{nullify}
+use Rattle.types_core.specs.Subject.{nullify}
 use Rattle.simplex_record.proofs.AddingKept.{KeepsVotes-nullify, KeepsViews-voted}
 use Rattle.simplex_record.proofs.standing.Standing.add_nullify.Goals as goal
 

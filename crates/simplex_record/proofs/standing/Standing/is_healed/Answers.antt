@@ -1,7 +1,7 @@
 use Rattle.std.specs.Prelude.{is_some, not}
 use Rattle.std.proofs.Common.{◌≡◌, ◌+◌, max, sym, ◌∙◌, ap, inl, inr, arith}
 use Rattle.std.proofs.lemmas.Bool.Decides.{nat_tests}
-use Rattle.simplex_types.specs.Positions.{term_start}
+use Rattle.types_core.specs.Positions.{term_start}
 use Rattle.simplex_record.proofs.Healing.{none_between, first_between, healed-none, none-healed}
 use Rattle.simplex_record.proofs.Ruling.{false_not}
 use Rattle.simplex_record.proofs.Telling.{is_some-false, cases_option}

@@ -1,5 +1,5 @@
 use Rattle.std.proofs.Common.{◌≡◌, sym, ◌∙◌}
-use Rattle.simplex_types.specs.LatestFirst.{stored}
+use Rattle.types_core.specs.LatestFirst.{stored}
 use Rattle.simplex_record.proofs.Ruling.{kept_verdict}
 use Rattle.simplex_record.proofs.standing.Standing.verdict.Goals as goal
 

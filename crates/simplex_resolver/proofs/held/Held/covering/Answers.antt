@@ -3,7 +3,7 @@ use Rattle.std.proofs.lemmas.Bool.Decides.{nat_tests}
 use Rattle.std.specs.Ordering.{nat_cmp}
 use Rattle.std.specs.BTreeMap.Range.{IsRangeOf}
 use Rattle.std.specs.declared.ops.Bound.TheVariants.{Included}
-use Rattle.simplex_types.specs.Positions.{term_start}
+use Rattle.types_core.specs.Positions.{term_start}
 use Rattle.simplex_resolver.specs.History.{finalized}
 use Rattle.simplex_resolver.proofs.Covers.{covering-none, covering-is}
 use Rattle.simplex_resolver.proofs.held.Held.covering.Goals as goal

@@ -1,6 +1,6 @@
 use Rattle.std.proofs.Common.{refl, arith}
 use Rattle.std.specs.Prelude.{nat_lt}
-use Rattle.simplex_types.specs.Positions.{term_end}
+use Rattle.types_core.specs.Positions.{term_end}
 use Rattle.simplex_resolver.proofs.Choices.{if_either}
 use Rattle.simplex_resolver.proofs.held.Held.new.Goals as goal
 

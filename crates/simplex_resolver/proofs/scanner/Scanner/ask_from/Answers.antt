@@ -1,7 +1,7 @@
 use Rattle.std.proofs.Common.{arith, ◌≡◌, ◌<◌, ◌≤◌, ◌++◌, ◌∷◌, ◌∙◌, ap, ℕ, []}
 use Rattle.std.specs.Prelude.{true}
 use Rattle.std.proofs.lemmas.Bool.Decides.{nat_tests}
-use Rattle.simplex_types.specs.Positions.{next_term_start}
+use Rattle.types_core.specs.Positions.{next_term_start}
 use Rattle.simplex_resolver.specs.declared.effect.Effect.{Effect}
 use Rattle.simplex_resolver.specs.History.{finalized, current, covered}
 use Rattle.simplex_resolver.proofs.Anchors.{Asked-start, Asked-pass, Asked-step, Asked-end}

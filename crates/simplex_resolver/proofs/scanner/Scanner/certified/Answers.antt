@@ -1,6 +1,6 @@
 use Rattle.std.proofs.Common.{sym, subst, ◌∷◌, ℕ, Bool}
 use Rattle.std.specs.Prelude.{OnOk, IfOk}
-use Rattle.simplex_certificates.specs.Certificate.{any_certificate_spelling, as_notarization}
+use Rattle.messages_certificates.specs.Certificate.{any_certificate_spelling, as_notarization}
 use Rattle.simplex_resolver.specs.History.{Judged}
 use Rattle.simplex_resolver.specs.Outstanding.{Gives}
 use Rattle.simplex_resolver.specs.Keeps.{Stands, AtEachScan}

@@ -1,6 +1,6 @@
 use Rattle.std.specs.Prelude.{max, nat_lt}
 use Rattle.std.proofs.Common.{◌≡◌, sym, ◌∙◌, ap, refl, ℕ}
-use Rattle.simplex_types.specs.Positions.{term_end}
+use Rattle.types_core.specs.Positions.{term_end}
 use Rattle.simplex_resolver.specs.History.{Nullified, current, floor, finalized}
 use Rattle.simplex_resolver.specs.Outstanding.{settled_nullifications, when}
 use Rattle.simplex_resolver.proofs.Anchors.{behind}

@@ -1,6 +1,6 @@
 use Rattle.std.proofs.Common.{subst, ◌∷◌}
 use Rattle.std.specs.Prelude.{OnOk, IfOk}
-use Rattle.simplex_certificates.specs.Certificate.{any_certificate_spelling}
+use Rattle.messages_certificates.specs.Certificate.{any_certificate_spelling}
 use Rattle.simplex_resolver.specs.History.{Item}
 use Rattle.simplex_resolver.specs.Outstanding.{Gives}
 use Rattle.simplex_resolver.specs.Keeps.{Stands, AtEachScan}

@@ -1,5 +1,5 @@
 use Rattle.std.proofs.Common.{sym, ◌∙◌, ◌≡◌, false, refl, rules}
-use Rattle.simplex_history.specs.Past.{has_nullified, has_finalized}
+use Rattle.voter_history.specs.Past.{has_nullified, has_finalized}
 use Rattle.simplex_round.specs.Round.{Keeps}
 use Rattle.simplex_round.proofs.round.Round.can_construct_finalize.Goals as goal
 

@@ -1,6 +1,6 @@
 use Rattle.std.proofs.Common.{sym, ◌∙◌, ap}
 use Rattle.std.specs.Prelude.{option_map}
-use Rattle.simplex_types.specs.declared.proposal.Proposal.{Proposal}
+use Rattle.types_core.specs.declared.proposal.Proposal.{Proposal}
 use Rattle.simplex_round.proofs.round.Round.certified_payload.Goals as goal
 
 pub returns-in-Some : goal.returns-in-Some

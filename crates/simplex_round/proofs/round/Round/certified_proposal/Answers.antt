@@ -1,7 +1,7 @@
 use Rattle.std.proofs.Common.{◌≡◌, sym, ◌∙◌, ap, rules}
 use Rattle.std.specs.Prelude.{true, false, ◌||◌, Some, None, is_some, if◌then◌else◌}
-use Rattle.simplex_history.specs.Held.{held}
-use Rattle.simplex_history.specs.Past.{offers, finalization, verdict, verdict_is_true}
+use Rattle.voter_history.specs.Held.{held}
+use Rattle.voter_history.specs.Past.{offers, finalization, verdict, verdict_is_true}
 use Rattle.simplex_round.specs.Round.{Keeps}
 use Rattle.simplex_round.proofs.round.Round.certified_proposal.Goals as goal
 

@@ -1,6 +1,6 @@
 use Rattle.std.proofs.Common.{sym, ◌∙◌, ◌≡◌, false, rules}
 use Rattle.std.specs.Prelude.{is_some}
-use Rattle.simplex_history.specs.Past.{has_nullified, has_finalized, finalization}
+use Rattle.voter_history.specs.Past.{has_nullified, has_finalized, finalization}
 use Rattle.simplex_round.specs.Round.{Keeps}
 use Rattle.simplex_round.proofs.round.Round.due_timeout.Goals as goal
 

@@ -1,6 +1,6 @@
 use Rattle.std.proofs.Common.{sym, ◌∙◌, ap}
 use Rattle.std.specs.Option.{option_or}
-use Rattle.simplex_history.specs.Past.{elapsed, entered_at}
+use Rattle.voter_history.specs.Past.{elapsed, entered_at}
 use Rattle.simplex_round.specs.Round.{Keeps}
 use Rattle.simplex_round.proofs.round.Round.elapsed_since_start.Goals as goal
 

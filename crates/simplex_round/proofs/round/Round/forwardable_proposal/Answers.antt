@@ -1,7 +1,7 @@
 use Rattle.std.proofs.Common.{sym, ◌∙◌, ap}
 use Rattle.std.specs.Prelude.{Option, None, is_some, if◌then◌else◌}
-use Rattle.simplex_history.specs.Held.{held}
-use Rattle.simplex_history.specs.Past.{offers}
+use Rattle.voter_history.specs.Held.{held}
+use Rattle.voter_history.specs.Past.{offers}
 use Rattle.simplex_round.proofs.round.Round.forwardable_proposal.Goals as goal
 
 pub returns-in-Some : goal.returns-in-Some

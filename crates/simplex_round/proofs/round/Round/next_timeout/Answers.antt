@@ -1,5 +1,5 @@
 use Rattle.std.proofs.Common.{◌≡◌}
-use Rattle.simplex_history.specs.Past.{deadline}
+use Rattle.voter_history.specs.Past.{deadline}
 use Rattle.simplex_round.proofs.round.Round.next_timeout.Goals as goal
 
 pub returns-clause-keeps : goal.returns-clause-keeps

@@ -1,0 +1,23 @@
+//! The votes of one round that count for certificates.
+#![tactic(auto, unfolding(crate::specs::Keeping::VerifierKeeps))]
+
+mod batch;
+mod fault;
+mod laws;
+mod proposal_state;
+mod verifier;
+mod votes;
+
+pub use batch::Batch;
+pub use batcher_rows::kind_of;
+pub use fault::BatcherFault;
+pub use laws::{
+    batches_rest_on_accepted_votes, constructions_end, forwarding_changes_no_votes,
+    lawful_histories_are_consistent, no_more_are_judged_than_came, no_quorum_is_lost,
+    verdicts_on_attestations_are_right, votes_are_of_the_round, votes_count_once_more,
+    votes_that_count_state_it, votes_that_count_were_accepted, what_is_due_has_no_certificate,
+    what_is_new_may_be_added,
+};
+pub use types_terms::Kind;
+pub use verifier::Verifier;
+pub use votes::kind_of_certificate;

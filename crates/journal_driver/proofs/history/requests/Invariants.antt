@@ -1,7 +1,0 @@
-use Rattle.std.proofs.Common.{All}
-use Rattle.simplex_journal.specs.History.{OfMessage}
-use Rattle.journal_driver.proofs.history.requests.Given as goal
-
--- the requests read so far are of messages that can be read again
-abbrev pub invariant-loop : goal.invariant-loop
-invariant-loop g l = All (OfMessage (g.M.Read.within 65535)) l.requests.items

@@ -1,0 +1,5 @@
+pub mod Stages
+pub mod Repairing
+pub mod Reopened
+pub mod Held
+pub mod Histories

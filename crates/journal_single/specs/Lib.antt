@@ -1,0 +1,13 @@
+pub mod Disk
+pub mod MemoryDisk
+pub mod FileDisk
+pub mod Record
+pub mod Journal
+pub mod History
+pub mod Moments
+pub mod OneReading
+pub mod Lists
+pub mod Images
+pub mod Finding
+pub mod Total
+pub mod Refusals

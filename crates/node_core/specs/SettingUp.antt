@@ -1,0 +1,14 @@
+-- What stays the same through an opening of a node.
+use Rattle.std.specs.Prelude.{◌≡◌, Some}
+use Rattle.simplex_member.specs.Setup.{Setup, longest_timeout, owner_of}
+use Rattle.node_core.specs.declared.settings.Settings.{Settings}
+
+module _ {S D C : Type 0} where
+  -- a node is set up so: by the scheme's own member
+  pub record IsSetUp (s : Setup S D C) (settings : Settings S) : Type 0 where
+    pub scheme_is : settings.scheme.value ≡ s.voter.scheme
+    pub me_is : s.voter.me ≡ Some s.me
+    pub owner_is : settings.owner ≡ owner_of s
+    pub forward_is : settings.forward ≡ s.forward
+    pub silence_is : settings.silence ≡ s.silence
+    pub longest_is : settings.longest ≡ longest_timeout s

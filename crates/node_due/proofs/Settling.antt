@@ -1,0 +1,230 @@
+-- Acts of the node's own, one behind the other, until nothing is due.
+use Rattle.std.proofs.Common.{◌≡◌, ◌⊎◌, ⊎_elim, ℕ, Bool, true, List, [], ◌∷◌, ◌++◌, None, Result, Ok, Err, map, refl, sym, subst}
+use Rattle.std.specs.Prelude.{All, IfOk, OnOk}
+use Rattle.std.proofs.lemmas.List.Elements.{All-append, All-head, All-nil, All-tail, All-weaker}
+use Rattle.types_core.specs.declared.scheme.Scheme.{Ghosts}
+use Rattle.voter_history.specs.declared.timeout_reason.TimeoutReason.{TimeoutReason}
+use Rattle.voter_history.specs.declared.timeout_reason.TimeoutReason.TheVariants as reason
+use Rattle.types_terms.specs.declared.elector.Elector as elector
+use Rattle.simplex_resolver.specs.declared.ask.Ask.{Ask}
+use Rattle.journal_single.specs.declared.disk.Disk as disk
+use Rattle.journal_single.specs.Disk.{LeavesOnly}
+use Rattle.journal_single.specs.Moments.{and_then, weaker}
+use Rattle.journal_single.specs.Record.{Reads}
+use Rattle.simplex_member.specs.declared.action.Action.{Action}
+use Rattle.simplex_member.specs.declared.fault.NodeFault.{NodeFault}
+use Rattle.simplex_member.specs.Allowed.{AskIsDue}
+use Rattle.simplex_member.specs.Deeds.{all_deeds}
+use Rattle.simplex_member.specs.Member.{Goes, LatchIsDue, NoneDue}
+use Rattle.simplex_member.specs.Packet.{Formats}
+use Rattle.simplex_member.specs.Point.{Point, AreActs, History, is_act}
+use Rattle.simplex_member.specs.Recorded.{record_of}
+use Rattle.simplex_member.specs.Setup.{Setup}
+use Rattle.node_outbox.specs.Handing.{both_more, hands_as, nothing_more}
+use Rattle.node_requests.specs.Asking.{is_silent}
+use Rattle.node_requests.specs.declared.acted.Acted.{Acted}
+use Rattle.node_requests.specs.declared.acted.Acted.TheVariants as came
+use Rattle.node_core.specs.declared.node_core.Core.{Core}
+use Rattle.node_due.specs.Acting.{ComesTo, DidNothing, DidSomething, HasActed, HasSettled, IsLeftByActs, WasSettled, WasTried}
+use Rattle.node_core.specs.Keeps.{CoreKeeps, disk_of}
+use Rattle.node_due.specs.NoneDue.{NoVoteToCast, NothingByVotes, NothingMoreToAsk, NothingToAskOnProposals}
+use Rattle.node_due.proofs.Lasting.{IsPartOf, Lasts}
+use Rattle.node_due.specs.ActsBehind.{are_acts, deeds_behind, goes_behind, last_behind}
+
+-- ---- points behind others
+
+module _ {S D P G C : Type 0} (g : Ghosts S D P G C) (f : Formats S D P G C) (s : Setup S D C) where
+  -- what acts leave behind acts is left by acts
+  pub left_behind : (h mid : History S D P G C) (xs : List (Point S D P G C)) → AreActs xs → Goes g f s h xs mid → (image : List ℕ) → IsLeftByActs g f s mid image → IsLeftByActs g f s h image
+  left_behind h mid xs own goes image left = (xs ++ left.0, left.1, are_acts g f s xs left.0 own left.2, goes_behind g f s h mid left.1 xs left.0 goes left.3, left.4)
+
+  -- what holds stays so behind points of a kind behind which it does
+  pub lasts_behind : (is_kind : Point S D P G C → Bool) (Done : History S D P G C → Type 0) → Lasts is_kind Done → (h end : History S D P G C) (points : List (Point S D P G C)) → All (λ p. is_kind p ≡ true) points → Goes g f s h points end → Done h → Done end
+  lasts_behind is_kind Done lasts h end [] are is done = subst Done (sym is) done
+  lasts_behind is_kind Done lasts h end (p ∷ points) are goes done =
+      lasts_behind is_kind Done lasts (p ∷ h) end points (All-tail (λ (q : Point S D P G C). is_kind q ≡ true) p points are) goes.1
+      (lasts h p (All-head (λ (q : Point S D P G C). is_kind q ≡ true) p points are) done)
+
+-- ---- one try behind another
+
+module _ {S L D P G C K : Type 0} (g : Ghosts S D P G C) (e : elector.Ghosts L S D P G C) (k : disk.Ghosts K) (f : Formats S D P G C) (s : Setup S D C) where
+  pub acted_behind : (mid new : Core S L D K P G C) (h at end : History S D P G C) (xs ys : List (Point S D P G C)) (before between after : List (Action S D P G C))
+      → HasActed g e k f s mid h xs at before between → HasActed g e k f s new at ys end between after → HasActed g e k f s new h (xs ++ ys) end before after
+  acted_behind mid new h at end xs ys before between after one other = record {
+    own = are_acts g f s xs ys one.own other.own;
+    goes = goes_behind g f s h at end xs ys one.goes other.goes;
+    keeps = other.keeps;
+    acts = hands_as f before after (all_deeds g f s h (xs ++ ys)) (all_deeds g f s h xs ++ all_deeds g f s at ys) (deeds_behind g f s h at xs ys one.goes)
+        (both_more f before between after (all_deeds g f s h xs) (all_deeds g f s at ys) one.acts other.acts);
+  }
+
+  -- what a crash leaves through both is left by acts from the first on
+  left_through : (old mid new : Core S L D K P G C) (h at : History S D P G C) (xs : List (Point S D P G C)) → AreActs xs → Goes g f s h xs at
+      → (k.keeps → LeavesOnly (k.calls (disk_of old)) (k.calls (disk_of mid)) (IsLeftByActs g f s h)) → (k.keeps → LeavesOnly (k.calls (disk_of mid)) (k.calls (disk_of new)) (IsLeftByActs g f s at))
+      → k.keeps → LeavesOnly (k.calls (disk_of old)) (k.calls (disk_of new)) (IsLeftByActs g f s h)
+  left_through old mid new h at xs own goes one other keeps = and_then (one keeps) (weaker (IsLeftByActs g f s h) (other keeps) (left_behind g f s h at xs own goes))
+
+  comes_any : {one both : Point S D P G C → Bool} {First Both : History S D P G C → Type 0} (old new : Core S L D K P G C) (h : History S D P G C) (before after : List (Action S D P G C)) (acted : Acted)
+      → acted ≡ came.Did → WasTried g e k f s one First old new h before after (Ok acted) → WasTried g e k f s both Both old new h before after (Ok came.Did)
+  comes_any old new h before after came.Did is tried = record { ok = tried.ok; any_moment = tried.any_moment }
+  comes_any old new h before after came.Nothing is tried = absurd (cc is)
+
+  comes_as : (is_kind : Point S D P G C → Bool) {First Both : History S D P G C → Type 0} → ((at : History S D P G C) → First at → Both at) → (new : Core S L D K P G C) (h : History S D P G C) (before after : List (Action S D P G C)) (answer : Result Acted NodeFault)
+      → IfOk answer (ComesTo g e k f s is_kind First new h before after) → IfOk answer (ComesTo g e k f s is_kind Both new h before after)
+  comes_as is_kind join new h before after (Ok came.Did) did = did
+  comes_as is_kind join new h before after (Ok came.Nothing) none = record { points = none.points; end = none.end; are_kind = none.are_kind; acted = none.acted; none = join none.end none.none }
+  comes_as is_kind join new h before after (Err why) none = tt
+
+  module _ (one other both : Point S D P G C → Bool) (First Second : History S D P G C → Type 0) (left : IsPartOf one both) (right : IsPartOf other both) (lasts : Lasts other First)
+      (mid new : Core S L D K P G C) (h : History S D P G C) (before between after : List (Action S D P G C)) (none : DidNothing g e k f s one First mid h before between) where
+    comes_behind : (answer : Result Acted NodeFault) → IfOk answer (ComesTo g e k f s other Second new none.end between after) → IfOk answer (ComesTo g e k f s both (λ at. First at × Second at) new h before after)
+    comes_behind (Ok came.Did) did = record {
+      points = none.points ++ did.points;
+      end = did.end;
+      acted = acted_behind mid new h none.end did.end none.points did.points before between after none.acted did.acted;
+    }
+    comes_behind (Ok came.Nothing) more = record {
+      points = none.points ++ more.points;
+      end = more.end;
+      are_kind = All-append (λ (p : Point S D P G C). both p ≡ true) none.points more.points (All-weaker (λ p. one p ≡ true) (λ p. both p ≡ true) left none.points none.are_kind)
+          (All-weaker (λ p. other p ≡ true) (λ p. both p ≡ true) right more.points more.are_kind);
+      acted = acted_behind mid new h none.end more.end none.points more.points before between after none.acted more.acted;
+      none = (lasts_behind g f s other First lasts none.end more.end more.points more.are_kind more.acted.goes none.none, more.none);
+    }
+    comes_behind (Err why) more = tt
+
+module _ {S L D P G C K : Type 0} {g : Ghosts S D P G C} {e : elector.Ghosts L S D P G C} {k : disk.Ghosts K} {f : Formats S D P G C} {s : Setup S D C} where
+  -- of an act that did something, or failed, the kind says nothing
+  pub did_so : {one both : Point S D P G C → Bool} {First Both : History S D P G C → Type 0} {old new : Core S L D K P G C} {h : History S D P G C} {before after : List (Action S D P G C)} {acted : Acted}
+      → acted ≡ came.Did → WasTried g e k f s one First old new h before after (Ok acted) → WasTried g e k f s both Both old new h before after (Ok came.Did)
+  did_so {old = old} {new = new} {h = h} {before = before} {after = after} {acted = acted} is tried = comes_any g e k f s old new h before after acted is tried
+
+  pub failed_so : {one both : Point S D P G C → Bool} {First Both : History S D P G C → Type 0} {old new : Core S L D K P G C} {h : History S D P G C} {before after : List (Action S D P G C)} {why : NodeFault}
+      → WasTried g e k f s one First old new h before after (Err why) → WasTried g e k f s both Both old new h before after (Err why)
+  failed_so tried = record { ok = tt; any_moment = tried.any_moment }
+
+  -- what was left undone, in other words
+  pub tried_as : {is_kind : Point S D P G C → Bool} {First Both : History S D P G C → Type 0} {old new : Core S L D K P G C} {h : History S D P G C} {before after : List (Action S D P G C)} {answer : Result Acted NodeFault}
+      → ((at : History S D P G C) → First at → Both at) → WasTried g e k f s is_kind First old new h before after answer → WasTried g e k f s is_kind Both old new h before after answer
+  tried_as {is_kind = is_kind} {new = new} {h = h} {before = before} {after = after} {answer = answer} join tried = record { ok = comes_as g e k f s is_kind join new h before after answer tried.ok; any_moment = tried.any_moment }
+
+  -- where an act did nothing, another one was tried behind its points
+  pub tried_behind : {one other : Point S D P G C → Bool} (both : Point S D P G C → Bool) {First Second : History S D P G C → Type 0} {old mid new : Core S L D K P G C} {h : History S D P G C} {before between after : List (Action S D P G C)} {acted : Acted} {answer : Result Acted NodeFault}
+      → IsPartOf one both → IsPartOf other both → Lasts other First → acted ≡ came.Nothing → WasTried g e k f s one First old mid h before between (Ok acted)
+      → ((at : History S D P G C) → CoreKeeps g e k f s mid at → WasTried g e k f s other Second mid new at between after answer)
+      → WasTried g e k f s both (λ at. First at × Second at) old new h before after answer
+  tried_behind {one} {other} both {First} {Second} {old} {mid} {new} {h} {before} {between} {after} {acted} {answer} left right lasts is first next =
+      let none : DidNothing g e k f s one First mid h before between = subst (λ (a : Acted). ComesTo g e k f s one First mid h before between a) is first.ok in
+      let second = next none.end none.acted.keeps in
+      record {
+        ok = comes_behind g e k f s one other both First Second left right lasts mid new h before between after none answer second.ok;
+        any_moment = left_through g e k f s old mid new h none.end none.points none.acted.own none.acted.goes first.any_moment second.any_moment;
+      }
+
+-- ---- nothing is due
+
+module _ {S D P G C : Type 0} (g : Ghosts S D P G C) (f : Formats S D P G C) (s : Setup S D C) (h : History S D P G C) where
+  no_reason : NothingToAskOnProposals g f s h → NothingByVotes g f s h → NothingMoreToAsk g f s h → (view : ℕ) (why : TimeoutReason) → LatchIsDue g f s h view why → ⊥
+  no_reason proposals votes asks view reason.InvalidProposal due = proposals.verifications.none_invalid view due
+  no_reason proposals votes asks view reason.LeaderNullify due = votes.followed view due
+  no_reason proposals votes asks view reason.Inactivity due = asks.silence view due
+  no_reason proposals votes asks view why due = absurd due.there
+
+  no_ask : NothingToAskOnProposals g f s h → NothingMoreToAsk g f s h → (view : ℕ) (ask : Ask) → AskIsDue g f s h view ask None → ⊥
+  no_ask proposals asks view ask due = ⊎_elim
+      (λ backfills. asks.views view (subst (λ (a : Ask). AskIsDue g f s h view a None) backfills.0 due))
+      (λ waits. proposals.verdicts.none_put_off waits.1.0 view (record { waits = waits.1.1.waits; first = waits.1.1.first }))
+      due.sought
+
+  -- nothing of any kind is
+  pub none_due : NothingToAskOnProposals g f s h → NothingByVotes g f s h → NothingMoreToAsk g f s h → NoVoteToCast g f s h → NoneDue g f s h
+  none_due proposals votes asks cast = record {
+    votes = record { no_notarize = cast.notarizes; no_nullify = cast.nullifies.no_nullify; no_finalize = cast.finalizes; looked = cast.nullifies.looked };
+    requests = record {
+      no_build = asks.builds;
+      no_verify = proposals.verifications.no_verify;
+      no_certify = proposals.verdicts.no_certify;
+      no_return = asks.returns.no_return;
+      none_behind = asks.returns.none_behind;
+    };
+    asks = record { no_ask = no_ask proposals asks; none_put_off = proposals.verdicts.none_put_off; none_missing = proposals.verifications.none_missing };
+    constructions = record { no_construction = votes.constructions.no_construction; no_leader = votes.leaders; no_forward = votes.constructions.no_forward };
+    no_reason = no_reason proposals votes asks;
+  }
+
+-- ---- one act after the other
+
+module _ {S L D P G C K : Type 0} (g : Ghosts S D P G C) (e : elector.Ghosts L S D P G C) (k : disk.Ghosts K) (f : Formats S D P G C) (s : Setup S D C) where
+  -- acts were done so far
+  pub record ActsSoFar (old new : Core S L D K P G C) (h : History S D P G C) (before after : List (Action S D P G C)) : Type 0 where
+    pub did : DidSomething g e k f s new h before after
+    pub any_moment : k.keeps → LeavesOnly (k.calls (disk_of old)) (k.calls (disk_of new)) (IsLeftByActs g f s h)
+
+  -- at first none was
+  pub none_acted : (node : Core S L D K P G C) (h : History S D P G C) (actions : List (Action S D P G C)) → CoreKeeps g e k f s node h
+      → (k.keeps → LeavesOnly (k.calls (disk_of node)) (k.calls (disk_of node)) (λ image. Reads image (map f.artifact (record_of h)))) → ActsSoFar node node h actions actions
+  none_acted node h actions keeps rests = record {
+    did = record { points = []; end = h; acted = record { own = All-nil (λ (p : Point S D P G C). is_act p ≡ true); goes = refl; keeps = keeps; acts = nothing_more f actions } };
+    any_moment = λ it. weaker (IsLeftByActs g f s h) (rests it) (λ image reads. ([], h, All-nil (λ (p : Point S D P G C). is_act p ≡ true), refl, reads));
+  }
+
+  module _ (old mid new : Core S L D K P G C) (h : History S D P G C) (before between after : List (Action S D P G C)) (far : ActsSoFar old mid h before between) where
+    so_far : HasActed g e k f s mid h far.did.points far.did.end before between
+    so_far = far.did.acted
+
+    left_so_far : (k.keeps → LeavesOnly (k.calls (disk_of mid)) (k.calls (disk_of new)) (IsLeftByActs g f s far.did.end)) → k.keeps → LeavesOnly (k.calls (disk_of old)) (k.calls (disk_of new)) (IsLeftByActs g f s h)
+    left_so_far = left_through g e k f s old mid new h far.did.end far.did.points so_far.own so_far.goes far.any_moment
+
+    did_more : DidSomething g e k f s new far.did.end between after → DidSomething g e k f s new h before after
+    did_more more = record {
+      points = far.did.points ++ more.points;
+      end = more.end;
+      acted = acted_behind g e k f s mid new h far.did.end more.end far.did.points more.points before between after so_far more.acted;
+    }
+
+    settled_ok : {A : Type 0} (answer : Result A NodeFault) → OnOk answer (HasSettled g e k f s new far.did.end between after) → OnOk answer (HasSettled g e k f s new h before after)
+    settled_ok (Ok x) settled = record {
+      points = far.did.points ++ settled.points;
+      end = settled.end;
+      own = are_acts g f s far.did.points settled.points so_far.own settled.own;
+      goes = goes_behind g f s h far.did.end settled.end far.did.points settled.points so_far.goes settled.goes;
+      none_due = settled.none_due;
+      keeps = settled.keeps;
+      last = settled.last;
+      wakes = settled.wakes;
+      acts = hands_as f before after (all_deeds g f s h (far.did.points ++ settled.points) ++ settled.last) (all_deeds g f s h far.did.points ++ (all_deeds g f s far.did.end settled.points ++ settled.last))
+          (last_behind g f s h far.did.end far.did.points settled.points settled.last so_far.goes)
+          (both_more f before between after (all_deeds g f s h far.did.points) (all_deeds g f s far.did.end settled.points ++ settled.last) so_far.acts settled.acts);
+    }
+    settled_ok (Err why) settled = tt
+
+    settled_behind : {A : Type 0} (answer : Result A NodeFault) → WasSettled g e k f s mid new far.did.end between after answer → WasSettled g e k f s old new h before after answer
+    settled_behind answer settled = record { ok = settled_ok answer settled.ok; any_moment = left_so_far settled.any_moment }
+
+module _ {S L D P G C K : Type 0} {g : Ghosts S D P G C} {e : elector.Ghosts L S D P G C} {k : disk.Ghosts K} {f : Formats S D P G C} {s : Setup S D C} {old mid new : Core S L D K P G C} {h : History S D P G C} {before between after : List (Action S D P G C)} where
+  -- one act more
+  pub one_acted : {acted : Acted} → ActsSoFar g e k f s old mid h before between → acted ≡ came.Did
+      → ((at : History S D P G C) → CoreKeeps g e k f s mid at → WasTried g e k f s is_silent (NoneDue g f s) mid new at between after (Ok acted)) → ActsSoFar g e k f s old new h before after
+  one_acted {acted} far is next =
+      let tried = next far.did.end far.did.acted.keeps in
+      let more : DidSomething g e k f s new far.did.end between after = subst (λ (a : Acted). ComesTo g e k f s is_silent (NoneDue g f s) new far.did.end between after a) is tried.ok in
+      record { did = did_more g e k f s old mid new h before between after far more; any_moment = left_so_far g e k f s old mid new h before between after far tried.any_moment }
+
+  -- one failed
+  pub one_failed : {A : Type 0} {why : NodeFault} (answer : Result A NodeFault) → answer ≡ Err why → ActsSoFar g e k f s old mid h before between
+      → ((at : History S D P G C) → CoreKeeps g e k f s mid at → WasTried g e k f s is_silent (NoneDue g f s) mid new at between after (Err why)) → WasSettled g e k f s old new h before after answer
+  one_failed {A} {why} answer is far next =
+      let tried = next far.did.end far.did.acted.keeps in
+      subst (λ (r : Result A NodeFault). WasSettled g e k f s old new h before after r) (sym is)
+      (record { ok = tt; any_moment = left_so_far g e k f s old mid new h before between after far tried.any_moment })
+
+  -- of none something was due any more, and the node settled
+  pub nothing_acted : {acted : Acted} {two : Core S L D K P G C} {more : List (Action S D P G C)} {A : Type 0} {answer : Result A NodeFault} → ActsSoFar g e k f s old mid h before between → acted ≡ came.Nothing
+      → ((at : History S D P G C) → CoreKeeps g e k f s mid at → WasTried g e k f s is_silent (NoneDue g f s) mid two at between more (Ok acted))
+      → ((at : History S D P G C) → CoreKeeps g e k f s two at → NoneDue g f s at → WasSettled g e k f s two new at more after answer) → WasSettled g e k f s old new h before after answer
+  nothing_acted {acted} {two} {more} {A} {answer} far is next last =
+      let tried = next far.did.end far.did.acted.keeps in
+      let none : DidNothing g e k f s is_silent (NoneDue g f s) two far.did.end between more = subst (λ (a : Acted). ComesTo g e k f s is_silent (NoneDue g f s) two far.did.end between more a) is tried.ok in
+      let here : ActsSoFar g e k f s mid two far.did.end between more = record { did = record { points = none.points; end = none.end; acted = none.acted }; any_moment = tried.any_moment } in
+      settled_behind g e k f s old mid new h before between after far answer
+      (settled_behind g e k f s mid two new far.did.end between more after here answer (last none.end none.acted.keeps none.none))

@@ -1,0 +1,32 @@
+use Rattle.std.proofs.Common.{refl, ◌∙◌}
+use Rattle.simplex_member.specs.Packet.{formats}
+use Rattle.simplex_member.specs.Recorded.{record_of}
+use Rattle.simplex_member.specs.Setup.{owner_of}
+use Rattle.node_due.proofs.Settling.{none_acted, nothing_acted, one_acted, one_failed}
+use Rattle.node_due.proofs.acting.settle.Goals as goal
+
+pub acts-init : goal.acts-init
+acts-init g c = record {
+  acts = λ s h k.
+      let f = formats {S = g.row.S.Denot} {P = g.row.S-PublicKey.Denot} g.D.PartialEq.eq g.D.Write.spelling g.S.Signature.Write.spelling g.S.Certificate.Write.spelling g.D.Read.reading g.S.Signature.Read.reading g.S.Certificate.Read.reading (g.S.Scheme.size s.voter.scheme) in
+      none_acted g.S.Scheme g.L.Elector g.K.Disk f s c.args.core.now h c.args.out.now.items k (c.a_ledger_at_rest_leaves_its_record.ensures (owner_of s) c.args.core.now.ledger (record_of h) k.ledger);
+  no_fault = refl;
+}
+
+pub acts-preserved : goal.acts-preserved
+acts-preserved g c = record {
+  acts = λ s h k. one_acted (c.acts.invariant.acts s h k) c.in-Ok-Did.field-0-is (c.in-Ok-Did.ensures.tried s);
+  no_fault = c.in-Ok-Did.ensures.faults.no_fault ∙ c.acts.invariant.no_fault;
+}
+
+pub returns-in-Ok-Nothing-clause-settled : goal.returns-in-Ok-Nothing-clause-settled
+returns-in-Ok-Nothing-clause-settled g c = λ s h k.
+    nothing_acted (c.acts.invariant.acts s h k) c.in-Ok-Nothing.field-0-is (c.in-Ok-Nothing.ensures.tried s) (c.say_when.ensures.settled s)
+
+pub returns-in-Err-clause-settled : goal.returns-in-Err-clause-settled
+returns-in-Err-clause-settled g c = λ s h k.
+    one_failed _ refl (c.acts.invariant.acts s h k) (c.in-Err.ensures.tried s)
+
+pub returns-clause-settled : goal.returns-clause-settled
+returns-clause-settled g c = λ s h k.
+    record { ok = tt; any_moment = (c.acts.invariant.acts s h k).any_moment }

@@ -1,0 +1,34 @@
+-- The node while one of its layers is a point ahead of the others.
+use Rattle.std.specs.Prelude.{◌∷◌}
+use Rattle.types_core.specs.declared.scheme.Scheme.{Ghosts}
+use Rattle.types_terms.specs.declared.elector.Elector as elector
+use Rattle.journal_single.specs.declared.disk.Disk as disk
+use Rattle.simplex_state.specs.declared.state.State.{State}
+use Rattle.simplex_state.specs.State as voting
+use Rattle.node_votes.specs.declared.acceptance.Acceptance.{Acceptance}
+use Rattle.node_votes.specs.Keeps as accepting
+use Rattle.simplex_member.specs.Layers.{voter_of}
+use Rattle.simplex_member.specs.Packet.{Formats}
+use Rattle.simplex_member.specs.Point.{Point, History}
+use Rattle.simplex_member.specs.Setup.{Setup}
+use Rattle.node_core.specs.declared.node_core.Core.{Core}
+use Rattle.node_core.specs.Keeps.{CoreKeeps}
+
+module _ {S L D P G C K : Type 0} (g : Ghosts S D P G C) (e : elector.Ghosts L S D P G C) (k : disk.Ghosts K) (f : Formats S D P G C) (s : Setup S D C) where
+  -- the node stands where this history leads, but for its voter, which is a point ahead
+  pub record VoterIsAhead (node : Core S L D K P G C) (h : History S D P G C) (p : Point S D P G C) : Type 0 where
+    pub voter : State S L D P G C
+    pub keeps : CoreKeeps g e k f s (record node { voter = voter }) h
+    pub ahead : voting.Keeps g e s.voter node.voter (voter_of s (p ∷ h))
+
+  -- the node stands where this history leads, but for the votes of all views, which are a point ahead
+  pub record VotesAreAhead (node : Core S L D K P G C) (h : History S D P G C) (p : Point S D P G C) : Type 0 where
+    pub acceptance : Acceptance S D P G C
+    pub keeps : CoreKeeps g e k f s (record node { acceptance = acceptance }) h
+    pub ahead : accepting.Keeps g f.same s node.acceptance (p ∷ h)
+
+  -- the same, but that the view which the point enters is not entered yet
+  pub record VotesGoAhead (node : Core S L D K P G C) (h : History S D P G C) (p : Point S D P G C) : Type 0 where
+    pub acceptance : Acceptance S D P G C
+    pub keeps : CoreKeeps g e k f s (record node { acceptance = acceptance }) h
+    pub ahead : accepting.KeepsAhead g f.same s node.acceptance h p

@@ -1,0 +1,52 @@
+//! The one place where the record grows.
+
+ghost use Rattle.std.specs.Prelude.{◌≡◌, ◌≢◌, ◌++◌, ◌∷◌, [], List, map, false, IfErr, OnOk, IsErrOf};
+ghost use Rattle.messages_certificates.specs.Artifact.{artifact_spelling};
+ghost use Rattle.messages_certificates.specs.declared.artifact.Artifact.{Artifact};
+ghost use Rattle.simplex_record.specs.declared.owner.Owner.{Owner};
+ghost use Rattle.simplex_record.specs.Record.{entry, entries};
+ghost use Rattle.simplex_record.specs.Rules.{MayFollow};
+ghost use Rattle.journal_single.specs.Disk.{LeavesOnly, counted};
+ghost use Rattle.journal_single.specs.Record.{IsWithOrWithout};
+ghost use Rattle.simplex_member.specs.declared.fault.NodeFault.{NodeFault};
+ghost use Rattle.simplex_member.specs.declared.fault.NodeFault.TheVariants as step_fault;
+ghost use Rattle.node_record.specs.Ledger.{KeepsRecord, disk_of};
+
+use journal_single::{BOUND, Disk};
+use messages_certificates::Artifact;
+use node_record::{Ledger, a_ledger_at_rest_leaves_its_record};
+use simplex_member::NodeFault;
+use types_core::{Digest, Scheme};
+
+/// Records an artifact that may stand behind the record. That it can be read again is tested, since the disk wants to know it: each is
+/// that may be recorded.
+///
+/// # Errors
+///
+/// [`NodeFault::Device`] where the disk failed, and else [`NodeFault::Memory`]. Behind an error nothing is said of the ledger, but that a
+/// crash leaves the record with the artifact or without it.
+pub fn record<S: Scheme<D>, D: Digest, K: Disk>(
+    ledger: &mut Ledger<S, D, K>,
+    artifact: Artifact<S, D>,
+) -> Result<(), NodeFault>
+    ensures keeps { OnOk result ((owner : Owner) (xs : List (Artifact S D S.PublicKey S.Signature S.Certificate)) → KeepsRecord K.Disk (artifact_spelling D.spelling S.Signature.spelling S.Certificate.spelling) owner ledger.old xs → MayFollow owner.term_length (entries xs) (entry artifact) → KeepsRecord K.Disk (artifact_spelling D.spelling S.Signature.spelling S.Certificate.spelling) owner ledger.new (xs ++ artifact ∷ [])) }
+
+    // A crash at any moment of the call leaves the record from before it, with the artifact or without.
+    ensures any_moment { (owner : Owner) (xs : List (Artifact S D S.PublicKey S.Signature S.Certificate)) → KeepsRecord K.Disk (artifact_spelling D.spelling S.Signature.spelling S.Certificate.spelling) owner ledger.old xs → K.keeps → LeavesOnly (K.calls (disk_of ledger.old)) (K.calls (disk_of ledger.new)) (IsWithOrWithout (map (artifact_spelling D.spelling S.Signature.spelling S.Certificate.spelling) xs) (artifact_spelling D.spelling S.Signature.spelling S.Certificate.spelling artifact)) }
+
+    // The disk has failed once more exactly where that is told.
+    ensures device { IsErrOf result NodeFault.Device → K.failed (disk_of ledger.new) ≡ counted false (K.failed (disk_of ledger.old)) }
+    ensures no_device { IfErr result (λ why. why ≢ step_fault.Device → K.failed (disk_of ledger.new) ≡ K.failed (disk_of ledger.old)) }
+    ensures no_fault { OnOk result (K.failed (disk_of ledger.new) ≡ K.failed (disk_of ledger.old)) }
+    ensures not_failed { ¬ IsErrOf result NodeFault.Failed }
+{
+    a_ledger_at_rest_leaves_its_record::<S, D, K>();
+    if !artifact.is_within(BOUND) {
+        return Err(NodeFault::Memory);
+    }
+    match ledger.record(artifact) {
+        Ok(()) => Ok(()),
+        Err(NodeFault::Device) => Err(NodeFault::Device),
+        Err(_) => Err(NodeFault::Memory),
+    }
+}

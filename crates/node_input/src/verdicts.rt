@@ -1,0 +1,80 @@
+//! The application's verdicts on what is notarized.
+
+ghost use Rattle.std.specs.Prelude.{◌≡◌, ◌≢◌, false, IfErr, OnOk, IsErrOf};
+ghost use Rattle.journal_single.specs.Disk.{LeavesOnly, counted};
+ghost use Rattle.simplex_member.specs.Asked.{IsAwaited};
+ghost use Rattle.simplex_member.specs.declared.fault.NodeFault.{NodeFault};
+ghost use Rattle.simplex_member.specs.declared.fault.NodeFault.TheVariants as step_fault;
+ghost use Rattle.simplex_member.specs.Packet.{formats};
+ghost use Rattle.simplex_member.specs.Point.{History, Judged};
+ghost use Rattle.simplex_member.specs.Setup.{Setup};
+ghost use Rattle.node_core.specs.Keeps.{AtOwn, disk_of};
+ghost use Rattle.node_core.specs.Taking.{IsLeftBy, IsTaken};
+ghost use Rattle.node_input.specs.Verdicts.{RecordIsAhead};
+
+use journal_single::Disk;
+use messages_certificates::Artifact;
+use node_core::{Core, enter, give_verdict, judge_repair};
+use node_inbox::record;
+use node_outbox::report_verdict;
+use node_record::quiet_points_leave_the_tables;
+use node_votes::silent_points_leave_votes;
+use simplex_member::{Action, NodeFault, awaited_verdicts_may_be_taken};
+use types_core::{Digest, Round, Scheme, View};
+use types_terms::Elector;
+
+/// Takes a verdict on the view that is awaited: it is recorded, then voter, repair and votes learn of it; a true one is reported with
+/// its notarization, and what the view that it enters brings is handed out.
+///
+/// # Errors
+///
+/// [`NodeFault::Memory`] and [`NodeFault::Device`]. Then the record is the one before, or has the verdict.
+pub(crate) fn take_verdict<S: Scheme<D> + Drop, L: Elector<S, D>, D: Digest, K: Disk>(
+    core: &mut Core<S, L, D, K>,
+    view: View,
+    ok: bool,
+    out: &mut Vec<Action<S, D>>,
+) -> Result<(), NodeFault>
+    ensures taken { OnOk result (AtOwn S.Scheme L.Elector K.Disk (formats D.PartialEq.eq D.spelling S.Signature.spelling S.Certificate.spelling D.reading S.Signature.reading S.Certificate.reading) core.old (λ f s h. IsAwaited s h view → IsTaken S.Scheme L.Elector K.Disk f s core.new h (Judged (record { epoch = s.voter.epoch; view = view }) ok) out.old.items out.new.items)) }
+
+    // A crash at any moment leaves the record from before it, with the verdict or without.
+    ensures any_moment { AtOwn S.Scheme L.Elector K.Disk (formats D.PartialEq.eq D.spelling S.Signature.spelling S.Certificate.spelling D.reading S.Signature.reading S.Certificate.reading) core.old (λ f s h. IsAwaited s h view → K.keeps → LeavesOnly (K.calls (disk_of core.old)) (K.calls (disk_of core.new)) (IsLeftBy S.Scheme f s h (Judged (record { epoch = s.voter.epoch; view = view }) ok))) }
+
+    // The disk has failed once more exactly where that is told.
+    ensures device { IsErrOf result NodeFault.Device → K.failed (disk_of core.new) ≡ counted false (K.failed (disk_of core.old)) }
+    ensures no_device { IfErr result (λ why. why ≢ step_fault.Device → K.failed (disk_of core.new) ≡ K.failed (disk_of core.old)) }
+    ensures no_fault { OnOk result (K.failed (disk_of core.new) ≡ K.failed (disk_of core.old)) }
+    ensures not_failed { ¬ IsErrOf result NodeFault.Failed }
+{
+    awaited_verdicts_may_be_taken::<S, D>();
+    let round = Round::new(core.settings.owner.epoch, view);
+    match record(&mut core.ledger, Artifact::Certification(round, ok)) {
+        Ok(()) => learn_verdict(core, view, ok, out),
+        Err(fault) => Err(fault),
+    }
+}
+
+/// Takes a verdict that is recorded already.
+fn learn_verdict<S: Scheme<D> + Drop, L: Elector<S, D>, D: Digest, K: Disk>(
+    core: &mut Core<S, L, D, K>,
+    view: View,
+    ok: bool,
+    out: &mut Vec<Action<S, D>>,
+) -> Result<(), NodeFault>
+    ensures taken { OnOk result ((s : Setup S D S.Certificate) (h : History S D S.PublicKey S.Signature S.Certificate) → RecordIsAhead S.Scheme L.Elector K.Disk (formats D.PartialEq.eq D.spelling S.Signature.spelling S.Certificate.spelling D.reading S.Signature.reading S.Certificate.reading (S.size s.voter.scheme)) s core.old h (Judged (record { epoch = s.voter.epoch; view = view }) ok) → IsAwaited s h view
+        → IsTaken S.Scheme L.Elector K.Disk (formats D.PartialEq.eq D.spelling S.Signature.spelling S.Certificate.spelling D.reading S.Signature.reading S.Certificate.reading (S.size s.voter.scheme)) s core.new h (Judged (record { epoch = s.voter.epoch; view = view }) ok) out.old.items out.new.items) }
+    ensures disk { disk_of core.new ≡ disk_of core.old }
+    ensures fault { IfErr result (λ why. why ≡ step_fault.Memory) }
+{
+    awaited_verdicts_may_be_taken::<S, D>();
+    silent_points_leave_votes::<S, D>();
+    quiet_points_leave_the_tables::<S, D>();
+    let alloc = core.settings.alloc;
+    let now = core.tables.moment();
+    let was = core.voter.current_view();
+    let notarization = give_verdict(alloc, now, view, ok, &mut core.voter)?;
+    report_verdict(alloc, &notarization, ok, out)?;
+    judge_repair(alloc, notarization, ok, &mut core.repair)?;
+    enter(&core.voter, &mut core.acceptance)?;
+    core.hand_on_at_entry(was, out)
+}

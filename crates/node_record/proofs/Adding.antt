@@ -1,0 +1,58 @@
+-- What a set has behind one element more, or without its first ones, beside what a list has.
+use Rattle.std.proofs.Common.{◌≡◌, ◌==◌, ◌↔◌, ◌⊎◌, ◌≤◌, ◌<◌, ◌+◌, ◌-◌, ◌^◌, ◌∙◌, inl, inr, ⊎_elim, ℕ, min, Bool, true, false, cond, List, ◌∷◌, Option, Some, sym, ap, subst, arith}
+use Rattle.std.specs.Prelude.{Contains, IsTrue, IfOk, OnOk, Result, Ok, Err, if◌then◌else◌}
+use Rattle.std.specs.Ordering.{is_eq, nat_cmp}
+use Rattle.std.proofs.lemmas.Bool.{cases_lt}
+use Rattle.std.proofs.lemmas.Bool.Decides.{nat_tests}
+use Rattle.types_quorum.specs.Counting.{Contains-cases, Contains-head, Contains-rest}
+
+-- one more is in the set and in the list, where the set has those alone of which something holds
+pub one_more : {X : Type 0} (P : X → Type 0) (k j a : X) (xs : List X) (Old New : Type 0) → j ≡ k → P k → New ↔ (Old ⊎ (k ≡ a)) → Old ↔ (P a × Contains xs a) → New ↔ (P a × Contains (j ∷ xs) a)
+one_more {X} P k j a xs Old New same holds more told = subst (λ (x : X). New ↔ (P a × Contains (x ∷ xs) a)) (sym same) (
+  λ there. ⊎_elim
+      (λ old. let o = told.0 old in (o.0, Contains-rest k xs a o.1))
+      (λ is. (subst P is holds, subst (λ (x : X). Contains (k ∷ xs) x) is (Contains-head k xs)))
+      (more.0 there),
+  λ there. more.1 (⊎_elim (λ is. inr is) (λ later. inl (told.1 (there.0, later))) (Contains-cases k xs a there.1)),
+)
+
+-- where something holds of it, it is new to the set where it is new to the list
+pub new_to : (P Q Old New : Type 0) → P → New ↔ (¬ Old) → Old ↔ (P × Q) → New ↔ (¬ Q)
+new_to P Q Old New holds new told = (λ is there. new.0 is (told.1 (holds, there)), λ none. new.1 (λ old. none (told.0 old).1))
+
+-- what follows where a call succeeded
+pub on_ok-map : {T E P Q : Type 0} (r : Result T E) → (P → Q) → OnOk r P → OnOk r Q
+on_ok-map (Ok x) f p = f p
+on_ok-map (Err e) f p = p
+
+pub if_ok_then : {T E : Type 0} {P Q : T → Type 0} (r : Result T E) → IfOk r P → ((x : T) → P x → Q x) → IfOk r Q
+if_ok_then (Ok x) p f = f x p
+if_ok_then (Err e) p f = p
+
+-- without those up to a number
+pub left_above : (low last u : ℕ) (old new : Bool) (C : Type 0) → low ≤ last → (u ≤ last → ¬ IsTrue new) → (last < u → new ≡ old) → IsTrue old ↔ ((low < u) × C) → IsTrue new ↔ ((last < u) × C)
+left_above low last u old new C le gone kept told = elim (cases_lt last u) [
+  | inl above ↦ (λ there. (above, (told.0 (sym (kept above) ∙ there)).1), λ c. kept above ∙ told.1 (omega (arith, le, above), c.1))
+  | inr below ↦ (λ there. absurd (gone below there), λ c. absurd (omega (arith, below, c.0)))
+]
+
+-- other numbers are other keys
+pub apart : (a b : ℕ) → (a ≡ b → ⊥) → is_eq (nat_cmp a b) ≡ false
+apart a b ne = grind (arith, nat_tests, ne)
+
+-- and the same number is the same key
+same_key : (n q : ℕ) → is_eq (nat_cmp n q) ≡ (n == q)
+same_key n q = grind (arith, nat_tests)
+
+-- what stands under numbers, behind one more
+pub under_number : {X Y : Type 0} (F : Option X → Option Y) (n q : ℕ) (x : X) (y : Y) (old new : Option X) (o : Option Y) → F (Some x) ≡ Some y → new ≡ cond (is_eq (nat_cmp n q)) (Some x) old → F old ≡ o
+    → F new ≡ (if n == q then Some y else o)
+under_number {X} {Y} F n q x y old new o first is told = ap F is ∙ (ap (λ (b : Bool). F (cond b (Some x) old)) (same_key n q) ∙ go (n == q))
+  where
+    go : (b : Bool) → F (cond b (Some x) old) ≡ (if b then Some y else o)
+    go true = first
+    go false = told
+
+-- the number behind one that isn't the last
+pub one_further : (number next stored : ℕ) → stored ≡ min (number + 1) (2 ^ 64 - 1) → number ≡ next → next < 2 ^ 64 - 1 → stored ≡ next + 1
+one_further number next stored is same left = omega arith

@@ -1,0 +1,13 @@
+use Rattle.node_record.proofs.Resting.{nothing_asked}
+use Rattle.node_record.proofs.ledger.Ledger.record.Goals as goal
+
+-- no room for one more: nothing was asked of the disk
+pub returns-in_default-clause-any_moment : goal.returns-in_default-clause-any_moment
+returns-in_default-clause-any_moment g c = λ owner xs k keeps. nothing_asked _ (k.journal keeps).1
+
+pub returns-in-Ok-add-clause-keeps : goal.returns-in-Ok-add-clause-keeps
+returns-in-Ok-add-clause-keeps g c = λ owner xs k follows. record {
+  holds = c.in-Ok-add.ensures owner xs (c.reserve.ensures.same owner xs k.holds) follows;
+  runs = c.in-Ok-append.ensures.stays_open;
+  journal = λ keeps. c.in-Ok-append.ensures.record xs keeps (k.journal keeps);
+}

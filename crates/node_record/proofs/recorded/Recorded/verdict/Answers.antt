@@ -1,0 +1,5 @@
+use Rattle.simplex_record.specs.Record.{entries}
+use Rattle.node_record.proofs.recorded.Recorded.verdict.Goals as goal
+
+pub returns : goal.returns
+returns g c = λ owner xs k. c.verdict.ensures owner.term_length (entries xs) k.standing

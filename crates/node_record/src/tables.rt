@@ -1,0 +1,275 @@
+//! What a node remembers of what it asked for, of when members were heard, and of the time.
+
+ghost use Rattle.std.specs.Prelude.{◌≡◌, ◌↔◌, ◌⊎◌, ◌≤◌, ◌<◌, ◌∷◌, [], ℕ, Bool, Option, Some, None, false, option_map, Contains, IsTrue, IfOk, IfSome, OnOk, OnErr, MatchOption};
+ghost use Rattle.std.specs.BTreeSet.{contains};
+ghost use Rattle.std.specs.Ordering.{nat_cmp};
+ghost use Rattle.types_core.specs.declared.context.Context.{Context};
+ghost use Rattle.types_core.specs.declared.proposal.Proposal.{Proposal};
+ghost use Rattle.simplex_messages.specs.declared.vote.Vote.{Vote};
+ghost use Rattle.simplex_messages.specs.VoteParts.{vote_signer};
+ghost use Rattle.simplex_member.specs.declared.asked.Asked.{Asked};
+ghost use Rattle.simplex_member.specs.Asked.{HasNumber, IsAwaited, IsJudged, asks_of, build_at, check_at, last_heard, next_number};
+ghost use Rattle.simplex_member.specs.Layers.{finalized_of, latest};
+ghost use Rattle.simplex_member.specs.Point.{History, Outcome, Opened, Told, Heard, Built, Checked, AsksBuild, AsksVerify, AsksCertify, GivesBack, LeavesBehind, Asks};
+ghost use Rattle.simplex_member.specs.Setup.{Setup};
+ghost use Rattle.node_record.specs.Tables.{AtEach, IsFirstBuild, KeepsTables, asked_cmp, build_parts, verdicts_of};
+
+use simplex_member::Asked;
+use simplex_resolver::Ask;
+use std::alloc::{AllocError, Global};
+use std::collections::{BTreeMap, BTreeSet};
+use std::ops::Bound;
+use types_core::{Context, Digest, Participant, PublicKey, Scheme, View};
+
+/// A build that was asked for.
+#[derive(Clone, Copy)]
+pub struct Building<D: Digest, P: PublicKey> {
+    /// Whether it is for a handoff.
+    pub handoff: bool,
+    /// What is to be built on.
+    pub context: Context<D, P>,
+}
+
+/// What a node remembers since its opening: which builds and verifications stand, by their numbers; the views
+/// on which a verdict was asked for, and what other members were asked, of views that aren't final; when
+/// each member was heard last; and the time. Each call takes a logarithmic time at most.
+#[derive(Drop)]
+pub struct Tables<S: Scheme<D>, D: Digest> {
+    /// The moment of the opening.
+    pub(crate) opened: u64,
+    /// The latest moment.
+    pub(crate) moment: u64,
+    /// The number of the next request.
+    pub(crate) number: u64,
+    /// The builds that stand, by their numbers.
+    pub(crate) builds: BTreeMap<u64, Building<D, S::PublicKey>>,
+    /// The views of the proposals that are being verified, by the numbers of the requests.
+    pub(crate) checks: BTreeMap<u64, View>,
+    /// The views on which a verdict was asked for.
+    pub(crate) verdicts: BTreeSet<View>,
+    /// When a vote of a member was accepted last.
+    pub(crate) heard: BTreeMap<Participant, u64>,
+    /// What other members were asked.
+    pub(crate) asks: BTreeSet<Asked>,
+}
+
+impl<S: Scheme<D>, D: Digest> Tables<S, D> {
+    /// What a node remembers that is opened at this moment.
+    pub fn new(alloc: Global, now: u64) -> Self
+        ensures { (low : ℕ) → KeepsTables low result (Opened now ∷ []) }
+    {
+        Tables {
+            opened: now,
+            moment: now,
+            number: 0,
+            builds: BTreeMap::new(alloc),
+            checks: BTreeMap::new(alloc),
+            verdicts: BTreeSet::new(alloc),
+            heard: BTreeMap::new(alloc),
+            asks: BTreeSet::new(alloc),
+        }
+    }
+
+    /// The latest moment.
+    pub fn moment(&self) -> u64
+        ensures { AtEach self.now (λ low h. result ≡ latest h) }
+    {
+        self.moment
+    }
+
+    /// Notes the time.
+    pub fn tell(&mut self, now: u64)
+        ensures { AtEach self.old (λ low h. KeepsTables low self.new (Told now ∷ h)) }
+    {
+        self.moment = now;
+    }
+
+    /// When the member was heard last: at its last accepted vote, or at the opening.
+    pub fn last_heard(&self, member: Participant) -> u64
+        ensures { AtEach self.now (λ low h. result ≡ last_heard h member) }
+    {
+        match self.heard.get(&member) {
+            Some(moment) => *moment,
+            None => self.opened,
+        }
+    }
+
+    /// Notes that a vote of the member was accepted.
+    pub fn hear(&mut self, member: Participant) -> Result<(), AllocError>
+        ensures keeps { OnOk result (AtEach self.old (λ low h. (v : Vote S D S.PublicKey S.Signature S.Certificate) → vote_signer v ≡ member → KeepsTables low self.new (Heard v ∷ h))) }
+        ensures memory { OnErr result (AtEach self.old (λ low h. KeepsTables low self.new h)) }
+    {
+        self.heard.insert(member, self.moment)?;
+        Ok(())
+    }
+
+    /// Whether a number is left for a request.
+    pub fn has_number(&self) -> bool
+        ensures { AtEach self.now (λ low h. IsTrue result ↔ HasNumber h) }
+    {
+        self.number < u64::MAX
+    }
+
+    /// Notes that a build is asked for, under the next number, which it answers.
+    pub fn add_build(&mut self, building: Building<D, S::PublicKey>) -> Result<u64, AllocError>
+        requires { AtEach self.old (λ low h. HasNumber h) }
+        ensures number { IfOk result (λ number. AtEach self.old (λ low h. number ≡ next_number h)) }
+        ensures keeps { IfOk result (λ number. AtEach self.old (λ low h. KeepsTables low self.new (AsksBuild number building.handoff building.context ∷ h))) }
+        ensures memory { OnErr result (AtEach self.old (λ low h. KeepsTables low self.new h)) }
+    {
+        let number = self.number;
+        self.builds.insert(number, building)?;
+        self.number = number.saturating_add(1);
+        Ok(number)
+    }
+
+    /// The build that stands under this number.
+    pub fn build(&self, number: u64) -> Option<Building<D, S::PublicKey>>
+        ensures { AtEach self.now (λ low h. option_map build_parts result ≡ build_at h number) }
+    {
+        self.builds.get(&number).copied()
+    }
+
+    /// The first build that stands under this number or a later one.
+    pub fn build_from(&self, from: u64) -> Option<(u64, Building<D, S::PublicKey>)>
+        ensures behind { IfSome result (λ p. from ≤ p.0) }
+        ensures first { AtEach self.now (λ low h. MatchOption result ((n : ℕ) → from ≤ n → build_at h n ≡ None) (λ p. IsFirstBuild h from p.0 (build_parts p.1))) }
+    {
+        match self
+            .builds
+            .range((Bound::Included(from), Bound::Unbounded))
+            .next()
+        {
+            Some((number, building)) => Some((*number, *building)),
+            None => None,
+        }
+    }
+
+    /// Notes that no build stands under this number any more: it was answered, given back, or left behind.
+    pub fn end_build(&mut self, number: u64)
+        ensures built { AtEach self.old (λ low h. (handoff : Bool) (context : Context D S.PublicKey) (payload : Option D) (took : Bool) → KeepsTables low self.new (Built number handoff context payload took ∷ h)) }
+        ensures given_back { AtEach self.old (λ low h. (view : ℕ) → KeepsTables low self.new (GivesBack number view ∷ h)) }
+        ensures left_behind { AtEach self.old (λ low h. KeepsTables low self.new (LeavesBehind number ∷ h)) }
+    {
+        let _ = self.builds.remove(&number);
+    }
+
+    /// Notes that a proposal of the view is to be verified, under the next number, which it answers.
+    pub fn add_check(&mut self, view: View) -> Result<u64, AllocError>
+        requires { AtEach self.old (λ low h. HasNumber h) }
+        ensures number { IfOk result (λ number. AtEach self.old (λ low h. number ≡ next_number h)) }
+        ensures keeps { IfOk result (λ number. AtEach self.old (λ low h. (context : Context D S.PublicKey) (p : Proposal D) → context.round.view ≡ view → KeepsTables low self.new (AsksVerify number context p ∷ h))) }
+        ensures memory { OnErr result (AtEach self.old (λ low h. KeepsTables low self.new h)) }
+    {
+        let number = self.number;
+        self.checks.insert(number, view)?;
+        self.number = number.saturating_add(1);
+        Ok(number)
+    }
+
+    /// The view of the proposal that is to be verified under this number.
+    pub fn check(&self, number: u64) -> Option<View>
+        ensures { AtEach self.now (λ low h. result ≡ check_at h number) }
+    {
+        self.checks.get(&number).copied()
+    }
+
+    /// Notes that the verification under this number was answered.
+    pub fn end_check(&mut self, number: u64)
+        ensures { AtEach self.old (λ low h. (view : ℕ) (answer : Option Bool) (outcome : Outcome) → KeepsTables low self.new (Checked number view answer outcome ∷ h)) }
+    {
+        let _ = self.checks.remove(&number);
+    }
+
+    /// Notes that a verdict on the view is asked for.
+    pub fn add_verdict(&mut self, view: View) -> Result<(), AllocError>
+        ensures keeps { OnOk result (AtEach self.old (λ low h. (p : Proposal D) → p.round.view ≡ view → low < view → KeepsTables low self.new (AsksCertify p ∷ h))) }
+        ensures memory { OnErr result (AtEach self.old (λ low h. KeepsTables low self.new h)) }
+    {
+        put_view(&mut self.verdicts, view)
+    }
+
+    /// Whether a verdict on the view was asked for, and the view lies above the last final one. Where none is
+    /// recorded yet, the request stands.
+    pub fn awaits(&self, view: View) -> bool
+        ensures asked { AtEach self.now (λ low h. IsTrue result ↔ ((low < view) × Contains (verdicts_of h) view)) }
+        ensures awaited { (s : Setup S D S.Certificate) (h : History S D S.PublicKey S.Signature S.Certificate) → KeepsTables (finalized_of s h) self.now h → ¬ IsJudged h view → IsTrue result ↔ IsAwaited s h view }
+    {
+        self.verdicts.contains(&view)
+    }
+
+    /// Notes that this is asked of other members, of a view that isn't final: whether it was not asked before.
+    pub fn add_ask(&mut self, asked: Asked) -> Result<bool, AllocError>
+        ensures is_new { IfOk result (λ is_new. AtEach self.old (λ low h. low < asked.view → IsTrue is_new ↔ ¬ Contains (asks_of h) asked)) }
+        ensures keeps { OnOk result (AtEach self.old (λ low h. low < asked.view → KeepsTables low self.new (Asks asked.view asked.ask asked.to ∷ h))) }
+        ensures known { IfOk result (λ is_new. is_new ≡ false → AtEach self.old (λ low h. KeepsTables low self.new h)) }
+        ensures memory { OnErr result (AtEach self.old (λ low h. KeepsTables low self.new h)) }
+    {
+        put_ask(&mut self.asks, asked.view, asked.ask, asked.to)
+    }
+
+    /// Whether this was asked before, of a view that isn't final.
+    pub fn was_asked(&self, asked: &Asked) -> bool
+        ensures { AtEach self.now (λ low h. IsTrue result ↔ ((low < asked.now.view) × Contains (asks_of h) asked.now)) }
+    {
+        self.asks.contains(asked)
+    }
+
+    /// Forgets the asks and the requests for verdicts up to a view, which is final now: none of them is held any more.
+    pub fn forget(&mut self, last: View)
+        ensures { AtEach self.old (λ low h. low ≤ last → KeepsTables last self.new h) }
+    {
+        forget_views(&mut self.verdicts, last);
+        forget_asks(&mut self.asks, last);
+    }
+}
+
+/// Puts the view in.
+fn put_view(views: &mut BTreeSet<View>, view: View) -> Result<(), AllocError>
+    ensures one_more { OnOk result ((u : ℕ) → IsTrue (contains nat_cmp views.new u) ↔ (IsTrue (contains nat_cmp views.old u) ⊎ (view ≡ u))) }
+    ensures memory { OnErr result ((u : ℕ) → contains nat_cmp views.new u ≡ contains nat_cmp views.old u) }
+{
+    views.insert(view)?;
+    Ok(())
+}
+
+/// Puts an ask in: whether it is new.
+fn put_ask(
+    asks: &mut BTreeSet<Asked>,
+    view: View,
+    ask: Ask,
+    to: Option<Participant>,
+) -> Result<bool, AllocError>
+    ensures is_new { IfOk result (λ is_new. IsTrue is_new ↔ ¬ IsTrue (contains asked_cmp asks.old (record { view = view; ask = ask; to = to }))) }
+    ensures one_more { OnOk result ((a : Asked) → IsTrue (contains asked_cmp asks.new a) ↔ (IsTrue (contains asked_cmp asks.old a) ⊎ (record { view = view; ask = ask; to = to } ≡ a))) }
+    ensures known { IfOk result (λ is_new. is_new ≡ false → (a : Asked) → contains asked_cmp asks.new a ≡ contains asked_cmp asks.old a) }
+    ensures memory { OnErr result ((a : Asked) → contains asked_cmp asks.new a ≡ contains asked_cmp asks.old a) }
+{
+    Ok(asks.insert(Asked { view, ask, to })?)
+}
+
+/// Takes the views up to this one out.
+fn forget_views(views: &mut BTreeSet<View>, last: View)
+    ensures gone { (u : ℕ) → u ≤ last → ¬ IsTrue (contains nat_cmp views.new u) }
+    ensures kept { (u : ℕ) → last < u → contains nat_cmp views.new u ≡ contains nat_cmp views.old u }
+{
+    while let Some(&first) = views.first() {
+        if last < first {
+            return;
+        }
+        views.remove(&first);
+    }
+}
+
+/// Takes the asks of views up to this one out.
+fn forget_asks(asks: &mut BTreeSet<Asked>, last: View)
+    ensures gone { (a : Asked) → a.view ≤ last → ¬ IsTrue (contains asked_cmp asks.new a) }
+    ensures kept { (a : Asked) → last < a.view → contains asked_cmp asks.new a ≡ contains asked_cmp asks.old a }
+{
+    while let Some(&first) = asks.first() {
+        if last < first.view {
+            return;
+        }
+        asks.remove(&first);
+    }
+}

@@ -1,0 +1,3 @@
+mod Testing
+mod Whole
+mod Stepped

@@ -1,0 +1,32 @@
+use Rattle.std.proofs.Common.{◌≡◌, ◌+◌, ◌<◌, ◌^◌, ℕ, inl, inr, refl, sym, subst, None, Some, arith}
+use Rattle.voter_rules.specs.declared.config.ConfigFault.{ConfigFault}
+use Rattle.voter_rules.specs.Configuring as config
+use Rattle.simplex_member.specs.declared.fault.OpenFault.TheVariants as open_fault
+use Rattle.simplex_member.specs.Setup.{longest_timeout, setup_of}
+use Rattle.node_steps.proofs.Testing.{behind-config, config-first, long-enough, too-long}
+use Rattle.node_steps.proofs.opening.member_of.Goals as goal
+
+pub returns-in-Err-clause-fault : goal.returns-in-Err-clause-fault
+returns-in-Err-clause-fault g c =
+    let s = setup_of g.S.Scheme g.L.Elector c.args.config.now c.args.scheme.now c.args.elector.now 0 in
+    config-first g.S.Scheme s c.args.config.now c.args.now (λ none. let own = c.in-Some.ensures.own in cc) c.in-Err.fault
+    (subst (λ (m : ℕ). config.IsFirst c.args.config.now m c.in-Err.fault) c.participants.ensures.value c.in-Err.ensures.first)
+
+pub returns-then-longest_timeout-now-clause-fault : goal.returns-then-longest_timeout-now-clause-fault
+returns-then-longest_timeout-now-clause-fault g c =
+    let s = setup_of g.S.Scheme g.L.Elector c.args.config.now c.args.scheme.now c.args.elector.now 0 in
+    let long : c.longest_timeout.result ≡ longest_timeout s = rw c.terms.ensures at c.longest_timeout.ensures in
+    behind-config g.S.Scheme s c.args.config.now c.args.now (λ none. let own = c.in-Some.ensures.own in cc)
+    (subst (λ (m : ℕ). (x : ConfigFault) → config.Applies c.args.config.now m x → ⊥) c.participants.ensures.value c.in-Ok.ensures.good)
+    (Some open_fault.MomentTooLate)
+    (inl (λ fits. too-long c.args.now c.longest_timeout.result c.if-longest_timeout-now.true (subst (λ (m : ℕ). c.args.now + m < 2 ^ 64) (sym long) fits), refl))
+
+pub returns-clause-good : goal.returns-clause-good
+returns-clause-good g c =
+    let s = setup_of g.S.Scheme g.L.Elector c.args.config.now c.args.scheme.now c.args.elector.now 0 in
+    let long : c.longest_timeout.result ≡ longest_timeout s = rw c.terms.ensures at c.longest_timeout.ensures in
+    let some : c.args.now < 2 ^ 64 = omega arith in
+    behind-config g.S.Scheme s c.args.config.now c.args.now (λ none. let own = c.in-Some.ensures.own in cc)
+    (subst (λ (m : ℕ). (x : ConfigFault) → config.Applies c.args.config.now m x → ⊥) c.participants.ensures.value c.in-Ok.ensures.good)
+    None
+    (inr (λ late. late (subst (λ (m : ℕ). c.args.now + m < 2 ^ 64) long (long-enough c.args.now c.longest_timeout.result some c.if-longest_timeout-now.false)), refl))

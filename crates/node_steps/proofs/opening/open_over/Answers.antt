@@ -1,0 +1,10 @@
+use Rattle.simplex_member.specs.Packet.{formats}
+use Rattle.simplex_member.specs.Setup.{owner_of, setup_of}
+use Rattle.node_steps.proofs.Whole.{is-open}
+use Rattle.node_steps.proofs.opening.open_over.Goals as goal
+
+pub returns-in-Ok-clause-opened : goal.returns-in-Ok-clause-opened
+returns-in-Ok-clause-opened g c = λ on n index set_up in_time over.
+    let s = setup_of g.S.Scheme g.L.Elector c.args.config.now c.args.settings.scheme.value c.args.elector index in
+    is-open g.S.Scheme g.L.Elector g.K.Disk (formats {S = g.row.S.Denot} {P = g.row.S-PublicKey.Denot} g.D.PartialEq.eq g.D.Write.spelling g.S.Signature.Write.spelling g.S.Certificate.Write.spelling g.D.Read.reading g.S.Signature.Read.reading g.S.Certificate.Read.reading n) s _ on c.args.now c.args.settings c.in-Ok.layers c.args.ledger c.node_of.result over.found c.in-Ok.actions.items c.node_of.ensures set_up
+    (c.in-Ok.ensures n index over.found set_up in_time (record { holds = c.recorded.ensures (owner_of s) over.found over.keeps; lawful = over.lawful })) over.are_found over.keeps

@@ -1,0 +1,33 @@
+-- At which history a node stands.
+use Rattle.std.specs.Prelude.{◌≡◌, ℕ, Bool, false}
+use Rattle.types_core.specs.declared.scheme.Scheme.{Ghosts}
+use Rattle.types_terms.specs.declared.elector.Elector as elector
+use Rattle.journal_single.specs.declared.disk.Disk as disk
+use Rattle.simplex_member.specs.Packet.{Formats}
+use Rattle.simplex_member.specs.Point.{History}
+use Rattle.simplex_member.specs.Setup.{Setup}
+use Rattle.node_core.specs.Keeps as cores
+use Rattle.node_core.specs.Keeps.{CoreKeeps}
+use Rattle.node_steps.specs.declared.node.Node.{Node}
+
+-- the disk that a node stands on
+abbrev pub disk_of : {S L D K P G C : Type 0} → Node S L D K P G C → K
+disk_of node = cores.disk_of node.core
+
+-- a step of the node has failed
+abbrev pub has_failed : {S L D K P G C : Type 0} → Node S L D K P G C → Bool
+has_failed node = node.failed
+
+module _ {S L D P G C K : Type 0} (g : Ghosts S D P G C) (e : elector.Ghosts L S D P G C) (k : disk.Ghosts K) where
+  -- the node stands where this history leads: no step has failed, and all that it holds stands there
+  pub record NodeKeeps (f : Formats S D P G C) (s : Setup S D C) (node : Node S L D K P G C) (h : History S D P G C) : Type 0 where
+    pub running : node.failed ≡ false
+    pub core : CoreKeeps g e k f s node.core h
+
+  -- what holds of each history that leads here, however values are compared and spelled
+  abbrev pub AtAll : Node S L D K P G C → (Formats S D P G C → Setup S D C → History S D P G C → Type 0) → Type 0
+  AtAll node Holds = (f : Formats S D P G C) (s : Setup S D C) (h : History S D P G C) → NodeKeeps f s node h → Holds f s h
+
+  -- what holds of each history that leads here, where values are compared, spelled and read as in a committee of its size
+  abbrev pub AtOwn : (ℕ → Formats S D P G C) → Node S L D K P G C → (Formats S D P G C → Setup S D C → History S D P G C → Type 0) → Type 0
+  AtOwn formats node Holds = (s : Setup S D C) (h : History S D P G C) → NodeKeeps (formats (g.size s.voter.scheme)) s node h → Holds (formats (g.size s.voter.scheme)) s h

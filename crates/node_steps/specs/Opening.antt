@@ -1,0 +1,65 @@
+-- How a record is opened: what is wrong with the arguments, and what comes of it.
+use Rattle.std.specs.Prelude.{◌≡◌, ◌⊎◌, ◌++◌, ℕ, List, [], ◌∷◌, map, Option, Some, None}
+use Rattle.types_core.specs.declared.scheme.Scheme.{Ghosts}
+use Rattle.messages_certificates.specs.declared.artifact.Artifact.{Artifact}
+use Rattle.types_terms.specs.declared.elector.Elector as elector
+use Rattle.voter_rules.specs.declared.config.Config.{Config}
+use Rattle.voter_rules.specs.declared.config.ConfigFault.TheVariants as fault
+use Rattle.voter_rules.specs.Configuring.{Applies}
+use Rattle.journal_single.specs.declared.disk.Disk as disk
+use Rattle.journal_single.specs.Record.{IsReopened}
+use Rattle.node_record.specs.Ledger.{AreFoundOn}
+use Rattle.simplex_member.specs.declared.action.Action.{Action}
+use Rattle.simplex_member.specs.declared.fault.OpenFault.{OpenFault}
+use Rattle.simplex_member.specs.declared.fault.OpenFault.TheVariants as open_fault
+use Rattle.simplex_member.specs.Member as whole
+use Rattle.simplex_member.specs.Member.{IsOpened}
+use Rattle.simplex_member.specs.Packet.{Formats}
+use Rattle.simplex_member.specs.Point.{History}
+use Rattle.simplex_member.specs.Setup.{Setup, IsInTime}
+use Rattle.node_core.specs.GoingThrough.{Opens}
+use Rattle.node_steps.specs.declared.node.Node.{Node}
+use Rattle.node_steps.specs.Keeps.{NodeKeeps}
+
+-- a fault is told by the arguments alone
+abbrev pub early : OpenFault → Option OpenFault
+early open_fault.NoKey = Some open_fault.NoKey
+early (open_fault.Config x) = Some (open_fault.Config x)
+early open_fault.MomentTooLate = Some open_fault.MomentTooLate
+early x = None
+
+-- what may be left of a disk by a crash while its record is opened: it reads as what one before it might have left
+abbrev pub MayBeLeft : {K : Type 0} → disk.Ghosts K → K → List ℕ → Type 0
+MayBeLeft k on image = IsReopened (k.calls on) image
+
+module _ {S D P G C : Type 0} (g : Ghosts S D P G C) (s : Setup S D C) where
+  -- the tests of an opening by its arguments, in order
+  abbrev pub open_tests : Config D → ℕ → List (OpenFault × Type 0)
+  open_tests config now =
+      (open_fault.NoKey, g.own s.voter.scheme ≡ None)
+      ∷ map (λ x. (open_fault.Config x, Applies config (g.size s.voter.scheme) x))
+      (fault.NoParticipants ∷ fault.LeaderTimeoutZero ∷ fault.CertificationNotAboveLeader ∷ fault.SkipNotAboveCertification ∷ fault.SkipNotAboveRetry
+      ∷ fault.RetryZero ∷ fault.RetentionZero ∷ fault.TooManyParticipants ∷ [])
+      ++ (open_fault.MomentTooLate, IsInTime s now → ⊥) ∷ []
+
+module _ {S L D P G C K : Type 0} (g : Ghosts S D P G C) (e : elector.Ghosts L S D P G C) (k : disk.Ghosts K) (f : Formats S D P G C) (s : Setup S D C) where
+  -- the node was opened on what was found on a disk, all that was due then was done, and these actions are out
+  pub record IsOpenAndSettled (Readable : Artifact S D P G C → Type 0) (on : K) (now : ℕ) (node : Node S L D K P G C) (actions : List (Action S D P G C)) : Type 0 where
+    pub found : List (Artifact S D P G C)
+    pub are_found : AreFoundOn k f.artifact Readable on found
+    pub end : History S D P G C
+    pub opens : whole.Opens g f s now found actions end
+    pub keeps : NodeKeeps g e k f s node end
+
+  -- what may be left by a crash while a record is opened: what one before it might have left, or what acts behind the reading leave
+  abbrev pub MayBeLeftOpen : (Artifact S D P G C → Type 0) → K → ℕ → List ℕ → Type 0
+  MayBeLeftOpen Readable on now image = MayBeLeft k on image
+      ⊎ ((found : List (Artifact S D P G C)) × AreFoundOn k f.artifact Readable on found × IsOpened g f s now found image)
+
+  -- the node was opened on what was found on a disk, and these actions are out
+  pub record IsOpen (Readable : Artifact S D P G C → Type 0) (on : K) (now : ℕ) (node : Node S L D K P G C) (actions : List (Action S D P G C)) : Type 0 where
+    pub found : List (Artifact S D P G C)
+    pub are_found : AreFoundOn k f.artifact Readable on found
+    pub end : History S D P G C
+    pub opens : Opens g f s now found actions end
+    pub keeps : NodeKeeps g e k f s node end

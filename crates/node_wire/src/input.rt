@@ -1,0 +1,204 @@
+//! The events of an input, one by one.
+
+ghost use Rattle.std.specs.Prelude.{◌≡◌, ◌≢◌, ◌↔◌, ◌⊎◌, ◌<◌, ◌≤◌, ◌^◌, [], ◌++◌, drop, length, take, Err, Some, IfErr, IfNone, IfOk, IfSome, IsTrue, OnErr};
+ghost use Rattle.std.specs.Io.KnownBytes.{Consumes, IsAtEnd, Keeps};
+ghost use Rattle.types_codec.specs.declared.codec.CodecError.TheVariants.{End, Memory as NoMemory};
+ghost use Rattle.simplex_member.specs.declared.fault.IoFault.TheVariants.{BadEvent, Memory, Read};
+ghost use Rattle.node_wire.specs.Event.{IsEvent, event_at, event_spelling, event_value};
+ghost use Rattle.node_wire.specs.Stream.{HasNone, IsBarred, IsFault, IsTaken, left_of};
+
+use crate::event::read_event;
+use simplex_member::{Event, IoFault};
+use std::alloc::Global;
+use std::io;
+use std::io::Read;
+use std::marker::Model;
+use types_codec::CodecError;
+use types_core::Digest;
+
+/// The most bytes that one read gives.
+const PIECE: usize = 65_536;
+
+/// The reads after which an input that goes on with no event is given up.
+const MOST_READS: u64 = 4_294_967_296;
+
+/// The events after which an input is given up.
+const MOST_EVENTS: u64 = 4_294_967_296;
+
+/// What was read of an input and is not yet taken: no more than the bytes of one event, and a piece.
+#[derive(Drop)]
+pub struct EventInput {
+    bytes: Vec<u8>,
+    start: usize,
+    place: u64,
+    taken: u64,
+}
+
+impl Model for EventInput {
+    ghost use Rattle.std.specs.Prelude.{◌≤◌, ◌^◌, drop, vec_len};
+    ghost use Rattle.node_wire.specs.Stream.{InputState};
+
+    ghost Value = { InputState };
+
+    ghost view = { λ i. record { held = drop i.start i.bytes.items; place = i.place; taken = i.taken } };
+
+    ghost invariant = { λ i. (i.start ≤ vec_len i.bytes) × (i.taken ≤ 2 ^ 32) };
+}
+
+/// One read, which is tried again where it is interrupted.
+fn read_piece<R: Read>(reader: &mut R, piece: &mut [u8]) -> Result<usize, IoFault>
+    requires { 0 < length piece.old }
+    ensures bound { IfOk result (λ count. count ≤ length piece.new) }
+    ensures bytes { IfOk result (λ count. Consumes (R.remaining reader.old) (R.remaining reader.new) (take count piece.new)) }
+    ensures end { IfOk result (λ count. count ≡ 0 → IsAtEnd (R.remaining reader.new)) }
+    ensures fault { IfErr result (λ fault. fault ≡ Read) }
+    ensures kept { OnErr result (Keeps (R.remaining reader.old) (R.remaining reader.new)) }
+{
+    for _ in 0..MOST_READS {
+        match reader.read(piece) {
+            Ok(count) => return Ok(count),
+            Err(error) if error.kind() == io::ErrorKind::Interrupted => {}
+            Err(_) => return Err(IoFault::Read),
+        }
+    }
+    Err(IoFault::Read)
+}
+
+/// The event at the front, and how many bytes it has.
+fn front_event<D: Digest>(
+    alloc: Global,
+    bytes: &[u8],
+    bound: u32,
+) -> Result<(Event<D>, usize), CodecError>
+    ensures event { IfOk result (λ x. IsEvent D.fits (event_value x.0)) }
+    ensures whole { IfOk result (λ x. bytes.now ≡ event_spelling D.spelling (event_value x.0) ++ drop x.1 bytes.now) }
+    ensures size { IfOk result (λ x. x.1 ≡ length (event_spelling D.spelling (event_value x.0))) }
+    ensures within { IfOk result (λ x. x.1 ≤ length bytes.now) }
+    ensures refused { IfErr result (λ e. e ≢ NoMemory → event_at (D.reading bound) bytes.now ≡ Err e) }
+{
+    let mut rest = bytes;
+    let event = read_event(alloc, &mut rest, bound)?;
+    Ok((event, bytes.len() - rest.len()))
+}
+
+impl EventInput {
+    /// Nothing is read yet.
+    pub fn new(alloc: Global) -> Self
+        ensures { result ≡ record { held = []; place = 0; taken = 0 } }
+    {
+        EventInput {
+            bytes: Vec::new(alloc),
+            start: 0,
+            place: 0,
+            taken: 0,
+        }
+    }
+
+    /// Lets go of the bytes that were taken.
+    fn compact(&mut self)
+        ensures { self.new ≡ self.old }
+    {
+        if self.start == 0 {
+            return;
+        }
+        let left = self.bytes.len() - self.start;
+        self.bytes.copy_within(self.start.., 0);
+        self.bytes.truncate(left);
+        self.start = 0;
+    }
+
+    /// Reads more behind what is held: whether there was more.
+    fn fill<R: Read>(&mut self, reader: &mut R) -> Result<bool, IoFault>
+        ensures kept { result ≢ Err Memory → Keeps (left_of self.old (R.remaining reader.old)) (left_of self.new (R.remaining reader.new)) }
+        ensures place { self.new.place ≡ self.old.place }
+        ensures taken { self.new.taken ≡ self.old.taken }
+        ensures end { IfOk result (λ more. IsTrue more ⊎ ((self.new.held ≡ self.old.held) × IsAtEnd (R.remaining reader.new))) }
+        ensures fault { IfErr result (λ fault. (fault ≡ Read) ⊎ (fault ≡ Memory)) }
+    {
+        self.compact();
+        let mut piece = [0; PIECE];
+        let count = read_piece(reader, &mut piece)?;
+        if count == 0 {
+            return Ok(false);
+        }
+        if self.bytes.extend_from_slice(&piece[..count]).is_err() {
+            return Err(IoFault::Memory);
+        }
+        Ok(true)
+    }
+
+    /// Takes the event at the front of what is held, if it is there as a whole.
+    fn take<D: Digest>(&mut self, alloc: Global, bound: u32) -> Result<Option<Event<D>>, IoFault>
+        requires { self.old.taken < 2 ^ 32 }
+        ensures event { IfOk result (λ found. IfSome found (λ e. IsTaken D.fits D.spelling (event_value e) self.old (Some self.old.held) self.new (Some self.new.held))) }
+        ensures cut { IfOk result (λ found. IfNone found (event_at (D.reading bound) self.old.held ≡ Err End)) }
+        ensures same { IfOk result (λ found. IfNone found (self.new ≡ self.old)) }
+        ensures err { OnErr result (self.new ≡ self.old) }
+        ensures fault { IfErr result (IsFault self.old.place (IsBarred (event_at (D.reading bound) self.old.held))) }
+    {
+        match front_event(alloc, &self.bytes[self.start..], bound) {
+            Ok((event, size)) => {
+                let Some(place) = self.place.checked_add(size as u64) else {
+                    return Err(IoFault::Read);
+                };
+                self.place = place;
+                self.start += size;
+                self.taken += 1;
+                Ok(Some(event))
+            }
+            Err(CodecError::End) => Ok(None),
+            Err(CodecError::Memory) => Err(IoFault::Memory),
+            Err(CodecError::Invalid) => Err(IoFault::BadEvent(self.place)),
+            Err(CodecError::TooLong) => Err(IoFault::BadEvent(self.place)),
+        }
+    }
+
+    /// Whether all that was read is taken.
+    #[tactic(auto, using(crate::proofs::Taking::none_held, crate::proofs::Taking::all_are_taken))]
+    fn is_clear(&self) -> bool
+        ensures { IsTrue result ↔ (self.now.held ≡ []) }
+    {
+        self.start == self.bytes.len()
+    }
+
+    /// Takes the next event of the input, or none at its end.
+    ///
+    /// # Errors
+    ///
+    /// [`IoFault::BadEvent`] where no event begins, or the input ends within it; [`IoFault::Read`] where a read failed, and
+    /// from 2^32 events or 2^64 bytes on; [`IoFault::Memory`], after which it isn't said what is left. After another nothing
+    /// is lost.
+    #[tactic(auto, using(crate::proofs::Taking::taken_over, crate::proofs::Taking::fault_over, crate::proofs::Taking::barred_left, crate::proofs::Taking::cut_left))]
+    pub fn next_event<R: Read, D: Digest>(
+        &mut self,
+        alloc: Global,
+        reader: &mut R,
+        bound: u32,
+    ) -> Result<Option<Event<D>>, IoFault>
+        ensures event { IfOk result (λ found. IfSome found (λ e. IsTaken D.fits D.spelling (event_value e) self.old (left_of self.old (R.remaining reader.old)) self.new (left_of self.new (R.remaining reader.new)))) }
+        ensures end { IfOk result (λ found. IfNone found (IsAtEnd (left_of self.old (R.remaining reader.old)))) }
+        ensures kept { IfErr result (λ fault. fault ≢ Memory → Keeps (left_of self.old (R.remaining reader.old)) (left_of self.new (R.remaining reader.new))) }
+        ensures place { OnErr result (self.new.place ≡ self.old.place) }
+        ensures taken { OnErr result (self.new.taken ≡ self.old.taken) }
+        ensures fault { IfErr result (IsFault self.old.place (IfSome (left_of self.old (R.remaining reader.old)) (HasNone (D.reading bound)))) }
+        ensures limit { self.old.taken ≡ 2 ^ 32 → result ≡ Err Read }
+    {
+        if self.taken >= MOST_EVENTS {
+            return Err(IoFault::Read);
+        }
+        for _ in 0..MOST_READS {
+            match self.take(alloc, bound) {
+                Ok(Some(event)) => return Ok(Some(event)),
+                Ok(None) => {}
+                Err(fault) => return Err(fault),
+            }
+            if !self.fill(reader)? {
+                if self.is_clear() {
+                    return Ok(None);
+                }
+                return Err(IoFault::BadEvent(self.place));
+            }
+        }
+        Err(IoFault::Read)
+    }
+}

@@ -1,0 +1,92 @@
+//! The node that scripts are played on.
+
+ghost use Rattle.std.specs.Prelude.{◌≡◌, IfOk};
+
+use journal_single::Disk;
+use node_steps::Node;
+use simplex_member::{Action, Event, IoFault, NodeFault, OpenFault, Reply};
+use simplex_node::run_io;
+use std::alloc::Global;
+use std::io::{Read, Write};
+use std::rc::Rc;
+use test_node::{Medium, Member, Seat, Setup, Turns, play_on};
+use test_words::Committee;
+use types_core::{Digest, Scheme, Sha256Digest, View};
+use voter_rules::config::Config;
+
+/// A node of the product, whatever its scheme, whoever leads, and on whatever disk: at one of each the calls would cost the prover
+/// several times as much.
+#[derive(Drop)]
+struct NodeSeat;
+
+impl<S: Scheme<D> + Drop, L: Turns<S, D>, D: Digest, K: Disk> Seat<
+    Config<D>,
+    S,
+    K,
+    Node<S, L, D, K>,
+    Event<D>,
+    Action<S, D>,
+    Reply<S, D>,
+> for NodeSeat {
+    fn open(
+        alloc: Global,
+        setup: &Setup,
+        config: Config<D>,
+        scheme: Rc<S>,
+        disk: K,
+        now: u64,
+    ) -> Result<(Node<S, L, D, K>, Vec<Action<S, D>>), (OpenFault, K)> {
+        match L::among(alloc, setup, scheme.participants()) {
+            Ok(elector) => Node::open(alloc, config, scheme, elector, disk, now),
+            Err(_) => Err((OpenFault::Memory, disk)),
+        }
+    }
+
+    fn step(node: &mut Node<S, L, D, K>, event: Event<D>) -> Result<Reply<S, D>, NodeFault> {
+        node.step(event)
+    }
+
+    fn run(
+        alloc: Global,
+        node: &mut Node<S, L, D, K>,
+        events: &[u8],
+        replies: &mut Vec<u8>,
+    ) -> Result<(), IoFault> {
+        let mut reader = events;
+        run_io(alloc, node, &mut reader, replies)
+    }
+
+    fn current_view(node: &Node<S, L, D, K>) -> View {
+        node.current_view()
+    }
+
+    fn last_finalized(node: &Node<S, L, D, K>) -> View {
+        node.last_finalized()
+    }
+
+    fn is_failed(node: &Node<S, L, D, K>) -> bool {
+        node.is_failed()
+    }
+
+    fn close(node: Node<S, L, D, K>) -> K {
+        node.close()
+    }
+}
+
+/// A member of the scripts, played by a node of the product.
+type Played<S, L, K> = Member<S, K, Node<S, L, Sha256Digest, K>, NodeSeat>;
+
+/// Plays a script on nodes over disks `K`, and gives the status to end with: a member's scheme is `S` where it is called `plain`, and
+/// `L` says who leads; where it is called `salted` these are `Z` and `M`.
+pub(crate) fn play_nodes<S, Z, L, M, K, R, W>(alloc: Global, input: R, output: &mut W) -> u8
+where
+    S: Committee,
+    Z: Committee,
+    L: Turns<S, Sha256Digest>,
+    M: Turns<Z, Sha256Digest>,
+    K: Medium,
+    R: Read + Drop,
+    W: Write,
+{
+    play_on::<Played<S, L, K>, Played<Z, M, K>, R, W>(alloc, input, output)
+}

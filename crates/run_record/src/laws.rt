@@ -1,0 +1,24 @@
+//! The laws of records, which hold at the plain scheme as at any.
+
+use simplex_record::{
+    a_lawful_record_grows, agreement, chain, ever_lawful_members_vote_lawfully,
+    no_own_vote_stands_in_the_way, records_stand_on_ground, verdicts_follow_their_notarizations,
+    whole_records_are_ever_lawful,
+};
+use simplex_types::PlainScheme;
+use test_words::{Say, Trouble, Words};
+use types_core::Sha256Digest;
+
+/// `laws`: they are calls without arguments that do nothing.
+pub(crate) fn answer(words: &Words<'_>, say: &mut Say) -> Result<(), Trouble> {
+    words.end()?;
+    agreement::<PlainScheme, Sha256Digest>();
+    chain::<PlainScheme, Sha256Digest>();
+    records_stand_on_ground::<Sha256Digest>();
+    whole_records_are_ever_lawful::<PlainScheme, Sha256Digest>();
+    ever_lawful_members_vote_lawfully::<PlainScheme, Sha256Digest>();
+    verdicts_follow_their_notarizations::<PlainScheme, Sha256Digest>();
+    a_lawful_record_grows::<PlainScheme, Sha256Digest>();
+    no_own_vote_stands_in_the_way::<Sha256Digest>();
+    say.ok()
+}

@@ -1,8 +1,0 @@
-use Rattle.simplex_acceptance.proofs.Firsts.{first-certified, first-foreign}
-use Rattle.simplex_acceptance.proofs.rounds.Rounds.certify_first.Goals as goal
-
-pub returns-in-Err-clause-refused : goal.returns-in-Err-clause-refused
-returns-in-Err-clause-refused g c = first-foreign g.S.Scheme g.D.PartialEq.eq c.args.self.now c.args.current c.view-view.result c.in_ok-round.round c.in_ok-round.ensures c.args.certificate.now c.view-view.ensures c.in-Err.fault c.in-Err.ensures.refused
-
-pub returns-in_ok-seat-in-Ok-clause-certified : goal.returns-in_ok-seat-in-Ok-clause-certified
-returns-in_ok-seat-in-Ok-clause-certified g c = λ s up happened k none touched. first-certified g.S.Scheme g.D.PartialEq.eq c.args.self.now c.seat.new.self c.args.current c.view-view.result c.in_ok-round.round c.record_certificate.new.self c.in_ok-round.ensures c.in_ok-seat-in-Ok.ensures.seated c.args.certificate.now c.view-view.ensures c.in-Ok.ensures.ok s up happened k none touched

@@ -1,7 +1,0 @@
-use Rattle.std.proofs.Common.{refl, []}
-use Rattle.simplex_audit.specs.Tally.{KeepsNullifies}
-use Rattle.simplex_audit.proofs.Tallies.{Tallies-none}
-use Rattle.simplex_audit.proofs.nullifies.Nullifies.new.Goals as goal
-
-pub returns : goal.returns
-returns g c = λ scheme contested. rw c.new.ensures.items (record { counted = []; all_counted = refl; tallies = Tallies-none contested (KeepsNullifies (g.S.Scheme.attests scheme)) })

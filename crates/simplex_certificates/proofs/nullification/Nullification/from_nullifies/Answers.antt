@@ -1,5 +1,0 @@
-use Rattle.simplex_types.specs.Subject.{nullify}
-use Rattle.simplex_certificates.proofs.nullification.Nullification.from_nullifies.Goals as goal
-
-pub returns-clause-made : goal.returns-clause-made
-returns-clause-made g c = c.in_ok-round.ensures.made nullify

@@ -1,4 +1,0 @@
-use Rattle.simplex_cli.proofs.auditing.plain_audit.Goals as goal
-
-pub returns : goal.returns
-returns c = rw (c.in_ok-scheme.ensures.base, c.in_ok-scheme.ensures.count) at c.audit.ensures.exact

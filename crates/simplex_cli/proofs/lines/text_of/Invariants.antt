@@ -1,7 +1,0 @@
-use Rattle.std.proofs.Common.{◌≡◌, string_bytes, take}
-use Rattle.std.specs.List.{flat_map}
-use Rattle.simplex_cli.specs.Lines.{evidence_line}
-use Rattle.simplex_cli.proofs.lines.text_of.Given as goal
-
-abbrev pub invariant-loop-evidence : goal.invariant-loop-evidence
-invariant-loop-evidence l = string_bytes l.text ≡ flat_map evidence_line (take l.evidence-index l.evidence-items)

@@ -1,5 +1,0 @@
-use Rattle.simplex_decisions.proofs.Alone.{one_is_found, one_is_decided}
-use Rattle.simplex_decisions.proofs.laws.one_request_is_due.Goals as goal
-
-pub returns : goal.returns
-returns g c = record { verify = one_is_found; certify = one_is_decided }

@@ -1,7 +1,0 @@
-use Rattle.simplex_decisions.proofs.requests.verdict_for.Goals as goal
-
-pub returns-in-Some : goal.returns-in-Some
-returns-in-Some g c = λ m k shown. c.verdict_over.ensures m k shown (c.in-Some.ensures m k shown)
-
-pub returns-in-None : goal.returns-in-None
-returns-in-None g c = λ m k shown p opens. absurd (c.in-None.ensures m k shown p opens)

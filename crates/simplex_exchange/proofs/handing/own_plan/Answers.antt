@@ -1,8 +1,0 @@
-use Rattle.std.proofs.Common.{refl}
-use Rattle.simplex_exchange.proofs.handing.own_plan.Goals as goal
-
-pub returns-then-handoff : goal.returns-then-handoff
-returns-then-handoff c = rw c.if-handoff.true refl
-
-pub returns : goal.returns
-returns c = rw c.if-handoff.false refl

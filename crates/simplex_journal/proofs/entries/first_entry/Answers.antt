@@ -1,6 +1,0 @@
-use Rattle.std.proofs.Common.{arith}
-use Rattle.simplex_journal.specs.Finding.{entry_here}
-use Rattle.simplex_journal.proofs.entries.first_entry.Goals as goal
-
-pub returns-clause-some : goal.returns-clause-some
-returns-clause-some c = entry_here c.args.bytes.now _ (c.is_open.ensures.0 c.if-not-is_open.false) (omega arith) (omega (arith, c.if-size-bytes.false, c.if-bytes-lt6.false))

@@ -1,5 +1,0 @@
-use Rattle.simplex_laws.proofs.Placed.{held_lies_in_its_view}
-use Rattle.simplex_laws.proofs.laws.held_lies_in_its_view.Goals as goal
-
-pub returns : goal.returns
-returns g c = held_lies_in_its_view

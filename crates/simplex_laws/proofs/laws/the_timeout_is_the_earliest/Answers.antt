@@ -1,5 +1,0 @@
-use Rattle.simplex_laws.proofs.Timeouts.{current_has_timeout, polled_once_is_polled, timeout_is_earliest}
-use Rattle.simplex_laws.proofs.laws.the_timeout_is_the_earliest.Goals as goal
-
-pub returns : goal.returns
-returns g c = record { there = current_has_timeout; earliest = timeout_is_earliest; once = polled_once_is_polled }

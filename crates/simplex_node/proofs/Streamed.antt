@@ -1,0 +1,68 @@
+-- What a node over streams comes to, by what its steps come to.
+use Rattle.std.proofs.Common.{◌≡◌, ◌≢◌, ◌∙◌, ℕ, List, Option, true, false, sym, ap}
+use Rattle.std.specs.Prelude.{Result, Ok, Err}
+use Rattle.types_codec.specs.declared.codec.CodecError.{CodecError}
+use Rattle.types_core.specs.declared.scheme.Scheme.{Ghosts}
+use Rattle.types_terms.specs.declared.elector.Elector as elector
+use Rattle.journal_single.specs.declared.disk.Disk as disk
+use Rattle.journal_single.specs.Disk.{counted}
+use Rattle.simplex_member.specs.declared.action.Reply.{Reply}
+use Rattle.simplex_member.specs.declared.fault.IoFault.{IoFault}
+use Rattle.simplex_member.specs.declared.fault.IoFault.TheVariants as fault
+use Rattle.simplex_member.specs.declared.fault.NodeFault.{NodeFault}
+use Rattle.simplex_member.specs.declared.fault.NodeFault.TheVariants.{Device}
+use Rattle.simplex_member.specs.Packet.{Formats}
+use Rattle.simplex_member.specs.Point.{History}
+use Rattle.simplex_member.specs.Setup.{Setup}
+use Rattle.node_steps.specs.declared.node.Node.{Node}
+use Rattle.node_steps.specs.Keeps.{NodeKeeps, disk_of, has_failed}
+use Rattle.node_streams.specs.Over.{ends_as, ends_by, ends_over}
+use Rattle.node_streams.specs.Stepping.{Answer, AnswerBefore}
+use Rattle.node_streams.specs.Streaming.{EndsIn}
+use Rattle.simplex_node.specs.Running.{IsPassed, LeavesAtMost, LeavesPassed, RunFails, RunsTo}
+use Rattle.simplex_node.specs.Stepping.{IsStep}
+use Rattle.simplex_node.proofs.Stepped.{failed_stays, failed_stays_too, leaves, leaves_too, no_fault, one_fault, runs, runs_fail, same_faults}
+
+-- the reason that is told of a step
+abbrev told : {A : Type 0} → NodeFault → Result A IoFault → NodeFault
+told other (Ok x) = other
+told other (Err fault.Read) = other
+told other (Err fault.Write) = other
+told other (Err (fault.BadEvent place)) = other
+told other (Err (fault.Node why)) = why
+told other (Err fault.Memory) = other
+
+module _ {S L D P G C K A : Type 0} (g : Ghosts S D P G C) (e : elector.Ghosts L S D P G C) (k : disk.Ghosts K) (formats : ℕ → Formats S D P G C) (F : D → Type 0) (p : D → List ℕ) (w : Reply S D P G C → List ℕ)
+    (q : List ℕ → Result (D × List ℕ) CodecError) (old new : Node S L D K P G C) (r : Result A IoFault) (given text more : Option (List ℕ))
+    (ends : EndsIn F p w {A = A} q (Answer (IsStep g e k formats) old new) (AnswerBefore (IsStep g e k formats) old new) r given text more) where
+  pub io_failed : (why : NodeFault) → r ≡ Err (fault.Node why) → has_failed new ≡ true
+  io_failed why is =
+      ends_by F p w q (Answer (IsStep g e k formats) old new) (AnswerBefore (IsStep g e k formats) old new) r given text more
+      (λ events replies a not. absurd (not why is)) (λ events replies event y same a. a.failed.failed) ends
+
+  pub io_still : has_failed old ≡ true → new ≡ old
+  io_still failed =
+      ends_by F p w q (Answer (IsStep g e k formats) old new) (AnswerBefore (IsStep g e k formats) old new) r given text more
+      (λ events replies a not. (failed_stays g e k formats old new events replies failed a).0) (λ events replies event y same a. (failed_stays_too g e k formats old new events replies event y failed a).0) ends
+
+  pub io_device : r ≡ Err (fault.Node Device) → k.failed (disk_of new) ≡ counted false (k.failed (disk_of old))
+  io_device is =
+      ends_by F p w q (Answer (IsStep g e k formats) old new) (AnswerBefore (IsStep g e k formats) old new) r given text more
+      (λ events replies a not. absurd (not Device is)) (λ events replies event y same a. one_fault g e k formats old new events replies event y a (ap (told Device) (sym same ∙ is))) ends
+
+  pub io_no_device : r ≢ Err (fault.Node Device) → k.failed (disk_of new) ≡ k.failed (disk_of old)
+  io_no_device other =
+      ends_by F p w q (Answer (IsStep g e k formats) old new) (AnswerBefore (IsStep g e k formats) old new) r given text more
+      (λ events replies a not. same_faults g e k formats old new events replies a) (λ events replies event y same a. no_fault g e k formats old new events replies event y a (λ is. other (same ∙ ap (λ (x : NodeFault). Err (fault.Node x)) is))) ends
+
+  module _ (s : Setup S D C) (h : History S D P G C) (keeps : NodeKeeps g e k (formats (g.size s.voter.scheme)) s old h) where
+    pub io_answers : EndsIn F p w {A = A} q (RunsTo g e k (formats (g.size s.voter.scheme)) s h new) (RunFails g e k (formats (g.size s.voter.scheme)) s h new) r given text more
+    io_answers =
+        ends_as F p w q (Answer (IsStep g e k formats) old new) (AnswerBefore (IsStep g e k formats) old new) (RunsTo g e k (formats (g.size s.voter.scheme)) s h new) (RunFails g e k (formats (g.size s.voter.scheme)) s h new)
+        (λ events replies a. runs g e k formats s events replies h old new keeps a) (λ events replies event why a. runs_fail g e k formats s events replies event why h old new keeps a) r given text more ends
+
+    pub io_leaves : k.keeps → LeavesPassed g (formats (g.size s.voter.scheme)) s F p h given (k.calls (disk_of old)) (k.calls (disk_of new))
+    io_leaves kept =
+        let (events, read, left) = ends_over F p w q (Answer (IsStep g e k formats) old new) (AnswerBefore (IsStep g e k formats) old new) (λ events. LeavesAtMost (k.calls (disk_of old)) (k.calls (disk_of new)) (IsPassed g (formats (g.size s.voter.scheme)) s h events)) r given text more
+        (λ events replies a. leaves g e k formats s events replies h old new keeps kept a) (λ events replies event why a. leaves_too g e k formats s events replies event why h old new keeps kept a) ends in
+        record { events = events; read = read; leaves = left }

@@ -1,0 +1,67 @@
+-- What a run of a node over events comes to, and what a crash meanwhile leaves.
+use Rattle.std.specs.Prelude.{◌≡◌, ◌≢◌, ◌⊎◌, ◌++◌, ℕ, false, true, List, ◌∷◌, Option, IfSome, Result, IfErr, OnOk}
+use Rattle.std.specs.Io.KnownBytes.{Appends}
+use Rattle.types_core.specs.declared.scheme.Scheme.{Ghosts}
+use Rattle.types_terms.specs.declared.elector.Elector as elector
+use Rattle.journal_single.specs.declared.disk.Disk as disk
+use Rattle.journal_single.specs.Disk.{Call, LeavesOnly, counted}
+use Rattle.simplex_member.specs.declared.action.Reply.{Reply}
+use Rattle.simplex_member.specs.declared.event.Event.{Event}
+use Rattle.simplex_member.specs.declared.fault.IoFault.{IoFault}
+use Rattle.simplex_member.specs.declared.fault.IoFault.TheVariants as fault
+use Rattle.simplex_member.specs.declared.fault.NodeFault.{NodeFault}
+use Rattle.simplex_member.specs.declared.fault.NodeFault.TheVariants.{Device, Failed}
+use Rattle.simplex_member.specs.Member.{IsReached, Run}
+use Rattle.simplex_member.specs.Packet.{Formats}
+use Rattle.simplex_member.specs.Point.{History}
+use Rattle.simplex_member.specs.Setup.{Setup}
+use Rattle.node_steps.specs.declared.node.Node.{Node}
+use Rattle.node_steps.specs.Keeps.{NodeKeeps, disk_of, has_failed}
+use Rattle.types_output.specs.Front.{AppendsFront}
+use Rattle.node_streams.specs.Streaming.{StandInFront}
+
+-- a disk was asked for nothing since, or a crash at any moment since leaves what has P
+abbrev pub LeavesAtMost : List Call → List Call → (List ℕ → Type 0) → Type 0
+LeavesAtMost old new P = (new ≡ old) ⊎ LeavesOnly old new P
+
+-- a reply was written whole, or, where memory ran out or a write failed, a front of it
+pub record IsWritten {S D P G C A : Type 0} (w : Reply S D P G C → List ℕ) (reply : Reply S D P G C) (ended : Result A IoFault) (old new : Option (List ℕ)) : Type 0 where
+  pub whole : OnOk ended (Appends old new (w reply))
+  pub front : AppendsFront old new (w reply)
+  pub faults : IfErr ended (λ why. (why ≡ fault.Memory) ⊎ (why ≡ fault.Write))
+
+module _ {S D P G C : Type 0} (g : Ghosts S D P G C) (f : Formats S D P G C) (s : Setup S D C) where
+  -- an image reads as what a run over these events may leave: what the step over one of them may leave, behind the steps over those before it
+  pub record IsPassed (h : History S D P G C) (events : List (Event D)) (image : List ℕ) : Type 0 where
+    pub before : List (Event D)
+    pub event : Event D
+    pub behind : List (Event D)
+    pub split : events ≡ before ++ event ∷ behind
+    pub replies : List (Reply S D P G C)
+    pub mid : History S D P G C
+    pub run : Run g f s h before replies mid
+    pub reached : IsReached g f s mid event image
+
+  -- a crash at any moment leaves what the step over one of some events may leave that stand at the input's front, as payloads are spelled
+  pub record LeavesPassed (F : D → Type 0) (p : D → List ℕ) (h : History S D P G C) (given : Option (List ℕ)) (old new : List Call) : Type 0 where
+    pub events : List (Event D)
+    pub read : IfSome given (StandInFront F p events)
+    pub leaves : LeavesAtMost old new (IsPassed h events)
+
+module _ {S L D P G C K : Type 0} (g : Ghosts S D P G C) (e : elector.Ghosts L S D P G C) (k : disk.Ghosts K) (f : Formats S D P G C) (s : Setup S D C) where
+  -- a run over these events comes to these replies, and the node stands where it led
+  pub record RunsTo (h : History S D P G C) (node : Node S L D K P G C) (events : List (Event D)) (replies : List (Reply S D P G C)) : Type 0 where
+    pub end : History S D P G C
+    pub run : Run g f s h events replies end
+    pub keeps : NodeKeeps g e k f s node end
+
+  -- a run over these events comes to these replies, a node stood where it led, and its step over the event behind them, the first that
+  -- failed, failed for this reason, and left the node
+  pub record RunFails (h : History S D P G C) (node : Node S L D K P G C) (events : List (Event D)) (replies : List (Reply S D P G C)) (event : Event D) (why : NodeFault) : Type 0 where
+    pub before : Node S L D K P G C
+    pub runs : RunsTo h before events replies
+    pub first : why ≢ Failed
+    pub failed : has_failed node ≡ true
+    pub device : why ≡ Device → k.failed (disk_of node) ≡ counted false (k.failed (disk_of before))
+    pub no_device : why ≢ Device → k.failed (disk_of node) ≡ k.failed (disk_of before)
+    pub any_moment : k.keeps → LeavesOnly (k.calls (disk_of before)) (k.calls (disk_of node)) (IsReached g f s runs.end event)

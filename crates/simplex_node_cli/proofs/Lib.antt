@@ -1,2 +1,0 @@
-mod Served
-mod Statuses

@@ -1,5 +1,0 @@
-use Rattle.simplex_recording.proofs.Quiet.{stays_quiet}
-use Rattle.simplex_recording.proofs.laws.quiet_points_leave_the_tables.Goals as goal
-
-pub returns : goal.returns
-returns g c = λ low tables h p. stays_quiet low tables h p

@@ -1,5 +1,0 @@
-use Rattle.simplex_record.specs.Record.{entries}
-use Rattle.simplex_recording.proofs.recorded.Recorded.has_certificate.Goals as goal
-
-pub returns : goal.returns
-returns g c = λ owner xs k. c.has_certificate.ensures owner.term_length (entries xs) k.standing

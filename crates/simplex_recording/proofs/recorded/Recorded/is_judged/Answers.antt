@@ -1,6 +1,0 @@
-use Rattle.simplex_record.specs.Record.{entries}
-use Rattle.simplex_recording.proofs.Judging.{judged_any}
-use Rattle.simplex_recording.proofs.recorded.Recorded.is_judged.Goals as goal
-
-pub returns : goal.returns
-returns g c = λ owner xs k. rw c.is_some.ensures (judged_any (entries xs) c.args.view c.verdict.result (c.verdict.ensures owner.term_length (entries xs) k.standing))

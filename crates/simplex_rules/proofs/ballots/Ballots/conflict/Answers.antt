@@ -1,0 +1,23 @@
+use Rattle.std.proofs.Common.{◌≡◌, ◌∙◌, length, refl, ap, Some}
+use Rattle.std.specs.Prelude.{slice_get}
+use Rattle.std.proofs.lemmas.Option.{slice_get_past, slice_get_read}
+use Rattle.simplex_rules.proofs.ballots.Ballots.conflict.Goals as goal
+
+pub returns-in-None : goal.returns-in-None
+returns-in-None g c =
+    let item = rw c.deref.ensures.value at c.in-None.ensures.lookup in
+    rw (slice_get_past c.args.self.now.kept.items c.args.place item.3) refl
+
+pub conflict_from-requires : goal.conflict_from-requires
+conflict_from-requires g c = λ x y two.
+    let items = c.args.self.now.kept.items in
+    let item = rw c.deref.ensures.value at c.in-Some.ensures.lookup in
+    let found : slice_get items c.args.place ≡ Some c.in-Some.kept.now = slice_get_read items (length items) c.args.place c.in-Some.kept.now refl item.3.0 item.1 in
+    c.requires x y (found ∙ ap Some two)
+
+pub returns-in-Some : goal.returns-in-Some
+returns-in-Some g c =
+    let items = c.args.self.now.kept.items in
+    let item = rw c.deref.ensures.value at c.in-Some.ensures.lookup in
+    let found : slice_get items c.args.place ≡ Some c.in-Some.kept.now = slice_get_read items (length items) c.args.place c.in-Some.kept.now refl item.3.0 item.1 in
+    rw found c.conflict_from.ensures

@@ -1,5 +1,0 @@
-use Rattle.simplex_rules.proofs.Windows.{floor-between}
-use Rattle.simplex_rules.proofs.lookahead.issuance_floor_leaves_the_optimistic_views_between.Goals as goal
-
-pub returns : goal.returns
-returns c = floor-between

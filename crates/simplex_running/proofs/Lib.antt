@@ -1,4 +1,0 @@
-pub mod Listed
-pub mod Passing
-pub mod Stepped
-pub mod Streamed

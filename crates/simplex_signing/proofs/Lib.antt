@@ -1,4 +1,0 @@
-pub mod Ascending
-pub mod Bounds
-pub mod Failing
-pub mod Signatures

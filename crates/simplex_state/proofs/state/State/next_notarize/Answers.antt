@@ -1,0 +1,44 @@
+use Rattle.std.proofs.Common.{◌≡◌, ◌+◌, ◌^◌, arith}
+use Rattle.std.proofs.lemmas.Bool.{both_ways}
+use Rattle.voter_history.specs.Known.{known}
+use Rattle.voter_rules.specs.Ancestry.{member}
+use Rattle.voter_rules.specs.VotesDue.{NotarizeIsDue}
+use Rattle.voter_views.specs.ShowsKnown as shown
+use Rattle.simplex_state.specs.State.{Keeps}
+use Rattle.simplex_state.proofs.Owing.{none_at_all, none_before, none_through, notarizes_owed, notarize_fits}
+use Rattle.simplex_state.proofs.state.State.next_notarize.Goals as goal
+
+pub views-init : goal.views-init
+unfolding Keeps
+views-init g c = λ s h k u below due. absurd (omega (arith, below, c.zero-next.ensures))
+
+pub views-preserved : goal.views-preserved
+unfolding Keeps
+views-preserved g c = λ s h k u below.
+    let some = rw (c.lookahead.ensures.length s h k.views) at c.get-views.ensures.at_least_one in
+    none_through s h some c.args.self.now.notarizes (NotarizeIsDue (member s) (known s h)) (notarizes_owed s h some c.args.self.now.notarizes k.notarizes) c.views.next c.in-Some.view (c.views.invariant s h k) c.in-Some.ensures.first
+    (λ due. both_ways c.notarize_is_due.result c.if-notarize_is_due.false ((c.notarize_is_due.ensures _ _ (shown.at s h k.views)).1 due)) u (omega (arith, below, c.next-next.ensures))
+
+pub returns-then-notarize_is_due : goal.returns-then-notarize_is_due
+unfolding Keeps
+returns-then-notarize_is_due g c = λ s h k.
+    let some = rw (c.lookahead.ensures.length s h k.views) at c.get-views.ensures.at_least_one in
+    record {
+      due = (c.notarize_is_due.ensures _ _ (shown.at s h k.views)).0 c.if-notarize_is_due.true;
+      lowest = none_before s h some c.args.self.now.notarizes (NotarizeIsDue (member s) (known s h)) (notarizes_owed s h some c.args.self.now.notarizes k.notarizes) c.views.next c.in-Some.view (c.views.invariant s h k) c.in-Some.ensures.first;
+    }
+
+pub returns-then-get : goal.returns-then-get
+unfolding Keeps
+returns-then-get g c = λ s h k.
+    let some = rw (c.lookahead.ensures.length s h k.views) at c.get-views.ensures.at_least_one in
+    let last : c.in-Some.view + 1 ≡ 2 ^ 64 = omega (arith, c.get.ensures.value) in
+    notarize_fits s h some c.in-Some.view last
+    (none_through s h some c.args.self.now.notarizes (NotarizeIsDue (member s) (known s h)) (notarizes_owed s h some c.args.self.now.notarizes k.notarizes) c.views.next c.in-Some.view (c.views.invariant s h k) c.in-Some.ensures.first
+    (λ due. both_ways c.notarize_is_due.result c.if-notarize_is_due.false ((c.notarize_is_due.ensures _ _ (shown.at s h k.views)).1 due)))
+
+pub returns : goal.returns
+unfolding Keeps
+returns g c = λ s h k.
+    let some = rw (c.lookahead.ensures.length s h k.views) at c.get-views.ensures.at_least_one in
+    none_at_all s h some c.args.self.now.notarizes (NotarizeIsDue (member s) (known s h)) (notarizes_owed s h some c.args.self.now.notarizes k.notarizes) c.views.next (c.views.invariant s h k) c.in_default.ensures.first

@@ -1,0 +1,14 @@
+//! The voter: a member without network, clock or disk, which says what is due.
+#![tactic(auto)]
+
+mod owed;
+mod state;
+mod verify;
+mod wanted;
+
+pub use state::State;
+pub use verify::Verify;
+pub use voter_rules::config::{
+    Config, ConfigFault, ForwardPolicy, SkipBudget, SkipPolicy, check_config,
+};
+pub use voter_rules::{CertificateFetch, Floor, ProposalRequest};

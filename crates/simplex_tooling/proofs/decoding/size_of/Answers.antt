@@ -1,5 +1,0 @@
-use Rattle.simplex_tooling.proofs.Following.{behind}
-use Rattle.simplex_tooling.proofs.decoding.size_of.Goals as goal
-
-pub overflow_sub-result : goal.overflow_sub-result
-overflow_sub-result g c = behind _ _ _ ((g.met.M.Read.one_spelling c.args.bound c.ranges.bound.fits).takes _ _ _ c.in-Ok.ensures).0

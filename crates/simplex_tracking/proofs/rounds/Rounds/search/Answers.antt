@@ -1,7 +1,0 @@
-use Rattle.simplex_tracking.specs.Rounds.{Keep}
-use Rattle.simplex_tracking.proofs.Tables.{read-stands}
-use Rattle.simplex_tracking.proofs.rounds.Rounds.search.Goals as goal
-
-pub returns : goal.returns
-unfolding Keep
-returns g c = λ s led past k. read-stands g.S.Scheme.key_of s c.args.view (led c.args.view) (past c.args.view) c.get.result (rw c.get.ensures.value (k.rounds.at c.args.view c.get-number.ensures.fits))

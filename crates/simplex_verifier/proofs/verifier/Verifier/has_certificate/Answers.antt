@@ -1,6 +1,0 @@
-use Rattle.simplex_verifier.specs.Keeping.{VerifierKeeps}
-use Rattle.simplex_verifier.proofs.verifier.Verifier.has_certificate.Goals as goal
-
-pub returns : goal.returns
-unfolding VerifierKeeps
-returns g c = λ s h k. rw c.tally.ensures (k.rows.kinds c.args.kind).complete_is

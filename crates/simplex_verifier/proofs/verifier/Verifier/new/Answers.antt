@@ -1,7 +1,0 @@
-use Rattle.std.proofs.Common.{false}
-use Rattle.simplex_verifier.specs.Keeping.{VerifierKeeps}
-use Rattle.simplex_verifier.proofs.verifier.Verifier.new.Goals as goal
-
-pub returns : goal.returns
-unfolding VerifierKeeps
-returns g c = c.open.ensures false

@@ -1,7 +1,0 @@
-use Rattle.simplex_views.specs.Views.{Keeps}
-use Rattle.simplex_views.proofs.Showing.{each}
-use Rattle.simplex_views.proofs.knowing.ViewsKnowledge.genesis.Goals as goal
-
-pub returns : goal.returns
-unfolding Keeps
-returns g c = each _ (λ s h kept. kept.genesis)

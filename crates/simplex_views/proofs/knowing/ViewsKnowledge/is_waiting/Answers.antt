@@ -1,9 +1,0 @@
-use Rattle.simplex_history.specs.History.{is_marked}
-use Rattle.simplex_history.specs.Known.{waits}
-use Rattle.simplex_views.specs.Views.{Keeps}
-use Rattle.simplex_views.proofs.Showing.{each}
-use Rattle.simplex_views.proofs.knowing.ViewsKnowledge.is_waiting.Goals as goal
-
-pub returns : goal.returns
-unfolding Keeps
-returns g c = each _ (λ s h kept. c.contains.ensures (is_marked s waits h) kept.waiting)

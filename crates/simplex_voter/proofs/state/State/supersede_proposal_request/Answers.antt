@@ -1,4 +1,0 @@
-use Rattle.simplex_voter.proofs.state.State.supersede_proposal_request.Goals as goal
-
-pub returns-clause-keeps : goal.returns-clause-keeps
-returns-clause-keeps g c = λ s h k. c.in_ok-release_proposal_request.ensures s h k

@@ -1,9 +1,0 @@
-use Rattle.std.proofs.Common.{take}
-use Rattle.std.specs.Prelude.{Contains, IsTrue}
-use Rattle.std.specs.Ordering.{nat_cmp}
-use Rattle.std.specs.BTreeSet.{contains}
-use Rattle.simplex_types.specs.declared.proposal.Proposal.{Proposal}
-use Rattle.simplex_voter.proofs.state.certifying.keep.Given as goal
-
-abbrev pub invariant-loop-proposal : goal.invariant-loop-proposal
-invariant-loop-proposal g l = (p : Proposal g.row.D.Denot) → Contains (take l.proposal-index l.ready) p → IsTrue (contains nat_cmp l.candidates p.round.view)

@@ -1,0 +1,240 @@
+//! The member of a script, whatever its scheme, on whatever disk, and whatever node plays it: at one of each the calls would
+//! cost the prover several times as much.
+
+use crate::faults::{say_fault, say_io_fault, say_open_fault};
+use crate::medium::Medium;
+use crate::seat::Seat;
+use crate::setup::Setup;
+use crate::spelling::{event_of, say_actions, say_reply};
+use simplex_member::{Action, Event, Reply};
+use std::alloc::Global;
+use std::marker::PhantomData;
+use std::rc::Rc;
+use test_words::{Committee, Say, Trouble, Words};
+use types_core::Sha256Digest;
+use voter_rules::config::Config;
+
+/// What the calls of a script are made on, whatever the member's scheme, its disk and its node.
+pub trait Answers: Drop {
+    /// A member that is set up so, with an empty disk. A committee that can't be is `condition`.
+    fn new(alloc: Global, setup: Setup) -> Result<Self, Trouble>;
+
+    /// Makes the call of this name.
+    fn answer(&mut self, name: &str, words: &mut Words<'_>, say: &mut Say) -> Result<(), Trouble>;
+}
+
+/// A member with its disk, which the node has while it is open.
+#[derive(Drop)]
+pub struct Member<S, K, N, T> {
+    setup: Setup,
+    disk: Option<K>,
+    node: Option<N>,
+    scheme: PhantomData<S>,
+    seat: PhantomData<T>,
+}
+
+impl<S: Committee, K: Medium, N: Drop, T> Member<S, K, N, T>
+where
+    T: Seat<
+        Config<Sha256Digest>,
+        S,
+        K,
+        N,
+        Event<Sha256Digest>,
+        Action<S, Sha256Digest>,
+        Reply<S, Sha256Digest>,
+    >,
+{
+    /// Closes the node that is open.
+    fn close(&mut self) {
+        if let Some(node) = self.node.take() {
+            self.disk = Some(T::close(node));
+        }
+    }
+
+    /// The disk, where no node is open on it.
+    fn disk(&mut self) -> Result<&mut K, Trouble> {
+        match &mut self.disk {
+            Some(disk) => Ok(disk),
+            None => Err(Trouble::Condition),
+        }
+    }
+
+    /// The node that is open.
+    fn node(&mut self) -> Result<&mut N, Trouble> {
+        match &mut self.node {
+            Some(node) => Ok(node),
+            None => Err(Trouble::Condition),
+        }
+    }
+
+    /// `open NOW`.
+    fn open(&mut self, words: &mut Words<'_>, say: &mut Say) -> Result<(), Trouble> {
+        let now = words.number()?;
+        words.end()?;
+        self.close();
+        let scheme = S::member_of(say.alloc, self.setup.members, self.setup.me, 0)?;
+        self.open_as(Rc::new(say.alloc, scheme)?, now, say)
+    }
+
+    /// Opens the disk as this member.
+    fn open_as(&mut self, scheme: Rc<S>, now: u64, say: &mut Say) -> Result<(), Trouble> {
+        let Some(disk) = self.disk.take() else {
+            return Err(Trouble::Condition);
+        };
+        let config = self.setup.config();
+        match T::open(say.alloc, &self.setup, config, scheme, disk, now) {
+            Ok((node, actions)) => {
+                self.node = Some(node);
+                say_actions(actions, say)
+            }
+            Err((fault, disk)) => {
+                self.disk = Some(disk);
+                say_open_fault(fault, say)
+            }
+        }
+    }
+
+    /// What the node that is open answers to an event.
+    fn step(&mut self, bytes: &[u8], say: &mut Say) -> Result<(), Trouble> {
+        let event = event_of(say.alloc, bytes, self.setup.members)?;
+        match T::step(self.node()?, event) {
+            Ok(reply) => say_reply(&reply, say),
+            Err(fault) => say_fault(fault, say),
+        }
+    }
+
+    /// `event EVENT`.
+    fn event(&mut self, words: &mut Words<'_>, say: &mut Say) -> Result<(), Trouble> {
+        let bytes = words.bytes(say.alloc)?;
+        words.end()?;
+        self.step(&bytes, say)
+    }
+
+    /// `times COUNT event EVENT`: what is answered each time where that is the same, else `changes`.
+    fn times(&mut self, words: &mut Words<'_>, say: &mut Say) -> Result<(), Trouble> {
+        let count = words.index()?;
+        if words.word() != "event" {
+            return Err(Trouble::Unreadable);
+        }
+        let bytes = words.bytes(say.alloc)?;
+        words.end()?;
+        self.step(&bytes, say)?;
+        if self.answers_so(&bytes, count, say)? {
+            return Ok(());
+        }
+        say.clear();
+        say.text("changes")
+    }
+
+    /// Whether an event that has come once is answered as was said each time until it has come so often.
+    fn answers_so(&mut self, bytes: &[u8], count: u32, said: &Say) -> Result<bool, Trouble> {
+        let mut say = Say::new(said.alloc);
+        for _ in 1..count {
+            say.clear();
+            self.step(bytes, &mut say)?;
+            if say.line() != said.line() {
+                return Ok(false);
+            }
+        }
+        Ok(true)
+    }
+
+    /// `stream EVENTS`: the replies, one behind the other, and behind them why that ended before the events did.
+    fn stream(&mut self, words: &mut Words<'_>, say: &mut Say) -> Result<(), Trouble> {
+        let events = words.bytes(say.alloc)?;
+        words.end()?;
+        let mut replies = Vec::new(say.alloc);
+        let ran = T::run(say.alloc, self.node()?, &events, &mut replies);
+        say.bytes(&replies)?;
+        match ran {
+            Ok(()) => Ok(()),
+            Err(fault) => say_io_fault(fault, say),
+        }
+    }
+
+    /// `disk BYTES`.
+    fn put_disk(&mut self, words: &mut Words<'_>, say: &mut Say) -> Result<(), Trouble> {
+        let bytes = words.bytes(say.alloc)?;
+        words.end()?;
+        self.close();
+        self.disk = Some(K::holding(say.alloc, &bytes)?);
+        say.ok()
+    }
+
+    /// `bytes`.
+    fn bytes(&mut self, words: &Words<'_>, say: &mut Say) -> Result<(), Trouble> {
+        words.end()?;
+        self.close();
+        say.bytes(self.disk()?.image())
+    }
+
+    /// `fuse CALLS`, `fail_at CALLS`: of this name.
+    fn fail(&mut self, name: &str, words: &mut Words<'_>, say: &mut Say) -> Result<(), Trouble> {
+        let calls = words.number()?;
+        words.end()?;
+        let disk = self.disk()?;
+        if name == "fuse" {
+            disk.fuse(calls);
+        } else {
+            disk.fail_at(calls);
+        }
+        say.ok()
+    }
+
+    /// The calls on the disk.
+    fn hold(&mut self, name: &str, words: &mut Words<'_>, say: &mut Say) -> Result<(), Trouble> {
+        match name {
+            "disk" => self.put_disk(words, say),
+            "bytes" => self.bytes(words, say),
+            _ => self.fail(name, words, say),
+        }
+    }
+
+    /// What the node that is open tells of itself.
+    fn ask(&mut self, name: &str, words: &Words<'_>, say: &mut Say) -> Result<(), Trouble> {
+        words.end()?;
+        let node = self.node()?;
+        match name {
+            "current_view" => say.view(T::current_view(node)),
+            "last_finalized" => say.view(T::last_finalized(node)),
+            "is_failed" => say.truth(T::is_failed(node)),
+            _ => Err(Trouble::Unreadable),
+        }
+    }
+}
+
+impl<S: Committee, K: Medium, N: Drop, T: Drop> Answers for Member<S, K, N, T>
+where
+    T: Seat<
+        Config<Sha256Digest>,
+        S,
+        K,
+        N,
+        Event<Sha256Digest>,
+        Action<S, Sha256Digest>,
+        Reply<S, Sha256Digest>,
+    >,
+{
+    fn new(alloc: Global, setup: Setup) -> Result<Self, Trouble> {
+        S::member_of(alloc, setup.members, setup.me, 0)?;
+        Ok(Member {
+            setup,
+            disk: Some(K::holding(alloc, &[])?),
+            node: None,
+            scheme: PhantomData,
+            seat: PhantomData,
+        })
+    }
+
+    fn answer(&mut self, name: &str, words: &mut Words<'_>, say: &mut Say) -> Result<(), Trouble> {
+        match name {
+            "open" => self.open(words, say),
+            "event" => self.event(words, say),
+            "times" => self.times(words, say),
+            "stream" => self.stream(words, say),
+            "disk" | "bytes" | "fuse" | "fail_at" => self.hold(name, words, say),
+            _ => self.ask(name, words, say),
+        }
+    }
+}

@@ -1,0 +1,13 @@
+pub mod Positions
+pub mod LatestFirst
+pub mod Round
+pub mod Proposal
+pub mod Attestation
+pub mod Ascending
+pub mod Batching
+pub mod Quorum
+pub mod QuorumOrder
+pub mod Sorting
+pub mod Overlap
+pub mod Subject
+pub mod Context

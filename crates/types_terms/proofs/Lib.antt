@@ -1,0 +1,5 @@
+pub mod Exactly
+pub mod Windows
+pub mod Orders
+pub mod Shuffles
+pub mod Turning
