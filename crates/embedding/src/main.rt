@@ -11,7 +11,7 @@ mod hosting;
 mod keyless;
 mod recording;
 mod repairing;
-mod voting;
+mod voter_calls;
 
 use auditing::guilty;
 use checking::first_breach;
@@ -28,7 +28,7 @@ use std::alloc::{AllocError, Global};
 use std::rc::Rc;
 use std::{fs, io};
 use types_core::{Epoch, Participant, Proposal, Round, Sha256Digest, TermLength, View, Write};
-use voting::{recalled, vote_on};
+use voter_calls::{recalled, vote_on};
 
 /// View 1 of epoch 0.
 fn first_round() -> Round {

@@ -4,8 +4,8 @@ ghost use Rattle.std.specs.Prelude.{◌≡◌, ◌∷◌, IfErr, IfOk};
 ghost use Rattle.batcher_admission.specs.Evidence.{as_report};
 ghost use Rattle.simplex_messages.specs.VoteParts.{vote_round, vote_signer};
 ghost use Rattle.batcher_verifier.specs.Votes.{vote_attestation, vote_statement};
-ghost use Rattle.node_votes.specs.Keeps as accepting;
-ghost use Rattle.node_votes.specs.Keeps.{IsOpenTo};
+ghost use Rattle.node_votes.specs.KeepsVotes as accepting;
+ghost use Rattle.node_votes.specs.KeepsVotes.{IsOpenTo};
 ghost use Rattle.simplex_member.specs.declared.fault.NodeFault.TheVariants as step_fault;
 ghost use Rattle.simplex_member.specs.Point.{Votes};
 

@@ -6,7 +6,7 @@ ghost use Rattle.messages_certificates.specs.Artifact.{certificate_artifact};
 ghost use Rattle.messages_certificates.specs.Certificate.{certificate_round};
 ghost use Rattle.voter_history.specs.History.{last_finalized};
 ghost use Rattle.simplex_state.specs.State as voting;
-ghost use Rattle.node_votes.specs.Keeps as accepting;
+ghost use Rattle.node_votes.specs.KeepsVotes as accepting;
 ghost use Rattle.simplex_member.specs.declared.fault.NodeFault.TheVariants as step_fault;
 ghost use Rattle.simplex_member.specs.Deeds.{Finalizes, final_deeds};
 ghost use Rattle.simplex_member.specs.Layers.{finalizes_above, takes_certificate, voter_of};
@@ -14,7 +14,7 @@ ghost use Rattle.simplex_member.specs.Point.{Came};
 ghost use Rattle.node_core.specs.Learning.{IsUnknown};
 
 use crate::entered::enter;
-use crate::learning::give;
+use crate::told_layers::give;
 use messages_certificates::{Artifact, Certificate};
 use node_votes::Acceptance;
 use simplex_member::NodeFault;

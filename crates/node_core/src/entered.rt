@@ -2,7 +2,7 @@
 
 ghost use Rattle.std.specs.Prelude.{◌≡◌, ◌∷◌, true, IfErr, OnOk};
 ghost use Rattle.simplex_state.specs.State as voting;
-ghost use Rattle.node_votes.specs.Keeps as accepting;
+ghost use Rattle.node_votes.specs.KeepsVotes as accepting;
 ghost use Rattle.simplex_member.specs.declared.fault.NodeFault.TheVariants as step_fault;
 ghost use Rattle.simplex_member.specs.Layers.{may_enter, voter_of};
 ghost use Rattle.simplex_member.specs.Point.{History, Point};

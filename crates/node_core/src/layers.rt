@@ -11,10 +11,10 @@ ghost use Rattle.simplex_member.specs.Setup.{Setup, IsInTime, setup_of};
 ghost use Rattle.node_core.specs.SettingUp.{IsSetUp};
 ghost use Rattle.node_core.specs.GoingThrough.{AreNew, HasBegun, IsGoneThrough, IsRecordOf, StandAt, deeds_along};
 
-use crate::learning::what_is_not_recorded_is_unknown;
 use crate::recalling::{finalize, report, tell_repair, tell_voter};
 use crate::settings::Settings;
 use crate::telling::tell_votes;
+use crate::told_layers::what_is_not_recorded_is_unknown;
 use messages_certificates::Artifact;
 use node_record::{Recorded, Tables, quiet_points_leave_the_tables};
 use node_votes::{Acceptance, silent_points_leave_votes};

@@ -11,7 +11,7 @@ ghost use Rattle.simplex_record.specs.declared.owner.Owner.{Owner};
 ghost use Rattle.voter_history.specs.History.{seen};
 ghost use Rattle.voter_rounds.specs.Rounds.{Takes};
 ghost use Rattle.simplex_state.specs.State as voting;
-ghost use Rattle.simplex_resolver.specs.History.{Judged};
+ghost use Rattle.simplex_resolver.specs.RepairHistory.{Judged};
 ghost use Rattle.simplex_resolver.specs.Keeps as repairing;
 ghost use Rattle.node_record.specs.Recorded.{HoldsRecord};
 ghost use Rattle.simplex_member.specs.Deeds.{AreActions, Deed, Finalizes, Reports};
@@ -23,8 +23,8 @@ ghost use Rattle.simplex_member.specs.Setup.{Setup};
 ghost use Rattle.node_core.specs.GoingThrough.{IsRecordOf};
 ghost use Rattle.node_core.specs.Learning.{IsNew};
 
-use crate::learning::{give, give_verdict, judge_repair, update_repair};
 use crate::saying::Said;
+use crate::told_layers::{give, give_verdict, judge_repair, update_repair};
 use messages_certificates::Artifact;
 use node_outbox::{hand_out, report_if};
 use node_record::Recorded;

@@ -4,7 +4,7 @@ ghost use Rattle.std.specs.Prelude.{◌≡◌, Bool, OnOk};
 ghost use Rattle.types_core.specs.Positions.{HasRoom};
 ghost use Rattle.messages_certificates.specs.Artifact.{artifact_round};
 ghost use Rattle.simplex_record.specs.Lawful.{Verifies};
-ghost use Rattle.node_votes.specs.Keeps as accepting;
+ghost use Rattle.node_votes.specs.KeepsVotes as accepting;
 ghost use Rattle.simplex_member.specs.Layers.{floor_of};
 ghost use Rattle.simplex_member.specs.Point.{Found};
 ghost use Rattle.simplex_member.specs.Setup.{owner_of};

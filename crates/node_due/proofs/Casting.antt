@@ -38,8 +38,8 @@ use Rattle.simplex_state.specs.declared.state.State.{State}
 use Rattle.simplex_state.specs.State as voting
 use Rattle.simplex_state.specs.Votes.{IsOwn, IsOwnNullify}
 use Rattle.node_votes.specs.declared.acceptance.Acceptance.{Acceptance}
-use Rattle.node_votes.specs.Keeps as accepting
-use Rattle.node_votes.specs.Keeps.{IsOpenTo, QuietStays}
+use Rattle.node_votes.specs.KeepsVotes as accepting
+use Rattle.node_votes.specs.KeepsVotes.{IsOpenTo, QuietStays}
 use Rattle.journal_single.specs.declared.disk.Disk as disk
 use Rattle.journal_single.specs.Disk.{Call, LeavesOnly, counted}
 use Rattle.journal_single.specs.Moments.{weaker}

@@ -22,10 +22,10 @@ use Rattle.batcher_verifier.specs.ConstructionResult.{IsBatch}
 use Rattle.batcher_verifier.specs.History.{next_kind}
 use Rattle.node_votes.specs.declared.acceptance.Acceptance.{Acceptance}
 use Rattle.node_votes.specs.declared.due.Due.TheVariants as due
-use Rattle.node_votes.specs.Keeps as accepting
+use Rattle.node_votes.specs.KeepsVotes as accepting
 use Rattle.simplex_resolver.specs.declared.state.State as resolving
 use Rattle.simplex_resolver.specs.Keeps as repairing
-use Rattle.simplex_resolver.specs.History.{item_of}
+use Rattle.simplex_resolver.specs.RepairHistory.{item_of}
 use Rattle.journal_single.specs.declared.disk.Disk as disk
 use Rattle.journal_single.specs.Disk.{Call, LeavesOnly}
 use Rattle.journal_single.specs.Moments.{weaker}

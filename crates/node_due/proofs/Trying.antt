@@ -18,10 +18,10 @@ use Rattle.voter_laws.specs.Matching.{PollChangesNothing}
 use Rattle.simplex_state.specs.declared.state.State.{State}
 use Rattle.simplex_state.specs.State as voting
 use Rattle.simplex_resolver.specs.Keeps as repairing
-use Rattle.simplex_resolver.specs.History.{Item}
+use Rattle.simplex_resolver.specs.RepairHistory.{Item}
 use Rattle.node_votes.specs.declared.acceptance.Acceptance.{Acceptance}
-use Rattle.node_votes.specs.Keeps as accepting
-use Rattle.node_votes.specs.Keeps.{QuietStays, SaysNothing}
+use Rattle.node_votes.specs.KeepsVotes as accepting
+use Rattle.node_votes.specs.KeepsVotes.{QuietStays, SaysNothing}
 use Rattle.node_record.specs.declared.ledger.Ledger.{Ledger}
 use Rattle.node_record.specs.declared.tables.Tables.{Tables}
 use Rattle.node_record.specs.Ledger as ledgers

@@ -11,9 +11,9 @@ ghost use Rattle.node_core.specs.Telling.{TellsOfDisk};
 use crate::asking::{
     say_when, try_build, try_return, try_silence, try_verdicts, try_verification, try_views,
 };
+use crate::casting_votes::{try_finalize, try_notarize, try_nullify};
 use crate::constructing::{try_leader, try_votes_of_views};
 use crate::following::try_to_follow;
-use crate::voting::{try_finalize, try_notarize, try_nullify};
 use journal_single::Disk;
 use node_core::Core;
 use node_record::a_ledger_at_rest_leaves_its_record;

@@ -15,7 +15,7 @@ use Rattle.voter_rules.specs.GivingUp.{IsTracked, MayLatch}
 use Rattle.voter_rules.specs.Requests.{IsCaptured}
 use Rattle.simplex_state.specs.declared.state.State.{State}
 use Rattle.simplex_state.specs.State as voting
-use Rattle.node_votes.specs.Keeps.{QuietStays}
+use Rattle.node_votes.specs.KeepsVotes.{QuietStays}
 use Rattle.journal_single.specs.declared.disk.Disk as disk
 use Rattle.node_record.specs.declared.tables.Tables.{Tables}
 use Rattle.node_record.specs.Tables.{KeepsTables}

@@ -13,7 +13,7 @@ use Rattle.batcher_verifier.specs.History as votes
 use Rattle.batcher_verifier.specs.History.{takes}
 use Rattle.simplex_batcher.specs.Admission.{IsBlocked, report_of}
 use Rattle.node_votes.specs.declared.acceptance.Acceptance.{Acceptance}
-use Rattle.node_votes.specs.Keeps as accepting
+use Rattle.node_votes.specs.KeepsVotes as accepting
 use Rattle.node_record.specs.declared.tables.Tables.{Tables}
 use Rattle.node_record.specs.Tables.{KeepsTables}
 use Rattle.simplex_member.specs.declared.action.Action.{Action}

@@ -14,10 +14,10 @@ ghost use Rattle.node_input.specs.Refusing.{bytes_tests};
 ghost use Rattle.node_input.specs.Stepping.{IsHandled};
 ghost use Rattle.node_core.specs.Telling.{TellsOfDisk};
 
-use crate::certificates::take_certificate;
 use crate::deciding::{Decided, decide};
 use crate::hearing::take_vote;
 use crate::serving::take_ask;
+use crate::taking_certificates::take_certificate;
 use journal_single::Disk;
 use node_core::Core;
 use node_inbox::blocks;

@@ -2,7 +2,7 @@
 
 ghost use Rattle.std.specs.Prelude.{◌≡◌, ◌↔◌, IsTrue, IfErr, IfOk};
 ghost use Rattle.simplex_state.specs.State as voting;
-ghost use Rattle.node_votes.specs.Keeps as accepting;
+ghost use Rattle.node_votes.specs.KeepsVotes as accepting;
 ghost use Rattle.simplex_member.specs.declared.fault.NodeFault.TheVariants as step_fault;
 ghost use Rattle.simplex_member.specs.Allowed.{LeaderGaveUp};
 ghost use Rattle.simplex_member.specs.Layers.{latest, voter_of};

@@ -8,7 +8,7 @@ ghost use Rattle.simplex_member.specs.Setup.{setup_of};
 ghost use Rattle.node_steps.specs.Keeps.{AtOwn};
 ghost use Rattle.node_steps.specs.Opening.{IsOpenAndSettled};
 ghost use Rattle.simplex_node.specs.Running.{RunFails, RunsTo};
-ghost use Rattle.node_streams.specs.Streaming.{EndsIn, spelled};
+ghost use Rattle.node_wire.specs.Streaming.{EndsIn, spelled};
 
 use crate::disk::HostedDisk;
 use crate::requests::Requests;

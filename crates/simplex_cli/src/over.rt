@@ -3,7 +3,7 @@
 ghost use Rattle.std.specs.Prelude.{◌≡◌, ◌≢◌, ◌⊎◌, ◌<◌};
 ghost use Rattle.simplex_cli.specs.Ending.{ending_line, ending_status, memory_line};
 ghost use Rattle.simplex_cli.specs.declared.ending.Ending.{Ending};
-ghost use Rattle.types_output.specs.Front.{AppendsFront};
+ghost use Rattle.types_codec.specs.Front.{AppendsFront};
 
 use crate::ending::Ending;
 use crate::serving::serve_over;

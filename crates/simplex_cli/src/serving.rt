@@ -9,7 +9,7 @@ ghost use Rattle.simplex_member.specs.Setup.{setup_of};
 ghost use Rattle.node_steps.specs.Keeps.{AtOwn};
 ghost use Rattle.simplex_cli.specs.declared.ending.Ending.TheVariants.{Open};
 ghost use Rattle.simplex_cli.specs.Serving.{Answers, AnswersBefore, ServesOver, ended_of};
-ghost use Rattle.node_streams.specs.Streaming.{EndsIn, spelled};
+ghost use Rattle.node_wire.specs.Streaming.{EndsIn, spelled};
 
 use crate::ending::Ending;
 use journal_single::Disk;

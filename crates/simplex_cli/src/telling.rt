@@ -2,12 +2,12 @@
 
 ghost use Rattle.std.specs.Prelude.{◌≡◌, ◌⊎◌, IfErr, IfOk};
 ghost use Rattle.simplex_cli.specs.Ending.{ending_line, ending_status, memory_line};
-ghost use Rattle.types_output.specs.Front.{AppendsFront};
+ghost use Rattle.types_codec.specs.Front.{AppendsFront};
 
 use crate::ending::{Ending, push_line};
 use std::alloc::Global;
 use std::io::Write;
-use types_output::write_whole;
+use types_codec::write_whole;
 
 /// Tells how a program ended: answers the status, 0 for a whole input, and writes the line of what ended it before its input to
 /// `faults`.

@@ -6,12 +6,12 @@ ghost use Rattle.simplex_member.specs.declared.fault.NodeFault.TheVariants.{Devi
 ghost use Rattle.simplex_member.specs.Packet.{formats};
 ghost use Rattle.node_steps.specs.Keeps.{AtOwn, disk_of, has_failed};
 ghost use Rattle.simplex_node.specs.Running.{IsPassed, LeavesAtMost, RunFails, RunsTo};
-ghost use Rattle.node_streams.specs.Stepping.{EndsList};
+ghost use Rattle.node_wire.specs.Stepper.{EndsList};
 
 use crate::stepping::NodeSteps;
 use journal_single::Disk;
 use node_steps::Node;
-use node_streams::{Answers, answer_list};
+use node_wire::{Answers, answer_list};
 use simplex_member::Event;
 use std::alloc::{AllocError, Global};
 use types_core::{Digest, Scheme};

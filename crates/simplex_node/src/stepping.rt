@@ -5,7 +5,7 @@ ghost use Rattle.simplex_node.specs.Stepping.{IsStep};
 
 use journal_single::Disk;
 use node_steps::Node;
-use node_streams::Stepper;
+use node_wire::Stepper;
 use simplex_member::{Event, NodeFault, Reply};
 use types_core::{Digest, Scheme};
 use types_terms::Elector;

@@ -8,12 +8,12 @@ ghost use Rattle.simplex_member.specs.declared.fault.NodeFault.TheVariants.{Devi
 ghost use Rattle.simplex_member.specs.Packet.{formats};
 ghost use Rattle.node_steps.specs.Keeps.{AtOwn, disk_of, has_failed};
 ghost use Rattle.simplex_node.specs.Running.{LeavesPassed, RunFails, RunsTo};
-ghost use Rattle.node_streams.specs.Streaming.{EndsIn, spelled};
+ghost use Rattle.node_wire.specs.Streaming.{EndsIn, spelled};
 
 use crate::stepping::NodeSteps;
 use journal_single::Disk;
 use node_steps::Node;
-use node_streams::answer_stream;
+use node_wire::answer_stream;
 use simplex_member::IoFault;
 use std::alloc::Global;
 use std::io::{Read, Write};
