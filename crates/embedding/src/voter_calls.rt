@@ -3,9 +3,8 @@
 use crate::recording::Item;
 use simplex_messages::Notarize;
 use simplex_round::Round as ViewRound;
-use simplex_types::PlainScheme;
+use simplex_types::{Participant, PlainScheme, Proposal, Round, Sha256Digest, Viewable};
 use std::rc::Rc;
-use types_core::{Participant, Proposal, Round, Sha256Digest, Viewable};
 
 /// What a member knows of the view when it starts again with these artifacts in its record, whose votes it stands by.
 pub(crate) fn recalled(

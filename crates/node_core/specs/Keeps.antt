@@ -17,7 +17,7 @@ use Rattle.simplex_member.specs.Point.{History}
 use Rattle.simplex_member.specs.Recorded.{record_of}
 use Rattle.simplex_member.specs.Setup.{Setup, owner_of}
 use Rattle.node_core.specs.SettingUp.{IsSetUp}
-use Rattle.node_core.specs.declared.node_core.Core.{Core}
+use Rattle.node_core.specs.declared.node_state.Core.{Core}
 
 -- the disk that a node stands on
 abbrev pub disk_of : {S L D K P G C : Type 0} → Core S L D K P G C → K

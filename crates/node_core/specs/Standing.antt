@@ -13,7 +13,7 @@ use Rattle.simplex_member.specs.Layers.{finalized_of}
 use Rattle.simplex_member.specs.Packet.{Formats}
 use Rattle.simplex_member.specs.Point.{History}
 use Rattle.simplex_member.specs.Setup.{Setup}
-use Rattle.node_core.specs.declared.node_core.Core.{Core}
+use Rattle.node_core.specs.declared.node_state.Core.{Core}
 use Rattle.node_core.specs.Keeps.{CoreKeeps}
 use Rattle.std.proofs.Common.{◌++◌}
 use Rattle.messages_certificates.specs.declared.artifact.Artifact.{Artifact}

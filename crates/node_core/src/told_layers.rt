@@ -29,8 +29,12 @@ use voter_laws::{what_is_known_is_recorded, what_is_recorded_is_known};
 
 /// Of a kind and view of which no certificate is recorded the voter knows none.
 pub fn what_is_not_recorded_is_unknown<S: Scheme<D>, D: Digest>()
-    ensures { (f : Formats S D S.PublicKey S.Signature S.Certificate) (s : Setup S D S.Certificate) (h : History S D S.PublicKey S.Signature S.Certificate) (c : Certificate S D S.PublicKey S.Signature S.Certificate)
-        → AreAllowed S.Scheme f s h → h ≢ [] → HasNoneLike S.Scheme f s h (certificate_statement c) → IsUnknown s.voter (voter_of s h) c }
+    ensures { (f : Formats S D S.PublicKey S.Signature S.Certificate) (s : Setup S D S.Certificate)
+        (h : History S D S.PublicKey S.Signature S.Certificate) (c : Certificate S D S.PublicKey S.Signature S.Certificate)
+        → AreAllowed S.Scheme f s h
+        → h ≢ []
+        → HasNoneLike S.Scheme f s h (certificate_statement c)
+        → IsUnknown s.voter (voter_of s h) c }
 {
     voters_are_orderly::<S, D>();
     voters_tell_the_record::<S, D>();
@@ -44,7 +48,10 @@ fn give_notarization<S: Scheme<D> + Drop, L: Elector<S, D>, D: Digest>(
     certificate: &Notarization<S, D>,
     voter: &mut Voter<S, L, D>,
 ) -> Result<(), AllocError>
-    ensures { OnOk result (voting.AtEach S.Scheme L.Elector voter.old (λ s h. HasRoom s.length certificate.now.proposal.round.view → past.notarization (seen s h certificate.now.proposal.round.view) ≡ None → voting.Keeps S.Scheme L.Elector s voter.new (notarized certificate.now ∷ h))) }
+    ensures { OnOk result (voting.AtEach S.Scheme L.Elector voter.old (λ s h.
+        HasRoom s.length certificate.now.proposal.round.view
+        → past.notarization (seen s h certificate.now.proposal.round.view) ≡ None
+        → voting.Keeps S.Scheme L.Elector s voter.new (notarized certificate.now ∷ h))) }
 {
     let copy = certificate.duplicate(alloc)?;
     let _ = voter.add_notarization(copy)?;
@@ -58,7 +65,10 @@ fn give_nullification<S: Scheme<D> + Drop, L: Elector<S, D>, D: Digest>(
     certificate: &Nullification<S, D>,
     voter: &mut Voter<S, L, D>,
 ) -> Result<(), AllocError>
-    ensures { OnOk result (voting.AtEach S.Scheme L.Elector voter.old (λ s h. HasRoom s.length certificate.now.round.view → nullification s h certificate.now.round.view ≡ None → voting.Keeps S.Scheme L.Elector s voter.new (nullified now certificate.now ∷ h))) }
+    ensures { OnOk result (voting.AtEach S.Scheme L.Elector voter.old (λ s h.
+        HasRoom s.length certificate.now.round.view
+        → nullification s h certificate.now.round.view ≡ None
+        → voting.Keeps S.Scheme L.Elector s voter.new (nullified now certificate.now ∷ h))) }
 {
     let copy = certificate.duplicate(alloc)?;
     let _ = voter.add_nullification(now, copy)?;
@@ -72,7 +82,10 @@ fn give_finalization<S: Scheme<D> + Drop, L: Elector<S, D>, D: Digest>(
     certificate: &Finalization<S, D>,
     voter: &mut Voter<S, L, D>,
 ) -> Result<(), AllocError>
-    ensures { OnOk result (voting.AtEach S.Scheme L.Elector voter.old (λ s h. HasRoom s.length certificate.now.proposal.round.view → past.finalization (seen s h certificate.now.proposal.round.view) ≡ None → voting.Keeps S.Scheme L.Elector s voter.new (finalized now certificate.now ∷ h))) }
+    ensures { OnOk result (voting.AtEach S.Scheme L.Elector voter.old (λ s h.
+        HasRoom s.length certificate.now.proposal.round.view
+        → past.finalization (seen s h certificate.now.proposal.round.view) ≡ None
+        → voting.Keeps S.Scheme L.Elector s voter.new (finalized now certificate.now ∷ h))) }
 {
     let copy = certificate.duplicate(alloc)?;
     let _ = voter.add_finalization(now, copy)?;
@@ -90,7 +103,10 @@ pub fn give<S: Scheme<D> + Drop, L: Elector<S, D>, D: Digest>(
     certificate: &Certificate<S, D>,
     voter: &mut Voter<S, L, D>,
 ) -> Result<(), AllocError>
-    ensures { OnOk result (voting.AtEach S.Scheme L.Elector voter.old (λ s h. HasRoom s.length (certificate_round certificate.now).view → IsUnknown s h certificate.now → voting.Keeps S.Scheme L.Elector s voter.new (given now certificate.now ∷ h))) }
+    ensures { OnOk result (voting.AtEach S.Scheme L.Elector voter.old (λ s h.
+        HasRoom s.length (certificate_round certificate.now).view
+        → IsUnknown s h certificate.now
+        → voting.Keeps S.Scheme L.Elector s voter.new (given now certificate.now ∷ h))) }
 {
     match certificate {
         Certificate::Notarization(notarization) => give_notarization(alloc, notarization, voter),
@@ -115,8 +131,10 @@ pub fn give_verdict<S: Scheme<D> + Drop, L: Elector<S, D>, D: Digest>(
     ok: bool,
     voter: &mut Voter<S, L, D>,
 ) -> Result<Notarization<S, D>, NodeFault>
-    ensures told { OnOk result (voting.AtEach S.Scheme L.Elector voter.old (λ s h. voting.Keeps S.Scheme L.Elector s voter.new (judged now view ok ∷ h))) }
-    ensures known { IfOk result (λ notarization. voting.AtEach S.Scheme L.Elector voter.old (λ s h. HasRoom s.length view → Some notarization ≡ past.notarization (seen s h view))) }
+    ensures told { OnOk result
+        (voting.AtEach S.Scheme L.Elector voter.old (λ s h. voting.Keeps S.Scheme L.Elector s voter.new (judged now view ok ∷ h))) }
+    ensures known { IfOk result (λ notarization.
+        voting.AtEach S.Scheme L.Elector voter.old (λ s h. HasRoom s.length view → Some notarization ≡ past.notarization (seen s h view))) }
     ensures fault { IfErr result (λ why. why ≡ step_fault.Memory) }
 {
     match voter.certified(alloc, now, view, ok) {
@@ -136,7 +154,9 @@ pub fn update_repair<S: Scheme<D>, D: Digest>(
     certificate: &Certificate<S, D>,
     repair: &mut Repair,
 ) -> Result<(), NodeFault>
-    ensures told { OnOk result (repairing.AtEach repair.old (λ views h. HasRoom views (certificate_round certificate.now).view → repairing.Keeps views repair.new (item_of (any_certificate_spelling D.spelling S.Certificate.spelling) certificate.now ∷ h))) }
+    ensures told { OnOk result (repairing.AtEach repair.old (λ views h.
+        HasRoom views (certificate_round certificate.now).view
+        → repairing.Keeps views repair.new (item_of (any_certificate_spelling D.spelling S.Certificate.spelling) certificate.now ∷ h))) }
     ensures fault { IfErr result (λ why. why ≡ step_fault.Memory) }
 {
     let Ok(_) = repair.updated(alloc, certificate) else {
@@ -156,7 +176,10 @@ pub fn judge_repair<S: Scheme<D>, D: Digest>(
     ok: bool,
     repair: &mut Repair,
 ) -> Result<(), NodeFault>
-    ensures told { OnOk result (repairing.AtEach repair.old (λ views h. HasRoom views notarization.proposal.round.view → repairing.Keeps views repair.new (Judged notarization.proposal.round.view (any_certificate_spelling D.spelling S.Certificate.spelling (as_notarization notarization)) ok ∷ h))) }
+    ensures told { OnOk result (repairing.AtEach repair.old (λ views h.
+        HasRoom views notarization.proposal.round.view
+        → repairing.Keeps views repair.new (Judged notarization.proposal.round.view
+        (any_certificate_spelling D.spelling S.Certificate.spelling (as_notarization notarization)) ok ∷ h))) }
     ensures fault { IfErr result (λ why. why ≡ step_fault.Memory) }
 {
     let Ok(_) = repair.certified(alloc, notarization, ok) else {

@@ -64,7 +64,7 @@ use Rattle.node_outbox.specs.Handing.{HandsOut, hands_as, nothing_more}
 use Rattle.node_requests.specs.declared.acted.Acted.{Acted}
 use Rattle.node_requests.specs.declared.acted.Acted.TheVariants as came
 use Rattle.node_requests.specs.Asking.{AskerKeeps, is_none}
-use Rattle.node_core.specs.declared.node_core.Core.{Core}
+use Rattle.node_core.specs.declared.node_state.Core.{Core}
 use Rattle.node_due.specs.Acting.{ComesTo, HasActed, IsLeftByActs, WasTried}
 use Rattle.node_due.specs.Ahead.{VoterIsAhead}
 use Rattle.node_core.specs.Keeps.{CoreKeeps, disk_of}

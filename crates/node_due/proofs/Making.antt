@@ -49,7 +49,7 @@ use Rattle.node_core.specs.Learning.{IsUnknown, first_of}
 use Rattle.node_outbox.specs.Handing.{HandsOut, both_more, hands_as, nothing_more}
 use Rattle.node_requests.specs.declared.acted.Acted.{Acted}
 use Rattle.node_requests.specs.declared.acted.Acted.TheVariants as came
-use Rattle.node_core.specs.declared.node_core.Core.{Core}
+use Rattle.node_core.specs.declared.node_state.Core.{Core}
 use Rattle.node_due.specs.Acting.{ComesTo, IsLeftByActs, WasTried}
 use Rattle.node_due.specs.Ahead.{VotesAreAhead, VotesGoAhead}
 use Rattle.node_core.specs.Keeps.{CoreKeeps, disk_of}

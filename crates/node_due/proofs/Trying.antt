@@ -44,7 +44,7 @@ use Rattle.node_requests.specs.Asking.{AskerKeeps, ComesToAsk, HasAsked, is_ask,
 use Rattle.node_requests.specs.Fetching.{ComesToFetch, HasFetched, RepairerKeeps, is_fetch}
 use Rattle.node_requests.specs.Following.{FollowsLeader}
 use Rattle.node_requests.specs.Leading.{NamesLeader, NoLeaderToName}
-use Rattle.node_core.specs.declared.node_core.Core.{Core}
+use Rattle.node_core.specs.declared.node_state.Core.{Core}
 use Rattle.node_due.specs.Acting.{ComesTo, HasActed, IsLeftByActs, WasSettled, WasTried}
 use Rattle.node_core.specs.Keeps.{CoreKeeps, disk_of}
 use Rattle.node_due.specs.NoneDue.{NoLeaderToFollow}

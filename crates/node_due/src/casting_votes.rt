@@ -12,7 +12,6 @@ ghost use Rattle.voter_history.specs.Past as past;
 ghost use Rattle.simplex_member.specs.Allowed.{Allowed};
 ghost use Rattle.simplex_member.specs.Member.{IsLooked};
 ghost use Rattle.simplex_member.specs.Layers.{current_of, latest, voter_of};
-ghost use Rattle.simplex_member.specs.Packet.{formats};
 ghost use Rattle.simplex_member.specs.Point.{History, Votes};
 ghost use Rattle.simplex_member.specs.Setup.{Setup};
 ghost use Rattle.node_due.specs.Acting.{WasTried};
@@ -33,7 +32,7 @@ use node_record::{
 use node_requests::{Acted, is_given_up};
 use node_votes::silent_points_leave_votes;
 use simplex_member::{
-    Action, NodeFault, due_may_be_recorded, known_nullifies_are_recorded,
+    Action, NodeFault, Speaks, due_may_be_recorded, known_nullifies_are_recorded,
     proposals_lie_in_their_views, records_stay_lawful, voters_are_orderly, voters_tell_the_record,
 };
 use simplex_messages::Vote;
@@ -51,7 +50,8 @@ pub(crate) fn try_notarize<S: Scheme<D> + Drop, L: Elector<S, D>, D: Digest, K: 
     core: &mut Core<S, L, D, K>,
     out: &mut Vec<Action<S, D>>,
 ) -> Result<Acted, NodeFault>
-    ensures tried { AtOwn S.Scheme L.Elector K.Disk (formats D.PartialEq.eq D.spelling S.Signature.spelling S.Certificate.spelling D.reading S.Signature.reading S.Certificate.reading) core.old (λ f s h. WasTried S.Scheme L.Elector K.Disk f s is_none (NoNotarizeToCast s) core.old core.new h out.old.items out.new.items result) }
+    ensures tried { AtOwn S.Scheme L.Elector K.Disk ⟦<S as Speaks<D>>⟧.formats core.old (λ f s h.
+        WasTried S.Scheme L.Elector K.Disk f s is_none (NoNotarizeToCast s) core.old core.new h out.old.items out.new.items result) }
     ensures faults { TellsOfDisk K.Disk (disk_of core.old) (disk_of core.new) result }
 {
     proposals_lie_in_their_views::<S, D>();
@@ -76,7 +76,8 @@ pub(crate) fn try_finalize<S: Scheme<D> + Drop, L: Elector<S, D>, D: Digest, K: 
     core: &mut Core<S, L, D, K>,
     out: &mut Vec<Action<S, D>>,
 ) -> Result<Acted, NodeFault>
-    ensures tried { AtOwn S.Scheme L.Elector K.Disk (formats D.PartialEq.eq D.spelling S.Signature.spelling S.Certificate.spelling D.reading S.Signature.reading S.Certificate.reading) core.old (λ f s h. WasTried S.Scheme L.Elector K.Disk f s is_none (NoFinalizeToCast s) core.old core.new h out.old.items out.new.items result) }
+    ensures tried { AtOwn S.Scheme L.Elector K.Disk ⟦<S as Speaks<D>>⟧.formats core.old (λ f s h.
+        WasTried S.Scheme L.Elector K.Disk f s is_none (NoFinalizeToCast s) core.old core.new h out.old.items out.new.items result) }
     ensures faults { TellsOfDisk K.Disk (disk_of core.old) (disk_of core.new) result }
 {
     proposals_lie_in_their_views::<S, D>();
@@ -100,7 +101,8 @@ pub(crate) fn try_nullify<S: Scheme<D> + Drop, L: Elector<S, D>, D: Digest, K: D
     core: &mut Core<S, L, D, K>,
     out: &mut Vec<Action<S, D>>,
 ) -> Result<Acted, NodeFault>
-    ensures tried { AtOwn S.Scheme L.Elector K.Disk (formats D.PartialEq.eq D.spelling S.Signature.spelling S.Certificate.spelling D.reading S.Signature.reading S.Certificate.reading) core.old (λ f s h. WasTried S.Scheme L.Elector K.Disk f s is_look (NoNullifyToCast S.Scheme f s) core.old core.new h out.old.items out.new.items result) }
+    ensures tried { AtOwn S.Scheme L.Elector K.Disk ⟦<S as Speaks<D>>⟧.formats core.old (λ f s h.
+        WasTried S.Scheme L.Elector K.Disk f s is_look (NoNullifyToCast S.Scheme f s) core.old core.new h out.old.items out.new.items result) }
     ensures faults { TellsOfDisk K.Disk (disk_of core.old) (disk_of core.new) result }
 {
     voters_are_orderly::<S, D>();
@@ -119,7 +121,11 @@ fn give_up<S: Scheme<D> + Drop, L: Elector<S, D>, D: Digest, K: Disk>(
     core: &mut Core<S, L, D, K>,
     out: &mut Vec<Action<S, D>>,
 ) -> Result<Acted, NodeFault>
-    ensures tried { AtOwn S.Scheme L.Elector K.Disk (formats D.PartialEq.eq D.spelling S.Signature.spelling S.Certificate.spelling D.reading S.Signature.reading S.Certificate.reading) core.old (λ f s h. (MayGiveUp s.voter (voter_of s h) (current_of s h) → NullifyIsDue s.voter (voter_of s h) (latest h)) → IsLooked S.Scheme f s h → WasTried S.Scheme L.Elector K.Disk f s is_none (NoNullifyToCast S.Scheme f s) core.old core.new h out.old.items out.new.items result) }
+    ensures tried { AtOwn S.Scheme L.Elector K.Disk ⟦<S as Speaks<D>>⟧.formats core.old (λ f s h.
+        (MayGiveUp s.voter (voter_of s h) (current_of s h) → NullifyIsDue s.voter (voter_of s h) (latest h))
+        → IsLooked S.Scheme f s h
+        → WasTried S.Scheme L.Elector K.Disk f s is_none (NoNullifyToCast S.Scheme f s) core.old core.new h out.old.items out.new.items
+        result) }
     ensures faults { TellsOfDisk K.Disk (disk_of core.old) (disk_of core.new) result }
 {
     due_may_be_recorded::<S, D>();
@@ -145,7 +151,13 @@ fn repeat_nullify<S: Scheme<D> + Drop, L: Elector<S, D>, D: Digest, K: Disk>(
     view: View,
     out: &mut Vec<Action<S, D>>,
 ) -> Result<Acted, NodeFault>
-    ensures tried { AtOwn S.Scheme L.Elector K.Disk (formats D.PartialEq.eq D.spelling S.Signature.spelling S.Certificate.spelling D.reading S.Signature.reading S.Certificate.reading) core.old (λ f s h. view ≡ current_of s h → past.has_nullified (seen s.voter (voter_of s h) view) ≡ true → (MayGiveUp s.voter (voter_of s h) (current_of s h) → NullifyIsDue s.voter (voter_of s h) (latest h)) → IsLooked S.Scheme f s h → WasTried S.Scheme L.Elector K.Disk f s is_none (NoNullifyToCast S.Scheme f s) core.old core.new h out.old.items out.new.items result) }
+    ensures tried { AtOwn S.Scheme L.Elector K.Disk ⟦<S as Speaks<D>>⟧.formats core.old (λ f s h.
+        view ≡ current_of s h
+        → past.has_nullified (seen s.voter (voter_of s h) view) ≡ true
+        → (MayGiveUp s.voter (voter_of s h) (current_of s h) → NullifyIsDue s.voter (voter_of s h) (latest h))
+        → IsLooked S.Scheme f s h
+        → WasTried S.Scheme L.Elector K.Disk f s is_none (NoNullifyToCast S.Scheme f s) core.old core.new h out.old.items out.new.items
+        result) }
     ensures faults { TellsOfDisk K.Disk (disk_of core.old) (disk_of core.new) result }
 {
     known_nullifies_are_recorded::<S, D>();
@@ -185,10 +197,16 @@ fn cast<S: Scheme<D> + Drop, L: Elector<S, D>, D: Digest, K: Disk>(
     out: &mut Vec<Action<S, D>>,
 ) -> Result<Acted, NodeFault>
     ensures did { IfOk result (λ done. done ≡ came.Did) }
-    ensures taken { OnOk result ((s : Setup S D S.Certificate) (h : History S D S.PublicKey S.Signature S.Certificate) → let f = (formats D.PartialEq.eq D.spelling S.Signature.spelling S.Certificate.spelling D.reading S.Signature.reading S.Certificate.reading (S.size s.voter.scheme)) in
-        VoterIsAhead S.Scheme L.Elector K.Disk f s core.old h (Votes vote) → Allowed S.Scheme f s h (Votes vote) → IsOpenTo s h (vote_round vote) → IsTaken S.Scheme L.Elector K.Disk f s core.new h (Votes vote) out.old.items out.new.items) }
-    ensures any_moment { (s : Setup S D S.Certificate) (h : History S D S.PublicKey S.Signature S.Certificate) → let f = (formats D.PartialEq.eq D.spelling S.Signature.spelling S.Certificate.spelling D.reading S.Signature.reading S.Certificate.reading (S.size s.voter.scheme)) in
-        VoterIsAhead S.Scheme L.Elector K.Disk f s core.old h (Votes vote) → Allowed S.Scheme f s h (Votes vote) → K.keeps → LeavesOnly (K.calls (disk_of core.old)) (K.calls (disk_of core.new)) (IsLeftBy S.Scheme f s h (Votes vote)) }
+    ensures taken { OnOk result ((s : Setup S D S.Certificate) (h : History S D S.PublicKey S.Signature S.Certificate)
+        → let f = (⟦<S as Speaks<D>>⟧.formats (S.size s.voter.scheme)) in VoterIsAhead S.Scheme L.Elector K.Disk f s core.old h (Votes vote)
+        → Allowed S.Scheme f s h (Votes vote)
+        → IsOpenTo s h (vote_round vote)
+        → IsTaken S.Scheme L.Elector K.Disk f s core.new h (Votes vote) out.old.items out.new.items) }
+    ensures any_moment { (s : Setup S D S.Certificate) (h : History S D S.PublicKey S.Signature S.Certificate)
+        → let f = (⟦<S as Speaks<D>>⟧.formats (S.size s.voter.scheme)) in VoterIsAhead S.Scheme L.Elector K.Disk f s core.old h (Votes vote)
+        → Allowed S.Scheme f s h (Votes vote)
+        → K.keeps
+        → LeavesOnly (K.calls (disk_of core.old)) (K.calls (disk_of core.new)) (IsLeftBy S.Scheme f s h (Votes vote)) }
     ensures faults { TellsOfDisk K.Disk (disk_of core.old) (disk_of core.new) result }
 {
     a_ledger_at_rest_leaves_its_record::<S, D, K>();

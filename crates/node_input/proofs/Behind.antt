@@ -27,7 +27,7 @@ use Rattle.simplex_member.specs.Layers.{finalized_of, known_of, latest, takes_ou
 use Rattle.simplex_member.specs.Packet.{Formats}
 use Rattle.simplex_member.specs.Point.{Outcome, Counts, Falls, Passes, Point, Built, Checked, History}
 use Rattle.simplex_member.specs.Setup.{Setup, member_of}
-use Rattle.node_core.specs.declared.node_core.Core.{Core}
+use Rattle.node_core.specs.declared.node_state.Core.{Core}
 use Rattle.node_input.specs.Answering.{TakesEvent}
 use Rattle.node_core.specs.Keeps.{CoreKeeps}
 use Rattle.node_input.proofs.Latching.{may_be_built, proposed_or_not}

@@ -33,7 +33,7 @@ use Rattle.simplex_member.specs.Packet.{Formats}
 use Rattle.simplex_member.specs.Point.{History, Judged}
 use Rattle.simplex_member.specs.Recorded.{notarization_in, record_of}
 use Rattle.simplex_member.specs.Setup.{Setup, owner_of}
-use Rattle.node_core.specs.declared.node_core.Core.{Core}
+use Rattle.node_core.specs.declared.node_state.Core.{Core}
 use Rattle.node_core.specs.Keeps.{CoreKeeps}
 use Rattle.node_input.specs.Verdicts.{RecordIsAhead}
 

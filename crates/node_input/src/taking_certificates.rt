@@ -5,7 +5,7 @@ ghost use Rattle.journal_single.specs.Disk.{LeavesOnly, counted};
 ghost use Rattle.simplex_member.specs.Allowed.{Allowed};
 ghost use Rattle.simplex_member.specs.declared.fault.NodeFault.{NodeFault};
 ghost use Rattle.simplex_member.specs.declared.fault.NodeFault.TheVariants as step_fault;
-ghost use Rattle.simplex_member.specs.Packet.{formats, of_certificate};
+ghost use Rattle.simplex_member.specs.Packet.{of_certificate};
 ghost use Rattle.simplex_member.specs.Point.{Came};
 ghost use Rattle.node_core.specs.Keeps.{AtOwn, CoreKeeps, disk_of};
 ghost use Rattle.node_core.specs.Taking.{IsLeftBy, IsTaken};
@@ -15,7 +15,7 @@ use messages_certificates::Certificate;
 use node_core::{Core, tell_voter, tell_votes, update_repair, what_is_not_recorded_is_unknown};
 use node_inbox::record;
 use node_record::a_ledger_at_rest_leaves_its_record;
-use simplex_member::{Action, NodeFault};
+use simplex_member::{Action, NodeFault, Speaks};
 use types_core::{Digest, Scheme};
 use types_terms::Elector;
 
@@ -31,10 +31,16 @@ pub(crate) fn take_certificate<S: Scheme<D> + Drop, L: Elector<S, D>, D: Digest,
     bytes: Vec<u8>,
     out: &mut Vec<Action<S, D>>,
 ) -> Result<(), NodeFault>
-    ensures taken { OnOk result (AtOwn S.Scheme L.Elector K.Disk (formats D.PartialEq.eq D.spelling S.Signature.spelling S.Certificate.spelling D.reading S.Signature.reading S.Certificate.reading) core.old (λ f s h. Allowed S.Scheme f s h (Came certificate) → bytes.items ≡ f.packet (of_certificate certificate) → IsTaken S.Scheme L.Elector K.Disk f s core.new h (Came certificate) out.old.items out.new.items)) }
+    ensures taken { OnOk result (AtOwn S.Scheme L.Elector K.Disk ⟦<S as Speaks<D>>⟧.formats core.old (λ f s h.
+        Allowed S.Scheme f s h (Came certificate)
+        → bytes.items ≡ f.packet (of_certificate certificate)
+        → IsTaken S.Scheme L.Elector K.Disk f s core.new h (Came certificate) out.old.items out.new.items)) }
 
     // A crash at any moment leaves the record from before it, with the certificate or without.
-    ensures any_moment { AtOwn S.Scheme L.Elector K.Disk (formats D.PartialEq.eq D.spelling S.Signature.spelling S.Certificate.spelling D.reading S.Signature.reading S.Certificate.reading) core.old (λ f s h. Allowed S.Scheme f s h (Came certificate) → K.keeps → LeavesOnly (K.calls (disk_of core.old)) (K.calls (disk_of core.new)) (IsLeftBy S.Scheme f s h (Came certificate))) }
+    ensures any_moment { AtOwn S.Scheme L.Elector K.Disk ⟦<S as Speaks<D>>⟧.formats core.old (λ f s h.
+        Allowed S.Scheme f s h (Came certificate)
+        → K.keeps
+        → LeavesOnly (K.calls (disk_of core.old)) (K.calls (disk_of core.new)) (IsLeftBy S.Scheme f s h (Came certificate))) }
 
     // The disk has failed once more exactly where that is told.
     ensures device { IsErrOf result NodeFault.Device → K.failed (disk_of core.new) ≡ counted false (K.failed (disk_of core.old)) }
@@ -55,8 +61,12 @@ fn learn<S: Scheme<D> + Drop, L: Elector<S, D>, D: Digest, K: Disk>(
     core: &mut Core<S, L, D, K>,
     certificate: &Certificate<S, D>,
 ) -> Result<(), NodeFault>
-    ensures taken { OnOk result (AtOwn S.Scheme L.Elector K.Disk (formats D.PartialEq.eq D.spelling S.Signature.spelling S.Certificate.spelling D.reading S.Signature.reading S.Certificate.reading) core.old (λ f s h. Allowed S.Scheme f s h (Came certificate.now) → CoreKeeps S.Scheme L.Elector K.Disk f s core.new (Came certificate.now ∷ h))) }
-    ensures any_moment { AtOwn S.Scheme L.Elector K.Disk (formats D.PartialEq.eq D.spelling S.Signature.spelling S.Certificate.spelling D.reading S.Signature.reading S.Certificate.reading) core.old (λ f s h. Allowed S.Scheme f s h (Came certificate.now) → K.keeps → LeavesOnly (K.calls (disk_of core.old)) (K.calls (disk_of core.new)) (IsLeftBy S.Scheme f s h (Came certificate.now))) }
+    ensures taken { OnOk result (AtOwn S.Scheme L.Elector K.Disk ⟦<S as Speaks<D>>⟧.formats core.old (λ f s h.
+        Allowed S.Scheme f s h (Came certificate.now) → CoreKeeps S.Scheme L.Elector K.Disk f s core.new (Came certificate.now ∷ h))) }
+    ensures any_moment { AtOwn S.Scheme L.Elector K.Disk ⟦<S as Speaks<D>>⟧.formats core.old (λ f s h.
+        Allowed S.Scheme f s h (Came certificate.now)
+        → K.keeps
+        → LeavesOnly (K.calls (disk_of core.old)) (K.calls (disk_of core.new)) (IsLeftBy S.Scheme f s h (Came certificate.now))) }
     ensures device { IsErrOf result NodeFault.Device → K.failed (disk_of core.new) ≡ counted false (K.failed (disk_of core.old)) }
     ensures no_device { IfErr result (λ why. why ≢ step_fault.Device → K.failed (disk_of core.new) ≡ K.failed (disk_of core.old)) }
     ensures no_fault { OnOk result (K.failed (disk_of core.new) ≡ K.failed (disk_of core.old)) }

@@ -7,8 +7,8 @@ ghost use Rattle.simplex_member.specs.declared.fault.NodeFault.{NodeFault};
 ghost use Rattle.types_codec.specs.Front.{AppendsFront};
 ghost use Rattle.node_wire.specs.Streaming.{AnswersOne, spelled};
 
+use crate::reply::write_reply;
 use crate::stepper::Stepper;
-use node_wire::write_reply;
 use simplex_member::{Event, IoFault, Reply};
 use std::alloc::Global;
 use std::io::Write;

@@ -4,9 +4,9 @@ ghost use Rattle.std.specs.Prelude.{◌≡◌};
 ghost use Rattle.node_wire.specs.Stepper.{Answer, AnswerBefore, AnswersNone};
 ghost use Rattle.node_wire.specs.Streaming.{EndsIn, spelled};
 
+use crate::input::EventInput;
 use crate::replying::answer;
 use crate::stepper::Stepper;
-use node_wire::EventInput;
 use simplex_member::{Event, IoFault, Reply};
 use std::alloc::Global;
 use std::io::{Read, Write};

@@ -49,8 +49,12 @@ pub(crate) fn audited(
 ) -> Status
     requires { 0 < members }
     ensures answers { (result ≡ Done) ⊎ ((result ≡ Memory) ⊎ (result ≡ Room)) }
-    ensures evidence { result ≡ Done → (fault : Option ℕ) × Names found.new.named found.new.place fault × IsEvidence members reports.now (take found.new.length room.new) fault }
-    ensures room { result ≡ Room → (fault : Option ℕ) × (written : List ℕ) × Names found.new.named found.new.place fault × IsEvidence members reports.now written fault × (found.new.length ≡ length written) × (length room.old < length written) }
+    ensures evidence { result ≡ Done
+        → (fault : Option ℕ) × Names found.new.named found.new.place fault × IsEvidence members reports.now (take found.new.length room.new)
+        fault }
+    ensures room { result ≡ Room
+        → (fault : Option ℕ) × (written : List ℕ) × Names found.new.named found.new.place fault × IsEvidence members reports.now written
+        fault × (found.new.length ≡ length written) × (length room.old < length written) }
     ensures unwritten { result ≢ Done → room.new ≡ room.old }
 {
     match evidence_in(alloc, members, reports) {
@@ -69,8 +73,12 @@ pub(crate) fn checked(
 ) -> Status
     requires { 0 < members }
     ensures answers { (result ≡ Done) ⊎ ((result ≡ Memory) ⊎ ((result ≡ Refused) ⊎ (result ≡ IsForeignEntry))) }
-    ensures lawful { result ≡ Done → (artifacts : List Entry) × HoldsEntries stored.now artifacts × IsLawful (attests_in members) (certifies_in members) owner artifacts × (found.new.length ≡ length artifacts) }
-    ensures refused { result ≡ Refused → (artifacts : List Entry) × HoldsEntries stored.now artifacts × IsRefusedAt (attests_in members) (certifies_in members) owner artifacts found.new.place × (found.new.length ≡ length artifacts) }
+    ensures lawful { result ≡ Done
+        → (artifacts : List Entry) × HoldsEntries stored.now artifacts × IsLawful (attests_in members) (certifies_in members) owner
+        artifacts × (found.new.length ≡ length artifacts) }
+    ensures refused { result ≡ Refused
+        → (artifacts : List Entry) × HoldsEntries stored.now artifacts × IsRefusedAt (attests_in members) (certifies_in members) owner
+        artifacts found.new.place × (found.new.length ≡ length artifacts) }
     ensures foreign { result ≡ IsForeignEntry → IsForeign [] IsEntry entry_spelling stored.now found.new.place }
     ensures named { (result ≡ Refused) ⊎ (result ≡ IsForeignEntry) → found.new.named ≡ 1 }
     ensures unnamed { result ≡ Done → found.new.named ≡ 0 }

@@ -5,7 +5,7 @@ use Rattle.simplex_messages.specs.Activity.{certificate_activity}
 use Rattle.simplex_member.specs.Deeds.{Finalizes, Reports, Sends}
 use Rattle.simplex_member.specs.Packet.{of_certificate}
 use Rattle.node_core.proofs.Certifying.{certificate_handed}
-use Rattle.node_core.proofs.node_core.Core.hand_certificate.Goals as goal
+use Rattle.node_core.proofs.node_state.Core.hand_certificate.Goals as goal
 
 pub returns-clause-acts : goal.returns-clause-acts
 returns-clause-acts g c = on_ok_weaker c.hand_on_at_entry.result (λ enters f s h p same k was low spelled.

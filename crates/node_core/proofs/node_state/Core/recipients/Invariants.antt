@@ -4,7 +4,7 @@ use Rattle.voter_history.specs.Leaders.{leader}
 use Rattle.simplex_member.specs.Layers.{voter_of, votes_of}
 use Rattle.node_core.specs.Entering.{gets}
 use Rattle.node_core.specs.Keeps.{AtAll}
-use Rattle.node_core.proofs.node_core.Core.recipients.Given as goal
+use Rattle.node_core.proofs.node_state.Core.recipients.Given as goal
 
 -- those who get it among the members seen so far
 abbrev pub invariant-loop-index : goal.invariant-loop-index

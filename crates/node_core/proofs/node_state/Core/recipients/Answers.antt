@@ -5,8 +5,8 @@ use Rattle.simplex_batcher.specs.Queries.{is_missing_voter}
 use Rattle.simplex_member.specs.Layers.{voter_of, votes_of}
 use Rattle.node_core.specs.Entering.{gets}
 use Rattle.node_core.proofs.Recipients.{pick_more, recipients_from}
-use Rattle.node_core.proofs.node_core.Core.recipients.Goals as goal
-use Rattle.node_core.proofs.node_core.Core.recipients.Goals.{then-gets+in_ok-push, else-gets}
+use Rattle.node_core.proofs.node_state.Core.recipients.Goals as goal
+use Rattle.node_core.proofs.node_state.Core.recipients.Goals.{then-gets+in_ok-push, else-gets}
 
 pub loop-index-preserved : goal.loop-index-preserved
 loop-index-preserved g c = λ f s h k same.

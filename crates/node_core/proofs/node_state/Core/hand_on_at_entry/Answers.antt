@@ -10,7 +10,7 @@ use Rattle.simplex_member.specs.Deeds.{HandsOn, HandsTo, hands_on}
 use Rattle.simplex_member.specs.Layers.{current_of, voter_of}
 use Rattle.node_outbox.specs.Handing.{hands_as, nothing_more}
 use Rattle.node_core.proofs.Recipients.{above_from, handed_to, not_entered, nothing_held, some_handed}
-use Rattle.node_core.proofs.node_core.Core.hand_on_at_entry.Goals as goal
+use Rattle.node_core.proofs.node_state.Core.hand_on_at_entry.Goals as goal
 
 -- no view was entered
 pub returns-then-le-clause-acts : goal.returns-then-le-clause-acts
