@@ -1,5 +1,6 @@
 """The page and its WebSocket. It listens on the loopback alone."""
 import asyncio
+import contextlib
 import json
 from collections.abc import Callable
 from pathlib import Path
@@ -12,6 +13,8 @@ from .links import LOOPBACK
 PAGE = Path(__file__).resolve().parent / "page.html"
 # How often a page is told what changed: faster than one sees.
 BEAT = 0.2
+# How long a page may take to read what it was told, in seconds, before it is sent away.
+PATIENCE = 5
 LONGEST_WISH = 1 << 10
 # What this machine is called by itself, and by no name that another may give it.
 NAMES = (LOOPBACK, "localhost")
@@ -22,12 +25,33 @@ POLICY = (
 )
 
 
+class Page:
+    """A page that is open. One that reads slowly is told the last state alone, and holds up no other one."""
+
+    def __init__(self, socket: web.WebSocketResponse) -> None:
+        self.socket, self.shown, self.is_told = socket, "", asyncio.Event()
+
+    def show(self, shown: str) -> None:
+        self.shown = shown
+        self.is_told.set()
+
+    async def tell(self, transport: asyncio.Transport) -> None:
+        """Sends what is to be shown, until the page is closed, or doesn't read: then it takes no farewell either."""
+        with contextlib.suppress(ConnectionError, TimeoutError):
+            while True:
+                await self.is_told.wait()
+                self.is_told.clear()
+                async with asyncio.timeout(PATIENCE):
+                    await self.socket.send_str(self.shown)
+        transport.abort()
+
+
 class Server:
     """Shows one committee to any number of pages."""
 
     def __init__(self, committee: Committee) -> None:
         self.committee = committee
-        self.pages: set[web.WebSocketResponse] = set()
+        self.pages: set[Page] = set()
         self.audits: set[asyncio.Task] = set()
 
     async def start(self, port: int) -> tuple[web.AppRunner, int]:
@@ -45,17 +69,20 @@ class Server:
         """A page that is open. Pages of other origins may dial a socket of the loopback too: they are sent away."""
         if request.headers.get("Origin") != f"http://{request.host}" or request.host.partition(":")[0] not in NAMES:
             raise web.HTTPForbidden()
-        page = web.WebSocketResponse(max_msg_size=LONGEST_WISH, heartbeat=20)
-        await page.prepare(request)
-        await page.send_str(self.committee.shown())
+        socket = web.WebSocketResponse(max_msg_size=LONGEST_WISH, heartbeat=20)
+        await socket.prepare(request)
+        page = Page(socket)
+        page.show(self.committee.shown())
         self.pages.add(page)
+        telling = asyncio.create_task(page.tell(request.transport))
         try:
-            async for message in page:
+            async for message in socket:
                 if message.type == WSMsgType.TEXT:
                     self.obey(message.data)
         finally:
             self.pages.discard(page)
-        return page
+            telling.cancel()
+        return socket
 
     def obey(self, wish: str) -> None:
         """Does what a button asks for, or tells why not."""
@@ -101,11 +128,5 @@ class Server:
             if self.pages and self.committee.board.changed:
                 self.committee.board.changed = False
                 shown = self.committee.shown()
-                await asyncio.gather(*(send(page, shown) for page in list(self.pages)))
-
-
-async def send(page: web.WebSocketResponse, shown: str) -> None:
-    try:
-        await page.send_str(shown)
-    except ConnectionError:
-        pass  # it was just closed
+                for page in self.pages:
+                    page.show(shown)
