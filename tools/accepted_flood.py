@@ -20,8 +20,8 @@ from member.values import (
 from member.codec import certificate_bytes, vote_bytes
 from member.voter import current
 
-# how far above the current view a certificate of the far kind lies at most
-FAR = 1_000
+# how far above the current view a certificate of the far kind lies; a finalization leaves no gap, and may lie farther
+FAR, FARTHEST = (10, 100, 1_000), (10, 1_000, 10**6, 2**32, 2**48)
 
 
 class Climb:
@@ -85,7 +85,7 @@ class Climb:
     def far(self, h):
         """Far up; a nullification or notarization that far leaves a gap that is to be repaired."""
         kind = self.pick.choice((NOTARIZATION, NULLIFICATION, FINALIZATION, FINALIZATION))
-        return self.certificate(kind, min(current(h) + self.pick.choice((10, 100, FAR)), MOST - 100))
+        return self.certificate(kind, min(current(h) + self.pick.choice(FARTHEST if kind == FINALIZATION else FAR), MOST - 100))
 
     def moment(self, h):
         ahead = self.pick.choice((0, 1, 100, 1000))
