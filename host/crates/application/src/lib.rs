@@ -32,7 +32,9 @@ impl BlockId {
 impl fmt::Display for BlockId {
     fn fmt(&self, f: &mut fmt::Formatter<'_>) -> fmt::Result {
         write!(f, "{}:", self.view)?;
-        self.payload[..6].iter().try_for_each(|byte| write!(f, "{byte:02x}"))
+        self.payload[..6]
+            .iter()
+            .try_for_each(|byte| write!(f, "{byte:02x}"))
     }
 }
 
@@ -188,7 +190,10 @@ mod tests {
         assert_eq!(block.id.view, 300);
         assert_eq!(block.parent, parent);
         assert_eq!(block.contents, b"contents");
-        assert_eq!(Block::bytes(block.id.view, block.parent, &block.contents), bytes);
+        assert_eq!(
+            Block::bytes(block.id.view, block.parent, &block.contents),
+            bytes
+        );
     }
 
     #[test]
