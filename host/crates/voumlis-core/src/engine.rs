@@ -231,7 +231,7 @@ impl Engine {
         for action in reply.actions {
             match action {
                 Action::Send { to, channel, bytes } => self.send(to, channel, bytes),
-                Action::Block(member) => self.block(member),
+                Action::Block(member) => self.network.block(member, "its node's packets"),
                 Action::Build {
                     request, context, ..
                 } => self.chain.ask(Request::Build(request, context))?,
@@ -274,20 +274,6 @@ impl Engine {
                 self.network.send_to_all(letter);
             }
         }
-    }
-
-    fn block(&self, member: u32) {
-        warn!(
-            member,
-            "blocked: its packets are such as no correct member sends"
-        );
-        self.status.change(|state| {
-            state
-                .blocked
-                .entry(member)
-                .or_insert_with(|| "its node's packets".to_owned());
-        });
-        self.network.block(member);
     }
 
     fn finalized(&mut self, life: &mut Life, proposal: Proposal) -> Result<()> {

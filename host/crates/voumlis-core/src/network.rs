@@ -32,8 +32,8 @@ pub trait Network: Send + Sync {
     /// Sends to all other members.
     fn send_to_all(&self, letter: Letter);
 
-    /// Takes nothing more of this member.
-    fn block(&self, member: u32);
+    /// Takes nothing more of this member, for this reason.
+    fn block(&self, member: u32, why: &str);
 
     /// What was sent to all of views below this final one is superseded.
     fn finalized(&self, view: u64);
