@@ -13,9 +13,12 @@ use crate::metrics::{Metrics, Status};
 use crate::network::{Current, Letter, Network};
 use crate::reports::{ReportLog, SignedReport};
 use crate::signatures::SignatureFile;
-use crate::wire::{Action, Channel, Event, LARGEST, Proposal, Reply, Report, VoteKind};
+use crate::wire::{
+    Action, Channel, Event, LARGEST, Message, On, Proposal, Reply, Report, VoteKind,
+};
 use anyhow::{Context, Result};
 use application::BlockId;
+use std::collections::HashSet;
 use std::sync::Arc;
 use std::time::{Duration, Instant};
 use tracing::{debug, info, warn};
@@ -25,6 +28,9 @@ const BATCH: usize = 32;
 
 /// The views of a term, as the program `simplex` is set up.
 const TERM: u64 = 4;
+
+/// How exactly the time is told, in milliseconds. Each telling costs the node a step.
+const BEAT: u64 = 5;
 
 /// How many final views pass between two prunings of signatures.
 const PRUNING: u64 = 64;
@@ -87,13 +93,25 @@ struct Life {
     node: Box<dyn Member>,
     start: Instant,
     wake: Option<u64>,
+    /// The moment that was told last.
+    told: u64,
     pruned: u64,
+    /// The certificates that the node reported: it would refuse each of them as a repetition.
+    recorded: HashSet<(VoteKind, On)>,
 }
 
 impl Life {
     /// Milliseconds since the opening.
     fn now(&self) -> u64 {
         self.start.elapsed().as_millis() as u64
+    }
+
+    /// Whether a packet is a certificate that the node has: all members send it to all. A packet may be lost, so it may be left out.
+    fn has_recorded(&self, message: &Message) -> bool {
+        match message {
+            Message::Certificate(it) => self.recorded.contains(&(it.kind, it.on)),
+            Message::Vote(_) | Message::Fetch(_) => false,
+        }
     }
 
     /// When the node wants to be told the time, if it does.
@@ -157,7 +175,9 @@ impl Engine {
             node,
             start: Instant::now(),
             wake: None,
+            told: 0,
             pruned: 0,
+            recorded: HashSet::new(),
         };
         self.carry_out(&mut life, first)?;
         Ok(life)
@@ -180,10 +200,19 @@ impl Engine {
 
     /// Hands the time and a batch in, has what the replies rest on synced, and carries them out.
     fn step_all(&mut self, life: &mut Life, batch: Vec<Input>) -> Result<()> {
+        let mut replies = Vec::new();
         // Deadlines are counted from the last moment that was told, so it is told with what comes.
-        let mut replies = vec![self.step(life, &Event::Moment(life.now()))?];
+        let now = life.now();
+        if batch.is_empty() || now >= life.told + BEAT {
+            life.told = now;
+            replies.push(self.step(life, &Event::Moment(now))?);
+        }
         for input in batch {
             let event = match input {
+                Input::Packet(_, opened) if life.has_recorded(&opened.message) => {
+                    self.metrics.repeated.inc();
+                    continue;
+                }
                 Input::Packet(sender, opened) => self.packet(sender, opened),
                 Input::Answer(number, event) if number == life.number => event,
                 Input::Answer(..) | Input::Stop => continue,
@@ -247,7 +276,7 @@ impl Engine {
                     self.chain.ask(Request::Forward(payload, plan))?;
                 }
                 Action::Finalized(proposal) => self.finalized(life, proposal)?,
-                Action::Report(report) => self.report(report)?,
+                Action::Report(report) => self.report(life, report)?,
                 Action::Wake(moment) => life.wake = Some(moment),
             }
         }
@@ -288,16 +317,20 @@ impl Engine {
         self.network.finalized(view);
         if view >= life.pruned + PRUNING {
             life.pruned = view;
+            life.recorded.retain(|(_, on)| on.round().view >= view);
             self.signatures.prune(&self.sealer.signatures, view)?;
         }
         self.chain.ask(Request::Finalized(proposal))
     }
 
-    fn report(&mut self, plain: Vec<u8>) -> Result<()> {
+    fn report(&mut self, life: &mut Life, plain: Vec<u8>) -> Result<()> {
         let report = Report::read(LARGEST, &plain).context("a node hands out reports")?;
         if let Report::Evidence(first, _) = &report {
             let (signer, view) = (first.attestation.signer, report.view());
             warn!(signer, view, "evidence: two votes that contradict");
+        }
+        if let Report::Certificate(certificate) = &report {
+            life.recorded.insert((certificate.kind, certificate.on));
         }
         self.enter(&report);
         if self.reports.has(&plain) {

@@ -23,6 +23,8 @@ pub struct Metrics {
     pub blocks: IntCounter,
     /// Seconds between two entries of views.
     pub view_seconds: Histogram,
+    /// Packets that were left out since the node has what they say.
+    pub repeated: IntCounter,
     /// Events that the node refused, by name.
     pub refusals: IntCounterVec,
     /// Frames that were refused before the node saw them, by name.
@@ -93,6 +95,10 @@ impl Metrics {
             applied: gauge("applied_view", "view of the last block carried out")?,
             blocks: counter("blocks", "blocks carried out")?,
             view_seconds: histogram("view_seconds", "time between two entries of views")?,
+            repeated: counter(
+                "repeated",
+                "packets left out, since the node has what they say",
+            )?,
             refusals: counters("refusals", "events the node refused", "why")?,
             frames_refused: counters("frames_refused", "frames refused by the host", "why")?,
             dropped: counters("dropped", "what found no room or was superseded", "queue")?,

@@ -241,6 +241,7 @@ impl Links {
         let queue = &self.outgoing[&peer];
         queue.acknowledged(last);
         if known.replace(run) != Some(run) {
+            queue.forget_superseded();
             queue.push_missing(self.current.letters());
         }
         self.set_sending(peer, true);

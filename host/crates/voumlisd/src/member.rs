@@ -238,14 +238,12 @@ async fn work(folder: &Path, settings: Settings, service: Service) -> Result<()>
         _ = ended.recv() => {}
     }
     inbox.stop();
-    chain.offer(Request::Stop);
     let threads = tokio::task::spawn_blocking(move || {
+        // The loop ends first: it asks the application's thread until then.
         let engine = joined(engine_thread);
-        // The loop may have waited for the application's thread: now there is room.
-        let stopped = chain.ask(Request::Stop);
-        let application = joined(chain_thread);
-        drop(stopped);
-        application.and(engine)
+        // Where that thread has ended there is nobody to stop, and its ending says why.
+        let _ = chain.ask(Request::Stop);
+        joined(chain_thread).and(engine)
     });
     threads.await?
 }

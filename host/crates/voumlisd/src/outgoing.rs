@@ -64,6 +64,12 @@ impl Outgoing {
         self.filled.notify_one();
     }
 
+    /// Forgets what is superseded: a peer that was away is told what is current in its place.
+    pub fn forget_superseded(&self) {
+        let mut waiting = self.waiting.lock().expect("no thread failed with it");
+        self.drop_some("superseded", waiting.forget_superseded());
+    }
+
     /// Puts in what a peer that was away has to hear, as far as it doesn't wait already.
     pub fn push_missing(&self, letters: Vec<Letter>) {
         for letter in letters {

@@ -1,7 +1,7 @@
 use super::{Channel, Payload, Reader, Trouble, put_number};
 
 /// An epoch and a view.
-#[derive(Clone, Copy, Debug, PartialEq, Eq)]
+#[derive(Clone, Copy, Debug, PartialEq, Eq, Hash)]
 pub struct Round {
     /// The epoch.
     pub epoch: u64,
@@ -10,7 +10,7 @@ pub struct Round {
 }
 
 /// What is voted on.
-#[derive(Clone, Copy, Debug, PartialEq, Eq)]
+#[derive(Clone, Copy, Debug, PartialEq, Eq, Hash)]
 pub struct Proposal {
     /// Its round.
     pub round: Round,
@@ -21,7 +21,7 @@ pub struct Proposal {
 }
 
 /// What a vote is on: a proposal, or a round that is given up.
-#[derive(Clone, Copy, Debug, PartialEq, Eq)]
+#[derive(Clone, Copy, Debug, PartialEq, Eq, Hash)]
 pub enum On {
     /// Of notarize and finalize.
     Proposal(Proposal),
