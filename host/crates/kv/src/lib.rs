@@ -3,7 +3,9 @@
 pub mod batch;
 pub mod command;
 pub mod machine;
+mod pool;
 mod reader;
 pub mod snapshot;
+pub mod store;
 
 pub use reader::Malformed;

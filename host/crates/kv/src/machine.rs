@@ -123,7 +123,7 @@ pub struct Forgotten;
 /// Keys with their histories, and each client's last request.
 #[derive(Clone, Debug)]
 pub struct Machine {
-    pub(crate) limits: Limits,
+    limits: Limits,
     pub(crate) at: BlockId,
     pub(crate) chain: [u8; 32],
     pub(crate) keys: BTreeMap<Key, History>,
@@ -149,6 +149,11 @@ impl Machine {
             uses: 0,
             bytes: 0,
         }
+    }
+
+    /// What it may grow to.
+    pub fn limits(&self) -> &Limits {
+        &self.limits
     }
 
     /// The last block that was carried out.
