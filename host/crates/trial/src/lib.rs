@@ -1,6 +1,9 @@
 //! A trial of a committee of real processes: clients on its store while links and members fail, and checks
 //! of all that was seen.
 
+pub mod acknowledged;
+pub mod chains;
 pub mod history;
 pub mod linearizable;
 pub mod random;
+pub mod votes;
