@@ -14,7 +14,8 @@ pub struct Limits {
     pub bytes: usize,
     /// Versions of a key that are kept.
     pub versions: usize,
-    /// Clients whose last request is known.
+    /// Clients whose last request is known: so many that had one request, and so many that had more. So
+    /// the many that come once don't push out those that stay.
     pub clients: usize,
     /// For how many views the history of a deleted key is kept.
     pub deleted_views: u64,
@@ -98,6 +99,13 @@ pub(crate) struct Session {
     pub(crate) used: u64,
 }
 
+impl Session {
+    /// Its place in [`Machine::recency`].
+    fn class(&self) -> usize {
+        usize::from(self.number > 1)
+    }
+}
+
 /// The outcomes that are remembered.
 #[derive(Clone, Copy, Debug, PartialEq, Eq)]
 pub(crate) enum Recorded {
@@ -130,7 +138,8 @@ pub struct Machine {
     pub(crate) clients: BTreeMap<ClientId, Session>,
     /// Deletes by view. One that was overwritten since is passed over when its time comes.
     deleted: BTreeSet<(u64, Key)>,
-    recency: BTreeMap<u64, ClientId>,
+    /// Clients that had one request, and those that had more, each the longest silent first.
+    recency: [BTreeMap<u64, ClientId>; 2],
     uses: u64,
     bytes: usize,
 }
@@ -145,7 +154,7 @@ impl Machine {
             keys: BTreeMap::new(),
             clients: BTreeMap::new(),
             deleted: BTreeSet::new(),
-            recency: BTreeMap::new(),
+            recency: Default::default(),
             uses: 0,
             bytes: 0,
         }
@@ -358,28 +367,26 @@ impl Machine {
             outcome,
             used: self.uses,
         };
+        let class = session.class();
         if let Some(before) = self.clients.insert(client, session) {
-            self.recency.remove(&before.used);
+            self.recency[before.class()].remove(&before.used);
         }
-        self.recency.insert(self.uses, client);
-        while self.clients.len() > self.limits.clients {
-            let Some((_, oldest)) = self.recency.pop_first() else {
+        self.recency[class].insert(self.uses, client);
+        while self.recency[class].len() > self.limits.clients {
+            let Some((_, oldest)) = self.recency[class].pop_first() else {
                 return;
             };
             self.clients.remove(&oldest);
         }
     }
 
-    /// The clients, the one whose last request is oldest first.
-    pub(crate) fn clients_by_recency(
-        &self,
-    ) -> impl ExactSizeIterator<Item = (&ClientId, &Session)> {
-        self.recency
-            .values()
-            .map(|client| (client, &self.clients[client]))
+    /// The clients: those that had one request, then those that had more, each the longest silent first.
+    pub(crate) fn clients_by_recency(&self) -> impl Iterator<Item = (&ClientId, &Session)> {
+        let clients = self.recency.iter().flat_map(BTreeMap::values);
+        clients.map(|client| (client, &self.clients[client]))
     }
 
-    /// The state of these parts, `clients` by recency and no client twice.
+    /// The state of these parts: no client twice, and `used` by recency.
     pub(crate) fn of_parts(
         limits: Limits,
         at: BlockId,
@@ -402,10 +409,10 @@ impl Machine {
             .iter()
             .map(|(key, history)| history_cost(key, history))
             .sum();
-        let recency = clients
-            .iter()
-            .map(|(client, session)| (session.used, *client))
-            .collect();
+        let mut recency = [BTreeMap::new(), BTreeMap::new()];
+        for (client, session) in &clients {
+            recency[session.class()].insert(session.used, *client);
+        }
         let uses = clients.last().map_or(0, |(_, session)| session.used);
         let clients = clients.into_iter().collect();
         Machine {
@@ -601,21 +608,34 @@ pub(crate) mod tests {
     #[test]
     fn the_client_that_was_longest_silent_is_forgotten_and_cannot_repeat() {
         let mut machine = Machine::new(small());
-        outcomes(
-            &mut machine,
-            1,
-            &[request(1, 1, put("a", "1")), request(2, 1, put("a", "2"))],
-        );
-        outcomes(
-            &mut machine,
-            2,
-            &[request(1, 2, put("a", "3")), request(3, 1, put("b", "4"))],
-        );
+        for client in 1..=3 {
+            let requests = [1, 2].map(|number| request(client, number, put("a", "1")));
+            outcomes(&mut machine, client.into(), &requests);
+        }
         assert_eq!(machine.clients.len(), 2);
-        assert!(machine.known(&request(1, 2, put("a", "3"))).is_some());
+        assert!(machine.known(&request(2, 2, put("a", "1"))).is_some());
         assert_eq!(
-            outcomes(&mut machine, 3, &[request(2, 2, put("a", "5"))]),
+            outcomes(&mut machine, 4, &[request(1, 2, put("a", "1"))]),
             [Outcome::UnknownClient]
+        );
+    }
+
+    #[test]
+    fn clients_that_come_once_push_out_none_that_stay() {
+        let mut machine = Machine::new(small());
+        let stays = [1, 2].map(|number| request(1, number, put("a", "1")));
+        outcomes(&mut machine, 1, &stays);
+        for client in 10..20 {
+            outcomes(
+                &mut machine,
+                client.into(),
+                &[request(client, 1, put("a", "2"))],
+            );
+        }
+        assert_eq!(machine.clients.len(), 3);
+        assert_eq!(
+            outcomes(&mut machine, 30, &[request(1, 3, put("a", "3"))]),
+            [Outcome::Written]
         );
     }
 

@@ -9,7 +9,7 @@
 //! | the chain's hash | 32 |
 //! | keys | how many in 4; for each, by rising key: the key, `01` if older versions were forgotten, else `00`, how many versions in 2, the versions |
 //! | version of a key | view in 8, position in 2, value or none |
-//! | clients | how many in 4; for each, the longest silent first: name in 16, number in 8, digest in 32, view in 8, outcome |
+//! | clients | how many in 4; for each, those of number 1 first, of each sort the longest silent first: name in 16, number in 8, digest in 32, view in 8, outcome |
 //! | outcome | `00` written, `01` mismatch, `02` full |
 
 use crate::command::{ClientId, Key, Value};
@@ -38,9 +38,8 @@ pub fn spell(machine: &Machine) -> Vec<u8> {
             Value::append_option(version.value.as_ref(), &mut bytes);
         }
     }
-    let clients = machine.clients_by_recency();
-    bytes.extend((clients.len() as u32).to_be_bytes());
-    for (client, session) in clients {
+    bytes.extend((machine.clients.len() as u32).to_be_bytes());
+    for (client, session) in machine.clients_by_recency() {
         bytes.extend(client.0);
         bytes.extend(session.number.to_be_bytes());
         bytes.extend(session.digest);
@@ -132,15 +131,18 @@ fn read_clients(
     limits: &Limits,
 ) -> Result<Vec<(ClientId, Session)>, Malformed> {
     let count = reader.u32()? as usize;
-    if count > limits.clients {
+    if count > 2 * limits.clients {
         return Err(Malformed::TooLong);
     }
     let mut names = HashSet::new();
-    let mut clients = Vec::new();
+    let mut clients: Vec<(ClientId, Session)> = Vec::new();
+    let mut stayed = 0;
     for used in 1..=count as u64 {
         let client = ClientId(reader.array()?);
         let number = reader.u64()?;
-        if number == 0 || !names.insert(client) {
+        stayed += usize::from(number > 1);
+        let is_late = number == 1 && stayed > 0;
+        if number == 0 || is_late || !names.insert(client) {
             return Err(Malformed::Invalid);
         }
         let (digest, view) = (reader.array()?, reader.u64()?);
@@ -150,16 +152,17 @@ fn read_clients(
             2 => Recorded::Full,
             _ => return Err(Malformed::Invalid),
         };
-        clients.push((
-            client,
-            Session {
-                number,
-                digest,
-                view,
-                outcome,
-                used,
-            },
-        ));
+        let session = Session {
+            number,
+            digest,
+            view,
+            outcome,
+            used,
+        };
+        clients.push((client, session));
+    }
+    if stayed > limits.clients || clients.len() - stayed > limits.clients {
+        return Err(Malformed::TooLong);
     }
     Ok(clients)
 }
