@@ -2,6 +2,7 @@
 
 pub mod batch;
 pub mod command;
+pub mod http;
 pub mod machine;
 mod pool;
 mod reader;
