@@ -5,5 +5,6 @@ pub mod acknowledged;
 pub mod chains;
 pub mod history;
 pub mod linearizable;
+pub mod proxy;
 pub mod random;
 pub mod votes;
