@@ -5,6 +5,10 @@ pub mod acknowledged;
 pub mod chains;
 pub mod history;
 pub mod linearizable;
+pub mod plant;
 pub mod proxy;
 pub mod random;
+pub mod seen;
+#[cfg(test)]
+mod simulated;
 pub mod votes;
