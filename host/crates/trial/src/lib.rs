@@ -3,6 +3,7 @@
 
 pub mod acknowledged;
 pub mod chains;
+pub mod client;
 pub mod history;
 pub mod linearizable;
 pub mod plant;
@@ -12,3 +13,4 @@ pub mod seen;
 #[cfg(test)]
 mod simulated;
 pub mod votes;
+pub mod workload;
