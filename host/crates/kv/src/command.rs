@@ -252,6 +252,18 @@ impl Request {
         self.command.append_to(bytes);
     }
 
+    /// The request that these bytes are exactly.
+    ///
+    /// # Errors
+    ///
+    /// The first trouble from the left.
+    pub fn of_bytes(bytes: &[u8]) -> Result<Request, Malformed> {
+        let mut reader = Reader::new(bytes);
+        let request = Request::read(&mut reader)?;
+        reader.end()?;
+        Ok(request)
+    }
+
     pub(crate) fn read(reader: &mut Reader<'_>) -> Result<Request, Malformed> {
         let client = ClientId(reader.array()?);
         let number = reader.u64()?;
@@ -329,13 +341,6 @@ pub(crate) mod tests {
         ]
     }
 
-    fn read(bytes: &[u8]) -> Result<Request, Malformed> {
-        let mut reader = Reader::new(bytes);
-        let request = Request::read(&mut reader)?;
-        reader.end()?;
-        Ok(request)
-    }
-
     #[test]
     fn a_put_is_spelled_as_the_page_says() {
         let mut bytes = Vec::new();
@@ -355,17 +360,17 @@ pub(crate) mod tests {
             let request = request(1, 9, command);
             let mut bytes = Vec::new();
             request.append_to(&mut bytes);
-            assert_eq!(read(&bytes), Ok(request.clone()));
+            assert_eq!(Request::of_bytes(&bytes), Ok(request.clone()));
             assert_eq!(request.length(), bytes.len());
             for cut in 0..bytes.len() {
                 assert_eq!(
-                    read(&bytes[..cut]),
+                    Request::of_bytes(&bytes[..cut]),
                     Err(Malformed::End),
                     "{request:?} cut at {cut}"
                 );
             }
             bytes.push(0);
-            assert_eq!(read(&bytes), Err(Malformed::Trailing));
+            assert_eq!(Request::of_bytes(&bytes), Err(Malformed::Trailing));
         }
     }
 
@@ -375,10 +380,10 @@ pub(crate) mod tests {
         request(1, 1, put("k", "v")).append_to(&mut bytes);
         let mut nought = bytes.clone();
         nought[23] = 0;
-        assert_eq!(read(&nought), Err(Malformed::Invalid));
+        assert_eq!(Request::of_bytes(&nought), Err(Malformed::Invalid));
         let mut tag = bytes.clone();
         tag[24] = 4;
-        assert_eq!(read(&tag), Err(Malformed::Invalid));
+        assert_eq!(Request::of_bytes(&tag), Err(Malformed::Invalid));
     }
 
     #[test]
@@ -391,7 +396,7 @@ pub(crate) mod tests {
         };
         request(1, 1, command).append_to(&mut bytes);
         *bytes.last_mut().unwrap() = 2;
-        assert_eq!(read(&bytes), Err(Malformed::Invalid));
+        assert_eq!(Request::of_bytes(&bytes), Err(Malformed::Invalid));
     }
 
     #[test]
@@ -406,7 +411,7 @@ pub(crate) mod tests {
         );
         let mut head = vec![1; 23];
         head.push(1);
-        let behind = |tail: &[u8]| read(&[&head, tail].concat());
+        let behind = |tail: &[u8]| Request::of_bytes(&[&head, tail].concat());
         assert_eq!(behind(&[0, 0, 0]), Err(Malformed::Invalid));
         assert_eq!(behind(&[0, 2, 1]), Err(Malformed::TooLong));
         assert_eq!(

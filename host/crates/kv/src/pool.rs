@@ -4,12 +4,18 @@ use crate::batch::Room;
 use crate::command::{Request, RequestId};
 use crate::machine::Answer;
 use std::collections::{BTreeMap, HashMap, HashSet};
+use std::time::{Duration, Instant};
 use tokio::sync::oneshot;
 
 /// Requests that may wait.
 const MOST_PENDING: usize = 16_384;
 /// Bytes that may wait.
 const MOST_BYTES: usize = 64 << 20;
+/// Of these, for each member that passes requests on.
+const MOST_OF_A_PEER: usize = 2_048;
+const MOST_BYTES_OF_A_PEER: usize = 8 << 20;
+/// How long a request waits that another member passed on.
+const LIFE_OF_PASSED_ON: Duration = Duration::from_secs(15);
 
 /// Why a request wasn't taken. It isn't carried out for having been sent here.
 #[derive(Clone, Copy, Debug, PartialEq, Eq)]
@@ -27,6 +33,15 @@ struct Pending {
     length: usize,
     place: u64,
     waiters: HashMap<u64, oneshot::Sender<Answer>>,
+    /// Who passed it on, and when, if a member did.
+    from: Option<(u32, Instant)>,
+}
+
+/// What waits of one member's.
+#[derive(Debug, Default)]
+struct OfPeer {
+    count: usize,
+    bytes: usize,
 }
 
 /// The requests that wait, and who waits for their answers.
@@ -36,6 +51,7 @@ pub(crate) struct Pool {
     order: BTreeMap<u64, RequestId>,
     bytes: usize,
     count: u64,
+    of_peers: HashMap<u32, OfPeer>,
 }
 
 impl Pool {
@@ -47,11 +63,12 @@ impl Pool {
         self.pending.is_empty()
     }
 
-    /// Takes a request in: whether it is new here. One that waits already is passed over.
+    /// Takes a request of a client in: whether it is new here. One that waits already is passed over.
     pub(crate) fn insert(&mut self, request: Request) -> Result<bool, Refused> {
         let (digest, length) = (request.digest(), request.length());
         if let Some(pending) = self.pending.get(&request.id) {
-            return if pending.digest == digest {
+            let is_same = pending.digest == digest;
+            return if is_same {
                 Ok(false)
             } else {
                 Err(Refused::Busy)
@@ -60,22 +77,59 @@ impl Pool {
         if self.pending.len() >= MOST_PENDING || self.bytes + length > MOST_BYTES {
             return Err(Refused::Crowded);
         }
+        self.push(request, digest, length, None);
+        Ok(true)
+    }
+
+    /// Takes a request in that another member passed on, if there is room for it.
+    pub(crate) fn insert_passed_on(&mut self, from: u32, request: Request, now: Instant) -> bool {
+        let (digest, length) = (request.digest(), request.length());
+        let of_peer = self.of_peers.entry(from).or_default();
+        let is_full =
+            of_peer.count >= MOST_OF_A_PEER || of_peer.bytes + length > MOST_BYTES_OF_A_PEER;
+        if is_full || self.pending.contains_key(&request.id) {
+            return false;
+        }
+        of_peer.count += 1;
+        of_peer.bytes += length;
+        self.push(request, digest, length, Some((from, now)));
+        true
+    }
+
+    fn push(
+        &mut self,
+        request: Request,
+        digest: [u8; 32],
+        length: usize,
+        from: Option<(u32, Instant)>,
+    ) {
         self.count += 1;
         let place = self.count;
         self.bytes += length;
         self.order.insert(place, request.id);
         let waiters = HashMap::new();
-        self.pending.insert(
-            request.id,
-            Pending {
-                request,
-                digest,
-                length,
-                place,
-                waiters,
-            },
-        );
-        Ok(true)
+        let pending = Pending {
+            request,
+            digest,
+            length,
+            place,
+            waiters,
+            from,
+        };
+        self.pending.insert(pending.request.id, pending);
+    }
+
+    /// Drops what was passed on long ago and got into no block, and for which nobody waits here.
+    pub(crate) fn forget_old(&mut self, now: Instant) {
+        let is_old = |pending: &Pending| {
+            let since = pending.from.map(|(_, since)| now.duration_since(since));
+            pending.waiters.is_empty() && since.is_some_and(|since| since > LIFE_OF_PASSED_ON)
+        };
+        let old = self.pending.values().filter(|pending| is_old(pending));
+        let old: Vec<RequestId> = old.map(|pending| pending.request.id).collect();
+        for id in old {
+            self.remove(id);
+        }
     }
 
     /// Has an answer sent here, and gives the number to stop waiting by. The request has to wait.
@@ -143,6 +197,12 @@ impl Pool {
         let pending = self.pending.remove(&id)?;
         self.order.remove(&pending.place);
         self.bytes -= pending.length;
+        if let Some((from, _)) = pending.from
+            && let Some(of_peer) = self.of_peers.get_mut(&from)
+        {
+            of_peer.count -= 1;
+            of_peer.bytes -= pending.length;
+        }
         Some(pending)
     }
 
@@ -236,6 +296,29 @@ mod tests {
         let chosen: Vec<_> = pool.batch(&none).into_iter().cloned().collect();
         assert_eq!(chosen.len(), 17);
         assert_eq!(batch::read(&batch::spell(chosen.iter())), Ok(chosen));
+    }
+
+    #[test]
+    fn what_a_member_passes_on_has_bounds_and_an_end() {
+        let mut pool = Pool::default();
+        let start = Instant::now();
+        let passed = |number| request(1, number, put("a", "1"));
+        for number in 1..=MOST_OF_A_PEER as u64 {
+            assert!(pool.insert_passed_on(2, passed(number), start));
+        }
+        let next = passed(MOST_OF_A_PEER as u64 + 1);
+        assert!(!pool.insert_passed_on(2, next.clone(), start));
+        assert!(pool.insert_passed_on(3, next.clone(), start));
+        pool.answer(&passed(1), &written());
+        assert!(pool.insert_passed_on(2, passed(1), start));
+        // Whoever waits for one keeps it.
+        assert_eq!(pool.insert(next.clone()), Ok(false));
+        let _waiting = pool.wait(next.id).unwrap();
+        pool.forget_old(start + LIFE_OF_PASSED_ON);
+        assert_eq!(pool.len(), MOST_OF_A_PEER + 1);
+        pool.forget_old(start + LIFE_OF_PASSED_ON * 2);
+        assert_eq!(pool.ids(), [next.id]);
+        assert!(pool.insert_passed_on(2, passed(1), start));
     }
 
     #[test]

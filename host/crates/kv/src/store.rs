@@ -6,11 +6,11 @@ use crate::machine::{Answer, Forgotten, History, Limits, Machine};
 use crate::pool::Pool;
 pub use crate::pool::Refused;
 use crate::snapshot;
-use application::{Application, Block, BlockId, Context, RestoreError, Wake};
+use application::{Application, Block, BlockId, Context, Gossip, RestoreError, Wake};
 use serde::Serialize;
 use std::collections::{HashSet, VecDeque};
 use std::sync::{Arc, Mutex, MutexGuard, OnceLock, PoisonError};
-use std::time::Duration;
+use std::time::{Duration, Instant};
 use tokio::sync::watch;
 use tokio::time::timeout;
 
@@ -23,6 +23,7 @@ struct Shared {
     state: Mutex<State>,
     view: watch::Sender<u64>,
     wake: OnceLock<Wake>,
+    gossip: OnceLock<Gossip>,
 }
 
 #[derive(Debug)]
@@ -113,6 +114,7 @@ impl Store {
                 state: Mutex::new(state),
                 view,
                 wake: OnceLock::new(),
+                gossip: OnceLock::new(),
             }),
         }
     }
@@ -133,7 +135,8 @@ impl Application for Store {
             .flatten()
             .map(|request| request.id)
             .collect();
-        let state = self.shared.state();
+        let mut state = self.shared.state();
+        state.pool.forget_old(Instant::now());
         Some(batch::spell(state.pool.batch(&taken).into_iter()))
     }
 
@@ -205,6 +208,20 @@ impl Application for Store {
         let _ = self.shared.wake.set(wake);
     }
 
+    fn introduce(&mut self, gossip: Gossip) {
+        let _ = self.shared.gossip.set(gossip);
+    }
+
+    fn hear(&mut self, from: u32, message: &[u8]) {
+        // Whatever else it may be, it is dropped: whoever leads then lacks a request, nothing more.
+        if let Ok(request) = Request::of_bytes(message) {
+            let mut state = self.shared.state();
+            if state.machine.known(&request).is_none() {
+                state.pool.insert_passed_on(from, request, Instant::now());
+            }
+        }
+    }
+
     fn has_work(&self) -> bool {
         !self.shared.state().pool.is_empty()
     }
@@ -219,13 +236,15 @@ impl Clients {
     /// Where there is no answer, see [`NoAnswer`].
     pub async fn submit(&self, request: Request, patience: Duration) -> Result<Answer, NoAnswer> {
         let id = request.id;
-        let (waiter, receiver) = {
+        let mut spelled = Vec::new();
+        request.append_to(&mut spelled);
+        let (is_new, (waiter, receiver)) = {
             let mut state = self.shared.state();
             if let Some(answer) = state.machine.known(&request) {
                 return Ok(answer);
             }
-            state.pool.insert(request).map_err(NoAnswer::Refused)?;
-            state.pool.wait(id).ok_or(NoAnswer::Unknown)?
+            let is_new = state.pool.insert(request).map_err(NoAnswer::Refused)?;
+            (is_new, state.pool.wait(id).ok_or(NoAnswer::Unknown)?)
         };
         let _waiting = Waiting {
             shared: &self.shared,
@@ -234,6 +253,12 @@ impl Clients {
         };
         if let Some(wake) = self.shared.wake.get() {
             wake.wake();
+        }
+        // Whoever leads builds it: else it would wait until this member does.
+        if let Some(gossip) = self.shared.gossip.get()
+            && is_new
+        {
+            gossip.tell(&spelled);
         }
         match timeout(patience, receiver).await {
             Ok(Ok(answer)) => Ok(answer),
@@ -574,6 +599,38 @@ mod tests {
         chain.store.finalized(&bad);
         let summary = chain.store.clients().summary();
         assert_eq!((summary.malformed, summary.view), (1, 1));
+    }
+
+    #[tokio::test]
+    async fn a_request_is_passed_on_and_built_by_another_member() {
+        let (mut one, mut other) = (Chain::new(), Chain::new());
+        let told = Arc::new(Mutex::new(Vec::new()));
+        let messages = Arc::clone(&told);
+        one.store.introduce(Gossip::new(move |message| {
+            messages.lock().unwrap().push(message.to_vec());
+        }));
+        let clients = one.store.clients();
+        let task =
+            tokio::spawn(
+                async move { clients.submit(request(1, 1, put("a", "1")), PATIENCE).await },
+            );
+        one.pending(1).await;
+        while told.lock().unwrap().is_empty() {
+            tokio::task::yield_now().await;
+        }
+        let message = told.lock().unwrap().pop().unwrap();
+        other.store.hear(0, &message[1..]);
+        assert!(!other.store.has_work());
+        other.store.hear(0, &message);
+        assert!(other.store.has_work());
+        let block = other.build(&[]);
+        other.finalize(&block);
+        one.finalize(&block);
+        let answer = task.await.unwrap().unwrap();
+        assert_eq!(answer.outcome, Outcome::Written);
+        assert!(!other.store.has_work());
+        other.store.hear(0, &message);
+        assert!(!other.store.has_work());
     }
 
     #[tokio::test]
