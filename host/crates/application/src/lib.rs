@@ -128,6 +128,36 @@ impl fmt::Debug for Wake {
     }
 }
 
+/// Tells the applications of the other members something. It may be called from any thread, and costs little.
+///
+/// What is told may be lost, as where a connection ends or there is no room, and it may come late: nothing that has to arrive goes this
+/// way. At most [`LONGEST_MESSAGE`] bytes are told; longer ones are dropped.
+#[derive(Clone)]
+pub struct Gossip(Arc<dyn Fn(&[u8]) + Send + Sync>);
+
+/// The most bytes of a message between applications.
+pub const LONGEST_MESSAGE: usize = 1 << 18;
+
+impl Gossip {
+    /// A handle that calls this function.
+    pub fn new(call: impl Fn(&[u8]) + Send + Sync + 'static) -> Gossip {
+        Gossip(Arc::new(call))
+    }
+
+    /// Tells all other members' applications this.
+    pub fn tell(&self, message: &[u8]) {
+        if message.len() <= LONGEST_MESSAGE {
+            (self.0)(message);
+        }
+    }
+}
+
+impl fmt::Debug for Gossip {
+    fn fmt(&self, f: &mut fmt::Formatter<'_>) -> fmt::Result {
+        f.write_str("Gossip")
+    }
+}
+
 /// What a member asks of its application. All calls come from one thread, in order.
 ///
 /// **All correct members have to judge alike.** So `verify` and `certify` look at what they are given and at the state behind the last
@@ -166,6 +196,16 @@ pub trait Application: Send {
     /// Handed over once, before any other call: whoever brings the application work calls it.
     fn attach(&mut self, wake: Wake) {
         let _ = wake;
+    }
+
+    /// Handed over once, before any other call but `attach`: it reaches the other members' applications.
+    fn introduce(&mut self, gossip: Gossip) {
+        let _ = gossip;
+    }
+
+    /// What the application of another member told, or that member in its place: it may be anything.
+    fn hear(&mut self, from: u32, message: &[u8]) {
+        let _ = (from, message);
     }
 
     /// Whether there is something to propose. Where there isn't, the host waits a while (a setting) for a [`Wake`] before it has a block

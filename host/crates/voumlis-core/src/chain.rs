@@ -13,7 +13,7 @@ use crate::network::{Letter, Network};
 use crate::snapshots::{Joining, Next, Snapshot, SnapshotFile};
 use crate::wire::{self, Event, Payload, Plan, Proposal};
 use anyhow::{Context as _, Result};
-use application::{Application, Block, BlockId, Context, Wake};
+use application::{Application, Block, BlockId, Context, Gossip, LONGEST_MESSAGE, Wake};
 use std::collections::HashMap;
 use std::path::Path;
 use std::sync::Arc;
@@ -185,6 +185,22 @@ pub struct Chain {
     answers: HashMap<u32, Allowance>,
 }
 
+/// For so many views what an application tells is kept for a peer that isn't reached, if there is little room.
+const NEWS: u64 = 16;
+
+/// What applications tell each other goes to all peers, and is superseded soon.
+fn gossip(around: &Surroundings) -> Gossip {
+    let (network, status) = (around.network.clone(), around.status.clone());
+    Gossip::new(move |message| {
+        let frame = Frame::Told(message.to_vec());
+        let finalized = status.change(|state| state.finalized.view);
+        network.send_to_all(Letter {
+            view: Some(finalized + NEWS),
+            ..Letter::new(&frame)
+        });
+    })
+}
+
 fn parent_of(context: &wire::Context) -> BlockId {
     BlockId {
         view: context.parent,
@@ -224,6 +240,7 @@ impl Chain {
         let snapshot = snapshots.read()?;
         let mut applied = BlockId::GENESIS;
         application.attach(handle.wake());
+        application.introduce(gossip(&around));
         if let Some(snapshot) = &snapshot {
             application.restore(&snapshot.at, &snapshot.bytes)?;
             applied = snapshot.at;
@@ -623,6 +640,11 @@ impl Chain {
                 if let Some(joining) = &mut self.joining {
                     let next = joining.piece(Instant::now(), digest, from, &bytes);
                     self.go_on_joining(next)?;
+                }
+            }
+            Frame::Told(message) => {
+                if message.len() <= LONGEST_MESSAGE {
+                    self.application.hear(sender, &message);
                 }
             }
             Frame::Packet(_) => {}

@@ -46,6 +46,8 @@ pub enum Frame {
         /// The bytes.
         bytes: Vec<u8>,
     },
+    /// What an application tells the others.
+    Told(Vec<u8>),
 }
 
 /// A snapshot that a member has.
@@ -106,6 +108,10 @@ impl Frame {
                 bytes.extend(from.to_be_bytes());
                 bytes.extend(piece);
             }
+            Frame::Told(message) => {
+                bytes.push(8);
+                bytes.extend(message);
+            }
         }
         bytes
     }
@@ -117,7 +123,7 @@ impl Frame {
     /// The first trouble from the left.
     pub fn read(bytes: &[u8]) -> Result<Frame, Trouble> {
         let mut reader = Reader::new(bytes);
-        let frame = match reader.one_of(8)? {
+        let frame = match reader.one_of(9)? {
             0 => Frame::Packet(reader.sealed()?),
             1 => Frame::Block(reader.rest().to_vec()),
             2 => Frame::AskBlocks {
@@ -138,11 +144,12 @@ impl Frame {
                 digest: reader.array()?,
                 from: reader.fixed()?,
             },
-            _ => Frame::Piece {
+            7 => Frame::Piece {
                 digest: reader.array()?,
                 from: reader.fixed()?,
                 bytes: reader.rest().to_vec(),
             },
+            _ => Frame::Told(reader.rest().to_vec()),
         };
         if reader.is_at_end() {
             Ok(frame)
@@ -207,6 +214,7 @@ mod tests {
                 from: 4,
                 bytes: vec![8; 9],
             },
+            Frame::Told(vec![6; 20]),
         ]
     }
 
@@ -227,7 +235,7 @@ mod tests {
             let longer = [&bytes[..], &[0]].concat();
             assert_ne!(Frame::read(&longer), Ok(frame));
         }
-        assert_eq!(Frame::read(&[8]), Err(Trouble::Invalid));
+        assert_eq!(Frame::read(&[9]), Err(Trouble::Invalid));
         assert_eq!(Frame::read(&[]), Err(Trouble::End));
         // A packet that claims 2^32-1 bytes takes no memory for them.
         assert_eq!(
