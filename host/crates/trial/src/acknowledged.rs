@@ -1,6 +1,7 @@
 //! Whether what was acknowledged is in the store, in the order in which it was seen to happen.
 
 use crate::history::{Call, Entry, Happened, Operation, Told};
+use crate::workload::LocalRead;
 use serde::{Deserialize, Serialize};
 use std::collections::{BTreeMap, HashMap};
 
@@ -91,6 +92,35 @@ pub fn out_of_order(entries: &[Entry]) -> Vec<String> {
     lines
 }
 
+/// The reads in members' states that told another value than the key had behind the view that they told: a line for each. Of views
+/// that are forgotten nothing is said.
+pub fn wrong_reads(reads: &[LocalRead], versions: &BTreeMap<String, Versions>) -> Vec<String> {
+    let none = Versions::default();
+    let wrong = reads.iter().filter_map(|read| {
+        let kept = versions.get(&read.key).unwrap_or(&none);
+        let last = kept
+            .versions
+            .iter()
+            .rfind(|version| version.view <= read.view);
+        let value = match last {
+            Some(version) => version.value.as_ref(),
+            None if kept.forgotten => return None,
+            None => None,
+        };
+        let LocalRead {
+            member,
+            key,
+            view,
+            value: told,
+        } = read;
+        let is_right = told.as_ref() == value;
+        (!is_right).then(|| {
+            format!("member {member} read {told:?} of {key} in view {view}, not {value:?}")
+        })
+    });
+    wrong.collect()
+}
+
 #[cfg(test)]
 mod tests {
     use super::*;
@@ -177,6 +207,39 @@ mod tests {
             out_of_order(&history(&[(1, put("x"), 3), (2, put("y"), 2)])).len(),
             1
         );
+    }
+
+    #[test]
+    fn a_local_read_tells_what_its_view_had() {
+        let read = |view, value: Option<&str>| LocalRead {
+            member: 0,
+            key: "a".to_owned(),
+            view,
+            value: value.map(str::to_owned),
+        };
+        let wrong = |read: LocalRead, forgotten| {
+            let kept = versions(forgotten, &[(3, Some("x")), (5, None), (8, Some("y"))]);
+            wrong_reads(&[read], &kept).len()
+        };
+        for (view, value) in [
+            (3, Some("x")),
+            (4, Some("x")),
+            (6, None),
+            (9, Some("y")),
+            (1, None),
+        ] {
+            assert_eq!(wrong(read(view, value), false), 0, "{view}");
+        }
+        for (view, value) in [
+            (4, None),
+            (6, Some("x")),
+            (7, Some("y")),
+            (9, Some("x")),
+            (1, Some("x")),
+        ] {
+            assert_eq!(wrong(read(view, value), false), 1, "{view}");
+        }
+        assert_eq!(wrong(read(1, Some("x")), true), 0);
     }
 
     #[test]

@@ -4,11 +4,14 @@
 pub mod acknowledged;
 pub mod chains;
 pub mod client;
+pub mod committee;
 pub mod history;
 pub mod linearizable;
+pub mod nemesis;
 pub mod plant;
 pub mod proxy;
 pub mod random;
+pub mod run;
 pub mod seen;
 #[cfg(test)]
 mod simulated;

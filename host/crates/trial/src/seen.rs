@@ -5,11 +5,13 @@ use crate::chains::{self, Link};
 use crate::history::{self, Entry};
 use crate::linearizable::{self, Verdict};
 use crate::votes::{self, Vote};
+use crate::workload::LocalRead;
+use serde::{Deserialize, Serialize};
 use std::collections::{BTreeMap, BTreeSet};
 use std::fmt;
 
 /// What was seen. Of members only those that are to be correct: nobody answers for a liar's store.
-#[derive(Clone, Debug, Default, PartialEq)]
+#[derive(Clone, Debug, Default, PartialEq, Serialize, Deserialize)]
 pub struct Seen {
     /// The base of the committee's votes.
     pub base: Vec<u8>,
@@ -21,6 +23,8 @@ pub struct Seen {
     pub chains: Vec<Vec<Link>>,
     /// Each member's versions of each key, read at the end, when it had carried out all that was answered.
     pub versions: Vec<BTreeMap<String, Versions>>,
+    /// What was read in members' states, without the log.
+    pub local_reads: Vec<LocalRead>,
     /// The votes in the reports of all members, signed with their members' keys.
     pub votes: Vec<Vote>,
     /// Whom each member blocks, by its place in `chains`.
@@ -42,6 +46,12 @@ pub enum Check {
     Acknowledged,
     /// A call was carried out before one that had ended when it began.
     Order,
+    /// A member's state was another than its view says.
+    LocalRead,
+    /// A member ended by itself, or didn't end cleanly when it was to.
+    Ended,
+    /// A member carried nothing out, though all ran and all links were whole.
+    Progress,
     /// Members carried out different blocks, or keep different versions.
     Blocks,
     /// A member that is to be correct took a vote back.
@@ -127,6 +137,15 @@ impl Seen {
             });
         findings.extend(lost.map(|line| Finding {
             check: Check::Acknowledged,
+            line,
+        }));
+        let wrong = self
+            .versions
+            .first()
+            .map(|versions| acknowledged::wrong_reads(&self.local_reads, versions));
+        let wrong = wrong.into_iter().flatten();
+        findings.extend(wrong.map(|line| Finding {
+            check: Check::LocalRead,
             line,
         }));
         let unordered = acknowledged::out_of_order(&self.entries);

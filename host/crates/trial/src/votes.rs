@@ -4,11 +4,12 @@
 //! Reports are spelled as docs/FORMATS.md says, under the plain scheme of some base.
 
 use ring::digest::{SHA256, digest};
+use serde::{Deserialize, Serialize};
 use std::collections::{BTreeMap, BTreeSet};
 use std::fmt;
 
 /// What is proposed: the parent's view and the payload.
-#[derive(Clone, Debug, PartialEq, Eq, PartialOrd, Ord)]
+#[derive(Clone, Debug, PartialEq, Eq, PartialOrd, Ord, Serialize, Deserialize)]
 pub struct Proposal {
     /// The parent's view.
     pub parent: u64,
@@ -17,7 +18,7 @@ pub struct Proposal {
 }
 
 /// What a vote is on.
-#[derive(Clone, Debug, PartialEq, Eq, PartialOrd, Ord)]
+#[derive(Clone, Debug, PartialEq, Eq, PartialOrd, Ord, Serialize, Deserialize)]
 pub enum Subject {
     /// To notarize a proposal.
     Notarize(Proposal),
@@ -28,7 +29,7 @@ pub enum Subject {
 }
 
 /// A vote and its attestation.
-#[derive(Clone, Debug, PartialEq, Eq)]
+#[derive(Clone, Debug, PartialEq, Eq, PartialOrd, Ord, Serialize, Deserialize)]
 pub struct Vote {
     /// The epoch.
     pub epoch: u64,
