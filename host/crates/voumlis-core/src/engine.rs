@@ -328,6 +328,7 @@ impl Engine {
         if let Report::Evidence(first, _) = &report {
             let (signer, view) = (first.attestation.signer, report.view());
             warn!(signer, view, "evidence: two votes that contradict");
+            self.status.change(|state| state.evidence += 1);
         }
         if let Report::Certificate(certificate) = &report {
             life.recorded.insert((certificate.kind, certificate.on));
