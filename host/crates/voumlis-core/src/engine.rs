@@ -179,7 +179,9 @@ impl Engine {
             pruned: 0,
             recorded: HashSet::new(),
         };
+        self.reports.remember()?;
         self.carry_out(&mut life, first)?;
+        self.reports.forget();
         Ok(life)
     }
 

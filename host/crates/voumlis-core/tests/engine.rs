@@ -134,7 +134,12 @@ fn opening(events: Events, say: Say) -> Box<Open> {
             events: events.clone(),
             say: say.clone(),
         };
-        let first = reply(vec![Action::Wake(50)]);
+        // As a node does behind a restart, it tells anew what its record says.
+        let mut actions = vec![Action::Wake(50)];
+        if life > 1 {
+            actions.push(Action::Report(nullification(4, 1)));
+        }
+        let first = reply(actions);
         Ok((Box::new(node) as Box<dyn Member>, first))
     })
 }
@@ -312,19 +317,14 @@ fn a_record_is_opened_again_and_no_answer_reaches_another_life() {
 #[test]
 fn reports_are_kept_with_signatures_and_what_is_told_anew_is_not_written_again() {
     let folder = tempfile::tempdir().unwrap();
-    let member = Running::new(
-        folder.path(),
-        LONG,
-        Remembered::default(),
-        |_, event| match event {
-            Event::Packet { sender: 3, .. } => reply(vec![
-                Action::Report(nullification(4, 1)),
-                Action::Report(nullification(4, 1)),
-                Action::Block(2),
-            ]),
-            _ => reply(Vec::new()),
-        },
-    );
+    let network = Remembered::default();
+    let some = Duration::from_secs(2);
+    let member = Running::new(folder.path(), some, network, |_, event| match event {
+        Event::Packet { sender: 3, .. } => {
+            reply(vec![Action::Report(nullification(4, 1)), Action::Block(2)])
+        }
+        _ => reply(Vec::new()),
+    });
     for signer in 1..4 {
         let vote = nullify(1, signer);
         member.packet(signer, vote.bytes(), vec![signature(&vote)]);
@@ -341,6 +341,9 @@ fn reports_are_kept_with_signatures_and_what_is_told_anew_is_not_written_again()
     let told = member.told(4);
     assert!(matches!(&told[3].1, Event::Packet { bytes, .. } if *bytes == vote.bytes()));
     assert_eq!(member.metrics.repeated.get(), 1);
+    until("the record is opened again", || {
+        (member.metrics.openings.get() == 2).then_some(())
+    });
     member.stop();
     let stored = std::fs::read(folder.path().join("reports")).unwrap();
     let (reports, size) = read_all(&stored);
