@@ -179,7 +179,9 @@ impl Engine {
             pruned: 0,
             recorded: HashSet::new(),
         };
+        self.reports.remember()?;
         self.carry_out(&mut life, first)?;
+        self.reports.forget();
         Ok(life)
     }
 
@@ -328,6 +330,7 @@ impl Engine {
         if let Report::Evidence(first, _) = &report {
             let (signer, view) = (first.attestation.signer, report.view());
             warn!(signer, view, "evidence: two votes that contradict");
+            self.status.change(|state| state.evidence += 1);
         }
         if let Report::Certificate(certificate) = &report {
             life.recorded.insert((certificate.kind, certificate.on));

@@ -137,6 +137,8 @@ pub struct State {
     pub applied: BlockId,
     /// Members of whom nothing more is taken, and why.
     pub blocked: BTreeMap<u32, String>,
+    /// How many pieces of evidence the node told in this process.
+    pub evidence: u64,
     /// How often the record was opened in this process.
     pub life: u64,
     /// When a view was entered last.
@@ -153,6 +155,7 @@ impl Default for Status {
             finalized: BlockId::GENESIS,
             applied: BlockId::GENESIS,
             blocked: BTreeMap::new(),
+            evidence: 0,
             life: 0,
             entered: Instant::now(),
         }))

@@ -11,7 +11,7 @@ use anyhow::{Context, Result};
 use std::collections::HashSet;
 use std::fs::File;
 use std::io::Write;
-use std::path::Path;
+use std::path::{Path, PathBuf};
 
 /// A report with its signatures.
 #[derive(Clone, Debug, PartialEq, Eq)]
@@ -65,7 +65,10 @@ pub fn read_all(bytes: &[u8]) -> (Vec<SignedReport>, usize) {
 }
 
 /// The log's file. One thread has it.
+///
+/// A node tells a report once in a life, and at its opening those of its record: so which there are is remembered for that time alone.
 pub struct ReportLog {
+    path: PathBuf,
     file: File,
     found: HashSet<[u8; 32]>,
     /// How many bytes it has.
@@ -81,16 +84,33 @@ impl ReportLog {
     pub fn open(path: &Path) -> Result<ReportLog> {
         let named = || format!("the reports {}", path.display());
         let stored = files::read_or_empty(path).with_context(named)?;
-        let (all, size) = read_all(&stored);
-        let size = size as u64;
+        let size = read_all(&stored).1 as u64;
         Ok(ReportLog {
+            path: path.to_owned(),
             file: files::open_to_append(path, size).with_context(named)?,
-            found: all.iter().map(|one| sha256(&[&one.plain])).collect(),
+            found: HashSet::new(),
             size,
         })
     }
 
-    /// Whether this report was written before.
+    /// Reads which reports there are: a node is to be opened, and tells them anew.
+    ///
+    /// # Errors
+    ///
+    /// Those of the file.
+    pub fn remember(&mut self) -> Result<()> {
+        let stored = files::read_or_empty(&self.path)?;
+        let (all, _) = read_all(&stored);
+        self.found = all.iter().map(|one| sha256(&[&one.plain])).collect();
+        Ok(())
+    }
+
+    /// Forgets which there are: the node was opened.
+    pub fn forget(&mut self) {
+        self.found = HashSet::new();
+    }
+
+    /// Whether this report is remembered.
     pub fn has(&self, plain: &[u8]) -> bool {
         self.found.contains(&sha256(&[plain]))
     }
@@ -101,11 +121,9 @@ impl ReportLog {
     ///
     /// Those of the file.
     pub fn append(&mut self, signed: &SignedReport) -> Result<()> {
-        if self.found.insert(sha256(&[&signed.plain])) {
-            let bytes = signed.bytes();
-            self.file.write_all(&bytes)?;
-            self.size += bytes.len() as u64;
-        }
+        let bytes = signed.bytes();
+        self.file.write_all(&bytes)?;
+        self.size += bytes.len() as u64;
         Ok(())
     }
 }
@@ -136,11 +154,10 @@ mod tests {
     }
 
     #[test]
-    fn a_report_is_written_once_and_read_behind_a_torn_end() {
+    fn reports_are_read_behind_a_torn_end_and_remembered_when_asked() {
         let folder = tempfile::tempdir().unwrap();
         let path = folder.path().join("reports");
         let mut log = ReportLog::open(&path).unwrap();
-        log.append(&signed(1)).unwrap();
         log.append(&signed(1)).unwrap();
         let torn = signed(2).bytes();
         let mut bytes = std::fs::read(&path).unwrap();
@@ -148,9 +165,11 @@ mod tests {
         bytes.extend(&torn[..torn.len() - 1]);
         std::fs::write(&path, bytes).unwrap();
         let mut log = ReportLog::open(&path).unwrap();
+        log.remember().unwrap();
         assert!(log.has(&signed(1).plain) && !log.has(&signed(2).plain));
-        log.append(&signed(1)).unwrap();
         log.append(&signed(2)).unwrap();
+        log.forget();
+        assert!(!log.has(&signed(1).plain));
         let (all, _) = read_all(&std::fs::read(&path).unwrap());
         assert_eq!(all, [signed(1), signed(2)]);
     }

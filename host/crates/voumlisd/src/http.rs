@@ -7,10 +7,12 @@ use hyper::service::service_fn;
 use hyper::{Body, Method, Request, Response, StatusCode, header};
 use serde_json::{Value, json};
 use std::convert::Infallible;
+use std::fs;
 use std::future::Future;
+use std::path::PathBuf;
 use std::pin::Pin;
 use std::sync::Arc;
-use std::time::Duration;
+use std::time::{Duration, Instant};
 use tokio::net::TcpListener;
 use tokio::sync::Semaphore;
 use tracing::debug;
@@ -44,6 +46,8 @@ pub struct Told {
     /// What is counted.
     pub metrics: Arc<Metrics>,
     pub(crate) links: Arc<Links>,
+    pub(crate) record: PathBuf,
+    pub(crate) started: Instant,
 }
 
 impl Told {
@@ -53,6 +57,14 @@ impl Told {
         let id =
             |id: application::BlockId| json!({"view": id.view, "payload": hex::encode(id.payload)});
         let (sending, hearing) = self.links.peers();
+        let peers = self.links.waiting().into_iter().map(|(peer, queue)| {
+            json!({
+                "index": peer,
+                "connected": sending.contains(&peer) && hearing.contains(&peer),
+                "queue": queue,
+            })
+        });
+        let record = fs::metadata(&self.record).map_or(0, |record| record.len());
         json!({
             "member": self.me,
             "members": self.members,
@@ -63,7 +75,11 @@ impl Told {
             "milliseconds_in_view": state.entered.elapsed().as_millis() as u64,
             "sending_to": sending,
             "hearing_from": hearing,
+            "peers": peers.collect::<Vec<_>>(),
             "blocked": state.blocked,
+            "evidence": state.evidence,
+            "record_bytes": record,
+            "uptime_ms": self.started.elapsed().as_millis() as u64,
         })
     }
 

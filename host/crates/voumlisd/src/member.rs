@@ -11,7 +11,7 @@ use std::fs::{File, TryLockError};
 use std::path::{Path, PathBuf};
 use std::sync::Arc;
 use std::thread::{self, JoinHandle};
-use std::time::Duration;
+use std::time::{Duration, Instant};
 use tokio::net::TcpListener;
 use tokio::signal::unix::{SignalKind, signal};
 use tracing::info;
@@ -220,6 +220,8 @@ async fn work(folder: &Path, settings: Settings, service: Service) -> Result<()>
         status,
         metrics,
         links: links.clone(),
+        record: folder.join("record"),
+        started: Instant::now(),
     };
     let http = bind(settings.http).await?;
     let room = settings.limits.http_connections;
