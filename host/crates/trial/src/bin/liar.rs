@@ -1,9 +1,8 @@
 //! A member with the store on it that lies: it signs, with its real key, votes that no correct member signs both. `liar run FOLDER` as
-//! `kv run FOLDER`; `VOUMLIS_LIE` is notarize, split or nullify.
+//! `kv run FOLDER`; `VOUMLIS_LIE` is notarize, split or nullify. Without it, it is a member as `kv`.
 
 use anyhow::{Result, bail};
 use kv::machine::Limits;
-use kv::store::Store;
 use std::process::ExitCode;
 use std::sync::Arc;
 use voumlis_core::envelope::Sealer;
@@ -11,7 +10,7 @@ use voumlis_core::frame::Frame;
 use voumlis_core::network::{Letter, Network};
 use voumlis_core::plain::{BASE, attestation, sha256};
 use voumlis_core::wire::{Channel, Message, On, Vote, VoteKind};
-use voumlisd::{Service, command_line};
+use voumlisd::command_line;
 
 /// How it lies.
 #[derive(Clone, Copy)]
@@ -22,12 +21,13 @@ enum Lie {
 }
 
 impl Lie {
-    fn read() -> Result<Lie> {
+    fn read() -> Result<Option<Lie>> {
         Ok(match std::env::var("VOUMLIS_LIE").as_deref() {
-            Ok("notarize") => Lie::Notarize,
-            Ok("split") => Lie::Split,
-            Ok("nullify") => Lie::Nullify,
-            other => bail!("VOUMLIS_LIE is notarize, split or nullify, not {other:?}"),
+            Ok("notarize") => Some(Lie::Notarize),
+            Ok("split") => Some(Lie::Split),
+            Ok("nullify") => Some(Lie::Nullify),
+            Ok("") | Err(_) => None,
+            Ok(other) => bail!("VOUMLIS_LIE is notarize, split or nullify, not {other}"),
         })
     }
 }
@@ -100,11 +100,12 @@ impl Network for TwoTongues {
 
 fn main() -> ExitCode {
     command_line(|_| {
-        let lie = Lie::read()?;
-        let mut service = Service::new(Store::new(Limits::default()));
-        service.wrap = Some(Box::new(move |links, sealer| {
-            Arc::new(TwoTongues { links, sealer, lie })
-        }));
+        let mut service = kv::service(Limits::default());
+        if let Some(lie) = Lie::read()? {
+            service.wrap = Some(Box::new(move |links, sealer| {
+                Arc::new(TwoTongues { links, sealer, lie })
+            }));
+        }
         Ok(service)
     })
 }
