@@ -67,6 +67,8 @@ pub struct Committee {
 
 /// Below the ports that systems give to connections: a member that is dead finds its own free again.
 const PORTS: std::ops::Range<u16> = 10_000..32_000;
+/// Views between two snapshots: few, so that a short trial has some.
+const SNAPSHOT_VIEWS: u64 = 64;
 /// How long a member may take for a clean stop.
 const STOPPING: Duration = Duration::from_secs(30);
 
@@ -81,6 +83,33 @@ fn free_ports(count: u16, seed: u64) -> Result<Vec<u16>> {
         }
     }
     bail!("no {count} free ports")
+}
+
+/// Puts a member's addresses into its settings: of each peer that of a link of its own.
+async fn wire(
+    folder: &Path,
+    member: usize,
+    peers: &[SocketAddr],
+    http: SocketAddr,
+) -> Result<Vec<Option<Proxy>>> {
+    let mut settings = Settings::read(folder)?;
+    settings.key = "key".into();
+    settings.listen = peers[member];
+    settings.http = http;
+    settings.limits.snapshot_views = SNAPSHOT_VIEWS;
+    let mut dialed = Vec::new();
+    for (peer, place) in settings.members.iter_mut().enumerate() {
+        place.address = peers[peer];
+        let mut proxy = None;
+        if peer != member {
+            let started = Proxy::start(peers[peer]).await?;
+            place.address = started.address();
+            proxy = Some(started);
+        }
+        dialed.push(proxy);
+    }
+    settings.write(folder)?;
+    Ok(dialed)
 }
 
 impl Committee {
@@ -109,29 +138,15 @@ impl Committee {
         );
         let ports = free_ports(2 * size, seed)?;
         let address = |place: usize| SocketAddr::from(([127, 0, 0, 1], ports[place]));
+        let addresses: Vec<SocketAddr> = (0..2 * usize::from(size)).map(address).collect();
+        let (peers, https) = addresses.split_at(size.into());
         let (mut members, mut links) = (Vec::new(), Vec::new());
-        for member in 0..usize::from(size) {
-            let own = folder.join(format!("member-{member}"));
-            let mut settings = Settings::read(&own)?;
-            settings.key = "key".into();
-            settings.listen = address(member);
-            settings.http = address(usize::from(size) + member);
-            settings.limits.snapshot_views = 64;
-            let mut dialed = Vec::new();
-            for (peer, place) in settings.members.iter_mut().enumerate() {
-                let proxy = if peer == member {
-                    None
-                } else {
-                    Some(Proxy::start(address(peer)).await?)
-                };
-                place.address = proxy.as_ref().map_or(address(member), Proxy::address);
-                dialed.push(proxy);
-            }
-            settings.write(&own)?;
-            links.push(dialed);
+        for (member, http) in https.iter().enumerate() {
+            let folder = folder.join(format!("member-{member}"));
+            links.push(wire(&folder, member, peers, *http).await?);
             members.push(Member {
-                folder: own,
-                http: settings.http,
+                folder,
+                http: *http,
                 child: None,
             });
         }

@@ -145,62 +145,114 @@ impl Marks {
     }
 }
 
-/// Looks for an order of the calls of one key, which has no value before them.
-pub fn check(calls: &[Call], budget: usize) -> Verdict {
-    let mut marks = Marks::new(calls);
-    let mut missing = calls.iter().filter(|call| call.end.is_some()).count();
-    let mut taken = Taken::none(calls.len());
-    let mut seen: HashSet<(Taken, State<'_>)> = HashSet::new();
-    // The calls that were taken, the place of each one's start, and the value before it.
-    let mut tried: Vec<(usize, usize, State<'_>)> = Vec::new();
-    let mut longest: Option<(Vec<usize>, usize)> = None;
-    let mut state: State<'_> = None;
-    let mut place = marks.behind(0);
-    while missing > 0 {
-        // Behind the last mark stand only starts of unknown ends: then all others were taken.
-        let Some(at) = place else {
-            return Verdict::Linearizable;
-        };
-        match marks.marks[at] {
-            Mark::Start(call) => {
-                let becomes = step(state, &calls[call]);
-                taken.flip(call);
-                if let Some(becomes) = becomes
-                    && seen.insert((taken.clone(), becomes))
-                {
-                    tried.push((call, at, state));
-                    missing -= usize::from(calls[call].end.is_some());
-                    marks.take_out(at, call);
-                    state = becomes;
-                    place = marks.behind(0);
-                } else {
-                    taken.flip(call);
-                    place = marks.behind(at);
-                }
-            }
-            Mark::End(stuck) => {
-                if longest
-                    .as_ref()
-                    .is_none_or(|(longest, _)| longest.len() < tried.len())
-                {
-                    longest = Some((tried.iter().map(|(call, ..)| *call).collect(), stuck));
-                }
-                let Some((call, start, before)) = tried.pop() else {
-                    let (taken, stuck) = longest.unwrap_or_default();
-                    return Verdict::Not { taken, stuck };
-                };
-                marks.put_back(start, call);
-                missing += usize::from(calls[call].end.is_some());
-                taken.flip(call);
-                state = before;
-                place = marks.behind(start);
-            }
-        }
-        if seen.len() > budget {
-            return Verdict::Undecided;
+/// A call that was taken, the place of its start, and the value before it.
+struct Step<'a> {
+    call: usize,
+    start: usize,
+    before: State<'a>,
+}
+
+/// A search under way.
+struct Search<'a> {
+    calls: &'a [Call],
+    marks: Marks,
+    taken: Taken,
+    /// How many calls with a known end aren't taken.
+    missing: usize,
+    state: State<'a>,
+    seen: HashSet<(Taken, State<'a>)>,
+    tried: Vec<Step<'a>>,
+    longest: Option<(Vec<usize>, usize)>,
+}
+
+impl<'a> Search<'a> {
+    fn new(calls: &'a [Call]) -> Search<'a> {
+        Search {
+            calls,
+            marks: Marks::new(calls),
+            taken: Taken::none(calls.len()),
+            missing: calls.iter().filter(|call| call.end.is_some()).count(),
+            state: None,
+            seen: HashSet::new(),
+            tried: Vec::new(),
+            longest: None,
         }
     }
-    Verdict::Linearizable
+
+    /// Takes a call next, if it is explained there and what it leads to wasn't looked at.
+    fn take(&mut self, call: usize, start: usize) -> bool {
+        let Some(becomes) = step(self.state, &self.calls[call]) else {
+            return false;
+        };
+        self.taken.flip(call);
+        if !self.seen.insert((self.taken.clone(), becomes)) {
+            self.taken.flip(call);
+            return false;
+        }
+        let before = std::mem::replace(&mut self.state, becomes);
+        self.tried.push(Step {
+            call,
+            start,
+            before,
+        });
+        self.missing -= usize::from(self.calls[call].end.is_some());
+        self.marks.take_out(start, call);
+        true
+    }
+
+    /// Puts the last call back, since `stuck` ended outside the order: the place of its start.
+    fn put_back(&mut self, stuck: usize) -> Option<usize> {
+        let length = self.tried.len();
+        if self
+            .longest
+            .as_ref()
+            .is_none_or(|(longest, _)| longest.len() < length)
+        {
+            let tried = self.tried.iter().map(|step| step.call);
+            self.longest = Some((tried.collect(), stuck));
+        }
+        let Step {
+            call,
+            start,
+            before,
+        } = self.tried.pop()?;
+        self.marks.put_back(start, call);
+        self.missing += usize::from(self.calls[call].end.is_some());
+        self.taken.flip(call);
+        self.state = before;
+        Some(start)
+    }
+
+    fn run(mut self, budget: usize) -> Verdict {
+        let mut place = self.marks.behind(0);
+        while self.missing > 0 {
+            // Behind the last mark stand only starts of unknown ends: then all others were taken.
+            let Some(at) = place else {
+                return Verdict::Linearizable;
+            };
+            let mark = self.marks.marks[at];
+            place = match mark {
+                Mark::Start(call) if self.take(call, at) => self.marks.behind(0),
+                Mark::Start(_) => self.marks.behind(at),
+                Mark::End(stuck) => match self.put_back(stuck) {
+                    Some(start) => self.marks.behind(start),
+                    None => {
+                        let (taken, stuck) = self.longest.unwrap_or_default();
+                        return Verdict::Not { taken, stuck };
+                    }
+                },
+            };
+            if self.seen.len() > budget {
+                return Verdict::Undecided;
+            }
+        }
+        Verdict::Linearizable
+    }
+}
+
+/// Looks for an order of the calls of one key, which has no value before them.
+pub fn check(calls: &[Call], budget: usize) -> Verdict {
+    Search::new(calls).run(budget)
 }
 
 #[cfg(test)]

@@ -42,7 +42,7 @@ impl Fault {
     }
 }
 
-/// Two acknowledged puts of a key, the second behind the first, and a read of the second behind both.
+/// Two acknowledged writes of a key, the second behind the first, and a read of the second behind both.
 struct Place {
     key: String,
     older: String,
@@ -51,10 +51,13 @@ struct Place {
     ends: [usize; 3],
 }
 
-fn put_of(call: &Call) -> Option<(usize, usize, &str)> {
-    let end = call.end.as_ref()?;
+/// Where a write that was carried out begins and ends, and what it left.
+fn write_of(call: &Call) -> Option<(usize, usize, &str)> {
+    let end = call.end.as_ref().filter(|end| end.told == Told::Written)?;
     match &call.operation {
-        Operation::Put(value) => Some((call.invoked, end.at, value)),
+        Operation::Put(value) | Operation::CompareAndSet(_, Some(value)) => {
+            Some((call.invoked, end.at, value))
+        }
         _ => None,
     }
 }
@@ -62,17 +65,17 @@ fn put_of(call: &Call) -> Option<(usize, usize, &str)> {
 fn places(seen: &Seen) -> Vec<Place> {
     let mut found = Vec::new();
     for (key, calls) in calls(&seen.entries).unwrap_or_default() {
-        let puts: Vec<_> = calls.iter().filter_map(put_of).collect();
+        let writes: Vec<_> = calls.iter().filter_map(write_of).collect();
         for read in &calls {
             let Some(end) = &read.end else { continue };
             let Told::Read(Some(value)) = &end.told else {
                 continue;
             };
-            let newer = puts
+            let newer = writes
                 .iter()
-                .find(|put| put.2 == value && put.1 < read.invoked);
+                .find(|write| write.2 == value && write.1 < read.invoked);
             let Some(newer) = newer else { continue };
-            if let Some(older) = puts.iter().rfind(|put| put.1 < newer.0) {
+            if let Some(older) = writes.iter().rfind(|write| write.1 < newer.0) {
                 found.push(Place {
                     key: key.clone(),
                     older: older.2.to_owned(),

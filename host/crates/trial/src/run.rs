@@ -99,79 +99,70 @@ impl fmt::Display for Outcome {
 /// Where it can't be run: what the committee does wrong is a finding.
 pub async fn run(plan: &Plan) -> Result<Outcome> {
     let mut random = Random::new(plan.seed);
-    let committee = Committee::make(
+    let mut committee = Committee::make(
         &plan.folder,
         plan.programs.clone(),
         plan.members,
         plan.liar,
         plan.seed,
-    );
-    let mut committee = committee.await?;
+    )
+    .await?;
     (0..committee.size()).try_for_each(|member| committee.start(member))?;
     let correct = committee.correct();
-    let addresses = correct
-        .iter()
-        .map(|member| committee.http(*member))
-        .collect();
-    let workload = Arc::new(Workload::new(addresses));
+    let addresses = correct.iter().map(|member| committee.http(*member));
+    let workload = Arc::new(Workload::new(addresses.collect()));
     let shared: Shared = Arc::new(Mutex::new(committee));
-    workload
-        .all_answer(&mut random, plan.patience)
-        .await
-        .context("at the start")?;
+    let started = workload.all_answer(&mut random, plan.patience).await;
+    started.context("at the start")?;
 
-    let ended = Arc::new(Mutex::new(Vec::new()));
+    let ended = Ended::default();
     let supervisor = tokio::spawn(supervise(shared.clone(), ended.clone()));
     let done = disturb(plan, &shared, &workload, &mut random).await?;
-    let mut findings = Vec::new();
-    let mut seen = Seen::default();
+    let (mut findings, mut seen) = (Vec::new(), Seen::default());
     // Whatever was killed is there again, and every link: now all have to answer.
     match workload.all_answer(&mut random, plan.patience).await {
-        Err(why) => findings.push(Finding {
-            check: Check::Progress,
-            line: why.to_string(),
-        }),
+        Err(why) => findings.push(Finding::new(Check::Progress, why)),
         Ok(()) => gather(&workload, &mut random, &mut seen, plan.patience).await?,
     }
     supervisor.abort();
     let mut committee = shared.lock().await;
-    let stopped = committee.stop()?;
-    let by_themselves = ended
-        .lock()
-        .await
-        .iter()
-        .map(|(member, how)| format!("member {member} ended: {how}"))
-        .collect::<Vec<_>>();
-    let wrong = stopped.into_iter().chain(by_themselves);
-    findings.extend(wrong.map(|line| Finding {
-        check: Check::Ended,
-        line,
-    }));
+    let mut wrong = committee.stop()?;
+    wrong.append(&mut *ended.lock().await);
+    findings.extend(
+        wrong
+            .into_iter()
+            .map(|line| Finding::new(Check::Ended, line)),
+    );
     seen.entries = workload.recorder.entries();
     seen.liars = plan.liar.iter().map(|(liar, _)| *liar as u32).collect();
     judge(&committee, &correct, &mut seen)?;
     findings.extend(seen.findings());
-    let view = seen
-        .chains
-        .iter()
-        .filter_map(|chain| chain.last())
-        .map(|link| link.view)
-        .max();
     Ok(Outcome {
         seed: plan.seed,
+        view: last_view(&seen),
         seen,
         done,
         findings,
-        view: view.unwrap_or(0),
     })
 }
 
+fn last_view(seen: &Seen) -> u64 {
+    let last = seen.chains.iter().filter_map(|chain| chain.last());
+    last.map(|link| link.view).max().unwrap_or(0)
+}
+
+/// What members that ended by themselves said.
+type Ended = Arc<Mutex<Vec<String>>>;
+
 /// Members that end by themselves are started again, and told: none should.
-async fn supervise(committee: Shared, ended: Arc<Mutex<Vec<(usize, String)>>>) {
+async fn supervise(committee: Shared, ended: Ended) {
     loop {
         sleep(Duration::from_millis(500)).await;
         if let Ok(more) = committee.lock().await.revive() {
-            ended.lock().await.extend(more);
+            let lines = more
+                .into_iter()
+                .map(|(member, how)| format!("member {member} ended: {how}"));
+            ended.lock().await.extend(lines);
         }
     }
 }

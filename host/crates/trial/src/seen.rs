@@ -2,7 +2,7 @@
 
 use crate::acknowledged::{self, Versions};
 use crate::chains::{self, Link};
-use crate::history::{self, Entry};
+use crate::history::{self, Call, Entry};
 use crate::linearizable::{self, Verdict};
 use crate::votes::{self, Vote};
 use crate::workload::LocalRead;
@@ -77,6 +77,30 @@ impl fmt::Display for Finding {
     }
 }
 
+impl Finding {
+    /// That this check found this.
+    pub fn new(check: Check, line: impl ToString) -> Finding {
+        let line = line.to_string();
+        Finding { check, line }
+    }
+}
+
+/// Whether the calls of a key have an order that explains them.
+fn of_key((key, calls): (&String, &Vec<Call>)) -> Option<Finding> {
+    match linearizable::check(calls, linearizable::BUDGET) {
+        Verdict::Linearizable => None,
+        Verdict::Undecided => {
+            let line = format!("{key}: the search over {} calls was given up", calls.len());
+            Some(Finding::new(Check::Undecided, line))
+        }
+        Verdict::Not { taken, stuck } => {
+            let last = taken.last().map(|at| &calls[*at]);
+            let line = format!("{key}: {:?} isn't explained behind {last:?}", calls[stuck]);
+            Some(Finding::new(Check::Linearizable, line))
+        }
+    }
+}
+
 impl Seen {
     /// What shouldn't be: nothing, where all is well.
     pub fn findings(&self) -> Vec<Finding> {
@@ -97,62 +121,20 @@ impl Seen {
     fn of_clients(&self) -> Vec<Finding> {
         let calls = match history::calls(&self.entries) {
             Ok(calls) => calls,
-            Err(why) => {
-                return vec![Finding {
-                    check: Check::History,
-                    line: why.to_string(),
-                }];
-            }
+            Err(why) => return vec![Finding::new(Check::History, why)],
         };
-        let mut findings = Vec::new();
-        for (key, calls) in &calls {
-            match linearizable::check(calls, linearizable::BUDGET) {
-                Verdict::Linearizable => {}
-                Verdict::Undecided => {
-                    let line = format!("{key}: the search over {} calls was given up", calls.len());
-                    findings.push(Finding {
-                        check: Check::Undecided,
-                        line,
-                    });
-                }
-                Verdict::Not { taken, stuck } => {
-                    let last = taken.last().map(|at| &calls[*at]);
-                    let line = format!("{key}: {:?} isn't explained behind {last:?}", calls[stuck]);
-                    findings.push(Finding {
-                        check: Check::Linearizable,
-                        line,
-                    });
-                }
-            }
+        let mut findings: Vec<Finding> = calls.iter().filter_map(of_key).collect();
+        for (member, versions) in self.versions.iter().enumerate() {
+            let lost = acknowledged::lost(&calls, versions).into_iter();
+            let lost = lost.map(|line| format!("member {member}: {line}"));
+            findings.extend(lost.map(|line| Finding::new(Check::Acknowledged, line)));
         }
-        let lost = self
-            .versions
-            .iter()
-            .enumerate()
-            .flat_map(|(member, versions)| {
-                let lines = acknowledged::lost(&calls, versions);
-                lines
-                    .into_iter()
-                    .map(move |line| format!("member {member}: {line}"))
-            });
-        findings.extend(lost.map(|line| Finding {
-            check: Check::Acknowledged,
-            line,
-        }));
-        let wrong = self
-            .versions
-            .first()
-            .map(|versions| acknowledged::wrong_reads(&self.local_reads, versions));
-        let wrong = wrong.into_iter().flatten();
-        findings.extend(wrong.map(|line| Finding {
-            check: Check::LocalRead,
-            line,
-        }));
-        let unordered = acknowledged::out_of_order(&self.entries);
-        findings.extend(unordered.into_iter().map(|line| Finding {
-            check: Check::Order,
-            line,
-        }));
+        if let Some(versions) = self.versions.first() {
+            let wrong = acknowledged::wrong_reads(&self.local_reads, versions).into_iter();
+            findings.extend(wrong.map(|line| Finding::new(Check::LocalRead, line)));
+        }
+        let unordered = acknowledged::out_of_order(&self.entries).into_iter();
+        findings.extend(unordered.map(|line| Finding::new(Check::Order, line)));
         findings
     }
 

@@ -14,7 +14,7 @@ use tokio::time::{Instant, sleep};
 /// nearly all kept.
 const CALLS_OF_A_KEY: u64 = 50;
 /// Keys that are in use at a time.
-const KEYS: u64 = 4;
+const KEYS: u64 = 3;
 /// Attempts of a request.
 const ATTEMPTS: u32 = 4;
 /// How long an attempt may take.
