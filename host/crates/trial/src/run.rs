@@ -199,7 +199,7 @@ struct Status {
 
 /// Reads all that there is to compare, when all members answer.
 async fn gather(
-    workload: &Workload,
+    workload: &Arc<Workload>,
     random: &mut Random,
     seen: &mut Seen,
     within: Duration,

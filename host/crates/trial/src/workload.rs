@@ -3,12 +3,14 @@
 use crate::client::{Attempt, Connections, Numbered};
 use crate::history::{Happened, Operation, Recorder, Told};
 use crate::random::Random;
+use anyhow::{Context, Result, bail};
 use serde::{Deserialize, Serialize};
 use std::net::SocketAddr;
 use std::sync::atomic::{AtomicU64, Ordering};
 use std::sync::{Arc, Mutex, PoisonError};
 use std::time::Duration;
-use tokio::time::{Instant, sleep};
+use tokio::task::JoinSet;
+use tokio::time::{Instant, sleep, timeout};
 
 /// Calls on a key before the next one takes its place: so many a search bears, and a key's versions are
 /// nearly all kept.
@@ -19,6 +21,9 @@ const KEYS: u64 = 3;
 const ATTEMPTS: u32 = 4;
 /// How long an attempt may take.
 const WITHIN: Duration = Duration::from_millis(2_500);
+
+/// How long a read at the end may take: the longest that the store waits.
+const LAST_WITHIN: Duration = Duration::from_secs(60);
 
 /// A value that was read in a member's state, without the log.
 #[derive(Clone, Debug, PartialEq, Eq, Serialize, Deserialize)]
@@ -171,36 +176,46 @@ impl Workload {
         }
     }
 
-    /// Has each member answer: a put through each, until it is answered, or an error with those that don't.
+    /// Has each member answer: a put through each, until it is answered.
     ///
     /// # Errors
     ///
     /// Where a member carries out no put within this time.
-    pub async fn all_answer(&self, random: &mut Random, patience: Duration) -> anyhow::Result<()> {
-        let until = Instant::now() + patience;
-        for (at, member) in self.members.iter().enumerate() {
-            let key = format!("end-{at}");
-            let operation = Operation::Put("reached".to_owned());
-            loop {
-                anyhow::ensure!(
-                    Instant::now() < until,
-                    "member {at} carries out nothing in {patience:?}"
-                );
-                let client = Name::new(self, random);
-                let asked = Numbered {
-                    client: &client.digits,
-                    number: 1,
-                    key: &key,
-                    operation: &operation,
-                };
-                let end = self.connections.attempt(*member, &asked, WITHIN).await;
-                if matches!(end, Attempt::Done(Told::Written, _)) {
-                    break;
-                }
-                sleep(Duration::from_millis(200)).await;
-            }
+    pub async fn all_answer(
+        self: &Arc<Self>,
+        random: &mut Random,
+        patience: Duration,
+    ) -> Result<()> {
+        let mut answers = JoinSet::new();
+        for member in self.members.clone() {
+            let answering = self.clone().answers(member, random.fork());
+            answers.spawn(async move {
+                let answered = timeout(patience, answering).await;
+                answered.with_context(|| format!("{member} carries out nothing in {patience:?}"))
+            });
+        }
+        while let Some(answered) = answers.join_next().await {
+            answered??;
         }
         Ok(())
+    }
+
+    async fn answers(self: Arc<Self>, member: SocketAddr, mut random: Random) {
+        let operation = Operation::Put("reached".to_owned());
+        loop {
+            let client = Name::new(&self, &mut random);
+            let asked = Numbered {
+                client: &client.digits,
+                number: 1,
+                key: "reached",
+                operation: &operation,
+            };
+            let end = self.connections.attempt(member, &asked, WITHIN).await;
+            if matches!(end, Attempt::Done(Told::Written, _)) {
+                return;
+            }
+            sleep(Duration::from_millis(200)).await;
+        }
     }
 
     /// Reads each key at each member through the log, as further calls of the history.
@@ -208,40 +223,46 @@ impl Workload {
     /// # Errors
     ///
     /// Where a read isn't answered.
-    pub async fn read_all(&self, random: &mut Random) -> anyhow::Result<()> {
-        for member in &self.members {
-            let mut client = Name::new(self, random);
+    pub async fn read_all(self: &Arc<Self>, random: &mut Random) -> Result<()> {
+        let mut reads = JoinSet::new();
+        for member in self.members.clone() {
             for key in self.keys() {
-                client.number += 1;
-                let (process, operation) = (client.process, Operation::Get);
-                self.recorder.record(
-                    process,
-                    Happened::Invoke {
-                        key: key.clone(),
-                        operation: Operation::Get,
-                    },
-                );
-                let asked = Numbered {
-                    client: &client.digits,
-                    number: client.number,
-                    key: &key,
-                    operation: &operation,
-                };
-                match self
-                    .connections
-                    .attempt(*member, &asked, Duration::from_secs(20))
-                    .await
-                {
-                    Attempt::Done(told, view) => {
-                        self.recorder.record(process, Happened::Ok { told, view })
-                    }
-                    other => {
-                        anyhow::bail!("{member} answers {other:?} to a get of {key} at the end")
-                    }
-                }
+                let client = Name::new(self, random);
+                reads.spawn(self.clone().read_at_end(client, member, key));
             }
         }
+        while let Some(read) = reads.join_next().await {
+            read??;
+        }
         Ok(())
+    }
+
+    async fn read_at_end(
+        self: Arc<Self>,
+        client: Name,
+        member: SocketAddr,
+        key: String,
+    ) -> Result<()> {
+        let operation = Operation::Get;
+        let invoke = Happened::Invoke {
+            key: key.clone(),
+            operation: Operation::Get,
+        };
+        self.recorder.record(client.process, invoke);
+        let asked = Numbered {
+            client: &client.digits,
+            number: 1,
+            key: &key,
+            operation: &operation,
+        };
+        match self.connections.attempt(member, &asked, LAST_WITHIN).await {
+            Attempt::Done(told, view) => {
+                self.recorder
+                    .record(client.process, Happened::Ok { told, view });
+                Ok(())
+            }
+            other => bail!("{member} answers {other:?} to a get of {key} at the end"),
+        }
     }
 
     /// The connections to the members.
