@@ -5,10 +5,11 @@ use clap::{Parser, Subcommand, ValueEnum};
 use std::path::PathBuf;
 use std::process::ExitCode;
 use std::time::Duration;
+use tokio::signal::unix::{SignalKind, signal};
 use trial::committee::{Lie, Programs};
 use trial::plant::Fault;
 use trial::random::Random;
-use trial::run::{self, Plan};
+use trial::run::Plan;
 
 /// Trials of a committee of real processes on this machine.
 #[derive(Parser)]
@@ -124,13 +125,13 @@ impl Run {
             let members = plan.folder.join("members");
             std::fs::create_dir_all(&plan.folder)?;
             let seen = plan.folder.join("seen.json");
-            let outcome = run::run(&Plan {
+            let outcome = trial::run::run(&Plan {
                 folder: members.clone(),
                 ..plan
             })
             .await;
             let outcome = outcome.with_context(|| format!("seed {seed}"))?;
-            run::write(&outcome.seen, &seen)?;
+            trial::run::write(&outcome.seen, &seen)?;
             println!("{outcome}");
             outcome
                 .findings
@@ -146,7 +147,7 @@ impl Run {
 }
 
 fn check(file: &PathBuf, plant: Option<Fault>, seed: u64) -> Result<bool> {
-    let mut seen = run::read(file)?;
+    let mut seen = trial::run::read(file)?;
     if let Some(fault) = plant {
         let place = fault.plant(&mut seen, &mut Random::new(seed));
         println!(
@@ -160,11 +161,22 @@ fn check(file: &PathBuf, plant: Option<Fault>, seed: u64) -> Result<bool> {
     Ok(findings.is_empty())
 }
 
+/// Runs trials until they are done, or a signal ends them: their processes are killed then.
+fn run(words: &Run) -> Result<bool> {
+    let runtime = tokio::runtime::Runtime::new()?;
+    runtime.block_on(async {
+        let mut terminate = signal(SignalKind::terminate())?;
+        tokio::select! {
+            is_clear = words.run() => is_clear,
+            _ = terminate.recv() => bail!("stopped by SIGTERM"),
+            _ = tokio::signal::ctrl_c() => bail!("stopped by SIGINT"),
+        }
+    })
+}
+
 fn main() -> ExitCode {
     let is_clear = match Words::parse().command {
-        Command::Run(run) => tokio::runtime::Runtime::new()
-            .map_err(Into::into)
-            .and_then(|it| it.block_on(run.run())),
+        Command::Run(words) => run(&words),
         Command::Check { file, plant, seed } => check(&file, plant, seed),
     };
     match is_clear {
