@@ -1,0 +1,60 @@
+//! A short trial of real processes, one of which lies, and what is found in what was seen when faults are put into it.
+
+use std::path::{Path, PathBuf};
+use std::time::Duration;
+use trial::committee::{Lie, Programs};
+use trial::plant::Fault;
+use trial::random::Random;
+use trial::run::{self, Plan};
+
+/// The program `simplex`: that of `VOUMLIS_PROGRAM`, a proved one, or the one that host/program builds.
+fn simplex() -> PathBuf {
+    if let Some(named) = std::env::var_os("VOUMLIS_PROGRAM") {
+        return named.into();
+    }
+    let top = Path::new(env!("CARGO_MANIFEST_DIR")).join("../../..");
+    ["crates/simplex/out/simplex", "demo/out/simplex-unproved"]
+        .iter()
+        .map(|path| top.join(path))
+        .find(|path| path.exists())
+        .expect("there is no program simplex: host/program builds one")
+}
+
+#[tokio::test(flavor = "multi_thread")]
+async fn a_committee_with_a_liar_serves_its_clients_and_convicts_it() {
+    let folder = tempfile::tempdir().unwrap();
+    let member = PathBuf::from(env!("CARGO_BIN_EXE_liar"));
+    let plan = Plan {
+        seed: 7,
+        span: Duration::from_secs(8),
+        members: 4,
+        clients: 8,
+        liar: Some((2, Lie::Notarize)),
+        patience: Duration::from_secs(120),
+        folder: folder.path().join("members"),
+        // Without a lie it is a member as another.
+        programs: Programs {
+            kv: member.clone(),
+            liar: member,
+            simplex: simplex(),
+        },
+    };
+    let outcome = run::run(&plan).await.unwrap();
+    assert_eq!(outcome.findings, [], "{outcome}");
+    assert!(
+        !outcome.seen.entries.is_empty() && outcome.view > 0,
+        "{outcome}"
+    );
+    assert_eq!(outcome.seen.convicted, [2].into());
+
+    let file = folder.path().join("seen.json");
+    run::write(&outcome.seen, &file).unwrap();
+    assert_eq!(run::read(&file).unwrap(), outcome.seen);
+    for fault in [Fault::VoteTakenBack, Fault::WrongBlock] {
+        let mut seen = outcome.seen.clone();
+        let place = fault
+            .plant(&mut seen, &mut Random::new(7))
+            .expect("there is a place for it");
+        assert!(!seen.findings().is_empty(), "{place}");
+    }
+}

@@ -1,0 +1,383 @@
+//! The loop of a member: events to its node, and the actions of each reply carried out, in order.
+//!
+//! One thread has the node. It takes what waits, a batch at a time; tells the node the time and hands each event in; makes sure that the
+//! signatures which the replies rest on are on the disk; then carries the replies out. A **life** is the time from an opening of the
+//! record to the next: the node's numbers of requests and moments count from 0 in each, and no answer of one reaches another.
+
+use crate::chain::{ChainHandle, Request};
+use crate::envelope::{Opened, Sealer};
+use crate::frame::Frame;
+use crate::inbox::{Inbox, Input};
+use crate::member::{Member, Open};
+use crate::metrics::{Metrics, Status};
+use crate::network::{Current, Letter, Network};
+use crate::reports::{ReportLog, SignedReport};
+use crate::signatures::SignatureFile;
+use crate::wire::{
+    Action, Channel, Event, LARGEST, Message, On, Proposal, Reply, Report, VoteKind,
+};
+use anyhow::{Context, Result};
+use application::BlockId;
+use std::collections::HashSet;
+use std::sync::Arc;
+use std::time::{Duration, Instant};
+use tracing::{debug, info, warn};
+
+/// How many events are handed in before the disk is synced and the replies are carried out.
+const BATCH: usize = 32;
+
+/// The views of a term, as the program `simplex` is set up.
+const TERM: u64 = 4;
+
+/// How exactly the time is told, in milliseconds. Each telling costs the node a step.
+const BEAT: u64 = 5;
+
+/// How many final views pass between two prunings of signatures.
+const PRUNING: u64 = 64;
+
+/// How the loop is set up.
+#[derive(Clone, Debug)]
+pub struct EngineSettings {
+    /// The record is opened again where no view was entered for so long: what a node lacks it asks for once in a life.
+    pub reopen_after: Duration,
+}
+
+impl Default for EngineSettings {
+    fn default() -> EngineSettings {
+        EngineSettings {
+            reopen_after: Duration::from_secs(30),
+        }
+    }
+}
+
+/// The longest time before an opening, however often it didn't help.
+const LONGEST_REOPEN: Duration = Duration::from_secs(600);
+
+/// A member's loop.
+pub struct Engine {
+    /// The signatures that go behind packets.
+    pub sealer: Sealer,
+    /// Opens the record.
+    pub open: Box<Open>,
+    /// What waits for the node.
+    pub inbox: Arc<Inbox>,
+    /// The application's thread.
+    pub chain: ChainHandle,
+    /// Links to the peers.
+    pub network: Arc<dyn Network>,
+    /// What a peer that was away has to hear.
+    pub current: Arc<Current>,
+    /// The signatures on the disk.
+    pub signatures: SignatureFile,
+    /// The log of reports.
+    pub reports: ReportLog,
+    /// What is counted.
+    pub metrics: Arc<Metrics>,
+    /// What is told.
+    pub status: Arc<Status>,
+    /// How it is set up.
+    pub settings: EngineSettings,
+}
+
+/// Why a life ended.
+enum Ended {
+    /// It is to stop.
+    Stopped,
+    /// No view was entered for long.
+    Stuck,
+}
+
+/// One node, from its opening on.
+struct Life {
+    number: u64,
+    node: Box<dyn Member>,
+    start: Instant,
+    wake: Option<u64>,
+    /// The moment that was told last.
+    told: u64,
+    pruned: u64,
+    /// The certificates that the node reported: it would refuse each of them as a repetition.
+    recorded: HashSet<(VoteKind, On)>,
+}
+
+impl Life {
+    /// Milliseconds since the opening.
+    fn now(&self) -> u64 {
+        self.start.elapsed().as_millis() as u64
+    }
+
+    /// Whether a packet is a certificate that the node has: all members send it to all. A packet may be lost, so it may be left out.
+    fn has_recorded(&self, message: &Message) -> bool {
+        match message {
+            Message::Certificate(it) => self.recorded.contains(&(it.kind, it.on)),
+            Message::Vote(_) | Message::Fetch(_) => false,
+        }
+    }
+
+    /// When the node wants to be told the time, if it does.
+    fn rings(&self) -> Option<Instant> {
+        self.wake
+            .map(|moment| self.start + Duration::from_millis(moment))
+    }
+}
+
+/// How long a record's lock is waited for: the node of a process that was killed may just be ending.
+const LOCK_PATIENCE: Duration = Duration::from_secs(5);
+
+impl Engine {
+    /// Runs until it is to stop: opens the record, and opens it again where no view was entered for long.
+    ///
+    /// # Errors
+    ///
+    /// Where the record isn't opened, the node ends or a file fails. The record has all that was handed out.
+    pub fn run(mut self) -> Result<()> {
+        let mut patience = self.settings.reopen_after;
+        for number in 1.. {
+            let entered = self.status.get().view;
+            let mut life = self.begin(number)?;
+            let ended = self.live(&mut life, patience)?;
+            life.node.close()?;
+            match ended {
+                Ended::Stopped => return Ok(()),
+                Ended::Stuck => {
+                    let helped = self.status.get().view > entered;
+                    patience = if helped {
+                        self.settings.reopen_after
+                    } else {
+                        (patience * 2).min(LONGEST_REOPEN)
+                    };
+                    info!("no view was entered for long: the record is opened again");
+                }
+            }
+        }
+        Ok(())
+    }
+
+    fn begin(&mut self, number: u64) -> Result<Life> {
+        let until = Instant::now() + LOCK_PATIENCE;
+        let (node, first) = loop {
+            match (self.open)() {
+                Ok(opened) => break opened,
+                Err(_) if Instant::now() < until => {
+                    std::thread::sleep(Duration::from_millis(200));
+                }
+                Err(error) => return Err(error.context("the record isn't opened")),
+            }
+        };
+        self.metrics.openings.inc();
+        self.status.change(|state| {
+            state.life = number;
+            state.entered = Instant::now();
+        });
+        self.chain.ask(Request::Opened(number))?;
+        let mut life = Life {
+            number,
+            node,
+            start: Instant::now(),
+            wake: None,
+            told: 0,
+            pruned: 0,
+            recorded: HashSet::new(),
+        };
+        self.reports.remember()?;
+        self.carry_out(&mut life, first)?;
+        self.reports.forget();
+        Ok(life)
+    }
+
+    fn live(&mut self, life: &mut Life, patience: Duration) -> Result<Ended> {
+        loop {
+            let stuck = self.status.get().entered + patience;
+            let until = life.rings().map_or(stuck, |rings| rings.min(stuck));
+            let batch = self.inbox.take(Some(until), BATCH);
+            if batch.iter().any(|input| matches!(input, Input::Stop)) {
+                return Ok(Ended::Stopped);
+            }
+            if batch.is_empty() && Instant::now() >= stuck {
+                return Ok(Ended::Stuck);
+            }
+            self.step_all(life, batch)?;
+        }
+    }
+
+    /// Hands the time and a batch in, has what the replies rest on synced, and carries them out.
+    fn step_all(&mut self, life: &mut Life, batch: Vec<Input>) -> Result<()> {
+        let mut replies = Vec::new();
+        // Deadlines are counted from the last moment that was told, so it is told with what comes.
+        let now = life.now();
+        if batch.is_empty() || now >= life.told + BEAT {
+            life.told = now;
+            replies.push(self.step(life, &Event::Moment(now))?);
+        }
+        for input in batch {
+            let event = match input {
+                Input::Packet(_, opened) if life.has_recorded(&opened.message) => {
+                    self.metrics.repeated.inc();
+                    continue;
+                }
+                Input::Packet(sender, opened) => self.packet(sender, opened),
+                Input::Answer(number, event) if number == life.number => event,
+                Input::Answer(..) | Input::Stop => continue,
+            };
+            replies.push(self.step(life, &event)?);
+        }
+        if self.signatures.sync()? {
+            self.metrics.syncs.with_label_values(&["signatures"]).inc();
+        }
+        replies
+            .into_iter()
+            .try_for_each(|reply| self.carry_out(life, reply))
+    }
+
+    fn packet(&mut self, sender: u32, opened: Opened) -> Event {
+        let view = opened.message.view();
+        let signed = opened.message.attestations().iter();
+        for (attestation, signature) in signed.zip(&opened.sealed.signatures) {
+            self.signatures
+                .keep(&self.sealer.signatures, *attestation, view, *signature);
+        }
+        Event::Packet {
+            sender,
+            channel: opened.sealed.channel,
+            bytes: opened.sealed.plain,
+        }
+    }
+
+    fn step(&self, life: &mut Life, event: &Event) -> Result<Reply> {
+        let timer = self.metrics.step_seconds.start_timer();
+        let reply = life.node.step(event)?;
+        timer.observe_duration();
+        if let Some(why) = reply.refusal() {
+            self.metrics.refusals.with_label_values(&[why]).inc();
+            debug!(why, "the node refused an event");
+        }
+        Ok(reply)
+    }
+
+    /// The actions of a reply, in order. All that they rest on is on the disk.
+    fn carry_out(&mut self, life: &mut Life, reply: Reply) -> Result<()> {
+        if reply.refused == 0 {
+            life.wake = None;
+        }
+        for action in reply.actions {
+            match action {
+                Action::Send { to, channel, bytes } => self.send(to, channel, bytes),
+                Action::Block(member) => self.network.block(member, "its node's packets"),
+                Action::Build {
+                    request, context, ..
+                } => self.chain.ask(Request::Build(request, context))?,
+                Action::Verify {
+                    request,
+                    context,
+                    proposal,
+                } => self
+                    .chain
+                    .ask(Request::Verify(request, context, proposal))?,
+                Action::Certify(proposal) => self.chain.ask(Request::Certify(proposal))?,
+                Action::Forward { payload, plan } => {
+                    self.chain.ask(Request::Forward(payload, plan))?;
+                }
+                Action::Finalized(proposal) => self.finalized(life, proposal)?,
+                Action::Report(report) => self.report(life, report)?,
+                Action::Wake(moment) => life.wake = Some(moment),
+            }
+        }
+        Ok(())
+    }
+
+    fn send(&mut self, to: Option<u32>, channel: Channel, plain: Vec<u8>) {
+        let (sealed, message) = match self.sealer.seal(channel, plain) {
+            Ok(sealed) => sealed,
+            Err(missing) => {
+                self.metrics.unsigned.inc();
+                debug!(?missing, "a packet isn't sent: a signature isn't kept");
+                return;
+            }
+        };
+        let mut letter = Letter::new(&Frame::Packet(sealed));
+        match to {
+            Some(peer) => self.network.send(peer, letter),
+            None => {
+                if channel != Channel::Fetches {
+                    letter.view = Some(message.view());
+                    self.current.add(&message, &letter);
+                }
+                self.network.send_to_all(letter);
+            }
+        }
+    }
+
+    fn finalized(&mut self, life: &mut Life, proposal: Proposal) -> Result<()> {
+        let view = proposal.round.view;
+        let id = BlockId {
+            view,
+            payload: proposal.payload,
+        };
+        self.status
+            .change(|state| state.finalized = state.finalized.max(id));
+        self.metrics.finalized.set(view as i64);
+        self.network.finalized(view);
+        if view >= life.pruned + PRUNING {
+            life.pruned = view;
+            life.recorded.retain(|(_, on)| on.round().view >= view);
+            self.signatures.prune(&self.sealer.signatures, view)?;
+        }
+        self.chain.ask(Request::Finalized(proposal))
+    }
+
+    fn report(&mut self, life: &mut Life, plain: Vec<u8>) -> Result<()> {
+        let report = Report::read(LARGEST, &plain).context("a node hands out reports")?;
+        if let Report::Evidence(first, _) = &report {
+            let (signer, view) = (first.attestation.signer, report.view());
+            warn!(signer, view, "evidence: two votes that contradict");
+            self.status.change(|state| state.evidence += 1);
+        }
+        if let Report::Certificate(certificate) = &report {
+            life.recorded.insert((certificate.kind, certificate.on));
+        }
+        self.enter(&report);
+        if self.reports.has(&plain) {
+            return Ok(());
+        }
+        match self.sealer.seal_report(&report) {
+            Ok(signatures) => {
+                self.reports.append(&SignedReport {
+                    plain,
+                    report,
+                    signatures,
+                })?;
+                let size = self.metrics.file_bytes.with_label_values(&["reports"]);
+                size.set(self.reports.size as i64);
+            }
+            Err(_) => self.metrics.unsigned.inc(),
+        }
+        Ok(())
+    }
+
+    /// What a report says of the view that the node stands at: a true verdict and a finalization lead to the next one, a nullification
+    /// past its term.
+    fn enter(&self, report: &Report) {
+        let view = report.view();
+        let entered = match report {
+            Report::Certified(_) => view.saturating_add(1),
+            Report::Certificate(certificate) => match certificate.kind {
+                VoteKind::Finalize => view.saturating_add(1),
+                VoteKind::Nullify => (view.saturating_sub(1) / TERM)
+                    .saturating_add(1)
+                    .saturating_mul(TERM)
+                    .saturating_add(1),
+                VoteKind::Notarize => return,
+            },
+            Report::Vote(_) | Report::Evidence(..) => return,
+        };
+        self.status.change(|state| {
+            if entered > state.view {
+                let passed = state.entered.elapsed().as_secs_f64();
+                self.metrics.view_seconds.observe(passed);
+                self.metrics.view.set(entered as i64);
+                state.view = entered;
+                state.entered = Instant::now();
+            }
+        });
+    }
+}

@@ -1,0 +1,128 @@
+use super::Member;
+use crate::wire::{Event, Reply, Trouble};
+use anyhow::{Context, Result, anyhow, bail};
+use std::io::{Read, Write};
+use std::path::Path;
+use std::process::{ChildStdin, ChildStdout, Command, Stdio};
+use std::thread;
+use std::time::{Duration, Instant};
+
+/// The program `simplex node` as a child process: one event on its input, one reply on its output.
+pub struct Child {
+    process: std::process::Child,
+    input: Option<ChildStdin>,
+    output: ChildStdout,
+    /// What was read and is no whole reply yet.
+    ahead: Vec<u8>,
+}
+
+/// How long a child may take to end once its input has.
+const PATIENCE: Duration = Duration::from_secs(5);
+
+impl Child {
+    /// Starts the program over this record, as `member` of `members`.
+    ///
+    /// # Errors
+    ///
+    /// Where it can't be started, or doesn't open the record: another process may have it.
+    pub fn open(
+        program: &Path,
+        record: &Path,
+        member: u32,
+        members: u32,
+    ) -> Result<(Child, Reply)> {
+        let mut process = Command::new(program)
+            .arg("node")
+            .arg(record)
+            .args([member.to_string(), members.to_string()])
+            .stdin(Stdio::piped())
+            .stdout(Stdio::piped())
+            .stderr(Stdio::piped())
+            .spawn()
+            .with_context(|| format!("the program {}", program.display()))?;
+        let input = process.stdin.take();
+        let output = process.stdout.take().context("a pipe was asked for")?;
+        let mut child = Child {
+            process,
+            input,
+            output,
+            ahead: Vec::new(),
+        };
+        let first = child.reply()?;
+        Ok((child, first))
+    }
+
+    /// The process's number.
+    pub fn id(&self) -> u32 {
+        self.process.id()
+    }
+
+    fn reply(&mut self) -> Result<Reply> {
+        let mut piece = vec![0; 1 << 16];
+        loop {
+            match Reply::read(&self.ahead) {
+                Ok((reply, size)) => {
+                    self.ahead.drain(..size);
+                    return Ok(reply);
+                }
+                Err(Trouble::End) => {}
+                Err(trouble) => bail!("the node answered no reply: {trouble}"),
+            }
+            match self.output.read(&mut piece)? {
+                0 => return Err(self.last_words()),
+                size => self.ahead.extend(&piece[..size]),
+            }
+        }
+    }
+
+    /// Why it ended.
+    fn last_words(&mut self) -> anyhow::Error {
+        let mut told = String::new();
+        let read = self
+            .process
+            .stderr
+            .as_mut()
+            .map(|errors| errors.read_to_string(&mut told));
+        match (self.process.wait(), read) {
+            (Ok(status), _) => anyhow!("the node ended: {status} {}", told.trim()),
+            (Err(error), _) => anyhow!("the node ended: {error}"),
+        }
+    }
+}
+
+impl Member for Child {
+    fn step(&mut self, event: &Event) -> Result<Reply> {
+        let mut bytes = Vec::new();
+        event.append(&mut bytes);
+        let input = self.input.as_mut().context("its input has ended")?;
+        let wrote = input.write_all(&bytes).and_then(|()| input.flush());
+        match wrote {
+            Ok(()) => self.reply(),
+            Err(_) => Err(self.last_words()),
+        }
+    }
+
+    fn close(mut self: Box<Self>) -> Result<()> {
+        drop(self.input.take());
+        let until = Instant::now() + PATIENCE;
+        while Instant::now() < until {
+            match self.process.try_wait()? {
+                Some(status) if status.success() => return Ok(()),
+                Some(_) => return Err(self.last_words()),
+                None => thread::sleep(Duration::from_millis(5)),
+            }
+        }
+        bail!("the node didn't end when its input did, and was killed")
+    }
+}
+
+impl Drop for Child {
+    /// No child outlives its host.
+    fn drop(&mut self) {
+        if let Ok(None) = self.process.try_wait() {
+            // It may have ended meanwhile: then there is nothing to kill.
+            let _ = self.process.kill();
+            let _ = self.process.wait();
+        }
+    }
+}

@@ -1,0 +1,77 @@
+//! A network that only remembers, and keys, for tests of one member alone.
+#![allow(dead_code, reason = "each test uses a part of it")]
+
+use std::sync::{Arc, Mutex};
+use std::thread;
+use std::time::{Duration, Instant};
+use voumlis_core::committee::{Committee, SecretKey};
+use voumlis_core::envelope::Sealer;
+use voumlis_core::frame::Frame;
+use voumlis_core::network::{Letter, Network};
+
+/// Calls this for each frame that is sent.
+type Watch = Box<dyn Fn(&Frame) + Send + Sync>;
+
+/// What was sent, to one member or to all, and who was blocked.
+#[derive(Default)]
+pub struct Remembered {
+    pub sent: Mutex<Vec<(Option<u32>, Frame)>>,
+    pub blocked: Mutex<Vec<u32>>,
+    pub watch: Option<Watch>,
+}
+
+impl Remembered {
+    fn add(&self, to: Option<u32>, letter: &Letter) {
+        let frame = Frame::read(&letter.bytes).unwrap();
+        if let Some(watch) = &self.watch {
+            watch(&frame);
+        }
+        self.sent.lock().unwrap().push((to, frame));
+    }
+
+    /// All that was sent since it was asked last.
+    pub fn taken(&self) -> Vec<(Option<u32>, Frame)> {
+        std::mem::take(&mut self.sent.lock().unwrap())
+    }
+}
+
+impl Network for Remembered {
+    fn send(&self, to: u32, letter: Letter) {
+        self.add(Some(to), &letter);
+    }
+
+    fn send_to_all(&self, letter: Letter) {
+        self.add(None, &letter);
+    }
+
+    fn block(&self, member: u32, _: &str) {
+        self.blocked.lock().unwrap().push(member);
+    }
+
+    fn finalized(&self, _: u64) {}
+}
+
+pub fn key(member: u8) -> SecretKey {
+    SecretKey::of_seed([member + 1; 32]).unwrap()
+}
+
+/// The sealers of four members.
+pub fn sealers() -> Vec<Sealer> {
+    let keys = (0..4).map(|member| key(member).public()).collect();
+    let committee = Arc::new(Committee::new(keys).unwrap());
+    (0..4)
+        .map(|member| Sealer::new(committee.clone(), key(member)).unwrap())
+        .collect()
+}
+
+/// Waits until this gives something.
+pub fn until<T>(what: &str, mut look: impl FnMut() -> Option<T>) -> T {
+    let end = Instant::now() + Duration::from_secs(30);
+    loop {
+        if let Some(found) = look() {
+            return found;
+        }
+        assert!(Instant::now() < end, "waited in vain: {what}");
+        thread::sleep(Duration::from_millis(2));
+    }
+}

@@ -1,0 +1,352 @@
+//! The loop of a member, around a node that says what the test has it say.
+
+mod common;
+
+use common::{Remembered, key, sealers, until};
+use std::path::Path;
+use std::sync::mpsc::Receiver;
+use std::sync::{Arc, Mutex};
+use std::thread::{self, JoinHandle};
+use std::time::Duration;
+use voumlis_core::chain::{ChainHandle, Request};
+use voumlis_core::committee::Signature;
+use voumlis_core::engine::{Engine, EngineSettings};
+use voumlis_core::envelope::{Opened, Sealer};
+use voumlis_core::frame::Frame;
+use voumlis_core::inbox::Inbox;
+use voumlis_core::member::{Member, Open};
+use voumlis_core::metrics::{Metrics, Status};
+use voumlis_core::network::Current;
+use voumlis_core::plain::{BASE, attestation};
+use voumlis_core::reports::{ReportLog, read_all};
+use voumlis_core::signatures::SignatureFile;
+use voumlis_core::wire::{
+    Action, Attestation, Channel, Event, On, Reply, Round, Vote, VoteKind, put_number,
+};
+
+/// What the nodes of all lives were told, each with the number of its life.
+type Events = Arc<Mutex<Vec<(u64, Event)>>>;
+
+/// What a node says to an event.
+type Say = Arc<dyn Fn(u64, &Event) -> Reply + Send + Sync>;
+
+/// A node that says what the test has it say.
+struct Scripted {
+    life: u64,
+    events: Events,
+    say: Say,
+}
+
+impl Member for Scripted {
+    fn step(&mut self, event: &Event) -> anyhow::Result<Reply> {
+        self.events.lock().unwrap().push((self.life, event.clone()));
+        Ok((self.say)(self.life, event))
+    }
+
+    fn close(self: Box<Self>) -> anyhow::Result<()> {
+        Ok(())
+    }
+}
+
+/// The loop of member 0 of four.
+struct Running {
+    sealer: Sealer,
+    inbox: Arc<Inbox>,
+    network: Arc<Remembered>,
+    events: Events,
+    requests: Receiver<Request>,
+    metrics: Arc<Metrics>,
+    thread: JoinHandle<()>,
+}
+
+fn reply(actions: Vec<Action>) -> Reply {
+    let refused = 0;
+    Reply { refused, actions }
+}
+
+impl Running {
+    fn new(
+        folder: &Path,
+        reopen_after: Duration,
+        network: Remembered,
+        say: impl Fn(u64, &Event) -> Reply + Send + Sync + 'static,
+    ) -> Running {
+        let sealer = sealers().remove(0);
+        let (inbox, network) = (Arc::new(Inbox::new(4)), Arc::new(network));
+        let (chain, requests) = ChainHandle::new();
+        let metrics = Arc::new(Metrics::new().unwrap());
+        let path = folder.join("signatures");
+        let signatures = SignatureFile::open(&path, &sealer.signatures, |_, _| true).unwrap();
+        let events = Events::default();
+        let engine = Engine {
+            sealer: sealer.clone(),
+            open: opening(events.clone(), Arc::new(say)),
+            inbox: inbox.clone(),
+            chain,
+            network: network.clone(),
+            current: Arc::new(Current::default()),
+            signatures,
+            reports: ReportLog::open(&folder.join("reports")).unwrap(),
+            metrics: metrics.clone(),
+            status: Arc::new(Status::default()),
+            settings: EngineSettings { reopen_after },
+        };
+        let thread = thread::spawn(move || engine.run().unwrap());
+        Running {
+            sealer,
+            inbox,
+            network,
+            events,
+            requests,
+            metrics,
+            thread,
+        }
+    }
+
+    fn packet(&self, sender: u32, bytes: Vec<u8>, signatures: Vec<Signature>) {
+        let opened = opened(&self.sealer, bytes, signatures);
+        self.inbox.offer(sender, opened).unwrap();
+    }
+
+    /// Waits until the nodes were told so many packets and answers, and gives them.
+    fn told(&self, count: usize) -> Vec<(u64, Event)> {
+        until("the node is told", || {
+            let events = self.events.lock().unwrap();
+            let all = events.iter();
+            let told = all.filter(|(_, event)| !matches!(event, Event::Moment(_)));
+            let told: Vec<_> = told.cloned().collect();
+            (told.len() >= count).then_some(told)
+        })
+    }
+
+    fn stop(self) {
+        self.inbox.stop();
+        self.thread.join().unwrap();
+    }
+}
+
+fn opening(events: Events, say: Say) -> Box<Open> {
+    let mut life = 0;
+    Box::new(move || {
+        life += 1;
+        let node = Scripted {
+            life,
+            events: events.clone(),
+            say: say.clone(),
+        };
+        // As a node does behind a restart, it tells anew what its record says.
+        let mut actions = vec![Action::Wake(50)];
+        if life > 1 {
+            actions.push(Action::Report(nullification(4, 1)));
+        }
+        let first = reply(actions);
+        Ok((Box::new(node) as Box<dyn Member>, first))
+    })
+}
+
+fn opened(sealer: &Sealer, plain: Vec<u8>, signatures: Vec<Signature>) -> Opened {
+    let channel = if signatures.len() == 1 {
+        Channel::Votes
+    } else {
+        Channel::Certificates
+    };
+    let sealed = voumlis_core::envelope::Sealed {
+        channel,
+        plain,
+        signatures,
+    };
+    sealer.open(sealed).unwrap()
+}
+
+fn nullify(view: u64, signer: u32) -> Vote {
+    let on = On::Round(Round { epoch: 0, view });
+    let kind = VoteKind::Nullify;
+    let hash = attestation(BASE, kind, &on, signer);
+    let attestation = Attestation { signer, hash };
+    Vote {
+        kind,
+        on,
+        attestation,
+    }
+}
+
+fn signature(vote: &Vote) -> Signature {
+    let committee = &sealers()[0].committee;
+    key(vote.attestation.signer as u8).sign(committee, &vote.attestation.hash)
+}
+
+/// The nullification of a view by members 1, 2 and 3, as a packet or, with another tag, as a report.
+fn nullification(tag: u8, view: u64) -> Vec<u8> {
+    let mut bytes = vec![tag, 0];
+    put_number(&mut bytes, view);
+    bytes.push(3);
+    for signer in 1..4 {
+        bytes.push(signer as u8);
+        bytes.extend(nullify(view, signer).attestation.hash);
+    }
+    bytes
+}
+
+const LONG: Duration = Duration::from_secs(100);
+
+#[test]
+fn signatures_are_on_the_disk_before_what_rests_on_them_leaves() {
+    let folder = tempfile::tempdir().unwrap();
+    let stored = folder.path().join("signatures");
+    let watch = move |frame: &Frame| {
+        let Frame::Packet(sealed) = frame else {
+            return;
+        };
+        let disk = std::fs::read(&stored).unwrap();
+        for signature in &sealed.signatures {
+            assert!(disk.windows(64).any(|part| part == signature));
+        }
+    };
+    let network = Remembered {
+        watch: Some(Box::new(watch)),
+        ..Remembered::default()
+    };
+    let member = Running::new(folder.path(), LONG, network, |_, event| match event {
+        // With the third vote it hands out the certificate of all three.
+        Event::Packet { sender: 3, .. } => reply(vec![Action::Send {
+            to: None,
+            channel: Channel::Certificates,
+            bytes: nullification(1, 1),
+        }]),
+        _ => reply(Vec::new()),
+    });
+    for signer in 1..4 {
+        let vote = nullify(1, signer);
+        member.packet(signer, vote.bytes(), vec![signature(&vote)]);
+    }
+    let sent = until("the certificate leaves", || member.network.taken().pop());
+    let Frame::Packet(sealed) = sent.1 else {
+        panic!("a packet");
+    };
+    let signed: Vec<Signature> = (1..4).map(|it| signature(&nullify(1, it))).collect();
+    assert_eq!(sealed.signatures, signed);
+    member.stop();
+}
+
+#[test]
+fn a_vote_is_signed_where_the_node_hands_it_out_and_a_certificate_without_signatures_stays() {
+    let folder = tempfile::tempdir().unwrap();
+    let send = |channel, bytes| Action::Send {
+        to: Some(2),
+        channel,
+        bytes,
+    };
+    let network = Remembered::default();
+    let member = Running::new(folder.path(), LONG, network, move |_, event| match event {
+        Event::Packet { .. } => reply(vec![
+            send(Channel::Certificates, nullification(1, 9)),
+            send(Channel::Votes, nullify(9, 0).bytes()),
+        ]),
+        _ => reply(Vec::new()),
+    });
+    let vote = nullify(1, 1);
+    member.packet(1, vote.bytes(), vec![signature(&vote)]);
+    let sent = until("the vote leaves", || {
+        let sent = member.network.taken();
+        (!sent.is_empty()).then_some(sent)
+    });
+    let [(Some(2), Frame::Packet(sealed))] = &sent[..] else {
+        panic!("{sent:?}");
+    };
+    assert_eq!(sealed.signatures, [signature(&nullify(9, 0))]);
+    assert_eq!(member.metrics.unsigned.get(), 1);
+    member.stop();
+}
+
+#[test]
+fn moments_do_not_fall_and_come_when_the_node_wants_to_be_woken() {
+    let folder = tempfile::tempdir().unwrap();
+    let wake = |moment: &u64| reply(vec![Action::Wake(moment + 30)]);
+    let network = Remembered::default();
+    let member = Running::new(folder.path(), LONG, network, move |_, event| match event {
+        Event::Moment(moment) => wake(moment),
+        // It refuses, and so says nothing of a wake: the one before stands.
+        _ => Reply {
+            refused: 11,
+            actions: Vec::new(),
+        },
+    });
+    let vote = nullify(1, 1);
+    member.packet(1, vote.bytes(), vec![signature(&vote)]);
+    let moments = until("it is woken again and again", || {
+        let events = member.events.lock().unwrap();
+        let moments = events.iter().filter_map(|(_, event)| match event {
+            Event::Moment(moment) => Some(*moment),
+            _ => None,
+        });
+        let moments: Vec<u64> = moments.collect();
+        (moments.len() > 5).then_some(moments)
+    });
+    assert!(moments.is_sorted(), "{moments:?}");
+    let gaps = moments.windows(2).map(|pair| pair[1] - pair[0]);
+    assert!(gaps.skip(1).all(|gap| gap >= 30), "{moments:?}");
+    assert_eq!(
+        member
+            .metrics
+            .refusals
+            .with_label_values(&["repetition"])
+            .get(),
+        1
+    );
+    member.stop();
+}
+
+#[test]
+fn a_record_is_opened_again_and_no_answer_reaches_another_life() {
+    let folder = tempfile::tempdir().unwrap();
+    let network = Remembered::default();
+    let short = Duration::from_millis(200);
+    let member = Running::new(folder.path(), short, network, |_, _| reply(Vec::new()));
+    let lives = || match member.requests.recv_timeout(Duration::from_secs(30)) {
+        Ok(Request::Opened(life)) => life,
+        other => panic!("{other:?}"),
+    };
+    assert_eq!((lives(), lives()), (1, 2));
+    let verdict = |view| Event::Verdict { view, good: true };
+    member.inbox.answer(1, verdict(1));
+    member.inbox.answer(2, verdict(2));
+    assert_eq!(member.told(1), [(2, verdict(2))]);
+    member.stop();
+}
+
+#[test]
+fn reports_are_kept_with_signatures_and_what_is_told_anew_is_not_written_again() {
+    let folder = tempfile::tempdir().unwrap();
+    let network = Remembered::default();
+    let some = Duration::from_secs(2);
+    let member = Running::new(folder.path(), some, network, |_, event| match event {
+        Event::Packet { sender: 3, .. } => {
+            reply(vec![Action::Report(nullification(4, 1)), Action::Block(2)])
+        }
+        _ => reply(Vec::new()),
+    });
+    for signer in 1..4 {
+        let vote = nullify(1, signer);
+        member.packet(signer, vote.bytes(), vec![signature(&vote)]);
+    }
+    until("it blocks", || {
+        let blocked = member.network.blocked.lock().unwrap();
+        (*blocked == [2]).then_some(())
+    });
+    // The certificate is known by now: the same from another is left out.
+    let signed: Vec<Signature> = (1..4).map(|it| signature(&nullify(1, it))).collect();
+    member.packet(1, nullification(1, 1), signed.clone());
+    let vote = nullify(2, 1);
+    member.packet(1, vote.bytes(), vec![signature(&vote)]);
+    let told = member.told(4);
+    assert!(matches!(&told[3].1, Event::Packet { bytes, .. } if *bytes == vote.bytes()));
+    assert_eq!(member.metrics.repeated.get(), 1);
+    until("the record is opened again", || {
+        (member.metrics.openings.get() == 2).then_some(())
+    });
+    member.stop();
+    let stored = std::fs::read(folder.path().join("reports")).unwrap();
+    let (reports, size) = read_all(&stored);
+    assert_eq!((reports.len(), size), (1, stored.len()));
+    assert_eq!(reports[0].signatures, signed);
+}

@@ -1,0 +1,249 @@
+//! What is said on the command line.
+
+use crate::member::{self, Service};
+use crate::settings::{Limits, Members, Place, Settings, Times};
+use anyhow::{Context, Result, bail, ensure};
+use clap::{Parser, Subcommand};
+use std::fs;
+use std::net::{IpAddr, SocketAddr};
+use std::path::{Path, PathBuf};
+use std::process::ExitCode;
+use voumlis_core::committee::{Committee, SecretKey};
+use voumlis_core::judge::{Judgement, judge};
+use voumlis_core::reports::{SignedReport, read_all};
+
+/// One member of a committee, over a record on a disk.
+#[derive(Parser)]
+#[command(version)]
+struct Words {
+    #[command(subcommand)]
+    command: Command,
+}
+
+#[derive(Subcommand)]
+enum Command {
+    /// Make a new secret key in a new file of mode 0600, and print its public key.
+    Keygen {
+        /// The file.
+        file: PathBuf,
+    },
+    /// Make the folders of a committee on one machine: a key and settings each, and the list of the members.
+    Init {
+        /// The folder of the folders: a new one, or an empty one.
+        folder: PathBuf,
+        /// How many members.
+        #[arg(long, default_value_t = 4)]
+        members: u16,
+        /// The address of all of them.
+        #[arg(long, default_value = "127.0.0.1")]
+        host: IpAddr,
+        /// The first port: of each member one for peers, and behind all of these one for HTTP.
+        #[arg(long, default_value_t = 7100)]
+        port: u16,
+        /// The program `simplex`.
+        #[arg(long)]
+        program: PathBuf,
+        /// Have the node as the library in the process.
+        #[arg(long)]
+        library: bool,
+    },
+    /// Run the member of a folder until SIGTERM or SIGINT.
+    Run {
+        /// The folder.
+        folder: PathBuf,
+    },
+    /// Print what a running member tells of itself.
+    Status {
+        /// The folder.
+        folder: PathBuf,
+    },
+    /// Say who lied, by reports with signatures and the members' public keys: status 3 where somebody did.
+    Judge {
+        /// Files of reports, and behind them a file that lists the members: settings, or what init made.
+        #[arg(required = true, num_args = 2..)]
+        files: Vec<PathBuf>,
+        /// The program `simplex`.
+        #[arg(long)]
+        program: PathBuf,
+    },
+    /// Say who lied, by the reports of members' folders.
+    Audit {
+        /// The folders.
+        #[arg(required = true)]
+        folders: Vec<PathBuf>,
+    },
+}
+
+/// Does what the words of the command line say, with this service for `run`.
+pub fn command_line(make: impl FnOnce(&Settings) -> Result<Service>) -> ExitCode {
+    let words = Words::parse();
+    tracing_subscriber::fmt()
+        .with_writer(std::io::stderr)
+        .with_ansi(false)
+        .with_max_level(level())
+        .init();
+    match carry_out(words.command, make) {
+        Ok(code) => code,
+        Err(error) => {
+            eprintln!("error: {error:#}");
+            ExitCode::FAILURE
+        }
+    }
+}
+
+/// The level of logs that the environment names: `VOUMLIS_LOG` is error, warn, info, debug or trace.
+fn level() -> tracing::Level {
+    let named = std::env::var("VOUMLIS_LOG").ok();
+    named
+        .and_then(|name| name.parse().ok())
+        .unwrap_or(tracing::Level::INFO)
+}
+
+fn carry_out(
+    command: Command,
+    make: impl FnOnce(&Settings) -> Result<Service>,
+) -> Result<ExitCode> {
+    match command {
+        Command::Keygen { file } => keygen(&file)?,
+        Command::Init {
+            folder,
+            members,
+            host,
+            port,
+            program,
+            library,
+        } => {
+            let ports = Ports { host, first: port };
+            init(&folder, members, &ports, &program, library)?;
+        }
+        Command::Run { folder } => member::run(&folder, make)?,
+        Command::Status { folder } => println!("{}", status(&folder)?),
+        Command::Judge { mut files, program } => {
+            let members = files.pop().context("a file that lists the members")?;
+            let committee = Members::read(&members)?.committee()?;
+            return judged(&committee, &files, &program);
+        }
+        Command::Audit { folders } => {
+            let settings = Settings::read(&folders[0])?;
+            let files: Vec<PathBuf> = folders.iter().map(|one| one.join("reports")).collect();
+            return judged(&settings.committee()?, &files, &settings.program);
+        }
+    }
+    Ok(ExitCode::SUCCESS)
+}
+
+fn keygen(file: &Path) -> Result<()> {
+    let key = SecretKey::generate()?;
+    key.write(file)?;
+    println!("{}", hex::encode(key.public()));
+    Ok(())
+}
+
+/// The addresses of a committee on one machine.
+struct Ports {
+    host: IpAddr,
+    first: u16,
+}
+
+impl Ports {
+    fn at(&self, place: u32) -> Result<SocketAddr> {
+        let port = u32::from(self.first) + place;
+        let port = u16::try_from(port).context("there are no such ports")?;
+        Ok(SocketAddr::new(self.host, port))
+    }
+}
+
+fn init(folder: &Path, members: u16, ports: &Ports, program: &Path, library: bool) -> Result<()> {
+    ensure!(members > 0, "a committee has a member");
+    let program = fs::canonicalize(program).with_context(|| program.display().to_string())?;
+    fs::create_dir_all(folder)?;
+    ensure!(
+        fs::read_dir(folder)?.next().is_none(),
+        "{} isn't empty: keys and records are never written over",
+        folder.display()
+    );
+    let mut places = Vec::new();
+    for member in 0..members {
+        let own = folder.join(format!("member-{member}"));
+        fs::create_dir(&own)?;
+        let key = SecretKey::generate()?;
+        key.write(&own.join("key"))?;
+        places.push(Place {
+            key: hex::encode(key.public()),
+            address: ports.at(u32::from(member))?,
+        });
+    }
+    for (member, place) in places.iter().enumerate() {
+        let settings = Settings {
+            key: "key".into(),
+            listen: place.address,
+            http: ports.at(u32::from(members) + member as u32)?,
+            program: program.clone(),
+            library,
+            limits: Limits::default(),
+            times: Times::default(),
+            members: places.clone(),
+        };
+        settings.write(&folder.join(format!("member-{member}")))?;
+    }
+    let listed = toml::to_string(&Members { members: places })?;
+    fs::write(folder.join("committee.toml"), listed)?;
+    println!("{members} members in {}: run each with", folder.display());
+    println!(
+        "    voumlisd run {}/member-0    # and so on",
+        folder.display()
+    );
+    Ok(())
+}
+
+fn status(folder: &Path) -> Result<String> {
+    let settings = Settings::read(folder)?;
+    let runtime = tokio::runtime::Builder::new_current_thread()
+        .enable_all()
+        .build()?;
+    runtime.block_on(async {
+        let address = format!("http://{}/status", settings.http).parse()?;
+        let answered = hyper::Client::new().get(address).await;
+        let answered =
+            answered.with_context(|| format!("no member answers at {}", settings.http))?;
+        let body = hyper::body::to_bytes(answered.into_body()).await?;
+        Ok(String::from_utf8(body.to_vec())?)
+    })
+}
+
+/// The reports of a file. One that ends in a torn report is read up to there: its member may have been killed inside a write.
+fn reports(file: &Path) -> Result<Vec<SignedReport>> {
+    let bytes = fs::read(file).with_context(|| file.display().to_string())?;
+    let (all, size) = read_all(&bytes);
+    if all.is_empty() && !bytes.is_empty() {
+        bail!("{} holds no reports with signatures", file.display());
+    }
+    if size < bytes.len() {
+        eprintln!(
+            "{}: what begins at byte {size} is no whole report",
+            file.display()
+        );
+    }
+    Ok(all)
+}
+
+fn judged(committee: &Committee, files: &[PathBuf], program: &Path) -> Result<ExitCode> {
+    let each = files.iter().map(|file| reports(file));
+    let all = each.collect::<Result<Vec<_>>>()?.concat();
+    let said: Judgement = judge(committee, &all, program)?;
+    said.lines.iter().for_each(|line| println!("{line}"));
+    println!(
+        "{} reports counted, {} with a signature that doesn't verify",
+        said.counted, said.forged
+    );
+    for member in &said.convicted {
+        let key = committee.key(*member).map(hex::encode).unwrap_or_default();
+        println!("member {member} with key {key} signed what no correct member signs both");
+    }
+    let is_clear = said.convicted.is_empty();
+    Ok(if is_clear {
+        ExitCode::SUCCESS
+    } else {
+        ExitCode::from(3)
+    })
+}

@@ -1,0 +1,211 @@
+//! The settings of a member, and the list of the committee.
+
+use anyhow::{Context, Result, ensure};
+use serde::{Deserialize, Serialize};
+use std::fs;
+use std::net::SocketAddr;
+use std::path::{Path, PathBuf};
+use std::time::Duration;
+use voumlis_core::chain::ChainSettings;
+use voumlis_core::committee::{Committee, PublicKey};
+use voumlis_core::engine::EngineSettings;
+
+/// The name of a member's settings in its folder.
+pub const SETTINGS: &str = "settings.toml";
+
+/// One member's place in the committee: the same in all settings.
+#[derive(Clone, Debug, Deserialize, Serialize)]
+#[serde(deny_unknown_fields)]
+pub struct Place {
+    /// Its Ed25519 public key, in hexadecimal digits.
+    pub key: String,
+    /// Where its peers reach it.
+    pub address: SocketAddr,
+}
+
+/// The members in order. A file of settings is one too: what else it holds is passed over.
+#[derive(Clone, Debug, Deserialize, Serialize)]
+pub struct Members {
+    /// The members, of whom the first has index 0.
+    pub members: Vec<Place>,
+}
+
+/// What a member is set up with.
+#[derive(Clone, Debug, Deserialize, Serialize)]
+#[serde(deny_unknown_fields)]
+pub struct Settings {
+    /// The file of the secret key. Paths are from the folder of the settings.
+    pub key: PathBuf,
+    /// Where this member listens for its peers.
+    pub listen: SocketAddr,
+    /// Where it answers HTTP: everybody who reaches this may read, and use the application.
+    pub http: SocketAddr,
+    /// The program `simplex`, which is run as a child where the node isn't a library, and for audits.
+    pub program: PathBuf,
+    /// Whether the node is the static library in this process; for this the host is built with the feature `library`.
+    #[serde(default)]
+    pub library: bool,
+    /// What is bounded.
+    #[serde(default)]
+    pub limits: Limits,
+    /// How long is waited.
+    #[serde(default)]
+    pub times: Times,
+    /// The members, of whom the first has index 0.
+    pub members: Vec<Place>,
+}
+
+/// Bounds. Those of blocks and snapshots have to be the same for all members.
+#[derive(Clone, Debug, Deserialize, Serialize)]
+#[serde(default, deny_unknown_fields)]
+pub struct Limits {
+    /// The most bytes of a block's contents.
+    pub block_bytes: usize,
+    /// A snapshot is taken with the first final block of each run of so many views.
+    pub snapshot_views: u64,
+    /// The most bytes that wait for one peer.
+    pub queue_bytes: usize,
+    /// Bytes that a peer may send at once, and each second.
+    pub peer_bytes: (f64, f64),
+    /// What a peer may ask for at once, and each second: certificates, blocks, pieces of snapshots.
+    pub peer_asks: (f64, f64),
+    /// Connections of HTTP at a time.
+    pub http_connections: usize,
+    /// Connections at a time that haven't shown a member's key yet.
+    pub strangers: usize,
+}
+
+impl Default for Limits {
+    fn default() -> Limits {
+        let chain = ChainSettings::default();
+        Limits {
+            block_bytes: chain.longest_contents,
+            snapshot_views: chain.snapshot_views,
+            queue_bytes: 16 << 20,
+            peer_bytes: (64e6, 32e6),
+            peer_asks: (500.0, 100.0),
+            http_connections: 1024,
+            strangers: 32,
+        }
+    }
+}
+
+/// Times, in milliseconds.
+#[derive(Clone, Debug, Deserialize, Serialize)]
+#[serde(default, deny_unknown_fields)]
+pub struct Times {
+    /// How long a leader without work waits before it has an empty block built: below the leader's deadline, a second.
+    pub idle: u64,
+    /// How long a check waits for a block that is on its way.
+    pub patience: u64,
+    /// The record is opened again where no view was entered for so long.
+    pub reopen_after: u64,
+}
+
+impl Default for Times {
+    fn default() -> Times {
+        let milliseconds = |time: Duration| time.as_millis() as u64;
+        let chain = ChainSettings::default();
+        Times {
+            idle: milliseconds(chain.idle),
+            patience: milliseconds(chain.patience),
+            reopen_after: milliseconds(EngineSettings::default().reopen_after),
+        }
+    }
+}
+
+fn public_key(digits: &str) -> Result<PublicKey> {
+    let mut key = [0; 32];
+    hex::decode_to_slice(digits, &mut key)
+        .with_context(|| format!("{digits} is no key of 64 hexadecimal digits"))?;
+    Ok(key)
+}
+
+fn read<T: serde::de::DeserializeOwned>(path: &Path) -> Result<T> {
+    let text = fs::read_to_string(path).with_context(|| path.display().to_string())?;
+    toml::from_str(&text).with_context(|| path.display().to_string())
+}
+
+impl Members {
+    /// The members that a file names.
+    ///
+    /// # Errors
+    ///
+    /// Where it can't be read, or names none.
+    pub fn read(path: &Path) -> Result<Members> {
+        read(path)
+    }
+
+    /// The committee of their keys.
+    ///
+    /// # Errors
+    ///
+    /// Where a key is none, or comes twice.
+    pub fn committee(&self) -> Result<Committee> {
+        committee(&self.members)
+    }
+}
+
+fn committee(members: &[Place]) -> Result<Committee> {
+    let keys = members.iter().map(|place| public_key(&place.key));
+    Committee::new(keys.collect::<Result<_>>()?)
+}
+
+impl Settings {
+    /// The settings of the member in this folder, with paths that begin there.
+    ///
+    /// # Errors
+    ///
+    /// Where they can't be read, or ask for what can't be.
+    pub fn read(folder: &Path) -> Result<Settings> {
+        let mut settings: Settings = read(&folder.join(SETTINGS))?;
+        settings.key = folder.join(&settings.key);
+        settings.program = folder.join(&settings.program);
+        ensure!(
+            settings.times.idle < 1000,
+            "times.idle has to be below 1000, at which the others give the leader up"
+        );
+        ensure!(
+            settings.limits.block_bytes + 1024 < voumlis_core::frame::LONGEST_FRAME,
+            "limits.block_bytes is more than a frame holds"
+        );
+        ensure!(settings.limits.snapshot_views > 0, "limits.snapshot_views");
+        Ok(settings)
+    }
+
+    /// Writes them to a member's folder.
+    ///
+    /// # Errors
+    ///
+    /// Those of the file.
+    pub fn write(&self, folder: &Path) -> Result<()> {
+        let path = folder.join(SETTINGS);
+        fs::write(&path, toml::to_string(self)?).with_context(|| path.display().to_string())
+    }
+
+    /// The committee of the members' keys.
+    ///
+    /// # Errors
+    ///
+    /// Where a key is none, or comes twice.
+    pub fn committee(&self) -> Result<Committee> {
+        committee(&self.members)
+    }
+
+    /// How the application's thread is set up.
+    pub fn chain(&self) -> ChainSettings {
+        ChainSettings {
+            idle: Duration::from_millis(self.times.idle),
+            patience: Duration::from_millis(self.times.patience),
+            longest_contents: self.limits.block_bytes,
+            snapshot_views: self.limits.snapshot_views,
+        }
+    }
+
+    /// How the loop is set up.
+    pub fn engine(&self) -> EngineSettings {
+        EngineSettings {
+            reopen_after: Duration::from_millis(self.times.reopen_after),
+        }
+    }
+}

@@ -1,0 +1,239 @@
+//! A committee of real processes on the loopback, for tests.
+#![allow(dead_code, reason = "each test uses a part of it")]
+
+use serde_json::Value;
+use std::collections::BTreeMap;
+use std::fs::{self, File};
+use std::io::{Read, Write};
+use std::net::{SocketAddr, TcpListener, TcpStream};
+use std::path::{Path, PathBuf};
+use std::process::{Child, Command, ExitStatus, Output, Stdio};
+use std::thread;
+use std::time::{Duration, Instant};
+use tempfile::TempDir;
+use voumlisd::Settings;
+
+/// How long anything may take: a program that isn't proved is slow, and the machine may be busy.
+pub const PATIENCE: Duration = Duration::from_secs(120);
+
+/// The program `simplex`.
+///
+/// # Panics
+///
+/// Where there is none: a test of members tests nothing without.
+pub fn program() -> PathBuf {
+    if let Some(named) = std::env::var_os("VOUMLIS_PROGRAM") {
+        return named.into();
+    }
+    let top = Path::new(env!("CARGO_MANIFEST_DIR")).join("../../..");
+    ["crates/simplex/out/simplex", "demo/out/simplex-unproved"]
+        .iter()
+        .map(|path| top.join(path))
+        .find(|path| path.exists())
+        .expect("there is no program simplex: host/program builds one")
+}
+
+/// Waits until this gives something.
+pub fn until<T>(what: &str, mut look: impl FnMut() -> Option<T>) -> T {
+    let end = Instant::now() + PATIENCE;
+    loop {
+        if let Some(found) = look() {
+            return found;
+        }
+        assert!(Instant::now() < end, "waited in vain: {what}");
+        thread::sleep(Duration::from_millis(50));
+    }
+}
+
+/// Addresses of the loopback that nobody listens at. All are held until the last is found, so that they differ.
+fn free_addresses(count: usize) -> Vec<SocketAddr> {
+    let listeners: Vec<TcpListener> = (0..count)
+        .map(|_| TcpListener::bind("127.0.0.1:0").unwrap())
+        .collect();
+    listeners
+        .iter()
+        .map(|listener| listener.local_addr().unwrap())
+        .collect()
+}
+
+/// A committee: its folder, its members' settings, and the processes that run.
+pub struct Committee {
+    pub folder: TempDir,
+    pub settings: Vec<Settings>,
+    pub processes: BTreeMap<usize, Child>,
+    /// What was seen to be final: a view's payload.
+    pub seen: BTreeMap<u64, String>,
+}
+
+impl Committee {
+    /// So many members, whose settings are changed so.
+    pub fn new(members: usize, change: impl Fn(&mut Settings)) -> Committee {
+        let folder = tempfile::tempdir().unwrap();
+        let made = Command::new(env!("CARGO_BIN_EXE_voumlisd"))
+            .args(["init", "--members", &members.to_string(), "--program"])
+            .arg(program())
+            .arg(folder.path())
+            .output()
+            .unwrap();
+        assert!(made.status.success(), "{made:?}");
+        let addresses = free_addresses(2 * members);
+        let mut committee = Committee {
+            folder,
+            settings: Vec::new(),
+            processes: BTreeMap::new(),
+            seen: BTreeMap::new(),
+        };
+        for member in 0..members {
+            let own = committee.member(member);
+            let mut settings = Settings::read(&own).unwrap();
+            for (place, address) in settings.members.iter_mut().zip(&addresses) {
+                place.address = *address;
+            }
+            settings.listen = addresses[member];
+            settings.http = addresses[members + member];
+            settings.times.idle = 20;
+            change(&mut settings);
+            settings.write(&own).unwrap();
+            committee.settings.push(settings);
+        }
+        committee
+    }
+
+    pub fn member(&self, member: usize) -> PathBuf {
+        self.folder.path().join(format!("member-{member}"))
+    }
+
+    fn command(&self, binary: &Path, member: usize) -> Command {
+        let log = self.folder.path().join(format!("log-{member}"));
+        let mut options = File::options();
+        let log = options.create(true).append(true).open(log).unwrap();
+        let mut command = Command::new(binary);
+        command.arg("run").arg(self.member(member));
+        command.stdout(Stdio::null()).stderr(log);
+        command
+    }
+
+    pub fn start(&mut self, member: usize) {
+        self.start_as(Path::new(env!("CARGO_BIN_EXE_voumlisd")), member);
+    }
+
+    pub fn start_as(&mut self, binary: &Path, member: usize) {
+        let process = self.command(binary, member).spawn().unwrap();
+        self.processes.insert(member, process);
+    }
+
+    pub fn start_all(&mut self) {
+        (0..self.settings.len()).for_each(|member| self.start(member));
+    }
+
+    /// As `kill -9`.
+    pub fn kill(&mut self, member: usize) {
+        let mut process = self.processes.remove(&member).unwrap();
+        process.kill().unwrap();
+        process.wait().unwrap();
+    }
+
+    pub fn terminate(&mut self, member: usize) -> ExitStatus {
+        let mut process = self.processes.remove(&member).unwrap();
+        let killed = Command::new("kill").arg(process.id().to_string()).status();
+        assert!(killed.unwrap().success());
+        until("a member ends at SIGTERM", || process.try_wait().unwrap())
+    }
+
+    pub fn get(&self, member: usize, path: &str) -> Option<String> {
+        let mut stream = TcpStream::connect(self.settings[member].http).ok()?;
+        stream.set_read_timeout(Some(PATIENCE)).ok()?;
+        write!(
+            stream,
+            "GET {path} HTTP/1.1\r\nHost: member\r\nConnection: close\r\n\r\n"
+        )
+        .ok()?;
+        let mut text = String::new();
+        stream.read_to_string(&mut text).ok()?;
+        let (_, body) = text.split_once("\r\n\r\n")?;
+        Some(body.to_owned())
+    }
+
+    /// What a member tells of itself. What it says is final may contradict nothing that a member said before.
+    pub fn status(&mut self, member: usize) -> Option<Value> {
+        let status: Value = serde_json::from_str(&self.get(member, "/status")?).unwrap();
+        for name in ["finalized", "applied"] {
+            let view = status[name]["view"].as_u64().unwrap();
+            let payload = status[name]["payload"].as_str().unwrap().to_owned();
+            let known = self.seen.entry(view).or_insert_with(|| payload.clone());
+            assert_eq!(*known, payload, "view {view} at member {member}");
+        }
+        Some(status)
+    }
+
+    pub fn applied(&mut self, member: usize) -> u64 {
+        self.status(member)
+            .map_or(0, |status| status["applied"]["view"].as_u64().unwrap())
+    }
+
+    /// Waits until these members have carried out blocks up to this view.
+    pub fn reach(&mut self, members: &[usize], view: u64) {
+        for member in members {
+            until(&format!("member {member} reaches view {view}"), || {
+                (self.applied(*member) >= view).then_some(())
+            });
+        }
+    }
+
+    pub fn highest(&mut self) -> u64 {
+        let running: Vec<usize> = self.processes.keys().copied().collect();
+        let applied = running.into_iter().map(|member| self.applied(member));
+        applied.max().unwrap_or(0)
+    }
+
+    /// The counter of this name and labels, as `/metrics` has it; 0 where it isn't there.
+    pub fn metric(&self, member: usize, name: &str) -> f64 {
+        let text = self.get(member, "/metrics").unwrap_or_default();
+        let line = text.lines().find_map(|line| line.strip_prefix(name));
+        line.map_or(0.0, |value| value.trim().parse().unwrap())
+    }
+
+    pub fn log(&self, member: usize) -> String {
+        fs::read_to_string(self.folder.path().join(format!("log-{member}"))).unwrap()
+    }
+
+    /// Runs another command of the program.
+    pub fn run(&self, words: &[&str]) -> Output {
+        Command::new(env!("CARGO_BIN_EXE_voumlisd"))
+            .args(words)
+            .output()
+            .unwrap()
+    }
+
+    /// The processes of nodes over this member's record.
+    pub fn nodes(&self, member: usize) -> usize {
+        let record = self.member(member).join("record");
+        let record = record.to_str().unwrap().to_owned();
+        let processes = fs::read_dir("/proc").unwrap().flatten();
+        processes
+            .filter_map(|process| fs::read(process.path().join("cmdline")).ok())
+            .filter(|words| {
+                words
+                    .split(|byte| *byte == 0)
+                    .any(|word| word == record.as_bytes())
+            })
+            .count()
+    }
+}
+
+impl Drop for Committee {
+    /// No process outlives its test, and where it failed one sees what the members said.
+    fn drop(&mut self) {
+        for process in self.processes.values_mut() {
+            let _ = process.kill();
+            let _ = process.wait();
+        }
+        if thread::panicking() {
+            for member in 0..self.settings.len() {
+                let path = self.folder.path().join(format!("log-{member}"));
+                let log = fs::read_to_string(path).unwrap_or_default();
+                eprintln!("---- member {member}\n{log}");
+            }
+        }
+    }
+}

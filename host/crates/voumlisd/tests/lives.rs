@@ -1,0 +1,105 @@
+//! Members as real processes: they are killed, stopped, late and stuck, and go on.
+
+mod common;
+
+use common::{Committee, until};
+use std::os::unix::fs::PermissionsExt;
+use std::{fs, thread, time::Duration};
+
+#[test]
+fn four_members_go_on_without_one_that_was_killed_and_it_catches_up() {
+    let mut committee = Committee::new(4, |_| {});
+    committee.start_all();
+    committee.reach(&[0, 1, 2, 3], 6);
+    committee.kill(3);
+    until("its node ends with it", || {
+        (committee.nodes(3) == 0).then_some(())
+    });
+    let there = committee.highest();
+    committee.reach(&[0, 1, 2], there + 8);
+    committee.start(3);
+    let there = committee.highest();
+    committee.reach(&[3], there + 4);
+    assert_eq!(committee.metric(0, "voumlis_unsigned_total"), 0.0);
+}
+
+#[test]
+fn what_was_final_stays_final_where_all_are_killed_at_once() {
+    let mut committee = Committee::new(4, |_| {});
+    committee.start_all();
+    committee.reach(&[0, 1, 2, 3], 8);
+    let there = committee.highest();
+    (0..4).for_each(|member| committee.kill(member));
+    committee.start_all();
+    // A payload that differs from one seen before fails in `status`.
+    committee.reach(&[0, 1, 2, 3], there + 6);
+}
+
+#[test]
+fn a_member_stops_cleanly_and_alone_has_its_folder() {
+    let mut committee = Committee::new(1, |_| {});
+    committee.start(0);
+    committee.reach(&[0], 3);
+    let folder = committee.member(0);
+    let second = committee.run(&["run", folder.to_str().unwrap()]);
+    assert!(!second.status.success());
+    let told = String::from_utf8(second.stderr).unwrap();
+    assert!(told.contains("another process runs the member"), "{told}");
+    let there = committee.applied(0);
+    let ended = committee.terminate(0);
+    assert!(ended.success(), "{ended} {}", committee.log(0));
+    assert_eq!(committee.nodes(0), 0);
+    committee.start(0);
+    committee.reach(&[0], there + 3);
+}
+
+#[test]
+fn a_key_that_others_may_read_is_refused() {
+    let committee = Committee::new(1, |_| {});
+    let folder = committee.member(0);
+    let key = folder.join("key");
+    assert_eq!(
+        fs::metadata(&key).unwrap().permissions().mode() & 0o777,
+        0o600
+    );
+    fs::set_permissions(&key, fs::Permissions::from_mode(0o644)).unwrap();
+    let ended = committee.run(&["run", folder.to_str().unwrap()]);
+    assert!(!ended.status.success());
+    let told = String::from_utf8(ended.stderr).unwrap();
+    assert!(told.contains("may be read by others"), "{told}");
+}
+
+#[test]
+fn a_member_that_joins_late_takes_a_snapshot_and_the_blocks_behind_it() {
+    let mut committee = Committee::new(4, |settings| settings.limits.snapshot_views = 8);
+    (0..3).for_each(|member| committee.start(member));
+    // Two snapshots are behind by then, so the first blocks are kept by nobody.
+    committee.reach(&[0, 1, 2], 26);
+    committee.start(3);
+    let there = committee.highest();
+    committee.reach(&[3], there + 4);
+    assert!(
+        committee
+            .log(3)
+            .contains("a snapshot was taken from others"),
+        "it was reached another way"
+    );
+    // What it took is what it starts from.
+    committee.kill(3);
+    committee.start(3);
+    let there = committee.highest();
+    committee.reach(&[3], there + 4);
+}
+
+#[test]
+fn a_record_is_opened_again_where_no_view_is_entered_for_long() {
+    let mut committee = Committee::new(4, |settings| settings.times.reopen_after = 2_000);
+    committee.start(0);
+    committee.start(1);
+    until("the record is opened again", || {
+        (committee.metric(0, "voumlis_openings_total") >= 2.0).then_some(())
+    });
+    thread::sleep(Duration::from_millis(500));
+    committee.start(2);
+    committee.reach(&[0, 1, 2], 4);
+}
