@@ -69,10 +69,11 @@ def lay(folder: Path, made: dict[str, tuple[Path, str]], proved: bool) -> None:
 def strip(file: Path, name: str) -> None:
     """Takes out what only a debugger reads, the same way each time; where there is no strip it stays in."""
     words = ["--strip-debug"] if name == ARCHIVE else ["--strip-all"]
-    if shutil.which("strip"):
-        subprocess.run(["strip", "--enable-deterministic-archives", *words, file], check=True)
-    else:
-        say("there is no strip (binutils): names for a debugger stay in")
+    if not shutil.which("strip"):
+        return say("there is no strip (binutils): names for a debugger stay in")
+    ran = subprocess.run(["strip", "--enable-deterministic-archives", *words, file], capture_output=True, text=True)
+    if ran.returncode:
+        raise Trouble(f"strip refuses {name}: {ran.stderr.strip()[:200]}")
 
 
 def build_unproved() -> Path:
