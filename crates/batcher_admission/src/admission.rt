@@ -59,7 +59,8 @@ pub fn refusal<S: Scheme<D>, D: Digest>(
     ensures accepted { is_none result ≡ is_accepted members (option_copied recorded.entry) sender vote.now }
     ensures added { IfSome result (λ a. a.added ≡ false) }
     ensures block { IfSome result (λ a. IsTrue a.block ↔ IsBlockedFor members (option_copied recorded.entry) (λ u. in_full) sender vote.now) }
-    ensures report { IfSome result (λ a. a.report ≡ evidence_against D.PartialEq.eq members (option_copied recorded.entry) (λ u. in_full) sender vote.now) }
+    ensures report { IfSome result
+        (λ a. a.report ≡ evidence_against D.PartialEq.eq members (option_copied recorded.entry) (λ u. in_full) sender vote.now) }
 {
     if sender != vote.signer() {
         return Some(Admission::without_evidence(true));

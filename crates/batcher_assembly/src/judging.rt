@@ -55,7 +55,11 @@ pub fn assemble_enough<S: Scheme<D>, D: Digest>(
     needed: usize,
     given: &[Attestation<S::Signature>],
 ) -> Result<Option<S::Certificate>, AllocError>
-    ensures made { IfOk result (λ made. AreDistinct given.now → All (λ a. S.attests scheme.now a.signer (statement subject.now) a.signature) given.now → MatchOption made (length given.now < needed) (λ c. (needed ≤ length given.now) × IsWhole (S.certifies scheme.now (statement subject.now)) S.lists S.enumerates given.now c)) }
+    ensures made { IfOk result (λ made.
+        AreDistinct given.now
+        → All (λ a. S.attests scheme.now a.signer (statement subject.now) a.signature) given.now
+        → MatchOption made (length given.now < needed)
+        (λ c. (needed ≤ length given.now) × IsWhole (S.certifies scheme.now (statement subject.now)) S.lists S.enumerates given.now c)) }
     ensures readable { IfOk result (λ made. IfSome made (λ c. S.Certificate.within (S.size scheme.now) c)) }
     ensures within { IfOk result (λ made. IfSome made (λ c. S.Certificate.within 65535 c)) }
 {
@@ -80,10 +84,12 @@ fn assemble_at_once<S: Scheme<D>, D: Digest>(
     waiting: &[Attestation<S::Signature>],
 ) -> Result<Option<S::Certificate>, AllocError>
     ensures batchable { IfOk result (λ made. IfSome made (λ c. S.batchable scheme.now ≡ true)) }
-    ensures sound { IfOk result (λ made. IfSome made (λ c. IsSound (S.certifies scheme.now (statement subject.now)) S.lists (verified.now ++ waiting.now) c)) }
+    ensures sound { IfOk result
+        (λ made. IfSome made (λ c. IsSound (S.certifies scheme.now (statement subject.now)) S.lists (verified.now ++ waiting.now) c)) }
     ensures readable { IfOk result (λ made. IfSome made (λ c. S.Certificate.within (S.size scheme.now) c)) }
     ensures within { IfOk result (λ made. IfSome made (λ c. S.Certificate.within 65535 c)) }
-    ensures declined { IfOk result (λ made. made ≡ None → S.batchable scheme.now ≡ true → S.may_decline scheme.now (statement subject.now) (verified.now ++ waiting.now)) }
+    ensures declined { IfOk result (λ made.
+        made ≡ None → S.batchable scheme.now ≡ true → S.may_decline scheme.now (statement subject.now) (verified.now ++ waiting.now)) }
 {
     if !scheme.is_batchable() {
         return Ok(None);
@@ -104,7 +110,12 @@ fn judge_each<S: Scheme<D>, D: Digest>(
     waiting: &[Attestation<S::Signature>],
 ) -> Result<Judged<S::Certificate>, AllocError>
     requires declined { S.batchable scheme.now ≡ true → S.may_decline scheme.now (statement subject.now) (verified.now ++ waiting.now) }
-    ensures verdict { IfOk result (λ judged. AreDistinct (verified.now ++ waiting.now) → All (λ a. S.attests scheme.now a.signer (statement subject.now) a.signature) verified.now → IsOneByOne (S.certifies scheme.now (statement subject.now)) S.lists (S.batchable scheme.now) (S.may_decline scheme.now (statement subject.now)) (λ i a. S.attests scheme.now i (statement subject.now) a) S.enumerates needed verified.now waiting.now judged) }
+    ensures verdict { IfOk result (λ judged.
+        AreDistinct (verified.now ++ waiting.now)
+        → All (λ a. S.attests scheme.now a.signer (statement subject.now) a.signature) verified.now
+        → IsOneByOne (S.certifies scheme.now (statement subject.now)) S.lists (S.batchable scheme.now)
+        (S.may_decline scheme.now (statement subject.now)) (λ i a. S.attests scheme.now i (statement subject.now) a) S.enumerates needed
+        verified.now waiting.now judged) }
     ensures readable { IfOk result (λ judged. IfSome judged.certificate (λ c. S.Certificate.within (S.size scheme.now) c)) }
     ensures within { IfOk result (λ judged. IfSome judged.certificate (λ c. S.Certificate.within 65535 c)) }
 {
@@ -129,7 +140,12 @@ pub fn judge<S: Scheme<D>, D: Digest>(
     verified: &[Attestation<S::Signature>],
     waiting: &[Attestation<S::Signature>],
 ) -> Result<Judged<S::Certificate>, AllocError>
-    ensures verdict { IfOk result (λ judged. AreDistinct (verified.now ++ waiting.now) → All (λ a. S.attests scheme.now a.signer (statement subject.now) a.signature) verified.now → IsJudged (S.certifies scheme.now (statement subject.now)) S.lists (S.batchable scheme.now) (S.may_decline scheme.now (statement subject.now)) (λ i a. S.attests scheme.now i (statement subject.now) a) S.enumerates needed verified.now waiting.now judged) }
+    ensures verdict { IfOk result (λ judged.
+        AreDistinct (verified.now ++ waiting.now)
+        → All (λ a. S.attests scheme.now a.signer (statement subject.now) a.signature) verified.now
+        → IsJudged (S.certifies scheme.now (statement subject.now)) S.lists (S.batchable scheme.now)
+        (S.may_decline scheme.now (statement subject.now)) (λ i a. S.attests scheme.now i (statement subject.now) a) S.enumerates needed
+        verified.now waiting.now judged) }
     ensures readable { IfOk result (λ judged. IfSome judged.certificate (λ c. S.Certificate.within (S.size scheme.now) c)) }
     ensures within { IfOk result (λ judged. IfSome judged.certificate (λ c. S.Certificate.within 65535 c)) }
 {

@@ -2,7 +2,7 @@
 #![tactic(auto)]
 
 mod rows;
-mod votes;
+mod vote_kinds;
 
 pub use rows::{Rows, Tally};
-pub use votes::{attestation_of, is_for, kind_of};
+pub use vote_kinds::{attestation_of, is_for, kind_of};

@@ -11,7 +11,7 @@ ghost use Rattle.batcher_rows.specs.Votes.{is_kind, is_in_way, is_candidate, vot
 ghost use Rattle.batcher_rows.specs.declared.rows.Row.{Row};
 ghost use Rattle.batcher_rows.specs.Rows.{head_of, is_aside, OthersStay, IsCounted, is_marked, mark_of, stands, vote_in, votes_in, counted_in, tally_at, with_cell, each_cell, kept, settled, members_of, newest_of, votes_of, KindIs, AreNewest, PlacesStay, RowsStay, pushed, settled_waiting, settled_verified};
 
-use crate::votes::{attestation_of, is_for, kind_of};
+use crate::vote_kinds::{attestation_of, is_for, kind_of};
 use batcher_assembly::is_listed;
 use simplex_messages::Vote;
 use std::alloc::{AllocError, Global};
@@ -336,8 +336,16 @@ impl<S: Scheme<D>, D: Digest> Rows<S, D> {
 
     /// Puts a vote down, which counts or doesn't. No vote of its signer may count that stands in its way.
     pub fn put(&mut self, vote: Vote<S, D>, own: bool, counts: bool) -> Result<(), AllocError>
-        ensures places { OnOk result ((members : ℕ) (votes : List (Vote S D S.PublicKey S.Signature S.Certificate)) → AreNewest self.old members votes → AreNewest self.new members (vote ∷ votes)) }
-        ensures kinds { OnOk result ((members : ℕ) (votes : List (Vote S D S.PublicKey S.Signature S.Certificate)) → AreNewest self.old members votes → (kind : Kind) (complete : Bool) (wait sure : List (Vote S D S.PublicKey S.Signature S.Certificate)) → KindIs kind self.old complete wait sure → find (is_in_way vote) wait ≡ None → find (is_in_way vote) sure ≡ None → KindIs kind self.new complete (pushed kind vote (counts && not own) wait) (pushed kind vote (counts && own) sure)) }
+        ensures places { OnOk result ((members : ℕ) (votes : List (Vote S D S.PublicKey S.Signature S.Certificate))
+            → AreNewest self.old members votes
+            → AreNewest self.new members (vote ∷ votes)) }
+        ensures kinds { OnOk result ((members : ℕ) (votes : List (Vote S D S.PublicKey S.Signature S.Certificate))
+            → AreNewest self.old members votes
+            → (kind : Kind) (complete : Bool) (wait sure : List (Vote S D S.PublicKey S.Signature S.Certificate))
+            → KindIs kind self.old complete wait sure
+            → find (is_in_way vote) wait ≡ None
+            → find (is_in_way vote) sure ≡ None
+            → KindIs kind self.new complete (pushed kind vote (counts && not own) wait) (pushed kind vote (counts && own) sure)) }
         ensures err { OnErr result (RowsStay self.old self.new) }
     {
         self.reach()?;
@@ -355,8 +363,14 @@ impl<S: Scheme<D>, D: Digest> Rows<S, D> {
     /// Writes a vote into its member's row; that of a stranger into a row of its own, if it counts.
     fn write(&mut self, held: Held<S, D>) -> Result<(), AllocError>
         ensures others { OthersStay self.old self.new }
-        ensures member { OnOk result (vote_signer held.vote < self.old.members → self.old.members ≤ length self.old.rows.items → (d : Row S D S.PublicKey S.Signature S.Certificate) → self.new.rows.items ≡ slice_set self.old.rows.items (vote_signer held.vote) (with_cell (is_kind Notarization (vote_kind held.vote)) held (slice_index_or self.old.rows.items (vote_signer held.vote) d))) }
-        ensures stranger { OnOk result (self.old.members ≤ vote_signer held.vote → self.new.rows.items ≡ (if is_aside held.mark then self.old.rows.items else self.old.rows.items ++ with_cell (is_kind Notarization (vote_kind held.vote)) held (record { notarize = None; other = None }) ∷ [])) }
+        ensures member { OnOk result (vote_signer held.vote < self.old.members
+            → self.old.members ≤ length self.old.rows.items
+            → (d : Row S D S.PublicKey S.Signature S.Certificate)
+            → self.new.rows.items ≡ slice_set self.old.rows.items (vote_signer held.vote)
+            (with_cell (is_kind Notarization (vote_kind held.vote)) held (slice_index_or self.old.rows.items (vote_signer held.vote) d))) }
+        ensures stranger { OnOk result (self.old.members ≤ vote_signer held.vote
+            → self.new.rows.items ≡ (if is_aside held.mark then self.old.rows.items else self.old.rows.items ++ with_cell
+            (is_kind Notarization (vote_kind held.vote)) held (record { notarize = None; other = None }) ∷ [])) }
         ensures err { OnErr result (self.new.rows.items ≡ self.old.rows.items) }
     {
         let signer = held.vote.signer().get();
@@ -407,7 +421,10 @@ impl<S: Scheme<D>, D: Digest> Rows<S, D> {
     fn recount(&mut self, kind: Kind)
         ensures rows { self.new.rows ≡ self.old.rows }
         ensures members { self.new.members ≡ self.old.members }
-        ensures tallies { (k : Kind) → tally_at k self.new ≡ (if is_kind kind k then record { waiting = length (votes_in false kind self.old.rows.items); verified = length (votes_in true kind self.old.rows.items); complete = (tally_at kind self.old).complete } else tally_at k self.old) }
+        ensures tallies { (k : Kind)
+            → tally_at k self.new ≡ (if is_kind kind k then record
+            { waiting = length (votes_in false kind self.old.rows.items); verified = length (votes_in true kind self.old.rows.items); complete = (tally_at kind self.old).complete }
+            else tally_at k self.old) }
     {
         let complete = self.tally(kind).complete;
         let tally = Tally {
@@ -434,7 +451,10 @@ impl<S: Scheme<D>, D: Digest> Rows<S, D> {
     /// The votes for other proposals count no more.
     pub fn retain_for(&mut self, proposal: &Proposal<D>)
         ensures places { PlacesStay self.old self.new }
-        ensures kinds { (kind : Kind) (complete : Bool) (wait sure : List (Vote S D S.PublicKey S.Signature S.Certificate)) → KindIs kind self.old complete wait sure → KindIs kind self.new complete (filter (is_candidate D.PartialEq.eq (Some proposal.now)) wait) (filter (is_candidate D.PartialEq.eq (Some proposal.now)) sure) }
+        ensures kinds { (kind : Kind) (complete : Bool) (wait sure : List (Vote S D S.PublicKey S.Signature S.Certificate))
+            → KindIs kind self.old complete wait sure
+            → KindIs kind self.new complete (filter (is_candidate D.PartialEq.eq (Some proposal.now)) wait)
+            (filter (is_candidate D.PartialEq.eq (Some proposal.now)) sure) }
     {
         for row in self.rows.iter_mut() {
             row.retain_for(proposal);
@@ -447,7 +467,9 @@ impl<S: Scheme<D>, D: Digest> Rows<S, D> {
     /// The votes of a kind count no more, since its certificate was made.
     pub fn finish(&mut self, kind: Kind)
         ensures places { PlacesStay self.old self.new }
-        ensures kinds { (k : Kind) (complete : Bool) (wait sure : List (Vote S D S.PublicKey S.Signature S.Certificate)) → KindIs k self.old complete wait sure → KindIs k self.new (is_kind k kind || complete) (if is_kind k kind then [] else wait) (if is_kind k kind then [] else sure) }
+        ensures kinds { (k : Kind) (complete : Bool) (wait sure : List (Vote S D S.PublicKey S.Signature S.Certificate))
+            → KindIs k self.old complete wait sure
+            → KindIs k self.new (is_kind k kind || complete) (if is_kind k kind then [] else wait) (if is_kind k kind then [] else sure) }
     {
         for row in self.rows.iter_mut() {
             row.finish(kind);
@@ -465,7 +487,10 @@ impl<S: Scheme<D>, D: Digest> Rows<S, D> {
     /// The waiting votes of a kind, of all but these signers, which ascend, are known to attest now.
     pub fn settle(&mut self, kind: Kind, failing: &[Participant])
         ensures places { IsStrictlyIncreasing failing.now → PlacesStay self.old self.new }
-        ensures kinds { IsStrictlyIncreasing failing.now → (k : Kind) (complete : Bool) (wait sure : List (Vote S D S.PublicKey S.Signature S.Certificate)) → KindIs k self.old complete wait sure → KindIs k self.new complete (settled_waiting k kind wait) (settled_verified k kind failing.now wait sure) }
+        ensures kinds { IsStrictlyIncreasing failing.now
+            → (k : Kind) (complete : Bool) (wait sure : List (Vote S D S.PublicKey S.Signature S.Certificate))
+            → KindIs k self.old complete wait sure
+            → KindIs k self.new complete (settled_waiting k kind wait) (settled_verified k kind failing.now wait sure) }
     {
         for row in self.rows.iter_mut() {
             row.settle(kind, failing);
@@ -511,7 +536,8 @@ impl<S: Scheme<D>, D: Digest> Rows<S, D> {
 
     /// Whether all votes of a kind that are known to attest are for what the first is for.
     pub fn is_of_one(&self, kind: Kind) -> bool
-        ensures { MatchOption (head_of (votes_of true kind self.now)) (result ≡ true) (λ first. IsTrue result ↔ All (λ v. is_candidate D.PartialEq.eq (vote_proposal first) v ≡ true) (votes_of true kind self.now)) }
+        ensures { MatchOption (head_of (votes_of true kind self.now)) (result ≡ true)
+            (λ first. IsTrue result ↔ All (λ v. is_candidate D.PartialEq.eq (vote_proposal first) v ≡ true) (votes_of true kind self.now)) }
     {
         match self.first_verified(kind) {
             Some(first) => self.are_beside(kind, first),

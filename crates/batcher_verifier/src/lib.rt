@@ -2,15 +2,16 @@
 #![tactic(auto, unfolding(crate::specs::Keeping::VerifierKeeps))]
 
 mod batch;
-mod fault;
+mod batcher_fault;
+mod certificate_kinds;
 mod laws;
 mod proposal_state;
 mod verifier;
-mod votes;
 
 pub use batch::Batch;
+pub use batcher_fault::BatcherFault;
 pub use batcher_rows::kind_of;
-pub use fault::BatcherFault;
+pub use certificate_kinds::kind_of_certificate;
 pub use laws::{
     batches_rest_on_accepted_votes, constructions_end, forwarding_changes_no_votes,
     lawful_histories_are_consistent, no_more_are_judged_than_came, no_quorum_is_lost,
@@ -20,4 +21,3 @@ pub use laws::{
 };
 pub use types_terms::Kind;
 pub use verifier::Verifier;
-pub use votes::kind_of_certificate;

@@ -2,7 +2,7 @@
 
 ghost use Rattle.std.specs.Prelude.{◌≡◌, ◌<◌, All, find, ◌↔◌, ◌++◌, ◌∷◌, ◌≤◌, [], ◌&&◌, ◌||◌, ℕ, List, Bool, not, filter, length, Option, Some, None, IsTrue, IfOk, IfErr, IfSome, Err, ◌≢◌, OnOk, OnErr, MatchOption, if◌then◌else◌, is_some, nat_le, max, true, false};
 ghost use Rattle.std.specs.Option.{option_copied, option_map, option_or};
-ghost use Rattle.batcher_verifier.specs.declared.fault.BatcherFault.TheVariants.{OtherLeader};
+ghost use Rattle.batcher_verifier.specs.declared.batcher_fault.BatcherFault.TheVariants.{OtherLeader};
 ghost use Rattle.types_quorum.specs.Committee.{quorum};
 ghost use Rattle.messages_certificates.specs.Certificate.{certificate_round};
 ghost use Rattle.batcher_verifier.specs.Votes.{is_of, vote_kind, fixed_proposal};
@@ -12,9 +12,9 @@ ghost use Rattle.simplex_messages.specs.VoteParts.{vote_signer};
 ghost use Rattle.batcher_rows.specs.Rows.{tally_at};
 ghost use Rattle.batcher_verifier.specs.Keeping.{VerifierKeeps, AtEachOf, selection_of, IsChosen, held_by, led_by};
 
-use crate::fault::BatcherFault;
+use crate::batcher_fault::BatcherFault;
+use crate::certificate_kinds::{fixed_by, kind_of_certificate, proposal_of_certificate};
 use crate::proposal_state::ProposalState;
-use crate::votes::{fixed_by, kind_of_certificate, proposal_of_certificate};
 use batcher_rows::{Rows, is_for, kind_of};
 use simplex_messages::{Certificate, Notarize, Vote};
 use std::alloc::{AllocError, Global};
@@ -39,14 +39,19 @@ pub struct Verifier<S: Scheme<D>, D: Digest> {
 impl<S: Scheme<D>, D: Digest> Verifier<S, D> {
     /// A verifier that knows of no vote. It makes certificates of so many votes, and never of fewer than a quorum.
     pub fn new(alloc: Global, round: Round, scheme: Rc<S>, needed: u32) -> Self
-        ensures { VerifierKeeps D.PartialEq.eq S.Scheme S.batchable (record { round = round; scheme = scheme.value; members = S.size scheme.value; needed = max needed (quorum (S.size scheme.value)); batchable = S.batchable scheme.value; tracks = false; is_skipped = false }) result [] }
+        ensures { VerifierKeeps D.PartialEq.eq S.Scheme S.batchable (record
+            { round = round; scheme = scheme.value; members = S.size scheme.value; needed = max needed (quorum (S.size scheme.value)); batchable = S.batchable scheme.value; tracks = false; is_skipped = false })
+            result [] }
     {
         Self::open(alloc, round, scheme, needed, false)
     }
 
     /// A verifier that knows of no vote, and makes certificates or none.
     pub fn open(alloc: Global, round: Round, scheme: Rc<S>, needed: u32, skipped: bool) -> Self
-        ensures { (tracks : Bool) → VerifierKeeps D.PartialEq.eq S.Scheme S.batchable (record { round = round; scheme = scheme.value; members = S.size scheme.value; needed = max needed (quorum (S.size scheme.value)); batchable = S.batchable scheme.value; tracks = tracks; is_skipped = skipped }) result [] }
+        ensures { (tracks : Bool)
+            → VerifierKeeps D.PartialEq.eq S.Scheme S.batchable (record
+            { round = round; scheme = scheme.value; members = S.size scheme.value; needed = max needed (quorum (S.size scheme.value)); batchable = S.batchable scheme.value; tracks = tracks; is_skipped = skipped })
+            result [] }
     {
         let members = scheme.participants();
         let needed = needed.max(quorum(members));
@@ -99,14 +104,16 @@ impl<S: Scheme<D>, D: Digest> Verifier<S, D> {
 
     /// This signer's newest notarize, or its newest nullify or finalize, where members alone voted.
     pub fn vote_of(&self, signer: Participant, notarize: bool) -> Option<&Vote<S, D>>
-        ensures { AtEachOf D.PartialEq.eq S.Scheme S.batchable self.now (λ s h. All (λ v. vote_signer v < s.members) (accepted h) → option_copied result ≡ find (is_of notarize signer) (accepted h)) }
+        ensures { AtEachOf D.PartialEq.eq S.Scheme S.batchable self.now
+            (λ s h. All (λ v. vote_signer v < s.members) (accepted h) → option_copied result ≡ find (is_of notarize signer) (accepted h)) }
     {
         self.rows.vote_of(signer, notarize)
     }
 
     /// The accepted vote that stands in the way of this one, where members alone voted.
     pub fn recorded(&self, vote: &Vote<S, D>) -> Option<&Vote<S, D>>
-        ensures { AtEachOf D.PartialEq.eq S.Scheme S.batchable self.now (λ s h. All (λ v. vote_signer v < s.members) (accepted h) → option_copied result ≡ recorded h vote.now) }
+        ensures { AtEachOf D.PartialEq.eq S.Scheme S.batchable self.now
+            (λ s h. All (λ v. vote_signer v < s.members) (accepted h) → option_copied result ≡ recorded h vote.now) }
     {
         match vote {
             Vote::Notarize(vote) => self.vote_of(vote.attestation.signer, true),
@@ -143,7 +150,8 @@ impl<S: Scheme<D>, D: Digest> Verifier<S, D> {
 
     /// Whether the vote counts for a certificate, where this is selected.
     fn counts(&self, next: &ProposalState<D>, vote: &Vote<S, D>) -> bool
-        ensures { result ≡ (not (self.now.skipped || (tally_at (vote_kind vote.now) self.now.rows).complete) && is_candidate D.PartialEq.eq (proposal_of (selection_of next.now)) vote.now) }
+        ensures { result ≡ (not (self.now.skipped || (tally_at (vote_kind vote.now) self.now.rows).complete) && is_candidate D.PartialEq.eq
+            (proposal_of (selection_of next.now)) vote.now) }
     {
         if self.skipped || self.rows.tally(kind_of(vote)).complete {
             return false;
@@ -177,9 +185,16 @@ impl<S: Scheme<D>, D: Digest> Verifier<S, D> {
     /// to attest that stands in its way: of its kind or, of nullify and finalize, of either. After an `Err` it counts as not
     /// made.
     pub fn add(&mut self, vote: Vote<S, D>, verified: bool) -> Result<(), AllocError>
-        ensures waits { OnOk result (AtEachOf D.PartialEq.eq S.Scheme S.batchable self.old (λ s h. verified ≡ false → MayHappen D.PartialEq.eq S.attests s h (Taken vote) → VerifierKeeps D.PartialEq.eq S.Scheme S.batchable s self.new (Taken vote ∷ h))) }
-        ensures verified { OnOk result (AtEachOf D.PartialEq.eq S.Scheme S.batchable self.old (λ s h. verified ≡ true → MayHappen D.PartialEq.eq S.attests s h (Cast vote) → VerifierKeeps D.PartialEq.eq S.Scheme S.batchable s self.new (Cast vote ∷ h))) }
-        ensures err { OnErr result (AtEachOf D.PartialEq.eq S.Scheme S.batchable self.old (λ s h. VerifierKeeps D.PartialEq.eq S.Scheme S.batchable s self.new h)) }
+        ensures waits { OnOk result (AtEachOf D.PartialEq.eq S.Scheme S.batchable self.old (λ s h.
+            verified ≡ false
+            → MayHappen D.PartialEq.eq S.attests s h (Taken vote)
+            → VerifierKeeps D.PartialEq.eq S.Scheme S.batchable s self.new (Taken vote ∷ h))) }
+        ensures verified { OnOk result (AtEachOf D.PartialEq.eq S.Scheme S.batchable self.old (λ s h.
+            verified ≡ true
+            → MayHappen D.PartialEq.eq S.attests s h (Cast vote)
+            → VerifierKeeps D.PartialEq.eq S.Scheme S.batchable s self.new (Cast vote ∷ h))) }
+        ensures err { OnErr result
+            (AtEachOf D.PartialEq.eq S.Scheme S.batchable self.old (λ s h. VerifierKeeps D.PartialEq.eq S.Scheme S.batchable s self.new h)) }
     {
         if !self.may_select(&vote, verified) {
             self.hold(vote, verified)?;
@@ -203,9 +218,19 @@ impl<S: Scheme<D>, D: Digest> Verifier<S, D> {
 
     /// Adds a vote that fixes no proposal, and isn't the leader's notarize.
     fn hold(&mut self, vote: Vote<S, D>, verified: bool) -> Result<(), AllocError>
-        ensures waits { OnOk result (AtEachOf D.PartialEq.eq S.Scheme S.batchable self.old (λ s h. verified ≡ false → led_by self.old.leader vote ≡ None → MayHappen D.PartialEq.eq S.attests s h (Taken vote) → VerifierKeeps D.PartialEq.eq S.Scheme S.batchable s self.new (Taken vote ∷ h))) }
-        ensures verified { OnOk result (AtEachOf D.PartialEq.eq S.Scheme S.batchable self.old (λ s h. verified ≡ true → fixed_proposal vote ≡ None → led_by self.old.leader vote ≡ None → MayHappen D.PartialEq.eq S.attests s h (Cast vote) → VerifierKeeps D.PartialEq.eq S.Scheme S.batchable s self.new (Cast vote ∷ h))) }
-        ensures err { OnErr result (AtEachOf D.PartialEq.eq S.Scheme S.batchable self.old (λ s h. VerifierKeeps D.PartialEq.eq S.Scheme S.batchable s self.new h)) }
+        ensures waits { OnOk result (AtEachOf D.PartialEq.eq S.Scheme S.batchable self.old (λ s h.
+            verified ≡ false
+            → led_by self.old.leader vote ≡ None
+            → MayHappen D.PartialEq.eq S.attests s h (Taken vote)
+            → VerifierKeeps D.PartialEq.eq S.Scheme S.batchable s self.new (Taken vote ∷ h))) }
+        ensures verified { OnOk result (AtEachOf D.PartialEq.eq S.Scheme S.batchable self.old (λ s h.
+            verified ≡ true
+            → fixed_proposal vote ≡ None
+            → led_by self.old.leader vote ≡ None
+            → MayHappen D.PartialEq.eq S.attests s h (Cast vote)
+            → VerifierKeeps D.PartialEq.eq S.Scheme S.batchable s self.new (Cast vote ∷ h))) }
+        ensures err { OnErr result
+            (AtEachOf D.PartialEq.eq S.Scheme S.batchable self.old (λ s h. VerifierKeeps D.PartialEq.eq S.Scheme S.batchable s self.new h)) }
     {
         let held = self.counts(&self.proposal, &vote);
         self.rows.put(vote, verified, held)?;
@@ -214,8 +239,11 @@ impl<S: Scheme<D>, D: Digest> Verifier<S, D> {
 
     /// Records a certificate: whether another proposal is selected.
     pub fn record(&mut self, certificate: &Certificate<S, D>) -> bool
-        ensures changed { AtEachOf D.PartialEq.eq S.Scheme S.batchable self.old (λ s h. IsTrue result ↔ (selected (Certified certificate.now ∷ h) ≢ selected h)) }
-        ensures keeps { AtEachOf D.PartialEq.eq S.Scheme S.batchable self.old (λ s h. certificate_round certificate.now ≡ s.round → VerifierKeeps D.PartialEq.eq S.Scheme S.batchable s self.new (Certified certificate.now ∷ h)) }
+        ensures changed { AtEachOf D.PartialEq.eq S.Scheme S.batchable self.old
+            (λ s h. IsTrue result ↔ (selected (Certified certificate.now ∷ h) ≢ selected h)) }
+        ensures keeps { AtEachOf D.PartialEq.eq S.Scheme S.batchable self.old (λ s h.
+            certificate_round certificate.now ≡ s.round
+            → VerifierKeeps D.PartialEq.eq S.Scheme S.batchable s self.new (Certified certificate.now ∷ h)) }
     {
         let next = self
             .proposal
@@ -235,12 +263,21 @@ impl<S: Scheme<D>, D: Digest> Verifier<S, D> {
         leader: Participant,
         notarize: Option<&Notarize<S, D>>,
     ) -> Result<(), BatcherFault>
-        ensures other { AtEachOf D.PartialEq.eq S.Scheme S.batchable self.old (λ s h. IfSome (leader_of h) (λ known. known ≢ leader → result ≡ Err OtherLeader)) }
-        ensures refused { IfErr result (λ e. AtEachOf D.PartialEq.eq S.Scheme S.batchable self.old (λ s h. (e ≡ OtherLeader) × MatchOption (leader_of h) ⊥ (λ known. known ≢ leader))) }
-        ensures same { OnOk result (AtEachOf D.PartialEq.eq S.Scheme S.batchable self.old (λ s h. leader_of h ≡ Some leader → VerifierKeeps D.PartialEq.eq S.Scheme S.batchable s self.new h)) }
-        ensures first { OnOk result (AtEachOf D.PartialEq.eq S.Scheme S.batchable self.old (λ s h. leader_of h ≡ None → (selected h ≡ None → option_map (λ n. n.proposal) (option_copied notarize.entry) ≡ notarized_by h leader) → VerifierKeeps D.PartialEq.eq S.Scheme S.batchable s self.new (Led leader ∷ h))) }
-        ensures holds { OnOk result (AtEachOf D.PartialEq.eq S.Scheme S.batchable self.old (λ s h. leader_of h ≡ None → held_by self.new ≡ option_or (selected h) (option_map (λ n. n.proposal) (option_copied notarize.entry)))) }
-        ensures err { OnErr result (AtEachOf D.PartialEq.eq S.Scheme S.batchable self.old (λ s h. VerifierKeeps D.PartialEq.eq S.Scheme S.batchable s self.new h)) }
+        ensures other { AtEachOf D.PartialEq.eq S.Scheme S.batchable self.old
+            (λ s h. IfSome (leader_of h) (λ known. known ≢ leader → result ≡ Err OtherLeader)) }
+        ensures refused { IfErr result (λ e.
+            AtEachOf D.PartialEq.eq S.Scheme S.batchable self.old
+            (λ s h. (e ≡ OtherLeader) × MatchOption (leader_of h) ⊥ (λ known. known ≢ leader))) }
+        ensures same { OnOk result (AtEachOf D.PartialEq.eq S.Scheme S.batchable self.old
+            (λ s h. leader_of h ≡ Some leader → VerifierKeeps D.PartialEq.eq S.Scheme S.batchable s self.new h)) }
+        ensures first { OnOk result (AtEachOf D.PartialEq.eq S.Scheme S.batchable self.old (λ s h.
+            leader_of h ≡ None
+            → (selected h ≡ None → option_map (λ n. n.proposal) (option_copied notarize.entry) ≡ notarized_by h leader)
+            → VerifierKeeps D.PartialEq.eq S.Scheme S.batchable s self.new (Led leader ∷ h))) }
+        ensures holds { OnOk result (AtEachOf D.PartialEq.eq S.Scheme S.batchable self.old (λ s h.
+            leader_of h ≡ None → held_by self.new ≡ option_or (selected h) (option_map (λ n. n.proposal) (option_copied notarize.entry)))) }
+        ensures err { OnErr result
+            (AtEachOf D.PartialEq.eq S.Scheme S.batchable self.old (λ s h. VerifierKeeps D.PartialEq.eq S.Scheme S.batchable s self.new h)) }
     {
         match self.lead(leader, proposal_in(notarize)) {
             Ok(()) => Ok(()),
@@ -254,12 +291,21 @@ impl<S: Scheme<D>, D: Digest> Verifier<S, D> {
         leader: Participant,
         led: Option<Proposal<D>>,
     ) -> Result<(), BatcherFault>
-        ensures other { AtEachOf D.PartialEq.eq S.Scheme S.batchable self.old (λ s h. IfSome (leader_of h) (λ known. known ≢ leader → result ≡ Err OtherLeader)) }
-        ensures refused { IfErr result (λ e. AtEachOf D.PartialEq.eq S.Scheme S.batchable self.old (λ s h. (e ≡ OtherLeader) × MatchOption (leader_of h) ⊥ (λ known. known ≢ leader))) }
-        ensures same { OnOk result (AtEachOf D.PartialEq.eq S.Scheme S.batchable self.old (λ s h. leader_of h ≡ Some leader → VerifierKeeps D.PartialEq.eq S.Scheme S.batchable s self.new h)) }
-        ensures first { OnOk result (AtEachOf D.PartialEq.eq S.Scheme S.batchable self.old (λ s h. leader_of h ≡ None → (selected h ≡ None → led ≡ notarized_by h leader) → VerifierKeeps D.PartialEq.eq S.Scheme S.batchable s self.new (Led leader ∷ h))) }
-        ensures holds { OnOk result (AtEachOf D.PartialEq.eq S.Scheme S.batchable self.old (λ s h. leader_of h ≡ None → held_by self.new ≡ option_or (selected h) led)) }
-        ensures err { OnErr result (AtEachOf D.PartialEq.eq S.Scheme S.batchable self.old (λ s h. VerifierKeeps D.PartialEq.eq S.Scheme S.batchable s self.new h)) }
+        ensures other { AtEachOf D.PartialEq.eq S.Scheme S.batchable self.old
+            (λ s h. IfSome (leader_of h) (λ known. known ≢ leader → result ≡ Err OtherLeader)) }
+        ensures refused { IfErr result (λ e.
+            AtEachOf D.PartialEq.eq S.Scheme S.batchable self.old
+            (λ s h. (e ≡ OtherLeader) × MatchOption (leader_of h) ⊥ (λ known. known ≢ leader))) }
+        ensures same { OnOk result (AtEachOf D.PartialEq.eq S.Scheme S.batchable self.old
+            (λ s h. leader_of h ≡ Some leader → VerifierKeeps D.PartialEq.eq S.Scheme S.batchable s self.new h)) }
+        ensures first { OnOk result (AtEachOf D.PartialEq.eq S.Scheme S.batchable self.old (λ s h.
+            leader_of h ≡ None
+            → (selected h ≡ None → led ≡ notarized_by h leader)
+            → VerifierKeeps D.PartialEq.eq S.Scheme S.batchable s self.new (Led leader ∷ h))) }
+        ensures holds { OnOk result
+            (AtEachOf D.PartialEq.eq S.Scheme S.batchable self.old (λ s h. leader_of h ≡ None → held_by self.new ≡ option_or (selected h) led)) }
+        ensures err { OnErr result
+            (AtEachOf D.PartialEq.eq S.Scheme S.batchable self.old (λ s h. VerifierKeeps D.PartialEq.eq S.Scheme S.batchable s self.new h)) }
     {
         match self.leader {
             Some(known) => {

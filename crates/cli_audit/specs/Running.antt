@@ -17,7 +17,7 @@ use Rattle.cli_audit.specs.declared.input.InputError.{InputError}
 use Rattle.cli_audit.specs.declared.input.InputError.TheVariants as unread
 use Rattle.cli_audit.specs.declared.trouble.Trouble.{Trouble}
 use Rattle.cli_audit.specs.declared.trouble.Trouble.TheVariants as trouble
-use Rattle.types_output.specs.Front.{AppendsFront}
+use Rattle.types_codec.specs.Front.{AppendsFront}
 
 -- reports of the plain scheme over SHA-256 digests
 abbrev pub Report : Type 0

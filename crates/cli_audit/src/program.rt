@@ -10,7 +10,7 @@ ghost use Rattle.cli_audit.specs.declared.command.Command.{Command};
 ghost use Rattle.cli_audit.specs.declared.command.Command.TheVariants.{Audit};
 ghost use Rattle.cli_audit.specs.declared.trouble.Trouble.{Trouble};
 ghost use Rattle.cli_audit.specs.declared.trouble.Trouble.TheVariants.{Memory, Write};
-ghost use Rattle.types_output.specs.Front.{AppendsFront};
+ghost use Rattle.types_codec.specs.Front.{AppendsFront};
 
 use crate::command::{Command, USAGE, parse_words};
 use crate::running::{audit_over, report};
@@ -18,7 +18,7 @@ use crate::trouble::Trouble;
 use std::alloc::Global;
 use std::io;
 use std::io::{Read, Write};
-use types_output::write_whole;
+use types_codec::write_whole;
 
 /// Runs the command that the words after the program's name spell, and answers the status: 2, with
 /// the usage on `faults`, where they spell none.
@@ -38,11 +38,24 @@ pub fn run_words<R: Read, W: Write, F: Write>(
 
     // An audit answers as `audit_over` does.
     ensures audit { (count : ℕ) → SpellsCommand (map string_bytes words.now) (Audit count) → (result ≡ 0) ⊎ ((result ≡ 1) ⊎ (result ≡ 3)) }
-    ensures whole { (count : ℕ) → SpellsCommand (map string_bytes words.now) (Audit count) → result ≡ 0 → IfSome (R.remaining input.old) (λ bytes. AuditsOver count bytes None (W.contents output.old) (W.contents output.new)) }
-    ensures faulty { (count : ℕ) → SpellsCommand (map string_bytes words.now) (Audit count) → result ≡ 3 → IfSome (R.remaining input.old) (λ bytes. (place : ℕ) × AuditsOver count bytes (Some place) (W.contents output.old) (W.contents output.new)) }
+    ensures whole { (count : ℕ)
+        → SpellsCommand (map string_bytes words.now) (Audit count)
+        → result ≡ 0
+        → IfSome (R.remaining input.old) (λ bytes. AuditsOver count bytes None (W.contents output.old) (W.contents output.new)) }
+    ensures faulty { (count : ℕ)
+        → SpellsCommand (map string_bytes words.now) (Audit count)
+        → result ≡ 3
+        → IfSome (R.remaining input.old)
+        (λ bytes. (place : ℕ) × AuditsOver count bytes (Some place) (W.contents output.old) (W.contents output.new)) }
     ensures silent { (count : ℕ) → SpellsCommand (map string_bytes words.now) (Audit count) → result ≢ 1 → faults.new ≡ faults.old }
-    ensures troubled { result ≡ 1 → (trouble : Trouble) × (trouble ≢ Write → output.new ≡ output.old) × AppendsFront (F.contents faults.old) (F.contents faults.new) (trouble_line trouble) }
-    ensures broken_off { (count : ℕ) → SpellsCommand (map string_bytes words.now) (Audit count) → result ≡ 1 → (output.new ≡ output.old) ⊎ IfSome (R.remaining input.old) (λ bytes. BreaksOff count bytes (W.contents output.old) (W.contents output.new)) }
+    ensures troubled { result ≡ 1
+        → (trouble : Trouble) × (trouble ≢ Write → output.new ≡ output.old) × AppendsFront (F.contents faults.old) (F.contents faults.new)
+        (trouble_line trouble) }
+    ensures broken_off { (count : ℕ)
+        → SpellsCommand (map string_bytes words.now) (Audit count)
+        → result ≡ 1
+        → (output.new ≡ output.old) ⊎ IfSome (R.remaining input.old)
+        (λ bytes. BreaksOff count bytes (W.contents output.old) (W.contents output.new)) }
 {
     match parse_words(words) {
         Some(Command::Audit { count }) => audit_over(alloc, count, input, output, faults),

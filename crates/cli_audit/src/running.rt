@@ -5,7 +5,7 @@ ghost use Rattle.cli_audit.specs.Lines.{trouble_line};
 ghost use Rattle.cli_audit.specs.Running.{AuditsOver, BreaksOff, IsAnswer};
 ghost use Rattle.cli_audit.specs.declared.trouble.Trouble.{Trouble};
 ghost use Rattle.cli_audit.specs.declared.trouble.Trouble.TheVariants.{Write};
-ghost use Rattle.types_output.specs.Front.{AppendsFront};
+ghost use Rattle.types_codec.specs.Front.{AppendsFront};
 
 use crate::auditing::plain_audit;
 use crate::input::read_all;
@@ -13,7 +13,7 @@ use crate::lines::text_of;
 use crate::trouble::Trouble;
 use std::alloc::{AllocError, Global};
 use std::io::{Read, Write};
-use types_output::write_whole;
+use types_codec::write_whole;
 
 /// Audits the reports of `input` under the plain scheme of `count` members, and writes the lines of
 /// the audit to `output`.
@@ -30,14 +30,21 @@ pub fn audit_over<R: Read, W: Write, F: Write>(
 ) -> u8
     requires { 0 < count }
     ensures statuses { (result ≡ 0) ⊎ ((result ≡ 1) ⊎ (result ≡ 3)) }
-    ensures whole { result ≡ 0 → IfSome (R.remaining input.old) (λ bytes. AuditsOver count bytes None (W.contents output.old) (W.contents output.new)) }
-    ensures faulty { result ≡ 3 → IfSome (R.remaining input.old) (λ bytes. (place : ℕ) × AuditsOver count bytes (Some place) (W.contents output.old) (W.contents output.new)) }
+    ensures whole { result ≡ 0
+        → IfSome (R.remaining input.old) (λ bytes. AuditsOver count bytes None (W.contents output.old) (W.contents output.new)) }
+    ensures faulty { result ≡ 3
+        → IfSome (R.remaining input.old)
+        (λ bytes. (place : ℕ) × AuditsOver count bytes (Some place) (W.contents output.old) (W.contents output.new)) }
     ensures silent { result ≢ 1 → faults.new ≡ faults.old }
 
     // With status 1 the line of one trouble, or a front of it, stands on `faults`, and unless a write
     // failed the output is untouched.
-    ensures troubled { result ≡ 1 → (trouble : Trouble) × (trouble ≢ Write → output.new ≡ output.old) × AppendsFront (F.contents faults.old) (F.contents faults.new) (trouble_line trouble) }
-    ensures broken_off { result ≡ 1 → (output.new ≡ output.old) ⊎ IfSome (R.remaining input.old) (λ bytes. BreaksOff count bytes (W.contents output.old) (W.contents output.new)) }
+    ensures troubled { result ≡ 1
+        → (trouble : Trouble) × (trouble ≢ Write → output.new ≡ output.old) × AppendsFront (F.contents faults.old) (F.contents faults.new)
+        (trouble_line trouble) }
+    ensures broken_off { result ≡ 1
+        → (output.new ≡ output.old) ⊎ IfSome (R.remaining input.old)
+        (λ bytes. BreaksOff count bytes (W.contents output.old) (W.contents output.new)) }
 {
     report(write_audit(alloc, count, input, output), faults)
 }
@@ -80,9 +87,11 @@ pub fn write_audit<R: Read, W: Write>(
     output: &mut W,
 ) -> Result<Option<usize>, Trouble>
     requires { 0 < count }
-    ensures written { IfOk result (λ fault. IfSome (R.remaining input.old) (λ bytes. AuditsOver count bytes fault (W.contents output.old) (W.contents output.new))) }
+    ensures written { IfOk result
+        (λ fault. IfSome (R.remaining input.old) (λ bytes. AuditsOver count bytes fault (W.contents output.old) (W.contents output.new))) }
     ensures unwritten { IfErr result (λ trouble. trouble ≢ Write → output.new ≡ output.old) }
-    ensures broken_off { IfErr result (λ trouble. trouble ≡ Write → IfSome (R.remaining input.old) (λ bytes. BreaksOff count bytes (W.contents output.old) (W.contents output.new))) }
+    ensures broken_off { IfErr result (λ trouble.
+        trouble ≡ Write → IfSome (R.remaining input.old) (λ bytes. BreaksOff count bytes (W.contents output.old) (W.contents output.new))) }
 {
     let bytes = read_all(alloc, input)?;
     let (text, fault) = answer_to(alloc, count, bytes)?;

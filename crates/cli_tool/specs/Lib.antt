@@ -1,4 +1,4 @@
-pub mod Answers
+pub mod ToolAnswers
 pub mod Command
 pub mod Decoding
 pub mod Lines

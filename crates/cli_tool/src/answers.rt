@@ -2,7 +2,7 @@
 
 ghost use Rattle.std.specs.Prelude.{◌≡◌, ◌<◌, IfOk, string_bytes};
 ghost use Rattle.std.specs.List.{flat_map};
-ghost use Rattle.cli_tool.specs.Answers.{AreReports, IsAnswerTo, IsChecked, IsEvidence, IsRecordTold, IsSaid, lawful_line, refused_line};
+ghost use Rattle.cli_tool.specs.ToolAnswers.{AreReports, IsAnswerTo, IsChecked, IsEvidence, IsRecordTold, IsSaid, lawful_line, refused_line};
 ghost use Rattle.cli_tool.specs.Command.{IsAsked};
 
 use crate::checking::{Checked, check_record};

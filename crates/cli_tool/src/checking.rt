@@ -2,7 +2,7 @@
 
 ghost use Rattle.std.specs.Prelude.{◌<◌, IfNone, IfOk, IfSome};
 ghost use Rattle.simplex_record.specs.Lawful.{IsLawful, IsRefusedAt};
-ghost use Rattle.cli_tool.specs.Answers.{AreHeld, IsHeld, attests_in, certifies_in};
+ghost use Rattle.cli_tool.specs.ToolAnswers.{AreHeld, IsHeld, attests_in, certifies_in};
 
 use crate::reading::entries_of;
 use cli_audit::scheme_of;

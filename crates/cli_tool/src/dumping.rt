@@ -4,7 +4,7 @@ ghost use Rattle.std.specs.Prelude.{◌≡◌, ◌++◌, ◌<◌, [], IfOk, OnOk
 ghost use Rattle.std.specs.List.{flat_map};
 ghost use Rattle.std.specs.Option.{option_map_or};
 ghost use Rattle.types_codec.specs.Codec.{Readable};
-ghost use Rattle.cli_tool.specs.Answers.{AreTold};
+ghost use Rattle.cli_tool.specs.ToolAnswers.{AreTold};
 ghost use Rattle.cli_tool.specs.Parts.{place_line};
 
 use crate::lines::Line;
@@ -23,7 +23,9 @@ pub(crate) fn dumped_messages<M: Line + Read + Drop>(
     bytes: &[u8],
 ) -> Result<(String, Option<usize>), AllocError>
     requires { (message : M) → 0 < length (M.spelling message) }
-    ensures { IfOk result (λ answer. AreTold (Readable M.fits (M.within bound)) M.spelling (M.reading bound) (M.line style) style bytes.now (string_bytes answer.0) answer.1) }
+    ensures { IfOk result (λ answer.
+        AreTold (Readable M.fits (M.within bound)) M.spelling (M.reading bound) (M.line style) style bytes.now (string_bytes answer.0)
+        answer.1) }
 {
     let (messages, fault) = read_values::<M>(alloc, bound, bytes)?;
     let mut text = lines_of(alloc, style, &messages)?;

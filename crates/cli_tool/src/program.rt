@@ -4,10 +4,10 @@ ghost use Rattle.std.specs.Prelude.{◌≡◌, ◌≢◌, ◌⊎◌, None, Some,
 ghost use Rattle.cli_audit.specs.Lines.{trouble_line};
 ghost use Rattle.cli_audit.specs.declared.trouble.Trouble.{Trouble};
 ghost use Rattle.cli_audit.specs.declared.trouble.Trouble.TheVariants.{Device, Memory, Write};
-ghost use Rattle.types_output.specs.Front.{AppendsFront};
+ghost use Rattle.types_codec.specs.Front.{AppendsFront};
 ghost use Rattle.std.specs.IoError.{error_kind};
 ghost use Rattle.std.specs.declared.io.ErrorKind.TheVariants.{OutOfMemory};
-ghost use Rattle.cli_tool.specs.Answers.{AnswersOver, BreaksOff, NeedsInput};
+ghost use Rattle.cli_tool.specs.ToolAnswers.{AnswersOver, BreaksOff, NeedsInput};
 ghost use Rattle.cli_tool.specs.Command.{IsAsked, help_text};
 
 use crate::answers::answer_to;
@@ -16,7 +16,7 @@ use cli_audit::{InputError, Trouble, read_all, report};
 use std::alloc::Global;
 use std::io;
 use std::io::{Read, Write};
-use types_output::write_whole;
+use types_codec::write_whole;
 
 /// The bytes that a request is about: nothing is read where it is about none.
 fn asked_about<R: Read>(
@@ -46,9 +46,12 @@ pub fn write_answer<R: Read, W: Write>(
     output: &mut W,
 ) -> Result<Option<usize>, Trouble>
     requires { IsAsked call.request }
-    ensures written { IfOk result (λ named. IfSome (R.remaining input.old) (λ bytes. AnswersOver call.entry bytes named (W.contents output.old) (W.contents output.new))) }
+    ensures written { IfOk result (λ named.
+        IfSome (R.remaining input.old) (λ bytes. AnswersOver call.entry bytes named (W.contents output.old) (W.contents output.new))) }
     ensures unwritten { IfErr result (λ trouble. trouble ≢ Write → output.new ≡ output.old) }
-    ensures broken_off { IfErr result (λ trouble. trouble ≡ Write → IfSome (R.remaining input.old) (λ bytes. BreaksOff call.entry bytes (W.contents output.old) (W.contents output.new))) }
+    ensures broken_off { IfErr result (λ trouble.
+        trouble ≡ Write
+        → IfSome (R.remaining input.old) (λ bytes. BreaksOff call.entry bytes (W.contents output.old) (W.contents output.new))) }
 {
     let bytes = asked_about(alloc, call.request, input)?;
     let (text, named) = answer_to(alloc, call.style, call.request, &bytes)?;
@@ -69,10 +72,15 @@ pub fn run_request<R: Read, W: Write, F: Write>(
 ) -> u8
     requires { IsAsked call.request }
     ensures statuses { (result ≡ 0) ⊎ ((result ≡ 1) ⊎ (result ≡ 3)) }
-    ensures whole { result ≡ 0 → IfSome (R.remaining input.old) (λ bytes. AnswersOver call.entry bytes None (W.contents output.old) (W.contents output.new)) }
-    ensures named { result ≡ 3 → IfSome (R.remaining input.old) (λ bytes. (place : ℕ) × AnswersOver call.entry bytes (Some place) (W.contents output.old) (W.contents output.new)) }
+    ensures whole { result ≡ 0
+        → IfSome (R.remaining input.old) (λ bytes. AnswersOver call.entry bytes None (W.contents output.old) (W.contents output.new)) }
+    ensures named { result ≡ 3
+        → IfSome (R.remaining input.old)
+        (λ bytes. (place : ℕ) × AnswersOver call.entry bytes (Some place) (W.contents output.old) (W.contents output.new)) }
     ensures silent { result ≢ 1 → faults.new ≡ faults.old }
-    ensures troubled { result ≡ 1 → (trouble : Trouble) × (trouble ≢ Write → output.new ≡ output.old) × AppendsFront (F.contents faults.old) (F.contents faults.new) (trouble_line trouble) }
+    ensures troubled { result ≡ 1
+        → (trouble : Trouble) × (trouble ≢ Write → output.new ≡ output.old) × AppendsFront (F.contents faults.old) (F.contents faults.new)
+        (trouble_line trouble) }
 {
     report(write_answer(alloc, call, input, output), faults)
 }

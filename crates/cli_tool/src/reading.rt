@@ -5,7 +5,7 @@ ghost use Rattle.types_codec.specs.Codec.{Readable};
 ghost use Rattle.simplex_rules.specs.Audit.{IsRead};
 ghost use Rattle.journal_single.specs.declared.fault.JournalFault.TheVariants.{Foreign};
 ghost use Rattle.journal_single.specs.Record.{IsForeign};
-ghost use Rattle.cli_tool.specs.Answers.{HoldsEntries, IsEntry, entry_spelling};
+ghost use Rattle.cli_tool.specs.ToolAnswers.{HoldsEntries, IsEntry, entry_spelling};
 
 use journal_single::{JournalFault, read_entries};
 use simplex_messages::Artifact;
@@ -20,7 +20,8 @@ fn next_value<M: Read + Drop>(
     bound: u32,
     rest: &mut &[u8],
 ) -> Result<Option<M>, AllocError>
-    ensures some { IfOk result (λ found. IfSome found (λ value. (rest.old.now ≡ M.spelling value ++ rest.new.now) × Readable M.fits (M.within bound) value)) }
+    ensures some { IfOk result
+        (λ found. IfSome found (λ value. (rest.old.now ≡ M.spelling value ++ rest.new.now) × Readable M.fits (M.within bound) value)) }
     ensures none { IfOk result (λ found. IfNone found (IsErr (M.reading bound rest.old.now) × (rest.new.now ≡ rest.old.now))) }
 {
     match M::read_cfg(alloc, rest, bound) {

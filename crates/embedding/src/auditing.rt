@@ -2,9 +2,8 @@
 
 use simplex_messages::Activity;
 use simplex_rules::{Audit, audit};
-use simplex_types::PlainScheme;
+use simplex_types::{Attributable, Participant, PlainScheme, Sha256Digest};
 use std::alloc::{AllocError, Global};
-use types_core::{Attributable, Participant, Sha256Digest};
 
 /// The members that the reports convict, by epoch, view, member and kind of guilt, and the place of the first byte at which
 /// no report stands, if there is one.

@@ -1,10 +1,9 @@
 //! The checker of records.
 
 use crate::recording::Item;
-use simplex_record::{Owner, first_refused};
-use simplex_types::PlainScheme;
+use simplex_node::{Owner, first_refused};
+use simplex_types::{Epoch, Participant, PlainScheme, TermLength};
 use std::alloc::{AllocError, Global};
-use types_core::{Epoch, Participant, TermLength};
 
 /// The first place at which these artifacts break a rule as the record of this member in epoch 0, where each view has a
 /// leader of its own.

@@ -1,12 +1,11 @@
 //! The voter.
 
 use simplex_messages::Notarize;
+use simplex_rules::elector::{Config as Building, RoundRobin, RoundRobinElector};
 use simplex_state::{Config, ForwardPolicy, SkipBudget, SkipPolicy, State, Verify};
-use simplex_types::PlainScheme;
+use simplex_types::{Epoch, PlainScheme, Proposal, Scheme, Sha256Digest, ViewDelta, Viewable};
 use std::alloc::{AllocError, Global};
 use std::rc::Rc;
-use types_core::{Epoch, Proposal, Scheme, Sha256Digest, ViewDelta, Viewable};
-use types_terms::elector::{Config as Building, RoundRobin, RoundRobinElector};
 
 /// A member that decides by itself, with leaders in turn.
 pub(crate) type Voter = State<PlainScheme, RoundRobinElector, Sha256Digest>;

@@ -2,9 +2,8 @@
 
 use simplex_batcher::{BatcherFault, Round as Votes};
 use simplex_messages::{Certificate, Vote};
-use simplex_types::PlainScheme;
+use simplex_types::{Participant, PlainScheme, Sha256Digest};
 use std::alloc::{AllocError, Global};
-use types_core::{Participant, Sha256Digest};
 
 /// The votes of one round.
 pub(crate) type Gathered = Votes<PlainScheme, Sha256Digest>;

@@ -3,11 +3,13 @@
 ghost use Rattle.std.specs.Prelude.{◌≡◌, ◌↔◌, ◌<◌, if◌then◌else◌, ℕ, List, Some, None, nat_lt, IsTrue};
 ghost use Rattle.sha2.specs.Hashers.{Holds256};
 ghost use Rattle.simplex_types.specs.Plain.{signature};
-ghost use Rattle.types_core.specs.Subject.{statement};
+ghost use Rattle.simplex_types.specs.Subject.{statement};
 
 use sha2::{Digest as _, Sha256};
-use simplex_types::{Attesting, PlainKey, Signature64, Signing, hash_signed};
-use types_core::{Attestation, Digest, Participant, Subject};
+use simplex_types::{
+    Attestation, Attesting, Digest, Participant, PlainKey, Signature64, Signing, Subject,
+    hash_signed,
+};
 
 /// What the host brings: whose key it keeps, and signatures of 64 bytes on hashes.
 pub(crate) trait Host: Drop {

@@ -3,9 +3,8 @@
 ghost use Rattle.std.specs.Prelude.{◌≡◌, ◌++◌};
 
 use crate::hosting::{Host, Hosted};
-use simplex_types::Listed;
+use simplex_types::{Listed, Participant, Proposal, Scheme, Sha256Digest, Subject};
 use std::alloc::{AllocError, Global};
-use types_core::{Participant, Proposal, Scheme, Sha256Digest, Subject};
 
 /// A host with no key: its signatures are the hash twice, so anyone can make them.
 #[derive(Drop)]

@@ -1,4 +1,11 @@
-//! The libraries in a program of one's own: a member votes, remembers, starts again, an auditor reads reports, and hosts sign.
+//! The libraries in a program of one's own: a member votes, remembers, starts again, an auditor reads reports, hosts sign, and a whole
+//! node finalizes. It names the nine public crates alone.
+//!
+//! Not called here, since a driver has a line for each (`run_LAYER`): of `simplex_types` and `simplex_messages` what only reads, compares
+//! and prints; of `simplex_rules` the windows; of `simplex_batcher` the questions of a round, `Verifier` and `run`; of `simplex_round`
+//! what `State` asks of its rounds, and `Slot`; of `simplex_state` what `Node` asks of the voter beside a notarize, and of repair beside
+//! `updated`; of `simplex_journal` the pair, `run` and the calls of a disk; of `simplex_node` `run_io`, which `simplex node` is. Laws
+//! (`agreement`, `accountability` and their kin) do nothing when they run: what calls them is a proof.
 #![tactic(auto)]
 
 ghost use Rattle.std.specs.Prelude.{◌<◌};
@@ -9,26 +16,29 @@ mod deciding;
 mod gathering;
 mod hosting;
 mod keyless;
+mod member;
 mod recording;
 mod repairing;
-mod voting;
+mod voter_calls;
 
 use auditing::guilty;
 use checking::first_breach;
 use deciding::{begun, vote_for};
 use gathering::{Certified, Gathered, hand_in, next_certificate};
-use journal_single::{FileDisk, Journal};
 use keyless::certified_by;
+use member::finalized_behind;
 use recording::{Item, open_record, remember};
 use repairing::to_ask_for;
+use simplex_journal::{FileDisk, Journal};
 use simplex_messages::{Activity, Notarize, Vote};
-use simplex_resolver::State as Repair;
-use simplex_types::PlainScheme;
+use simplex_state::resolver::State as Repair;
+use simplex_types::{
+    Epoch, Participant, PlainScheme, Proposal, Round, Sha256Digest, TermLength, View, Write,
+};
 use std::alloc::{AllocError, Global};
 use std::rc::Rc;
 use std::{fs, io};
-use types_core::{Epoch, Participant, Proposal, Round, Sha256Digest, TermLength, View, Write};
-use voting::{recalled, vote_on};
+use voter_calls::{recalled, vote_on};
 
 /// View 1 of epoch 0.
 fn first_round() -> Round {
@@ -153,6 +163,15 @@ fn certify(rt: &HostRuntime) -> io::Result<()> {
     Ok(())
 }
 
+/// A whole node, alone in its committee, whose application answers it six times.
+fn live(rt: &HostRuntime) -> io::Result<()> {
+    let Some(view) = finalized_behind(rt.alloc(), 6)? else {
+        return println!(rt; "no node");
+    };
+    let view = view.get();
+    println!(rt; "final by one whole node: views 1 to {view}")
+}
+
 fn main(rt: HostRuntime) -> io::Result<()> {
     let alloc = rt.alloc();
     start(&rt, 0xaa)?;
@@ -169,5 +188,6 @@ fn main(rt: HostRuntime) -> io::Result<()> {
     if let Some(place) = fault {
         println!(rt; "no report at byte {place}")?;
     }
-    certify(&rt)
+    certify(&rt)?;
+    live(&rt)
 }

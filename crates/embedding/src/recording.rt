@@ -1,10 +1,9 @@
 //! The journal.
 
-use journal_single::{BOUND, Disk, Journal, JournalFault};
+use simplex_journal::{BOUND, Disk, Journal, JournalFault};
 use simplex_messages::Artifact;
-use simplex_types::PlainScheme;
+use simplex_types::{PlainScheme, Sha256Digest};
 use std::alloc::Global;
-use types_core::Sha256Digest;
 
 /// What a record is made of.
 pub(crate) type Item = Artifact<PlainScheme, Sha256Digest>;

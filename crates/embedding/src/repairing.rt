@@ -1,9 +1,9 @@
 //! The repair of views.
 
 use crate::gathering::Certified;
-use simplex_resolver::{Effect, State as Repair};
+use simplex_state::resolver::{Effect, State as Repair};
+use simplex_types::{View, Viewable};
 use std::alloc::{AllocError, Global};
-use types_core::{View, Viewable};
 
 /// Takes a certificate that verifies: the views of which nullifications are to be asked for now. One of a view without room is
 /// passed over.

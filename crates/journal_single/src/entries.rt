@@ -59,7 +59,9 @@ fn first_entry(bytes: &[u8]) -> Option<usize>
 pub fn read_entries<M: Read + Drop>(alloc: Global, bytes: &[u8]) -> Result<Entries<M>, JournalFault>
     ensures found { IfOk result (λ entries. IsFound [] bytes.now entries.gate (map M.spelling entries.messages.items)) }
     ensures fitting { IfOk result (λ entries. All (Readable M.fits (M.within BOUND)) entries.messages.items) }
-    ensures faults { IfErr result (λ fault. (fault ≡ Memory) ⊎ ((place : ℕ) × (fault ≡ Foreign place) × IsForeign [] (Readable M.fits (M.within BOUND)) M.spelling bytes.now place)) }
+    ensures faults { IfErr result (λ fault.
+        (fault ≡ Memory) ⊎
+        ((place : ℕ) × (fault ≡ Foreign place) × IsForeign [] (Readable M.fits (M.within BOUND)) M.spelling bytes.now place)) }
 {
     // No entry's body has as many bytes as there are.
     read_entries_below(alloc, bytes, bytes.len())
@@ -77,7 +79,9 @@ pub fn read_entries_below<M: Read + Drop>(
 ) -> Result<Entries<M>, JournalFault>
     ensures found { IfOk result (λ entries. IsFound [] bytes.now entries.gate (map M.spelling entries.messages.items)) }
     ensures fitting { IfOk result (λ entries. All (FitsBelow limit (Readable M.fits (M.within BOUND)) M.spelling) entries.messages.items) }
-    ensures faults { IfErr result (λ fault. (fault ≡ Memory) ⊎ ((place : ℕ) × (fault ≡ Foreign place) × IsForeign [] (FitsBelow limit (Readable M.fits (M.within BOUND)) M.spelling) M.spelling bytes.now place)) }
+    ensures faults { IfErr result (λ fault.
+        (fault ≡ Memory) ⊎ ((place : ℕ) × (fault ≡ Foreign place) × IsForeign []
+        (FitsBelow limit (Readable M.fits (M.within BOUND)) M.spelling) M.spelling bytes.now place)) }
 {
     let mut messages = Vec::new(alloc);
     let mut rest = bytes;

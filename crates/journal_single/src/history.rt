@@ -181,10 +181,15 @@ pub fn run<M: Read + EncodeSize + Drop, K: Crash>(
     ensures answers { IfOk result (λ history. AtEachEvent IsAnswer (reverse history.events.items)) }
     ensures cause { IfOk result (λ history. K.failed history.disk ≡ failures_told (K.failed disk) (reverse history.events.items)) }
     ensures came { IfOk result (λ history. CameBy M.spelling K.keeps K.calls K.crashed K.failed disk (reverse history.events.items) history.disk) }
-    ensures refusals { IfOk result (λ history. K.keeps → AtEachEvent (IsTrueOf (Readable M.fits (M.within BOUND)) M.spelling (K.calls disk)) (reverse history.events.items)) }
+    ensures refusals { IfOk result (λ history.
+        K.keeps → AtEachEvent (IsTrueOf (Readable M.fits (M.within BOUND)) M.spelling (K.calls disk)) (reverse history.events.items)) }
     ensures finds { IfOk result (λ history. K.keeps → AtEachEvent (Finds M.spelling (K.calls disk)) (reverse history.events.items)) }
     ensures remembers { IfOk result (λ history. K.keeps → AtEachEvent Remembers (reverse history.events.items)) }
-    ensures next_opening { IfOk result (λ history. K.keeps → (image : List ℕ) → MayLeave (K.calls history.disk) image → MayRead M.spelling (K.calls disk) (reverse history.events.items) image) }
+    ensures next_opening { IfOk result (λ history.
+        K.keeps
+        → (image : List ℕ)
+        → MayLeave (K.calls history.disk) image
+        → MayRead M.spelling (K.calls disk) (reverse history.events.items) image) }
     ensures untouched { IfErr result (λ refused. refused.1 ≡ disk) }
 {
     let Ok(mut events) = Vec::with_capacity(alloc, requests.len()) else {

@@ -39,7 +39,9 @@ impl<M: Read + EncodeSize, K: Disk> Model for Journal<M, K> {
 
     ghost view = { λ j. record { disk = j.disk; gate = j.gate; failed = j.failed } };
 
-    ghost invariant = { λ j. K.keeps → j.failed ≡ false → (messages : List M) × IsRecord M.spelling K.seen K.calls (record { disk = j.disk; gate = j.gate; failed = j.failed }) messages };
+    ghost invariant = { λ j. K.keeps
+        → j.failed ≡ false
+        → (messages : List M) × IsRecord M.spelling K.seen K.calls (record { disk = j.disk; gate = j.gate; failed = j.failed }) messages };
 }
 
 impl<M: Read + EncodeSize + Drop, K: Disk> Journal<M, K> {
@@ -54,18 +56,25 @@ impl<M: Read + EncodeSize + Drop, K: Disk> Journal<M, K> {
         ensures record { IfOk result (λ opened. K.keeps → IsRecord M.spelling K.seen K.calls opened.0 opened.1.items) }
         ensures fresh { IfOk result (λ opened. opened.0.failed ≡ false) }
         ensures readable { IfOk result (λ opened. All (Readable M.fits (M.within BOUND)) opened.1.items) }
-        ensures found { IfOk result (λ opened. K.keeps → (before : List ℕ) × MayLeave (K.calls disk) before × Reads before (map M.spelling opened.1.items)) }
+        ensures found { IfOk result
+            (λ opened. K.keeps → (before : List ℕ) × MayLeave (K.calls disk) before × Reads before (map M.spelling opened.1.items)) }
         ensures reading { IfOk result (λ opened. K.keeps → Reads (K.seen disk) (map M.spelling opened.1.items)) }
 
         // After a crash at any moment of the opening the disk reads as a record that a crash before it might have left.
         ensures any_moment { IfOk result (λ opened. K.keeps → LeavesOnly (K.calls disk) (K.calls opened.0.disk) (IsReopened (K.calls disk))) }
-        ensures any_moment_of_a_fault { IfErr result (λ refused. K.keeps → LeavesOnly (K.calls disk) (K.calls refused.1) (IsReopened (K.calls disk))) }
+        ensures any_moment_of_a_fault { IfErr result
+            (λ refused. K.keeps → LeavesOnly (K.calls disk) (K.calls refused.1) (IsReopened (K.calls disk))) }
 
         ensures device { IfErr result (λ refused. refused.0 ≡ Device → K.failed refused.1 ≡ counted false (K.failed disk)) }
         ensures no_fault { IfOk result (λ opened. K.failed opened.0.disk ≡ K.failed disk) }
         ensures no_fault_of_others { IfErr result (λ refused. refused.0 ≢ Device → K.failed refused.1 ≡ K.failed disk) }
-        ensures foreign { IfErr result (λ refused. (place : ℕ) → refused.0 ≡ Foreign place → K.keeps → IsForeign [] (Readable M.fits (M.within BOUND)) M.spelling (K.seen refused.1) place) }
-        ensures foreign_reading { IfErr result (λ refused. (place : ℕ) → refused.0 ≡ Foreign place → K.keeps → IsForeign [] (Readable M.fits (M.within BOUND)) M.spelling (K.seen disk) place) }
+        ensures foreign { IfErr result (λ refused.
+            (place : ℕ)
+            → refused.0 ≡ Foreign place
+            → K.keeps
+            → IsForeign [] (Readable M.fits (M.within BOUND)) M.spelling (K.seen refused.1) place) }
+        ensures foreign_reading { IfErr result (λ refused.
+            (place : ℕ) → refused.0 ≡ Foreign place → K.keeps → IsForeign [] (Readable M.fits (M.within BOUND)) M.spelling (K.seen disk) place) }
         ensures faults { IfErr result (λ refused. (refused.0 ≡ Device) ⊎ ((refused.0 ≡ Memory) ⊎ ((place : ℕ) × (refused.0 ≡ Foreign place)))) }
         ensures untouched { IfErr result (λ refused. refused.0 ≢ Device → K.keeps → K.calls refused.1 ≡ Synced (K.seen refused.1) ∷ K.calls disk) }
     {
@@ -120,19 +129,29 @@ impl<M: Read + EncodeSize + Drop, K: Disk> Journal<M, K> {
     /// `Failed` until then.
     pub fn append(&mut self, message: &M) -> Result<(), JournalFault>
         requires { M.within BOUND message.now }
-        ensures record { OnOk result ((messages : List M) → K.keeps → IsRecord M.spelling K.seen K.calls self.old messages → IsRecord M.spelling K.seen K.calls self.new (messages ++ message.now ∷ [])) }
+        ensures record { OnOk result ((messages : List M)
+            → K.keeps
+            → IsRecord M.spelling K.seen K.calls self.old messages
+            → IsRecord M.spelling K.seen K.calls self.new (messages ++ message.now ∷ [])) }
 
         // A crash at any moment of the call leaves the record from before it, with the message or without.
-        ensures any_moment { (messages : List M) → K.keeps → IsRecord M.spelling K.seen K.calls self.old messages → LeavesOnly (K.calls self.old.disk) (K.calls self.new.disk) (IsWithOrWithout (map M.spelling messages) (M.spelling message.now)) }
+        ensures any_moment { (messages : List M)
+            → K.keeps
+            → IsRecord M.spelling K.seen K.calls self.old messages
+            → LeavesOnly (K.calls self.old.disk) (K.calls self.new.disk) (IsWithOrWithout (map M.spelling messages) (M.spelling message.now)) }
 
         ensures readable { self.old.failed ≡ false → M.fits message.now }
         ensures stays_open { OnOk result (self.new.failed ≡ false) }
         ensures faults { IfErr result (λ fault. (fault ≡ Device) ⊎ ((fault ≡ Memory) ⊎ ((fault ≡ TooLong) ⊎ (fault ≡ Failed)))) }
-        ensures device { IsErrOf result JournalFault.Device → (self.new.failed ≡ true) × (K.failed self.new.disk ≡ counted false (K.failed self.old.disk)) }
+        ensures device { IsErrOf result JournalFault.Device
+            → (self.new.failed ≡ true) × (K.failed self.new.disk ≡ counted false (K.failed self.old.disk)) }
         ensures no_fault { OnOk result (K.failed self.new.disk ≡ K.failed self.old.disk) }
         ensures memory { IsErrOf result JournalFault.Memory → self.new ≡ self.old }
-        ensures too_long { IsErrOf result JournalFault.TooLong → (self.new ≡ self.old) × IsTooLong (2 ^ 32) self.old.gate (length (M.spelling message.now)) }
-        ensures refused_if_long { self.old.failed ≡ false → IsTooLong (2 ^ 32) self.old.gate (length (M.spelling message.now)) → IsErrOf result JournalFault.TooLong }
+        ensures too_long { IsErrOf result JournalFault.TooLong
+            → (self.new ≡ self.old) × IsTooLong (2 ^ 32) self.old.gate (length (M.spelling message.now)) }
+        ensures refused_if_long { self.old.failed ≡ false
+            → IsTooLong (2 ^ 32) self.old.gate (length (M.spelling message.now))
+            → IsErrOf result JournalFault.TooLong }
         ensures failed { IsErrOf result JournalFault.Failed → (self.new ≡ self.old) × (self.old.failed ≡ true) }
         ensures refused_if_failed { self.old.failed ≡ true → IsErrOf result JournalFault.Failed }
     {
@@ -181,9 +200,15 @@ pub fn spelled<M: Write>(alloc: Global, message: &M, size: usize) -> Result<Vec<
 fn add_entry<K: Disk>(disk: &mut K, gate: u64, entry: &[u8]) -> Result<(), DiskFault>
     requires room { gate < 2 ^ 63 }
     requires at_rest { K.keeps → (bodies : List (List ℕ)) × IsAtRest [] (K.seen disk.old) (K.calls disk.old) gate bodies }
-    ensures ok { OnOk result ((bodies : List (List ℕ)) (body : List ℕ) → K.keeps → IsAtRest [] (K.seen disk.old) (K.calls disk.old) gate bodies → Spells entry.now body
+    ensures ok { OnOk result ((bodies : List (List ℕ)) (body : List ℕ)
+        → K.keeps
+        → IsAtRest [] (K.seen disk.old) (K.calls disk.old) gate bodies
+        → Spells entry.now body
         → IsAtRest [] (K.seen disk.new) (K.calls disk.new) (gate + 5 + length body) (bodies ++ body ∷ [])) }
-    ensures any_moment { (bodies : List (List ℕ)) (body : List ℕ) → K.keeps → IsAtRest [] (K.seen disk.old) (K.calls disk.old) gate bodies → Spells entry.now body
+    ensures any_moment { (bodies : List (List ℕ)) (body : List ℕ)
+        → K.keeps
+        → IsAtRest [] (K.seen disk.old) (K.calls disk.old) gate bodies
+        → Spells entry.now body
         → LeavesOnly (K.calls disk.old) (K.calls disk.new) (IsWithOrWithout bodies body) }
     ensures cause { K.failed disk.new ≡ counted (is_ok result) (K.failed disk.old) }
 {

@@ -13,5 +13,10 @@ use types_core::{EncodeSize, Read};
 pub fn a_disk_reads_as_one_record<M: Read + EncodeSize>()
     ensures some { (image : List ℕ) → (bodies : List (List ℕ)) × Reads image bodies }
     ensures one { (image : List ℕ) (bodies others : List (List ℕ)) → Reads image bodies → Reads image others → bodies ≡ others }
-    ensures messages { (image : List ℕ) (messages others : List M) → All (Readable M.fits (M.within BOUND)) messages → All (Readable M.fits (M.within BOUND)) others → Reads image (map M.spelling messages) → Reads image (map M.spelling others) → messages ≡ others }
+    ensures messages { (image : List ℕ) (messages others : List M)
+        → All (Readable M.fits (M.within BOUND)) messages
+        → All (Readable M.fits (M.within BOUND)) others
+        → Reads image (map M.spelling messages)
+        → Reads image (map M.spelling others)
+        → messages ≡ others }
 {}

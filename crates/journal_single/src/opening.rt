@@ -17,7 +17,10 @@ pub(crate) fn repair<K: Disk>(disk: &mut K, gate: u64) -> Result<(), DiskFault>
     requires room { gate < 2 ^ 63 }
     requires found { K.keeps → (bodies : List (List ℕ)) × IsFound [] (K.seen disk.old) gate bodies }
     requires some { K.keeps → gate < length (K.seen disk.old) }
-    ensures ok { OnOk result ((bodies : List (List ℕ)) → K.keeps → IsFixed (K.seen disk.old) (K.calls disk.old) → IsFound [] (K.seen disk.old) gate bodies
+    ensures ok { OnOk result ((bodies : List (List ℕ))
+        → K.keeps
+        → IsFixed (K.seen disk.old) (K.calls disk.old)
+        → IsFound [] (K.seen disk.old) gate bodies
         → IsAtRest [] (K.seen disk.new) (K.calls disk.new) gate bodies) }
     ensures any_moment { (bodies : List (List ℕ)) → K.keeps → IsFixed (K.seen disk.old) (K.calls disk.old) → IsFound [] (K.seen disk.old) gate bodies
         → LeavesOnly (K.calls disk.old) (K.calls disk.new) (λ image. Reads image bodies) }
@@ -35,7 +38,9 @@ pub(crate) fn repair<K: Disk>(disk: &mut K, gate: u64) -> Result<(), DiskFault>
 pub(crate) fn begin<K: Disk>(disk: &mut K) -> Result<(), DiskFault>
     requires empty { K.keeps → K.seen disk.old ≡ [] }
     ensures ok { OnOk result (K.keeps → IsAtRest [] (K.seen disk.new) (K.calls disk.new) 0 []) }
-    ensures any_moment { K.keeps → IsFixed (K.seen disk.old) (K.calls disk.old) → LeavesOnly (K.calls disk.old) (K.calls disk.new) (λ image. Reads image []) }
+    ensures any_moment { K.keeps
+        → IsFixed (K.seen disk.old) (K.calls disk.old)
+        → LeavesOnly (K.calls disk.old) (K.calls disk.new) (λ image. Reads image []) }
     ensures cause { K.failed disk.new ≡ counted (is_ok result) (K.failed disk.old) }
 {
     disk.write_at(0, &[0])?;
@@ -79,7 +84,10 @@ fn finish<K: Disk>(disk: &mut K, gate: u64, is_empty: bool) -> Result<(), DiskFa
     requires found { K.keeps → (bodies : List (List ℕ)) × IsFound [] (K.seen disk.old) gate bodies }
     requires some { K.keeps → is_empty ≡ false → gate < length (K.seen disk.old) }
     requires none { K.keeps → is_empty ≡ true → K.seen disk.old ≡ [] }
-    ensures ok { OnOk result ((bodies : List (List ℕ)) → K.keeps → IsFixed (K.seen disk.old) (K.calls disk.old) → IsFound [] (K.seen disk.old) gate bodies
+    ensures ok { OnOk result ((bodies : List (List ℕ))
+        → K.keeps
+        → IsFixed (K.seen disk.old) (K.calls disk.old)
+        → IsFound [] (K.seen disk.old) gate bodies
         → IsAtRest [] (K.seen disk.new) (K.calls disk.new) gate bodies) }
     ensures any_moment { (bodies : List (List ℕ)) → K.keeps → IsFixed (K.seen disk.old) (K.calls disk.old) → IsFound [] (K.seen disk.old) gate bodies
         → LeavesOnly (K.calls disk.old) (K.calls disk.new) (λ image. Reads image bodies) }
@@ -102,17 +110,21 @@ pub(crate) fn open_disk<M: Read + Drop, K: Disk>(
     alloc: Global,
     disk: &mut K,
 ) -> Result<Entries<M>, JournalFault>
-    ensures ok { IfOk result (λ entries. K.keeps → IsAtRest [] (K.seen disk.new) (K.calls disk.new) entries.gate (map M.spelling entries.messages.items)) }
+    ensures ok { IfOk result
+        (λ entries. K.keeps → IsAtRest [] (K.seen disk.new) (K.calls disk.new) entries.gate (map M.spelling entries.messages.items)) }
     ensures fitting { IfOk result (λ entries. All (Readable M.fits (M.within BOUND)) entries.messages.items) }
-    ensures found { IfOk result (λ entries. K.keeps → (before : List ℕ) × MayLeave (K.calls disk.old) before × Reads before (map M.spelling entries.messages.items)) }
+    ensures found { IfOk result
+        (λ entries. K.keeps → (before : List ℕ) × MayLeave (K.calls disk.old) before × Reads before (map M.spelling entries.messages.items)) }
     ensures reading { IfOk result (λ entries. K.keeps → Reads (K.seen disk.old) (map M.spelling entries.messages.items)) }
     // After a crash at any moment of the opening the disk reads as a record that a crash before it might have left.
     ensures any_moment { K.keeps → LeavesOnly (K.calls disk.old) (K.calls disk.new) (IsReopened (K.calls disk.old)) }
     ensures device { IsErrOf result JournalFault.Device → K.failed disk.new ≡ counted false (K.failed disk.old) }
     ensures no_fault { OnOk result (K.failed disk.new ≡ K.failed disk.old) }
     ensures no_fault_of_others { IfErr result (λ fault. fault ≢ Device → K.failed disk.new ≡ K.failed disk.old) }
-    ensures foreign { IfErr result (λ fault. (place : ℕ) → fault ≡ Foreign place → K.keeps → IsForeign [] (Readable M.fits (M.within BOUND)) M.spelling (K.seen disk.new) place) }
-    ensures foreign_reading { IfErr result (λ fault. (place : ℕ) → fault ≡ Foreign place → K.keeps → IsForeign [] (Readable M.fits (M.within BOUND)) M.spelling (K.seen disk.old) place) }
+    ensures foreign { IfErr result (λ fault.
+        (place : ℕ) → fault ≡ Foreign place → K.keeps → IsForeign [] (Readable M.fits (M.within BOUND)) M.spelling (K.seen disk.new) place) }
+    ensures foreign_reading { IfErr result (λ fault.
+        (place : ℕ) → fault ≡ Foreign place → K.keeps → IsForeign [] (Readable M.fits (M.within BOUND)) M.spelling (K.seen disk.old) place) }
     ensures faults { IfErr result (λ fault. (fault ≡ Device) ⊎ ((fault ≡ Memory) ⊎ ((place : ℕ) × (fault ≡ Foreign place)))) }
     // After any other fault than the disk's own nothing was written or cut.
     ensures untouched { IfErr result (λ fault. fault ≢ Device → K.keeps → K.calls disk.new ≡ Synced (K.seen disk.new) ∷ K.calls disk.old) }

@@ -217,7 +217,8 @@ impl<S: Scheme<D>, D: Digest> Read for Artifact<S, D> {
 
     ghost reading = { λ n. artifact_at (D.reading n) (S.Signature.reading n) (S.Certificate.reading n) };
 
-    ghost one_spelling = { λ n small. artifact-IsCodec (bounded-IsCodec (D.one_spelling n small) (D.unbounded n)) (bounded-IsCodec (S.Signature.one_spelling n small) (S.Signature.unbounded n)) (S.Certificate.one_spelling n small) };
+    ghost one_spelling = { λ n small. artifact-IsCodec (bounded-IsCodec (D.one_spelling n small) (D.unbounded n))
+        (bounded-IsCodec (S.Signature.one_spelling n small) (S.Signature.unbounded n)) (S.Certificate.one_spelling n small) };
 
     ghost grows = { λ n m x up h. artifact_within-weaker (λ c. S.Certificate.grows n m c up) x h };
 
@@ -242,7 +243,8 @@ fn read_behind<S: Scheme<D>, D: Digest>(
     input: &mut &[u8],
     bound: u32,
 ) -> Result<Artifact<S, D>, CodecError>
-    ensures { Gives (artifact_behind (D.reading bound) (S.Signature.reading bound) (S.Certificate.reading bound) tag) input.old.now input.new.now result }
+    ensures { Gives (artifact_behind (D.reading bound) (S.Signature.reading bound) (S.Certificate.reading bound) tag) input.old.now
+        input.new.now result }
 {
     match tag {
         0 => Ok(Artifact::Notarize(Notarize::read_cfg(alloc, input, bound)?)),

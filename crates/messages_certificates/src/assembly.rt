@@ -53,10 +53,14 @@ pub(crate) fn assembled<S: Scheme<D>, D: Digest, V: Attested<S::Signature>>(
     votes: &[V],
 ) -> Result<(V::Content, S::Certificate), AssemblyError>
     requires { CanAssemble V.content_of V.attestation_of (S.size scheme.now) votes.now }
-    ensures made { IfOk result (λ made. (states : V.Content → Statement D) → IsMadeOf V.content_of V.attestation_of states (S.attests scheme.now) (S.certifies scheme.now) S.lists S.enumerates votes.now made.0 made.1) }
+    ensures made { IfOk result (λ made.
+        (states : V.Content → Statement D)
+        → IsMadeOf V.content_of V.attestation_of states (S.attests scheme.now) (S.certifies scheme.now) S.lists S.enumerates votes.now
+        made.0 made.1) }
     ensures readable { IfOk result (λ made. S.Certificate.within (S.size scheme.now) made.1) }
     ensures within { IfOk result (λ made. S.Certificate.within 65535 made.1) }
-    ensures too_few { length votes.now < quorum (S.size scheme.now) → result ≡ Err (InsufficientAttestations (quorum (S.size scheme.now)) (length votes.now)) }
+    ensures too_few { length votes.now < quorum (S.size scheme.now)
+        → result ≡ Err (InsufficientAttestations (quorum (S.size scheme.now)) (length votes.now)) }
     ensures enough { quorum (S.size scheme.now) ≤ length votes.now → IfErr result (λ e. e ≡ Memory) }
 {
     let needed = quorum(scheme.participants());

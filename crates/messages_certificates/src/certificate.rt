@@ -147,7 +147,10 @@ impl<S: Scheme<D>, D: Digest> EncodeSize for Certificate<S, D> {
         ensures size { result ≡ length (any_certificate_spelling D.spelling S.Certificate.spelling self.now) }
         ensures bounded { result ≤ 31 + D.max_size + S.Certificate.max_size }
         ensures readable { any_certificate_fits D.fits S.Certificate.fits self.now }
-        ensures planned { (n : ℕ) → n < 2 ^ 32 → S.Certificate.within n (certified_by self.now) → result ≤ 31 + D.max_size + S.Certificate.most_bytes n }
+        ensures planned { (n : ℕ)
+            → n < 2 ^ 32
+            → S.Certificate.within n (certified_by self.now)
+            → result ≤ 31 + D.max_size + S.Certificate.most_bytes n }
     {
         match self {
             Certificate::Notarization(certificate) => 1 + certificate.encode_size(),
@@ -167,7 +170,8 @@ impl<S: Scheme<D>, D: Digest> Read for Certificate<S, D> {
 
     ghost reading = { λ n. any_certificate_at (D.reading n) (S.Certificate.reading n) };
 
-    ghost one_spelling = { λ n small. any_certificate-IsCodec (bounded-IsCodec (D.one_spelling n small) (D.unbounded n)) (S.Certificate.one_spelling n small) };
+    ghost one_spelling = { λ n small. any_certificate-IsCodec (bounded-IsCodec (D.one_spelling n small) (D.unbounded n))
+        (S.Certificate.one_spelling n small) };
 
     ghost grows = { λ n m x up h. any_certificate_within-weaker (λ c. S.Certificate.grows n m c up) x h };
 

@@ -55,7 +55,8 @@ impl<S: Scheme<D>, D: Digest> Nullification<S, D> {
         ensures made { IfOk result (IsNullificationOf (S.attests scheme.now) (S.certifies scheme.now) S.lists S.enumerates votes.now) }
         ensures readable { IfOk result (λ c. S.Certificate.within (S.size scheme.now) c.certificate) }
         ensures within { IfOk result (λ c. S.Certificate.within 65535 c.certificate) }
-        ensures too_few { length votes.now < quorum (S.size scheme.now) → result ≡ Err (InsufficientAttestations (quorum (S.size scheme.now)) (length votes.now)) }
+        ensures too_few { length votes.now < quorum (S.size scheme.now)
+            → result ≡ Err (InsufficientAttestations (quorum (S.size scheme.now)) (length votes.now)) }
         ensures enough { quorum (S.size scheme.now) ≤ length votes.now → IfErr result (λ e. e ≡ Memory) }
     {
         let (round, certificate) = assembled(alloc, scheme, votes)?;
@@ -72,7 +73,8 @@ impl<S: Scheme<D>, D: Digest> Nullification<S, D> {
         ensures made { IfOk result (IsNullificationOf (S.attests scheme.now) (S.certifies scheme.now) S.lists S.enumerates votes.items) }
         ensures readable { IfOk result (λ c. S.Certificate.within (S.size scheme.now) c.certificate) }
         ensures within { IfOk result (λ c. S.Certificate.within 65535 c.certificate) }
-        ensures too_few { length votes.items < quorum (S.size scheme.now) → result ≡ Err (InsufficientAttestations (quorum (S.size scheme.now)) (length votes.items)) }
+        ensures too_few { length votes.items < quorum (S.size scheme.now)
+            → result ≡ Err (InsufficientAttestations (quorum (S.size scheme.now)) (length votes.items)) }
         ensures enough { quorum (S.size scheme.now) ≤ length votes.items → IfErr result (λ e. e ≡ Memory) }
     {
         Self::from_nullifies(alloc, scheme, &votes)

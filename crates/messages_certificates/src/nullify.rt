@@ -157,7 +157,8 @@ impl<S: Scheme<D>, D: Digest> Read for Nullify<S, D> {
 
     ghost reading = { λ n. nullify_at (S.Signature.reading n) };
 
-    ghost one_spelling = { λ n small. unbounded-IsCodec (nullify-IsCodec (bounded-IsCodec (S.Signature.one_spelling n small) (S.Signature.unbounded n))) };
+    ghost one_spelling = { λ n small. unbounded-IsCodec
+        (nullify-IsCodec (bounded-IsCodec (S.Signature.one_spelling n small) (S.Signature.unbounded n))) };
 
     ghost grows = { λ n m x up h. h };
 

@@ -70,7 +70,8 @@ impl<K: ProposalKind<D>, S: Scheme<D>, D: Digest> ProposalCertificate<K, S, D> {
         ensures made { IfOk result (IsCertificateOf K.states (S.attests scheme.now) (S.certifies scheme.now) S.lists S.enumerates votes.now) }
         ensures readable { IfOk result (λ c. S.Certificate.within (S.size scheme.now) c.certificate) }
         ensures within { IfOk result (λ c. S.Certificate.within 65535 c.certificate) }
-        ensures too_few { length votes.now < quorum (S.size scheme.now) → result ≡ Err (InsufficientAttestations (quorum (S.size scheme.now)) (length votes.now)) }
+        ensures too_few { length votes.now < quorum (S.size scheme.now)
+            → result ≡ Err (InsufficientAttestations (quorum (S.size scheme.now)) (length votes.now)) }
         ensures enough { quorum (S.size scheme.now) ≤ length votes.now → IfErr result (λ e. e ≡ Memory) }
     {
         let (proposal, certificate) = assembled(alloc, scheme, votes)?;
@@ -122,7 +123,8 @@ impl<S: Scheme<D>, D: Digest> ProposalCertificate<Notarizing, S, D> {
         ensures made { IfOk result (IsCertificateOf notarize (S.attests scheme.now) (S.certifies scheme.now) S.lists S.enumerates votes.now) }
         ensures readable { IfOk result (λ c. S.Certificate.within (S.size scheme.now) c.certificate) }
         ensures within { IfOk result (λ c. S.Certificate.within 65535 c.certificate) }
-        ensures too_few { length votes.now < quorum (S.size scheme.now) → result ≡ Err (InsufficientAttestations (quorum (S.size scheme.now)) (length votes.now)) }
+        ensures too_few { length votes.now < quorum (S.size scheme.now)
+            → result ≡ Err (InsufficientAttestations (quorum (S.size scheme.now)) (length votes.now)) }
         ensures enough { quorum (S.size scheme.now) ≤ length votes.now → IfErr result (λ e. e ≡ Memory) }
     {
         Self::from_votes(alloc, scheme, votes)
@@ -138,7 +140,8 @@ impl<S: Scheme<D>, D: Digest> ProposalCertificate<Notarizing, S, D> {
         ensures made { IfOk result (IsCertificateOf notarize (S.attests scheme.now) (S.certifies scheme.now) S.lists S.enumerates votes.items) }
         ensures readable { IfOk result (λ c. S.Certificate.within (S.size scheme.now) c.certificate) }
         ensures within { IfOk result (λ c. S.Certificate.within 65535 c.certificate) }
-        ensures too_few { length votes.items < quorum (S.size scheme.now) → result ≡ Err (InsufficientAttestations (quorum (S.size scheme.now)) (length votes.items)) }
+        ensures too_few { length votes.items < quorum (S.size scheme.now)
+            → result ≡ Err (InsufficientAttestations (quorum (S.size scheme.now)) (length votes.items)) }
         ensures enough { quorum (S.size scheme.now) ≤ length votes.items → IfErr result (λ e. e ≡ Memory) }
     {
         Self::from_votes(alloc, scheme, &votes)
@@ -167,7 +170,8 @@ impl<S: Scheme<D>, D: Digest> ProposalCertificate<Finalizing, S, D> {
         ensures made { IfOk result (IsCertificateOf finalize (S.attests scheme.now) (S.certifies scheme.now) S.lists S.enumerates votes.now) }
         ensures readable { IfOk result (λ c. S.Certificate.within (S.size scheme.now) c.certificate) }
         ensures within { IfOk result (λ c. S.Certificate.within 65535 c.certificate) }
-        ensures too_few { length votes.now < quorum (S.size scheme.now) → result ≡ Err (InsufficientAttestations (quorum (S.size scheme.now)) (length votes.now)) }
+        ensures too_few { length votes.now < quorum (S.size scheme.now)
+            → result ≡ Err (InsufficientAttestations (quorum (S.size scheme.now)) (length votes.now)) }
         ensures enough { quorum (S.size scheme.now) ≤ length votes.now → IfErr result (λ e. e ≡ Memory) }
     {
         Self::from_votes(alloc, scheme, votes)
@@ -183,7 +187,8 @@ impl<S: Scheme<D>, D: Digest> ProposalCertificate<Finalizing, S, D> {
         ensures made { IfOk result (IsCertificateOf finalize (S.attests scheme.now) (S.certifies scheme.now) S.lists S.enumerates votes.items) }
         ensures readable { IfOk result (λ c. S.Certificate.within (S.size scheme.now) c.certificate) }
         ensures within { IfOk result (λ c. S.Certificate.within 65535 c.certificate) }
-        ensures too_few { length votes.items < quorum (S.size scheme.now) → result ≡ Err (InsufficientAttestations (quorum (S.size scheme.now)) (length votes.items)) }
+        ensures too_few { length votes.items < quorum (S.size scheme.now)
+            → result ≡ Err (InsufficientAttestations (quorum (S.size scheme.now)) (length votes.items)) }
         ensures enough { quorum (S.size scheme.now) ≤ length votes.items → IfErr result (λ e. e ≡ Memory) }
     {
         Self::from_votes(alloc, scheme, &votes)
@@ -255,7 +260,8 @@ impl<K: ProposalKind<D>, S: Scheme<D>, D: Digest> Read for ProposalCertificate<K
 
     ghost reading = { λ n. certificate_at (D.reading n) (S.Certificate.reading n) };
 
-    ghost one_spelling = { λ n small. certificate-IsCodec (bounded-IsCodec (D.one_spelling n small) (D.unbounded n)) (S.Certificate.one_spelling n small) };
+    ghost one_spelling = { λ n small. certificate-IsCodec (bounded-IsCodec (D.one_spelling n small) (D.unbounded n))
+        (S.Certificate.one_spelling n small) };
 
     ghost grows = { λ n m c up h. S.Certificate.grows n m c.certificate up h };
 

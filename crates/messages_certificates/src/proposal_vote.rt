@@ -174,7 +174,8 @@ impl<K: ProposalKind<D>, S: Scheme<D>, D: Digest> Read for ProposalVote<K, S, D>
 
     ghost reading = { λ n. vote_at (D.reading n) (S.Signature.reading n) };
 
-    ghost one_spelling = { λ n small. unbounded-IsCodec (vote-IsCodec (bounded-IsCodec (D.one_spelling n small) (D.unbounded n)) (bounded-IsCodec (S.Signature.one_spelling n small) (S.Signature.unbounded n))) };
+    ghost one_spelling = { λ n small. unbounded-IsCodec (vote-IsCodec (bounded-IsCodec (D.one_spelling n small) (D.unbounded n))
+        (bounded-IsCodec (S.Signature.one_spelling n small) (S.Signature.unbounded n))) };
 
     ghost grows = { λ n m x up h. h };
 

@@ -27,7 +27,7 @@ use Rattle.batcher_verifier.specs.History.{Cast, Certified, Led, forwardable, ha
 use Rattle.simplex_batcher.specs.Queries.{has_nullify}
 use Rattle.simplex_resolver.specs.declared.ask.Kind as repair
 use Rattle.simplex_resolver.specs.declared.ask.Kind.TheVariants as repair_kind
-use Rattle.simplex_resolver.specs.History.{Item, Replayed}
+use Rattle.simplex_resolver.specs.RepairHistory.{Item, Replayed}
 use Rattle.simplex_resolver.specs.Outstanding.{IsOutstanding}
 use Rattle.simplex_member.specs.Allowed.{HasReason}
 use Rattle.simplex_member.specs.Asked.{build_at}

@@ -20,7 +20,9 @@ pub fn networks_are_there<S: Scheme<D>, D: Digest>()
 /// The plain scheme is such a one, in a committee of four, with packets as the messages spell them: the liar sends no
 /// bytes for a vote, and the certificate lists the attestations of the three.
 pub fn plain_networks_are_there<D: Digest>()
-    ensures { PlainNetworksAreThere ⟦<PlainScheme as Scheme<D>>⟧ (formats D.PartialEq.eq D.spelling ⟦<PlainSignature as Write>⟧.spelling ⟦<AttestationList<PlainSignature> as Write>⟧.spelling D.reading ⟦<PlainSignature as Read>⟧.reading ⟦<AttestationList<PlainSignature> as Read>⟧.reading 4) D.spelling }
+    ensures { PlainNetworksAreThere ⟦<PlainScheme as Scheme<D>>⟧ (formats D.PartialEq.eq D.spelling ⟦<PlainSignature as Write>⟧.spelling
+        ⟦<AttestationList<PlainSignature> as Write>⟧.spelling D.reading ⟦<PlainSignature as Read>⟧.reading
+        ⟦<AttestationList<PlainSignature> as Read>⟧.reading 4) D.spelling }
 {
     networks_are_there::<PlainScheme, D>();
     packets_are_read_back::<PlainScheme, D>();

@@ -20,7 +20,7 @@ use Rattle.simplex_messages.specs.declared.vote.Vote.{Vote}
 use Rattle.simplex_messages.specs.declared.vote.Vote.TheVariants as vote
 use Rattle.simplex_messages.specs.Activity.{certificate_activity, vote_activity}
 use Rattle.simplex_messages.specs.VoteParts.{vote_artifact}
-use Rattle.simplex_resolver.specs.History.{Item, Judged, item_of}
+use Rattle.simplex_resolver.specs.RepairHistory.{Item, Judged, item_of}
 use Rattle.simplex_record.specs.Record.{entries, judged, taken, voted}
 use Rattle.node_record.specs.declared.recorded.Recorded.{Recorded}
 use Rattle.node_record.specs.Recorded.{HoldsRecord}

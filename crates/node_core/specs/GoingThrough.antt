@@ -5,7 +5,7 @@ use Rattle.messages_certificates.specs.declared.artifact.Artifact.{Artifact}
 use Rattle.types_terms.specs.declared.elector.Elector as elector
 use Rattle.simplex_record.specs.Lawful.{IsLawful}
 use Rattle.simplex_state.specs.State as voting
-use Rattle.node_votes.specs.Keeps as accepting
+use Rattle.node_votes.specs.KeepsVotes as accepting
 use Rattle.simplex_resolver.specs.Keeps as repairing
 use Rattle.node_record.specs.declared.recorded.Recorded.{Recorded}
 use Rattle.node_record.specs.Recorded.{HoldsRecord}

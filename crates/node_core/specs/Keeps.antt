@@ -4,7 +4,7 @@ use Rattle.std.specs.Prelude.{◌≡◌, ℕ, true}
 use Rattle.types_core.specs.declared.scheme.Scheme.{Ghosts}
 use Rattle.types_terms.specs.declared.elector.Elector as elector
 use Rattle.simplex_state.specs.State as voting
-use Rattle.node_votes.specs.Keeps as accepting
+use Rattle.node_votes.specs.KeepsVotes as accepting
 use Rattle.simplex_resolver.specs.Keeps as repairing
 use Rattle.journal_single.specs.declared.disk.Disk as disk
 use Rattle.node_record.specs.Ledger as ledgers
@@ -17,7 +17,7 @@ use Rattle.simplex_member.specs.Point.{History}
 use Rattle.simplex_member.specs.Recorded.{record_of}
 use Rattle.simplex_member.specs.Setup.{Setup, owner_of}
 use Rattle.node_core.specs.SettingUp.{IsSetUp}
-use Rattle.node_core.specs.declared.node_core.Core.{Core}
+use Rattle.node_core.specs.declared.node_state.Core.{Core}
 
 -- the disk that a node stands on
 abbrev pub disk_of : {S L D K P G C : Type 0} → Core S L D K P G C → K

@@ -5,7 +5,7 @@ use Rattle.types_core.specs.declared.scheme.Scheme.{Ghosts}
 use Rattle.types_terms.specs.declared.elector.Elector as elector
 use Rattle.journal_single.specs.declared.disk.Disk as disk
 use Rattle.node_votes.specs.declared.acceptance.Acceptance.{Acceptance}
-use Rattle.node_votes.specs.Keeps as accepting
+use Rattle.node_votes.specs.KeepsVotes as accepting
 use Rattle.node_record.specs.declared.tables.Tables.{Tables}
 use Rattle.node_record.specs.Tables.{KeepsTables}
 use Rattle.simplex_member.specs.Allowed.{Allowed}
@@ -13,7 +13,7 @@ use Rattle.simplex_member.specs.Layers.{finalized_of}
 use Rattle.simplex_member.specs.Packet.{Formats}
 use Rattle.simplex_member.specs.Point.{History}
 use Rattle.simplex_member.specs.Setup.{Setup}
-use Rattle.node_core.specs.declared.node_core.Core.{Core}
+use Rattle.node_core.specs.declared.node_state.Core.{Core}
 use Rattle.node_core.specs.Keeps.{CoreKeeps}
 use Rattle.std.proofs.Common.{◌++◌}
 use Rattle.messages_certificates.specs.declared.artifact.Artifact.{Artifact}
@@ -21,9 +21,9 @@ use Rattle.voter_history.specs.History as views
 use Rattle.voter_history.specs.History.{last_finalized}
 use Rattle.simplex_state.specs.declared.state.State.{State}
 use Rattle.simplex_state.specs.State as voting
-use Rattle.node_votes.specs.Keeps.{QuietStays, SaysNothing}
+use Rattle.node_votes.specs.KeepsVotes.{QuietStays, SaysNothing}
 use Rattle.simplex_resolver.specs.Keeps as repairing
-use Rattle.simplex_resolver.specs.History.{Item}
+use Rattle.simplex_resolver.specs.RepairHistory.{Item}
 use Rattle.node_record.specs.Ledger.{KeepsRecord}
 use Rattle.simplex_member.specs.Layers.{is_begun, may_enter, repair_of, voter_of}
 use Rattle.simplex_member.specs.Point.{Point}

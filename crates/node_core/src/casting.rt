@@ -4,8 +4,8 @@ ghost use Rattle.std.specs.Prelude.{◌≡◌, ◌∷◌, IfErr, IfOk};
 ghost use Rattle.batcher_admission.specs.Evidence.{as_report};
 ghost use Rattle.simplex_messages.specs.VoteParts.{vote_round, vote_signer};
 ghost use Rattle.batcher_verifier.specs.Votes.{vote_attestation, vote_statement};
-ghost use Rattle.node_votes.specs.Keeps as accepting;
-ghost use Rattle.node_votes.specs.Keeps.{IsOpenTo};
+ghost use Rattle.node_votes.specs.KeepsVotes as accepting;
+ghost use Rattle.node_votes.specs.KeepsVotes.{IsOpenTo};
 ghost use Rattle.simplex_member.specs.declared.fault.NodeFault.TheVariants as step_fault;
 ghost use Rattle.simplex_member.specs.Point.{Votes};
 
@@ -24,7 +24,12 @@ pub fn tell_own_vote<S: Scheme<D> + Drop, D: Digest>(
     vote: Vote<S, D>,
     acceptance: &mut Acceptance<S, D>,
 ) -> Result<Activity<S, D>, NodeFault>
-    ensures told { IfOk result (λ report. accepting.AtEach S.Scheme D.PartialEq.eq acceptance.old (λ s h. IsOpenTo s h (vote_round vote) → (vote_round vote).epoch ≡ s.voter.epoch → S.attests s.voter.scheme (vote_signer vote) (vote_statement vote) (vote_attestation vote).signature → (report ≡ as_report vote) × accepting.Keeps S.Scheme D.PartialEq.eq s acceptance.new (Votes vote ∷ h))) }
+    ensures told { IfOk result (λ report.
+        accepting.AtEach S.Scheme D.PartialEq.eq acceptance.old (λ s h.
+        IsOpenTo s h (vote_round vote)
+        → (vote_round vote).epoch ≡ s.voter.epoch
+        → S.attests s.voter.scheme (vote_signer vote) (vote_statement vote) (vote_attestation vote).signature
+        → (report ≡ as_report vote) × accepting.Keeps S.Scheme D.PartialEq.eq s acceptance.new (Votes vote ∷ h))) }
     ensures fault { IfErr result (λ why. why ≡ step_fault.Memory) }
 {
     match acceptance.cast(vote) {

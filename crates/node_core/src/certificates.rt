@@ -6,7 +6,7 @@ ghost use Rattle.messages_certificates.specs.Artifact.{certificate_artifact};
 ghost use Rattle.messages_certificates.specs.Certificate.{certificate_round};
 ghost use Rattle.voter_history.specs.History.{last_finalized};
 ghost use Rattle.simplex_state.specs.State as voting;
-ghost use Rattle.node_votes.specs.Keeps as accepting;
+ghost use Rattle.node_votes.specs.KeepsVotes as accepting;
 ghost use Rattle.simplex_member.specs.declared.fault.NodeFault.TheVariants as step_fault;
 ghost use Rattle.simplex_member.specs.Deeds.{Finalizes, final_deeds};
 ghost use Rattle.simplex_member.specs.Layers.{finalizes_above, takes_certificate, voter_of};
@@ -14,7 +14,7 @@ ghost use Rattle.simplex_member.specs.Point.{Came};
 ghost use Rattle.node_core.specs.Learning.{IsUnknown};
 
 use crate::entered::enter;
-use crate::learning::give;
+use crate::told_layers::give;
 use messages_certificates::{Artifact, Certificate};
 use node_votes::Acceptance;
 use simplex_member::NodeFault;
@@ -55,7 +55,10 @@ pub fn tell_voter<S: Scheme<D> + Drop, L: Elector<S, D>, D: Digest>(
     voter: &mut Voter<S, L, D>,
 ) -> Result<Artifact<S, D>, AllocError>
     ensures copy { IfOk result (λ artifact. artifact ≡ certificate_artifact certificate.now) }
-    ensures told { OnOk result (voting.AtEach S.Scheme L.Elector voter.old (λ s h. HasRoom s.length (certificate_round certificate.now).view → IsUnknown s h certificate.now → voting.Keeps S.Scheme L.Elector s voter.new (takes_certificate now (last_finalized h) certificate.now ++ h))) }
+    ensures told { OnOk result (voting.AtEach S.Scheme L.Elector voter.old (λ s h.
+        HasRoom s.length (certificate_round certificate.now).view
+        → IsUnknown s h certificate.now
+        → voting.Keeps S.Scheme L.Elector s voter.new (takes_certificate now (last_finalized h) certificate.now ++ h))) }
 {
     let is_final = final_proposal(certificate, voter.last_finalized()).is_some();
     give(alloc, now, certificate, voter)?;
@@ -79,7 +82,10 @@ pub fn tell_votes<S: Scheme<D> + Drop, L: Elector<S, D>, D: Digest>(
     certificate: &Certificate<S, D>,
     acceptance: &mut Acceptance<S, D>,
 ) -> Result<(), NodeFault>
-    ensures told { OnOk result (accepting.AtEach S.Scheme D.PartialEq.eq acceptance.old (λ s h. HasRoom s.voter.length (certificate_round certificate.now).view → voting.Keeps S.Scheme L.Elector s.voter voter.now (voter_of s (Came certificate.now ∷ h)) → accepting.Keeps S.Scheme D.PartialEq.eq s acceptance.new (Came certificate.now ∷ h))) }
+    ensures told { OnOk result (accepting.AtEach S.Scheme D.PartialEq.eq acceptance.old (λ s h.
+        HasRoom s.voter.length (certificate_round certificate.now).view
+        → voting.Keeps S.Scheme L.Elector s.voter voter.now (voter_of s (Came certificate.now ∷ h))
+        → accepting.Keeps S.Scheme D.PartialEq.eq s acceptance.new (Came certificate.now ∷ h))) }
     ensures fault { IfErr result (λ why. why ≡ step_fault.Memory) }
 {
     match acceptance.record(certificate) {

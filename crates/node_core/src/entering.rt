@@ -12,7 +12,7 @@ ghost use Rattle.node_core.specs.Entering.{gets, serves};
 ghost use Rattle.node_outbox.specs.Handing.{HandsOut};
 ghost use Rattle.node_core.specs.Keeps.{AtAll, CoreKeeps};
 
-use crate::node_core::Core;
+use crate::node_state::Core;
 use journal_single::Disk;
 use node_outbox::hand_out;
 use simplex_member::{Action, NodeFault};
@@ -29,8 +29,12 @@ impl<S: Scheme<D> + Drop, L: Elector<S, D>, D: Digest, K: Disk> Core<S, L, D, K>
     ///
     /// [`NodeFault::Memory`].
     pub fn hand_on_at_entry(&self, was: View, out: &mut Vec<Action<S, D>>) -> Result<(), NodeFault>
-        ensures acts { OnOk result ((f : Formats S D S.PublicKey S.Signature S.Certificate) (s : Setup S D S.Certificate) (h : History S D S.PublicKey S.Signature S.Certificate) (p : Point S D S.PublicKey S.Signature S.Certificate) → f.same ≡ D.PartialEq.eq
-            → CoreKeeps S.Scheme L.Elector K.Disk f s self.now (p ∷ h) → was ≡ current_of s h → HandsOut f out.old.items out.new.items (entered_deeds S.Scheme f s h p)) }
+        ensures acts { OnOk result ((f : Formats S D S.PublicKey S.Signature S.Certificate) (s : Setup S D S.Certificate)
+            (h : History S D S.PublicKey S.Signature S.Certificate) (p : Point S D S.PublicKey S.Signature S.Certificate)
+            → f.same ≡ D.PartialEq.eq
+            → CoreKeeps S.Scheme L.Elector K.Disk f s self.now (p ∷ h)
+            → was ≡ current_of s h
+            → HandsOut f out.old.items out.new.items (entered_deeds S.Scheme f s h p)) }
         ensures fault { IfErr result (λ why. why ≡ step_fault.Memory) }
     {
         let current = self.voter.current_view();
@@ -64,7 +68,10 @@ impl<S: Scheme<D> + Drop, L: Elector<S, D>, D: Digest, K: Disk> Core<S, L, D, K>
         before: View,
         proposal: &Proposal<D>,
     ) -> Result<Vec<Participant>, AllocError>
-        ensures { IfOk result (λ who. AtAll S.Scheme L.Elector K.Disk self.now (λ f s h. f.same ≡ D.PartialEq.eq → who.items ≡ recipients s.forward (leader s.voter (voter_of s h) entered) (silent S.Scheme f s h before proposal.now))) }
+        ensures { IfOk result (λ who.
+            AtAll S.Scheme L.Elector K.Disk self.now (λ f s h.
+            f.same ≡ D.PartialEq.eq
+            → who.items ≡ recipients s.forward (leader s.voter (voter_of s h) entered) (silent S.Scheme f s h before proposal.now))) }
     {
         let mut who = Vec::new(self.settings.alloc);
         for index in 0..self.settings.scheme.participants() {
@@ -78,7 +85,9 @@ impl<S: Scheme<D> + Drop, L: Elector<S, D>, D: Digest, K: Disk> Core<S, L, D, K>
 
     /// Whether this member gets the proposal of the view before the entered one.
     fn gets(&self, entered: View, before: View, proposal: &Proposal<D>, member: Participant) -> bool
-        ensures { AtAll S.Scheme L.Elector K.Disk self.now (λ f s h. f.same ≡ D.PartialEq.eq → result ≡ gets f.same s.me s.forward (leader s.voter (voter_of s h) entered) (votes_of s h before) proposal.now member) }
+        ensures { AtAll S.Scheme L.Elector K.Disk self.now (λ f s h.
+            f.same ≡ D.PartialEq.eq
+            → result ≡ gets f.same s.me s.forward (leader s.voter (voter_of s h) entered) (votes_of s h before) proposal.now member) }
     {
         if member == self.settings.owner.signer {
             return false;

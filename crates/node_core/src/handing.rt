@@ -11,7 +11,7 @@ ghost use Rattle.node_outbox.specs.Handing.{HandsOut};
 ghost use Rattle.node_core.specs.Keeps.{CoreKeeps};
 
 use crate::certificates::final_proposal;
-use crate::node_core::Core;
+use crate::node_state::Core;
 use journal_single::Disk;
 use messages_certificates::Certificate;
 use node_outbox::{hand_out, hand_out_final};
@@ -32,8 +32,14 @@ impl<S: Scheme<D> + Drop, L: Elector<S, D>, D: Digest, K: Disk> Core<S, L, D, K>
         bytes: Vec<u8>,
         out: &mut Vec<Action<S, D>>,
     ) -> Result<(), NodeFault>
-        ensures acts { OnOk result ((f : Formats S D S.PublicKey S.Signature S.Certificate) (s : Setup S D S.Certificate) (h : History S D S.PublicKey S.Signature S.Certificate) (p : Point S D S.PublicKey S.Signature S.Certificate) → f.same ≡ D.PartialEq.eq
-            → CoreKeeps S.Scheme L.Elector K.Disk f s self.now (p ∷ h) → was ≡ current_of s h → low ≡ finalized_of s h → bytes.items ≡ f.packet (of_certificate certificate) → HandsOut f out.old.items out.new.items (certificate_deeds S.Scheme f s h p certificate)) }
+        ensures acts { OnOk result ((f : Formats S D S.PublicKey S.Signature S.Certificate) (s : Setup S D S.Certificate)
+            (h : History S D S.PublicKey S.Signature S.Certificate) (p : Point S D S.PublicKey S.Signature S.Certificate)
+            → f.same ≡ D.PartialEq.eq
+            → CoreKeeps S.Scheme L.Elector K.Disk f s self.now (p ∷ h)
+            → was ≡ current_of s h
+            → low ≡ finalized_of s h
+            → bytes.items ≡ f.packet (of_certificate certificate)
+            → HandsOut f out.old.items out.new.items (certificate_deeds S.Scheme f s h p certificate)) }
         ensures fault { IfErr result (λ why. why ≡ step_fault.Memory) }
     {
         let finalized = final_proposal(&certificate, low);

@@ -4,21 +4,20 @@ ghost use Rattle.std.specs.Prelude.{◌≡◌, ◌∷◌, ◌++◌, [], ℕ, Lis
 ghost use Rattle.messages_certificates.specs.declared.artifact.Artifact.{Artifact};
 ghost use Rattle.simplex_member.specs.declared.action.Action.{Action};
 ghost use Rattle.simplex_member.specs.Deeds.{AreActions, Reports};
-ghost use Rattle.simplex_member.specs.Packet.{formats};
 ghost use Rattle.simplex_member.specs.Point.{Began, Opened};
 ghost use Rattle.simplex_member.specs.Recorded.{record_of, reported};
 ghost use Rattle.simplex_member.specs.Setup.{Setup, IsInTime, setup_of};
 ghost use Rattle.node_core.specs.SettingUp.{IsSetUp};
 ghost use Rattle.node_core.specs.GoingThrough.{AreNew, HasBegun, IsGoneThrough, IsRecordOf, StandAt, deeds_along};
 
-use crate::learning::what_is_not_recorded_is_unknown;
 use crate::recalling::{finalize, report, tell_repair, tell_voter};
 use crate::settings::Settings;
 use crate::telling::tell_votes;
+use crate::told_layers::what_is_not_recorded_is_unknown;
 use messages_certificates::Artifact;
 use node_record::{Recorded, Tables, quiet_points_leave_the_tables};
 use node_votes::{Acceptance, silent_points_leave_votes};
-use simplex_member::Action;
+use simplex_member::{Action, Speaks};
 use simplex_resolver::State as Repair;
 use simplex_state::State as Voter;
 use std::alloc::{AllocError, Global};
@@ -49,8 +48,12 @@ impl<S: Scheme<D> + Drop, L: Elector<S, D>, D: Digest> Layers<S, L, D> {
         recorded: &Recorded<S, D>,
     ) -> Result<(Self, Vec<Action<S, D>>), AllocError>
         requires { L.built_for elector (S.size settings.now.scheme.value) }
-        ensures { IfOk result (λ r. (n index : ℕ) (found : List (Artifact S D S.PublicKey S.Signature S.Certificate)) → let s = setup_of S.Scheme L.Elector config.now settings.now.scheme.value elector index in
-            IsSetUp s settings.now → IsInTime s now → IsRecordOf S.Scheme s recorded.now found → HasBegun S.Scheme L.Elector (formats D.PartialEq.eq D.spelling S.Signature.spelling S.Certificate.spelling D.reading S.Signature.reading S.Certificate.reading n) s now found r.0 r.1.items) }
+        ensures { IfOk result (λ r.
+            (n index : ℕ) (found : List (Artifact S D S.PublicKey S.Signature S.Certificate))
+            → let s = setup_of S.Scheme L.Elector config.now settings.now.scheme.value elector index in IsSetUp s settings.now
+            → IsInTime s now
+            → IsRecordOf S.Scheme s recorded.now found
+            → HasBegun S.Scheme L.Elector (⟦<S as Speaks<D>>⟧.formats n) s now found r.0 r.1.items) }
     {
         let mut layers = Layers::set_up(settings, config, elector, now)?;
         match layers.replay(settings.alloc, now, config.genesis, recorded) {
@@ -68,7 +71,7 @@ impl<S: Scheme<D> + Drop, L: Elector<S, D>, D: Digest> Layers<S, L, D> {
     ) -> Result<Self, AllocError>
         requires { L.built_for elector (S.size settings.now.scheme.value) }
         ensures { IfOk result (λ layers. (n index : ℕ) → let s = setup_of S.Scheme L.Elector config.now settings.now.scheme.value elector index in
-            IsSetUp s settings.now → AreNew S.Scheme L.Elector (formats D.PartialEq.eq D.spelling S.Signature.spelling S.Certificate.spelling D.reading S.Signature.reading S.Certificate.reading n) s now layers) }
+            IsSetUp s settings.now → AreNew S.Scheme L.Elector (⟦<S as Speaks<D>>⟧.formats n) s now layers) }
     {
         let alloc = settings.alloc;
         let owner = settings.owner;
@@ -101,8 +104,13 @@ impl<S: Scheme<D> + Drop, L: Elector<S, D>, D: Digest> Layers<S, L, D> {
         genesis: D,
         recorded: &Recorded<S, D>,
     ) -> Result<Vec<Action<S, D>>, AllocError>
-        ensures { IfOk result (λ out. (n : ℕ) (s : Setup S D S.Certificate) (found : List (Artifact S D S.PublicKey S.Signature S.Certificate)) → genesis ≡ s.genesis → IsInTime s now → IsRecordOf S.Scheme s recorded.now found
-            → AreNew S.Scheme L.Elector (formats D.PartialEq.eq D.spelling S.Signature.spelling S.Certificate.spelling D.reading S.Signature.reading S.Certificate.reading n) s now self.old → HasBegun S.Scheme L.Elector (formats D.PartialEq.eq D.spelling S.Signature.spelling S.Certificate.spelling D.reading S.Signature.reading S.Certificate.reading n) s now found self.new out.items) }
+        ensures { IfOk result (λ out.
+            (n : ℕ) (s : Setup S D S.Certificate) (found : List (Artifact S D S.PublicKey S.Signature S.Certificate))
+            → genesis ≡ s.genesis
+            → IsInTime s now
+            → IsRecordOf S.Scheme s recorded.now found
+            → AreNew S.Scheme L.Elector (⟦<S as Speaks<D>>⟧.formats n) s now self.old
+            → HasBegun S.Scheme L.Elector (⟦<S as Speaks<D>>⟧.formats n) s now found self.new out.items) }
     {
         self.start(now, genesis)?;
         let mut out = Vec::new(alloc);
@@ -114,7 +122,10 @@ impl<S: Scheme<D> + Drop, L: Elector<S, D>, D: Digest> Layers<S, L, D> {
 
     /// Starts the voter at this moment, and enters its first view.
     fn start(&mut self, now: u64, genesis: D) -> Result<(), AllocError>
-        ensures { OnOk result ((n : ℕ) (s : Setup S D S.Certificate) → genesis ≡ s.genesis → AreNew S.Scheme L.Elector (formats D.PartialEq.eq D.spelling S.Signature.spelling S.Certificate.spelling D.reading S.Signature.reading S.Certificate.reading n) s now self.old → StandAt S.Scheme L.Elector (formats D.PartialEq.eq D.spelling S.Signature.spelling S.Certificate.spelling D.reading S.Signature.reading S.Certificate.reading n) s self.new (Opened now ∷ [])) }
+        ensures { OnOk result ((n : ℕ) (s : Setup S D S.Certificate)
+            → genesis ≡ s.genesis
+            → AreNew S.Scheme L.Elector (⟦<S as Speaks<D>>⟧.formats n) s now self.old
+            → StandAt S.Scheme L.Elector (⟦<S as Speaks<D>>⟧.formats n) s self.new (Opened now ∷ [])) }
     {
         silent_points_leave_votes::<S, D>();
         self.voter.set_genesis(now, genesis)?;
@@ -130,9 +141,10 @@ impl<S: Scheme<D> + Drop, L: Elector<S, D>, D: Digest> Layers<S, L, D> {
         recorded: &Recorded<S, D>,
         out: &mut Vec<Action<S, D>>,
     ) -> Result<(), AllocError>
-        ensures { OnOk result ((n now : ℕ) (s : Setup S D S.Certificate) (found : List (Artifact S D S.PublicKey S.Signature S.Certificate)) → IsRecordOf S.Scheme s recorded.now found
-            → IsGoneThrough S.Scheme L.Elector (formats D.PartialEq.eq D.spelling S.Signature.spelling S.Certificate.spelling D.reading S.Signature.reading S.Certificate.reading n) s now found found self.old out.old.items
-            → IsGoneThrough S.Scheme L.Elector (formats D.PartialEq.eq D.spelling S.Signature.spelling S.Certificate.spelling D.reading S.Signature.reading S.Certificate.reading n) s now found [] self.new out.new.items) }
+        ensures { OnOk result ((n now : ℕ) (s : Setup S D S.Certificate) (found : List (Artifact S D S.PublicKey S.Signature S.Certificate))
+            → IsRecordOf S.Scheme s recorded.now found
+            → IsGoneThrough S.Scheme L.Elector (⟦<S as Speaks<D>>⟧.formats n) s now found found self.old out.old.items
+            → IsGoneThrough S.Scheme L.Elector (⟦<S as Speaks<D>>⟧.formats n) s now found [] self.new out.new.items) }
     {
         let artifacts = recorded.artifacts();
         for artifact in artifacts {
@@ -149,10 +161,14 @@ impl<S: Scheme<D> + Drop, L: Elector<S, D>, D: Digest> Layers<S, L, D> {
         recorded: &Recorded<S, D>,
         artifact: &Artifact<S, D>,
     ) -> Result<(), AllocError>
-        ensures { OnOk result ((n now : ℕ) (s : Setup S D S.Certificate) (found rest : List (Artifact S D S.PublicKey S.Signature S.Certificate)) (before after : List (Action S D S.PublicKey S.Signature S.Certificate)) → IsRecordOf S.Scheme s recorded.now found
-            → (gone : IsGoneThrough S.Scheme L.Elector (formats D.PartialEq.eq D.spelling S.Signature.spelling S.Certificate.spelling D.reading S.Signature.reading S.Certificate.reading n) s now found (artifact.now ∷ rest) self.old before)
-            → AreActions (formats D.PartialEq.eq D.spelling S.Signature.spelling S.Certificate.spelling D.reading S.Signature.reading S.Certificate.reading n) after (deeds_along S.Scheme (formats D.PartialEq.eq D.spelling S.Signature.spelling S.Certificate.spelling D.reading S.Signature.reading S.Certificate.reading n) s gone.h ++ map Reports (reported (record_of gone.h) artifact.now))
-            → IsGoneThrough S.Scheme L.Elector (formats D.PartialEq.eq D.spelling S.Signature.spelling S.Certificate.spelling D.reading S.Signature.reading S.Certificate.reading n) s now found rest self.new after) }
+        ensures { OnOk result ((n now : ℕ) (s : Setup S D S.Certificate)
+            (found rest : List (Artifact S D S.PublicKey S.Signature S.Certificate))
+            (before after : List (Action S D S.PublicKey S.Signature S.Certificate))
+            → IsRecordOf S.Scheme s recorded.now found
+            → (gone : IsGoneThrough S.Scheme L.Elector (⟦<S as Speaks<D>>⟧.formats n) s now found (artifact.now ∷ rest) self.old before)
+            → AreActions (⟦<S as Speaks<D>>⟧.formats n) after
+            (deeds_along S.Scheme (⟦<S as Speaks<D>>⟧.formats n) s gone.h ++ map Reports (reported (record_of gone.h) artifact.now))
+            → IsGoneThrough S.Scheme L.Elector (⟦<S as Speaks<D>>⟧.formats n) s now found rest self.new after) }
     {
         quiet_points_leave_the_tables::<S, D>();
         what_is_not_recorded_is_unknown::<S, D>();
@@ -170,10 +186,11 @@ impl<S: Scheme<D> + Drop, L: Elector<S, D>, D: Digest> Layers<S, L, D> {
 
     /// Ends going through the record, once its highest finalization was handed out: what need not be kept is dropped.
     fn end(&mut self, alloc: Global) -> Result<(), AllocError>
-        ensures { OnOk result ((n now : ℕ) (s : Setup S D S.Certificate) (found : List (Artifact S D S.PublicKey S.Signature S.Certificate)) (before after : List (Action S D S.PublicKey S.Signature S.Certificate))
-            → (gone : IsGoneThrough S.Scheme L.Elector (formats D.PartialEq.eq D.spelling S.Signature.spelling S.Certificate.spelling D.reading S.Signature.reading S.Certificate.reading n) s now found [] self.old before)
-            → AreActions (formats D.PartialEq.eq D.spelling S.Signature.spelling S.Certificate.spelling D.reading S.Signature.reading S.Certificate.reading n) after (deeds_along S.Scheme (formats D.PartialEq.eq D.spelling S.Signature.spelling S.Certificate.spelling D.reading S.Signature.reading S.Certificate.reading n) s (Began ∷ gone.h))
-            → HasBegun S.Scheme L.Elector (formats D.PartialEq.eq D.spelling S.Signature.spelling S.Certificate.spelling D.reading S.Signature.reading S.Certificate.reading n) s now found self.new after) }
+        ensures { OnOk result ((n now : ℕ) (s : Setup S D S.Certificate) (found : List (Artifact S D S.PublicKey S.Signature S.Certificate))
+            (before after : List (Action S D S.PublicKey S.Signature S.Certificate))
+            → (gone : IsGoneThrough S.Scheme L.Elector (⟦<S as Speaks<D>>⟧.formats n) s now found [] self.old before)
+            → AreActions (⟦<S as Speaks<D>>⟧.formats n) after (deeds_along S.Scheme (⟦<S as Speaks<D>>⟧.formats n) s (Began ∷ gone.h))
+            → HasBegun S.Scheme L.Elector (⟦<S as Speaks<D>>⟧.formats n) s now found self.new after) }
     {
         silent_points_leave_votes::<S, D>();
         quiet_points_leave_the_tables::<S, D>();

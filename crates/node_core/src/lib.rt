@@ -8,19 +8,19 @@ mod entered;
 mod entering;
 mod handing;
 mod layers;
-mod learning;
-mod node_core;
+mod node_state;
 mod recalling;
 mod saying;
 mod settings;
 mod telling;
+mod told_layers;
 
 pub use casting::tell_own_vote;
 pub use certificates::{final_proposal, tell_voter, tell_votes};
 pub use entered::enter;
 pub use layers::Layers;
-pub use learning::{
+pub use node_state::Core;
+pub use settings::Settings;
+pub use told_layers::{
     give, give_verdict, judge_repair, update_repair, what_is_not_recorded_is_unknown,
 };
-pub use node_core::Core;
-pub use settings::Settings;

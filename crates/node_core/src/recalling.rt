@@ -11,24 +11,24 @@ ghost use Rattle.simplex_record.specs.declared.owner.Owner.{Owner};
 ghost use Rattle.voter_history.specs.History.{seen};
 ghost use Rattle.voter_rounds.specs.Rounds.{Takes};
 ghost use Rattle.simplex_state.specs.State as voting;
-ghost use Rattle.simplex_resolver.specs.History.{Judged};
+ghost use Rattle.simplex_resolver.specs.RepairHistory.{Judged};
 ghost use Rattle.simplex_resolver.specs.Keeps as repairing;
 ghost use Rattle.node_record.specs.Recorded.{HoldsRecord};
 ghost use Rattle.simplex_member.specs.Deeds.{AreActions, Deed, Finalizes, Reports};
 ghost use Rattle.simplex_member.specs.Layers.{finds, repair_found, repair_of};
-ghost use Rattle.simplex_member.specs.Packet.{Formats, formats};
+ghost use Rattle.simplex_member.specs.Packet.{Formats};
 ghost use Rattle.simplex_member.specs.Point.{History};
 ghost use Rattle.simplex_member.specs.Recorded.{finalization_in, notarization_in, record_of, reported};
 ghost use Rattle.simplex_member.specs.Setup.{Setup};
 ghost use Rattle.node_core.specs.GoingThrough.{IsRecordOf};
 ghost use Rattle.node_core.specs.Learning.{IsNew};
 
-use crate::learning::{give, give_verdict, judge_repair, update_repair};
 use crate::saying::Said;
+use crate::told_layers::{give, give_verdict, judge_repair, update_repair};
 use messages_certificates::Artifact;
 use node_outbox::{hand_out, report_if};
 use node_record::Recorded;
-use simplex_member::Action;
+use simplex_member::{Action, Speaks};
 use simplex_messages::Activity;
 use simplex_resolver::State as Repair;
 use simplex_state::State as Voter;
@@ -47,7 +47,11 @@ pub(crate) fn tell_voter<S: Scheme<D> + Drop, L: Elector<S, D>, D: Digest>(
     now: u64,
     artifact: &Artifact<S, D>,
 ) -> Result<(), AllocError>
-    ensures { OnOk result (voting.AtEach S.Scheme L.Elector voter.old (λ s h. HasRoom s.length (artifact_round artifact.now).view → IsNew s h artifact.now → (taken : Bool) × Takes (seen s h) artifact.now taken × voting.Keeps S.Scheme L.Elector s voter.new (finds now artifact.now taken ++ h))) }
+    ensures { OnOk result (voting.AtEach S.Scheme L.Elector voter.old (λ s h.
+        HasRoom s.length (artifact_round artifact.now).view
+        → IsNew s h artifact.now
+        → (taken : Bool) × Takes (seen s h) artifact.now taken × voting.Keeps S.Scheme L.Elector s voter.new
+        (finds now artifact.now taken ++ h))) }
 {
     voter.replay(artifact)?;
     match Said::from(artifact.duplicate(alloc)?) {
@@ -71,9 +75,13 @@ pub(crate) fn tell_repair<S: Scheme<D>, D: Digest>(
     recorded: &Recorded<S, D>,
     artifact: &Artifact<S, D>,
 ) -> Result<(), AllocError>
-    ensures { OnOk result ((n : ℕ) (s : Setup S D S.Certificate) (h : History S D S.PublicKey S.Signature S.Certificate) (rest : List (Artifact S D S.PublicKey S.Signature S.Certificate)) → HasRoom s.voter.length (artifact_round artifact.now).view → IsRecordOf S.Scheme s recorded.now (record_of h ++ artifact.now ∷ rest)
-        → repairing.Keeps s.voter.length repair.old (repair_of (formats D.PartialEq.eq D.spelling S.Signature.spelling S.Certificate.spelling D.reading S.Signature.reading S.Certificate.reading n) h)
-        → repairing.Keeps s.voter.length repair.new (repair_found (formats D.PartialEq.eq D.spelling S.Signature.spelling S.Certificate.spelling D.reading S.Signature.reading S.Certificate.reading n) h artifact.now ++ repair_of (formats D.PartialEq.eq D.spelling S.Signature.spelling S.Certificate.spelling D.reading S.Signature.reading S.Certificate.reading n) h)) }
+    ensures { OnOk result ((n : ℕ) (s : Setup S D S.Certificate) (h : History S D S.PublicKey S.Signature S.Certificate)
+        (rest : List (Artifact S D S.PublicKey S.Signature S.Certificate))
+        → HasRoom s.voter.length (artifact_round artifact.now).view
+        → IsRecordOf S.Scheme s recorded.now (record_of h ++ artifact.now ∷ rest)
+        → repairing.Keeps s.voter.length repair.old (repair_of (⟦<S as Speaks<D>>⟧.formats n) h)
+        → repairing.Keeps s.voter.length repair.new
+        (repair_found (⟦<S as Speaks<D>>⟧.formats n) h artifact.now ++ repair_of (⟦<S as Speaks<D>>⟧.formats n) h)) }
 {
     match Said::from(artifact.duplicate(alloc)?) {
         Said::Vote(_) => Ok(()),
@@ -93,8 +101,13 @@ fn judge<S: Scheme<D>, D: Digest>(
     view: View,
     ok: bool,
 ) -> Result<(), AllocError>
-    ensures { OnOk result ((owner : Owner) (xs : List (Artifact S D S.PublicKey S.Signature S.Certificate)) → HoldsRecord owner recorded.now xs
-        → (c : Notarization S D S.PublicKey S.Signature S.Certificate) × (notarization_in xs view ≡ Some c) × repairing.AtEach repair.old (λ views items. HasRoom views view → repairing.Keeps views repair.new (Judged view (any_certificate_spelling D.spelling S.Certificate.spelling (as_notarization c)) ok ∷ items))) }
+    ensures { OnOk result ((owner : Owner) (xs : List (Artifact S D S.PublicKey S.Signature S.Certificate))
+        → HoldsRecord owner recorded.now xs
+        → (c : Notarization S D S.PublicKey S.Signature S.Certificate) × (notarization_in xs view ≡ Some c) × repairing.AtEach repair.old
+        (λ views items.
+        HasRoom views view
+        → repairing.Keeps views repair.new
+        (Judged view (any_certificate_spelling D.spelling S.Certificate.spelling (as_notarization c)) ok ∷ items))) }
 {
     match recorded.notarization(view) {
         Some(certificate) => {
@@ -119,8 +132,12 @@ pub(crate) fn report<S: Scheme<D>, D: Digest>(
     artifact: &Artifact<S, D>,
     out: &mut Vec<Action<S, D>>,
 ) -> Result<(), AllocError>
-    ensures { OnOk result ((f : Formats S D S.PublicKey S.Signature S.Certificate) (s : Setup S D S.Certificate) (before rest : List (Artifact S D S.PublicKey S.Signature S.Certificate)) (deeds : List (Deed S D S.PublicKey S.Signature S.Certificate)) → IsRecordOf S.Scheme s recorded.now (before ++ artifact.now ∷ rest)
-        → AreActions f out.old.items deeds → AreActions f out.new.items (deeds ++ map Reports (reported before artifact.now))) }
+    ensures { OnOk result ((f : Formats S D S.PublicKey S.Signature S.Certificate) (s : Setup S D S.Certificate)
+        (before rest : List (Artifact S D S.PublicKey S.Signature S.Certificate))
+        (deeds : List (Deed S D S.PublicKey S.Signature S.Certificate))
+        → IsRecordOf S.Scheme s recorded.now (before ++ artifact.now ∷ rest)
+        → AreActions f out.old.items deeds
+        → AreActions f out.new.items (deeds ++ map Reports (reported before artifact.now))) }
 {
     let report = report_of(alloc, recorded, artifact)?;
     match report_if(report, out) {
@@ -135,7 +152,10 @@ fn report_of<S: Scheme<D>, D: Digest>(
     recorded: &Recorded<S, D>,
     artifact: &Artifact<S, D>,
 ) -> Result<Option<Activity<S, D>>, AllocError>
-    ensures { IfOk result (λ report. (s : Setup S D S.Certificate) (before rest : List (Artifact S D S.PublicKey S.Signature S.Certificate)) → IsRecordOf S.Scheme s recorded.now (before ++ artifact.now ∷ rest) → option_to_list report ≡ reported before artifact.now) }
+    ensures { IfOk result (λ report.
+        (s : Setup S D S.Certificate) (before rest : List (Artifact S D S.PublicKey S.Signature S.Certificate))
+        → IsRecordOf S.Scheme s recorded.now (before ++ artifact.now ∷ rest)
+        → option_to_list report ≡ reported before artifact.now) }
 {
     match Said::from(artifact.duplicate(alloc)?) {
         Said::Vote(vote) => Ok(Some(Activity::from(vote))),
@@ -151,7 +171,10 @@ fn report_of_verdict<S: Scheme<D>, D: Digest>(
     view: View,
     ok: bool,
 ) -> Result<Option<Activity<S, D>>, AllocError>
-    ensures { IfOk result (λ report. (owner : Owner) (xs : List (Artifact S D S.PublicKey S.Signature S.Certificate)) → HoldsRecord owner recorded.now xs → report ≡ (if ok then option_map activity.Certification (notarization_in xs view) else None)) }
+    ensures { IfOk result (λ report.
+        (owner : Owner) (xs : List (Artifact S D S.PublicKey S.Signature S.Certificate))
+        → HoldsRecord owner recorded.now xs
+        → report ≡ (if ok then option_map activity.Certification (notarization_in xs view) else None)) }
 {
     if !ok {
         return Ok(None);
@@ -172,8 +195,12 @@ pub(crate) fn finalize<S: Scheme<D>, D: Digest>(
     view: View,
     out: &mut Vec<Action<S, D>>,
 ) -> Result<(), AllocError>
-    ensures { OnOk result ((f : Formats S D S.PublicKey S.Signature S.Certificate) (owner : Owner) (xs : List (Artifact S D S.PublicKey S.Signature S.Certificate)) (deeds : List (Deed S D S.PublicKey S.Signature S.Certificate)) → HoldsRecord owner recorded.now xs
-        → AreActions f out.old.items deeds → AreActions f out.new.items (deeds ++ map (λ (c : Finalization S D S.PublicKey S.Signature S.Certificate). Finalizes c.proposal) (option_to_list (finalization_in xs view)))) }
+    ensures { OnOk result ((f : Formats S D S.PublicKey S.Signature S.Certificate) (owner : Owner)
+        (xs : List (Artifact S D S.PublicKey S.Signature S.Certificate)) (deeds : List (Deed S D S.PublicKey S.Signature S.Certificate))
+        → HoldsRecord owner recorded.now xs
+        → AreActions f out.old.items deeds
+        → AreActions f out.new.items (deeds ++ map (λ (c : Finalization S D S.PublicKey S.Signature S.Certificate). Finalizes c.proposal)
+        (option_to_list (finalization_in xs view)))) }
 {
     match recorded.finalization(view) {
         Some(finalization) => match hand_out(Action::Finalized(finalization.proposal), out) {

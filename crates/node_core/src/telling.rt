@@ -4,7 +4,7 @@ ghost use Rattle.std.specs.Prelude.{◌≡◌, Bool, OnOk};
 ghost use Rattle.types_core.specs.Positions.{HasRoom};
 ghost use Rattle.messages_certificates.specs.Artifact.{artifact_round};
 ghost use Rattle.simplex_record.specs.Lawful.{Verifies};
-ghost use Rattle.node_votes.specs.Keeps as accepting;
+ghost use Rattle.node_votes.specs.KeepsVotes as accepting;
 ghost use Rattle.simplex_member.specs.Layers.{floor_of};
 ghost use Rattle.simplex_member.specs.Point.{Found};
 ghost use Rattle.simplex_member.specs.Setup.{owner_of};
@@ -27,7 +27,12 @@ pub(crate) fn tell_votes<S: Scheme<D> + Drop, D: Digest>(
     floor: View,
     artifact: &Artifact<S, D>,
 ) -> Result<(), AllocError>
-    ensures { OnOk result (accepting.AtEach S.Scheme D.PartialEq.eq acceptance.old (λ s h. (taken : Bool) → floor ≡ floor_of s h → HasRoom s.voter.length (artifact_round artifact.now).view → Verifies (S.attests s.voter.scheme) (S.certifies s.voter.scheme) (owner_of s) artifact.now → accepting.KeepsAhead S.Scheme D.PartialEq.eq s acceptance.new h (Found artifact.now taken))) }
+    ensures { OnOk result (accepting.AtEach S.Scheme D.PartialEq.eq acceptance.old (λ s h.
+        (taken : Bool)
+        → floor ≡ floor_of s h
+        → HasRoom s.voter.length (artifact_round artifact.now).view
+        → Verifies (S.attests s.voter.scheme) (S.certifies s.voter.scheme) (owner_of s) artifact.now
+        → accepting.KeepsAhead S.Scheme D.PartialEq.eq s acceptance.new h (Found artifact.now taken))) }
 {
     silent_points_leave_votes::<S, D>();
     match Said::from(artifact.duplicate(alloc)?) {

@@ -38,8 +38,8 @@ use Rattle.simplex_state.specs.declared.state.State.{State}
 use Rattle.simplex_state.specs.State as voting
 use Rattle.simplex_state.specs.Votes.{IsOwn, IsOwnNullify}
 use Rattle.node_votes.specs.declared.acceptance.Acceptance.{Acceptance}
-use Rattle.node_votes.specs.Keeps as accepting
-use Rattle.node_votes.specs.Keeps.{IsOpenTo, QuietStays}
+use Rattle.node_votes.specs.KeepsVotes as accepting
+use Rattle.node_votes.specs.KeepsVotes.{IsOpenTo, QuietStays}
 use Rattle.journal_single.specs.declared.disk.Disk as disk
 use Rattle.journal_single.specs.Disk.{Call, LeavesOnly, counted}
 use Rattle.journal_single.specs.Moments.{weaker}
@@ -64,7 +64,7 @@ use Rattle.node_outbox.specs.Handing.{HandsOut, hands_as, nothing_more}
 use Rattle.node_requests.specs.declared.acted.Acted.{Acted}
 use Rattle.node_requests.specs.declared.acted.Acted.TheVariants as came
 use Rattle.node_requests.specs.Asking.{AskerKeeps, is_none}
-use Rattle.node_core.specs.declared.node_core.Core.{Core}
+use Rattle.node_core.specs.declared.node_state.Core.{Core}
 use Rattle.node_due.specs.Acting.{ComesTo, HasActed, IsLeftByActs, WasTried}
 use Rattle.node_due.specs.Ahead.{VoterIsAhead}
 use Rattle.node_core.specs.Keeps.{CoreKeeps, disk_of}

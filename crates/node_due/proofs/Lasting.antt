@@ -19,7 +19,7 @@ use Rattle.voter_rules.specs.Requests.{CertificateIsWanted, CertifyIsDue, IsInva
 use Rattle.voter_rules.specs.VotesDue.{NotarizeIsDue, FinalizeIsDue}
 use Rattle.voter_laws.specs.Matching.{LatchChangesNothing, PollChangesNothing}
 use Rattle.voter_laws.specs.Missing.{IsMissing}
-use Rattle.voter_laws.specs.Stepping.{choose_holds, put_holds}
+use Rattle.voter_laws.specs.Steps.{choose_holds, put_holds}
 use Rattle.simplex_member.specs.Allowed.{HasReason}
 use Rattle.simplex_member.specs.Layers.{current_of, known_of, latest, voter_of}
 use Rattle.simplex_member.specs.Member.{LatchIsDue}

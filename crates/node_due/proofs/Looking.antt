@@ -21,7 +21,7 @@ use Rattle.voter_rules.specs.Requests.{CertificateIsWanted, CertifyIsDue, IsInva
 use Rattle.voter_rules.specs.VotesDue.{FinalizeIsDue, NotarizeIsDue}
 use Rattle.voter_laws.specs.Matching.{PollChangesNothing}
 use Rattle.voter_laws.specs.Missing.{IsMissing}
-use Rattle.voter_laws.specs.Stepping.{choose_holds, put_holds}
+use Rattle.voter_laws.specs.Steps.{choose_holds, put_holds}
 use Rattle.simplex_resolver.specs.declared.ask.Kind as repair
 use Rattle.simplex_member.specs.Allowed.{HasReason, IsSilent}
 use Rattle.simplex_member.specs.Asked.{HasNumber}

@@ -22,10 +22,10 @@ use Rattle.batcher_verifier.specs.ConstructionResult.{IsBatch}
 use Rattle.batcher_verifier.specs.History.{next_kind}
 use Rattle.node_votes.specs.declared.acceptance.Acceptance.{Acceptance}
 use Rattle.node_votes.specs.declared.due.Due.TheVariants as due
-use Rattle.node_votes.specs.Keeps as accepting
+use Rattle.node_votes.specs.KeepsVotes as accepting
 use Rattle.simplex_resolver.specs.declared.state.State as resolving
 use Rattle.simplex_resolver.specs.Keeps as repairing
-use Rattle.simplex_resolver.specs.History.{item_of}
+use Rattle.simplex_resolver.specs.RepairHistory.{item_of}
 use Rattle.journal_single.specs.declared.disk.Disk as disk
 use Rattle.journal_single.specs.Disk.{Call, LeavesOnly}
 use Rattle.journal_single.specs.Moments.{weaker}
@@ -49,7 +49,7 @@ use Rattle.node_core.specs.Learning.{IsUnknown, first_of}
 use Rattle.node_outbox.specs.Handing.{HandsOut, both_more, hands_as, nothing_more}
 use Rattle.node_requests.specs.declared.acted.Acted.{Acted}
 use Rattle.node_requests.specs.declared.acted.Acted.TheVariants as came
-use Rattle.node_core.specs.declared.node_core.Core.{Core}
+use Rattle.node_core.specs.declared.node_state.Core.{Core}
 use Rattle.node_due.specs.Acting.{ComesTo, IsLeftByActs, WasTried}
 use Rattle.node_due.specs.Ahead.{VotesAreAhead, VotesGoAhead}
 use Rattle.node_core.specs.Keeps.{CoreKeeps, disk_of}

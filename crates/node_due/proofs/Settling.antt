@@ -24,7 +24,7 @@ use Rattle.node_outbox.specs.Handing.{both_more, hands_as, nothing_more}
 use Rattle.node_requests.specs.Asking.{is_silent}
 use Rattle.node_requests.specs.declared.acted.Acted.{Acted}
 use Rattle.node_requests.specs.declared.acted.Acted.TheVariants as came
-use Rattle.node_core.specs.declared.node_core.Core.{Core}
+use Rattle.node_core.specs.declared.node_state.Core.{Core}
 use Rattle.node_due.specs.Acting.{ComesTo, DidNothing, DidSomething, HasActed, HasSettled, IsLeftByActs, WasSettled, WasTried}
 use Rattle.node_core.specs.Keeps.{CoreKeeps, disk_of}
 use Rattle.node_due.specs.NoneDue.{NoVoteToCast, NothingByVotes, NothingMoreToAsk, NothingToAskOnProposals}

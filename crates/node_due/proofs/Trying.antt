@@ -18,10 +18,10 @@ use Rattle.voter_laws.specs.Matching.{PollChangesNothing}
 use Rattle.simplex_state.specs.declared.state.State.{State}
 use Rattle.simplex_state.specs.State as voting
 use Rattle.simplex_resolver.specs.Keeps as repairing
-use Rattle.simplex_resolver.specs.History.{Item}
+use Rattle.simplex_resolver.specs.RepairHistory.{Item}
 use Rattle.node_votes.specs.declared.acceptance.Acceptance.{Acceptance}
-use Rattle.node_votes.specs.Keeps as accepting
-use Rattle.node_votes.specs.Keeps.{QuietStays, SaysNothing}
+use Rattle.node_votes.specs.KeepsVotes as accepting
+use Rattle.node_votes.specs.KeepsVotes.{QuietStays, SaysNothing}
 use Rattle.node_record.specs.declared.ledger.Ledger.{Ledger}
 use Rattle.node_record.specs.declared.tables.Tables.{Tables}
 use Rattle.node_record.specs.Ledger as ledgers
@@ -44,7 +44,7 @@ use Rattle.node_requests.specs.Asking.{AskerKeeps, ComesToAsk, HasAsked, is_ask,
 use Rattle.node_requests.specs.Fetching.{ComesToFetch, HasFetched, RepairerKeeps, is_fetch}
 use Rattle.node_requests.specs.Following.{FollowsLeader}
 use Rattle.node_requests.specs.Leading.{NamesLeader, NoLeaderToName}
-use Rattle.node_core.specs.declared.node_core.Core.{Core}
+use Rattle.node_core.specs.declared.node_state.Core.{Core}
 use Rattle.node_due.specs.Acting.{ComesTo, HasActed, IsLeftByActs, WasSettled, WasTried}
 use Rattle.node_core.specs.Keeps.{CoreKeeps, disk_of}
 use Rattle.node_due.specs.NoneDue.{NoLeaderToFollow}

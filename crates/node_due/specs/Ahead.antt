@@ -6,12 +6,12 @@ use Rattle.journal_single.specs.declared.disk.Disk as disk
 use Rattle.simplex_state.specs.declared.state.State.{State}
 use Rattle.simplex_state.specs.State as voting
 use Rattle.node_votes.specs.declared.acceptance.Acceptance.{Acceptance}
-use Rattle.node_votes.specs.Keeps as accepting
+use Rattle.node_votes.specs.KeepsVotes as accepting
 use Rattle.simplex_member.specs.Layers.{voter_of}
 use Rattle.simplex_member.specs.Packet.{Formats}
 use Rattle.simplex_member.specs.Point.{Point, History}
 use Rattle.simplex_member.specs.Setup.{Setup}
-use Rattle.node_core.specs.declared.node_core.Core.{Core}
+use Rattle.node_core.specs.declared.node_state.Core.{Core}
 use Rattle.node_core.specs.Keeps.{CoreKeeps}
 
 module _ {S L D P G C K : Type 0} (g : Ghosts S D P G C) (e : elector.Ghosts L S D P G C) (k : disk.Ghosts K) (f : Formats S D P G C) (s : Setup S D C) where

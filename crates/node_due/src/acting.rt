@@ -2,7 +2,6 @@
 
 ghost use Rattle.node_requests.specs.Asking.{is_look, is_none, is_silent};
 ghost use Rattle.simplex_member.specs.Member.{NoneDue};
-ghost use Rattle.simplex_member.specs.Packet.{formats};
 ghost use Rattle.node_due.specs.Acting.{WasSettled, WasTried};
 ghost use Rattle.node_core.specs.Keeps.{AtOwn, disk_of};
 ghost use Rattle.node_due.specs.NoneDue.{NoVoteToCast, NothingByVotes, NothingMoreToAsk, NothingToAskOnProposals};
@@ -11,14 +10,14 @@ ghost use Rattle.node_core.specs.Telling.{TellsOfDisk};
 use crate::asking::{
     say_when, try_build, try_return, try_silence, try_verdicts, try_verification, try_views,
 };
+use crate::casting_votes::{try_finalize, try_notarize, try_nullify};
 use crate::constructing::{try_leader, try_votes_of_views};
 use crate::following::try_to_follow;
-use crate::voting::{try_finalize, try_notarize, try_nullify};
 use journal_single::Disk;
 use node_core::Core;
 use node_record::a_ledger_at_rest_leaves_its_record;
 use node_requests::Acted;
-use simplex_member::{Action, NodeFault};
+use simplex_member::{Action, NodeFault, Speaks};
 use types_core::{Digest, Scheme};
 use types_terms::Elector;
 use voter_laws::a_latch_changes_nothing_due;
@@ -33,7 +32,8 @@ pub fn settle<S: Scheme<D> + Drop, L: Elector<S, D>, D: Digest, K: Disk>(
     core: &mut Core<S, L, D, K>,
     out: &mut Vec<Action<S, D>>,
 ) -> Result<(), NodeFault>
-    ensures settled { AtOwn S.Scheme L.Elector K.Disk (formats D.PartialEq.eq D.spelling S.Signature.spelling S.Certificate.spelling D.reading S.Signature.reading S.Certificate.reading) core.old (λ f s h. WasSettled S.Scheme L.Elector K.Disk f s core.old core.new h out.old.items out.new.items result) }
+    ensures settled { AtOwn S.Scheme L.Elector K.Disk ⟦<S as Speaks<D>>⟧.formats core.old
+        (λ f s h. WasSettled S.Scheme L.Elector K.Disk f s core.old core.new h out.old.items out.new.items result) }
     ensures faults { TellsOfDisk K.Disk (disk_of core.old) (disk_of core.new) result }
 {
     a_ledger_at_rest_leaves_its_record::<S, D, K>();
@@ -52,7 +52,8 @@ fn act<S: Scheme<D> + Drop, L: Elector<S, D>, D: Digest, K: Disk>(
     core: &mut Core<S, L, D, K>,
     out: &mut Vec<Action<S, D>>,
 ) -> Result<Acted, NodeFault>
-    ensures tried { AtOwn S.Scheme L.Elector K.Disk (formats D.PartialEq.eq D.spelling S.Signature.spelling S.Certificate.spelling D.reading S.Signature.reading S.Certificate.reading) core.old (λ f s h. WasTried S.Scheme L.Elector K.Disk f s is_silent (NoneDue S.Scheme f s) core.old core.new h out.old.items out.new.items result) }
+    ensures tried { AtOwn S.Scheme L.Elector K.Disk ⟦<S as Speaks<D>>⟧.formats core.old (λ f s h.
+        WasTried S.Scheme L.Elector K.Disk f s is_silent (NoneDue S.Scheme f s) core.old core.new h out.old.items out.new.items result) }
     ensures faults { TellsOfDisk K.Disk (disk_of core.old) (disk_of core.new) result }
 {
     a_latch_changes_nothing_due::<S, D>();
@@ -79,7 +80,9 @@ fn ask_on_proposals<S: Scheme<D> + Drop, L: Elector<S, D>, D: Digest, K: Disk>(
     core: &mut Core<S, L, D, K>,
     out: &mut Vec<Action<S, D>>,
 ) -> Result<Acted, NodeFault>
-    ensures tried { AtOwn S.Scheme L.Elector K.Disk (formats D.PartialEq.eq D.spelling S.Signature.spelling S.Certificate.spelling D.reading S.Signature.reading S.Certificate.reading) core.old (λ f s h. WasTried S.Scheme L.Elector K.Disk f s is_silent (NothingToAskOnProposals S.Scheme f s) core.old core.new h out.old.items out.new.items result) }
+    ensures tried { AtOwn S.Scheme L.Elector K.Disk ⟦<S as Speaks<D>>⟧.formats core.old (λ f s h.
+        WasTried S.Scheme L.Elector K.Disk f s is_silent (NothingToAskOnProposals S.Scheme f s) core.old core.new h out.old.items
+        out.new.items result) }
     ensures faults { TellsOfDisk K.Disk (disk_of core.old) (disk_of core.new) result }
 {
     a_latch_changes_nothing_due::<S, D>();
@@ -96,7 +99,8 @@ fn go_by_votes<S: Scheme<D> + Drop, L: Elector<S, D>, D: Digest, K: Disk>(
     core: &mut Core<S, L, D, K>,
     out: &mut Vec<Action<S, D>>,
 ) -> Result<Acted, NodeFault>
-    ensures tried { AtOwn S.Scheme L.Elector K.Disk (formats D.PartialEq.eq D.spelling S.Signature.spelling S.Certificate.spelling D.reading S.Signature.reading S.Certificate.reading) core.old (λ f s h. WasTried S.Scheme L.Elector K.Disk f s is_none (NothingByVotes S.Scheme f s) core.old core.new h out.old.items out.new.items result) }
+    ensures tried { AtOwn S.Scheme L.Elector K.Disk ⟦<S as Speaks<D>>⟧.formats core.old (λ f s h.
+        WasTried S.Scheme L.Elector K.Disk f s is_none (NothingByVotes S.Scheme f s) core.old core.new h out.old.items out.new.items result) }
     ensures faults { TellsOfDisk K.Disk (disk_of core.old) (disk_of core.new) result }
 {
     match try_leader(core) {
@@ -117,7 +121,9 @@ fn ask_for_more<S: Scheme<D> + Drop, L: Elector<S, D>, D: Digest, K: Disk>(
     core: &mut Core<S, L, D, K>,
     out: &mut Vec<Action<S, D>>,
 ) -> Result<Acted, NodeFault>
-    ensures tried { AtOwn S.Scheme L.Elector K.Disk (formats D.PartialEq.eq D.spelling S.Signature.spelling S.Certificate.spelling D.reading S.Signature.reading S.Certificate.reading) core.old (λ f s h. WasTried S.Scheme L.Elector K.Disk f s is_none (NothingMoreToAsk S.Scheme f s) core.old core.new h out.old.items out.new.items result) }
+    ensures tried { AtOwn S.Scheme L.Elector K.Disk ⟦<S as Speaks<D>>⟧.formats core.old (λ f s h.
+        WasTried S.Scheme L.Elector K.Disk f s is_none (NothingMoreToAsk S.Scheme f s) core.old core.new h out.old.items out.new.items
+        result) }
     ensures faults { TellsOfDisk K.Disk (disk_of core.old) (disk_of core.new) result }
 {
     match try_return(core) {
@@ -143,7 +149,8 @@ fn vote<S: Scheme<D> + Drop, L: Elector<S, D>, D: Digest, K: Disk>(
     core: &mut Core<S, L, D, K>,
     out: &mut Vec<Action<S, D>>,
 ) -> Result<Acted, NodeFault>
-    ensures tried { AtOwn S.Scheme L.Elector K.Disk (formats D.PartialEq.eq D.spelling S.Signature.spelling S.Certificate.spelling D.reading S.Signature.reading S.Certificate.reading) core.old (λ f s h. WasTried S.Scheme L.Elector K.Disk f s is_look (NoVoteToCast S.Scheme f s) core.old core.new h out.old.items out.new.items result) }
+    ensures tried { AtOwn S.Scheme L.Elector K.Disk ⟦<S as Speaks<D>>⟧.formats core.old (λ f s h.
+        WasTried S.Scheme L.Elector K.Disk f s is_look (NoVoteToCast S.Scheme f s) core.old core.new h out.old.items out.new.items result) }
     ensures faults { TellsOfDisk K.Disk (disk_of core.old) (disk_of core.new) result }
 {
     a_latch_changes_nothing_due::<S, D>();

@@ -5,7 +5,6 @@ ghost use Rattle.node_requests.specs.Asking.{is_latch, is_none, is_put_off};
 ghost use Rattle.node_requests.specs.NoneDue.{NoBuildToAsk, NoBuildToGiveBack, NoSilence, NoVerdictToAsk, NoVerificationToAsk, NoViewToAsk};
 ghost use Rattle.node_requests.specs.Silence.{IsSilenceOf};
 ghost use Rattle.simplex_member.specs.Member.{NoneDue};
-ghost use Rattle.simplex_member.specs.Packet.{formats};
 ghost use Rattle.node_due.specs.Acting.{WasSettled, WasTried};
 ghost use Rattle.node_core.specs.Keeps.{AtAll, AtOwn, disk_of};
 ghost use Rattle.node_core.specs.Telling.{TellsOfDisk};
@@ -19,7 +18,7 @@ use node_requests::{
     give_build_back, give_silent_leader_up, next_wake,
 };
 use node_votes::silent_points_leave_votes;
-use simplex_member::{Action, NodeFault};
+use simplex_member::{Action, NodeFault, Speaks};
 use types_core::{Digest, Scheme};
 use types_terms::Elector;
 use voter_laws::a_latch_changes_nothing_due;
@@ -33,7 +32,9 @@ pub(crate) fn try_verdicts<S: Scheme<D> + Drop, L: Elector<S, D>, D: Digest, K: 
     core: &mut Core<S, L, D, K>,
     out: &mut Vec<Action<S, D>>,
 ) -> Result<Acted, NodeFault>
-    ensures tried { AtOwn S.Scheme L.Elector K.Disk (formats D.PartialEq.eq D.spelling S.Signature.spelling S.Certificate.spelling D.reading S.Signature.reading S.Certificate.reading) core.old (λ f s h. WasTried S.Scheme L.Elector K.Disk f s is_put_off (NoVerdictToAsk S.Scheme f s) core.old core.new h out.old.items out.new.items result) }
+    ensures tried { AtOwn S.Scheme L.Elector K.Disk ⟦<S as Speaks<D>>⟧.formats core.old (λ f s h.
+        WasTried S.Scheme L.Elector K.Disk f s is_put_off (NoVerdictToAsk S.Scheme f s) core.old core.new h out.old.items out.new.items
+        result) }
     ensures faults { TellsOfDisk K.Disk (disk_of core.old) (disk_of core.new) result }
 {
     a_ledger_at_rest_leaves_its_record::<S, D, K>();
@@ -52,7 +53,9 @@ pub(crate) fn try_verification<S: Scheme<D> + Drop, L: Elector<S, D>, D: Digest,
     core: &mut Core<S, L, D, K>,
     out: &mut Vec<Action<S, D>>,
 ) -> Result<Acted, NodeFault>
-    ensures tried { AtOwn S.Scheme L.Elector K.Disk (formats D.PartialEq.eq D.spelling S.Signature.spelling S.Certificate.spelling D.reading S.Signature.reading S.Certificate.reading) core.old (λ f s h. WasTried S.Scheme L.Elector K.Disk f s is_latch (NoVerificationToAsk S.Scheme f s) core.old core.new h out.old.items out.new.items result) }
+    ensures tried { AtOwn S.Scheme L.Elector K.Disk ⟦<S as Speaks<D>>⟧.formats core.old (λ f s h.
+        WasTried S.Scheme L.Elector K.Disk f s is_latch (NoVerificationToAsk S.Scheme f s) core.old core.new h out.old.items out.new.items
+        result) }
     ensures faults { TellsOfDisk K.Disk (disk_of core.old) (disk_of core.new) result }
 {
     a_ledger_at_rest_leaves_its_record::<S, D, K>();
@@ -69,7 +72,9 @@ pub(crate) fn try_verification<S: Scheme<D> + Drop, L: Elector<S, D>, D: Digest,
 pub(crate) fn try_return<S: Scheme<D> + Drop, L: Elector<S, D>, D: Digest, K: Disk>(
     core: &mut Core<S, L, D, K>,
 ) -> Result<Acted, NodeFault>
-    ensures tried { AtOwn S.Scheme L.Elector K.Disk (formats D.PartialEq.eq D.spelling S.Signature.spelling S.Certificate.spelling D.reading S.Signature.reading S.Certificate.reading) core.old (λ f s h. (actions : List (Action S D S.PublicKey S.Signature S.Certificate)) → WasTried S.Scheme L.Elector K.Disk f s is_none (NoBuildToGiveBack S.Scheme f s) core.old core.new h actions actions result) }
+    ensures tried { AtOwn S.Scheme L.Elector K.Disk ⟦<S as Speaks<D>>⟧.formats core.old (λ f s h.
+        (actions : List (Action S D S.PublicKey S.Signature S.Certificate))
+        → WasTried S.Scheme L.Elector K.Disk f s is_none (NoBuildToGiveBack S.Scheme f s) core.old core.new h actions actions result) }
     ensures faults { TellsOfDisk K.Disk (disk_of core.old) (disk_of core.new) result }
 {
     a_ledger_at_rest_leaves_its_record::<S, D, K>();
@@ -86,7 +91,8 @@ pub(crate) fn try_build<S: Scheme<D> + Drop, L: Elector<S, D>, D: Digest, K: Dis
     core: &mut Core<S, L, D, K>,
     out: &mut Vec<Action<S, D>>,
 ) -> Result<Acted, NodeFault>
-    ensures tried { AtOwn S.Scheme L.Elector K.Disk (formats D.PartialEq.eq D.spelling S.Signature.spelling S.Certificate.spelling D.reading S.Signature.reading S.Certificate.reading) core.old (λ f s h. WasTried S.Scheme L.Elector K.Disk f s is_none (NoBuildToAsk S.Scheme f s) core.old core.new h out.old.items out.new.items result) }
+    ensures tried { AtOwn S.Scheme L.Elector K.Disk ⟦<S as Speaks<D>>⟧.formats core.old (λ f s h.
+        WasTried S.Scheme L.Elector K.Disk f s is_none (NoBuildToAsk S.Scheme f s) core.old core.new h out.old.items out.new.items result) }
     ensures faults { TellsOfDisk K.Disk (disk_of core.old) (disk_of core.new) result }
 {
     a_ledger_at_rest_leaves_its_record::<S, D, K>();
@@ -103,7 +109,8 @@ pub(crate) fn try_views<S: Scheme<D> + Drop, L: Elector<S, D>, D: Digest, K: Dis
     core: &mut Core<S, L, D, K>,
     out: &mut Vec<Action<S, D>>,
 ) -> Result<Acted, NodeFault>
-    ensures tried { AtOwn S.Scheme L.Elector K.Disk (formats D.PartialEq.eq D.spelling S.Signature.spelling S.Certificate.spelling D.reading S.Signature.reading S.Certificate.reading) core.old (λ f s h. WasTried S.Scheme L.Elector K.Disk f s is_none (NoViewToAsk S.Scheme f s) core.old core.new h out.old.items out.new.items result) }
+    ensures tried { AtOwn S.Scheme L.Elector K.Disk ⟦<S as Speaks<D>>⟧.formats core.old (λ f s h.
+        WasTried S.Scheme L.Elector K.Disk f s is_none (NoViewToAsk S.Scheme f s) core.old core.new h out.old.items out.new.items result) }
     ensures faults { TellsOfDisk K.Disk (disk_of core.old) (disk_of core.new) result }
 {
     a_ledger_at_rest_leaves_its_record::<S, D, K>();
@@ -120,7 +127,9 @@ pub(crate) fn try_views<S: Scheme<D> + Drop, L: Elector<S, D>, D: Digest, K: Dis
 pub(crate) fn try_silence<S: Scheme<D> + Drop, L: Elector<S, D>, D: Digest, K: Disk>(
     core: &mut Core<S, L, D, K>,
 ) -> Result<Acted, NodeFault>
-    ensures tried { AtOwn S.Scheme L.Elector K.Disk (formats D.PartialEq.eq D.spelling S.Signature.spelling S.Certificate.spelling D.reading S.Signature.reading S.Certificate.reading) core.old (λ f s h. (actions : List (Action S D S.PublicKey S.Signature S.Certificate)) → WasTried S.Scheme L.Elector K.Disk f s is_none (NoSilence S.Scheme f s) core.old core.new h actions actions result) }
+    ensures tried { AtOwn S.Scheme L.Elector K.Disk ⟦<S as Speaks<D>>⟧.formats core.old (λ f s h.
+        (actions : List (Action S D S.PublicKey S.Signature S.Certificate))
+        → WasTried S.Scheme L.Elector K.Disk f s is_none (NoSilence S.Scheme f s) core.old core.new h actions actions result) }
     ensures faults { TellsOfDisk K.Disk (disk_of core.old) (disk_of core.new) result }
 {
     a_ledger_at_rest_leaves_its_record::<S, D, K>();
@@ -138,7 +147,8 @@ pub(crate) fn say_when<S: Scheme<D> + Drop, L: Elector<S, D>, D: Digest, K: Disk
     core: &mut Core<S, L, D, K>,
     out: &mut Vec<Action<S, D>>,
 ) -> Result<(), NodeFault>
-    ensures settled { AtOwn S.Scheme L.Elector K.Disk (formats D.PartialEq.eq D.spelling S.Signature.spelling S.Certificate.spelling D.reading S.Signature.reading S.Certificate.reading) core.old (λ f s h. NoneDue S.Scheme f s h → WasSettled S.Scheme L.Elector K.Disk f s core.old core.new h out.old.items out.new.items result) }
+    ensures settled { AtOwn S.Scheme L.Elector K.Disk ⟦<S as Speaks<D>>⟧.formats core.old
+        (λ f s h. NoneDue S.Scheme f s h → WasSettled S.Scheme L.Elector K.Disk f s core.old core.new h out.old.items out.new.items result) }
     ensures faults { TellsOfDisk K.Disk (disk_of core.old) (disk_of core.new) result }
 {
     a_ledger_at_rest_leaves_its_record::<S, D, K>();

@@ -12,7 +12,6 @@ ghost use Rattle.simplex_member.specs.declared.action.Action.{Action};
 ghost use Rattle.simplex_member.specs.declared.fault.NodeFault.TheVariants as step_fault;
 ghost use Rattle.simplex_member.specs.Allowed.{Allowed};
 ghost use Rattle.simplex_member.specs.Deeds.{certificate_deeds};
-ghost use Rattle.simplex_member.specs.Packet.{formats};
 ghost use Rattle.simplex_member.specs.Point.{History, Constructs, Forwards};
 ghost use Rattle.simplex_member.specs.Setup.{Setup};
 ghost use Rattle.node_due.specs.Acting.{WasTried};
@@ -32,7 +31,7 @@ use node_record::a_ledger_at_rest_leaves_its_record;
 use node_requests::{Acted, name_leader};
 use node_votes::Due;
 use simplex_batcher::Batch;
-use simplex_member::{Action, NodeFault, what_is_made_may_be_recorded};
+use simplex_member::{Action, NodeFault, Speaks, what_is_made_may_be_recorded};
 use types_core::{Digest, Proposal, Scheme, View};
 use types_terms::Elector;
 
@@ -44,7 +43,9 @@ use types_terms::Elector;
 pub(crate) fn try_leader<S: Scheme<D> + Drop, L: Elector<S, D>, D: Digest, K: Disk>(
     core: &mut Core<S, L, D, K>,
 ) -> Result<Acted, NodeFault>
-    ensures tried { AtOwn S.Scheme L.Elector K.Disk (formats D.PartialEq.eq D.spelling S.Signature.spelling S.Certificate.spelling D.reading S.Signature.reading S.Certificate.reading) core.old (λ f s h. (actions : List (Action S D S.PublicKey S.Signature S.Certificate)) → WasTried S.Scheme L.Elector K.Disk f s is_none (NoLeaderToName s) core.old core.new h actions actions result) }
+    ensures tried { AtOwn S.Scheme L.Elector K.Disk ⟦<S as Speaks<D>>⟧.formats core.old (λ f s h.
+        (actions : List (Action S D S.PublicKey S.Signature S.Certificate))
+        → WasTried S.Scheme L.Elector K.Disk f s is_none (NoLeaderToName s) core.old core.new h actions actions result) }
     ensures faults { TellsOfDisk K.Disk (disk_of core.old) (disk_of core.new) result }
 {
     a_ledger_at_rest_leaves_its_record::<S, D, K>();
@@ -60,7 +61,9 @@ pub(crate) fn try_votes_of_views<S: Scheme<D> + Drop, L: Elector<S, D>, D: Diges
     core: &mut Core<S, L, D, K>,
     out: &mut Vec<Action<S, D>>,
 ) -> Result<Acted, NodeFault>
-    ensures tried { AtOwn S.Scheme L.Elector K.Disk (formats D.PartialEq.eq D.spelling S.Signature.spelling S.Certificate.spelling D.reading S.Signature.reading S.Certificate.reading) core.old (λ f s h. WasTried S.Scheme L.Elector K.Disk f s is_none (NoConstructionToMake S.Scheme f s) core.old core.new h out.old.items out.new.items result) }
+    ensures tried { AtOwn S.Scheme L.Elector K.Disk ⟦<S as Speaks<D>>⟧.formats core.old (λ f s h.
+        WasTried S.Scheme L.Elector K.Disk f s is_none (NoConstructionToMake S.Scheme f s) core.old core.new h out.old.items out.new.items
+        result) }
     ensures faults { TellsOfDisk K.Disk (disk_of core.old) (disk_of core.new) result }
 {
     a_ledger_at_rest_leaves_its_record::<S, D, K>();
@@ -82,8 +85,11 @@ fn take_proposal<S: Scheme<D> + Drop, L: Elector<S, D>, D: Digest, K: Disk>(
     proposal: &Proposal<D>,
 ) -> Result<Acted, NodeFault>
     ensures did { IfOk result (λ done. done ≡ came.Did) }
-    ensures taken { OnOk result ((s : Setup S D S.Certificate) (h : History S D S.PublicKey S.Signature S.Certificate) → let f = (formats D.PartialEq.eq D.spelling S.Signature.spelling S.Certificate.spelling D.reading S.Signature.reading S.Certificate.reading (S.size s.voter.scheme)) in
-        VotesAreAhead S.Scheme L.Elector K.Disk f s core.old h (Forwards view proposal.now) → Allowed S.Scheme f s h (Forwards view proposal.now) → CoreKeeps S.Scheme L.Elector K.Disk f s core.new (Forwards view proposal.now ∷ h)) }
+    ensures taken { OnOk result ((s : Setup S D S.Certificate) (h : History S D S.PublicKey S.Signature S.Certificate)
+        → let f = (⟦<S as Speaks<D>>⟧.formats (S.size s.voter.scheme)) in VotesAreAhead S.Scheme L.Elector K.Disk f s core.old h
+        (Forwards view proposal.now)
+        → Allowed S.Scheme f s h (Forwards view proposal.now)
+        → CoreKeeps S.Scheme L.Elector K.Disk f s core.new (Forwards view proposal.now ∷ h)) }
     ensures disk { disk_of core.new ≡ disk_of core.old }
     ensures fault { IfErr result (λ why. why ≡ step_fault.Memory) }
 {
@@ -100,10 +106,18 @@ fn take_batch<S: Scheme<D> + Drop, L: Elector<S, D>, D: Digest, K: Disk>(
     out: &mut Vec<Action<S, D>>,
 ) -> Result<Acted, NodeFault>
     ensures did { IfOk result (λ done. done ≡ came.Did) }
-    ensures taken { OnOk result ((s : Setup S D S.Certificate) (h : History S D S.PublicKey S.Signature S.Certificate) (view : ℕ) (kind : Kind) → let f = (formats D.PartialEq.eq D.spelling S.Signature.spelling S.Certificate.spelling D.reading S.Signature.reading S.Certificate.reading (S.size s.voter.scheme)) in
-        VotesGoAhead S.Scheme L.Elector K.Disk f s core.old h (Constructs view kind batch) → Allowed S.Scheme f s h (Constructs view kind batch) → IsTaken S.Scheme L.Elector K.Disk f s core.new h (Constructs view kind batch) out.old.items out.new.items) }
-    ensures any_moment { (s : Setup S D S.Certificate) (h : History S D S.PublicKey S.Signature S.Certificate) (view : ℕ) (kind : Kind) → let f = (formats D.PartialEq.eq D.spelling S.Signature.spelling S.Certificate.spelling D.reading S.Signature.reading S.Certificate.reading (S.size s.voter.scheme)) in
-        VotesGoAhead S.Scheme L.Elector K.Disk f s core.old h (Constructs view kind batch) → Allowed S.Scheme f s h (Constructs view kind batch) → K.keeps → LeavesOnly (K.calls (disk_of core.old)) (K.calls (disk_of core.new)) (IsLeftBy S.Scheme f s h (Constructs view kind batch)) }
+    ensures taken { OnOk result ((s : Setup S D S.Certificate) (h : History S D S.PublicKey S.Signature S.Certificate) (view : ℕ)
+        (kind : Kind)
+        → let f = (⟦<S as Speaks<D>>⟧.formats (S.size s.voter.scheme)) in VotesGoAhead S.Scheme L.Elector K.Disk f s core.old h
+        (Constructs view kind batch)
+        → Allowed S.Scheme f s h (Constructs view kind batch)
+        → IsTaken S.Scheme L.Elector K.Disk f s core.new h (Constructs view kind batch) out.old.items out.new.items) }
+    ensures any_moment { (s : Setup S D S.Certificate) (h : History S D S.PublicKey S.Signature S.Certificate) (view : ℕ) (kind : Kind)
+        → let f = (⟦<S as Speaks<D>>⟧.formats (S.size s.voter.scheme)) in VotesGoAhead S.Scheme L.Elector K.Disk f s core.old h
+        (Constructs view kind batch)
+        → Allowed S.Scheme f s h (Constructs view kind batch)
+        → K.keeps
+        → LeavesOnly (K.calls (disk_of core.old)) (K.calls (disk_of core.new)) (IsLeftBy S.Scheme f s h (Constructs view kind batch)) }
     ensures faults { TellsOfDisk K.Disk (disk_of core.old) (disk_of core.new) result }
 {
     a_ledger_at_rest_leaves_its_record::<S, D, K>();
@@ -135,12 +149,28 @@ fn take_made<S: Scheme<D> + Drop, L: Elector<S, D>, D: Digest, K: Disk>(
     certificate: Certificate<S, D>,
     out: &mut Vec<Action<S, D>>,
 ) -> Result<(), NodeFault>
-    ensures keeps { OnOk result ((s : Setup S D S.Certificate) (h : History S D S.PublicKey S.Signature S.Certificate) (view : ℕ) (kind : Kind) (batch : Batch (Certificate S D S.PublicKey S.Signature S.Certificate)) → let f = (formats D.PartialEq.eq D.spelling S.Signature.spelling S.Certificate.spelling D.reading S.Signature.reading S.Certificate.reading (S.size s.voter.scheme)) in
-        VotesGoAhead S.Scheme L.Elector K.Disk f s core.old h (Constructs view kind batch) → Allowed S.Scheme f s h (Constructs view kind batch) → batch.certificate ≡ Some certificate → CoreKeeps S.Scheme L.Elector K.Disk f s core.new (Constructs view kind batch ∷ h)) }
-    ensures acts { OnOk result ((s : Setup S D S.Certificate) (h : History S D S.PublicKey S.Signature S.Certificate) (view : ℕ) (kind : Kind) (batch : Batch (Certificate S D S.PublicKey S.Signature S.Certificate)) → let f = (formats D.PartialEq.eq D.spelling S.Signature.spelling S.Certificate.spelling D.reading S.Signature.reading S.Certificate.reading (S.size s.voter.scheme)) in
-        VotesGoAhead S.Scheme L.Elector K.Disk f s core.old h (Constructs view kind batch) → Allowed S.Scheme f s h (Constructs view kind batch) → batch.certificate ≡ Some certificate → HandsOut f out.old.items out.new.items (certificate_deeds S.Scheme f s h (Constructs view kind batch) certificate)) }
-    ensures any_moment { (s : Setup S D S.Certificate) (h : History S D S.PublicKey S.Signature S.Certificate) (view : ℕ) (kind : Kind) (batch : Batch (Certificate S D S.PublicKey S.Signature S.Certificate)) → let f = (formats D.PartialEq.eq D.spelling S.Signature.spelling S.Certificate.spelling D.reading S.Signature.reading S.Certificate.reading (S.size s.voter.scheme)) in
-        VotesGoAhead S.Scheme L.Elector K.Disk f s core.old h (Constructs view kind batch) → Allowed S.Scheme f s h (Constructs view kind batch) → batch.certificate ≡ Some certificate → K.keeps → LeavesOnly (K.calls (disk_of core.old)) (K.calls (disk_of core.new)) (IsLeftBy S.Scheme f s h (Constructs view kind batch)) }
+    ensures keeps { OnOk result ((s : Setup S D S.Certificate) (h : History S D S.PublicKey S.Signature S.Certificate) (view : ℕ)
+        (kind : Kind) (batch : Batch (Certificate S D S.PublicKey S.Signature S.Certificate))
+        → let f = (⟦<S as Speaks<D>>⟧.formats (S.size s.voter.scheme)) in VotesGoAhead S.Scheme L.Elector K.Disk f s core.old h
+        (Constructs view kind batch)
+        → Allowed S.Scheme f s h (Constructs view kind batch)
+        → batch.certificate ≡ Some certificate
+        → CoreKeeps S.Scheme L.Elector K.Disk f s core.new (Constructs view kind batch ∷ h)) }
+    ensures acts { OnOk result ((s : Setup S D S.Certificate) (h : History S D S.PublicKey S.Signature S.Certificate) (view : ℕ)
+        (kind : Kind) (batch : Batch (Certificate S D S.PublicKey S.Signature S.Certificate))
+        → let f = (⟦<S as Speaks<D>>⟧.formats (S.size s.voter.scheme)) in VotesGoAhead S.Scheme L.Elector K.Disk f s core.old h
+        (Constructs view kind batch)
+        → Allowed S.Scheme f s h (Constructs view kind batch)
+        → batch.certificate ≡ Some certificate
+        → HandsOut f out.old.items out.new.items (certificate_deeds S.Scheme f s h (Constructs view kind batch) certificate)) }
+    ensures any_moment { (s : Setup S D S.Certificate) (h : History S D S.PublicKey S.Signature S.Certificate) (view : ℕ) (kind : Kind)
+        (batch : Batch (Certificate S D S.PublicKey S.Signature S.Certificate))
+        → let f = (⟦<S as Speaks<D>>⟧.formats (S.size s.voter.scheme)) in VotesGoAhead S.Scheme L.Elector K.Disk f s core.old h
+        (Constructs view kind batch)
+        → Allowed S.Scheme f s h (Constructs view kind batch)
+        → batch.certificate ≡ Some certificate
+        → K.keeps
+        → LeavesOnly (K.calls (disk_of core.old)) (K.calls (disk_of core.new)) (IsLeftBy S.Scheme f s h (Constructs view kind batch)) }
     ensures faults { TellsOfDisk K.Disk (disk_of core.old) (disk_of core.new) result }
 {
     let was = core.voter.current_view();
@@ -160,10 +190,21 @@ fn learn_made<S: Scheme<D> + Drop, L: Elector<S, D>, D: Digest, K: Disk>(
     core: &mut Core<S, L, D, K>,
     certificate: &Certificate<S, D>,
 ) -> Result<(), NodeFault>
-    ensures keeps { OnOk result ((s : Setup S D S.Certificate) (h : History S D S.PublicKey S.Signature S.Certificate) (view : ℕ) (kind : Kind) (batch : Batch (Certificate S D S.PublicKey S.Signature S.Certificate)) → let f = (formats D.PartialEq.eq D.spelling S.Signature.spelling S.Certificate.spelling D.reading S.Signature.reading S.Certificate.reading (S.size s.voter.scheme)) in
-        VotesGoAhead S.Scheme L.Elector K.Disk f s core.old h (Constructs view kind batch) → Allowed S.Scheme f s h (Constructs view kind batch) → batch.certificate ≡ Some certificate.now → CoreKeeps S.Scheme L.Elector K.Disk f s core.new (Constructs view kind batch ∷ h)) }
-    ensures any_moment { (s : Setup S D S.Certificate) (h : History S D S.PublicKey S.Signature S.Certificate) (view : ℕ) (kind : Kind) (batch : Batch (Certificate S D S.PublicKey S.Signature S.Certificate)) → let f = (formats D.PartialEq.eq D.spelling S.Signature.spelling S.Certificate.spelling D.reading S.Signature.reading S.Certificate.reading (S.size s.voter.scheme)) in
-        VotesGoAhead S.Scheme L.Elector K.Disk f s core.old h (Constructs view kind batch) → Allowed S.Scheme f s h (Constructs view kind batch) → batch.certificate ≡ Some certificate.now → K.keeps → LeavesOnly (K.calls (disk_of core.old)) (K.calls (disk_of core.new)) (IsLeftBy S.Scheme f s h (Constructs view kind batch)) }
+    ensures keeps { OnOk result ((s : Setup S D S.Certificate) (h : History S D S.PublicKey S.Signature S.Certificate) (view : ℕ)
+        (kind : Kind) (batch : Batch (Certificate S D S.PublicKey S.Signature S.Certificate))
+        → let f = (⟦<S as Speaks<D>>⟧.formats (S.size s.voter.scheme)) in VotesGoAhead S.Scheme L.Elector K.Disk f s core.old h
+        (Constructs view kind batch)
+        → Allowed S.Scheme f s h (Constructs view kind batch)
+        → batch.certificate ≡ Some certificate.now
+        → CoreKeeps S.Scheme L.Elector K.Disk f s core.new (Constructs view kind batch ∷ h)) }
+    ensures any_moment { (s : Setup S D S.Certificate) (h : History S D S.PublicKey S.Signature S.Certificate) (view : ℕ) (kind : Kind)
+        (batch : Batch (Certificate S D S.PublicKey S.Signature S.Certificate))
+        → let f = (⟦<S as Speaks<D>>⟧.formats (S.size s.voter.scheme)) in VotesGoAhead S.Scheme L.Elector K.Disk f s core.old h
+        (Constructs view kind batch)
+        → Allowed S.Scheme f s h (Constructs view kind batch)
+        → batch.certificate ≡ Some certificate.now
+        → K.keeps
+        → LeavesOnly (K.calls (disk_of core.old)) (K.calls (disk_of core.new)) (IsLeftBy S.Scheme f s h (Constructs view kind batch)) }
     ensures faults { TellsOfDisk K.Disk (disk_of core.old) (disk_of core.new) result }
 {
     what_is_not_recorded_is_unknown::<S, D>();

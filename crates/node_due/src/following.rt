@@ -3,7 +3,6 @@
 ghost use Rattle.std.specs.Prelude.{List};
 ghost use Rattle.node_requests.specs.Asking.{is_none};
 ghost use Rattle.simplex_member.specs.declared.action.Action.{Action};
-ghost use Rattle.simplex_member.specs.Packet.{formats};
 ghost use Rattle.node_due.specs.Acting.{WasTried};
 ghost use Rattle.node_core.specs.Keeps.{AtOwn, disk_of};
 ghost use Rattle.node_due.specs.NoneDue.{NoLeaderToFollow};
@@ -14,7 +13,7 @@ use node_core::Core;
 use node_record::a_ledger_at_rest_leaves_its_record;
 use node_requests::{Acted, follow_leader};
 use node_votes::silent_points_leave_votes;
-use simplex_member::NodeFault;
+use simplex_member::{NodeFault, Speaks};
 use types_core::{Digest, Scheme};
 use types_terms::Elector;
 
@@ -26,7 +25,9 @@ use types_terms::Elector;
 pub(crate) fn try_to_follow<S: Scheme<D> + Drop, L: Elector<S, D>, D: Digest, K: Disk>(
     core: &mut Core<S, L, D, K>,
 ) -> Result<Acted, NodeFault>
-    ensures tried { AtOwn S.Scheme L.Elector K.Disk (formats D.PartialEq.eq D.spelling S.Signature.spelling S.Certificate.spelling D.reading S.Signature.reading S.Certificate.reading) core.old (λ f s h. (actions : List (Action S D S.PublicKey S.Signature S.Certificate)) → WasTried S.Scheme L.Elector K.Disk f s is_none (NoLeaderToFollow S.Scheme f s) core.old core.new h actions actions result) }
+    ensures tried { AtOwn S.Scheme L.Elector K.Disk ⟦<S as Speaks<D>>⟧.formats core.old (λ f s h.
+        (actions : List (Action S D S.PublicKey S.Signature S.Certificate))
+        → WasTried S.Scheme L.Elector K.Disk f s is_none (NoLeaderToFollow S.Scheme f s) core.old core.new h actions actions result) }
     ensures faults { TellsOfDisk K.Disk (disk_of core.old) (disk_of core.new) result }
 {
     a_ledger_at_rest_leaves_its_record::<S, D, K>();

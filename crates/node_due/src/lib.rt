@@ -3,8 +3,8 @@
 
 mod acting;
 mod asking;
+mod casting_votes;
 mod constructing;
 mod following;
-mod voting;
 
 pub use acting::settle;

@@ -11,7 +11,7 @@ use Rattle.batcher_verifier.specs.History.{recorded}
 use Rattle.simplex_record.specs.Lawful.{Verifies}
 use Rattle.batcher_admission.specs.Evidence.{as_report}
 use Rattle.simplex_messages.specs.declared.activity.Activity.{Activity}
-use Rattle.node_votes.specs.Keeps.{IsNewVote, IsOpenTo}
+use Rattle.node_votes.specs.KeepsVotes.{IsNewVote, IsOpenTo}
 use Rattle.simplex_member.specs.Layers.{floor_of, votes_of}
 use Rattle.simplex_member.specs.Point.{History}
 use Rattle.simplex_member.specs.Setup.{Setup, owner_of}

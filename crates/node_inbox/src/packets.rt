@@ -31,7 +31,9 @@ pub fn message_in<S: Scheme<D>, D: Digest>(
     bytes: &[u8],
     participants: u32,
 ) -> Result<Option<Message<S, D>>, AllocError>
-    ensures { IfOk result (λ found. option_map as_packet found ≡ packet_at (D.reading participants) (S.Signature.reading participants) (S.Certificate.reading participants) channel bytes.now) }
+    ensures { IfOk result (λ found.
+        option_map as_packet found ≡ packet_at (D.reading participants) (S.Signature.reading participants)
+        (S.Certificate.reading participants) channel bytes.now) }
 {
     match channel {
         Channel::Votes => vote_in(alloc, bytes, participants),
@@ -46,7 +48,9 @@ fn vote_in<S: Scheme<D>, D: Digest>(
     bytes: &[u8],
     participants: u32,
 ) -> Result<Option<Message<S, D>>, AllocError>
-    ensures { IfOk result (λ found. option_map as_packet found ≡ packet_at (D.reading participants) (S.Signature.reading participants) (S.Certificate.reading participants) Channel.Votes bytes.now) }
+    ensures { IfOk result (λ found.
+        option_map as_packet found ≡ packet_at (D.reading participants) (S.Signature.reading participants)
+        (S.Certificate.reading participants) Channel.Votes bytes.now) }
 {
     match decode_cfg(alloc, bytes, participants) {
         Ok(Some(vote)) => Ok(Some(Message::Vote(vote))),
@@ -61,7 +65,9 @@ fn certificate_in<S: Scheme<D>, D: Digest>(
     bytes: &[u8],
     participants: u32,
 ) -> Result<Option<Message<S, D>>, AllocError>
-    ensures { IfOk result (λ found. option_map as_packet found ≡ packet_at (D.reading participants) (S.Signature.reading participants) (S.Certificate.reading participants) Channel.Certificates bytes.now) }
+    ensures { IfOk result (λ found.
+        option_map as_packet found ≡ packet_at (D.reading participants) (S.Signature.reading participants)
+        (S.Certificate.reading participants) Channel.Certificates bytes.now) }
 {
     match decode_cfg(alloc, bytes, participants) {
         Ok(Some(certificate)) => Ok(Some(Message::Certificate(certificate))),
@@ -76,7 +82,9 @@ fn ask_in<S: Scheme<D>, D: Digest>(
     bytes: &[u8],
     participants: u32,
 ) -> Result<Option<Message<S, D>>, AllocError>
-    ensures { IfOk result (λ found. option_map as_packet found ≡ packet_at (D.reading participants) (S.Signature.reading participants) (S.Certificate.reading participants) Channel.Fetches bytes.now) }
+    ensures { IfOk result (λ found.
+        option_map as_packet found ≡ packet_at (D.reading participants) (S.Signature.reading participants)
+        (S.Certificate.reading participants) Channel.Fetches bytes.now) }
 {
     match decode_cfg(alloc, bytes, participants) {
         Ok(Some(view)) => Ok(Some(Message::Ask(view))),

@@ -29,10 +29,19 @@ pub fn record<S: Scheme<D>, D: Digest, K: Disk>(
     ledger: &mut Ledger<S, D, K>,
     artifact: Artifact<S, D>,
 ) -> Result<(), NodeFault>
-    ensures keeps { OnOk result ((owner : Owner) (xs : List (Artifact S D S.PublicKey S.Signature S.Certificate)) → KeepsRecord K.Disk (artifact_spelling D.spelling S.Signature.spelling S.Certificate.spelling) owner ledger.old xs → MayFollow owner.term_length (entries xs) (entry artifact) → KeepsRecord K.Disk (artifact_spelling D.spelling S.Signature.spelling S.Certificate.spelling) owner ledger.new (xs ++ artifact ∷ [])) }
+    ensures keeps { OnOk result ((owner : Owner) (xs : List (Artifact S D S.PublicKey S.Signature S.Certificate))
+        → KeepsRecord K.Disk (artifact_spelling D.spelling S.Signature.spelling S.Certificate.spelling) owner ledger.old xs
+        → MayFollow owner.term_length (entries xs) (entry artifact)
+        → KeepsRecord K.Disk (artifact_spelling D.spelling S.Signature.spelling S.Certificate.spelling) owner ledger.new
+        (xs ++ artifact ∷ [])) }
 
     // A crash at any moment of the call leaves the record from before it, with the artifact or without.
-    ensures any_moment { (owner : Owner) (xs : List (Artifact S D S.PublicKey S.Signature S.Certificate)) → KeepsRecord K.Disk (artifact_spelling D.spelling S.Signature.spelling S.Certificate.spelling) owner ledger.old xs → K.keeps → LeavesOnly (K.calls (disk_of ledger.old)) (K.calls (disk_of ledger.new)) (IsWithOrWithout (map (artifact_spelling D.spelling S.Signature.spelling S.Certificate.spelling) xs) (artifact_spelling D.spelling S.Signature.spelling S.Certificate.spelling artifact)) }
+    ensures any_moment { (owner : Owner) (xs : List (Artifact S D S.PublicKey S.Signature S.Certificate))
+        → KeepsRecord K.Disk (artifact_spelling D.spelling S.Signature.spelling S.Certificate.spelling) owner ledger.old xs
+        → K.keeps
+        → LeavesOnly (K.calls (disk_of ledger.old)) (K.calls (disk_of ledger.new)) (IsWithOrWithout
+        (map (artifact_spelling D.spelling S.Signature.spelling S.Certificate.spelling) xs)
+        (artifact_spelling D.spelling S.Signature.spelling S.Certificate.spelling artifact)) }
 
     // The disk has failed once more exactly where that is told.
     ensures device { IsErrOf result NodeFault.Device → K.failed (disk_of ledger.new) ≡ counted false (K.failed (disk_of ledger.old)) }

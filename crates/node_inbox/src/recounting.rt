@@ -6,7 +6,7 @@ ghost use Rattle.messages_certificates.specs.Artifact.{certificate_artifact};
 ghost use Rattle.messages_certificates.specs.Certificate.{certificate_round};
 ghost use Rattle.simplex_messages.specs.VoteParts.{vote_artifact, vote_round};
 ghost use Rattle.simplex_record.specs.Lawful.{Verifies};
-ghost use Rattle.node_votes.specs.Keeps as accepting;
+ghost use Rattle.node_votes.specs.KeepsVotes as accepting;
 ghost use Rattle.simplex_member.specs.Layers.{floor_of};
 ghost use Rattle.simplex_member.specs.Point.{Found};
 ghost use Rattle.simplex_member.specs.Setup.{owner_of};
@@ -27,7 +27,12 @@ pub fn recount_vote<S: Scheme<D> + Drop, D: Digest>(
     floor: View,
     vote: Vote<S, D>,
 ) -> Result<(), AllocError>
-    ensures { OnOk result (accepting.AtEach S.Scheme D.PartialEq.eq acceptance.old (λ s h. (taken : Bool) → floor ≡ floor_of s h → HasRoom s.voter.length (vote_round vote).view → Verifies (S.attests s.voter.scheme) (S.certifies s.voter.scheme) (owner_of s) (vote_artifact vote) → accepting.KeepsAhead S.Scheme D.PartialEq.eq s acceptance.new h (Found (vote_artifact vote) taken))) }
+    ensures { OnOk result (accepting.AtEach S.Scheme D.PartialEq.eq acceptance.old (λ s h.
+        (taken : Bool)
+        → floor ≡ floor_of s h
+        → HasRoom s.voter.length (vote_round vote).view
+        → Verifies (S.attests s.voter.scheme) (S.certifies s.voter.scheme) (owner_of s) (vote_artifact vote)
+        → accepting.KeepsAhead S.Scheme D.PartialEq.eq s acceptance.new h (Found (vote_artifact vote) taken))) }
 {
     let view = vote.view();
     match acceptance.cast(vote) {
@@ -60,7 +65,10 @@ pub fn recount_certificate<S: Scheme<D> + Drop, D: Digest>(
     acceptance: &mut Acceptance<S, D>,
     certificate: &Certificate<S, D>,
 ) -> Result<(), AllocError>
-    ensures { OnOk result (accepting.AtEach S.Scheme D.PartialEq.eq acceptance.old (λ s h. (taken : Bool) → HasRoom s.voter.length (certificate_round certificate.now).view → accepting.KeepsAhead S.Scheme D.PartialEq.eq s acceptance.new h (Found (certificate_artifact certificate.now) taken))) }
+    ensures { OnOk result (accepting.AtEach S.Scheme D.PartialEq.eq acceptance.old (λ s h.
+        (taken : Bool)
+        → HasRoom s.voter.length (certificate_round certificate.now).view
+        → accepting.KeepsAhead S.Scheme D.PartialEq.eq s acceptance.new h (Found (certificate_artifact certificate.now) taken))) }
 {
     match acceptance.record(certificate) {
         Ok(()) => Ok(()),

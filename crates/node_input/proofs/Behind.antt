@@ -15,7 +15,7 @@ use Rattle.voter_rules.specs.GivingUp.{IsTracked, MayLatch}
 use Rattle.voter_rules.specs.Requests.{IsCaptured}
 use Rattle.simplex_state.specs.declared.state.State.{State}
 use Rattle.simplex_state.specs.State as voting
-use Rattle.node_votes.specs.Keeps.{QuietStays}
+use Rattle.node_votes.specs.KeepsVotes.{QuietStays}
 use Rattle.journal_single.specs.declared.disk.Disk as disk
 use Rattle.node_record.specs.declared.tables.Tables.{Tables}
 use Rattle.node_record.specs.Tables.{KeepsTables}
@@ -27,7 +27,7 @@ use Rattle.simplex_member.specs.Layers.{finalized_of, known_of, latest, takes_ou
 use Rattle.simplex_member.specs.Packet.{Formats}
 use Rattle.simplex_member.specs.Point.{Outcome, Counts, Falls, Passes, Point, Built, Checked, History}
 use Rattle.simplex_member.specs.Setup.{Setup, member_of}
-use Rattle.node_core.specs.declared.node_core.Core.{Core}
+use Rattle.node_core.specs.declared.node_state.Core.{Core}
 use Rattle.node_input.specs.Answering.{TakesEvent}
 use Rattle.node_core.specs.Keeps.{CoreKeeps}
 use Rattle.node_input.proofs.Latching.{may_be_built, proposed_or_not}

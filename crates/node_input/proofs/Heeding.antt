@@ -13,7 +13,7 @@ use Rattle.batcher_verifier.specs.History as votes
 use Rattle.batcher_verifier.specs.History.{takes}
 use Rattle.simplex_batcher.specs.Admission.{IsBlocked, report_of}
 use Rattle.node_votes.specs.declared.acceptance.Acceptance.{Acceptance}
-use Rattle.node_votes.specs.Keeps as accepting
+use Rattle.node_votes.specs.KeepsVotes as accepting
 use Rattle.node_record.specs.declared.tables.Tables.{Tables}
 use Rattle.node_record.specs.Tables.{KeepsTables}
 use Rattle.simplex_member.specs.declared.action.Action.{Action}
@@ -25,7 +25,7 @@ use Rattle.simplex_member.specs.Layers.{finalized_of, votes_of, votes_setup}
 use Rattle.simplex_member.specs.Packet.{Formats}
 use Rattle.simplex_member.specs.Point.{History, Heard, Wanted}
 use Rattle.simplex_member.specs.Setup.{Setup}
-use Rattle.node_core.specs.declared.node_core.Core.{Core}
+use Rattle.node_core.specs.declared.node_state.Core.{Core}
 use Rattle.node_outbox.specs.Handing.{HandsOut}
 use Rattle.node_core.specs.Keeps.{CoreKeeps}
 use Rattle.node_input.specs.Hearing.{admission_deeds}

@@ -15,11 +15,11 @@ use Rattle.simplex_record.specs.Rules.{MayFollow, MayJudge}
 use Rattle.simplex_state.specs.declared.state.State.{State}
 use Rattle.simplex_state.specs.State as voting
 use Rattle.node_votes.specs.declared.acceptance.Acceptance.{Acceptance}
-use Rattle.node_votes.specs.Keeps as accepting
+use Rattle.node_votes.specs.KeepsVotes as accepting
 use Rattle.simplex_resolver.specs.declared.state.State as resolving
 use Rattle.simplex_resolver.specs.Keeps as repairing
-use Rattle.simplex_resolver.specs.History as repair
-use Rattle.simplex_resolver.specs.History.{Item}
+use Rattle.simplex_resolver.specs.RepairHistory as repair
+use Rattle.simplex_resolver.specs.RepairHistory.{Item}
 use Rattle.journal_single.specs.declared.disk.Disk as disk
 use Rattle.node_record.specs.declared.ledger.Ledger.{Ledger}
 use Rattle.node_record.specs.Ledger.{KeepsRecord}
@@ -33,7 +33,7 @@ use Rattle.simplex_member.specs.Packet.{Formats}
 use Rattle.simplex_member.specs.Point.{History, Judged}
 use Rattle.simplex_member.specs.Recorded.{notarization_in, record_of}
 use Rattle.simplex_member.specs.Setup.{Setup, owner_of}
-use Rattle.node_core.specs.declared.node_core.Core.{Core}
+use Rattle.node_core.specs.declared.node_state.Core.{Core}
 use Rattle.node_core.specs.Keeps.{CoreKeeps}
 use Rattle.node_input.specs.Verdicts.{RecordIsAhead}
 

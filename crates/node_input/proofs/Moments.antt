@@ -2,7 +2,7 @@
 use Rattle.std.proofs.Common.{◌≡◌, ℕ, Bool, refl, sym, subst, ◌∷◌}
 use Rattle.types_core.specs.declared.scheme.Scheme.{Ghosts}
 use Rattle.node_votes.specs.declared.acceptance.Acceptance.{Acceptance}
-use Rattle.node_votes.specs.Keeps.{Keeps, QuietStays}
+use Rattle.node_votes.specs.KeepsVotes.{Keeps, QuietStays}
 use Rattle.simplex_member.specs.Point.{History, Told}
 use Rattle.simplex_member.specs.Setup.{Setup}
 

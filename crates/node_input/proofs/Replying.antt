@@ -26,7 +26,7 @@ use Rattle.simplex_member.specs.Point.{Point, History, is_act}
 use Rattle.simplex_member.specs.Recorded.{record_of}
 use Rattle.simplex_member.specs.Refusals.{needs_nothing, refused_deeds, tests}
 use Rattle.simplex_member.specs.Setup.{Setup}
-use Rattle.node_core.specs.declared.node_core.Core.{Core}
+use Rattle.node_core.specs.declared.node_state.Core.{Core}
 use Rattle.node_core.specs.Keeps.{CoreKeeps}
 use Rattle.simplex_member.specs.Member.{IsPacketPoint}
 use Rattle.simplex_member.specs.Deeds.{Blocks}

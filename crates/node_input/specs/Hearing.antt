@@ -12,7 +12,7 @@ use Rattle.simplex_member.specs.First.{IsFirst}
 use Rattle.simplex_member.specs.Packet.{Formats, Packet, of_vote}
 use Rattle.simplex_member.specs.Point.{History, Heard}
 use Rattle.simplex_member.specs.Setup.{Setup}
-use Rattle.node_core.specs.declared.node_core.Core.{Core}
+use Rattle.node_core.specs.declared.node_state.Core.{Core}
 use Rattle.node_outbox.specs.Handing.{HandsOut}
 use Rattle.node_core.specs.Keeps.{CoreKeeps}
 use Rattle.node_input.specs.Refusing.{last_vote_tests, packet_refused_deeds}

@@ -7,7 +7,7 @@ ghost use Rattle.simplex_member.specs.declared.event.Event.TheVariants as event;
 ghost use Rattle.simplex_member.specs.declared.fault.NodeFault.TheVariants as step_fault;
 ghost use Rattle.simplex_member.specs.Asked.{build_at, check_at};
 ghost use Rattle.simplex_member.specs.Layers.{voter_of};
-ghost use Rattle.simplex_member.specs.Packet.{Formats, formats};
+ghost use Rattle.simplex_member.specs.Packet.{Formats};
 ghost use Rattle.simplex_member.specs.Point.{History};
 ghost use Rattle.simplex_member.specs.Setup.{Setup};
 ghost use Rattle.node_record.specs.Tables.{build_parts};
@@ -19,7 +19,7 @@ use node_core::Core;
 use node_outbox::{hand_out, own_plan};
 use node_record::Building;
 use node_votes::silent_points_leave_votes;
-use simplex_member::{Action, NodeFault};
+use simplex_member::{Action, NodeFault, Speaks};
 use simplex_state::State as Voter;
 use types_core::{Digest, Scheme, View};
 use types_terms::Elector;
@@ -36,7 +36,10 @@ fn tell_answer<S: Scheme<D> + Drop, L: Elector<S, D>, D: Digest>(
     answer: Option<bool>,
     voter: &mut Voter<S, L, D>,
 ) -> Result<(), NodeFault>
-    ensures told { OnOk result ((f : Formats S D S.PublicKey S.Signature S.Certificate) (s : Setup S D S.Certificate) (h : History S D S.PublicKey S.Signature S.Certificate) → voting.Keeps S.Scheme L.Elector s.voter voter.old (voter_of s h) → TakesAnswer S.Scheme L.Elector f s voter.new h now view answer) }
+    ensures told { OnOk result ((f : Formats S D S.PublicKey S.Signature S.Certificate) (s : Setup S D S.Certificate)
+        (h : History S D S.PublicKey S.Signature S.Certificate)
+        → voting.Keeps S.Scheme L.Elector s.voter voter.old (voter_of s h)
+        → TakesAnswer S.Scheme L.Elector f s voter.new h now view answer) }
     ensures fault { IfErr result (λ why. why ≡ step_fault.Memory) }
 {
     match answer {
@@ -67,7 +70,9 @@ pub(crate) fn take_built<S: Scheme<D> + Drop, L: Elector<S, D>, D: Digest, K: Di
     payload: Option<D>,
     out: &mut Vec<Action<S, D>>,
 ) -> Result<(), NodeFault>
-    ensures taken { OnOk result (AtOwn S.Scheme L.Elector K.Disk (formats D.PartialEq.eq D.spelling S.Signature.spelling S.Certificate.spelling D.reading S.Signature.reading S.Certificate.reading) core.old (λ f s h. build_at h number ≡ Some (build_parts building) → TakesEvent S.Scheme L.Elector K.Disk f s core.new h (event.Built number payload) out.old.items out.new.items)) }
+    ensures taken { OnOk result (AtOwn S.Scheme L.Elector K.Disk ⟦<S as Speaks<D>>⟧.formats core.old (λ f s h.
+        build_at h number ≡ Some (build_parts building)
+        → TakesEvent S.Scheme L.Elector K.Disk f s core.new h (event.Built number payload) out.old.items out.new.items)) }
     ensures disk { disk_of core.new ≡ disk_of core.old }
     ensures fault { IfErr result (λ why. why ≡ step_fault.Memory) }
 {
@@ -85,7 +90,9 @@ fn take_payload<S: Scheme<D> + Drop, L: Elector<S, D>, D: Digest, K: Disk>(
     payload: D,
     out: &mut Vec<Action<S, D>>,
 ) -> Result<(), NodeFault>
-    ensures taken { OnOk result (AtOwn S.Scheme L.Elector K.Disk (formats D.PartialEq.eq D.spelling S.Signature.spelling S.Certificate.spelling D.reading S.Signature.reading S.Certificate.reading) core.old (λ f s h. build_at h number ≡ Some (build_parts building) → TakesEvent S.Scheme L.Elector K.Disk f s core.new h (event.Built number (Some payload)) out.old.items out.new.items)) }
+    ensures taken { OnOk result (AtOwn S.Scheme L.Elector K.Disk ⟦<S as Speaks<D>>⟧.formats core.old (λ f s h.
+        build_at h number ≡ Some (build_parts building)
+        → TakesEvent S.Scheme L.Elector K.Disk f s core.new h (event.Built number (Some payload)) out.old.items out.new.items)) }
     ensures disk { disk_of core.new ≡ disk_of core.old }
     ensures fault { IfErr result (λ why. why ≡ step_fault.Memory) }
 {
@@ -108,7 +115,10 @@ fn take_no_payload<S: Scheme<D> + Drop, L: Elector<S, D>, D: Digest, K: Disk>(
     number: u64,
     building: Building<D, S::PublicKey>,
 ) -> Result<(), NodeFault>
-    ensures taken { OnOk result (AtOwn S.Scheme L.Elector K.Disk (formats D.PartialEq.eq D.spelling S.Signature.spelling S.Certificate.spelling D.reading S.Signature.reading S.Certificate.reading) core.old (λ f s h. build_at h number ≡ Some (build_parts building) → (actions : List (Action S D S.PublicKey S.Signature S.Certificate)) → TakesEvent S.Scheme L.Elector K.Disk f s core.new h (event.Built number None) actions actions)) }
+    ensures taken { OnOk result (AtOwn S.Scheme L.Elector K.Disk ⟦<S as Speaks<D>>⟧.formats core.old (λ f s h.
+        build_at h number ≡ Some (build_parts building)
+        → (actions : List (Action S D S.PublicKey S.Signature S.Certificate))
+        → TakesEvent S.Scheme L.Elector K.Disk f s core.new h (event.Built number None) actions actions)) }
     ensures disk { disk_of core.new ≡ disk_of core.old }
     ensures fault { IfErr result (λ why. why ≡ step_fault.Memory) }
 {
@@ -137,7 +147,10 @@ pub(crate) fn take_checked<S: Scheme<D> + Drop, L: Elector<S, D>, D: Digest, K: 
     view: View,
     answer: Option<bool>,
 ) -> Result<(), NodeFault>
-    ensures taken { OnOk result (AtOwn S.Scheme L.Elector K.Disk (formats D.PartialEq.eq D.spelling S.Signature.spelling S.Certificate.spelling D.reading S.Signature.reading S.Certificate.reading) core.old (λ f s h. check_at h number ≡ Some view → (actions : List (Action S D S.PublicKey S.Signature S.Certificate)) → TakesEvent S.Scheme L.Elector K.Disk f s core.new h (event.Checked number answer) actions actions)) }
+    ensures taken { OnOk result (AtOwn S.Scheme L.Elector K.Disk ⟦<S as Speaks<D>>⟧.formats core.old (λ f s h.
+        check_at h number ≡ Some view
+        → (actions : List (Action S D S.PublicKey S.Signature S.Certificate))
+        → TakesEvent S.Scheme L.Elector K.Disk f s core.new h (event.Checked number answer) actions actions)) }
     ensures disk { disk_of core.new ≡ disk_of core.old }
     ensures fault { IfErr result (λ why. why ≡ step_fault.Memory) }
 {

@@ -3,7 +3,6 @@
 ghost use Rattle.std.specs.Prelude.{◌≡◌, IfOk, OnErr, Some, false, ◌<◌, ◌^◌};
 ghost use Rattle.simplex_member.specs.declared.refusal.Refusal.{Refusal};
 ghost use Rattle.simplex_member.specs.First.{IsFirst};
-ghost use Rattle.simplex_member.specs.Packet.{formats};
 ghost use Rattle.simplex_member.specs.Refusals.{needs_nothing, packet_tests};
 ghost use Rattle.node_input.specs.Deciding.{IsDecided};
 ghost use Rattle.node_core.specs.Keeps.{AtAll, AtOwn};
@@ -15,7 +14,7 @@ use journal_single::Disk;
 use messages_certificates::Certificate;
 use node_core::Core;
 use node_inbox::{Message, message_in};
-use simplex_member::{Channel, Refusal};
+use simplex_member::{Channel, Refusal, Speaks};
 use simplex_messages::Vote;
 use std::alloc::AllocError;
 use types_core::{Digest, Participant, Scheme, View};
@@ -42,9 +41,12 @@ pub(crate) fn decide<S: Scheme<D> + Drop, L: Elector<S, D>, D: Digest, K: Disk>(
     channel: Channel,
     bytes: &[u8],
 ) -> Result<Decided<S, D>, AllocError>
-    ensures decided { IfOk result (λ decided. AtOwn S.Scheme L.Elector K.Disk (formats D.PartialEq.eq D.spelling S.Signature.spelling S.Certificate.spelling D.reading S.Signature.reading S.Certificate.reading) core.now (λ f s h. IsDecided S.Scheme f s h sender (f.packet_in channel bytes.now) (bytes_tests S.Scheme f s h sender channel bytes.now) decided)) }
+    ensures decided { IfOk result (λ decided.
+        AtOwn S.Scheme L.Elector K.Disk ⟦<S as Speaks<D>>⟧.formats core.now (λ f s h.
+        IsDecided S.Scheme f s h sender (f.packet_in channel bytes.now) (bytes_tests S.Scheme f s h sender channel bytes.now) decided)) }
     ensures size { AtAll S.Scheme L.Elector K.Disk core.now (λ f s h. S.size s.voter.scheme < 2 ^ 32) }
-    ensures memory { OnErr result (AtOwn S.Scheme L.Elector K.Disk (formats D.PartialEq.eq D.spelling S.Signature.spelling S.Certificate.spelling D.reading S.Signature.reading S.Certificate.reading) core.now (λ f s h. (r : Refusal) → IsFirst (bytes_tests S.Scheme f s h sender channel bytes.now) (Some r) → needs_nothing r ≡ false)) }
+    ensures memory { OnErr result (AtOwn S.Scheme L.Elector K.Disk ⟦<S as Speaks<D>>⟧.formats core.now
+        (λ f s h. (r : Refusal) → IsFirst (bytes_tests S.Scheme f s h sender channel bytes.now) (Some r) → needs_nothing r ≡ false)) }
 {
     if let Some(refusal) = sender_refusal(core, sender) {
         return Ok(Decided::Refused(refusal));
@@ -63,7 +65,9 @@ fn decide_message<S: Scheme<D> + Drop, L: Elector<S, D>, D: Digest, K: Disk>(
     sender: Participant,
     message: Message<S, D>,
 ) -> Decided<S, D>
-    ensures { AtOwn S.Scheme L.Elector K.Disk (formats D.PartialEq.eq D.spelling S.Signature.spelling S.Certificate.spelling D.reading S.Signature.reading S.Certificate.reading) core.now (λ f s h. IsAnother S.Scheme f s sender → IsDecided S.Scheme f s h sender (Some (as_packet message)) (packet_tests S.Scheme f s h sender (Some (as_packet message))) result) }
+    ensures { AtOwn S.Scheme L.Elector K.Disk ⟦<S as Speaks<D>>⟧.formats core.now (λ f s h.
+        IsAnother S.Scheme f s sender
+        → IsDecided S.Scheme f s h sender (Some (as_packet message)) (packet_tests S.Scheme f s h sender (Some (as_packet message))) result) }
 {
     match message {
         Message::Vote(vote) => match vote_refusal(core, sender, &vote) {

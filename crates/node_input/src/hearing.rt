@@ -2,7 +2,7 @@
 
 ghost use Rattle.std.specs.Prelude.{◌≡◌, IfErr, IfOk, OnOk};
 ghost use Rattle.simplex_member.specs.declared.fault.NodeFault.TheVariants as step_fault;
-ghost use Rattle.simplex_member.specs.Packet.{Formats, formats};
+ghost use Rattle.simplex_member.specs.Packet.{Formats};
 ghost use Rattle.node_outbox.specs.Handing.{HandsOut};
 ghost use Rattle.node_input.specs.Hearing.{IsHeard, admission_deeds};
 ghost use Rattle.node_core.specs.Keeps.{AtOwn, disk_of};
@@ -12,7 +12,7 @@ use journal_single::Disk;
 use node_core::Core;
 use node_outbox::{hand_out, report_if};
 use simplex_batcher::Admission;
-use simplex_member::{Action, NodeFault, Refusal};
+use simplex_member::{Action, NodeFault, Refusal, Speaks};
 use simplex_messages::Vote;
 use types_core::{Digest, Participant, Scheme};
 use types_terms::Elector;
@@ -29,7 +29,10 @@ pub(crate) fn take_vote<S: Scheme<D> + Drop, L: Elector<S, D>, D: Digest, K: Dis
     vote: Vote<S, D>,
     out: &mut Vec<Action<S, D>>,
 ) -> Result<Option<Refusal>, NodeFault>
-    ensures heard { IfOk result (λ refused. AtOwn S.Scheme L.Elector K.Disk (formats D.PartialEq.eq D.spelling S.Signature.spelling S.Certificate.spelling D.reading S.Signature.reading S.Certificate.reading) core.old (λ f s h. IsAnother S.Scheme f s sender → MayBeHeard S.Scheme f s h sender vote
+    ensures heard { IfOk result (λ refused.
+        AtOwn S.Scheme L.Elector K.Disk ⟦<S as Speaks<D>>⟧.formats core.old (λ f s h.
+        IsAnother S.Scheme f s sender
+        → MayBeHeard S.Scheme f s h sender vote
         → IsHeard S.Scheme L.Elector K.Disk f s core.new h sender vote refused out.old.items out.new.items)) }
     ensures disk { disk_of core.new ≡ disk_of core.old }
     ensures fault { IfErr result (λ why. why ≡ step_fault.Memory) }
@@ -61,7 +64,8 @@ fn hand_admission_out<S: Scheme<D>, D: Digest>(
     admission: Admission<S, D>,
     out: &mut Vec<Action<S, D>>,
 ) -> Result<(), NodeFault>
-    ensures done { OnOk result ((f : Formats S D S.PublicKey S.Signature S.Certificate) → HandsOut f out.old.items out.new.items (admission_deeds sender admission)) }
+    ensures done { OnOk result ((f : Formats S D S.PublicKey S.Signature S.Certificate)
+        → HandsOut f out.old.items out.new.items (admission_deeds sender admission)) }
     ensures fault { IfErr result (λ why. why ≡ step_fault.Memory) }
 {
     if admission.added {

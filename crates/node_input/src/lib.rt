@@ -2,13 +2,13 @@
 #![tactic(auto)]
 
 mod answering;
-mod certificates;
 mod deciding;
 mod hearing;
 mod receiving;
 mod refusing;
 mod serving;
 mod stepping;
+mod taking_certificates;
 mod telling;
 mod verdicts;
 

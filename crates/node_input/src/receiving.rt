@@ -5,7 +5,7 @@ ghost use Rattle.simplex_member.specs.declared.event.Channel.{Channel};
 ghost use Rattle.simplex_member.specs.declared.event.Event.TheVariants as event;
 ghost use Rattle.simplex_member.specs.declared.fault.NodeFault.TheVariants as step_fault;
 ghost use Rattle.simplex_member.specs.Deeds.{Blocks};
-ghost use Rattle.simplex_member.specs.Packet.{Formats, formats};
+ghost use Rattle.simplex_member.specs.Packet.{Formats};
 ghost use Rattle.simplex_member.specs.Refusals.{blocks_sender};
 ghost use Rattle.node_outbox.specs.Handing.{HandsOut};
 ghost use Rattle.node_input.specs.Deciding.{IsDecided};
@@ -14,16 +14,16 @@ ghost use Rattle.node_input.specs.Refusing.{bytes_tests};
 ghost use Rattle.node_input.specs.Stepping.{IsHandled};
 ghost use Rattle.node_core.specs.Telling.{TellsOfDisk};
 
-use crate::certificates::take_certificate;
 use crate::deciding::{Decided, decide};
 use crate::hearing::take_vote;
 use crate::serving::take_ask;
+use crate::taking_certificates::take_certificate;
 use journal_single::Disk;
 use node_core::Core;
 use node_inbox::blocks;
 use node_outbox::hand_out;
 use node_record::a_ledger_at_rest_leaves_its_record;
-use simplex_member::{Action, Channel, NodeFault, Refusal};
+use simplex_member::{Action, Channel, NodeFault, Refusal, Speaks};
 use types_core::{Digest, Participant, Scheme};
 use types_terms::Elector;
 
@@ -35,7 +35,9 @@ pub(crate) fn handle_packet<S: Scheme<D> + Drop, L: Elector<S, D>, D: Digest, K:
     bytes: Vec<u8>,
     out: &mut Vec<Action<S, D>>,
 ) -> Result<Option<Refusal>, NodeFault>
-    ensures handled { AtOwn S.Scheme L.Elector K.Disk (formats D.PartialEq.eq D.spelling S.Signature.spelling S.Certificate.spelling D.reading S.Signature.reading S.Certificate.reading) core.old (λ f s h. out.old.items ≡ [] → IsHandled S.Scheme L.Elector K.Disk f s core.old core.new h (event.Packet sender channel bytes) out.new.items result) }
+    ensures handled { AtOwn S.Scheme L.Elector K.Disk ⟦<S as Speaks<D>>⟧.formats core.old (λ f s h.
+        out.old.items ≡ []
+        → IsHandled S.Scheme L.Elector K.Disk f s core.old core.new h (event.Packet sender channel bytes) out.new.items result) }
     ensures faults { TellsOfDisk K.Disk (disk_of core.old) (disk_of core.new) result }
 {
     a_ledger_at_rest_leaves_its_record::<S, D, K>();
@@ -53,7 +55,12 @@ fn handle_decided<S: Scheme<D> + Drop, L: Elector<S, D>, D: Digest, K: Disk>(
     bytes: Vec<u8>,
     out: &mut Vec<Action<S, D>>,
 ) -> Result<Option<Refusal>, NodeFault>
-    ensures handled { AtOwn S.Scheme L.Elector K.Disk (formats D.PartialEq.eq D.spelling S.Signature.spelling S.Certificate.spelling D.reading S.Signature.reading S.Certificate.reading) core.old (λ f s h. (by : Channel) → S.size s.voter.scheme < 2 ^ 32 → IsDecided S.Scheme f s h sender (f.packet_in by bytes.items) (bytes_tests S.Scheme f s h sender by bytes.items) decided → out.old.items ≡ [] → IsHandled S.Scheme L.Elector K.Disk f s core.old core.new h (event.Packet sender by bytes) out.new.items result) }
+    ensures handled { AtOwn S.Scheme L.Elector K.Disk ⟦<S as Speaks<D>>⟧.formats core.old (λ f s h.
+        (by : Channel)
+        → S.size s.voter.scheme < 2 ^ 32
+        → IsDecided S.Scheme f s h sender (f.packet_in by bytes.items) (bytes_tests S.Scheme f s h sender by bytes.items) decided
+        → out.old.items ≡ []
+        → IsHandled S.Scheme L.Elector K.Disk f s core.old core.new h (event.Packet sender by bytes) out.new.items result) }
     ensures faults { TellsOfDisk K.Disk (disk_of core.old) (disk_of core.new) result }
 {
     a_ledger_at_rest_leaves_its_record::<S, D, K>();
@@ -82,7 +89,8 @@ fn refuse<S: Scheme<D>, D: Digest>(
     refusal: Refusal,
     out: &mut Vec<Action<S, D>>,
 ) -> Result<(), NodeFault>
-    ensures done { OnOk result ((f : Formats S D S.PublicKey S.Signature S.Certificate) → HandsOut f out.old.items out.new.items (if blocks_sender refusal then Blocks sender ∷ [] else [])) }
+    ensures done { OnOk result ((f : Formats S D S.PublicKey S.Signature S.Certificate)
+        → HandsOut f out.old.items out.new.items (if blocks_sender refusal then Blocks sender ∷ [] else [])) }
     ensures memory { OnErr result (blocks_sender refusal ≡ true) }
     ensures fault { IfErr result (λ why. why ≡ step_fault.Memory) }
 {

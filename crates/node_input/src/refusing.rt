@@ -7,7 +7,6 @@ ghost use Rattle.simplex_member.specs.Allowed.{Allowed};
 ghost use Rattle.simplex_member.specs.Asked.{IsAwaited};
 ghost use Rattle.simplex_member.specs.First.{IsFirst};
 ghost use Rattle.simplex_member.specs.Layers.{latest};
-ghost use Rattle.simplex_member.specs.Packet.{formats};
 ghost use Rattle.simplex_member.specs.Point.{Came};
 ghost use Rattle.simplex_member.specs.Refusals.{certificate_tests, sender_tests, tests};
 ghost use Rattle.simplex_member.specs.Setup.{IsInTime};
@@ -18,7 +17,7 @@ use journal_single::Disk;
 use messages_certificates::Certificate;
 use node_core::Core;
 use node_inbox::{has_parent_below, vote_has_parent_below};
-use simplex_member::Refusal;
+use simplex_member::{Refusal, Speaks};
 use simplex_messages::Vote;
 use types_core::{Attributable, Digest, Epochable, Participant, Scheme, View, Viewable};
 use types_terms::Elector;
@@ -77,8 +76,10 @@ pub(crate) fn certificate_refusal<S: Scheme<D> + Drop, L: Elector<S, D>, D: Dige
     core: &Core<S, L, D, K>,
     certificate: &Certificate<S, D>,
 ) -> Option<Refusal>
-    ensures first { AtOwn S.Scheme L.Elector K.Disk (formats D.PartialEq.eq D.spelling S.Signature.spelling S.Certificate.spelling D.reading S.Signature.reading S.Certificate.reading) core.now (λ f s h. IsFirst (certificate_tests S.Scheme f s h certificate.now) result) }
-    ensures may { IfNone result (AtOwn S.Scheme L.Elector K.Disk (formats D.PartialEq.eq D.spelling S.Signature.spelling S.Certificate.spelling D.reading S.Signature.reading S.Certificate.reading) core.now (λ f s h. Allowed S.Scheme f s h (Came certificate.now))) }
+    ensures first { AtOwn S.Scheme L.Elector K.Disk ⟦<S as Speaks<D>>⟧.formats core.now
+        (λ f s h. IsFirst (certificate_tests S.Scheme f s h certificate.now) result) }
+    ensures may { IfNone result
+        (AtOwn S.Scheme L.Elector K.Disk ⟦<S as Speaks<D>>⟧.formats core.now (λ f s h. Allowed S.Scheme f s h (Came certificate.now))) }
 {
     let view = certificate.view();
     if certificate.epoch() != core.settings.owner.epoch {
@@ -111,8 +112,9 @@ pub(crate) fn verdict_refusal<S: Scheme<D> + Drop, L: Elector<S, D>, D: Digest, 
     core: &Core<S, L, D, K>,
     view: View,
 ) -> Option<Refusal>
-    ensures first { AtOwn S.Scheme L.Elector K.Disk (formats D.PartialEq.eq D.spelling S.Signature.spelling S.Certificate.spelling D.reading S.Signature.reading S.Certificate.reading) core.now (λ f s h. (ok : Bool) → IsFirst (tests S.Scheme f s h (event.Verdict view ok)) result) }
-    ensures may { IfNone result (AtOwn S.Scheme L.Elector K.Disk (formats D.PartialEq.eq D.spelling S.Signature.spelling S.Certificate.spelling D.reading S.Signature.reading S.Certificate.reading) core.now (λ f s h. IsAwaited s h view)) }
+    ensures first { AtOwn S.Scheme L.Elector K.Disk ⟦<S as Speaks<D>>⟧.formats core.now
+        (λ f s h. (ok : Bool) → IsFirst (tests S.Scheme f s h (event.Verdict view ok)) result) }
+    ensures may { IfNone result (AtOwn S.Scheme L.Elector K.Disk ⟦<S as Speaks<D>>⟧.formats core.now (λ f s h. IsAwaited s h view)) }
 {
     if core.ledger.recorded().is_judged(view) {
         return Some(Refusal::SecondVerdict);

@@ -3,7 +3,6 @@
 ghost use Rattle.std.specs.Prelude.{◌≡◌, IfErr, OnOk};
 ghost use Rattle.simplex_member.specs.declared.fault.NodeFault.TheVariants as step_fault;
 ghost use Rattle.simplex_member.specs.Allowed.{Allowed};
-ghost use Rattle.simplex_member.specs.Packet.{formats};
 ghost use Rattle.simplex_member.specs.Point.{Wanted};
 ghost use Rattle.node_core.specs.Keeps.{AtOwn};
 ghost use Rattle.node_core.specs.Taking.{IsTaken};
@@ -13,7 +12,7 @@ use node_core::Core;
 use node_outbox::hand_out;
 use node_record::quiet_points_leave_the_tables;
 use node_votes::silent_points_leave_votes;
-use simplex_member::{Action, Channel, NodeFault};
+use simplex_member::{Action, Channel, NodeFault, Speaks};
 use types_core::{Digest, Participant, Scheme, View};
 use types_terms::Elector;
 
@@ -28,7 +27,9 @@ pub(crate) fn take_ask<S: Scheme<D> + Drop, L: Elector<S, D>, D: Digest, K: Disk
     view: View,
     out: &mut Vec<Action<S, D>>,
 ) -> Result<(), NodeFault>
-    ensures taken { OnOk result (AtOwn S.Scheme L.Elector K.Disk (formats D.PartialEq.eq D.spelling S.Signature.spelling S.Certificate.spelling D.reading S.Signature.reading S.Certificate.reading) core.now (λ f s h. Allowed S.Scheme f s h (Wanted sender view) → IsTaken S.Scheme L.Elector K.Disk f s core.now h (Wanted sender view) out.old.items out.new.items)) }
+    ensures taken { OnOk result (AtOwn S.Scheme L.Elector K.Disk ⟦<S as Speaks<D>>⟧.formats core.now (λ f s h.
+        Allowed S.Scheme f s h (Wanted sender view)
+        → IsTaken S.Scheme L.Elector K.Disk f s core.now h (Wanted sender view) out.old.items out.new.items)) }
     ensures fault { IfErr result (λ why. why ≡ step_fault.Memory) }
 {
     silent_points_leave_votes::<S, D>();

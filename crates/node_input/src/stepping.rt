@@ -2,7 +2,6 @@
 
 ghost use Rattle.std.specs.Prelude.{◌≡◌, []};
 ghost use Rattle.simplex_member.specs.declared.event.Event.TheVariants as event;
-ghost use Rattle.simplex_member.specs.Packet.{formats};
 ghost use Rattle.node_core.specs.Keeps.{AtOwn, disk_of};
 ghost use Rattle.node_input.specs.Stepping.{IsAnswered, IsHandled};
 ghost use Rattle.node_core.specs.Telling.{TellsOfDisk};
@@ -15,7 +14,7 @@ use crate::verdicts::take_verdict;
 use journal_single::Disk;
 use node_core::Core;
 use node_record::a_ledger_at_rest_leaves_its_record;
-use simplex_member::{Action, Event, NodeFault, Refusal, Reply};
+use simplex_member::{Action, Event, NodeFault, Refusal, Reply, Speaks};
 use types_core::{Digest, Scheme, View};
 use types_terms::Elector;
 
@@ -24,7 +23,8 @@ pub fn answer<S: Scheme<D> + Drop, L: Elector<S, D>, D: Digest, K: Disk>(
     core: &mut Core<S, L, D, K>,
     event: Event<D>,
 ) -> Result<Reply<S, D>, NodeFault>
-    ensures answered { AtOwn S.Scheme L.Elector K.Disk (formats D.PartialEq.eq D.spelling S.Signature.spelling S.Certificate.spelling D.reading S.Signature.reading S.Certificate.reading) core.old (λ f s h. IsAnswered S.Scheme L.Elector K.Disk f s core.old core.new h event result) }
+    ensures answered { AtOwn S.Scheme L.Elector K.Disk ⟦<S as Speaks<D>>⟧.formats core.old
+        (λ f s h. IsAnswered S.Scheme L.Elector K.Disk f s core.old core.new h event result) }
     ensures faults { TellsOfDisk K.Disk (disk_of core.old) (disk_of core.new) result }
 {
     let mut actions = Vec::new(core.settings.alloc);
@@ -40,7 +40,8 @@ fn handle<S: Scheme<D> + Drop, L: Elector<S, D>, D: Digest, K: Disk>(
     event: Event<D>,
     out: &mut Vec<Action<S, D>>,
 ) -> Result<Option<Refusal>, NodeFault>
-    ensures handled { AtOwn S.Scheme L.Elector K.Disk (formats D.PartialEq.eq D.spelling S.Signature.spelling S.Certificate.spelling D.reading S.Signature.reading S.Certificate.reading) core.old (λ f s h. out.old.items ≡ [] → IsHandled S.Scheme L.Elector K.Disk f s core.old core.new h event out.new.items result) }
+    ensures handled { AtOwn S.Scheme L.Elector K.Disk ⟦<S as Speaks<D>>⟧.formats core.old
+        (λ f s h. out.old.items ≡ [] → IsHandled S.Scheme L.Elector K.Disk f s core.old core.new h event out.new.items result) }
     ensures faults { TellsOfDisk K.Disk (disk_of core.old) (disk_of core.new) result }
 {
     match event {
@@ -63,7 +64,8 @@ fn handle_built<S: Scheme<D> + Drop, L: Elector<S, D>, D: Digest, K: Disk>(
     payload: Option<D>,
     out: &mut Vec<Action<S, D>>,
 ) -> Result<Option<Refusal>, NodeFault>
-    ensures handled { AtOwn S.Scheme L.Elector K.Disk (formats D.PartialEq.eq D.spelling S.Signature.spelling S.Certificate.spelling D.reading S.Signature.reading S.Certificate.reading) core.old (λ f s h. out.old.items ≡ [] → IsHandled S.Scheme L.Elector K.Disk f s core.old core.new h (event.Built number payload) out.new.items result) }
+    ensures handled { AtOwn S.Scheme L.Elector K.Disk ⟦<S as Speaks<D>>⟧.formats core.old (λ f s h.
+        out.old.items ≡ [] → IsHandled S.Scheme L.Elector K.Disk f s core.old core.new h (event.Built number payload) out.new.items result) }
     ensures faults { TellsOfDisk K.Disk (disk_of core.old) (disk_of core.new) result }
 {
     a_ledger_at_rest_leaves_its_record::<S, D, K>();
@@ -82,7 +84,8 @@ fn handle_checked<S: Scheme<D> + Drop, L: Elector<S, D>, D: Digest, K: Disk>(
     number: u64,
     answer: Option<bool>,
 ) -> Result<Option<Refusal>, NodeFault>
-    ensures handled { AtOwn S.Scheme L.Elector K.Disk (formats D.PartialEq.eq D.spelling S.Signature.spelling S.Certificate.spelling D.reading S.Signature.reading S.Certificate.reading) core.old (λ f s h. IsHandled S.Scheme L.Elector K.Disk f s core.old core.new h (event.Checked number answer) [] result) }
+    ensures handled { AtOwn S.Scheme L.Elector K.Disk ⟦<S as Speaks<D>>⟧.formats core.old
+        (λ f s h. IsHandled S.Scheme L.Elector K.Disk f s core.old core.new h (event.Checked number answer) [] result) }
     ensures faults { TellsOfDisk K.Disk (disk_of core.old) (disk_of core.new) result }
 {
     a_ledger_at_rest_leaves_its_record::<S, D, K>();
@@ -102,7 +105,8 @@ fn handle_verdict<S: Scheme<D> + Drop, L: Elector<S, D>, D: Digest, K: Disk>(
     ok: bool,
     out: &mut Vec<Action<S, D>>,
 ) -> Result<Option<Refusal>, NodeFault>
-    ensures handled { AtOwn S.Scheme L.Elector K.Disk (formats D.PartialEq.eq D.spelling S.Signature.spelling S.Certificate.spelling D.reading S.Signature.reading S.Certificate.reading) core.old (λ f s h. out.old.items ≡ [] → IsHandled S.Scheme L.Elector K.Disk f s core.old core.new h (event.Verdict view ok) out.new.items result) }
+    ensures handled { AtOwn S.Scheme L.Elector K.Disk ⟦<S as Speaks<D>>⟧.formats core.old (λ f s h.
+        out.old.items ≡ [] → IsHandled S.Scheme L.Elector K.Disk f s core.old core.new h (event.Verdict view ok) out.new.items result) }
     ensures faults { TellsOfDisk K.Disk (disk_of core.old) (disk_of core.new) result }
 {
     a_ledger_at_rest_leaves_its_record::<S, D, K>();
@@ -120,7 +124,8 @@ fn handle_moment<S: Scheme<D> + Drop, L: Elector<S, D>, D: Digest, K: Disk>(
     core: &mut Core<S, L, D, K>,
     now: u64,
 ) -> Result<Option<Refusal>, NodeFault>
-    ensures handled { AtOwn S.Scheme L.Elector K.Disk (formats D.PartialEq.eq D.spelling S.Signature.spelling S.Certificate.spelling D.reading S.Signature.reading S.Certificate.reading) core.old (λ f s h. IsHandled S.Scheme L.Elector K.Disk f s core.old core.new h (event.Moment now) [] result) }
+    ensures handled { AtOwn S.Scheme L.Elector K.Disk ⟦<S as Speaks<D>>⟧.formats core.old
+        (λ f s h. IsHandled S.Scheme L.Elector K.Disk f s core.old core.new h (event.Moment now) [] result) }
     ensures faults { TellsOfDisk K.Disk (disk_of core.old) (disk_of core.new) result }
 {
     a_ledger_at_rest_leaves_its_record::<S, D, K>();

@@ -17,7 +17,8 @@ pub(crate) fn take_moment<S: Scheme<D> + Drop, L: Elector<S, D>, D: Digest, K: D
     core: &mut Core<S, L, D, K>,
     now: u64,
 )
-    ensures taken { AtAll S.Scheme L.Elector K.Disk core.old (λ f s h. f.same ≡ D.PartialEq.eq → latest h ≤ now → IsInTime s now → CoreKeeps S.Scheme L.Elector K.Disk f s core.new (Told now ∷ h)) }
+    ensures taken { AtAll S.Scheme L.Elector K.Disk core.old (λ f s h.
+        f.same ≡ D.PartialEq.eq → latest h ≤ now → IsInTime s now → CoreKeeps S.Scheme L.Elector K.Disk f s core.new (Told now ∷ h)) }
     ensures disk { disk_of core.new ≡ disk_of core.old }
 {
     silent_points_leave_votes::<S, D>();

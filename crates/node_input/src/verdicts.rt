@@ -5,7 +5,6 @@ ghost use Rattle.journal_single.specs.Disk.{LeavesOnly, counted};
 ghost use Rattle.simplex_member.specs.Asked.{IsAwaited};
 ghost use Rattle.simplex_member.specs.declared.fault.NodeFault.{NodeFault};
 ghost use Rattle.simplex_member.specs.declared.fault.NodeFault.TheVariants as step_fault;
-ghost use Rattle.simplex_member.specs.Packet.{formats};
 ghost use Rattle.simplex_member.specs.Point.{History, Judged};
 ghost use Rattle.simplex_member.specs.Setup.{Setup};
 ghost use Rattle.node_core.specs.Keeps.{AtOwn, disk_of};
@@ -19,7 +18,7 @@ use node_inbox::record;
 use node_outbox::report_verdict;
 use node_record::quiet_points_leave_the_tables;
 use node_votes::silent_points_leave_votes;
-use simplex_member::{Action, NodeFault, awaited_verdicts_may_be_taken};
+use simplex_member::{Action, NodeFault, Speaks, awaited_verdicts_may_be_taken};
 use types_core::{Digest, Round, Scheme, View};
 use types_terms::Elector;
 
@@ -35,10 +34,17 @@ pub(crate) fn take_verdict<S: Scheme<D> + Drop, L: Elector<S, D>, D: Digest, K: 
     ok: bool,
     out: &mut Vec<Action<S, D>>,
 ) -> Result<(), NodeFault>
-    ensures taken { OnOk result (AtOwn S.Scheme L.Elector K.Disk (formats D.PartialEq.eq D.spelling S.Signature.spelling S.Certificate.spelling D.reading S.Signature.reading S.Certificate.reading) core.old (λ f s h. IsAwaited s h view → IsTaken S.Scheme L.Elector K.Disk f s core.new h (Judged (record { epoch = s.voter.epoch; view = view }) ok) out.old.items out.new.items)) }
+    ensures taken { OnOk result (AtOwn S.Scheme L.Elector K.Disk ⟦<S as Speaks<D>>⟧.formats core.old (λ f s h.
+        IsAwaited s h view
+        → IsTaken S.Scheme L.Elector K.Disk f s core.new h (Judged (record { epoch = s.voter.epoch; view = view }) ok) out.old.items
+        out.new.items)) }
 
     // A crash at any moment leaves the record from before it, with the verdict or without.
-    ensures any_moment { AtOwn S.Scheme L.Elector K.Disk (formats D.PartialEq.eq D.spelling S.Signature.spelling S.Certificate.spelling D.reading S.Signature.reading S.Certificate.reading) core.old (λ f s h. IsAwaited s h view → K.keeps → LeavesOnly (K.calls (disk_of core.old)) (K.calls (disk_of core.new)) (IsLeftBy S.Scheme f s h (Judged (record { epoch = s.voter.epoch; view = view }) ok))) }
+    ensures any_moment { AtOwn S.Scheme L.Elector K.Disk ⟦<S as Speaks<D>>⟧.formats core.old (λ f s h.
+        IsAwaited s h view
+        → K.keeps
+        → LeavesOnly (K.calls (disk_of core.old)) (K.calls (disk_of core.new))
+        (IsLeftBy S.Scheme f s h (Judged (record { epoch = s.voter.epoch; view = view }) ok))) }
 
     // The disk has failed once more exactly where that is told.
     ensures device { IsErrOf result NodeFault.Device → K.failed (disk_of core.new) ≡ counted false (K.failed (disk_of core.old)) }
@@ -61,8 +67,12 @@ fn learn_verdict<S: Scheme<D> + Drop, L: Elector<S, D>, D: Digest, K: Disk>(
     ok: bool,
     out: &mut Vec<Action<S, D>>,
 ) -> Result<(), NodeFault>
-    ensures taken { OnOk result ((s : Setup S D S.Certificate) (h : History S D S.PublicKey S.Signature S.Certificate) → RecordIsAhead S.Scheme L.Elector K.Disk (formats D.PartialEq.eq D.spelling S.Signature.spelling S.Certificate.spelling D.reading S.Signature.reading S.Certificate.reading (S.size s.voter.scheme)) s core.old h (Judged (record { epoch = s.voter.epoch; view = view }) ok) → IsAwaited s h view
-        → IsTaken S.Scheme L.Elector K.Disk (formats D.PartialEq.eq D.spelling S.Signature.spelling S.Certificate.spelling D.reading S.Signature.reading S.Certificate.reading (S.size s.voter.scheme)) s core.new h (Judged (record { epoch = s.voter.epoch; view = view }) ok) out.old.items out.new.items) }
+    ensures taken { OnOk result ((s : Setup S D S.Certificate) (h : History S D S.PublicKey S.Signature S.Certificate)
+        → RecordIsAhead S.Scheme L.Elector K.Disk (⟦<S as Speaks<D>>⟧.formats (S.size s.voter.scheme)) s core.old h
+        (Judged (record { epoch = s.voter.epoch; view = view }) ok)
+        → IsAwaited s h view
+        → IsTaken S.Scheme L.Elector K.Disk (⟦<S as Speaks<D>>⟧.formats (S.size s.voter.scheme)) s core.new h
+        (Judged (record { epoch = s.voter.epoch; view = view }) ok) out.old.items out.new.items) }
     ensures disk { disk_of core.new ≡ disk_of core.old }
     ensures fault { IfErr result (λ why. why ≡ step_fault.Memory) }
 {

@@ -23,7 +23,10 @@ pub fn hand_out<S: Scheme<D>, D: Digest>(
     action: Action<S, D>,
     out: &mut Vec<Action<S, D>>,
 ) -> Result<(), NodeFault>
-    ensures done { OnOk result ((f : Formats S D S.PublicKey S.Signature S.Certificate) (deed : Deed S D S.PublicKey S.Signature S.Certificate) → IsAction f action deed → HandsOut f out.old.items out.new.items (deed ∷ [])) }
+    ensures done { OnOk result ((f : Formats S D S.PublicKey S.Signature S.Certificate)
+        (deed : Deed S D S.PublicKey S.Signature S.Certificate)
+        → IsAction f action deed
+        → HandsOut f out.old.items out.new.items (deed ∷ [])) }
     ensures fault { IfErr result (λ why. why ≡ step_fault.Memory) }
 {
     let Ok(()) = out.push(action) else {
@@ -41,7 +44,8 @@ pub fn report_if<S: Scheme<D>, D: Digest>(
     report: Option<Activity<S, D>>,
     out: &mut Vec<Action<S, D>>,
 ) -> Result<(), NodeFault>
-    ensures done { OnOk result ((f : Formats S D S.PublicKey S.Signature S.Certificate) → HandsOut f out.old.items out.new.items (map Reports (option_to_list report))) }
+    ensures done { OnOk result ((f : Formats S D S.PublicKey S.Signature S.Certificate)
+        → HandsOut f out.old.items out.new.items (map Reports (option_to_list report))) }
     ensures fault { IfErr result (λ why. why ≡ step_fault.Memory) }
 {
     match report {
@@ -59,7 +63,8 @@ pub fn hand_out_final<S: Scheme<D>, D: Digest>(
     finalized: Option<Proposal<D>>,
     out: &mut Vec<Action<S, D>>,
 ) -> Result<(), NodeFault>
-    ensures done { OnOk result ((f : Formats S D S.PublicKey S.Signature S.Certificate) → HandsOut f out.old.items out.new.items (map Finalizes (option_to_list finalized))) }
+    ensures done { OnOk result ((f : Formats S D S.PublicKey S.Signature S.Certificate)
+        → HandsOut f out.old.items out.new.items (map Finalizes (option_to_list finalized))) }
     ensures fault { IfErr result (λ why. why ≡ step_fault.Memory) }
 {
     match finalized {
@@ -77,7 +82,8 @@ pub fn block_all<S: Scheme<D>, D: Digest>(
     members: &[Participant],
     out: &mut Vec<Action<S, D>>,
 ) -> Result<(), NodeFault>
-    ensures done { OnOk result ((f : Formats S D S.PublicKey S.Signature S.Certificate) → HandsOut f out.old.items out.new.items (map Blocks members.now)) }
+    ensures done { OnOk result
+        ((f : Formats S D S.PublicKey S.Signature S.Certificate) → HandsOut f out.old.items out.new.items (map Blocks members.now)) }
     ensures fault { IfErr result (λ why. why ≡ step_fault.Memory) }
 {
     for member in members {
@@ -100,7 +106,8 @@ pub fn report_verdict<S: Scheme<D>, D: Digest>(
     ok: bool,
     out: &mut Vec<Action<S, D>>,
 ) -> Result<(), NodeFault>
-    ensures acts { OnOk result ((f : Formats S D S.PublicKey S.Signature S.Certificate) → HandsOut f out.old.items out.new.items (if ok then Reports (activity.Certification notarization.now) ∷ [] else [])) }
+    ensures acts { OnOk result ((f : Formats S D S.PublicKey S.Signature S.Certificate)
+        → HandsOut f out.old.items out.new.items (if ok then Reports (activity.Certification notarization.now) ∷ [] else [])) }
     ensures fault { IfErr result (λ why. why ≡ step_fault.Memory) }
 {
     if !ok {

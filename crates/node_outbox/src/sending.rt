@@ -7,12 +7,12 @@ ghost use Rattle.simplex_messages.specs.Vote.{any_vote_spelling};
 ghost use Rattle.simplex_messages.specs.VoteParts.{vote_artifact};
 ghost use Rattle.simplex_member.specs.declared.fault.NodeFault.TheVariants as step_fault;
 ghost use Rattle.simplex_member.specs.Deeds.{IsAction, Reports, Sends};
-ghost use Rattle.simplex_member.specs.Packet.{Formats, Packet, formats, of_certificate, of_vote, packet_channel};
+ghost use Rattle.simplex_member.specs.Packet.{Formats, Packet, of_certificate, of_vote, packet_channel};
 ghost use Rattle.node_outbox.specs.Handing.{HandsOut};
 
 use crate::handing::hand_out;
 use messages_certificates::{Artifact, Certificate, Nullify};
-use simplex_member::{Action, Channel, NodeFault};
+use simplex_member::{Action, Channel, NodeFault, Speaks};
 use simplex_messages::{Activity, Vote};
 use std::alloc::{AllocError, Global};
 use types_core::{Digest, Duplicate, EncodeSize, Scheme};
@@ -57,7 +57,10 @@ pub fn hand_vote_out<S: Scheme<D>, D: Digest>(
     report: Activity<S, D>,
     out: &mut Vec<Action<S, D>>,
 ) -> Result<(), NodeFault>
-    ensures done { OnOk result ((f : Formats S D S.PublicKey S.Signature S.Certificate) (vote : Vote S D S.PublicKey S.Signature S.Certificate) → bytes.items ≡ f.packet (of_vote vote) → HandsOut f out.old.items out.new.items (Sends None (of_vote vote) ∷ Reports report ∷ [])) }
+    ensures done { OnOk result ((f : Formats S D S.PublicKey S.Signature S.Certificate)
+        (vote : Vote S D S.PublicKey S.Signature S.Certificate)
+        → bytes.items ≡ f.packet (of_vote vote)
+        → HandsOut f out.old.items out.new.items (Sends None (of_vote vote) ∷ Reports report ∷ [])) }
     ensures fault { IfErr result (λ why. why ≡ step_fault.Memory) }
 {
     match hand_out(to_all(Channel::Votes, bytes), out) {
@@ -77,7 +80,9 @@ pub fn send_again<S: Scheme<D>, D: Digest>(
     best: Option<Certificate<S, D>>,
     out: &mut Vec<Action<S, D>>,
 ) -> Result<(), NodeFault>
-    ensures done { OnOk result ((n : ℕ) → HandsOut ((formats D.PartialEq.eq D.spelling S.Signature.spelling S.Certificate.spelling D.reading S.Signature.reading S.Certificate.reading) n) out.old.items out.new.items (Sends None (of_vote (vote.Nullify recorded.now)) ∷ map (λ c. Sends None (of_certificate c)) (option_to_list best))) }
+    ensures done { OnOk result ((n : ℕ)
+        → HandsOut (⟦<S as Speaks<D>>⟧.formats n) out.old.items out.new.items
+        (Sends None (of_vote (vote.Nullify recorded.now)) ∷ map (λ c. Sends None (of_certificate c)) (option_to_list best))) }
     ensures fault { IfErr result (λ why. why ≡ step_fault.Memory) }
 {
     let Ok(copy) = recorded.duplicate(alloc) else {
@@ -98,7 +103,11 @@ fn send<S: Scheme<D>, D: Digest, M: EncodeSize>(
     message: &M,
     out: &mut Vec<Action<S, D>>,
 ) -> Result<(), NodeFault>
-    ensures done { OnOk result ((f : Formats S D S.PublicKey S.Signature S.Certificate) (packet : Packet S D S.PublicKey S.Signature S.Certificate) → f.packet packet ≡ M.spelling message.now → packet_channel packet ≡ channel → HandsOut f out.old.items out.new.items (Sends None packet ∷ [])) }
+    ensures done { OnOk result ((f : Formats S D S.PublicKey S.Signature S.Certificate)
+        (packet : Packet S D S.PublicKey S.Signature S.Certificate)
+        → f.packet packet ≡ M.spelling message.now
+        → packet_channel packet ≡ channel
+        → HandsOut f out.old.items out.new.items (Sends None packet ∷ [])) }
     ensures fault { IfErr result (λ why. why ≡ step_fault.Memory) }
 {
     let Ok(bytes) = spelled(alloc, message) else {
@@ -109,7 +118,10 @@ fn send<S: Scheme<D>, D: Digest, M: EncodeSize>(
 
 /// What sends these bytes to all.
 fn to_all<S: Scheme<D>, D: Digest>(channel: Channel, bytes: Vec<u8>) -> Action<S, D>
-    ensures { (f : Formats S D S.PublicKey S.Signature S.Certificate) (packet : Packet S D S.PublicKey S.Signature S.Certificate) → packet_channel packet ≡ channel → f.packet packet ≡ bytes.items → IsAction f result (Sends None packet) }
+    ensures { (f : Formats S D S.PublicKey S.Signature S.Certificate) (packet : Packet S D S.PublicKey S.Signature S.Certificate)
+        → packet_channel packet ≡ channel
+        → f.packet packet ≡ bytes.items
+        → IsAction f result (Sends None packet) }
 {
     Action::Send {
         to: None,

@@ -40,16 +40,32 @@ impl<S: Scheme<D>, D: Digest, K: Disk> Ledger<S, D, K> {
     /// [`OpenFault::Foreign`], [`OpenFault::Contradiction`], [`OpenFault::Device`] or [`OpenFault::Memory`],
     /// with the disk.
     pub fn open(alloc: Global, scheme: &S, owner: Owner, disk: K) -> Result<Self, (OpenFault, K)>
-        ensures opened { IfOk result (λ ledger. OpensOver K.Disk (artifact_spelling D.spelling S.Signature.spelling S.Certificate.spelling) (Readable ⟦<Artifact<S, D> as Write>⟧.fits (⟦<Artifact<S, D> as Read>⟧.within 65535)) (S.attests scheme.now) (S.certifies scheme.now) owner disk ledger) }
+        ensures opened { IfOk result (λ ledger.
+            OpensOver K.Disk (artifact_spelling D.spelling S.Signature.spelling S.Certificate.spelling)
+            (Readable ⟦<Artifact<S, D> as Write>⟧.fits (⟦<Artifact<S, D> as Read>⟧.within 65535)) (S.attests scheme.now)
+            (S.certifies scheme.now) owner disk ledger) }
 
         // After a crash at any moment of the call the disk reads as a record that a crash before it might have left.
         ensures any_moment { IfOk result (λ ledger. K.keeps → LeavesOnly (K.calls disk) (K.calls (disk_of ledger)) (IsReopened (K.calls disk))) }
-        ensures any_moment_of_a_fault { IfErr result (λ refused. K.keeps → LeavesOnly (K.calls disk) (K.calls refused.1) (IsReopened (K.calls disk))) }
+        ensures any_moment_of_a_fault { IfErr result
+            (λ refused. K.keeps → LeavesOnly (K.calls disk) (K.calls refused.1) (IsReopened (K.calls disk))) }
 
         // A fault says what is on the disk.
-        ensures faults { IfErr result (λ refused. (refused.0 ≡ open_fault.Device) ⊎ ((refused.0 ≡ open_fault.Memory) ⊎ (((place : ℕ) × (refused.0 ≡ open_fault.Foreign place)) ⊎ ((position : ℕ) × (refused.0 ≡ open_fault.Contradiction position))))) }
-        ensures foreign { IfErr result (λ refused. (place : ℕ) → refused.0 ≡ open_fault.Foreign place → K.keeps → IsForeign [] (Readable ⟦<Artifact<S, D> as Write>⟧.fits (⟦<Artifact<S, D> as Read>⟧.within 65535)) ⟦<Artifact<S, D> as Write>⟧.spelling (K.seen disk) place) }
-        ensures contradiction { IfErr result (λ refused. (position : ℕ) → refused.0 ≡ open_fault.Contradiction position → IsContradiction K.Disk (artifact_spelling D.spelling S.Signature.spelling S.Certificate.spelling) (Readable ⟦<Artifact<S, D> as Write>⟧.fits (⟦<Artifact<S, D> as Read>⟧.within 65535)) (S.attests scheme.now) (S.certifies scheme.now) owner disk position) }
+        ensures faults { IfErr result (λ refused.
+            (refused.0 ≡ open_fault.Device) ⊎ ((refused.0 ≡ open_fault.Memory) ⊎
+            (((place : ℕ) × (refused.0 ≡ open_fault.Foreign place)) ⊎ ((position : ℕ) × (refused.0 ≡ open_fault.Contradiction position))))) }
+        ensures foreign { IfErr result (λ refused.
+            (place : ℕ)
+            → refused.0 ≡ open_fault.Foreign place
+            → K.keeps
+            → IsForeign [] (Readable ⟦<Artifact<S, D> as Write>⟧.fits (⟦<Artifact<S, D> as Read>⟧.within 65535))
+            ⟦<Artifact<S, D> as Write>⟧.spelling (K.seen disk) place) }
+        ensures contradiction { IfErr result (λ refused.
+            (position : ℕ)
+            → refused.0 ≡ open_fault.Contradiction position
+            → IsContradiction K.Disk (artifact_spelling D.spelling S.Signature.spelling S.Certificate.spelling)
+            (Readable ⟦<Artifact<S, D> as Write>⟧.fits (⟦<Artifact<S, D> as Read>⟧.within 65535)) (S.attests scheme.now)
+            (S.certifies scheme.now) owner disk position) }
 
         // The disk has failed once more exactly where that is told.
         ensures device { IfErr result (λ refused. refused.0 ≡ open_fault.Device → K.failed refused.1 ≡ counted false (K.failed disk)) }
@@ -77,17 +93,27 @@ impl<S: Scheme<D>, D: Digest, K: Disk> Ledger<S, D, K> {
     /// without it.
     pub fn record(&mut self, artifact: Artifact<S, D>) -> Result<(), NodeFault>
         requires within { artifact_within (S.Certificate.within 65535) artifact }
-        ensures keeps { OnOk result ((owner : Owner) (xs : List (Artifact S D S.PublicKey S.Signature S.Certificate)) → KeepsRecord K.Disk (artifact_spelling D.spelling S.Signature.spelling S.Certificate.spelling) owner self.old xs → MayFollow owner.term_length (entries xs) (entry artifact) → KeepsRecord K.Disk (artifact_spelling D.spelling S.Signature.spelling S.Certificate.spelling) owner self.new (xs ++ artifact ∷ [])) }
+        ensures keeps { OnOk result ((owner : Owner) (xs : List (Artifact S D S.PublicKey S.Signature S.Certificate))
+            → KeepsRecord K.Disk (artifact_spelling D.spelling S.Signature.spelling S.Certificate.spelling) owner self.old xs
+            → MayFollow owner.term_length (entries xs) (entry artifact)
+            → KeepsRecord K.Disk (artifact_spelling D.spelling S.Signature.spelling S.Certificate.spelling) owner self.new (xs ++ artifact ∷ [])) }
 
         // A crash at any moment of the call leaves the record from before it, with the artifact or without.
-        ensures any_moment { (owner : Owner) (xs : List (Artifact S D S.PublicKey S.Signature S.Certificate)) → KeepsRecord K.Disk (artifact_spelling D.spelling S.Signature.spelling S.Certificate.spelling) owner self.old xs → K.keeps → LeavesOnly (K.calls (disk_of self.old)) (K.calls (disk_of self.new)) (IsWithOrWithout (map (artifact_spelling D.spelling S.Signature.spelling S.Certificate.spelling) xs) (artifact_spelling D.spelling S.Signature.spelling S.Certificate.spelling artifact)) }
+        ensures any_moment { (owner : Owner) (xs : List (Artifact S D S.PublicKey S.Signature S.Certificate))
+            → KeepsRecord K.Disk (artifact_spelling D.spelling S.Signature.spelling S.Certificate.spelling) owner self.old xs
+            → K.keeps
+            → LeavesOnly (K.calls (disk_of self.old)) (K.calls (disk_of self.new)) (IsWithOrWithout
+            (map (artifact_spelling D.spelling S.Signature.spelling S.Certificate.spelling) xs)
+            (artifact_spelling D.spelling S.Signature.spelling S.Certificate.spelling artifact)) }
 
         // The disk has failed once more exactly where that is told.
         ensures device { IsErrOf result NodeFault.Device → K.failed (disk_of self.new) ≡ counted false (K.failed (disk_of self.old)) }
         ensures no_device { IfErr result (λ why. why ≢ step_fault.Device → K.failed (disk_of self.new) ≡ K.failed (disk_of self.old)) }
         ensures no_fault { OnOk result (K.failed (disk_of self.new) ≡ K.failed (disk_of self.old)) }
 
-        ensures not_failed { (owner : Owner) (xs : List (Artifact S D S.PublicKey S.Signature S.Certificate)) → KeepsRecord K.Disk (artifact_spelling D.spelling S.Signature.spelling S.Certificate.spelling) owner self.old xs → ¬ IsErrOf result NodeFault.Failed }
+        ensures not_failed { (owner : Owner) (xs : List (Artifact S D S.PublicKey S.Signature S.Certificate))
+            → KeepsRecord K.Disk (artifact_spelling D.spelling S.Signature.spelling S.Certificate.spelling) owner self.old xs
+            → ¬ IsErrOf result NodeFault.Failed }
     {
         let Ok(()) = self.recorded.reserve() else {
             drop(artifact);
@@ -107,7 +133,9 @@ impl<S: Scheme<D>, D: Digest, K: Disk> Ledger<S, D, K> {
 
     /// What is recorded.
     pub fn recorded(&self) -> &Recorded<S, D>
-        ensures { (owner : Owner) (xs : List (Artifact S D S.PublicKey S.Signature S.Certificate)) → KeepsRecord K.Disk (artifact_spelling D.spelling S.Signature.spelling S.Certificate.spelling) owner self.now xs → HoldsRecord owner result.now xs }
+        ensures { (owner : Owner) (xs : List (Artifact S D S.PublicKey S.Signature S.Certificate))
+            → KeepsRecord K.Disk (artifact_spelling D.spelling S.Signature.spelling S.Certificate.spelling) owner self.now xs
+            → HoldsRecord owner result.now xs }
     {
         &self.recorded
     }
@@ -126,8 +154,15 @@ fn append<M: Read + EncodeSize + Drop, K: Disk>(
     message: &M,
 ) -> Result<(), NodeFault>
     requires within { M.within 65535 message.now }
-    ensures record { OnOk result ((messages : List M) → K.keeps → IsRecord M.spelling K.seen K.calls journal.old messages → IsRecord M.spelling K.seen K.calls journal.new (messages ++ message.now ∷ [])) }
-    ensures any_moment { (messages : List M) → K.keeps → IsRecord M.spelling K.seen K.calls journal.old messages → LeavesOnly (K.calls journal.old.disk) (K.calls journal.new.disk) (IsWithOrWithout (map M.spelling messages) (M.spelling message.now)) }
+    ensures record { OnOk result ((messages : List M)
+        → K.keeps
+        → IsRecord M.spelling K.seen K.calls journal.old messages
+        → IsRecord M.spelling K.seen K.calls journal.new (messages ++ message.now ∷ [])) }
+    ensures any_moment { (messages : List M)
+        → K.keeps
+        → IsRecord M.spelling K.seen K.calls journal.old messages
+        → LeavesOnly (K.calls journal.old.disk) (K.calls journal.new.disk)
+        (IsWithOrWithout (map M.spelling messages) (M.spelling message.now)) }
     ensures stays_open { OnOk result (journal.new.failed ≡ false) }
     ensures device { IsErrOf result NodeFault.Device → K.failed journal.new.disk ≡ counted false (K.failed journal.old.disk) }
     ensures no_device { IfErr result (λ why. why ≢ step_fault.Device → K.failed journal.new.disk ≡ K.failed journal.old.disk) }

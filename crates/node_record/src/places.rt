@@ -45,7 +45,10 @@ impl Places {
         place: usize,
         artifact: &Artifact<S, D>,
     ) -> Result<(), AllocError>
-        ensures { OnOk result ((xs : List (Artifact S D S.PublicKey S.Signature S.Certificate)) → place ≡ length xs → KeepsPlaces self.old xs → KeepsPlaces self.new (xs ++ artifact.now ∷ [])) }
+        ensures { OnOk result ((xs : List (Artifact S D S.PublicKey S.Signature S.Certificate))
+            → place ≡ length xs
+            → KeepsPlaces self.old xs
+            → KeepsPlaces self.new (xs ++ artifact.now ∷ [])) }
     {
         if let Some(certificate) = notarization_of(artifact) {
             return add_first(&mut self.notarizations, certificate.view(), place);

@@ -53,7 +53,10 @@ impl<S: Scheme<D>, D: Digest> Recorded<S, D> {
     ) -> Result<Self, OpenFault>
         ensures holds { IfOk result (λ recorded. HoldsRecord owner recorded artifacts.items) }
         ensures lawful { OnOk result (IsLawful (S.attests scheme.now) (S.certifies scheme.now) owner artifacts.items) }
-        ensures refused { IfErr result (λ why. (position : ℕ) → why ≡ fault.Contradiction position → IsRefusedAt (S.attests scheme.now) (S.certifies scheme.now) owner artifacts.items position) }
+        ensures refused { IfErr result (λ why.
+            (position : ℕ)
+            → why ≡ fault.Contradiction position
+            → IsRefusedAt (S.attests scheme.now) (S.certifies scheme.now) owner artifacts.items position) }
         ensures faults { IfErr result (λ why. (why ≡ fault.Memory) ⊎ ((position : ℕ) × (why ≡ fault.Contradiction position))) }
     {
         let term_length = owner.term_length;
@@ -75,14 +78,19 @@ impl<S: Scheme<D>, D: Digest> Recorded<S, D> {
 
     /// Makes room for one artifact more.
     pub(crate) fn reserve(&mut self) -> Result<(), AllocError>
-        ensures same { (owner : Owner) (xs : List (Artifact S D S.PublicKey S.Signature S.Certificate)) → HoldsRecord owner self.old xs → HoldsRecord owner self.new xs }
+        ensures same { (owner : Owner) (xs : List (Artifact S D S.PublicKey S.Signature S.Certificate))
+            → HoldsRecord owner self.old xs
+            → HoldsRecord owner self.new xs }
     {
         self.artifacts.reserve(1)
     }
 
     /// Adds an artifact that may stand behind the others.
     pub(crate) fn add(&mut self, artifact: Artifact<S, D>) -> Result<(), AllocError>
-        ensures { OnOk result ((owner : Owner) (xs : List (Artifact S D S.PublicKey S.Signature S.Certificate)) → HoldsRecord owner self.old xs → MayFollow owner.term_length (entries xs) (entry artifact) → HoldsRecord owner self.new (xs ++ artifact ∷ [])) }
+        ensures { OnOk result ((owner : Owner) (xs : List (Artifact S D S.PublicKey S.Signature S.Certificate))
+            → HoldsRecord owner self.old xs
+            → MayFollow owner.term_length (entries xs) (entry artifact)
+            → HoldsRecord owner self.new (xs ++ artifact ∷ [])) }
     {
         match self.note(&artifact) {
             Ok(()) => match self.artifacts.push(artifact) {
@@ -98,7 +106,10 @@ impl<S: Scheme<D>, D: Digest> Recorded<S, D> {
 
     /// Notes what an artifact tells that is about to stand behind the others.
     fn note(&mut self, artifact: &Artifact<S, D>) -> Result<(), AllocError>
-        ensures { OnOk result ((owner : Owner) (xs : List (Artifact S D S.PublicKey S.Signature S.Certificate)) → HoldsRecord owner self.old xs → MayFollow owner.term_length (entries xs) (entry artifact.now) → HasNoted owner self.new xs artifact.now) }
+        ensures { OnOk result ((owner : Owner) (xs : List (Artifact S D S.PublicKey S.Signature S.Certificate))
+            → HoldsRecord owner self.old xs
+            → MayFollow owner.term_length (entries xs) (entry artifact.now)
+            → HasNoted owner self.new xs artifact.now) }
     {
         match self.places.add(self.artifacts.len(), artifact) {
             Ok(()) => {}

@@ -96,7 +96,8 @@ impl<S: Scheme<D>, D: Digest> Tables<S, D> {
 
     /// Notes that a vote of the member was accepted.
     pub fn hear(&mut self, member: Participant) -> Result<(), AllocError>
-        ensures keeps { OnOk result (AtEach self.old (λ low h. (v : Vote S D S.PublicKey S.Signature S.Certificate) → vote_signer v ≡ member → KeepsTables low self.new (Heard v ∷ h))) }
+        ensures keeps { OnOk result (AtEach self.old
+            (λ low h. (v : Vote S D S.PublicKey S.Signature S.Certificate) → vote_signer v ≡ member → KeepsTables low self.new (Heard v ∷ h))) }
         ensures memory { OnErr result (AtEach self.old (λ low h. KeepsTables low self.new h)) }
     {
         self.heard.insert(member, self.moment)?;
@@ -114,7 +115,8 @@ impl<S: Scheme<D>, D: Digest> Tables<S, D> {
     pub fn add_build(&mut self, building: Building<D, S::PublicKey>) -> Result<u64, AllocError>
         requires { AtEach self.old (λ low h. HasNumber h) }
         ensures number { IfOk result (λ number. AtEach self.old (λ low h. number ≡ next_number h)) }
-        ensures keeps { IfOk result (λ number. AtEach self.old (λ low h. KeepsTables low self.new (AsksBuild number building.handoff building.context ∷ h))) }
+        ensures keeps { IfOk result
+            (λ number. AtEach self.old (λ low h. KeepsTables low self.new (AsksBuild number building.handoff building.context ∷ h))) }
         ensures memory { OnErr result (AtEach self.old (λ low h. KeepsTables low self.new h)) }
     {
         let number = self.number;
@@ -133,7 +135,8 @@ impl<S: Scheme<D>, D: Digest> Tables<S, D> {
     /// The first build that stands under this number or a later one.
     pub fn build_from(&self, from: u64) -> Option<(u64, Building<D, S::PublicKey>)>
         ensures behind { IfSome result (λ p. from ≤ p.0) }
-        ensures first { AtEach self.now (λ low h. MatchOption result ((n : ℕ) → from ≤ n → build_at h n ≡ None) (λ p. IsFirstBuild h from p.0 (build_parts p.1))) }
+        ensures first { AtEach self.now
+            (λ low h. MatchOption result ((n : ℕ) → from ≤ n → build_at h n ≡ None) (λ p. IsFirstBuild h from p.0 (build_parts p.1))) }
     {
         match self
             .builds
@@ -147,7 +150,9 @@ impl<S: Scheme<D>, D: Digest> Tables<S, D> {
 
     /// Notes that no build stands under this number any more: it was answered, given back, or left behind.
     pub fn end_build(&mut self, number: u64)
-        ensures built { AtEach self.old (λ low h. (handoff : Bool) (context : Context D S.PublicKey) (payload : Option D) (took : Bool) → KeepsTables low self.new (Built number handoff context payload took ∷ h)) }
+        ensures built { AtEach self.old (λ low h.
+            (handoff : Bool) (context : Context D S.PublicKey) (payload : Option D) (took : Bool)
+            → KeepsTables low self.new (Built number handoff context payload took ∷ h)) }
         ensures given_back { AtEach self.old (λ low h. (view : ℕ) → KeepsTables low self.new (GivesBack number view ∷ h)) }
         ensures left_behind { AtEach self.old (λ low h. KeepsTables low self.new (LeavesBehind number ∷ h)) }
     {
@@ -158,7 +163,11 @@ impl<S: Scheme<D>, D: Digest> Tables<S, D> {
     pub fn add_check(&mut self, view: View) -> Result<u64, AllocError>
         requires { AtEach self.old (λ low h. HasNumber h) }
         ensures number { IfOk result (λ number. AtEach self.old (λ low h. number ≡ next_number h)) }
-        ensures keeps { IfOk result (λ number. AtEach self.old (λ low h. (context : Context D S.PublicKey) (p : Proposal D) → context.round.view ≡ view → KeepsTables low self.new (AsksVerify number context p ∷ h))) }
+        ensures keeps { IfOk result (λ number.
+            AtEach self.old (λ low h.
+            (context : Context D S.PublicKey) (p : Proposal D)
+            → context.round.view ≡ view
+            → KeepsTables low self.new (AsksVerify number context p ∷ h))) }
         ensures memory { OnErr result (AtEach self.old (λ low h. KeepsTables low self.new h)) }
     {
         let number = self.number;
@@ -176,14 +185,16 @@ impl<S: Scheme<D>, D: Digest> Tables<S, D> {
 
     /// Notes that the verification under this number was answered.
     pub fn end_check(&mut self, number: u64)
-        ensures { AtEach self.old (λ low h. (view : ℕ) (answer : Option Bool) (outcome : Outcome) → KeepsTables low self.new (Checked number view answer outcome ∷ h)) }
+        ensures { AtEach self.old
+            (λ low h. (view : ℕ) (answer : Option Bool) (outcome : Outcome) → KeepsTables low self.new (Checked number view answer outcome ∷ h)) }
     {
         let _ = self.checks.remove(&number);
     }
 
     /// Notes that a verdict on the view is asked for.
     pub fn add_verdict(&mut self, view: View) -> Result<(), AllocError>
-        ensures keeps { OnOk result (AtEach self.old (λ low h. (p : Proposal D) → p.round.view ≡ view → low < view → KeepsTables low self.new (AsksCertify p ∷ h))) }
+        ensures keeps { OnOk result
+            (AtEach self.old (λ low h. (p : Proposal D) → p.round.view ≡ view → low < view → KeepsTables low self.new (AsksCertify p ∷ h))) }
         ensures memory { OnErr result (AtEach self.old (λ low h. KeepsTables low self.new h)) }
     {
         put_view(&mut self.verdicts, view)
@@ -193,7 +204,10 @@ impl<S: Scheme<D>, D: Digest> Tables<S, D> {
     /// recorded yet, the request stands.
     pub fn awaits(&self, view: View) -> bool
         ensures asked { AtEach self.now (λ low h. IsTrue result ↔ ((low < view) × Contains (verdicts_of h) view)) }
-        ensures awaited { (s : Setup S D S.Certificate) (h : History S D S.PublicKey S.Signature S.Certificate) → KeepsTables (finalized_of s h) self.now h → ¬ IsJudged h view → IsTrue result ↔ IsAwaited s h view }
+        ensures awaited { (s : Setup S D S.Certificate) (h : History S D S.PublicKey S.Signature S.Certificate)
+            → KeepsTables (finalized_of s h) self.now h
+            → ¬ IsJudged h view
+            → IsTrue result ↔ IsAwaited s h view }
     {
         self.verdicts.contains(&view)
     }
@@ -201,7 +215,8 @@ impl<S: Scheme<D>, D: Digest> Tables<S, D> {
     /// Notes that this is asked of other members, of a view that isn't final: whether it was not asked before.
     pub fn add_ask(&mut self, asked: Asked) -> Result<bool, AllocError>
         ensures is_new { IfOk result (λ is_new. AtEach self.old (λ low h. low < asked.view → IsTrue is_new ↔ ¬ Contains (asks_of h) asked)) }
-        ensures keeps { OnOk result (AtEach self.old (λ low h. low < asked.view → KeepsTables low self.new (Asks asked.view asked.ask asked.to ∷ h))) }
+        ensures keeps { OnOk result
+            (AtEach self.old (λ low h. low < asked.view → KeepsTables low self.new (Asks asked.view asked.ask asked.to ∷ h))) }
         ensures known { IfOk result (λ is_new. is_new ≡ false → AtEach self.old (λ low h. KeepsTables low self.new h)) }
         ensures memory { OnErr result (AtEach self.old (λ low h. KeepsTables low self.new h)) }
     {
@@ -241,7 +256,9 @@ fn put_ask(
     to: Option<Participant>,
 ) -> Result<bool, AllocError>
     ensures is_new { IfOk result (λ is_new. IsTrue is_new ↔ ¬ IsTrue (contains asked_cmp asks.old (record { view = view; ask = ask; to = to }))) }
-    ensures one_more { OnOk result ((a : Asked) → IsTrue (contains asked_cmp asks.new a) ↔ (IsTrue (contains asked_cmp asks.old a) ⊎ (record { view = view; ask = ask; to = to } ≡ a))) }
+    ensures one_more { OnOk result ((a : Asked)
+        → IsTrue (contains asked_cmp asks.new a) ↔
+        (IsTrue (contains asked_cmp asks.old a) ⊎ (record { view = view; ask = ask; to = to } ≡ a))) }
     ensures known { IfOk result (λ is_new. is_new ≡ false → (a : Asked) → contains asked_cmp asks.new a ≡ contains asked_cmp asks.old a) }
     ensures memory { OnErr result ((a : Asked) → contains asked_cmp asks.new a ≡ contains asked_cmp asks.old a) }
 {

@@ -17,7 +17,7 @@ use Rattle.voter_history.specs.Past.{Item}
 use Rattle.voter_history.specs.History as voted
 use Rattle.voter_history.specs.History.{latched, polled, current, seen}
 use Rattle.voter_rules.specs.GivingUp.{MayGiveUp, NullifyIsDue, earlier, first_from, has_budget, oldest_entered, term_deadline, timeout, timeout_of}
-use Rattle.voter_laws.specs.Stepping.{put_holds}
+use Rattle.voter_laws.specs.Steps.{put_holds}
 use Rattle.voter_laws.specs.Timeouts.{CurrentHasTimeout, TimeoutIsEarliest}
 use Rattle.simplex_member.specs.Allowed.{AreAllowed}
 use Rattle.simplex_member.specs.Layers.{current_of, is_begun, latest, voter_of}

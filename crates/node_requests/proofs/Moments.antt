@@ -18,7 +18,7 @@ use Rattle.voter_history.specs.Past.{Item}
 use Rattle.voter_history.specs.Pasts.{put}
 use Rattle.voter_history.specs.History as voted
 use Rattle.voter_history.specs.History.{started, notarized, nullified, finalized, judged, forwarded, built, confirmed, unbound, latched, build_asked, build_released, verify_asked, ancestry_asked, certify_asked, certify_waited, voted_notarize, voted_nullify, voted_finalize, recalled_notarize, recalled_nullify, recalled_finalize, recalled_verdict, sent, polled, pruned, enter, sent_item, undecided_payload, current, last_finalized, min_active, seen}
-use Rattle.voter_laws.specs.Stepping.{bind_holds, choose_holds, enter_holds, put_holds}
+use Rattle.voter_laws.specs.Steps.{bind_holds, choose_holds, enter_holds, put_holds}
 use Rattle.simplex_member.specs.Allowed.{Allowed, AreAllowed}
 use Rattle.simplex_member.specs.Layers.{current_of, latest, takes_certificate, voter_of, voter_points}
 use Rattle.simplex_member.specs.Packet.{Formats}

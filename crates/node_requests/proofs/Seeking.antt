@@ -15,7 +15,7 @@ use Rattle.simplex_resolver.specs.declared.ask.Until.{Until}
 use Rattle.simplex_resolver.specs.declared.ask.Until.TheVariants as until
 use Rattle.simplex_resolver.specs.declared.ask.Kind.TheVariants as kind
 use Rattle.simplex_resolver.specs.Answers.{is_settled}
-use Rattle.simplex_resolver.specs.History as repaired
+use Rattle.simplex_resolver.specs.RepairHistory as repaired
 use Rattle.simplex_resolver.specs.Outstanding.{IsOutstanding}
 use Rattle.node_record.specs.declared.tables.Tables.{Tables}
 use Rattle.node_record.specs.Tables.{KeepsTables}

@@ -23,7 +23,7 @@ use Rattle.voter_rules.specs.Ancestry.{Member, IsRequired, IsSpan, member}
 use Rattle.voter_rules.specs.GivingUp.{IsTracked}
 use Rattle.voter_rules.specs.declared.certificate_fetch.CertificateFetch.{CertificateFetch}
 use Rattle.voter_rules.specs.Requests.{ArePutOff, AreReady, CertificateIsWanted, CertifyIsDue, CertifyWaits, IsPutOff, VerdictIsOpen}
-use Rattle.voter_laws.specs.Stepping.{put_holds}
+use Rattle.voter_laws.specs.Steps.{put_holds}
 use Rattle.simplex_resolver.specs.declared.ask.Kind.TheVariants as kind
 use Rattle.simplex_state.specs.Candidates.{AreWanted, put_off}
 use Rattle.simplex_state.specs.Known.{AddsIfTracked}

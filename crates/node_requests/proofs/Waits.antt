@@ -31,7 +31,7 @@ use Rattle.voter_rules.specs.Requests.{AsksNothing, IsInvalid, Scanned, begun, p
 use Rattle.voter_laws.specs.Matching.{LatchChangesNothing, ScanChangesNothing}
 use Rattle.voter_laws.specs.Missing.{IsMissing}
 use Rattle.voter_laws.specs.StaysKnown.{WhatIsKnownStays}
-use Rattle.voter_laws.specs.Stepping.{put_holds}
+use Rattle.voter_laws.specs.Steps.{put_holds}
 use Rattle.simplex_resolver.specs.declared.ask.Kind as repair
 use Rattle.simplex_resolver.specs.declared.ask.Kind.TheVariants as kind
 use Rattle.simplex_state.specs.declared.state.State.{State}

@@ -4,7 +4,7 @@ use Rattle.types_core.specs.declared.scheme.Scheme.{Ghosts}
 use Rattle.voter_history.specs.Leaders.{leader}
 use Rattle.batcher_verifier.specs.History.{leader_of}
 use Rattle.node_votes.specs.declared.acceptance.Acceptance.{Acceptance}
-use Rattle.node_votes.specs.Keeps as accepting
+use Rattle.node_votes.specs.KeepsVotes as accepting
 use Rattle.simplex_member.specs.Layers.{stage, voter_of, votes_of}
 use Rattle.simplex_member.specs.Point.{History, Leads}
 use Rattle.simplex_member.specs.Setup.{Setup}

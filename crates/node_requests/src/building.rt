@@ -10,7 +10,7 @@ ghost use Rattle.simplex_member.specs.Allowed.{AreAllowed, IsStopped};
 ghost use Rattle.simplex_member.specs.Asked.{HasNumber, build_at, next_number};
 ghost use Rattle.simplex_member.specs.Deeds.{Builds};
 ghost use Rattle.simplex_member.specs.Layers.{voter_of};
-ghost use Rattle.simplex_member.specs.Packet.{Formats, formats};
+ghost use Rattle.simplex_member.specs.Packet.{Formats};
 ghost use Rattle.simplex_member.specs.Point.{History, AsksBuild};
 ghost use Rattle.simplex_member.specs.Setup.{Setup};
 ghost use Rattle.node_record.specs.Tables.{KeepsTables, build_parts};
@@ -23,7 +23,7 @@ ghost use Rattle.node_requests.specs.NoneDue.{NoBuildToAsk, NoBuildToGiveBack};
 use crate::acted::Acted;
 use node_outbox::hand_out;
 use node_record::{Building, Tables};
-use simplex_member::{Action, NodeFault};
+use simplex_member::{Action, NodeFault, Speaks};
 use simplex_state::{ProposalRequest, State as Voter};
 use types_core::{Digest, Scheme, View};
 use types_terms::Elector;
@@ -39,7 +39,9 @@ pub fn ask_for_build<S: Scheme<D> + Drop, L: Elector<S, D>, D: Digest>(
     tables: &mut Tables<S, D>,
     out: &mut Vec<Action<S, D>>,
 ) -> Result<Acted, NodeFault>
-    ensures acts { IfOk result (λ acted. AtAnyAsker S.Scheme L.Elector (formats D.PartialEq.eq D.spelling S.Signature.spelling S.Certificate.spelling D.reading S.Signature.reading S.Certificate.reading) voter.old tables.old (λ f s h. ComesToAsk S.Scheme L.Elector f s is_none (NoBuildToAsk S.Scheme f s) voter.new tables.new h out.old.items out.new.items acted)) }
+    ensures acts { IfOk result (λ acted.
+        AtAnyAsker S.Scheme L.Elector ⟦<S as Speaks<D>>⟧.formats voter.old tables.old (λ f s h.
+        ComesToAsk S.Scheme L.Elector f s is_none (NoBuildToAsk S.Scheme f s) voter.new tables.new h out.old.items out.new.items acted)) }
     ensures fault { IfErr result (λ why. why ≡ step_fault.Memory) }
 {
     if !tables.has_number() {
@@ -61,8 +63,14 @@ fn hand_build_out<S: Scheme<D>, D: Digest>(
     out: &mut Vec<Action<S, D>>,
 ) -> Result<(), NodeFault>
     requires { tabled.AtEach tables.old (λ low h. HasNumber h) }
-    ensures keeps { OnOk result (tabled.AtEach tables.old (λ low h. (handoff : Bool) → IsTrue handoff ↔ IsPrepared request → KeepsTables low tables.new (AsksBuild (next_number h) handoff (context_of request) ∷ h))) }
-    ensures acts { OnOk result (tabled.AtEach tables.old (λ low h. (f : Formats S D S.PublicKey S.Signature S.Certificate) (handoff : Bool) → IsTrue handoff ↔ IsPrepared request → HandsOut f out.old.items out.new.items (Builds (next_number h) handoff (context_of request) ∷ []))) }
+    ensures keeps { OnOk result (tabled.AtEach tables.old (λ low h.
+        (handoff : Bool)
+        → IsTrue handoff ↔ IsPrepared request
+        → KeepsTables low tables.new (AsksBuild (next_number h) handoff (context_of request) ∷ h))) }
+    ensures acts { OnOk result (tabled.AtEach tables.old (λ low h.
+        (f : Formats S D S.PublicKey S.Signature S.Certificate) (handoff : Bool)
+        → IsTrue handoff ↔ IsPrepared request
+        → HandsOut f out.old.items out.new.items (Builds (next_number h) handoff (context_of request) ∷ []))) }
     ensures fault { IfErr result (λ why. why ≡ step_fault.Memory) }
 {
     let handoff = request.is_handoff();
@@ -87,7 +95,10 @@ pub fn give_build_back<S: Scheme<D> + Drop, L: Elector<S, D>, D: Digest>(
     voter: &mut Voter<S, L, D>,
     tables: &mut Tables<S, D>,
 ) -> Result<Acted, NodeFault>
-    ensures acts { IfOk result (λ acted. AtAnyAsker S.Scheme L.Elector (formats D.PartialEq.eq D.spelling S.Signature.spelling S.Certificate.spelling D.reading S.Signature.reading S.Certificate.reading) voter.old tables.old (λ f s h. (actions : List (Action S D S.PublicKey S.Signature S.Certificate)) → ComesToAsk S.Scheme L.Elector f s is_none (NoBuildToGiveBack S.Scheme f s) voter.new tables.new h actions actions acted)) }
+    ensures acts { IfOk result (λ acted.
+        AtAnyAsker S.Scheme L.Elector ⟦<S as Speaks<D>>⟧.formats voter.old tables.old (λ f s h.
+        (actions : List (Action S D S.PublicKey S.Signature S.Certificate))
+        → ComesToAsk S.Scheme L.Elector f s is_none (NoBuildToGiveBack S.Scheme f s) voter.new tables.new h actions actions acted)) }
     ensures fault { IfErr result (λ why. why ≡ step_fault.Memory) }
 {
     let mut from = 0;
@@ -113,7 +124,13 @@ fn falls<S: Scheme<D> + Drop, L: Elector<S, D>, D: Digest>(
     voter: &mut Voter<S, L, D>,
     building: &Building<D, S::PublicKey>,
 ) -> Result<bool, NodeFault>
-    ensures falls { IfOk result (λ fallen. (f : Formats S D S.PublicKey S.Signature S.Certificate) (s : Setup S D S.Certificate) (h : History S D S.PublicKey S.Signature S.Certificate) (number : ℕ) → AreAllowed S.Scheme f s h → build_at h number ≡ Some (build_parts building.now) → voting.Keeps S.Scheme L.Elector s.voter voter.old (voter_of s h) → IsKeptOrFalls S.Scheme L.Elector f s voter.new h building.now.handoff building.now.context fallen) }
+    ensures falls { IfOk result (λ fallen.
+        (f : Formats S D S.PublicKey S.Signature S.Certificate) (s : Setup S D S.Certificate)
+        (h : History S D S.PublicKey S.Signature S.Certificate) (number : ℕ)
+        → AreAllowed S.Scheme f s h
+        → build_at h number ≡ Some (build_parts building.now)
+        → voting.Keeps S.Scheme L.Elector s.voter voter.old (voter_of s h)
+        → IsKeptOrFalls S.Scheme L.Elector f s voter.new h building.now.handoff building.now.context fallen) }
     ensures fault { IfErr result (λ why. why ≡ step_fault.Memory) }
 {
     what_is_known_stays::<S, D>();
@@ -135,7 +152,10 @@ fn stops<S: Scheme<D> + Drop, L: Elector<S, D>, D: Digest>(
     voter: &Voter<S, L, D>,
     building: &Building<D, S::PublicKey>,
 ) -> bool
-    ensures { (f : Formats S D S.PublicKey S.Signature S.Certificate) (s : Setup S D S.Certificate) (h : History S D S.PublicKey S.Signature S.Certificate) → voting.Keeps S.Scheme L.Elector s.voter voter.now (voter_of s h) → IsTrue result ↔ ((building.now.handoff ≡ true) × IsStopped S.Scheme f s h building.now.context) }
+    ensures { (f : Formats S D S.PublicKey S.Signature S.Certificate) (s : Setup S D S.Certificate)
+        (h : History S D S.PublicKey S.Signature S.Certificate)
+        → voting.Keeps S.Scheme L.Elector s.voter voter.now (voter_of s h)
+        → IsTrue result ↔ ((building.now.handoff ≡ true) × IsStopped S.Scheme f s h building.now.context) }
 {
     building.handoff
         && voter
@@ -149,7 +169,8 @@ fn release<S: Scheme<D> + Drop, L: Elector<S, D>, D: Digest>(
     view: View,
 ) -> Result<bool, NodeFault>
     ensures answer { IfOk result (λ given_back. given_back ≡ true) }
-    ensures keeps { OnOk result (voting.AtEach S.Scheme L.Elector voter.old (λ s h. AddsIfTracked S.Scheme L.Elector s voter.new h view (build_released view))) }
+    ensures keeps { OnOk result
+        (voting.AtEach S.Scheme L.Elector voter.old (λ s h. AddsIfTracked S.Scheme L.Elector s voter.new h view (build_released view))) }
     ensures fault { IfErr result (λ why. why ≡ step_fault.Memory) }
 {
     match voter.release_proposal_request(view) {

@@ -6,7 +6,7 @@ ghost use Rattle.simplex_state.specs.Known.{AddsIfTracked};
 ghost use Rattle.voter_history.specs.History.{certify_asked};
 ghost use Rattle.simplex_member.specs.Deeds.{Certifies};
 ghost use Rattle.simplex_member.specs.declared.fault.NodeFault.TheVariants as step_fault;
-ghost use Rattle.simplex_member.specs.Packet.{Formats, formats};
+ghost use Rattle.simplex_member.specs.Packet.{Formats};
 ghost use Rattle.simplex_member.specs.Point.{AsksCertify};
 ghost use Rattle.node_record.specs.Tables.{KeepsTables};
 ghost use Rattle.node_record.specs.Tables as tabled;
@@ -20,7 +20,7 @@ use crate::acted::Acted;
 use crate::fetching::fetch;
 use node_outbox::hand_out;
 use node_record::Tables;
-use simplex_member::{Action, Asked, NodeFault};
+use simplex_member::{Action, Asked, NodeFault, Speaks};
 use simplex_resolver::{Ask, Kind, State as Repair};
 use simplex_state::State as Voter;
 use std::alloc::Global;
@@ -41,7 +41,9 @@ pub fn ask_for_verdicts<S: Scheme<D> + Drop, L: Elector<S, D>, D: Digest>(
     tables: &mut Tables<S, D>,
     out: &mut Vec<Action<S, D>>,
 ) -> Result<Acted, NodeFault>
-    ensures acts { IfOk result (λ acted. AtAsker S.Scheme L.Elector (formats D.PartialEq.eq D.spelling S.Signature.spelling S.Certificate.spelling D.reading S.Signature.reading S.Certificate.reading) voter.old repair.now tables.old (λ f s h. ComesToAsk S.Scheme L.Elector f s is_put_off (NoVerdictToAsk S.Scheme f s) voter.new tables.new h out.old.items out.new.items acted)) }
+    ensures acts { IfOk result (λ acted.
+        AtAsker S.Scheme L.Elector ⟦<S as Speaks<D>>⟧.formats voter.old repair.now tables.old (λ f s h.
+        ComesToAsk S.Scheme L.Elector f s is_put_off (NoVerdictToAsk S.Scheme f s) voter.new tables.new h out.old.items out.new.items acted)) }
     ensures fault { IfErr result (λ why. why ≡ step_fault.Memory) }
 {
     match voter.certify_candidates(alloc) {
@@ -65,7 +67,8 @@ fn fetch_parents<S: Scheme<D>, D: Digest>(
     tables: &mut Tables<S, D>,
     out: &mut Vec<Action<S, D>>,
 ) -> Result<(), NodeFault>
-    ensures fetched { OnOk result (AtRepairer S.Scheme (formats D.PartialEq.eq D.spelling S.Signature.spelling S.Certificate.spelling D.reading S.Signature.reading S.Certificate.reading) repair.now tables.old (λ f s h. AreAllWanted S.Scheme f s h fetches.now → FetchesParents S.Scheme f s tables.new h fetches.now out.old.items out.new.items)) }
+    ensures fetched { OnOk result (AtRepairer S.Scheme ⟦<S as Speaks<D>>⟧.formats repair.now tables.old (λ f s h.
+        AreAllWanted S.Scheme f s h fetches.now → FetchesParents S.Scheme f s tables.new h fetches.now out.old.items out.new.items)) }
     ensures fault { IfErr result (λ why. why ≡ step_fault.Memory) }
 {
     for wanted in fetches {
@@ -89,7 +92,8 @@ fn ask_each<S: Scheme<D> + Drop, L: Elector<S, D>, D: Digest>(
     tables: &mut Tables<S, D>,
     out: &mut Vec<Action<S, D>>,
 ) -> Result<(), NodeFault>
-    ensures asked { OnOk result (AtAnyAsker S.Scheme L.Elector (formats D.PartialEq.eq D.spelling S.Signature.spelling S.Certificate.spelling D.reading S.Signature.reading S.Certificate.reading) voter.old tables.old (λ f s h. AreDueVerdicts s h ready.now → WasAsked S.Scheme L.Elector f s voter.new tables.new h out.old.items out.new.items)) }
+    ensures asked { OnOk result (AtAnyAsker S.Scheme L.Elector ⟦<S as Speaks<D>>⟧.formats voter.old tables.old
+        (λ f s h. AreDueVerdicts s h ready.now → WasAsked S.Scheme L.Elector f s voter.new tables.new h out.old.items out.new.items)) }
     ensures fault { IfErr result (λ why. why ≡ step_fault.Memory) }
 {
     for proposal in ready {
@@ -108,9 +112,13 @@ fn ask_one<S: Scheme<D> + Drop, L: Elector<S, D>, D: Digest>(
     tables: &mut Tables<S, D>,
     out: &mut Vec<Action<S, D>>,
 ) -> Result<(), NodeFault>
-    ensures asked { OnOk result (voting.AtEach S.Scheme L.Elector voter.old (λ s h. AddsIfTracked S.Scheme L.Elector s voter.new h proposal.round.view (certify_asked proposal.round.view (record { 0 = proposal.round.view })))) }
-    ensures keeps { OnOk result (tabled.AtEach tables.old (λ low h. low < proposal.round.view → KeepsTables low tables.new (AsksCertify proposal ∷ h))) }
-    ensures acts { OnOk result ((f : Formats S D S.PublicKey S.Signature S.Certificate) → HandsOut f out.old.items out.new.items (Certifies proposal ∷ [])) }
+    ensures asked { OnOk result (voting.AtEach S.Scheme L.Elector voter.old (λ s h.
+        AddsIfTracked S.Scheme L.Elector s voter.new h proposal.round.view
+        (certify_asked proposal.round.view (record { 0 = proposal.round.view })))) }
+    ensures keeps { OnOk result
+        (tabled.AtEach tables.old (λ low h. low < proposal.round.view → KeepsTables low tables.new (AsksCertify proposal ∷ h))) }
+    ensures acts { OnOk result
+        ((f : Formats S D S.PublicKey S.Signature S.Certificate) → HandsOut f out.old.items out.new.items (Certifies proposal ∷ [])) }
     ensures fault { IfErr result (λ why. why ≡ step_fault.Memory) }
 {
     let view = proposal.view();

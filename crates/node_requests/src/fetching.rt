@@ -4,7 +4,7 @@ ghost use Rattle.std.specs.Prelude.{◌≡◌, ◌∷◌, [], ℕ, true, IfErr, 
 ghost use Rattle.simplex_member.specs.declared.fault.NodeFault.TheVariants as step_fault;
 ghost use Rattle.simplex_member.specs.Deeds.{Sends};
 ghost use Rattle.simplex_member.specs.Layers.{finalized_of, repair_of};
-ghost use Rattle.simplex_member.specs.Packet.{formats, of_ask};
+ghost use Rattle.simplex_member.specs.Packet.{of_ask};
 ghost use Rattle.simplex_member.specs.Point.{History};
 ghost use Rattle.simplex_member.specs.Setup.{Setup};
 ghost use Rattle.node_record.specs.Tables.{KeepsTables};
@@ -14,7 +14,7 @@ ghost use Rattle.node_requests.specs.Fetching.{Fetches};
 
 use node_outbox::hand_out;
 use node_record::Tables;
-use simplex_member::{Action, Asked, Channel, NodeFault, repair_and_voter_finalize_alike};
+use simplex_member::{Action, Asked, Channel, NodeFault, Speaks, repair_and_voter_finalize_alike};
 use simplex_resolver::State as Repair;
 use std::alloc::Global;
 use types_core::{Digest, Participant, Scheme, View, Write};
@@ -31,8 +31,11 @@ pub(crate) fn fetch<S: Scheme<D>, D: Digest>(
     tables: &mut Tables<S, D>,
     out: &mut Vec<Action<S, D>>,
 ) -> Result<bool, NodeFault>
-    ensures fetches { IfOk result (λ sent. (n : ℕ) (s : Setup S D S.Certificate) (h : History S D S.PublicKey S.Signature S.Certificate) → repairing.Keeps s.voter.length repair.now (repair_of ((formats D.PartialEq.eq D.spelling S.Signature.spelling S.Certificate.spelling D.reading S.Signature.reading S.Certificate.reading) n) h) → KeepsTables (finalized_of s h) tables.old h
-        → Fetches ((formats D.PartialEq.eq D.spelling S.Signature.spelling S.Certificate.spelling D.reading S.Signature.reading S.Certificate.reading) n) s tables.new h asked out.old.items out.new.items sent) }
+    ensures fetches { IfOk result (λ sent.
+        (n : ℕ) (s : Setup S D S.Certificate) (h : History S D S.PublicKey S.Signature S.Certificate)
+        → repairing.Keeps s.voter.length repair.now (repair_of (⟦<S as Speaks<D>>⟧.formats n) h)
+        → KeepsTables (finalized_of s h) tables.old h
+        → Fetches (⟦<S as Speaks<D>>⟧.formats n) s tables.new h asked out.old.items out.new.items sent) }
     ensures fault { IfErr result (λ why. why ≡ step_fault.Memory) }
 {
     repair_and_voter_finalize_alike::<S, D>();
@@ -54,7 +57,8 @@ fn send_ask<S: Scheme<D>, D: Digest>(
     to: Option<Participant>,
     out: &mut Vec<Action<S, D>>,
 ) -> Result<bool, NodeFault>
-    ensures sent { IfOk result (λ sent. (sent ≡ true) × ((n : ℕ) → HandsOut ((formats D.PartialEq.eq D.spelling S.Signature.spelling S.Certificate.spelling D.reading S.Signature.reading S.Certificate.reading) n) out.old.items out.new.items (Sends to (of_ask view) ∷ []))) }
+    ensures sent { IfOk result (λ sent.
+        (sent ≡ true) × ((n : ℕ) → HandsOut (⟦<S as Speaks<D>>⟧.formats n) out.old.items out.new.items (Sends to (of_ask view) ∷ []))) }
     ensures fault { IfErr result (λ why. why ≡ step_fault.Memory) }
 {
     let mut bytes = Vec::new(alloc);

@@ -2,7 +2,7 @@
 
 ghost use Rattle.std.specs.Prelude.{◌≡◌, ◌↔◌, IsTrue, IfErr, IfOk};
 ghost use Rattle.simplex_state.specs.State as voting;
-ghost use Rattle.node_votes.specs.Keeps as accepting;
+ghost use Rattle.node_votes.specs.KeepsVotes as accepting;
 ghost use Rattle.simplex_member.specs.declared.fault.NodeFault.TheVariants as step_fault;
 ghost use Rattle.simplex_member.specs.Allowed.{LeaderGaveUp};
 ghost use Rattle.simplex_member.specs.Layers.{latest, voter_of};
@@ -31,7 +31,13 @@ pub fn follow_leader<S: Scheme<D> + Drop, L: Elector<S, D>, D: Digest>(
     voter: &mut Voter<S, L, D>,
     acceptance: &Acceptance<S, D>,
 ) -> Result<Acted, NodeFault>
-    ensures follows { IfOk result (λ acted. (s : Setup S D S.Certificate) (h : History S D S.PublicKey S.Signature S.Certificate) (f : Formats S D S.PublicKey S.Signature S.Certificate) → s.me ≡ me → latest h ≡ now → voting.Keeps S.Scheme L.Elector s.voter voter.old (voter_of s h) → accepting.Keeps S.Scheme D.PartialEq.eq s acceptance.now h
+    ensures follows { IfOk result (λ acted.
+        (s : Setup S D S.Certificate) (h : History S D S.PublicKey S.Signature S.Certificate)
+        (f : Formats S D S.PublicKey S.Signature S.Certificate)
+        → s.me ≡ me
+        → latest h ≡ now
+        → voting.Keeps S.Scheme L.Elector s.voter voter.old (voter_of s h)
+        → accepting.Keeps S.Scheme D.PartialEq.eq s acceptance.now h
         → FollowsLeader S.Scheme L.Elector f s voter.new h acted) }
     ensures fault { IfErr result (λ why. why ≡ step_fault.Memory) }
 {
@@ -60,7 +66,13 @@ fn follow_in<S: Scheme<D> + Drop, L: Elector<S, D>, D: Digest>(
     voter: &mut Voter<S, L, D>,
     acceptance: &Acceptance<S, D>,
 ) -> Result<bool, NodeFault>
-    ensures follows { IfOk result (λ first. (s : Setup S D S.Certificate) (h : History S D S.PublicKey S.Signature S.Certificate) (f : Formats S D S.PublicKey S.Signature S.Certificate) → s.me ≡ me → latest h ≡ now → voting.Keeps S.Scheme L.Elector s.voter voter.old (voter_of s h) → accepting.Keeps S.Scheme D.PartialEq.eq s acceptance.now h
+    ensures follows { IfOk result (λ first.
+        (s : Setup S D S.Certificate) (h : History S D S.PublicKey S.Signature S.Certificate)
+        (f : Formats S D S.PublicKey S.Signature S.Certificate)
+        → s.me ≡ me
+        → latest h ≡ now
+        → voting.Keeps S.Scheme L.Elector s.voter voter.old (voter_of s h)
+        → accepting.Keeps S.Scheme D.PartialEq.eq s acceptance.now h
         → FollowsIn S.Scheme L.Elector f s voter.new h view first) }
     ensures fault { IfErr result (λ why. why ≡ step_fault.Memory) }
 {
@@ -80,7 +92,12 @@ fn is_left_by_leader<S: Scheme<D> + Drop, L: Elector<S, D>, D: Digest>(
     voter: &Voter<S, L, D>,
     acceptance: &Acceptance<S, D>,
 ) -> bool
-    ensures { (s : Setup S D S.Certificate) (h : History S D S.PublicKey S.Signature S.Certificate) (f : Formats S D S.PublicKey S.Signature S.Certificate) → s.me ≡ me → voting.Keeps S.Scheme L.Elector s.voter voter.now (voter_of s h) → accepting.Keeps S.Scheme D.PartialEq.eq s acceptance.now h → IsTrue result ↔ LeaderGaveUp S.Scheme f s h view }
+    ensures { (s : Setup S D S.Certificate) (h : History S D S.PublicKey S.Signature S.Certificate)
+        (f : Formats S D S.PublicKey S.Signature S.Certificate)
+        → s.me ≡ me
+        → voting.Keeps S.Scheme L.Elector s.voter voter.now (voter_of s h)
+        → accepting.Keeps S.Scheme D.PartialEq.eq s acceptance.now h
+        → IsTrue result ↔ LeaderGaveUp S.Scheme f s h view }
 {
     match voter.views().leader_index(view) {
         Some(leader) => leader != me && acceptance.has_nullify(view, leader),

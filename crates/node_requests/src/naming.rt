@@ -2,7 +2,7 @@
 
 ghost use Rattle.std.specs.Prelude.{◌≡◌, IfErr, IfOk, MatchOption};
 ghost use Rattle.simplex_state.specs.State as voting;
-ghost use Rattle.node_votes.specs.Keeps as accepting;
+ghost use Rattle.node_votes.specs.KeepsVotes as accepting;
 ghost use Rattle.simplex_member.specs.declared.fault.NodeFault.TheVariants as step_fault;
 ghost use Rattle.simplex_member.specs.Layers.{voter_of};
 ghost use Rattle.simplex_member.specs.Point.{History};
@@ -25,7 +25,11 @@ pub fn name_leader<S: Scheme<D> + Drop, L: Elector<S, D>, D: Digest>(
     voter: &Voter<S, L, D>,
     acceptance: &mut Acceptance<S, D>,
 ) -> Result<Acted, NodeFault>
-    ensures named { IfOk result (λ acted. (s : Setup S D S.Certificate) (h : History S D S.PublicKey S.Signature S.Certificate) → voting.Keeps S.Scheme L.Elector s.voter voter.now (voter_of s h) → accepting.Keeps S.Scheme D.PartialEq.eq s acceptance.old h → NamesLeader s S.Scheme D.PartialEq.eq acceptance.new h acted) }
+    ensures named { IfOk result (λ acted.
+        (s : Setup S D S.Certificate) (h : History S D S.PublicKey S.Signature S.Certificate)
+        → voting.Keeps S.Scheme L.Elector s.voter voter.now (voter_of s h)
+        → accepting.Keeps S.Scheme D.PartialEq.eq s acceptance.old h
+        → NamesLeader s S.Scheme D.PartialEq.eq acceptance.new h acted) }
     ensures fault { IfErr result (λ why. why ≡ step_fault.Memory) }
 {
     match first_led(voter, acceptance) {
@@ -42,7 +46,10 @@ fn first_led<S: Scheme<D> + Drop, L: Elector<S, D>, D: Digest>(
     voter: &Voter<S, L, D>,
     acceptance: &Acceptance<S, D>,
 ) -> Option<(View, Participant)>
-    ensures { (s : Setup S D S.Certificate) (h : History S D S.PublicKey S.Signature S.Certificate) → voting.Keeps S.Scheme L.Elector s.voter voter.now (voter_of s h) → accepting.Keeps S.Scheme D.PartialEq.eq s acceptance.now h → MatchOption result (NoLeaderToName s h) (λ led. MayBeNamed s h led.0 led.1) }
+    ensures { (s : Setup S D S.Certificate) (h : History S D S.PublicKey S.Signature S.Certificate)
+        → voting.Keeps S.Scheme L.Elector s.voter voter.now (voter_of s h)
+        → accepting.Keeps S.Scheme D.PartialEq.eq s acceptance.now h
+        → MatchOption result (NoLeaderToName s h) (λ led. MayBeNamed s h led.0 led.1) }
 {
     let _views = voter.views().lookahead().length.get();
     let mut next = View::zero();

@@ -2,14 +2,13 @@
 
 ghost use Rattle.std.specs.Prelude.{◌≡◌, IfErr, IfOk};
 ghost use Rattle.simplex_member.specs.declared.fault.NodeFault.TheVariants as step_fault;
-ghost use Rattle.simplex_member.specs.Packet.{formats};
 ghost use Rattle.node_requests.specs.Fetching.{AtRepairer, ComesToFetch};
 ghost use Rattle.node_requests.specs.NoneDue.{NoViewToAsk};
 
 use crate::acted::Acted;
 use crate::fetching::fetch;
 use node_record::Tables;
-use simplex_member::{Action, Asked, NodeFault};
+use simplex_member::{Action, Asked, NodeFault, Speaks};
 use simplex_resolver::{Ask, State as Repair};
 use std::alloc::Global;
 use types_core::{Digest, Scheme};
@@ -25,7 +24,9 @@ pub fn ask_for_views<S: Scheme<D>, D: Digest>(
     tables: &mut Tables<S, D>,
     out: &mut Vec<Action<S, D>>,
 ) -> Result<Acted, NodeFault>
-    ensures acts { IfOk result (λ acted. AtRepairer S.Scheme (formats D.PartialEq.eq D.spelling S.Signature.spelling S.Certificate.spelling D.reading S.Signature.reading S.Certificate.reading) repair.now tables.old (λ f s h. ComesToFetch S.Scheme f s (NoViewToAsk S.Scheme f s) tables.new h out.old.items out.new.items acted)) }
+    ensures acts { IfOk result (λ acted.
+        AtRepairer S.Scheme ⟦<S as Speaks<D>>⟧.formats repair.now tables.old
+        (λ f s h. ComesToFetch S.Scheme f s (NoViewToAsk S.Scheme f s) tables.new h out.old.items out.new.items acted)) }
     ensures fault { IfErr result (λ why. why ≡ step_fault.Memory) }
 {
     let mut acted = Acted::Nothing;

@@ -3,14 +3,13 @@
 ghost use Rattle.std.specs.Prelude.{List, ◌≡◌, IfErr, IfOk};
 ghost use Rattle.simplex_member.specs.declared.action.Action.{Action};
 ghost use Rattle.simplex_member.specs.declared.fault.NodeFault.TheVariants as step_fault;
-ghost use Rattle.simplex_member.specs.Packet.{formats};
 ghost use Rattle.node_requests.specs.Asking.{AtAnyAsker, ComesToAsk, is_none};
 ghost use Rattle.node_requests.specs.NoneDue.{NoSilence};
 ghost use Rattle.node_requests.specs.Silence.{IsSilenceOf, IsSilentFrom};
 
 use crate::acted::Acted;
 use node_record::Tables;
-use simplex_member::NodeFault;
+use simplex_member::{NodeFault, Speaks};
 use simplex_state::State as Voter;
 use types_core::{Digest, Participant, Scheme};
 use types_terms::Elector;
@@ -31,7 +30,8 @@ pub(crate) fn silent_from<S: Scheme<D> + Drop, L: Elector<S, D>, D: Digest>(
     voter: &Voter<S, L, D>,
     tables: &Tables<S, D>,
 ) -> Option<u64>
-    ensures { AtAnyAsker S.Scheme L.Elector (formats D.PartialEq.eq D.spelling S.Signature.spelling S.Certificate.spelling D.reading S.Signature.reading S.Certificate.reading) voter.now tables.now (λ f s h. IsSilenceOf s silence → IsSilentFrom S.Scheme f s h result) }
+    ensures { AtAnyAsker S.Scheme L.Elector ⟦<S as Speaks<D>>⟧.formats voter.now tables.now
+        (λ f s h. IsSilenceOf s silence → IsSilentFrom S.Scheme f s h result) }
 {
     let Some(time) = silence.time else {
         return None;
@@ -55,7 +55,11 @@ pub fn give_silent_leader_up<S: Scheme<D> + Drop, L: Elector<S, D>, D: Digest>(
     voter: &mut Voter<S, L, D>,
     tables: &Tables<S, D>,
 ) -> Result<Acted, NodeFault>
-    ensures acts { IfOk result (λ acted. AtAnyAsker S.Scheme L.Elector (formats D.PartialEq.eq D.spelling S.Signature.spelling S.Certificate.spelling D.reading S.Signature.reading S.Certificate.reading) voter.old tables.now (λ f s h. IsSilenceOf s silence → (actions : List (Action S D S.PublicKey S.Signature S.Certificate)) → ComesToAsk S.Scheme L.Elector f s is_none (NoSilence S.Scheme f s) voter.new tables.now h actions actions acted)) }
+    ensures acts { IfOk result (λ acted.
+        AtAnyAsker S.Scheme L.Elector ⟦<S as Speaks<D>>⟧.formats voter.old tables.now (λ f s h.
+        IsSilenceOf s silence
+        → (actions : List (Action S D S.PublicKey S.Signature S.Certificate))
+        → ComesToAsk S.Scheme L.Elector f s is_none (NoSilence S.Scheme f s) voter.new tables.now h actions actions acted)) }
     ensures fault { IfErr result (λ why. why ≡ step_fault.Memory) }
 {
     let Some(moment) = silent_from(silence, voter, tables) else {

@@ -10,7 +10,7 @@ ghost use Rattle.simplex_member.specs.Allowed.{AreAllowed};
 ghost use Rattle.simplex_member.specs.Asked.{HasNumber, ancestry, next_number};
 ghost use Rattle.simplex_member.specs.Deeds.{Verifies};
 ghost use Rattle.simplex_member.specs.Layers.{latest, voter_of};
-ghost use Rattle.simplex_member.specs.Packet.{Formats, formats};
+ghost use Rattle.simplex_member.specs.Packet.{Formats};
 ghost use Rattle.simplex_member.specs.Point.{AsksVerify, History};
 ghost use Rattle.simplex_member.specs.Setup.{Setup};
 ghost use Rattle.node_record.specs.Tables.{KeepsTables};
@@ -26,7 +26,7 @@ use crate::acted::Acted;
 use crate::fetching::fetch;
 use node_outbox::hand_out;
 use node_record::Tables;
-use simplex_member::{Action, Asked, NodeFault};
+use simplex_member::{Action, Asked, NodeFault, Speaks};
 use simplex_resolver::{Ask, Kind, State as Repair};
 use simplex_state::{State as Voter, Verify};
 use std::alloc::Global;
@@ -50,7 +50,10 @@ pub fn ask_for_verification<S: Scheme<D> + Drop, L: Elector<S, D>, D: Digest>(
     tables: &mut Tables<S, D>,
     out: &mut Vec<Action<S, D>>,
 ) -> Result<Acted, NodeFault>
-    ensures acts { IfOk result (λ acted. AtAsker S.Scheme L.Elector (formats D.PartialEq.eq D.spelling S.Signature.spelling S.Certificate.spelling D.reading S.Signature.reading S.Certificate.reading) voter.old repair.now tables.old (λ f s h. ComesToAsk S.Scheme L.Elector f s is_latch (NoVerificationToAsk S.Scheme f s) voter.new tables.new h out.old.items out.new.items acted)) }
+    ensures acts { IfOk result (λ acted.
+        AtAsker S.Scheme L.Elector ⟦<S as Speaks<D>>⟧.formats voter.old repair.now tables.old (λ f s h.
+        ComesToAsk S.Scheme L.Elector f s is_latch (NoVerificationToAsk S.Scheme f s) voter.new tables.new h out.old.items out.new.items
+        acted)) }
     ensures fault { IfErr result (λ why. why ≡ step_fault.Memory) }
 {
     if !tables.has_number() {
@@ -72,7 +75,11 @@ fn ask_what_is_wanted<S: Scheme<D> + Drop, L: Elector<S, D>, D: Digest>(
     out: &mut Vec<Action<S, D>>,
 ) -> Result<Acted, NodeFault>
     requires { tabled.AtEach tables.old (λ low h. HasNumber h) }
-    ensures acts { IfOk result (λ acted. AtRepairer S.Scheme (formats D.PartialEq.eq D.spelling S.Signature.spelling S.Certificate.spelling D.reading S.Signature.reading S.Certificate.reading) repair.now tables.old (λ f s h. Answers S.Scheme L.Elector s.voter voter.now (latest h) (voter_of s h) wanted → ComesToAsk S.Scheme L.Elector f s is_latch (NoVerificationToAsk S.Scheme f s) voter.now tables.new h out.old.items out.new.items acted)) }
+    ensures acts { IfOk result (λ acted.
+        AtRepairer S.Scheme ⟦<S as Speaks<D>>⟧.formats repair.now tables.old (λ f s h.
+        Answers S.Scheme L.Elector s.voter voter.now (latest h) (voter_of s h) wanted
+        → ComesToAsk S.Scheme L.Elector f s is_latch (NoVerificationToAsk S.Scheme f s) voter.now tables.new h out.old.items out.new.items
+        acted)) }
     ensures fault { IfErr result (λ why. why ≡ step_fault.Memory) }
 {
     a_latch_changes_nothing_due::<S, D>();
@@ -104,7 +111,10 @@ fn give_invalid_up<S: Scheme<D> + Drop, L: Elector<S, D>, D: Digest>(
     voter: &mut Voter<S, L, D>,
     tables: &Tables<S, D>,
 ) -> Result<Acted, NodeFault>
-    ensures acts { IfOk result (λ acted. AtAnyAsker S.Scheme L.Elector (formats D.PartialEq.eq D.spelling S.Signature.spelling S.Certificate.spelling D.reading S.Signature.reading S.Certificate.reading) voter.old tables.now (λ f s h. (actions : List (Action S D S.PublicKey S.Signature S.Certificate)) → ComesToAsk S.Scheme L.Elector f s is_none (NoInvalidProposal S.Scheme f s) voter.new tables.now h actions actions acted)) }
+    ensures acts { IfOk result (λ acted.
+        AtAnyAsker S.Scheme L.Elector ⟦<S as Speaks<D>>⟧.formats voter.old tables.now (λ f s h.
+        (actions : List (Action S D S.PublicKey S.Signature S.Certificate))
+        → ComesToAsk S.Scheme L.Elector f s is_none (NoInvalidProposal S.Scheme f s) voter.new tables.now h actions actions acted)) }
     ensures fault { IfErr result (λ why. why ≡ step_fault.Memory) }
 {
     // The proof takes from the number that a term has at least one view.
@@ -131,7 +141,13 @@ fn give_up_in<S: Scheme<D> + Drop, L: Elector<S, D>, D: Digest>(
     now: u64,
     voter: &mut Voter<S, L, D>,
 ) -> Result<bool, NodeFault>
-    ensures gives_up { IfOk result (λ first. (f : Formats S D S.PublicKey S.Signature S.Certificate) (s : Setup S D S.Certificate) (h : History S D S.PublicKey S.Signature S.Certificate) → AreAllowed S.Scheme f s h → latest h ≡ now → voting.Keeps S.Scheme L.Elector s.voter voter.old (voter_of s h) → GivesInvalidUp S.Scheme L.Elector f s voter.new h view first) }
+    ensures gives_up { IfOk result (λ first.
+        (f : Formats S D S.PublicKey S.Signature S.Certificate) (s : Setup S D S.Certificate)
+        (h : History S D S.PublicKey S.Signature S.Certificate)
+        → AreAllowed S.Scheme f s h
+        → latest h ≡ now
+        → voting.Keeps S.Scheme L.Elector s.voter voter.old (voter_of s h)
+        → GivesInvalidUp S.Scheme L.Elector f s voter.new h view first) }
     ensures fault { IfErr result (λ why. why ≡ step_fault.Memory) }
 {
     one_request_is_due::<D>();
@@ -172,8 +188,12 @@ fn hand_check_out<S: Scheme<D>, D: Digest>(
 ) -> Result<Acted, NodeFault>
     requires { tabled.AtEach tables.old (λ low h. HasNumber h) }
     ensures did { IfOk result (λ done. done ≡ came.Did) }
-    ensures keeps { IfOk result (λ done. tabled.AtEach tables.old (λ low h. KeepsTables low tables.new (AsksVerify (next_number h) context.now proposal ∷ h))) }
-    ensures acts { IfOk result (λ done. tabled.AtEach tables.old (λ low h. (f : Formats S D S.PublicKey S.Signature S.Certificate) → HandsOut f out.old.items out.new.items (Verifies (next_number h) context.now proposal ∷ []))) }
+    ensures keeps { IfOk result
+        (λ done. tabled.AtEach tables.old (λ low h. KeepsTables low tables.new (AsksVerify (next_number h) context.now proposal ∷ h))) }
+    ensures acts { IfOk result (λ done.
+        tabled.AtEach tables.old (λ low h.
+        (f : Formats S D S.PublicKey S.Signature S.Certificate)
+        → HandsOut f out.old.items out.new.items (Verifies (next_number h) context.now proposal ∷ []))) }
     ensures fault { IfErr result (λ why. why ≡ step_fault.Memory) }
 {
     let Ok(number) = tables.add_check(context.round.view) else {

@@ -6,7 +6,6 @@ ghost use Rattle.simplex_state.specs.State as voting;
 ghost use Rattle.simplex_member.specs.declared.fault.NodeFault.TheVariants as step_fault;
 ghost use Rattle.simplex_member.specs.Layers.{current_of, latest, voter_of};
 ghost use Rattle.simplex_member.specs.Member.{EndsWith, IsGivenUpAt};
-ghost use Rattle.simplex_member.specs.Packet.{formats};
 ghost use Rattle.simplex_member.specs.Point.{Looks};
 ghost use Rattle.node_requests.specs.Asking.{AtAnyAsker};
 ghost use Rattle.node_requests.specs.Silence.{IsSilenceOf, SilenceCounts};
@@ -14,7 +13,7 @@ ghost use Rattle.node_requests.specs.Waking.{wakes};
 
 use crate::silence::{Silence, silent_from};
 use node_record::Tables;
-use simplex_member::NodeFault;
+use simplex_member::{NodeFault, Speaks};
 use simplex_state::State as Voter;
 use types_core::{Digest, Scheme};
 use types_terms::Elector;
@@ -30,8 +29,12 @@ pub fn is_given_up<S: Scheme<D> + Drop, L: Elector<S, D>, D: Digest>(
     voter: &mut Voter<S, L, D>,
     tables: &Tables<S, D>,
 ) -> Result<bool, NodeFault>
-    ensures looks { OnOk result (AtAnyAsker S.Scheme L.Elector (formats D.PartialEq.eq D.spelling S.Signature.spelling S.Certificate.spelling D.reading S.Signature.reading S.Certificate.reading) voter.old tables.now (λ f s h. voting.Keeps S.Scheme L.Elector s.voter voter.new (voter_of s (Looks ∷ h)))) }
-    ensures due { IfOk result (λ is_due. AtAnyAsker S.Scheme L.Elector (formats D.PartialEq.eq D.spelling S.Signature.spelling S.Certificate.spelling D.reading S.Signature.reading S.Certificate.reading) voter.old tables.now (λ f s h. MayGiveUp s.voter (voter_of s (Looks ∷ h)) (current_of s h) → IsTrue is_due ↔ NullifyIsDue s.voter (voter_of s (Looks ∷ h)) (latest h))) }
+    ensures looks { OnOk result (AtAnyAsker S.Scheme L.Elector ⟦<S as Speaks<D>>⟧.formats voter.old tables.now
+        (λ f s h. voting.Keeps S.Scheme L.Elector s.voter voter.new (voter_of s (Looks ∷ h)))) }
+    ensures due { IfOk result (λ is_due.
+        AtAnyAsker S.Scheme L.Elector ⟦<S as Speaks<D>>⟧.formats voter.old tables.now (λ f s h.
+        MayGiveUp s.voter (voter_of s (Looks ∷ h)) (current_of s h)
+        → IsTrue is_due ↔ NullifyIsDue s.voter (voter_of s (Looks ∷ h)) (latest h))) }
     ensures fault { IfErr result (λ why. why ≡ step_fault.Memory) }
 {
     let now = tables.moment();
@@ -52,8 +55,11 @@ pub fn next_wake<S: Scheme<D> + Drop, L: Elector<S, D>, D: Digest>(
     voter: &mut Voter<S, L, D>,
     tables: &Tables<S, D>,
 ) -> Result<Option<u64>, NodeFault>
-    ensures looks { OnOk result (AtAnyAsker S.Scheme L.Elector (formats D.PartialEq.eq D.spelling S.Signature.spelling S.Certificate.spelling D.reading S.Signature.reading S.Certificate.reading) voter.old tables.now (λ f s h. voting.Keeps S.Scheme L.Elector s.voter voter.new (voter_of s (Looks ∷ h)))) }
-    ensures wakes { IfOk result (λ wake. AtAnyAsker S.Scheme L.Elector (formats D.PartialEq.eq D.spelling S.Signature.spelling S.Certificate.spelling D.reading S.Signature.reading S.Certificate.reading) voter.old tables.now (λ f s h. IsSilenceOf s silence → (¬ IsGivenUpAt S.Scheme f s (Looks ∷ h) (latest h)) → EndsWith S.Scheme f s (Looks ∷ h) (wakes wake))) }
+    ensures looks { OnOk result (AtAnyAsker S.Scheme L.Elector ⟦<S as Speaks<D>>⟧.formats voter.old tables.now
+        (λ f s h. voting.Keeps S.Scheme L.Elector s.voter voter.new (voter_of s (Looks ∷ h)))) }
+    ensures wakes { IfOk result (λ wake.
+        AtAnyAsker S.Scheme L.Elector ⟦<S as Speaks<D>>⟧.formats voter.old tables.now (λ f s h.
+        IsSilenceOf s silence → (¬ IsGivenUpAt S.Scheme f s (Looks ∷ h) (latest h)) → EndsWith S.Scheme f s (Looks ∷ h) (wakes wake))) }
     ensures fault { IfErr result (λ why. why ≡ step_fault.Memory) }
 {
     the_timeout_is_the_earliest::<S, D>();
@@ -81,7 +87,8 @@ fn earliest<S: Scheme<D> + Drop, L: Elector<S, D>, D: Digest>(
     voter: &Voter<S, L, D>,
     tables: &Tables<S, D>,
 ) -> u64
-    ensures { AtAnyAsker S.Scheme L.Elector (formats D.PartialEq.eq D.spelling S.Signature.spelling S.Certificate.spelling D.reading S.Signature.reading S.Certificate.reading) voter.now tables.now (λ f s h. IsSilenceOf s silence → (t : ℕ) → t < 2 ^ 64 → (result ≤ t) ↔ ((moment ≤ t) ⊎ SilenceCounts S.Scheme f s h t)) }
+    ensures { AtAnyAsker S.Scheme L.Elector ⟦<S as Speaks<D>>⟧.formats voter.now tables.now
+        (λ f s h. IsSilenceOf s silence → (t : ℕ) → t < 2 ^ 64 → (result ≤ t) ↔ ((moment ≤ t) ⊎ SilenceCounts S.Scheme f s h t)) }
 {
     if !voter.counts_silence() {
         return moment;

@@ -28,7 +28,7 @@ use Rattle.simplex_member.specs.Recorded.{record_of}
 use Rattle.simplex_member.specs.Refusals.{tests}
 use Rattle.simplex_member.specs.Setup.{Setup}
 use Rattle.node_core.specs.GoingThrough as reading
-use Rattle.node_core.specs.declared.node_core.Core.{Core}
+use Rattle.node_core.specs.declared.node_state.Core.{Core}
 use Rattle.node_due.specs.Acting.{HasSettled, IsLeftByActs, WasSettled}
 use Rattle.node_core.specs.Keeps.{CoreKeeps, disk_of}
 use Rattle.node_steps.specs.declared.node.Node.{Node}

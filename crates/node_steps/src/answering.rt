@@ -2,7 +2,6 @@
 
 ghost use Rattle.std.specs.Prelude.{IsOk, IsSome};
 ghost use Rattle.simplex_member.specs.declared.event.Event.{Event};
-ghost use Rattle.simplex_member.specs.Packet.{formats};
 ghost use Rattle.simplex_member.specs.Point.{History};
 ghost use Rattle.node_core.specs.Keeps.{AtOwn, disk_of};
 ghost use Rattle.node_core.specs.Telling.{TellsOfDisk};
@@ -14,7 +13,7 @@ use node_core::Core;
 use node_due::settle;
 use node_input::answer;
 use node_record::a_ledger_at_rest_leaves_its_record;
-use simplex_member::{Event, NodeFault, Reply};
+use simplex_member::{Event, NodeFault, Reply, Speaks};
 use types_core::{Digest, Scheme};
 use types_terms::Elector;
 
@@ -23,7 +22,8 @@ pub(crate) fn answer_whole<S: Scheme<D> + Drop, L: Elector<S, D>, D: Digest, K: 
     core: &mut Core<S, L, D, K>,
     event: Event<D>,
 ) -> Result<Reply<S, D>, NodeFault>
-    ensures answered { AtOwn S.Scheme L.Elector K.Disk (formats D.PartialEq.eq D.spelling S.Signature.spelling S.Certificate.spelling D.reading S.Signature.reading S.Certificate.reading) core.old (λ f s h. IsAnsweredWhole S.Scheme L.Elector K.Disk f s core.old core.new h event result) }
+    ensures answered { AtOwn S.Scheme L.Elector K.Disk ⟦<S as Speaks<D>>⟧.formats core.old
+        (λ f s h. IsAnsweredWhole S.Scheme L.Elector K.Disk f s core.old core.new h event result) }
     ensures faults { TellsOfDisk K.Disk (disk_of core.old) (disk_of core.new) result }
 {
     match answer(core, event) {
@@ -37,7 +37,10 @@ fn go_on<S: Scheme<D> + Drop, L: Elector<S, D>, D: Digest, K: Disk>(
     core: &mut Core<S, L, D, K>,
     reply: Reply<S, D>,
 ) -> Result<Reply<S, D>, NodeFault>
-    ensures goes_on { AtOwn S.Scheme L.Elector K.Disk (formats D.PartialEq.eq D.spelling S.Signature.spelling S.Certificate.spelling D.reading S.Signature.reading S.Certificate.reading) core.old (λ f s mid. (h : History S D S.PublicKey S.Signature S.Certificate) (event : Event D) → StepsAtOnce S.Scheme f s h event reply mid → GoesOn S.Scheme L.Elector K.Disk f s core.old core.new h mid event result) }
+    ensures goes_on { AtOwn S.Scheme L.Elector K.Disk ⟦<S as Speaks<D>>⟧.formats core.old (λ f s mid.
+        (h : History S D S.PublicKey S.Signature S.Certificate) (event : Event D)
+        → StepsAtOnce S.Scheme f s h event reply mid
+        → GoesOn S.Scheme L.Elector K.Disk f s core.old core.new h mid event result) }
     ensures refused { IsSome reply.refused → IsOk result }
     ensures faults { TellsOfDisk K.Disk (disk_of core.old) (disk_of core.new) result }
 {

@@ -1,4 +1,4 @@
-//! The node of one member.
+//! The node of one member: how it opens over a record, and its steps.
 #![tactic(auto)]
 
 mod answering;

@@ -1,7 +1,6 @@
 //! Opening a record.
 
 ghost use Rattle.std.specs.Prelude.{◌≡◌, ◌≢◌, ◌↔◌, ◌⊎◌, ℕ, [], None, Some, IfOk, IfErr, IfSome, OnOk, false, max, unwrap_or};
-ghost use Rattle.types_codec.specs.Codec.{Readable};
 ghost use Rattle.messages_certificates.specs.Artifact.{artifact_spelling};
 ghost use Rattle.journal_single.specs.Disk.{LeavesOnly, counted};
 ghost use Rattle.journal_single.specs.Record.{IsForeign};
@@ -10,7 +9,6 @@ ghost use Rattle.node_record.specs.Ledger.{IsContradiction, OpensOver};
 ghost use Rattle.simplex_member.specs.declared.fault.NodeFault.TheVariants as step_fault;
 ghost use Rattle.simplex_member.specs.declared.fault.OpenFault.TheVariants as open_fault;
 ghost use Rattle.simplex_member.specs.First.{IsFirst};
-ghost use Rattle.simplex_member.specs.Packet.{formats};
 ghost use Rattle.simplex_member.specs.Setup.{Setup, IsInTime, owner_of, setup_of, silence_of};
 ghost use Rattle.node_core.specs.SettingUp.{IsSetUp};
 ghost use Rattle.node_due.specs.Acting.{IsLeftByActs};
@@ -23,11 +21,11 @@ use messages_certificates::Artifact;
 use node_core::{Core, Layers, Settings};
 use node_due::settle;
 use node_record::Ledger;
-use simplex_member::{Action, NodeFault, OpenFault};
+use simplex_member::{Action, NodeFault, OpenFault, Speaks};
 use simplex_record::Owner;
 use std::alloc::Global;
 use std::rc::Rc;
-use types_core::{Digest, Participant, Read, Scheme, Write};
+use types_core::{Digest, Participant, Scheme, Write};
 use types_terms::{Elector, Terms};
 use voter_rules::config::{Config, SkipPolicy, check_config};
 
@@ -49,23 +47,51 @@ impl<S: Scheme<D> + Drop, L: Elector<S, D>, D: Digest, K: Disk> Node<S, L, D, K>
         requires { L.built_for elector (S.size scheme.value) }
 
         // What was found on the disk was gone through, and the node stands behind it; the actions are what that hands out.
-        ensures opened { IfOk result (λ r. (index : ℕ) × (S.own scheme.value ≡ Some index) × IsOpenAndSettled S.Scheme L.Elector K.Disk (formats D.PartialEq.eq D.spelling S.Signature.spelling S.Certificate.spelling D.reading S.Signature.reading S.Certificate.reading (S.size scheme.value)) (setup_of S.Scheme L.Elector config scheme.value elector index) (Readable ⟦<Artifact<S, D> as Write>⟧.fits (⟦<Artifact<S, D> as Read>⟧.within 65535)) disk now r.0 r.1.items) }
+        ensures opened { IfOk result (λ r.
+            (index : ℕ) × (S.own scheme.value ≡ Some index) × IsOpenAndSettled S.Scheme L.Elector K.Disk
+            (⟦<S as Speaks<D>>⟧.formats (S.size scheme.value)) (setup_of S.Scheme L.Elector config scheme.value elector index)
+            ⟦<S as Speaks<D>>⟧.readable disk now r.0 r.1.items) }
 
         // What is wrong with the arguments is told first, the first that applies, and the disk was not touched.
-        ensures early { IfErr result (λ r. IfSome (early r.0) (λ x. IsFirst (open_tests S.Scheme (setup_of S.Scheme L.Elector config scheme.value elector 0) config now) (Some x) × (r.1 ≡ disk))) }
+        ensures early { IfErr result (λ r.
+            IfSome (early r.0)
+            (λ x. IsFirst (open_tests S.Scheme (setup_of S.Scheme L.Elector config scheme.value elector 0) config now) (Some x) × (r.1 ≡ disk))) }
         ensures no_early { OnOk result (IsFirst (open_tests S.Scheme (setup_of S.Scheme L.Elector config scheme.value elector 0) config now) None) }
-        ensures later { IfErr result (λ r. early r.0 ≡ None → IsFirst (open_tests S.Scheme (setup_of S.Scheme L.Elector config scheme.value elector 0) config now) None) }
+        ensures later { IfErr result
+            (λ r. early r.0 ≡ None → IsFirst (open_tests S.Scheme (setup_of S.Scheme L.Elector config scheme.value elector 0) config now) None) }
 
         // The other faults but want of memory say what is on the disk, or that it failed once more, exactly where that is told.
-        ensures foreign { IfErr result (λ r. (place : ℕ) → r.0 ≡ open_fault.Foreign place → K.keeps → IsForeign [] (Readable ⟦<Artifact<S, D> as Write>⟧.fits (⟦<Artifact<S, D> as Read>⟧.within 65535)) ⟦<Artifact<S, D> as Write>⟧.spelling (K.seen disk) place) }
-        ensures contradiction { IfErr result (λ r. (position index : ℕ) → S.own scheme.value ≡ Some index → r.0 ≡ open_fault.Contradiction position → IsContradiction K.Disk (artifact_spelling D.spelling S.Signature.spelling S.Certificate.spelling) (Readable ⟦<Artifact<S, D> as Write>⟧.fits (⟦<Artifact<S, D> as Read>⟧.within 65535)) (S.attests scheme.value) (S.certifies scheme.value) (owner_of (setup_of S.Scheme L.Elector config scheme.value elector index)) disk position) }
+        ensures foreign { IfErr result (λ r.
+            (place : ℕ)
+            → r.0 ≡ open_fault.Foreign place
+            → K.keeps
+            → IsForeign [] ⟦<S as Speaks<D>>⟧.readable ⟦<Artifact<S, D> as Write>⟧.spelling (K.seen disk) place) }
+        ensures contradiction { IfErr result (λ r.
+            (position index : ℕ)
+            → S.own scheme.value ≡ Some index
+            → r.0 ≡ open_fault.Contradiction position
+            → IsContradiction K.Disk (artifact_spelling D.spelling S.Signature.spelling S.Certificate.spelling) ⟦<S as Speaks<D>>⟧.readable
+            (S.attests scheme.value) (S.certifies scheme.value) (owner_of (setup_of S.Scheme L.Elector config scheme.value elector index)) disk
+            position) }
         ensures device { IfErr result (λ r. r.0 ≡ open_fault.Device → K.failed r.1 ≡ counted false (K.failed disk)) }
         ensures no_device { IfErr result (λ r. r.0 ≢ open_fault.Device → K.failed r.1 ≡ K.failed disk) }
         ensures no_fault { IfOk result (λ r. K.failed (disk_of r.0) ≡ K.failed disk) }
 
         // What a crash at any moment of the call may leave.
-        ensures any_moment { IfOk result (λ r. (index : ℕ) → S.own scheme.value ≡ Some index → K.keeps → LeavesOnly (K.calls disk) (K.calls (disk_of r.0)) (MayBeLeftOpen S.Scheme L.Elector K.Disk (formats D.PartialEq.eq D.spelling S.Signature.spelling S.Certificate.spelling D.reading S.Signature.reading S.Certificate.reading (S.size scheme.value)) (setup_of S.Scheme L.Elector config scheme.value elector index) (Readable ⟦<Artifact<S, D> as Write>⟧.fits (⟦<Artifact<S, D> as Read>⟧.within 65535)) disk now)) }
-        ensures any_moment_of_a_fault { IfErr result (λ r. (index : ℕ) → S.own scheme.value ≡ Some index → K.keeps → LeavesOnly (K.calls disk) (K.calls r.1) (MayBeLeftOpen S.Scheme L.Elector K.Disk (formats D.PartialEq.eq D.spelling S.Signature.spelling S.Certificate.spelling D.reading S.Signature.reading S.Certificate.reading (S.size scheme.value)) (setup_of S.Scheme L.Elector config scheme.value elector index) (Readable ⟦<Artifact<S, D> as Write>⟧.fits (⟦<Artifact<S, D> as Read>⟧.within 65535)) disk now)) }
+        ensures any_moment { IfOk result (λ r.
+            (index : ℕ)
+            → S.own scheme.value ≡ Some index
+            → K.keeps
+            → LeavesOnly (K.calls disk) (K.calls (disk_of r.0)) (MayBeLeftOpen S.Scheme L.Elector K.Disk
+            (⟦<S as Speaks<D>>⟧.formats (S.size scheme.value)) (setup_of S.Scheme L.Elector config scheme.value elector index)
+            ⟦<S as Speaks<D>>⟧.readable disk now)) }
+        ensures any_moment_of_a_fault { IfErr result (λ r.
+            (index : ℕ)
+            → S.own scheme.value ≡ Some index
+            → K.keeps
+            → LeavesOnly (K.calls disk) (K.calls r.1) (MayBeLeftOpen S.Scheme L.Elector K.Disk
+            (⟦<S as Speaks<D>>⟧.formats (S.size scheme.value)) (setup_of S.Scheme L.Elector config scheme.value elector index)
+            ⟦<S as Speaks<D>>⟧.readable disk now)) }
     {
         a_disk_reads_as_one_record::<Artifact<S, D>>();
         let me = match member_of(&config, &*scheme, &elector, now) {
@@ -92,9 +118,13 @@ fn open_over<S: Scheme<D> + Drop, L: Elector<S, D>, D: Digest, K: Disk>(
     now: u64,
 ) -> Result<(Node<S, L, D, K>, Vec<Action<S, D>>), (OpenFault, K)>
     requires { L.built_for elector (S.size settings.scheme.value) }
-    ensures opened { IfOk result (λ r. (on : K) (n index : ℕ) → let s = setup_of S.Scheme L.Elector config.now settings.scheme.value elector index in
-        IsSetUp s settings → IsInTime s now → OpensOver K.Disk (artifact_spelling D.spelling S.Signature.spelling S.Certificate.spelling) (Readable ⟦<Artifact<S, D> as Write>⟧.fits (⟦<Artifact<S, D> as Read>⟧.within 65535)) (S.attests s.voter.scheme) (S.certifies s.voter.scheme) (owner_of s) on ledger
-        → IsOpen S.Scheme L.Elector K.Disk (formats D.PartialEq.eq D.spelling S.Signature.spelling S.Certificate.spelling D.reading S.Signature.reading S.Certificate.reading n) s (Readable ⟦<Artifact<S, D> as Write>⟧.fits (⟦<Artifact<S, D> as Read>⟧.within 65535)) on now r.0 r.1.items) }
+    ensures opened { IfOk result (λ r.
+        (on : K) (n index : ℕ)
+        → let s = setup_of S.Scheme L.Elector config.now settings.scheme.value elector index in IsSetUp s settings
+        → IsInTime s now
+        → OpensOver K.Disk (artifact_spelling D.spelling S.Signature.spelling S.Certificate.spelling) ⟦<S as Speaks<D>>⟧.readable
+        (S.attests s.voter.scheme) (S.certifies s.voter.scheme) (owner_of s) on ledger
+        → IsOpen S.Scheme L.Elector K.Disk (⟦<S as Speaks<D>>⟧.formats n) s ⟦<S as Speaks<D>>⟧.readable on now r.0 r.1.items) }
     ensures disk { IfOk result (λ r. disk_of r.0 ≡ ledgers.disk_of ledger) }
     ensures memory { IfErr result (λ r. (r.0 ≡ open_fault.Memory) × (r.1 ≡ ledgers.disk_of ledger)) }
 {
@@ -109,14 +139,21 @@ fn begin<S: Scheme<D> + Drop, L: Elector<S, D>, D: Digest, K: Disk>(
     node: Node<S, L, D, K>,
     actions: Vec<Action<S, D>>,
 ) -> Result<(Node<S, L, D, K>, Vec<Action<S, D>>), (OpenFault, K)>
-    ensures opened { IfOk result (λ r. (n : ℕ) (s : Setup S D S.Certificate) (on : K) (now : ℕ) → n ≡ S.size s.voter.scheme → let f = formats D.PartialEq.eq D.spelling S.Signature.spelling S.Certificate.spelling D.reading S.Signature.reading S.Certificate.reading n in
-        IsOpen S.Scheme L.Elector K.Disk f s (Readable ⟦<Artifact<S, D> as Write>⟧.fits (⟦<Artifact<S, D> as Read>⟧.within 65535)) on now node actions.items → IsOpenAndSettled S.Scheme L.Elector K.Disk f s (Readable ⟦<Artifact<S, D> as Write>⟧.fits (⟦<Artifact<S, D> as Read>⟧.within 65535)) on now r.0 r.1.items) }
+    ensures opened { IfOk result (λ r.
+        (n : ℕ) (s : Setup S D S.Certificate) (on : K) (now : ℕ)
+        → n ≡ S.size s.voter.scheme
+        → let f = ⟦<S as Speaks<D>>⟧.formats n in IsOpen S.Scheme L.Elector K.Disk f s ⟦<S as Speaks<D>>⟧.readable on now node actions.items
+        → IsOpenAndSettled S.Scheme L.Elector K.Disk f s ⟦<S as Speaks<D>>⟧.readable on now r.0 r.1.items) }
     ensures memory { IfErr result (λ r. (r.0 ≡ open_fault.Memory) ⊎ (r.0 ≡ open_fault.Device)) }
     ensures device { IfErr result (λ r. r.0 ≡ open_fault.Device → K.failed r.1 ≡ counted false (K.failed (disk_of node))) }
     ensures no_device { IfErr result (λ r. r.0 ≢ open_fault.Device → K.failed r.1 ≡ K.failed (disk_of node)) }
     ensures no_fault { IfOk result (λ r. K.failed (disk_of r.0) ≡ K.failed (disk_of node)) }
-    ensures any_moment { IfOk result (λ r. AtOwn S.Scheme L.Elector K.Disk (formats D.PartialEq.eq D.spelling S.Signature.spelling S.Certificate.spelling D.reading S.Signature.reading S.Certificate.reading) node (λ f s h. K.keeps → LeavesOnly (K.calls (disk_of node)) (K.calls (disk_of r.0)) (IsLeftByActs S.Scheme f s h))) }
-    ensures any_moment_of_a_fault { IfErr result (λ r. AtOwn S.Scheme L.Elector K.Disk (formats D.PartialEq.eq D.spelling S.Signature.spelling S.Certificate.spelling D.reading S.Signature.reading S.Certificate.reading) node (λ f s h. K.keeps → LeavesOnly (K.calls (disk_of node)) (K.calls r.1) (IsLeftByActs S.Scheme f s h))) }
+    ensures any_moment { IfOk result (λ r.
+        AtOwn S.Scheme L.Elector K.Disk ⟦<S as Speaks<D>>⟧.formats node
+        (λ f s h. K.keeps → LeavesOnly (K.calls (disk_of node)) (K.calls (disk_of r.0)) (IsLeftByActs S.Scheme f s h))) }
+    ensures any_moment_of_a_fault { IfErr result (λ r.
+        AtOwn S.Scheme L.Elector K.Disk ⟦<S as Speaks<D>>⟧.formats node
+        (λ f s h. K.keeps → LeavesOnly (K.calls (disk_of node)) (K.calls r.1) (IsLeftByActs S.Scheme f s h))) }
 {
     let mut node = node;
     let mut actions = actions;
@@ -143,7 +180,8 @@ fn node_of<S: Scheme<D> + Drop, L: Elector<S, D>, D: Digest, K: Disk>(
     layers: Layers<S, L, D>,
     ledger: Ledger<S, D, K>,
 ) -> Node<S, L, D, K>
-    ensures { result ≡ record { core = record { settings = settings; voter = layers.voter; acceptance = layers.acceptance; repair = layers.repair; ledger = ledger; tables = layers.tables }; failed = false } }
+    ensures { result ≡ record
+        { core = record { settings = settings; voter = layers.voter; acceptance = layers.acceptance; repair = layers.repair; ledger = ledger; tables = layers.tables }; failed = false } }
 {
     let Layers {
         voter,
@@ -179,7 +217,8 @@ fn member_of<S: Scheme<D>, L: Elector<S, D>, D: Digest>(
     ensures member { IfOk result (λ me. S.own scheme.now ≡ Some me) }
     ensures in_time { OnOk result (IsInTime (setup_of S.Scheme L.Elector config.now scheme.now elector.now 0) now) }
     ensures good { OnOk result (IsFirst (open_tests S.Scheme (setup_of S.Scheme L.Elector config.now scheme.now elector.now 0) config.now now) None) }
-    ensures fault { IfErr result (λ why. IsFirst (open_tests S.Scheme (setup_of S.Scheme L.Elector config.now scheme.now elector.now 0) config.now now) (Some why)) }
+    ensures fault { IfErr result
+        (λ why. IsFirst (open_tests S.Scheme (setup_of S.Scheme L.Elector config.now scheme.now elector.now 0) config.now now) (Some why)) }
     ensures early { IfErr result (λ why. early why ≡ Some why) }
 {
     let Some(me) = scheme.me() else {
@@ -224,7 +263,8 @@ fn settings_of<S: Scheme<D>, L: Elector<S, D>, D: Digest>(
 
 /// The longest of all times of a configuration and of the terms.
 fn longest_timeout<D: Digest>(config: &Config<D>, terms: &Terms) -> u64
-    ensures { result ≡ max config.now.leader_timeout (max config.now.certification_timeout (max config.now.timeout_retry (max (unwrap_or terms.now.stall_timeout 0) (unwrap_or (silence_of config.now.skip) 0)))) }
+    ensures { result ≡ max config.now.leader_timeout (max config.now.certification_timeout
+        (max config.now.timeout_retry (max (unwrap_or terms.now.stall_timeout 0) (unwrap_or (silence_of config.now.skip) 0)))) }
 {
     let stall = terms.stall_timeout().unwrap_or(0);
     let silence = silence_of(config.skip).unwrap_or(0);

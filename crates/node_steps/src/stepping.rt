@@ -4,7 +4,6 @@ ghost use Rattle.std.specs.Prelude.{◌≡◌, Some, true, false, IfOk, OnErr, O
 ghost use Rattle.journal_single.specs.Disk.{LeavesOnly, counted};
 ghost use Rattle.simplex_member.specs.First.{IsFirst};
 ghost use Rattle.simplex_member.specs.Member.{IsReached, Steps};
-ghost use Rattle.simplex_member.specs.Packet.{formats};
 ghost use Rattle.simplex_member.specs.Point.{History};
 ghost use Rattle.simplex_member.specs.Refusals.{needs_nothing, tests};
 ghost use Rattle.node_steps.specs.Keeps.{AtOwn, NodeKeeps, disk_of, has_failed};
@@ -12,7 +11,7 @@ ghost use Rattle.node_steps.specs.Keeps.{AtOwn, NodeKeeps, disk_of, has_failed};
 use crate::answering::answer_whole;
 use crate::node::Node;
 use journal_single::Disk;
-use simplex_member::{Event, NodeFault, Refusal, Reply};
+use simplex_member::{Event, NodeFault, Refusal, Reply, Speaks};
 use types_core::{Digest, Scheme};
 use types_terms::Elector;
 
@@ -23,7 +22,10 @@ impl<S: Scheme<D> + Drop, L: Elector<S, D>, D: Digest, K: Disk> Node<S, L, D, K>
     ///
     /// [`NodeFault::Memory`] and [`NodeFault::Device`]: then the node has failed, and each later step answers [`NodeFault::Failed`].
     pub fn step(&mut self, event: Event<D>) -> Result<Reply<S, D>, NodeFault>
-        ensures ok { IfOk result (λ reply. AtOwn S.Scheme L.Elector K.Disk (formats D.PartialEq.eq D.spelling S.Signature.spelling S.Certificate.spelling D.reading S.Signature.reading S.Certificate.reading) self.old (λ f s h. (end : History S D S.PublicKey S.Signature S.Certificate) × Steps S.Scheme f s h event reply end × NodeKeeps S.Scheme L.Elector K.Disk f s self.new end)) }
+        ensures ok { IfOk result (λ reply.
+            AtOwn S.Scheme L.Elector K.Disk ⟦<S as Speaks<D>>⟧.formats self.old (λ f s h.
+            (end : History S D S.PublicKey S.Signature S.Certificate) × Steps S.Scheme f s h event reply end × NodeKeeps S.Scheme L.Elector
+            K.Disk f s self.new end)) }
         ensures failed { OnErr result (has_failed self.new ≡ true) }
         ensures refused_if_failed { has_failed self.old ≡ true → IsErrOf result NodeFault.Failed × (self.new ≡ self.old) }
         ensures failed_before { IsErrOf result NodeFault.Failed → has_failed self.old ≡ true }
@@ -34,10 +36,12 @@ impl<S: Scheme<D> + Drop, L: Elector<S, D>, D: Digest, K: Disk> Node<S, L, D, K>
         ensures no_fault { OnOk result (K.failed (disk_of self.new) ≡ K.failed (disk_of self.old)) }
 
         // A crash at any moment of the call leaves the record at a point of the step.
-        ensures any_moment { AtOwn S.Scheme L.Elector K.Disk (formats D.PartialEq.eq D.spelling S.Signature.spelling S.Certificate.spelling D.reading S.Signature.reading S.Certificate.reading) self.old (λ f s h. K.keeps → LeavesOnly (K.calls (disk_of self.old)) (K.calls (disk_of self.new)) (IsReached S.Scheme f s h event)) }
+        ensures any_moment { AtOwn S.Scheme L.Elector K.Disk ⟦<S as Speaks<D>>⟧.formats self.old
+            (λ f s h. K.keeps → LeavesOnly (K.calls (disk_of self.old)) (K.calls (disk_of self.new)) (IsReached S.Scheme f s h event)) }
 
         // Refusals that ask for neither memory nor the disk are always answered.
-        ensures without_memory { AtOwn S.Scheme L.Elector K.Disk (formats D.PartialEq.eq D.spelling S.Signature.spelling S.Certificate.spelling D.reading S.Signature.reading S.Certificate.reading) self.old (λ f s h. (r : Refusal) → IsFirst (tests S.Scheme f s h event) (Some r) → needs_nothing r ≡ true → IsOk result) }
+        ensures without_memory { AtOwn S.Scheme L.Elector K.Disk ⟦<S as Speaks<D>>⟧.formats self.old
+            (λ f s h. (r : Refusal) → IsFirst (tests S.Scheme f s h event) (Some r) → needs_nothing r ≡ true → IsOk result) }
     {
         if self.failed {
             return Err(NodeFault::Failed);

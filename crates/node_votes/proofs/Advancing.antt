@@ -18,7 +18,7 @@ use Rattle.node_votes.specs.declared.due.Due.{Due}
 use Rattle.node_votes.specs.declared.due.Due.TheVariants as due
 use Rattle.node_votes.specs.declared.rounds.Rounds.{Rounds}
 use Rattle.node_votes.specs.Standing.{AreAtRest, IsAtRest, IsDone, Stand, put, set_at, setup_at}
-use Rattle.node_votes.specs.Keeps.{Does, Keeps, KeepsAhead, NoneIsDue, common_part, stage_ahead, votes_ahead}
+use Rattle.node_votes.specs.KeepsVotes.{Does, Keeps, KeepsAhead, NoneIsDue, common_part, stage_ahead, votes_ahead}
 use Rattle.node_votes.proofs.Answering.{stage-kept}
 use Rattle.node_votes.proofs.Changing.{alike}
 use Rattle.node_votes.proofs.Opening.{at-due}

@@ -11,7 +11,7 @@ use Rattle.simplex_messages.specs.declared.activity.Activity.{Activity}
 use Rattle.simplex_messages.specs.declared.vote.Vote.{Vote}
 use Rattle.simplex_messages.specs.VoteParts.{vote_artifact, vote_round}
 use Rattle.batcher_admission.specs.declared.admission.Admission.{Admission}
-use Rattle.batcher_verifier.specs.declared.fault.BatcherFault.{BatcherFault}
+use Rattle.batcher_verifier.specs.declared.batcher_fault.BatcherFault.{BatcherFault}
 use Rattle.batcher_verifier.specs.History.{Taken, Cast, Certified, Led}
 use Rattle.simplex_member.specs.Layers.{all_votes, current_of, floor_of, stage, votes_of, votes_setup}
 use Rattle.simplex_member.specs.Point.{History, Came, Found, Heard, Leads, Votes}
@@ -20,7 +20,7 @@ use Rattle.simplex_batcher.specs.Admission.{IsCastFault}
 use Rattle.node_votes.specs.declared.acceptance.Acceptance.{Acceptance}
 use Rattle.node_votes.specs.declared.rounds.Rounds.{Rounds}
 use Rattle.node_votes.specs.Standing.{Common, IsAdmitted, IsCast, Stand, come_up, is_passed, put, setup_now}
-use Rattle.node_votes.specs.Keeps.{Keeps, KeepsAhead, IsSetUp, common_part}
+use Rattle.node_votes.specs.KeepsVotes.{Keeps, KeepsAhead, IsSetUp, common_part}
 use Rattle.node_votes.proofs.Changing.{alike}
 use Rattle.node_votes.proofs.Pieces.{happened-brought}
 use Rattle.node_votes.proofs.Pointing.{brought, brought-ahead, found-certificate, found-certificate-adds, found-vote, found-vote-adds, unkept, unkept-ahead, vote-current, vote-floor}

@@ -10,7 +10,7 @@ use Rattle.simplex_member.specs.Point.{History, Point}
 use Rattle.simplex_member.specs.Setup.{Setup}
 use Rattle.node_votes.specs.declared.acceptance.Acceptance.{Acceptance}
 use Rattle.node_votes.specs.Standing.{come_up, happened_from, is_passed, up_from}
-use Rattle.node_votes.specs.Keeps.{IsAt, Keeps, KeepsAhead, common_part, stage_ahead, votes_ahead}
+use Rattle.node_votes.specs.KeepsVotes.{IsAt, Keeps, KeepsAhead, common_part, stage_ahead, votes_ahead}
 use Rattle.node_votes.proofs.Pointing.{below-floor, entered, roomless}
 
 module _ {S D P G C : Type 0} (g : Ghosts S D P G C) (same : D → D → Bool) (s : Setup S D C) (h : History S D P G C) (p : Point S D P G C) (enters : may_enter p ≡ true) (new : Acceptance S D P G C) where

@@ -14,8 +14,8 @@ use Rattle.simplex_messages.specs.VoteParts.{vote_round}
 use Rattle.messages_certificates.specs.Certificate.{certificate_round}
 use Rattle.batcher_admission.specs.declared.admission.Admission.{Admission}
 use Rattle.batcher_admission.specs.Evidence.{as_report}
-use Rattle.batcher_verifier.specs.declared.fault.BatcherFault.{BatcherFault}
-use Rattle.batcher_verifier.specs.declared.fault.BatcherFault.TheVariants.{WrongRound, Memory}
+use Rattle.batcher_verifier.specs.declared.batcher_fault.BatcherFault.{BatcherFault}
+use Rattle.batcher_verifier.specs.declared.batcher_fault.BatcherFault.TheVariants.{WrongRound, Memory}
 use Rattle.batcher_verifier.specs.History.{Event, History, Taken, Cast, Certified, recorded, takes}
 use Rattle.batcher_verifier.specs.Lawful.{VoteAttests}
 use Rattle.simplex_batcher.specs.declared.round.Round.{Round}

@@ -20,7 +20,7 @@ use Rattle.simplex_member.specs.Point.{History, Point, Found, Votes}
 use Rattle.simplex_member.specs.Setup.{Setup}
 use Rattle.node_votes.specs.declared.rounds.Rounds.{Rounds}
 use Rattle.node_votes.specs.Standing.{Stand, come_up, happened_from, put, up_from}
-use Rattle.node_votes.specs.Keeps.{common_part, stage_ahead, votes_ahead}
+use Rattle.node_votes.specs.KeepsVotes.{common_part, stage_ahead, votes_ahead}
 use Rattle.node_votes.proofs.Changing.{alike}
 use Rattle.node_votes.proofs.Pieces.{ahead-brought, ahead-unkept, happened-brought, happened-later, happened-unkept, up-below, up-brought, up-entered, up-roomless, up-unkept}
 

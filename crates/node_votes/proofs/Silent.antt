@@ -8,7 +8,7 @@ use Rattle.simplex_member.specs.Layers.{add_point, all_votes, concerns, current_
 use Rattle.simplex_member.specs.Point.{History, Point, Counts, Falls, Passes, Opened, Found, Came, Built, Checked, Judged, Constructs, Votes}
 use Rattle.simplex_member.specs.Setup.{Setup}
 use Rattle.node_votes.specs.declared.acceptance.Acceptance.{Acceptance}
-use Rattle.node_votes.specs.Keeps.{Keeps, KeepsAhead, QuietStays, SaysNothing, SilentStays, common_part, stage_ahead, votes_ahead}
+use Rattle.node_votes.specs.KeepsVotes.{Keeps, KeepsAhead, QuietStays, SaysNothing, SilentStays, common_part, stage_ahead, votes_ahead}
 use Rattle.node_votes.proofs.Changing.{alike}
 
 up-quiet : (below below' concerns enters is_current room : Bool) (o x : Option Bool) → below' ≡ below → concerns ≡ false → enters ≡ false

@@ -7,7 +7,7 @@ ghost use Rattle.messages_certificates.specs.Artifact.{certificate_artifact};
 ghost use Rattle.messages_certificates.specs.Certificate.{certificate_round};
 ghost use Rattle.simplex_messages.specs.VoteParts.{vote_artifact, vote_round, vote_signer};
 ghost use Rattle.batcher_admission.specs.Evidence.{as_report};
-ghost use Rattle.batcher_verifier.specs.declared.fault.BatcherFault.TheVariants.{Memory};
+ghost use Rattle.batcher_verifier.specs.declared.batcher_fault.BatcherFault.TheVariants.{Memory};
 ghost use Rattle.batcher_verifier.specs.History.{forwardable, leader_of, next_kind, recorded, takes};
 ghost use Rattle.batcher_verifier.specs.Votes.{vote_attestation, vote_statement};
 ghost use Rattle.simplex_batcher.specs.Admission.{AgreesWithOwn, IsBlocked, IsCastFault, contradicts, report_of};
@@ -17,7 +17,7 @@ ghost use Rattle.simplex_member.specs.Point.{Point, History, Came, Found, Heard,
 ghost use Rattle.simplex_member.specs.Setup.{Setup};
 ghost use Rattle.batcher_verifier.specs.History as votes;
 ghost use Rattle.node_votes.specs.Standing.{AreLedFrom, IsFirstUnled, happened_from, up_from};
-ghost use Rattle.node_votes.specs.Keeps.{AtEach, Does, IsAt, IsNewVote, IsOpenTo, IsSetUp, IsShut, Keeps, KeepsAhead, NoneIsDue};
+ghost use Rattle.node_votes.specs.KeepsVotes.{AtEach, Does, IsAt, IsNewVote, IsOpenTo, IsSetUp, IsShut, Keeps, KeepsAhead, NoneIsDue};
 
 use crate::due::Due;
 use crate::rounds::Rounds;
@@ -46,7 +46,9 @@ impl<S: Scheme<D> + Drop, D: Digest> Acceptance<S, D> {
         me: Participant,
         track_historical_votes: bool,
     ) -> Self
-        ensures { (s : Setup S D S.Certificate) → IsSetUp s scheme.value epoch length me track_historical_votes → Keeps S.Scheme D.PartialEq.eq s result [] }
+        ensures { (s : Setup S D S.Certificate)
+            → IsSetUp s scheme.value epoch length me track_historical_votes
+            → Keeps S.Scheme D.PartialEq.eq s result [] }
     {
         Acceptance {
             length,
@@ -68,12 +70,26 @@ impl<S: Scheme<D> + Drop, D: Digest> Acceptance<S, D> {
         sender: Participant,
         vote: Vote<S, D>,
     ) -> Result<Admission<S, D>, BatcherFault>
-        ensures added { IfOk result (λ a. AtEach S.Scheme D.PartialEq.eq self.old (λ s h. IsOpenTo s h (vote_round vote) → a.added ≡ takes (votes_setup s S.Scheme h (vote_round vote).view) (votes_of s h (vote_round vote).view) sender vote)) }
-        ensures block { IfOk result (λ a. AtEach S.Scheme D.PartialEq.eq self.old (λ s h. IsOpenTo s h (vote_round vote) → IsTrue a.block ↔ IsBlocked (votes_setup s S.Scheme h (vote_round vote).view) (votes_of s h (vote_round vote).view) sender vote)) }
-        ensures report { IfOk result (λ a. AtEach S.Scheme D.PartialEq.eq self.old (λ s h. IsOpenTo s h (vote_round vote) → a.report ≡ report_of D.PartialEq.eq (votes_setup s S.Scheme h (vote_round vote).view) (votes_of s h (vote_round vote).view) sender vote)) }
-        ensures shut { IfOk result (λ a. AtEach S.Scheme D.PartialEq.eq self.old (λ s h. IsShut s h (vote_round vote).view → (a.added ≡ false) × (a.block ≡ false) × (a.report ≡ None))) }
-        ensures heard { IfOk result (λ a. a.added ≡ true → AtEach S.Scheme D.PartialEq.eq self.old (λ s h. Keeps S.Scheme D.PartialEq.eq s self.new (Heard vote ∷ h))) }
-        ensures refused { IfOk result (λ a. a.added ≡ false → AtEach S.Scheme D.PartialEq.eq self.old (λ s h. Keeps S.Scheme D.PartialEq.eq s self.new h)) }
+        ensures added { IfOk result (λ a.
+            AtEach S.Scheme D.PartialEq.eq self.old (λ s h.
+            IsOpenTo s h (vote_round vote)
+            → a.added ≡ takes (votes_setup s S.Scheme h (vote_round vote).view) (votes_of s h (vote_round vote).view) sender vote)) }
+        ensures block { IfOk result (λ a.
+            AtEach S.Scheme D.PartialEq.eq self.old (λ s h.
+            IsOpenTo s h (vote_round vote)
+            → IsTrue a.block ↔ IsBlocked (votes_setup s S.Scheme h (vote_round vote).view) (votes_of s h (vote_round vote).view) sender vote)) }
+        ensures report { IfOk result (λ a.
+            AtEach S.Scheme D.PartialEq.eq self.old (λ s h.
+            IsOpenTo s h (vote_round vote)
+            → a.report ≡ report_of D.PartialEq.eq (votes_setup s S.Scheme h (vote_round vote).view) (votes_of s h (vote_round vote).view) sender
+            vote)) }
+        ensures shut { IfOk result (λ a.
+            AtEach S.Scheme D.PartialEq.eq self.old
+            (λ s h. IsShut s h (vote_round vote).view → (a.added ≡ false) × (a.block ≡ false) × (a.report ≡ None))) }
+        ensures heard { IfOk result
+            (λ a. a.added ≡ true → AtEach S.Scheme D.PartialEq.eq self.old (λ s h. Keeps S.Scheme D.PartialEq.eq s self.new (Heard vote ∷ h))) }
+        ensures refused { IfOk result
+            (λ a. a.added ≡ false → AtEach S.Scheme D.PartialEq.eq self.old (λ s h. Keeps S.Scheme D.PartialEq.eq s self.new h)) }
         ensures fault { IfErr result (λ e. AtEach S.Scheme D.PartialEq.eq self.old (λ s h. (vote_round vote).epoch ≡ s.voter.epoch → e ≡ Memory)) }
         ensures err { OnErr result (AtEach S.Scheme D.PartialEq.eq self.old (λ s h. Keeps S.Scheme D.PartialEq.eq s self.new h)) }
     {
@@ -106,14 +122,27 @@ impl<S: Scheme<D> + Drop, D: Digest> Acceptance<S, D> {
     /// [`BatcherFault::WrongRound`] where it is of another epoch, [`BatcherFault::Contradicts`] where it contradicts an accepted
     /// vote, and [`BatcherFault::Memory`] where memory ran out. Nothing is changed then.
     pub fn cast(&mut self, vote: Vote<S, D>) -> Result<Option<Activity<S, D>>, BatcherFault>
-        ensures report { IfOk result (λ report. AtEach S.Scheme D.PartialEq.eq self.old (λ s h. IsOpenTo s h (vote_round vote) → report ≡ (if is_none (recorded (votes_of s h (vote_round vote).view) vote) then Some (as_report vote) else None))) }
-        ensures cast { OnOk result (AtEach S.Scheme D.PartialEq.eq self.old (λ s h. IsNewVote S.Scheme s h vote → Keeps S.Scheme D.PartialEq.eq s self.new (Votes vote ∷ h))) }
-        ensures found { OnOk result (AtEach S.Scheme D.PartialEq.eq self.old (λ s h. IsNewVote S.Scheme s h vote → (taken : Bool) → KeepsAhead S.Scheme D.PartialEq.eq s self.new h (Found (vote_artifact vote) taken))) }
-        ensures shut { IfOk result (λ report. AtEach S.Scheme D.PartialEq.eq self.old (λ s h. IsShut s h (vote_round vote).view → (report ≡ None) × Keeps S.Scheme D.PartialEq.eq s self.new h)) }
-        ensures agrees { OnOk result (AtEach S.Scheme D.PartialEq.eq self.old (λ s h. IsOpenTo s h (vote_round vote) → contradicts D.PartialEq.eq (votes_of s h (vote_round vote).view) vote ≡ false)) }
-        ensures again { OnOk result (AtEach S.Scheme D.PartialEq.eq self.old (λ s h. is_none (recorded (votes_of s h (vote_round vote).view) vote) ≡ false → Keeps S.Scheme D.PartialEq.eq s self.new h)) }
-        ensures why { IfErr result (λ e. AtEach S.Scheme D.PartialEq.eq self.old (λ s h. IsCastFault D.PartialEq.eq (votes_setup s S.Scheme h (vote_round vote).view) (votes_of s h (vote_round vote).view) vote e)) }
-        ensures fault { IfErr result (λ e. AtEach S.Scheme D.PartialEq.eq self.old (λ s h. (vote_round vote).epoch ≡ s.voter.epoch → AgreesWithOwn D.PartialEq.eq (votes_of s h (vote_round vote).view) vote → e ≡ Memory)) }
+        ensures report { IfOk result (λ report.
+            AtEach S.Scheme D.PartialEq.eq self.old (λ s h.
+            IsOpenTo s h (vote_round vote)
+            → report ≡ (if is_none (recorded (votes_of s h (vote_round vote).view) vote) then Some (as_report vote) else None))) }
+        ensures cast { OnOk result (AtEach S.Scheme D.PartialEq.eq self.old
+            (λ s h. IsNewVote S.Scheme s h vote → Keeps S.Scheme D.PartialEq.eq s self.new (Votes vote ∷ h))) }
+        ensures found { OnOk result (AtEach S.Scheme D.PartialEq.eq self.old (λ s h.
+            IsNewVote S.Scheme s h vote → (taken : Bool) → KeepsAhead S.Scheme D.PartialEq.eq s self.new h (Found (vote_artifact vote) taken))) }
+        ensures shut { IfOk result (λ report.
+            AtEach S.Scheme D.PartialEq.eq self.old
+            (λ s h. IsShut s h (vote_round vote).view → (report ≡ None) × Keeps S.Scheme D.PartialEq.eq s self.new h)) }
+        ensures agrees { OnOk result (AtEach S.Scheme D.PartialEq.eq self.old
+            (λ s h. IsOpenTo s h (vote_round vote) → contradicts D.PartialEq.eq (votes_of s h (vote_round vote).view) vote ≡ false)) }
+        ensures again { OnOk result (AtEach S.Scheme D.PartialEq.eq self.old
+            (λ s h. is_none (recorded (votes_of s h (vote_round vote).view) vote) ≡ false → Keeps S.Scheme D.PartialEq.eq s self.new h)) }
+        ensures why { IfErr result (λ e.
+            AtEach S.Scheme D.PartialEq.eq self.old
+            (λ s h. IsCastFault D.PartialEq.eq (votes_setup s S.Scheme h (vote_round vote).view) (votes_of s h (vote_round vote).view) vote e)) }
+        ensures fault { IfErr result (λ e.
+            AtEach S.Scheme D.PartialEq.eq self.old (λ s h.
+            (vote_round vote).epoch ≡ s.voter.epoch → AgreesWithOwn D.PartialEq.eq (votes_of s h (vote_round vote).view) vote → e ≡ Memory)) }
         ensures err { OnErr result (AtEach S.Scheme D.PartialEq.eq self.old (λ s h. Keeps S.Scheme D.PartialEq.eq s self.new h)) }
     {
         let view = vote.view();
@@ -134,10 +163,17 @@ impl<S: Scheme<D> + Drop, D: Digest> Acceptance<S, D> {
     /// [`BatcherFault::WrongRound`] where it is of another epoch, and [`BatcherFault::Memory`] where memory ran out. Nothing is
     /// changed then.
     pub fn record(&mut self, certificate: &Certificate<S, D>) -> Result<(), BatcherFault>
-        ensures came { OnOk result (AtEach S.Scheme D.PartialEq.eq self.old (λ s h. HasRoom s.voter.length (certificate_round certificate.now).view → KeepsAhead S.Scheme D.PartialEq.eq s self.new h (Came certificate.now))) }
-        ensures found { OnOk result (AtEach S.Scheme D.PartialEq.eq self.old (λ s h. HasRoom s.voter.length (certificate_round certificate.now).view → (taken : Bool) → KeepsAhead S.Scheme D.PartialEq.eq s self.new h (Found (certificate_artifact certificate.now) taken))) }
-        ensures shut { OnOk result (AtEach S.Scheme D.PartialEq.eq self.old (λ s h. IsShut s h (certificate_round certificate.now).view → Keeps S.Scheme D.PartialEq.eq s self.new h)) }
-        ensures fault { IfErr result (λ e. AtEach S.Scheme D.PartialEq.eq self.old (λ s h. (certificate_round certificate.now).epoch ≡ s.voter.epoch → e ≡ Memory)) }
+        ensures came { OnOk result (AtEach S.Scheme D.PartialEq.eq self.old (λ s h.
+            HasRoom s.voter.length (certificate_round certificate.now).view
+            → KeepsAhead S.Scheme D.PartialEq.eq s self.new h (Came certificate.now))) }
+        ensures found { OnOk result (AtEach S.Scheme D.PartialEq.eq self.old (λ s h.
+            HasRoom s.voter.length (certificate_round certificate.now).view
+            → (taken : Bool)
+            → KeepsAhead S.Scheme D.PartialEq.eq s self.new h (Found (certificate_artifact certificate.now) taken))) }
+        ensures shut { OnOk result (AtEach S.Scheme D.PartialEq.eq self.old
+            (λ s h. IsShut s h (certificate_round certificate.now).view → Keeps S.Scheme D.PartialEq.eq s self.new h)) }
+        ensures fault { IfErr result
+            (λ e. AtEach S.Scheme D.PartialEq.eq self.old (λ s h. (certificate_round certificate.now).epoch ≡ s.voter.epoch → e ≡ Memory)) }
         ensures err { OnErr result (AtEach S.Scheme D.PartialEq.eq self.old (λ s h. Keeps S.Scheme D.PartialEq.eq s self.new h)) }
     {
         let view = certificate.view();
@@ -157,9 +193,17 @@ impl<S: Scheme<D> + Drop, D: Digest> Acceptance<S, D> {
     ///
     /// [`AllocError`] where memory ran out. Nothing is changed then.
     pub fn enter(&mut self, current: View, floor: View) -> Result<(), AllocError>
-        ensures entered { OnOk result ((s : Setup S D S.Certificate) (h : History S D S.PublicKey S.Signature S.Certificate) (p : Point S D S.PublicKey S.Signature S.Certificate) → KeepsAhead S.Scheme D.PartialEq.eq s self.old h p
-            → may_enter p ≡ true → current ≡ current_of s (p ∷ h) → floor ≡ floor_of s (p ∷ h) → Keeps S.Scheme D.PartialEq.eq s self.new (p ∷ h)) }
-        ensures err { OnErr result ((s : Setup S D S.Certificate) (h : History S D S.PublicKey S.Signature S.Certificate) (p : Point S D S.PublicKey S.Signature S.Certificate) → KeepsAhead S.Scheme D.PartialEq.eq s self.old h p → KeepsAhead S.Scheme D.PartialEq.eq s self.new h p) }
+        ensures entered { OnOk result ((s : Setup S D S.Certificate) (h : History S D S.PublicKey S.Signature S.Certificate)
+            (p : Point S D S.PublicKey S.Signature S.Certificate)
+            → KeepsAhead S.Scheme D.PartialEq.eq s self.old h p
+            → may_enter p ≡ true
+            → current ≡ current_of s (p ∷ h)
+            → floor ≡ floor_of s (p ∷ h)
+            → Keeps S.Scheme D.PartialEq.eq s self.new (p ∷ h)) }
+        ensures err { OnErr result ((s : Setup S D S.Certificate) (h : History S D S.PublicKey S.Signature S.Certificate)
+            (p : Point S D S.PublicKey S.Signature S.Certificate)
+            → KeepsAhead S.Scheme D.PartialEq.eq s self.old h p
+            → KeepsAhead S.Scheme D.PartialEq.eq s self.new h p) }
     {
         if !self.comes_up(current, floor) {
             self.move_to(current, floor);
@@ -179,7 +223,10 @@ impl<S: Scheme<D> + Drop, D: Digest> Acceptance<S, D> {
 
     /// The current view and the floor rose, by which votes are dropped.
     fn move_to(&mut self, current: View, floor: View)
-        ensures { (s : Setup S D S.Certificate) (before low : ℕ) (up : ℕ → Option Bool) (happened : ℕ → votes.History S D S.PublicKey S.Signature S.Certificate) → IsAt S.Scheme D.PartialEq.eq s self.old before low up happened → IsAt S.Scheme D.PartialEq.eq s self.new current floor (up_from floor up) (happened_from floor happened) }
+        ensures { (s : Setup S D S.Certificate) (before low : ℕ) (up : ℕ → Option Bool)
+            (happened : ℕ → votes.History S D S.PublicKey S.Signature S.Certificate)
+            → IsAt S.Scheme D.PartialEq.eq s self.old before low up happened
+            → IsAt S.Scheme D.PartialEq.eq s self.new current floor (up_from floor up) (happened_from floor happened) }
     {
         self.rounds.drop_below(floor);
         self.current = current;
@@ -193,8 +240,10 @@ impl<S: Scheme<D> + Drop, D: Digest> Acceptance<S, D> {
     /// [`BatcherFault::OtherLeader`] where another was named, and [`BatcherFault::Memory`] where memory ran out. Nothing is changed
     /// then.
     pub fn lead(&mut self, view: View, leader: Participant) -> Result<(), BatcherFault>
-        ensures led { OnOk result (AtEach S.Scheme D.PartialEq.eq self.old (λ s h. IsSome (stage s h view) → leader_of (votes_of s h view) ≡ None → Keeps S.Scheme D.PartialEq.eq s self.new (Leads view leader ∷ h))) }
-        ensures again { OnOk result (AtEach S.Scheme D.PartialEq.eq self.old (λ s h. leader_of (votes_of s h view) ≢ None → Keeps S.Scheme D.PartialEq.eq s self.new h)) }
+        ensures led { OnOk result (AtEach S.Scheme D.PartialEq.eq self.old (λ s h.
+            IsSome (stage s h view) → leader_of (votes_of s h view) ≡ None → Keeps S.Scheme D.PartialEq.eq s self.new (Leads view leader ∷ h))) }
+        ensures again { OnOk result
+            (AtEach S.Scheme D.PartialEq.eq self.old (λ s h. leader_of (votes_of s h view) ≢ None → Keeps S.Scheme D.PartialEq.eq s self.new h)) }
         ensures fault { IfErr result (λ e. AtEach S.Scheme D.PartialEq.eq self.old (λ s h. leader_of (votes_of s h view) ≡ None → e ≡ Memory)) }
         ensures err { OnErr result (AtEach S.Scheme D.PartialEq.eq self.old (λ s h. Keeps S.Scheme D.PartialEq.eq s self.new h)) }
     {
@@ -207,7 +256,8 @@ impl<S: Scheme<D> + Drop, D: Digest> Acceptance<S, D> {
     /// The first view from this one on whose votes came up and may wait for the name of their leader.
     pub fn first_unled(&self, from: View) -> Option<View>
         ensures behind { IfSome result (λ view. from ≤ view) }
-        ensures first { AtEach S.Scheme D.PartialEq.eq self.now (λ s h. MatchOption result (AreLedFrom (stage s h) (votes_of s h) from) (λ view. IsFirstUnled (stage s h) (votes_of s h) from view)) }
+        ensures first { AtEach S.Scheme D.PartialEq.eq self.now
+            (λ s h. MatchOption result (AreLedFrom (stage s h) (votes_of s h) from) (λ view. IsFirstUnled (stage s h) (votes_of s h) from view)) }
     {
         self.rounds.first_unled(from)
     }
@@ -219,8 +269,12 @@ impl<S: Scheme<D> + Drop, D: Digest> Acceptance<S, D> {
     ///
     /// [`AllocError`] where memory ran out. Nothing is changed then.
     pub fn next_due(&mut self) -> Result<Option<(View, Due<S, D>)>, AllocError>
-        ensures done { IfOk result (λ due. IfSome due (λ x. AtEach S.Scheme D.PartialEq.eq self.old (λ s h. Does S.Scheme D.PartialEq.eq s h self.new x.0 x.1))) }
-        ensures none { IfOk result (λ due. is_none due ≡ true → AtEach S.Scheme D.PartialEq.eq self.old (λ s h. NoneIsDue S.Scheme D.PartialEq.eq s h × Keeps S.Scheme D.PartialEq.eq s self.new h)) }
+        ensures done { IfOk result
+            (λ due. IfSome due (λ x. AtEach S.Scheme D.PartialEq.eq self.old (λ s h. Does S.Scheme D.PartialEq.eq s h self.new x.0 x.1))) }
+        ensures none { IfOk result (λ due.
+            is_none due ≡ true
+            → AtEach S.Scheme D.PartialEq.eq self.old
+            (λ s h. NoneIsDue S.Scheme D.PartialEq.eq s h × Keeps S.Scheme D.PartialEq.eq s self.new h)) }
         ensures err { OnErr result (AtEach S.Scheme D.PartialEq.eq self.old (λ s h. Keeps S.Scheme D.PartialEq.eq s self.new h)) }
     {
         match self.rounds.next_due() {

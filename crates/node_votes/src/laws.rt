@@ -1,6 +1,6 @@
 //! What follows of the votes of all views.
 
-ghost use Rattle.node_votes.specs.Keeps.{KeptCameUp, QuietStays, SilentStays};
+ghost use Rattle.node_votes.specs.KeepsVotes.{KeptCameUp, QuietStays, SilentStays};
 
 use types_core::{Digest, Scheme};
 

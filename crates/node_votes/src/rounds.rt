@@ -7,7 +7,7 @@ ghost use Rattle.std.specs.Ordering.{nat_cmp};
 ghost use Rattle.types_core.specs.LatestFirst.{stored};
 ghost use Rattle.simplex_messages.specs.VoteParts.{vote_round};
 ghost use Rattle.messages_certificates.specs.Certificate.{certificate_round};
-ghost use Rattle.batcher_verifier.specs.declared.fault.BatcherFault.TheVariants.{Memory};
+ghost use Rattle.batcher_verifier.specs.declared.batcher_fault.BatcherFault.TheVariants.{Memory};
 ghost use Rattle.batcher_verifier.specs.History.{Certified, History, Led, leader_of};
 ghost use Rattle.simplex_batcher.specs.Queries.{has_nullify, is_missing_voter};
 ghost use Rattle.simplex_batcher.specs.Admission.{AgreesWithOwn, IsCastFault};
@@ -50,7 +50,8 @@ impl<S: Scheme<D> + Drop, D: Digest> Rounds<S, D> {
         me: Participant,
         tracks: bool,
     ) -> Self
-        ensures { Stand S.Scheme D.PartialEq.eq (record { scheme = scheme.value; epoch = epoch; me = me; tracks = tracks }) result (λ view. None) (λ view. []) }
+        ensures { Stand S.Scheme D.PartialEq.eq (record { scheme = scheme.value; epoch = epoch; me = me; tracks = tracks }) result
+            (λ view. None) (λ view. []) }
     {
         Rounds {
             alloc,
@@ -66,7 +67,10 @@ impl<S: Scheme<D> + Drop, D: Digest> Rounds<S, D> {
 
     /// A round of the view to which nothing happened.
     fn fresh(&self, view: View, current: View) -> Result<Round<S, D>, AllocError>
-        ensures { IfOk result (λ round. (s : Common S) → common_of self.now ≡ s → RoundKeeps D.PartialEq.eq S.Scheme S.batchable (setup_at S.Scheme s view (is_passed s view current)) round []) }
+        ensures { IfOk result (λ round.
+            (s : Common S)
+            → common_of self.now ≡ s
+            → RoundKeeps D.PartialEq.eq S.Scheme S.batchable (setup_at S.Scheme s view (is_passed s view current)) round []) }
     {
         let round = Position::new(self.epoch, view);
         let scheme = self.scheme.clone()?;
@@ -87,8 +91,12 @@ impl<S: Scheme<D> + Drop, D: Digest> Rounds<S, D> {
 
     /// Puts the round of a view that had none to the others.
     fn seat(&mut self, view: View, round: Round<S, D>) -> Result<(), AllocError>
-        ensures seated { OnOk result (AtEach S.Scheme D.PartialEq.eq self.old (λ s up happened. stored self.old.by_view view ≡ None → contains nat_cmp self.old.touched view ≡ true
-            → (passed : Bool) (h : History S D S.PublicKey S.Signature S.Certificate) → RoundKeeps D.PartialEq.eq S.Scheme S.batchable (setup_at S.Scheme s view passed) round h → Stand S.Scheme D.PartialEq.eq s self.new (come_up view passed up) (set_at view h happened))) }
+        ensures seated { OnOk result (AtEach S.Scheme D.PartialEq.eq self.old (λ s up happened.
+            stored self.old.by_view view ≡ None
+            → contains nat_cmp self.old.touched view ≡ true
+            → (passed : Bool) (h : History S D S.PublicKey S.Signature S.Certificate)
+            → RoundKeeps D.PartialEq.eq S.Scheme S.batchable (setup_at S.Scheme s view passed) round h
+            → Stand S.Scheme D.PartialEq.eq s self.new (come_up view passed up) (set_at view h happened))) }
         ensures err { OnErr result (AtEach S.Scheme D.PartialEq.eq self.old (λ s up happened. Stand S.Scheme D.PartialEq.eq s self.new up happened)) }
     {
         self.unled.insert(view)?;
@@ -103,8 +111,11 @@ impl<S: Scheme<D> + Drop, D: Digest> Rounds<S, D> {
         sender: Participant,
         vote: Vote<S, D>,
     ) -> Result<Admission<S, D>, BatcherFault>
-        ensures admitted { IfOk result (λ a. AtEach S.Scheme D.PartialEq.eq self.old (λ s up happened. IsAdmitted S.Scheme D.PartialEq.eq s up happened self.new current sender vote a)) }
-        ensures refused { IfErr result (λ e. AtEach S.Scheme D.PartialEq.eq self.old (λ s up happened. (vote_round vote).epoch ≡ s.epoch → e ≡ Memory)) }
+        ensures admitted { IfOk result (λ a.
+            AtEach S.Scheme D.PartialEq.eq self.old
+            (λ s up happened. IsAdmitted S.Scheme D.PartialEq.eq s up happened self.new current sender vote a)) }
+        ensures refused { IfErr result
+            (λ e. AtEach S.Scheme D.PartialEq.eq self.old (λ s up happened. (vote_round vote).epoch ≡ s.epoch → e ≡ Memory)) }
         ensures err { OnErr result (AtEach S.Scheme D.PartialEq.eq self.old (λ s up happened. Stand S.Scheme D.PartialEq.eq s self.new up happened)) }
     {
         let view = vote.view();
@@ -122,9 +133,13 @@ impl<S: Scheme<D> + Drop, D: Digest> Rounds<S, D> {
         sender: Participant,
         vote: Vote<S, D>,
     ) -> Result<Admission<S, D>, BatcherFault>
-        ensures admitted { IfOk result (λ a. AtEach S.Scheme D.PartialEq.eq self.old (λ s up happened. stored self.old.by_view (vote_round vote).view ≡ None → contains nat_cmp self.old.touched (vote_round vote).view ≡ true
+        ensures admitted { IfOk result (λ a.
+            AtEach S.Scheme D.PartialEq.eq self.old (λ s up happened.
+            stored self.old.by_view (vote_round vote).view ≡ None
+            → contains nat_cmp self.old.touched (vote_round vote).view ≡ true
             → IsAdmitted S.Scheme D.PartialEq.eq s up happened self.new current sender vote a)) }
-        ensures refused { IfErr result (λ e. AtEach S.Scheme D.PartialEq.eq self.old (λ s up happened. (vote_round vote).epoch ≡ s.epoch → e ≡ Memory)) }
+        ensures refused { IfErr result
+            (λ e. AtEach S.Scheme D.PartialEq.eq self.old (λ s up happened. (vote_round vote).epoch ≡ s.epoch → e ≡ Memory)) }
         ensures err { OnErr result (AtEach S.Scheme D.PartialEq.eq self.old (λ s up happened. Stand S.Scheme D.PartialEq.eq s self.new up happened)) }
     {
         let view = vote.view();
@@ -147,9 +162,14 @@ impl<S: Scheme<D> + Drop, D: Digest> Rounds<S, D> {
         current: View,
         vote: Vote<S, D>,
     ) -> Result<Option<Activity<S, D>>, BatcherFault>
-        ensures cast { IfOk result (λ report. AtEach S.Scheme D.PartialEq.eq self.old (λ s up happened. IsCast S.Scheme D.PartialEq.eq s up happened self.new current vote report)) }
-        ensures refused { IfErr result (λ e. AtEach S.Scheme D.PartialEq.eq self.old (λ s up happened. (vote_round vote).epoch ≡ s.epoch → AgreesWithOwn D.PartialEq.eq (happened (vote_round vote).view) vote → e ≡ Memory)) }
-        ensures why { IfErr result (λ e. AtEach S.Scheme D.PartialEq.eq self.old (λ s up happened. IsCastFault D.PartialEq.eq (setup_now S.Scheme s up (vote_round vote).view current) (happened (vote_round vote).view) vote e)) }
+        ensures cast { IfOk result (λ report.
+            AtEach S.Scheme D.PartialEq.eq self.old (λ s up happened. IsCast S.Scheme D.PartialEq.eq s up happened self.new current vote report)) }
+        ensures refused { IfErr result (λ e.
+            AtEach S.Scheme D.PartialEq.eq self.old (λ s up happened.
+            (vote_round vote).epoch ≡ s.epoch → AgreesWithOwn D.PartialEq.eq (happened (vote_round vote).view) vote → e ≡ Memory)) }
+        ensures why { IfErr result (λ e.
+            AtEach S.Scheme D.PartialEq.eq self.old (λ s up happened.
+            IsCastFault D.PartialEq.eq (setup_now S.Scheme s up (vote_round vote).view current) (happened (vote_round vote).view) vote e)) }
         ensures err { OnErr result (AtEach S.Scheme D.PartialEq.eq self.old (λ s up happened. Stand S.Scheme D.PartialEq.eq s self.new up happened)) }
     {
         let view = vote.view();
@@ -166,10 +186,21 @@ impl<S: Scheme<D> + Drop, D: Digest> Rounds<S, D> {
         current: View,
         vote: Vote<S, D>,
     ) -> Result<Option<Activity<S, D>>, BatcherFault>
-        ensures cast { IfOk result (λ report. AtEach S.Scheme D.PartialEq.eq self.old (λ s up happened. stored self.old.by_view (vote_round vote).view ≡ None → contains nat_cmp self.old.touched (vote_round vote).view ≡ true
+        ensures cast { IfOk result (λ report.
+            AtEach S.Scheme D.PartialEq.eq self.old (λ s up happened.
+            stored self.old.by_view (vote_round vote).view ≡ None
+            → contains nat_cmp self.old.touched (vote_round vote).view ≡ true
             → IsCast S.Scheme D.PartialEq.eq s up happened self.new current vote report)) }
-        ensures refused { IfErr result (λ e. AtEach S.Scheme D.PartialEq.eq self.old (λ s up happened. stored self.old.by_view (vote_round vote).view ≡ None → (vote_round vote).epoch ≡ s.epoch → AgreesWithOwn D.PartialEq.eq (happened (vote_round vote).view) vote → e ≡ Memory)) }
-        ensures why { IfErr result (λ e. AtEach S.Scheme D.PartialEq.eq self.old (λ s up happened. stored self.old.by_view (vote_round vote).view ≡ None → IsCastFault D.PartialEq.eq (setup_now S.Scheme s up (vote_round vote).view current) (happened (vote_round vote).view) vote e)) }
+        ensures refused { IfErr result (λ e.
+            AtEach S.Scheme D.PartialEq.eq self.old (λ s up happened.
+            stored self.old.by_view (vote_round vote).view ≡ None
+            → (vote_round vote).epoch ≡ s.epoch
+            → AgreesWithOwn D.PartialEq.eq (happened (vote_round vote).view) vote
+            → e ≡ Memory)) }
+        ensures why { IfErr result (λ e.
+            AtEach S.Scheme D.PartialEq.eq self.old (λ s up happened.
+            stored self.old.by_view (vote_round vote).view ≡ None
+            → IsCastFault D.PartialEq.eq (setup_now S.Scheme s up (vote_round vote).view current) (happened (vote_round vote).view) vote e)) }
         ensures err { OnErr result (AtEach S.Scheme D.PartialEq.eq self.old (λ s up happened. Stand S.Scheme D.PartialEq.eq s self.new up happened)) }
     {
         let view = vote.view();
@@ -191,7 +222,8 @@ impl<S: Scheme<D> + Drop, D: Digest> Rounds<S, D> {
     ) -> Result<(), BatcherFault>
         ensures certified { OnOk result (AtEach S.Scheme D.PartialEq.eq self.old (λ s up happened. let w = (certificate_round certificate.now).view in
             Stand S.Scheme D.PartialEq.eq s self.new (come_up w (is_passed s w current) up) (put w (Certified certificate.now) happened))) }
-        ensures refused { IfErr result (λ e. AtEach S.Scheme D.PartialEq.eq self.old (λ s up happened. (certificate_round certificate.now).epoch ≡ s.epoch → e ≡ Memory)) }
+        ensures refused { IfErr result
+            (λ e. AtEach S.Scheme D.PartialEq.eq self.old (λ s up happened. (certificate_round certificate.now).epoch ≡ s.epoch → e ≡ Memory)) }
         ensures err { OnErr result (AtEach S.Scheme D.PartialEq.eq self.old (λ s up happened. Stand S.Scheme D.PartialEq.eq s self.new up happened)) }
     {
         let view = certificate.view();
@@ -211,9 +243,12 @@ impl<S: Scheme<D> + Drop, D: Digest> Rounds<S, D> {
         current: View,
         certificate: &Certificate<S, D>,
     ) -> Result<(), BatcherFault>
-        ensures certified { OnOk result (AtEach S.Scheme D.PartialEq.eq self.old (λ s up happened. let w = (certificate_round certificate.now).view in stored self.old.by_view w ≡ None → contains nat_cmp self.old.touched w ≡ true
+        ensures certified { OnOk result (AtEach S.Scheme D.PartialEq.eq self.old (λ s up happened.
+            let w = (certificate_round certificate.now).view in stored self.old.by_view w ≡ None
+            → contains nat_cmp self.old.touched w ≡ true
             → Stand S.Scheme D.PartialEq.eq s self.new (come_up w (is_passed s w current) up) (put w (Certified certificate.now) happened))) }
-        ensures refused { IfErr result (λ e. AtEach S.Scheme D.PartialEq.eq self.old (λ s up happened. (certificate_round certificate.now).epoch ≡ s.epoch → e ≡ Memory)) }
+        ensures refused { IfErr result
+            (λ e. AtEach S.Scheme D.PartialEq.eq self.old (λ s up happened. (certificate_round certificate.now).epoch ≡ s.epoch → e ≡ Memory)) }
         ensures err { OnErr result (AtEach S.Scheme D.PartialEq.eq self.old (λ s up happened. Stand S.Scheme D.PartialEq.eq s self.new up happened)) }
     {
         let view = certificate.view();
@@ -229,7 +264,8 @@ impl<S: Scheme<D> + Drop, D: Digest> Rounds<S, D> {
 
     /// The votes of a view come up, where they didn't before.
     pub(crate) fn open(&mut self, view: View, current: View) -> Result<(), AllocError>
-        ensures opens { OnOk result (AtEach S.Scheme D.PartialEq.eq self.old (λ s up happened. Stand S.Scheme D.PartialEq.eq s self.new (come_up view (is_passed s view current) up) happened)) }
+        ensures opens { OnOk result (AtEach S.Scheme D.PartialEq.eq self.old
+            (λ s up happened. Stand S.Scheme D.PartialEq.eq s self.new (come_up view (is_passed s view current) up) happened)) }
         ensures err { OnErr result (AtEach S.Scheme D.PartialEq.eq self.old (λ s up happened. Stand S.Scheme D.PartialEq.eq s self.new up happened)) }
     {
         if self.by_view.contains_key(&Reverse(view)) {
@@ -242,9 +278,12 @@ impl<S: Scheme<D> + Drop, D: Digest> Rounds<S, D> {
 
     /// Names the leader of a view.
     pub(crate) fn lead(&mut self, view: View, leader: Participant) -> Result<(), BatcherFault>
-        ensures led { OnOk result (AtEach S.Scheme D.PartialEq.eq self.old (λ s up happened. IsSome (up view) → leader_of (happened view) ≡ None → Stand S.Scheme D.PartialEq.eq s self.new up (put view (Led leader) happened))) }
-        ensures again { OnOk result (AtEach S.Scheme D.PartialEq.eq self.old (λ s up happened. leader_of (happened view) ≢ None → Stand S.Scheme D.PartialEq.eq s self.new up happened)) }
-        ensures refused { IfErr result (λ e. AtEach S.Scheme D.PartialEq.eq self.old (λ s up happened. leader_of (happened view) ≡ None → e ≡ Memory)) }
+        ensures led { OnOk result (AtEach S.Scheme D.PartialEq.eq self.old (λ s up happened.
+            IsSome (up view) → leader_of (happened view) ≡ None → Stand S.Scheme D.PartialEq.eq s self.new up (put view (Led leader) happened))) }
+        ensures again { OnOk result (AtEach S.Scheme D.PartialEq.eq self.old
+            (λ s up happened. leader_of (happened view) ≢ None → Stand S.Scheme D.PartialEq.eq s self.new up happened)) }
+        ensures refused { IfErr result
+            (λ e. AtEach S.Scheme D.PartialEq.eq self.old (λ s up happened. leader_of (happened view) ≡ None → e ≡ Memory)) }
         ensures err { OnErr result (AtEach S.Scheme D.PartialEq.eq self.old (λ s up happened. Stand S.Scheme D.PartialEq.eq s self.new up happened)) }
     {
         self.touch(view)?;
@@ -263,7 +302,8 @@ impl<S: Scheme<D> + Drop, D: Digest> Rounds<S, D> {
     /// The first view from this one on whose votes came up and may wait for the name of their leader.
     pub(crate) fn first_unled(&self, from: View) -> Option<View>
         ensures behind { IfSome result (λ view. from ≤ view) }
-        ensures first { AtEach S.Scheme D.PartialEq.eq self.now (λ s up happened. MatchOption result (AreLedFrom up happened from) (λ view. IsFirstUnled up happened from view)) }
+        ensures first { AtEach S.Scheme D.PartialEq.eq self.now
+            (λ s up happened. MatchOption result (AreLedFrom up happened from) (λ view. IsFirstUnled up happened from view)) }
     {
         let mut found = self.unled_from(from);
         'views: while let Some(view) = found {
@@ -278,7 +318,8 @@ impl<S: Scheme<D> + Drop, D: Digest> Rounds<S, D> {
     /// The first view from this one on whose leader may not be named yet.
     fn unled_from(&self, from: View) -> Option<View>
         ensures behind { IfSome result (λ view. from ≤ view) }
-        ensures first { MatchOption result ((u : ℕ) → from ≤ u → contains nat_cmp self.now.unled u ≡ false) (λ view. (u : ℕ) → from ≤ u → u < view → contains nat_cmp self.now.unled u ≡ false) }
+        ensures first { MatchOption result ((u : ℕ) → from ≤ u → contains nat_cmp self.now.unled u ≡ false)
+            (λ view. (u : ℕ) → from ≤ u → u < view → contains nat_cmp self.now.unled u ≡ false) }
     {
         if self.unled.is_empty() {
             return None;
@@ -296,7 +337,8 @@ impl<S: Scheme<D> + Drop, D: Digest> Rounds<S, D> {
     /// The first view behind this one whose leader may not be named yet.
     fn unled_behind(&self, last: View) -> Option<View>
         ensures behind { IfSome result (λ view. last < view) }
-        ensures first { MatchOption result ((u : ℕ) → last < u → contains nat_cmp self.now.unled u ≡ false) (λ view. (u : ℕ) → last < u → u < view → contains nat_cmp self.now.unled u ≡ false) }
+        ensures first { MatchOption result ((u : ℕ) → last < u → contains nat_cmp self.now.unled u ≡ false)
+            (λ view. (u : ℕ) → last < u → u < view → contains nat_cmp self.now.unled u ≡ false) }
     {
         match self
             .unled
@@ -317,8 +359,11 @@ impl<S: Scheme<D> + Drop, D: Digest> Rounds<S, D> {
 
     /// Does what is due of a view. Where nothing is, the view rests until it is touched again.
     fn advance(&mut self, view: View) -> Result<Option<Due<S, D>>, AllocError>
-        ensures done { IfOk result (λ due. AtEach S.Scheme D.PartialEq.eq self.old (λ s up happened. contains nat_cmp self.old.touched view ≡ true → IsDone S.Scheme D.PartialEq.eq s up happened self.new view due)) }
-        ensures rests { IfOk result (λ due. is_none due ≡ true → contains nat_cmp self.old.touched view ≡ true → btree_set_len self.new.touched < btree_set_len self.old.touched) }
+        ensures done { IfOk result (λ due.
+            AtEach S.Scheme D.PartialEq.eq self.old
+            (λ s up happened. contains nat_cmp self.old.touched view ≡ true → IsDone S.Scheme D.PartialEq.eq s up happened self.new view due)) }
+        ensures rests { IfOk result (λ due.
+            is_none due ≡ true → contains nat_cmp self.old.touched view ≡ true → btree_set_len self.new.touched < btree_set_len self.old.touched) }
         ensures err { OnErr result (AtEach S.Scheme D.PartialEq.eq self.old (λ s up happened. Stand S.Scheme D.PartialEq.eq s self.new up happened)) }
     {
         match self.by_view.get_mut(&Reverse(view)) {
@@ -339,8 +384,13 @@ impl<S: Scheme<D> + Drop, D: Digest> Rounds<S, D> {
 
     /// Does what is due first of the votes of all views, and answers of which. It looks at touched views alone.
     pub(crate) fn next_due(&mut self) -> Result<Option<(View, Due<S, D>)>, AllocError>
-        ensures done { IfOk result (λ due. IfSome due (λ x. AtEach S.Scheme D.PartialEq.eq self.old (λ s up happened. IsDone S.Scheme D.PartialEq.eq s up happened self.new x.0 (Some x.1)))) }
-        ensures none { IfOk result (λ due. is_none due ≡ true → AtEach S.Scheme D.PartialEq.eq self.old (λ s up happened. AreAtRest S.Scheme D.PartialEq.eq s up happened × Stand S.Scheme D.PartialEq.eq s self.new up happened)) }
+        ensures done { IfOk result (λ due.
+            IfSome due (λ x.
+            AtEach S.Scheme D.PartialEq.eq self.old (λ s up happened. IsDone S.Scheme D.PartialEq.eq s up happened self.new x.0 (Some x.1)))) }
+        ensures none { IfOk result (λ due.
+            is_none due ≡ true
+            → AtEach S.Scheme D.PartialEq.eq self.old
+            (λ s up happened. AreAtRest S.Scheme D.PartialEq.eq s up happened × Stand S.Scheme D.PartialEq.eq s self.new up happened)) }
         ensures err { OnErr result (AtEach S.Scheme D.PartialEq.eq self.old (λ s up happened. Stand S.Scheme D.PartialEq.eq s self.new up happened)) }
     {
         'views: while let Some(view) = self.first_touched() {
@@ -355,7 +405,8 @@ impl<S: Scheme<D> + Drop, D: Digest> Rounds<S, D> {
 
     /// The first view of which something may be due.
     fn first_touched(&self) -> Option<View>
-        ensures none { is_none result ≡ true → AtEach S.Scheme D.PartialEq.eq self.now (λ s up happened. AreAtRest S.Scheme D.PartialEq.eq s up happened) }
+        ensures none { is_none result ≡ true
+            → AtEach S.Scheme D.PartialEq.eq self.now (λ s up happened. AreAtRest S.Scheme D.PartialEq.eq s up happened) }
         ensures touched { IfSome result (λ view. contains nat_cmp self.now.touched view ≡ true) }
     {
         match self.touched.first() {
@@ -381,7 +432,8 @@ impl<S: Scheme<D> + Drop, D: Digest> Rounds<S, D> {
         proposal: &Proposal<D>,
         signer: Participant,
     ) -> bool
-        ensures { AtEach S.Scheme D.PartialEq.eq self.now (λ s up happened. result ≡ is_missing_voter D.PartialEq.eq (happened view) proposal.now signer) }
+        ensures { AtEach S.Scheme D.PartialEq.eq self.now
+            (λ s up happened. result ≡ is_missing_voter D.PartialEq.eq (happened view) proposal.now signer) }
     {
         match self.by_view.get(&Reverse(view)) {
             Some(round) => round.is_missing_voter(proposal, signer),
@@ -391,7 +443,8 @@ impl<S: Scheme<D> + Drop, D: Digest> Rounds<S, D> {
 
     /// Drops the votes of the views below the floor. The cost is that of what is dropped.
     pub(crate) fn drop_below(&mut self, floor: View)
-        ensures { AtEach S.Scheme D.PartialEq.eq self.old (λ s up happened. Stand S.Scheme D.PartialEq.eq s self.new (up_from floor up) (happened_from floor happened)) }
+        ensures { AtEach S.Scheme D.PartialEq.eq self.old
+            (λ s up happened. Stand S.Scheme D.PartialEq.eq s self.new (up_from floor up) (happened_from floor happened)) }
     {
         'views: while let Some((first, _)) = self.by_view.last_key_value() {
             if floor <= first.0 {
@@ -420,8 +473,10 @@ fn due_of<S: Scheme<D>, D: Digest>(
     alloc: Global,
     me: Participant,
 ) -> Result<Option<Due<S, D>>, AllocError>
-    ensures done { IfOk result (λ due. one.AtEach D.PartialEq.eq S.Scheme S.batchable round.old (λ s h. IsRoundDone S.Scheme D.PartialEq.eq s h me round.new due)) }
-    ensures err { OnErr result (one.AtEach D.PartialEq.eq S.Scheme S.batchable round.old (λ s h. RoundKeeps D.PartialEq.eq S.Scheme S.batchable s round.new h)) }
+    ensures done { IfOk result
+        (λ due. one.AtEach D.PartialEq.eq S.Scheme S.batchable round.old (λ s h. IsRoundDone S.Scheme D.PartialEq.eq s h me round.new due)) }
+    ensures err { OnErr result
+        (one.AtEach D.PartialEq.eq S.Scheme S.batchable round.old (λ s h. RoundKeeps D.PartialEq.eq S.Scheme S.batchable s round.new h)) }
 {
     match round.try_forward_proposal(me) {
         Some(proposal) => Ok(Some(Due::Forwards(proposal))),

@@ -1,3 +1,7 @@
+pub mod Answered
+pub mod Streamed
+pub mod TakenOff
+pub mod Texts
 mod Reading
 pub mod Taking
 pub mod Written

@@ -1,3 +1,6 @@
+pub mod Over
+pub mod Stepper
+pub mod Streaming
 pub mod Event
 pub mod EventCodec
 pub mod Parts

@@ -29,7 +29,8 @@ pub fn read_event<D: Digest>(
     input: &mut &[u8],
     bound: u32,
 ) -> Result<Event<D>, CodecError>
-    ensures spelled { IfOk result (λ e. (input.old.now ≡ event_spelling D.spelling (event_value e) ++ input.new.now) × IsEvent D.fits (event_value e)) }
+    ensures spelled { IfOk result
+        (λ e. (input.old.now ≡ event_spelling D.spelling (event_value e) ++ input.new.now) × IsEvent D.fits (event_value e)) }
     ensures exact { GivesBy event_value (event_at (D.reading bound)) input.old.now input.new.now result }
 {
     read_tagged(alloc, input, bound)
@@ -80,7 +81,8 @@ fn read_packet<D: Digest>(
     input: &mut &[u8],
     bound: u32,
 ) -> Result<Event<D>, CodecError>
-    ensures { GivesBy event_value (as_at packet_of (both_at (both_at (varint_at max_u32) channel_at) (counted_at most_bytes))) input.old.now input.new.now result }
+    ensures { GivesBy event_value (as_at packet_of (both_at (both_at (varint_at max_u32) channel_at) (counted_at most_bytes))) input.old.now
+        input.new.now result }
 {
     let mut rest = *input;
     let sender = Participant::read_cfg(alloc, &mut rest, bound)?;

@@ -130,7 +130,8 @@ impl EventInput {
     /// Takes the event at the front of what is held, if it is there as a whole.
     fn take<D: Digest>(&mut self, alloc: Global, bound: u32) -> Result<Option<Event<D>>, IoFault>
         requires { self.old.taken < 2 ^ 32 }
-        ensures event { IfOk result (λ found. IfSome found (λ e. IsTaken D.fits D.spelling (event_value e) self.old (Some self.old.held) self.new (Some self.new.held))) }
+        ensures event { IfOk result
+            (λ found. IfSome found (λ e. IsTaken D.fits D.spelling (event_value e) self.old (Some self.old.held) self.new (Some self.new.held))) }
         ensures cut { IfOk result (λ found. IfNone found (event_at (D.reading bound) self.old.held ≡ Err End)) }
         ensures same { IfOk result (λ found. IfNone found (self.new ≡ self.old)) }
         ensures err { OnErr result (self.new ≡ self.old) }
@@ -175,9 +176,13 @@ impl EventInput {
         reader: &mut R,
         bound: u32,
     ) -> Result<Option<Event<D>>, IoFault>
-        ensures event { IfOk result (λ found. IfSome found (λ e. IsTaken D.fits D.spelling (event_value e) self.old (left_of self.old (R.remaining reader.old)) self.new (left_of self.new (R.remaining reader.new)))) }
+        ensures event { IfOk result (λ found.
+            IfSome found (λ e.
+            IsTaken D.fits D.spelling (event_value e) self.old (left_of self.old (R.remaining reader.old)) self.new
+            (left_of self.new (R.remaining reader.new)))) }
         ensures end { IfOk result (λ found. IfNone found (IsAtEnd (left_of self.old (R.remaining reader.old)))) }
-        ensures kept { IfErr result (λ fault. fault ≢ Memory → Keeps (left_of self.old (R.remaining reader.old)) (left_of self.new (R.remaining reader.new))) }
+        ensures kept { IfErr result
+            (λ fault. fault ≢ Memory → Keeps (left_of self.old (R.remaining reader.old)) (left_of self.new (R.remaining reader.new))) }
         ensures place { OnErr result (self.new.place ≡ self.old.place) }
         ensures taken { OnErr result (self.new.taken ≡ self.old.taken) }
         ensures fault { IfErr result (IsFault self.old.place (IfSome (left_of self.old (R.remaining reader.old)) (HasNone (D.reading bound)))) }

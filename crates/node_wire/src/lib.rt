@@ -1,11 +1,20 @@
-//! Events and replies as bytes, and the events of an input.
+//! Events and replies as bytes, the events of an input, and whatever steps over events, over a list of them and over streams, without a
+//! node.
 #![tactic(auto)]
 
 mod event;
 mod input;
+mod listing;
 mod parts;
 mod reply;
+mod replying;
+mod stepper;
+mod streaming;
 
 pub use event::{read_event, write_event};
 pub use input::EventInput;
+pub use listing::{Answers, answer_list};
 pub use reply::write_reply;
+pub use replying::write_out;
+pub use stepper::Stepper;
+pub use streaming::answer_stream;

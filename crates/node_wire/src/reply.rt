@@ -23,7 +23,8 @@ pub fn write_reply<S: Scheme<D>, D: Digest>(
     out: &mut Vec<u8>,
     reply: &Reply<S, D>,
 ) -> Result<(), AllocError>
-    ensures ok { OnOk result (out.new.items ≡ out.old.items ++ reply_spelling S.PublicKey.spelling D.spelling S.Signature.spelling S.Certificate.spelling (reply_value reply.now)) }
+    ensures ok { OnOk result (out.new.items ≡ out.old.items ++ reply_spelling S.PublicKey.spelling D.spelling S.Signature.spelling
+        S.Certificate.spelling (reply_value reply.now)) }
     ensures readable { OnOk result (reply_fits D.PartialEq.eq S.PublicKey.fits D.fits S.Signature.fits S.Certificate.fits (reply_value reply.now)) }
     ensures err { OnErr result (out.new.items ≡ out.old.items) }
 {
@@ -40,7 +41,8 @@ fn put_reply<S: Scheme<D>, D: Digest>(
     out: &mut Vec<u8>,
     reply: &Reply<S, D>,
 ) -> Result<(), AllocError>
-    ensures ok { OnOk result (out.new.items ≡ out.old.items ++ reply_spelling S.PublicKey.spelling D.spelling S.Signature.spelling S.Certificate.spelling (reply_value reply.now)) }
+    ensures ok { OnOk result (out.new.items ≡ out.old.items ++ reply_spelling S.PublicKey.spelling D.spelling S.Signature.spelling
+        S.Certificate.spelling (reply_value reply.now)) }
     ensures readable { OnOk result (reply_fits D.PartialEq.eq S.PublicKey.fits D.fits S.Signature.fits S.Certificate.fits (reply_value reply.now)) }
     ensures err { OnErr result (take (vec_len out.old) out.new.items ≡ out.old.items) }
 {
@@ -63,8 +65,10 @@ fn put_listed<S: Scheme<D>, D: Digest>(
     out: &mut Vec<u8>,
     actions: &[Action<S, D>],
 ) -> Result<(), AllocError>
-    ensures ok { OnOk result (out.new.items ≡ out.old.items ++ listed_spelling (spelled_action S.PublicKey.spelling D.spelling S.Signature.spelling S.Certificate.spelling) actions.now) }
-    ensures readable { OnOk result (All (fitting_action D.PartialEq.eq S.PublicKey.fits D.fits S.Signature.fits S.Certificate.fits) actions.now × (length actions.now ≤ max_u64)) }
+    ensures ok { OnOk result (out.new.items ≡ out.old.items ++ listed_spelling
+        (spelled_action S.PublicKey.spelling D.spelling S.Signature.spelling S.Certificate.spelling) actions.now) }
+    ensures readable { OnOk result (All (fitting_action D.PartialEq.eq S.PublicKey.fits D.fits S.Signature.fits S.Certificate.fits)
+        actions.now × (length actions.now ≤ max_u64)) }
     ensures err { OnErr result (take (vec_len out.old) out.new.items ≡ out.old.items) }
 {
     put_varint(out, actions.len() as u64)?;
@@ -76,7 +80,8 @@ fn put_actions<S: Scheme<D>, D: Digest>(
     out: &mut Vec<u8>,
     actions: &[Action<S, D>],
 ) -> Result<(), AllocError>
-    ensures ok { OnOk result (out.new.items ≡ out.old.items ++ flat_map (spelled_action S.PublicKey.spelling D.spelling S.Signature.spelling S.Certificate.spelling) actions.now) }
+    ensures ok { OnOk result (out.new.items ≡ out.old.items ++ flat_map
+        (spelled_action S.PublicKey.spelling D.spelling S.Signature.spelling S.Certificate.spelling) actions.now) }
     ensures readable { OnOk result (All (fitting_action D.PartialEq.eq S.PublicKey.fits D.fits S.Signature.fits S.Certificate.fits) actions.now) }
     ensures err { OnErr result (take (vec_len out.old) out.new.items ≡ out.old.items) }
 {
@@ -92,7 +97,8 @@ fn write_action<S: Scheme<D>, D: Digest>(
     out: &mut Vec<u8>,
     action: &Action<S, D>,
 ) -> Result<(), AllocError>
-    ensures ok { OnOk result (out.new.items ≡ out.old.items ++ spelled_action S.PublicKey.spelling D.spelling S.Signature.spelling S.Certificate.spelling action.now) }
+    ensures ok { OnOk result (out.new.items ≡ out.old.items ++ spelled_action S.PublicKey.spelling D.spelling S.Signature.spelling
+        S.Certificate.spelling action.now) }
     ensures readable { OnOk result (fitting_action D.PartialEq.eq S.PublicKey.fits D.fits S.Signature.fits S.Certificate.fits action.now) }
     ensures err { OnErr result (out.new.items ≡ out.old.items) }
 {
@@ -110,8 +116,10 @@ fn put_action<S: Scheme<D>, D: Digest>(
     out: &mut Vec<u8>,
     action: &Action<S, D>,
 ) -> Result<(), AllocError>
-    ensures ok { OnOk result (out.new.items ≡ out.old.items ++ action_spelling S.PublicKey.spelling D.spelling S.Signature.spelling S.Certificate.spelling (action_value action.now)) }
-    ensures readable { OnOk result (action_fits D.PartialEq.eq S.PublicKey.fits D.fits S.Signature.fits S.Certificate.fits (action_value action.now)) }
+    ensures ok { OnOk result (out.new.items ≡ out.old.items ++ action_spelling S.PublicKey.spelling D.spelling S.Signature.spelling
+        S.Certificate.spelling (action_value action.now)) }
+    ensures readable { OnOk result
+        (action_fits D.PartialEq.eq S.PublicKey.fits D.fits S.Signature.fits S.Certificate.fits (action_value action.now)) }
     ensures err { OnErr result (take (vec_len out.old) out.new.items ≡ out.old.items) }
 {
     out.push(tag_of(action))?;
@@ -142,8 +150,10 @@ fn put_behind<S: Scheme<D>, D: Digest>(
     out: &mut Vec<u8>,
     action: &Action<S, D>,
 ) -> Result<(), AllocError>
-    ensures ok { OnOk result (out.new.items ≡ out.old.items ++ action_body S.PublicKey.spelling D.spelling S.Signature.spelling S.Certificate.spelling (action_value action.now)) }
-    ensures readable { OnOk result (action_fits D.PartialEq.eq S.PublicKey.fits D.fits S.Signature.fits S.Certificate.fits (action_value action.now)) }
+    ensures ok { OnOk result (out.new.items ≡ out.old.items ++ action_body S.PublicKey.spelling D.spelling S.Signature.spelling
+        S.Certificate.spelling (action_value action.now)) }
+    ensures readable { OnOk result
+        (action_fits D.PartialEq.eq S.PublicKey.fits D.fits S.Signature.fits S.Certificate.fits (action_value action.now)) }
     ensures err { OnErr result (take (vec_len out.old) out.new.items ≡ out.old.items) }
 {
     match action {

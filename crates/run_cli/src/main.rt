@@ -31,11 +31,11 @@
 
 mod commands;
 mod fakes;
-mod serving;
+mod serving_node;
 mod streams;
 mod texts;
 
-use crate::serving::Medium;
+use crate::serving_node::Medium;
 use crate::streams::Streams;
 use std::alloc::Global;
 use std::io;

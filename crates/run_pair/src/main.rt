@@ -10,14 +10,14 @@
 //! - at any time `file read PATH`, `file write PATH BYTES` and `file remove PATH`
 #![tactic(auto)]
 
-mod desk;
 mod files;
-mod history;
 mod item;
 mod memory;
+mod pair_desk;
+mod pair_history;
 mod session;
 
-use crate::desk::Desk;
+use crate::pair_desk::Desk;
 use messages_certificates::Artifact;
 use simplex_types::PlainScheme;
 use std::io;

@@ -1,7 +1,7 @@
 //! Disks in memory.
 
-use crate::history;
 use crate::item::bytes;
+use crate::pair_history;
 use crate::session::Session;
 use journal_single::MemoryDisk;
 use std::alloc::Global;
@@ -37,7 +37,7 @@ pub(crate) fn answer<M: Read + EncodeSize + Drop>(
     match name {
         "fuse" | "fail_at" => plan(session, name, words, say),
         "bytes" => held(session, words, say),
-        "run" => history::answer(session, words, say),
+        "run" => pair_history::answer(session, words, say),
         _ => session.answer(name, words, say),
     }
 }

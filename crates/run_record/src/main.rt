@@ -14,11 +14,11 @@
 #![tactic(auto)]
 
 mod coverage;
-mod desk;
 mod laws;
 mod record;
+mod record_desk;
 
-use crate::desk::Desk;
+use crate::record_desk::Desk;
 use std::io;
 use std::process::ExitCode;
 use test_words::play;

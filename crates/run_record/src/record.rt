@@ -3,7 +3,7 @@
 use messages_certificates::Artifact;
 use simplex_record::{Owner, Standing, check, first_refused};
 use std::alloc::Global;
-use test_certificates::CertificateWords;
+use test_messages::CertificateWords;
 use test_words::{Committee, Say, Trouble, Words};
 use types_core::{Sha256Digest, Viewable};
 use types_terms::Kind;

@@ -6,7 +6,7 @@ use messages_certificates::{Certificate, Notarization};
 use simplex_resolver::State;
 use simplex_types::PlainScheme;
 use std::alloc::Global;
-use test_certificates::CertificateWords;
+use test_messages::CertificateWords;
 use test_words::{Say, Trouble, Words};
 use types_core::Sha256Digest;
 

@@ -4,7 +4,7 @@ use simplex_round::{Leader, Round};
 use simplex_types::PlainKey;
 use std::alloc::Global;
 use std::rc::Rc;
-use test_certificates::{CertificateWords, SayCertificates};
+use test_messages::{CertificateWords, SayCertificates};
 use test_words::{Committee, Left, Say, Trouble, Words};
 use types_core::{Duplicate, Participant, Proposal, Scheme, Sha256Digest, View};
 use voter_history::{TimeoutReason, Token};

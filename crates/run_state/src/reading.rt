@@ -3,7 +3,7 @@
 use simplex_state::Floor;
 use simplex_types::PlainKey;
 use std::alloc::Global;
-use test_certificates::CertificateWords;
+use test_messages::CertificateWords;
 use test_words::{Committee, Left, Trouble, Words};
 use types_core::{Context, Sha256Digest, View};
 use voter_history::{HandoffAbandonedReason, TimeoutReason};

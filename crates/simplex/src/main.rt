@@ -3,9 +3,8 @@
 
 ghost use Rattle.std.specs.Prelude.{◌<◌};
 
-use cli_audit::{Command, Trouble, parse_words, report, run_words, words_unread};
-use journal_single::FileDisk;
-use simplex_cli::node_over;
+use simplex_cli::{Command, Trouble, node_over, parse_words, report, run_words, words_unread};
+use simplex_journal::FileDisk;
 use std::fs::File;
 use std::process::ExitCode;
 use std::{env, io};

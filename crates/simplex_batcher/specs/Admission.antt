@@ -6,8 +6,8 @@ use Rattle.simplex_messages.specs.declared.activity.Activity.{Activity}
 use Rattle.batcher_admission.specs.Evidence.{as_report, evidence}
 use Rattle.batcher_admission.specs.Blocking.{IsBlockedFor, evidence_against}
 use Rattle.simplex_messages.specs.VoteParts.{vote_signer, vote_round}
-use Rattle.batcher_verifier.specs.declared.fault.BatcherFault.{BatcherFault}
-use Rattle.batcher_verifier.specs.declared.fault.BatcherFault.TheVariants.{WrongRound, OtherLeader, Contradicts, Memory}
+use Rattle.batcher_verifier.specs.declared.batcher_fault.BatcherFault.{BatcherFault}
+use Rattle.batcher_verifier.specs.declared.batcher_fault.BatcherFault.TheVariants.{WrongRound, OtherLeader, Contradicts, Memory}
 use Rattle.batcher_verifier.specs.Votes.{vote_kind}
 use Rattle.batcher_verifier.specs.History.{History, Setup, accepted, given, recorded, takes, is_kept_in_full}
 

@@ -7,7 +7,7 @@ use Rattle.messages_certificates.specs.declared.certificate.Certificate.{Certifi
 use Rattle.simplex_messages.specs.declared.activity.Activity.{Activity}
 use Rattle.simplex_messages.specs.VoteParts.{vote_round}
 use Rattle.messages_certificates.specs.Certificate.{certificate_round}
-use Rattle.batcher_verifier.specs.declared.fault.BatcherFault.TheVariants.{WrongRound, OtherLeader, Memory}
+use Rattle.batcher_verifier.specs.declared.batcher_fault.BatcherFault.TheVariants.{WrongRound, OtherLeader, Memory}
 use Rattle.types_terms.specs.declared.kind.Kind.TheVariants.{Notarization}
 use Rattle.batcher_admission.specs.declared.admission.Admission.{Admission}
 use Rattle.batcher_verifier.specs.declared.batch.Batch.{Batch}

@@ -46,7 +46,8 @@ fn make<S: Scheme<D>, D: Digest>(
     call: Call<S, D>,
 ) -> Answer<S, D>
     ensures answer { AtEach D.PartialEq.eq S.Scheme S.batchable round.old (λ s h. Answers S.Scheme D.PartialEq.eq s h call result) }
-    ensures keeps { AtEach D.PartialEq.eq S.Scheme S.batchable round.old (λ s h. IsAsked S.attests s call → RoundKeeps D.PartialEq.eq S.Scheme S.batchable s round.new (after_call D.PartialEq.eq s h call result)) }
+    ensures keeps { AtEach D.PartialEq.eq S.Scheme S.batchable round.old (λ s h.
+        IsAsked S.attests s call → RoundKeeps D.PartialEq.eq S.Scheme S.batchable s round.new (after_call D.PartialEq.eq s h call result)) }
 {
     match call {
         Call::AddNetwork(sender, vote) => match round.add_network(sender, vote) {
@@ -82,10 +83,23 @@ pub fn run<S: Scheme<D>, D: Digest>(
     round: &mut Round<S, D>,
     calls: Vec<Call<S, D>>,
 ) -> Result<Vec<Answer<S, D>>, AllocError>
-    ensures answers { IfOk result (λ answers. AtEach D.PartialEq.eq S.Scheme S.batchable round.old (λ s h. All (IsAsked S.attests s) calls.items → AnswersAre S.Scheme D.PartialEq.eq s h calls.items answers.items)) }
-    ensures keeps { IfOk result (λ answers. AtEach D.PartialEq.eq S.Scheme S.batchable round.old (λ s h. All (IsAsked S.attests s) calls.items → RoundKeeps D.PartialEq.eq S.Scheme S.batchable s round.new (after_all D.PartialEq.eq s h calls.items answers.items))) }
-    ensures processed { IfOk result (λ answers. AtEach D.PartialEq.eq S.Scheme S.batchable round.old (λ s h. All (IsAsked S.attests s) calls.items → processed_in answers.items ≤ length (taken (after_all D.PartialEq.eq s h calls.items answers.items)))) }
-    ensures certified { IfOk result (λ answers. AtEach D.PartialEq.eq S.Scheme S.batchable round.old (λ s h. All (IsAsked S.attests s) calls.items → s.is_skipped ≡ false → EndsInConstructions calls.items answers.items → AllCertified S.attests s (after_all D.PartialEq.eq s h calls.items answers.items))) }
+    ensures answers { IfOk result (λ answers.
+        AtEach D.PartialEq.eq S.Scheme S.batchable round.old
+        (λ s h. All (IsAsked S.attests s) calls.items → AnswersAre S.Scheme D.PartialEq.eq s h calls.items answers.items)) }
+    ensures keeps { IfOk result (λ answers.
+        AtEach D.PartialEq.eq S.Scheme S.batchable round.old (λ s h.
+        All (IsAsked S.attests s) calls.items
+        → RoundKeeps D.PartialEq.eq S.Scheme S.batchable s round.new (after_all D.PartialEq.eq s h calls.items answers.items))) }
+    ensures processed { IfOk result (λ answers.
+        AtEach D.PartialEq.eq S.Scheme S.batchable round.old (λ s h.
+        All (IsAsked S.attests s) calls.items
+        → processed_in answers.items ≤ length (taken (after_all D.PartialEq.eq s h calls.items answers.items)))) }
+    ensures certified { IfOk result (λ answers.
+        AtEach D.PartialEq.eq S.Scheme S.batchable round.old (λ s h.
+        All (IsAsked S.attests s) calls.items
+        → s.is_skipped ≡ false
+        → EndsInConstructions calls.items answers.items
+        → AllCertified S.attests s (after_all D.PartialEq.eq s h calls.items answers.items))) }
     ensures err { OnErr result (round.new ≡ round.old) }
 {
     no_quorum_is_lost::<S, D>();

@@ -41,7 +41,8 @@ impl Model for HostedDisk {
 impl HostedDisk {
     /// A disk over a record's bytes, which asks by this list.
     pub(crate) fn over(alloc: Global, record_bytes: Vec<u8>, requests: Requests) -> HostedDisk
-        ensures { result ≡ record { record_bytes = record_bytes.items; changed = false; length = length record_bytes.items; failures = 0; broken = false } }
+        ensures { result ≡ record
+            { record_bytes = record_bytes.items; changed = false; length = length record_bytes.items; failures = 0; broken = false } }
     {
         let length = record_bytes.len() as u64;
         HostedDisk {
@@ -138,7 +139,8 @@ impl Disk for HostedDisk {
 
     fn write_at(&mut self, at: u64, bytes: &[u8]) -> Result<(), DiskFault>
         ensures broken { self.old.broken ≡ true → IsErr result }
-        ensures done { OnOk result (self.new ≡ record self.old { record_bytes = []; changed = true; length = max self.old.length (at + length bytes.now) }) }
+        ensures done { OnOk result
+            (self.new ≡ record self.old { record_bytes = []; changed = true; length = max self.old.length (at + length bytes.now) }) }
         ensures not_done { OnErr result (self.new ≡ record self.old { failures = counted false self.old.failures; broken = true }) }
         ensures cause { self.new.failures ≡ counted (is_ok result) self.old.failures }
     {

@@ -3,7 +3,6 @@
 //! passed.
 #![tactic(auto)]
 
-mod answering;
 mod decoding;
 mod disk;
 mod found;
@@ -17,6 +16,7 @@ mod room;
 mod serving;
 mod session;
 mod status;
+mod told_answers;
 
 pub use found::Found;
 pub use handle::Handle;

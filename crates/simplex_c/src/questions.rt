@@ -3,15 +3,15 @@
 ghost use Rattle.std.specs.Prelude.{◌≡◌, ◌≢◌, ◌<◌, ◌⊎◌, ◌≤◌, ℕ, List, Option, [], IfNone, IfSome, length, take};
 ghost use Rattle.journal_single.specs.Record.{IsForeign};
 ghost use Rattle.simplex_record.specs.Lawful.{IsLawful, IsRefusedAt};
-ghost use Rattle.cli_tool.specs.Answers.{Entry, HoldsEntries, IsEntry, IsEvidence, attests_in, certifies_in, entry_spelling};
+ghost use Rattle.cli_tool.specs.ToolAnswers.{Entry, HoldsEntries, IsEntry, IsEvidence, attests_in, certifies_in, entry_spelling};
 ghost use Rattle.cli_tool.specs.Decoding.{message_size};
 ghost use Rattle.simplex_c.specs.Statuses.{Names};
 ghost use Rattle.simplex_c.specs.Answers.{Tells, kind_at, owner};
 
-use crate::answering::{audited, checked};
 use crate::decoding::decoded;
 use crate::found::Found;
 use crate::status::Status;
+use crate::told_answers::{audited, checked};
 use simplex_record::Owner;
 use std::alloc::Global;
 use types_core::{Epoch, Participant, TermLength};
@@ -30,8 +30,12 @@ pub extern "C" fn voumlis_proved_audit(
 ) -> u32
     ensures nobody { members ≡ 0 → result ≡ 2 }
     ensures somebody { members ≢ 0 → result ≢ 2 }
-    ensures evidence { result ≡ 0 → (fault : Option ℕ) × Names found.new.named found.new.place fault × IsEvidence members reports.now (take found.new.length evidence.new) fault }
-    ensures room { result ≡ 3 → (fault : Option ℕ) × (written : List ℕ) × Names found.new.named found.new.place fault × IsEvidence members reports.now written fault × (found.new.length ≡ length written) × (length evidence.old < length written) }
+    ensures evidence { result ≡ 0
+        → (fault : Option ℕ) × Names found.new.named found.new.place fault × IsEvidence members reports.now
+        (take found.new.length evidence.new) fault }
+    ensures room { result ≡ 3
+        → (fault : Option ℕ) × (written : List ℕ) × Names found.new.named found.new.place fault × IsEvidence members reports.now written
+        fault × (found.new.length ≡ length written) × (length evidence.old < length written) }
     ensures unwritten { result ≢ 0 → evidence.new ≡ evidence.old }
     ensures statuses { result ≤ 3 }
 {
@@ -59,8 +63,12 @@ pub extern "C" fn voumlis_proved_first_refused(
     ensures nobody { members ≡ 0 → result ≡ 2 }
     ensures no_term { term ≡ 0 → result ≡ 2 }
     ensures asked { members ≢ 0 → term ≢ 0 → result ≢ 2 }
-    ensures lawful { result ≡ 0 → (artifacts : List Entry) × HoldsEntries stored.now artifacts × IsLawful (attests_in members) (certifies_in members) (owner epoch term member) artifacts × (found.new.length ≡ length artifacts) }
-    ensures refused { result ≡ 7 → (artifacts : List Entry) × HoldsEntries stored.now artifacts × IsRefusedAt (attests_in members) (certifies_in members) (owner epoch term member) artifacts found.new.place × (found.new.length ≡ length artifacts) }
+    ensures lawful { result ≡ 0
+        → (artifacts : List Entry) × HoldsEntries stored.now artifacts × IsLawful (attests_in members) (certifies_in members)
+        (owner epoch term member) artifacts × (found.new.length ≡ length artifacts) }
+    ensures refused { result ≡ 7
+        → (artifacts : List Entry) × HoldsEntries stored.now artifacts × IsRefusedAt (attests_in members) (certifies_in members)
+        (owner epoch term member) artifacts found.new.place × (found.new.length ≡ length artifacts) }
     ensures foreign { result ≡ 8 → IsForeign [] IsEntry entry_spelling stored.now found.new.place }
     ensures named { (result ≡ 7) ⊎ (result ≡ 8) → found.new.named ≡ 1 }
     ensures unnamed { result ≡ 0 → found.new.named ≡ 0 }

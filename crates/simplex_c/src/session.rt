@@ -1,28 +1,25 @@
 //! A member's node between two calls.
 
 ghost use Rattle.std.specs.Prelude.{◌≡◌, ◌<◌, ◌++◌, ℕ, None, Some, IfOk};
-ghost use Rattle.types_codec.specs.Codec.{Readable};
 ghost use Rattle.simplex_member.specs.declared.action.Reply.{Reply};
-ghost use Rattle.simplex_member.specs.Packet.{formats};
 ghost use Rattle.simplex_member.specs.Setup.{setup_of};
 ghost use Rattle.node_steps.specs.Keeps.{AtOwn};
 ghost use Rattle.node_steps.specs.Opening.{IsOpenAndSettled};
 ghost use Rattle.simplex_node.specs.Running.{RunFails, RunsTo};
-ghost use Rattle.node_streams.specs.Streaming.{EndsIn, spelled};
+ghost use Rattle.node_wire.specs.Streaming.{EndsIn, spelled};
 
 use crate::disk::HostedDisk;
 use crate::requests::Requests;
 use journal_single::Disk;
-use messages_certificates::Artifact;
 use node_steps::Node;
 use simplex_cli::{config, elector, scheme};
-use simplex_member::{IoFault, OpenFault, Reply};
+use simplex_member::{IoFault, OpenFault, Reply, Speaks};
 use simplex_node::{open_io, run_io};
 use simplex_types::PlainScheme;
 use std::alloc::{AllocError, Global};
 use std::marker::Model;
 use std::rc::Rc;
-use types_core::{Digest, Read as Spelled, Scheme, Sha256Digest, Write as Spells};
+use types_core::{Digest, Scheme, Sha256Digest};
 use types_terms::Elector;
 use types_terms::elector::RoundRobinElector;
 use voter_rules::config::Config;
@@ -158,8 +155,12 @@ fn begin<S: Scheme<D> + Drop, L: Elector<S, D>, D: Digest, K: Disk>(
     replies: &mut Vec<u8>,
 ) -> Result<Node<S, L, D, K>, OpenFault>
     requires { L.built_for elector (S.size scheme.value) }
-    ensures opened { IfOk result (λ node. (index : ℕ) × (first : Reply S D S.PublicKey S.Signature S.Certificate) × (S.own scheme.value ≡ Some index) × (first.refused ≡ None) × (replies.new.items ≡ replies.old.items ++ spelled S.PublicKey.spelling D.spelling S.Signature.spelling S.Certificate.spelling first)
-        × IsOpenAndSettled S.Scheme L.Elector K.Disk (formats D.PartialEq.eq D.spelling S.Signature.spelling S.Certificate.spelling D.reading S.Signature.reading S.Certificate.reading (S.size scheme.value)) (setup_of S.Scheme L.Elector config scheme.value elector index) (Readable ⟦<Artifact<S, D> as Spells>⟧.fits (⟦<Artifact<S, D> as Spelled>⟧.within 65535)) disk 0 node first.actions.items) }
+    ensures opened { IfOk result (λ node.
+        (index : ℕ) × (first : Reply S D S.PublicKey S.Signature S.Certificate) × (S.own scheme.value ≡ Some index) × (first.refused ≡ None)
+        ×
+        (replies.new.items ≡ replies.old.items ++ spelled S.PublicKey.spelling D.spelling S.Signature.spelling S.Certificate.spelling first)
+        × IsOpenAndSettled S.Scheme L.Elector K.Disk (⟦<S as Speaks<D>>⟧.formats (S.size scheme.value))
+        (setup_of S.Scheme L.Elector config scheme.value elector index) ⟦<S as Speaks<D>>⟧.readable disk 0 node first.actions.items) }
 {
     match open_io(alloc, config, scheme, elector, disk, 0, replies) {
         Ok((node, written)) => match written {
@@ -180,7 +181,10 @@ fn go_on<S: Scheme<D> + Drop, L: Elector<S, D>, D: Digest, K: Disk>(
     events: &[u8],
     replies: &mut Vec<u8>,
 ) -> Result<(), IoFault>
-    ensures { AtOwn S.Scheme L.Elector K.Disk (formats D.PartialEq.eq D.spelling S.Signature.spelling S.Certificate.spelling D.reading S.Signature.reading S.Certificate.reading) node.old (λ f s h. EndsIn D.fits D.spelling (spelled S.PublicKey.spelling D.spelling S.Signature.spelling S.Certificate.spelling) (D.reading 65535) (RunsTo S.Scheme L.Elector K.Disk f s h node.new) (RunFails S.Scheme L.Elector K.Disk f s h node.new) result (Some events.now) (Some replies.old.items) (Some replies.new.items)) }
+    ensures { AtOwn S.Scheme L.Elector K.Disk ⟦<S as Speaks<D>>⟧.formats node.old (λ f s h.
+        EndsIn D.fits D.spelling (spelled S.PublicKey.spelling D.spelling S.Signature.spelling S.Certificate.spelling) (D.reading 65535)
+        (RunsTo S.Scheme L.Elector K.Disk f s h node.new) (RunFails S.Scheme L.Elector K.Disk f s h node.new) result (Some events.now)
+        (Some replies.old.items) (Some replies.new.items)) }
 {
     let mut rest = events;
     run_io(alloc, node, &mut rest, replies)

@@ -17,9 +17,9 @@ use Rattle.node_steps.specs.declared.node.Node.{Node}
 use Rattle.node_steps.specs.Keeps.{NodeKeeps}
 use Rattle.node_steps.specs.Opening.{IsOpenAndSettled}
 use Rattle.simplex_node.specs.Running.{RunFails, RunsTo}
-use Rattle.types_output.specs.Front.{AppendsFront}
-use Rattle.node_streams.specs.Over.{ends_as}
-use Rattle.node_streams.specs.Streaming.{EndsIn}
+use Rattle.types_codec.specs.Front.{AppendsFront}
+use Rattle.node_wire.specs.Over.{ends_as}
+use Rattle.node_wire.specs.Streaming.{EndsIn}
 use Rattle.simplex_cli.specs.declared.ending.Ending.{Ending}
 use Rattle.simplex_cli.specs.Serving.{Answers, AnswersBefore, ServesOver, ended_of}
 

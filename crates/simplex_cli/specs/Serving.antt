@@ -15,8 +15,8 @@ use Rattle.simplex_member.specs.Member.{Opens, Run}
 use Rattle.simplex_member.specs.Packet.{Formats}
 use Rattle.simplex_member.specs.Point.{History}
 use Rattle.simplex_member.specs.Setup.{Setup}
-use Rattle.types_output.specs.Front.{AppendsFront}
-use Rattle.node_streams.specs.Streaming.{EndsIn}
+use Rattle.types_codec.specs.Front.{AppendsFront}
+use Rattle.node_wire.specs.Streaming.{EndsIn}
 use Rattle.simplex_cli.specs.declared.ending.Ending.{Ending}
 use Rattle.simplex_cli.specs.Ending.{ending_of}
 

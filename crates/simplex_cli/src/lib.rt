@@ -1,4 +1,4 @@
-//! The program that runs one member's node over a record and streams.
+//! The program `simplex`: the audit of reports, passed on from `cli_audit`, and one member's node over a record and streams.
 #![tactic(auto)]
 
 mod ending;
@@ -7,6 +7,9 @@ mod serving;
 mod settings;
 mod telling;
 
+pub use cli_audit::{
+    Command, Trouble, USAGE, audit_over, parse_words, report, run_words, words_unread,
+};
 pub use ending::Ending;
 pub use over::{drive, node_over};
 pub use serving::serve_over;

@@ -3,7 +3,7 @@
 ghost use Rattle.std.specs.Prelude.{◌≡◌, ◌≢◌, ◌⊎◌, ◌<◌};
 ghost use Rattle.simplex_cli.specs.Ending.{ending_line, ending_status, memory_line};
 ghost use Rattle.simplex_cli.specs.declared.ending.Ending.{Ending};
-ghost use Rattle.types_output.specs.Front.{AppendsFront};
+ghost use Rattle.types_codec.specs.Front.{AppendsFront};
 
 use crate::ending::Ending;
 use crate::serving::serve_over;
@@ -28,7 +28,9 @@ pub fn node_over<K: Disk, R: Read, W: Write, F: Write>(
     requires { index < count }
     ensures statuses { (result ≡ 0) ⊎ ((result ≡ 1) ⊎ (result ≡ 3)) }
     ensures silent { result ≡ 0 → faults.new ≡ faults.old }
-    ensures told { result ≢ 0 → (why : Ending) × (result ≡ ending_status why) × (AppendsFront (F.contents faults.old) (F.contents faults.new) (ending_line why) ⊎ AppendsFront (F.contents faults.old) (F.contents faults.new) memory_line) }
+    ensures told { result ≢ 0
+        → (why : Ending) × (result ≡ ending_status why) × (AppendsFront (F.contents faults.old) (F.contents faults.new) (ending_line why) ⊎
+        AppendsFront (F.contents faults.old) (F.contents faults.new) memory_line) }
 {
     let (ended, disk) = drive(alloc, disk, index, count, input, output);
     drop(disk);

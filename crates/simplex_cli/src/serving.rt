@@ -1,26 +1,23 @@
 //! A node over a record and streams.
 
 ghost use Rattle.std.specs.Prelude.{◌≡◌, ◌⊎◌, ℕ, Err, Result, Some, ⊤};
-ghost use Rattle.types_codec.specs.Codec.{Readable};
 ghost use Rattle.simplex_member.specs.declared.fault.IoFault.{IoFault};
 ghost use Rattle.simplex_member.specs.declared.fault.OpenFault.{OpenFault};
-ghost use Rattle.simplex_member.specs.Packet.{formats};
 ghost use Rattle.simplex_member.specs.Setup.{setup_of};
 ghost use Rattle.node_steps.specs.Keeps.{AtOwn};
 ghost use Rattle.simplex_cli.specs.declared.ending.Ending.TheVariants.{Open};
 ghost use Rattle.simplex_cli.specs.Serving.{Answers, AnswersBefore, ServesOver, ended_of};
-ghost use Rattle.node_streams.specs.Streaming.{EndsIn, spelled};
+ghost use Rattle.node_wire.specs.Streaming.{EndsIn, spelled};
 
 use crate::ending::Ending;
 use journal_single::Disk;
-use messages_certificates::Artifact;
 use node_steps::Node;
-use simplex_member::IoFault;
+use simplex_member::{IoFault, Speaks};
 use simplex_node::{open_io, run_io};
 use std::alloc::Global;
 use std::io::{Read, Write};
 use std::rc::Rc;
-use types_core::{Digest, Read as Spelled, Scheme, Write as Spells};
+use types_core::{Digest, Scheme};
 use types_terms::Elector;
 use voter_rules::config::Config;
 
@@ -42,8 +39,11 @@ pub fn serve_over<S: Scheme<D> + Drop, L: Elector<S, D>, D: Digest, K: Disk, R: 
     output: &mut W,
 ) -> (Result<(), Ending>, K)
     requires { L.built_for elector (S.size scheme.value) }
-    ensures { ((why : OpenFault) × (result.0 ≡ Err (Open why)) × (output.new ≡ output.old))
-        ⊎ ((ended : Result ⊤ IoFault) × (index : ℕ) × (result.0 ≡ ended_of ended) × (S.own scheme.value ≡ Some index) × ServesOver S.Scheme K.Disk (formats D.PartialEq.eq D.spelling S.Signature.spelling S.Certificate.spelling D.reading S.Signature.reading S.Certificate.reading (S.size scheme.value)) (setup_of S.Scheme L.Elector config scheme.value elector index) D.fits D.spelling (spelled S.PublicKey.spelling D.spelling S.Signature.spelling S.Certificate.spelling) (D.reading 65535) (Readable ⟦<Artifact<S, D> as Spells>⟧.fits (⟦<Artifact<S, D> as Spelled>⟧.within 65535)) disk now ended (R.remaining input.old) (W.contents output.old) (W.contents output.new)) }
+    ensures { ((why : OpenFault) × (result.0 ≡ Err (Open why)) × (output.new ≡ output.old)) ⊎ ((ended : Result ⊤ IoFault) × (index : ℕ) ×
+        (result.0 ≡ ended_of ended) × (S.own scheme.value ≡ Some index) × ServesOver S.Scheme K.Disk
+        (⟦<S as Speaks<D>>⟧.formats (S.size scheme.value)) (setup_of S.Scheme L.Elector config scheme.value elector index) D.fits D.spelling
+        (spelled S.PublicKey.spelling D.spelling S.Signature.spelling S.Certificate.spelling) (D.reading 65535) ⟦<S as Speaks<D>>⟧.readable
+        disk now ended (R.remaining input.old) (W.contents output.old) (W.contents output.new)) }
 {
     match open_io(alloc, config, scheme, elector, disk, now, output) {
         Ok((node, written)) => match written {
@@ -61,7 +61,10 @@ fn serve<S: Scheme<D> + Drop, L: Elector<S, D>, D: Digest, K: Disk, R: Read, W: 
     input: &mut R,
     output: &mut W,
 ) -> (Result<(), Ending>, K)
-    ensures { AtOwn S.Scheme L.Elector K.Disk (formats D.PartialEq.eq D.spelling S.Signature.spelling S.Certificate.spelling D.reading S.Signature.reading S.Certificate.reading) node (λ f s h. (ended : Result ⊤ IoFault) × (result.0 ≡ ended_of ended) × EndsIn D.fits D.spelling (spelled S.PublicKey.spelling D.spelling S.Signature.spelling S.Certificate.spelling) (D.reading 65535) (Answers S.Scheme f s h) (AnswersBefore S.Scheme f s h) ended (R.remaining input.old) (W.contents output.old) (W.contents output.new)) }
+    ensures { AtOwn S.Scheme L.Elector K.Disk ⟦<S as Speaks<D>>⟧.formats node (λ f s h.
+        (ended : Result ⊤ IoFault) × (result.0 ≡ ended_of ended) × EndsIn D.fits D.spelling
+        (spelled S.PublicKey.spelling D.spelling S.Signature.spelling S.Certificate.spelling) (D.reading 65535) (Answers S.Scheme f s h)
+        (AnswersBefore S.Scheme f s h) ended (R.remaining input.old) (W.contents output.old) (W.contents output.new)) }
 {
     let mut node = node;
     let ended = run_io(alloc, &mut node, input, output);

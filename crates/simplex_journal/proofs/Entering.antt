@@ -5,9 +5,9 @@ use Rattle.journal_single.specs.Disk.{Call, LeavesOnly}
 use Rattle.journal_single.specs.Record.{size, AreEntries, IsFixed, Spells}
 use Rattle.journal_single.specs.Moments.{started, weaker}
 use Rattle.journal_single.specs.Images.{end_short, end_shut, entries_push, fixed_only}
-use Rattle.journal_generations.specs.Generation.{HasNone}
-use Rattle.journal_generations.specs.Laws.{none_first}
-use Rattle.journal_generations.specs.Steps.{IsClosed, IsBeingMarked}
+use Rattle.simplex_journal.specs.Generation.{HasNone}
+use Rattle.simplex_journal.specs.GenerationLaws.{none_first}
+use Rattle.simplex_journal.specs.Steps.{IsClosed, IsBeingMarked}
 use Rattle.simplex_journal.specs.Reading.{ReadsAs, ReadsEither, BothLeaveOnly, IsAtRestOf, IsPairAtRest}
 use Rattle.simplex_journal.proofs.Readings.{reads_as, none_entries}
 

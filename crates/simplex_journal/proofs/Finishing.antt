@@ -5,9 +5,9 @@ use Rattle.journal_single.specs.Record.{AreEntries, Reads, IsFixed, IsFound, IsF
 use Rattle.journal_single.specs.Moments.{started, weaker, stays}
 use Rattle.journal_single.specs.Images.{end_short, fixed_only}
 use Rattle.journal_single.specs.Total.{reads_end}
-use Rattle.journal_generations.specs.Generation.{HasNone, IsOf}
-use Rattle.journal_generations.specs.Laws.{none_short}
-use Rattle.journal_generations.specs.Steps.{IsClosed, IsBeingBegun, IsBeingClosed}
+use Rattle.simplex_journal.specs.Generation.{HasNone, IsOf}
+use Rattle.simplex_journal.specs.GenerationLaws.{none_short}
+use Rattle.simplex_journal.specs.Steps.{IsClosed, IsBeingBegun, IsBeingClosed}
 use Rattle.simplex_journal.specs.Reading.{ReadsAs, IsFoundOf, IsAtRestOf, IsForeignOf}
 use Rattle.simplex_journal.proofs.Readings.{reads_as, cut_settles, gate_settles, one_reading}
 

@@ -12,7 +12,7 @@ use Rattle.journal_single.specs.Record.{FitsBelow, IsForeign, end_of}
 use Rattle.journal_single.specs.Moments.{started, weaker, at_last}
 use Rattle.journal_single.specs.Images.{fixed_only}
 use Rattle.journal_single.specs.Refusals.{entries_long, foreign_reads, none_among}
-use Rattle.journal_generations.specs.Generation.{IsOf, OneCounted}
+use Rattle.simplex_journal.specs.Generation.{IsOf, OneCounted}
 use Rattle.simplex_journal.specs.declared.fault.PairFault.{PairFault}
 use Rattle.simplex_journal.specs.declared.fault.PairFault.TheVariants.{Device, Memory, Foreign, TooLong, Failed}
 use Rattle.simplex_journal.specs.declared.history.PairEvent.{PairEvent}
@@ -21,7 +21,7 @@ use Rattle.simplex_journal.specs.declared.history.Stage.{Stage}
 use Rattle.simplex_journal.specs.declared.history.Stage.TheVariants as stage
 use Rattle.simplex_journal.specs.Reading.{ReadsPair, ReadsEither, BothLeaveOnly, IsPairReopened, IsHead, IsAtRestOf, IsPairAtRest, IsForeignOf, IsForeignPair}
 use Rattle.simplex_journal.specs.Standing.{PairStanding, IsPairRecord, IsShortList}
-use Rattle.simplex_journal.specs.History.{Both, of_both, Outlook, AsGiven, Only, Either, record_after, outlook, IsFoundOn, ReadsOn, MayFind, MayRead, AtEachEvent, Finds, Recalls, Remembers, Leaves, Comes, IsPastTheEnd, IsTrueOf, is_open, has_failed, IsReady, IsAnswer, disks_of, OnOutlook, Stands}
+use Rattle.simplex_journal.specs.PairHistory.{Both, of_both, Outlook, AsGiven, Only, Either, record_after, outlook, IsFoundOn, ReadsOn, MayFind, MayRead, AtEachEvent, Finds, Recalls, Remembers, Leaves, Comes, IsPastTheEnd, IsTrueOf, is_open, has_failed, IsReady, IsAnswer, disks_of, OnOutlook, Stands}
 use Rattle.simplex_journal.proofs.Readings.{one_pair}
 use Rattle.simplex_journal.proofs.Rewriting.{rest_reads}
 

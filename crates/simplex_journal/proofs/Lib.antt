@@ -1,3 +1,8 @@
+pub mod Begun
+pub mod Closing
+pub mod Marking
+pub mod Numbers
+pub mod WritingOver
 pub mod Readings
 pub mod Finishing
 pub mod Reopening

@@ -5,8 +5,8 @@ use Rattle.journal_single.specs.Lists.{take_past}
 use Rattle.journal_single.specs.Images.{end_take, end_short, reads_front}
 use Rattle.journal_single.specs.OneReading.{unique}
 use Rattle.journal_single.specs.Total.{reads_any}
-use Rattle.journal_generations.specs.Generation.{IsGeneration, HasNone, IsOf, IsNumber, IsBelow, IsPassed}
-use Rattle.journal_generations.specs.Laws.{none_short, none_first, one_generation, one_of, number_any, below_number, of_front}
+use Rattle.simplex_journal.specs.Generation.{IsGeneration, HasNone, IsOf, IsNumber, IsBelow, IsPassed}
+use Rattle.simplex_journal.specs.GenerationLaws.{none_short, none_first, one_generation, one_of, number_any, below_number, of_front}
 use Rattle.simplex_journal.specs.Reading.{ReadsAs, ReadsBeside, ReadsPair, IsHead}
 
 -- what stands behind a head is its record

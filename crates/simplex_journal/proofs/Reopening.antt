@@ -6,8 +6,8 @@ use Rattle.journal_single.specs.Record.{IsFixed}
 use Rattle.journal_single.specs.Moments.{weaker, and_then}
 use Rattle.journal_single.specs.Images.{fixes}
 use Rattle.journal_single.specs.Total.{reads_any}
-use Rattle.journal_generations.specs.Laws.{number_any, one_of}
-use Rattle.journal_generations.specs.Generation.{IsNumber, IsPassed, IsChosen}
+use Rattle.simplex_journal.specs.GenerationLaws.{number_any, one_of}
+use Rattle.simplex_journal.specs.Generation.{IsNumber, IsPassed, IsChosen}
 use Rattle.simplex_journal.specs.Reading.{ReadsAs, ReadsPair, BothLeaveOnly, IsPairReopened, IsAtRestOf, IsPairAtRest, IsForeignOf, IsForeignPair}
 use Rattle.simplex_journal.proofs.Readings.{pair_any, beside_same, passing_same, number_read}
 

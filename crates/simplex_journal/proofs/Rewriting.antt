@@ -4,8 +4,8 @@ use Rattle.journal_single.specs.Disk.{Call, LeavesOnly}
 use Rattle.journal_single.specs.Record.{IsFixed}
 use Rattle.journal_single.specs.Moments.{started, weaker}
 use Rattle.journal_single.specs.Images.{reads_rest, end_short, fixed_only}
-use Rattle.journal_generations.specs.Generation.{IsPassed, IsPassedOrWritten}
-use Rattle.journal_generations.specs.Laws.{none_first}
+use Rattle.simplex_journal.specs.Generation.{IsPassed, IsPassedOrWritten}
+use Rattle.simplex_journal.specs.GenerationLaws.{none_first}
 use Rattle.simplex_journal.specs.Reading.{ReadsAs, ReadsEither, BothLeaveOnly, SpellsGeneration, IsAtRestOf, IsPairAtRest}
 use Rattle.simplex_journal.proofs.Readings.{reads_as, none_entries, next_passes}
 

@@ -1,3 +1,6 @@
+pub mod Generation
+pub mod Steps
+pub mod GenerationLaws
 pub mod Reading
 pub mod Standing
-pub mod History
+pub mod PairHistory

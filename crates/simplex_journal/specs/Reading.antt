@@ -2,8 +2,8 @@
 use Rattle.std.specs.Prelude.{◌≡◌, ◌⊎◌, ◌<◌, ℕ, Bool, true, false, List, [], ◌∷◌, ◌++◌, length}
 use Rattle.journal_single.specs.Disk.{Call, MayLeave, LeavesOnly}
 use Rattle.journal_single.specs.Record.{size, Reads, AreEntries, IsFound, IsForeign, IsFixed}
-use Rattle.journal_generations.specs.Generation.{IsGeneration, HasNone, IsOf, IsNumber, IsPassed}
-use Rattle.journal_generations.specs.Steps.{IsClosed}
+use Rattle.simplex_journal.specs.Generation.{IsGeneration, HasNone, IsOf, IsNumber, IsPassed}
+use Rattle.simplex_journal.specs.Steps.{IsClosed}
 
 -- a disk is of this generation and reads as these bodies
 pub record ReadsAs (bytes : List ℕ) (generation : ℕ) (bodies : List (List ℕ)) : Type 0 where

@@ -6,7 +6,7 @@ ghost use Rattle.journal_single.specs.Disk.{MayLeave};
 ghost use Rattle.journal_single.specs.Record.{FitsBelow};
 ghost use Rattle.simplex_journal.specs.declared.history.PairEvent.{PairEvent};
 ghost use Rattle.simplex_journal.specs.declared.history.PairRequest.TheVariants.{Open, Append, Rewrite, Crash};
-ghost use Rattle.simplex_journal.specs.History.{Both, of_both, OfMessages, request_of, disks_of, MayRead, AtEachEvent, IsTrueOf, Finds, Remembers, IsAnswer, IsStage, GoesOn, Comes, CameBy};
+ghost use Rattle.simplex_journal.specs.PairHistory.{Both, of_both, OfMessages, request_of, disks_of, MayRead, AtEachEvent, IsTrueOf, Finds, Remembers, IsAnswer, IsStage, GoesOn, Comes, CameBy};
 
 use crate::fault::PairFault;
 use crate::pair::Pair;
@@ -84,8 +84,10 @@ impl<M: Read + EncodeSize + Drop, K: Crash> Stage<M, K> {
     fn open(self, alloc: Global) -> (Self, PairEvent<M>)
         ensures asked { request_of result.1 ≡ Open }
         ensures answer { (history : List (PairEvent M)) → IsStage self history → IsAnswer history result.1 × IsStage result.0 (result.1 ∷ history) }
-        ensures comes { Comes (FitsBelow (2 ^ 32 - 1) (Readable M.fits (M.within BOUND)) M.spelling) M.spelling K.keeps K.seen K.calls K.crashed K.failed result.1 (disks_of self) (disks_of result.0) }
-        ensures stands { K.keeps → GoesOn (FitsBelow (2 ^ 32 - 1) (Readable M.fits (M.within BOUND)) M.spelling) M.spelling K.seen K.calls self result.0 result.1 }
+        ensures comes { Comes (FitsBelow (2 ^ 32 - 1) (Readable M.fits (M.within BOUND)) M.spelling) M.spelling K.keeps K.seen K.calls
+            K.crashed K.failed result.1 (disks_of self) (disks_of result.0) }
+        ensures stands { K.keeps
+            → GoesOn (FitsBelow (2 ^ 32 - 1) (Readable M.fits (M.within BOUND)) M.spelling) M.spelling K.seen K.calls self result.0 result.1 }
     {
         let (first, second) = self.into_disks();
         match Pair::open(alloc, first, second) {
@@ -102,8 +104,10 @@ impl<M: Read + EncodeSize + Drop, K: Crash> Stage<M, K> {
         requires { M.within BOUND message }
         ensures asked { request_of result.1 ≡ Append message }
         ensures answer { (history : List (PairEvent M)) → IsStage self history → IsAnswer history result.1 × IsStage result.0 (result.1 ∷ history) }
-        ensures comes { Comes (FitsBelow (2 ^ 32 - 1) (Readable M.fits (M.within BOUND)) M.spelling) M.spelling K.keeps K.seen K.calls K.crashed K.failed result.1 (disks_of self) (disks_of result.0) }
-        ensures stands { K.keeps → GoesOn (FitsBelow (2 ^ 32 - 1) (Readable M.fits (M.within BOUND)) M.spelling) M.spelling K.seen K.calls self result.0 result.1 }
+        ensures comes { Comes (FitsBelow (2 ^ 32 - 1) (Readable M.fits (M.within BOUND)) M.spelling) M.spelling K.keeps K.seen K.calls
+            K.crashed K.failed result.1 (disks_of self) (disks_of result.0) }
+        ensures stands { K.keeps
+            → GoesOn (FitsBelow (2 ^ 32 - 1) (Readable M.fits (M.within BOUND)) M.spelling) M.spelling K.seen K.calls self result.0 result.1 }
     {
         let mut pair = match self {
             Stage::Open(pair) => pair,
@@ -125,8 +129,10 @@ impl<M: Read + EncodeSize + Drop, K: Crash> Stage<M, K> {
         requires { All (M.within BOUND) list.items }
         ensures asked { request_of result.1 ≡ Rewrite list }
         ensures answer { (history : List (PairEvent M)) → IsStage self history → IsAnswer history result.1 × IsStage result.0 (result.1 ∷ history) }
-        ensures comes { Comes (FitsBelow (2 ^ 32 - 1) (Readable M.fits (M.within BOUND)) M.spelling) M.spelling K.keeps K.seen K.calls K.crashed K.failed result.1 (disks_of self) (disks_of result.0) }
-        ensures stands { K.keeps → GoesOn (FitsBelow (2 ^ 32 - 1) (Readable M.fits (M.within BOUND)) M.spelling) M.spelling K.seen K.calls self result.0 result.1 }
+        ensures comes { Comes (FitsBelow (2 ^ 32 - 1) (Readable M.fits (M.within BOUND)) M.spelling) M.spelling K.keeps K.seen K.calls
+            K.crashed K.failed result.1 (disks_of self) (disks_of result.0) }
+        ensures stands { K.keeps
+            → GoesOn (FitsBelow (2 ^ 32 - 1) (Readable M.fits (M.within BOUND)) M.spelling) M.spelling K.seen K.calls self result.0 result.1 }
     {
         let mut pair = match self {
             Stage::Open(pair) => pair,
@@ -147,8 +153,10 @@ impl<M: Read + EncodeSize + Drop, K: Crash> Stage<M, K> {
     fn crash(self) -> (Self, PairEvent<M>)
         ensures asked { request_of result.1 ≡ Crash }
         ensures answer { (history : List (PairEvent M)) → IsStage self history → IsAnswer history result.1 × IsStage result.0 (result.1 ∷ history) }
-        ensures comes { Comes (FitsBelow (2 ^ 32 - 1) (Readable M.fits (M.within BOUND)) M.spelling) M.spelling K.keeps K.seen K.calls K.crashed K.failed result.1 (disks_of self) (disks_of result.0) }
-        ensures stands { K.keeps → GoesOn (FitsBelow (2 ^ 32 - 1) (Readable M.fits (M.within BOUND)) M.spelling) M.spelling K.seen K.calls self result.0 result.1 }
+        ensures comes { Comes (FitsBelow (2 ^ 32 - 1) (Readable M.fits (M.within BOUND)) M.spelling) M.spelling K.keeps K.seen K.calls
+            K.crashed K.failed result.1 (disks_of self) (disks_of result.0) }
+        ensures stands { K.keeps
+            → GoesOn (FitsBelow (2 ^ 32 - 1) (Readable M.fits (M.within BOUND)) M.spelling) M.spelling K.seen K.calls self result.0 result.1 }
     {
         let (mut first, mut second) = self.into_disks();
         first.crash();
@@ -161,8 +169,10 @@ impl<M: Read + EncodeSize + Drop, K: Crash> Stage<M, K> {
         requires { OfMessages (M.within BOUND) request }
         ensures asked { request_of result.1 ≡ request }
         ensures answer { (history : List (PairEvent M)) → IsStage self history → IsAnswer history result.1 × IsStage result.0 (result.1 ∷ history) }
-        ensures comes { Comes (FitsBelow (2 ^ 32 - 1) (Readable M.fits (M.within BOUND)) M.spelling) M.spelling K.keeps K.seen K.calls K.crashed K.failed result.1 (disks_of self) (disks_of result.0) }
-        ensures stands { K.keeps → GoesOn (FitsBelow (2 ^ 32 - 1) (Readable M.fits (M.within BOUND)) M.spelling) M.spelling K.seen K.calls self result.0 result.1 }
+        ensures comes { Comes (FitsBelow (2 ^ 32 - 1) (Readable M.fits (M.within BOUND)) M.spelling) M.spelling K.keeps K.seen K.calls
+            K.crashed K.failed result.1 (disks_of self) (disks_of result.0) }
+        ensures stands { K.keeps
+            → GoesOn (FitsBelow (2 ^ 32 - 1) (Readable M.fits (M.within BOUND)) M.spelling) M.spelling K.seen K.calls self result.0 result.1 }
     {
         match request {
             PairRequest::Open => self.open(alloc),
@@ -186,7 +196,7 @@ impl<M: Read + EncodeSize + Drop, K: Crash> Stage<M, K> {
 /// # Errors
 ///
 /// Memory for the events is refused, before the disks are asked anything. They come back.
-pub fn run<M: Read + EncodeSize + Drop, K: Crash>(
+pub fn run_pair<M: Read + EncodeSize + Drop, K: Crash>(
     alloc: Global,
     first: K,
     second: K,
@@ -195,12 +205,19 @@ pub fn run<M: Read + EncodeSize + Drop, K: Crash>(
     requires { All (OfMessages (M.within BOUND)) requests.items }
     ensures asked { IfOk result (λ history. map request_of history.events.items ≡ requests.items) }
     ensures answers { IfOk result (λ history. AtEachEvent IsAnswer (reverse history.events.items)) }
-    ensures came { IfOk result (λ history. CameBy (FitsBelow (2 ^ 32 - 1) (Readable M.fits (M.within BOUND)) M.spelling) M.spelling K.keeps K.seen K.calls K.crashed K.failed
-        (record { first = first; second = second }) (reverse history.events.items) (record { first = history.first; second = history.second })) }
+    ensures came { IfOk result (λ history.
+        CameBy (FitsBelow (2 ^ 32 - 1) (Readable M.fits (M.within BOUND)) M.spelling) M.spelling K.keeps K.seen K.calls K.crashed K.failed
+        (record { first = first; second = second }) (reverse history.events.items)
+        (record { first = history.first; second = history.second })) }
     ensures refusals { IfOk result (λ history. K.keeps → AtEachEvent (IsTrueOf M.spelling) (reverse history.events.items)) }
-    ensures finds { IfOk result (λ history. K.keeps → AtEachEvent (Finds M.spelling (record { first = K.calls first; second = K.calls second })) (reverse history.events.items)) }
+    ensures finds { IfOk result (λ history.
+        K.keeps → AtEachEvent (Finds M.spelling (record { first = K.calls first; second = K.calls second })) (reverse history.events.items)) }
     ensures remembers { IfOk result (λ history. K.keeps → AtEachEvent Remembers (reverse history.events.items)) }
-    ensures next_opening { IfOk result (λ history. K.keeps → (one two : List ℕ) → MayLeave (K.calls history.first) one → MayLeave (K.calls history.second) two
+    ensures next_opening { IfOk result (λ history.
+        K.keeps
+        → (one two : List ℕ)
+        → MayLeave (K.calls history.first) one
+        → MayLeave (K.calls history.second) two
         → MayRead M.spelling (record { first = K.calls first; second = K.calls second }) (reverse history.events.items) one two) }
     ensures untouched_first { IfErr result (λ refused. refused.1 ≡ first) }
     ensures untouched_second { IfErr result (λ refused. refused.2 ≡ second) }

@@ -5,12 +5,14 @@ ghost use Rattle.types_codec.specs.Codec.{Readable};
 ghost use Rattle.simplex_journal.specs.declared.fault.PairFault.TheVariants.{Device, Foreign, Memory};
 ghost use Rattle.journal_single.specs.Disk.{MayLeave, LeavesOnly, Synced, counted};
 ghost use Rattle.journal_single.specs.Record.{IsFixed, FitsBelow};
-ghost use Rattle.journal_generations.specs.Generation.{OneCounted};
+ghost use Rattle.simplex_journal.specs.Generation.{OneCounted};
 ghost use Rattle.simplex_journal.specs.Reading.{ReadsAs, ReadsPair, IsFoundOf, IsForeignOf, IsForeignPair, IsAtRestOf, IsPairAtRest, BothLeaveOnly, IsPairReopened};
 
+use crate::choosing::is_first_read;
 use crate::fault::PairFault;
+use crate::number::record_in;
 use crate::spelling::TOO_LONG;
-use journal_generations::{begin, close_gate, is_first_read, record_in};
+use crate::steps::{begin, close_gate};
 use journal_single::{BOUND, Disk, DiskFault, JournalFault, read_disk, read_entries_below};
 use std::alloc::Global;
 use types_core::Read;
@@ -28,8 +30,14 @@ fn finish<K: Disk>(disk: &mut K, gate: u64, is_empty: bool) -> Result<(), DiskFa
     requires room { gate < 2 ^ 63 }
     requires some { K.keeps → is_empty ≡ false → gate < length (K.seen disk.old) }
     requires none { K.keeps → is_empty ≡ true → K.seen disk.old ≡ [] }
-    ensures ok { OnOk result ((g : ℕ) (bodies : List (List ℕ)) → K.keeps → IsFoundOf g (K.seen disk.old) gate bodies → IsAtRestOf g (K.seen disk.new) (K.calls disk.new) gate bodies) }
-    ensures any_moment { (g : ℕ) (bodies : List (List ℕ)) → K.keeps → IsFixed (K.seen disk.old) (K.calls disk.old) → IsFoundOf g (K.seen disk.old) gate bodies
+    ensures ok { OnOk result ((g : ℕ) (bodies : List (List ℕ))
+        → K.keeps
+        → IsFoundOf g (K.seen disk.old) gate bodies
+        → IsAtRestOf g (K.seen disk.new) (K.calls disk.new) gate bodies) }
+    ensures any_moment { (g : ℕ) (bodies : List (List ℕ))
+        → K.keeps
+        → IsFixed (K.seen disk.old) (K.calls disk.old)
+        → IsFoundOf g (K.seen disk.old) gate bodies
         → LeavesOnly (K.calls disk.old) (K.calls disk.new) (λ image. ReadsAs image g bodies) }
     ensures cause { K.failed disk.new ≡ counted (is_ok result) (K.failed disk.old) }
 {
@@ -55,7 +63,11 @@ fn read_record<M: Read + Drop, K: Disk>(
     ensures device { IsErrOf result PairFault.Device → K.failed disk.new ≡ counted false (K.failed disk.old) }
     ensures no_fault { OnOk result (K.failed disk.new ≡ K.failed disk.old) }
     ensures no_fault_of_others { IfErr result (λ fault. fault ≢ Device → K.failed disk.new ≡ K.failed disk.old) }
-    ensures foreign { IfErr result (λ fault. (place : ℕ) → fault ≡ Foreign place → K.keeps → (g : ℕ) × IsForeignOf (FitsBelow (2 ^ 32 - 1) (Readable M.fits (M.within BOUND)) M.spelling) M.spelling (K.seen disk.old) g place) }
+    ensures foreign { IfErr result (λ fault.
+        (place : ℕ)
+        → fault ≡ Foreign place
+        → K.keeps
+        → (g : ℕ) × IsForeignOf (FitsBelow (2 ^ 32 - 1) (Readable M.fits (M.within BOUND)) M.spelling) M.spelling (K.seen disk.old) g place) }
     ensures faults { IfErr result (λ fault. (fault ≡ Device) ⊎ ((fault ≡ Memory) ⊎ ((place : ℕ) × (fault ≡ Foreign place)))) }
 {
     let bytes = match read_disk(alloc, disk) {
@@ -81,11 +93,15 @@ fn read_record<M: Read + Drop, K: Disk>(
 
 /// Reads the record of a disk and closes its last gate.
 fn settle<M: Read + Drop, K: Disk>(alloc: Global, disk: &mut K) -> Result<Found<M>, PairFault>
-    ensures ok { IfOk result (λ found. K.keeps → IsAtRestOf found.generation (K.seen disk.new) (K.calls disk.new) found.gate (map M.spelling found.messages.items)) }
+    ensures ok { IfOk result (λ found.
+        K.keeps → IsAtRestOf found.generation (K.seen disk.new) (K.calls disk.new) found.gate (map M.spelling found.messages.items)) }
     ensures fitting { IfOk result (λ found. All (FitsBelow (2 ^ 32 - 1) (Readable M.fits (M.within BOUND)) M.spelling) found.messages.items) }
     ensures reading { IfOk result (λ found. K.keeps → ReadsAs (K.seen disk.old) found.generation (map M.spelling found.messages.items)) }
     // A crash at any moment leaves a disk of the same generation that reads the same.
-    ensures any_moment { (g : ℕ) (bodies : List (List ℕ)) → K.keeps → IsFixed (K.seen disk.old) (K.calls disk.old) → ReadsAs (K.seen disk.old) g bodies
+    ensures any_moment { (g : ℕ) (bodies : List (List ℕ))
+        → K.keeps
+        → IsFixed (K.seen disk.old) (K.calls disk.old)
+        → ReadsAs (K.seen disk.old) g bodies
         → LeavesOnly (K.calls disk.old) (K.calls disk.new) (λ image. ReadsAs image g bodies) }
     ensures room { IfOk result (λ found. found.gate < 2 ^ 63) }
     ensures seen_of_others { IfErr result (λ fault. fault ≢ Device → K.keeps → K.seen disk.new ≡ K.seen disk.old) }
@@ -93,7 +109,11 @@ fn settle<M: Read + Drop, K: Disk>(alloc: Global, disk: &mut K) -> Result<Found<
     ensures device { IsErrOf result PairFault.Device → K.failed disk.new ≡ counted false (K.failed disk.old) }
     ensures no_fault { OnOk result (K.failed disk.new ≡ K.failed disk.old) }
     ensures no_fault_of_others { IfErr result (λ fault. fault ≢ Device → K.failed disk.new ≡ K.failed disk.old) }
-    ensures foreign { IfErr result (λ fault. (place : ℕ) → fault ≡ Foreign place → K.keeps → (g : ℕ) × IsForeignOf (FitsBelow (2 ^ 32 - 1) (Readable M.fits (M.within BOUND)) M.spelling) M.spelling (K.seen disk.old) g place) }
+    ensures foreign { IfErr result (λ fault.
+        (place : ℕ)
+        → fault ≡ Foreign place
+        → K.keeps
+        → (g : ℕ) × IsForeignOf (FitsBelow (2 ^ 32 - 1) (Readable M.fits (M.within BOUND)) M.spelling) M.spelling (K.seen disk.old) g place) }
     ensures faults { IfErr result (λ fault. (fault ≡ Device) ⊎ ((fault ≡ Memory) ⊎ ((place : ℕ) × (fault ≡ Foreign place)))) }
 {
     let (found, is_empty) = match read_record(alloc, disk) {
@@ -108,7 +128,9 @@ fn settle<M: Read + Drop, K: Disk>(alloc: Global, disk: &mut K) -> Result<Found<
 
 /// Syncs two disks: what was found may go on only once it is fixed, or a crash could still take it back.
 fn sync_both<K: Disk>(first: &mut K, second: &mut K) -> Result<(), DiskFault>
-    ensures fixed { OnOk result (K.keeps → (K.calls first.new ≡ Synced (K.seen first.old) ∷ K.calls first.old) × (K.calls second.new ≡ Synced (K.seen second.old) ∷ K.calls second.old)) }
+    ensures fixed { OnOk result (K.keeps
+        → (K.calls first.new ≡ Synced (K.seen first.old) ∷ K.calls first.old) ×
+        (K.calls second.new ≡ Synced (K.seen second.old) ∷ K.calls second.old)) }
     ensures seen { OnOk result (K.keeps → (K.seen first.new ≡ K.seen first.old) × (K.seen second.new ≡ K.seen second.old)) }
     ensures first_left { K.keeps → LeavesOnly (K.calls first.old) (K.calls first.new) (MayLeave (K.calls first.old)) }
     ensures second_left { K.keeps → LeavesOnly (K.calls second.old) (K.calls second.new) (MayLeave (K.calls second.old)) }
@@ -126,18 +148,34 @@ pub(crate) fn open_disks<M: Read + Drop, K: Disk>(
     first: &mut K,
     second: &mut K,
 ) -> Result<(Found<M>, bool), PairFault>
-    ensures ok { IfOk result (λ opened. K.keeps → IsPairAtRest opened.1 opened.0.generation (K.seen first.new) (K.calls first.new) (K.seen second.new) (K.calls second.new) opened.0.gate (map M.spelling opened.0.messages.items)) }
+    ensures ok { IfOk result (λ opened.
+        K.keeps
+        → IsPairAtRest opened.1 opened.0.generation (K.seen first.new) (K.calls first.new) (K.seen second.new) (K.calls second.new)
+        opened.0.gate (map M.spelling opened.0.messages.items)) }
     ensures fitting { IfOk result (λ opened. All (FitsBelow (2 ^ 32 - 1) (Readable M.fits (M.within BOUND)) M.spelling) opened.0.messages.items) }
     ensures reading { IfOk result (λ opened. K.keeps → ReadsPair (K.seen first.old) (K.seen second.old) (map M.spelling opened.0.messages.items)) }
     // After a crash at any moment both read as something that a crash before the opening might have left of both.
-    ensures any_moment { K.keeps → BothLeaveOnly (K.calls first.old) (K.calls first.new) (K.calls second.old) (K.calls second.new) (IsPairReopened (K.calls first.old) (K.calls second.old)) }
+    ensures any_moment { K.keeps
+        → BothLeaveOnly (K.calls first.old) (K.calls first.new) (K.calls second.old) (K.calls second.new)
+        (IsPairReopened (K.calls first.old) (K.calls second.old)) }
     ensures room { IfOk result (λ opened. opened.0.gate < 2 ^ 63) }
     // After any other fault than the disks' own nothing was written or cut.
-    ensures untouched { IfErr result (λ fault. fault ≢ Device → K.keeps → (K.calls first.new ≡ Synced (K.seen first.new) ∷ K.calls first.old) × (K.calls second.new ≡ Synced (K.seen second.new) ∷ K.calls second.old)) }
-    ensures device { IsErrOf result PairFault.Device → OneCounted false (K.failed first.old) (K.failed first.new) (K.failed second.old) (K.failed second.new) }
+    ensures untouched { IfErr result (λ fault.
+        fault ≢ Device
+        → K.keeps
+        → (K.calls first.new ≡ Synced (K.seen first.new) ∷ K.calls first.old) ×
+        (K.calls second.new ≡ Synced (K.seen second.new) ∷ K.calls second.old)) }
+    ensures device { IsErrOf result PairFault.Device
+        → OneCounted false (K.failed first.old) (K.failed first.new) (K.failed second.old) (K.failed second.new) }
     ensures no_fault { OnOk result ((K.failed first.new ≡ K.failed first.old) × (K.failed second.new ≡ K.failed second.old)) }
-    ensures no_fault_of_others { IfErr result (λ fault. fault ≢ Device → (K.failed first.new ≡ K.failed first.old) × (K.failed second.new ≡ K.failed second.old)) }
-    ensures foreign { IfErr result (λ fault. (place : ℕ) → fault ≡ Foreign place → K.keeps → IsForeignPair (FitsBelow (2 ^ 32 - 1) (Readable M.fits (M.within BOUND)) M.spelling) M.spelling (K.seen first.old) (K.seen second.old) place) }
+    ensures no_fault_of_others { IfErr result
+        (λ fault. fault ≢ Device → (K.failed first.new ≡ K.failed first.old) × (K.failed second.new ≡ K.failed second.old)) }
+    ensures foreign { IfErr result (λ fault.
+        (place : ℕ)
+        → fault ≡ Foreign place
+        → K.keeps
+        → IsForeignPair (FitsBelow (2 ^ 32 - 1) (Readable M.fits (M.within BOUND)) M.spelling) M.spelling (K.seen first.old)
+        (K.seen second.old) place) }
     ensures faults { IfErr result (λ fault. (fault ≡ Device) ⊎ ((fault ≡ Memory) ⊎ ((place : ℕ) × (fault ≡ Foreign place)))) }
 {
     if sync_both(first, second).is_err() {

@@ -6,7 +6,7 @@ ghost use Rattle.simplex_journal.specs.declared.fault.PairFault.TheVariants.{Dev
 ghost use Rattle.journal_single.specs.Disk.{MayLeave, Synced};
 ghost use Rattle.journal_single.specs.Journal.{IsTooLong};
 ghost use Rattle.journal_single.specs.Record.{FitsBelow};
-ghost use Rattle.journal_generations.specs.Generation.{OneCounted};
+ghost use Rattle.simplex_journal.specs.Generation.{OneCounted};
 ghost use Rattle.simplex_journal.specs.Reading.{ReadsPair, ReadsEither, BothLeaveOnly, IsPairReopened, IsForeignPair};
 ghost use Rattle.simplex_journal.specs.Standing.{IsPairRecord, IsShortList};
 
@@ -41,10 +41,14 @@ impl<M: Read + EncodeSize, K: Disk> Model for Pair<M, K> {
 
     ghost Value = { PairStanding K };
 
-    ghost view = { λ p. record { first = p.first; second = p.second; is_first = p.is_first; generation = p.generation; gate = p.gate; failed = p.failed } };
+    ghost view = { λ p. record
+        { first = p.first; second = p.second; is_first = p.is_first; generation = p.generation; gate = p.gate; failed = p.failed } };
 
-    ghost invariant = { λ p. K.keeps → p.failed ≡ false
-        → (messages : List M) × IsPairRecord M.spelling K.seen K.calls (record { first = p.first; second = p.second; is_first = p.is_first; generation = p.generation; gate = p.gate; failed = p.failed }) messages };
+    ghost invariant = { λ p. K.keeps
+        → p.failed ≡ false
+        → (messages : List M) × IsPairRecord M.spelling K.seen K.calls
+        (record { first = p.first; second = p.second; is_first = p.is_first; generation = p.generation; gate = p.gate; failed = p.failed })
+        messages };
 }
 
 impl<M: Read + EncodeSize + Drop, K: Disk> Pair<M, K> {
@@ -63,19 +67,38 @@ impl<M: Read + EncodeSize + Drop, K: Disk> Pair<M, K> {
         ensures record { IfOk result (λ opened. K.keeps → IsPairRecord M.spelling K.seen K.calls opened.0 opened.1.items) }
         ensures fresh { IfOk result (λ opened. opened.0.failed ≡ false) }
         ensures readable { IfOk result (λ opened. All (FitsBelow (2 ^ 32 - 1) (Readable M.fits (M.within BOUND)) M.spelling) opened.1.items) }
-        ensures found { IfOk result (λ opened. K.keeps → (one : List ℕ) × (two : List ℕ) × MayLeave (K.calls first) one × MayLeave (K.calls second) two × ReadsPair one two (map M.spelling opened.1.items)) }
+        ensures found { IfOk result (λ opened.
+            K.keeps
+            → (one : List ℕ) × (two : List ℕ) × MayLeave (K.calls first) one × MayLeave (K.calls second) two × ReadsPair one two
+            (map M.spelling opened.1.items)) }
         ensures reading { IfOk result (λ opened. K.keeps → ReadsPair (K.seen first) (K.seen second) (map M.spelling opened.1.items)) }
 
         // After a crash at any moment both read as something that a crash before the opening might have left of both.
-        ensures any_moment { IfOk result (λ opened. K.keeps → BothLeaveOnly (K.calls first) (K.calls opened.0.first) (K.calls second) (K.calls opened.0.second) (IsPairReopened (K.calls first) (K.calls second))) }
-        ensures any_moment_of_a_fault { IfErr result (λ refused. K.keeps → BothLeaveOnly (K.calls first) (K.calls refused.1) (K.calls second) (K.calls refused.2) (IsPairReopened (K.calls first) (K.calls second))) }
+        ensures any_moment { IfOk result (λ opened.
+            K.keeps
+            → BothLeaveOnly (K.calls first) (K.calls opened.0.first) (K.calls second) (K.calls opened.0.second)
+            (IsPairReopened (K.calls first) (K.calls second))) }
+        ensures any_moment_of_a_fault { IfErr result (λ refused.
+            K.keeps
+            → BothLeaveOnly (K.calls first) (K.calls refused.1) (K.calls second) (K.calls refused.2)
+            (IsPairReopened (K.calls first) (K.calls second))) }
 
-        ensures device { IfErr result (λ refused. refused.0 ≡ Device → OneCounted false (K.failed first) (K.failed refused.1) (K.failed second) (K.failed refused.2)) }
+        ensures device { IfErr result
+            (λ refused. refused.0 ≡ Device → OneCounted false (K.failed first) (K.failed refused.1) (K.failed second) (K.failed refused.2)) }
         ensures no_fault { IfOk result (λ opened. (K.failed opened.0.first ≡ K.failed first) × (K.failed opened.0.second ≡ K.failed second)) }
-        ensures no_fault_of_others { IfErr result (λ refused. refused.0 ≢ Device → (K.failed refused.1 ≡ K.failed first) × (K.failed refused.2 ≡ K.failed second)) }
-        ensures foreign { IfErr result (λ refused. (place : ℕ) → refused.0 ≡ Foreign place → K.keeps → IsForeignPair (FitsBelow (2 ^ 32 - 1) (Readable M.fits (M.within BOUND)) M.spelling) M.spelling (K.seen first) (K.seen second) place) }
+        ensures no_fault_of_others { IfErr result
+            (λ refused. refused.0 ≢ Device → (K.failed refused.1 ≡ K.failed first) × (K.failed refused.2 ≡ K.failed second)) }
+        ensures foreign { IfErr result (λ refused.
+            (place : ℕ)
+            → refused.0 ≡ Foreign place
+            → K.keeps
+            → IsForeignPair (FitsBelow (2 ^ 32 - 1) (Readable M.fits (M.within BOUND)) M.spelling) M.spelling (K.seen first) (K.seen second)
+            place) }
         ensures faults { IfErr result (λ refused. (refused.0 ≡ Device) ⊎ ((refused.0 ≡ Memory) ⊎ ((place : ℕ) × (refused.0 ≡ Foreign place)))) }
-        ensures untouched { IfErr result (λ refused. refused.0 ≢ Device → K.keeps → (K.calls refused.1 ≡ Synced (K.seen refused.1) ∷ K.calls first) × (K.calls refused.2 ≡ Synced (K.seen refused.2) ∷ K.calls second)) }
+        ensures untouched { IfErr result (λ refused.
+            refused.0 ≢ Device
+            → K.keeps
+            → (K.calls refused.1 ≡ Synced (K.seen refused.1) ∷ K.calls first) × (K.calls refused.2 ≡ Synced (K.seen refused.2) ∷ K.calls second)) }
     {
         let mut first = first;
         let mut second = second;
@@ -139,20 +162,31 @@ impl<M: Read + EncodeSize + Drop, K: Disk> Pair<M, K> {
     /// not be found by the next opening, and every append and rewrite answers `Failed` until then.
     pub fn append(&mut self, message: &M) -> Result<(), PairFault>
         requires { M.within BOUND message.now }
-        ensures record { OnOk result ((messages : List M) → K.keeps → IsPairRecord M.spelling K.seen K.calls self.old messages → IsPairRecord M.spelling K.seen K.calls self.new (messages ++ message.now ∷ [])) }
+        ensures record { OnOk result ((messages : List M)
+            → K.keeps
+            → IsPairRecord M.spelling K.seen K.calls self.old messages
+            → IsPairRecord M.spelling K.seen K.calls self.new (messages ++ message.now ∷ [])) }
 
         // A crash at any moment of the call leaves the record from before it, with the message or without.
-        ensures any_moment { (messages : List M) → K.keeps → IsPairRecord M.spelling K.seen K.calls self.old messages
-            → BothLeaveOnly (K.calls self.old.first) (K.calls self.new.first) (K.calls self.old.second) (K.calls self.new.second) (ReadsEither (map M.spelling messages) (map M.spelling messages ++ M.spelling message.now ∷ [])) }
+        ensures any_moment { (messages : List M)
+            → K.keeps
+            → IsPairRecord M.spelling K.seen K.calls self.old messages
+            → BothLeaveOnly (K.calls self.old.first) (K.calls self.new.first) (K.calls self.old.second) (K.calls self.new.second)
+            (ReadsEither (map M.spelling messages) (map M.spelling messages ++ M.spelling message.now ∷ [])) }
 
         ensures readable { self.old.failed ≡ false → M.fits message.now }
         ensures stays_open { OnOk result (self.new.failed ≡ false) }
         ensures faults { IfErr result (λ fault. (fault ≡ Device) ⊎ ((fault ≡ Memory) ⊎ ((fault ≡ TooLong) ⊎ (fault ≡ Failed)))) }
-        ensures device { IsErrOf result PairFault.Device → (self.new.failed ≡ true) × OneCounted false (K.failed self.old.first) (K.failed self.new.first) (K.failed self.old.second) (K.failed self.new.second) }
+        ensures device { IsErrOf result PairFault.Device
+            → (self.new.failed ≡ true) × OneCounted false (K.failed self.old.first) (K.failed self.new.first) (K.failed self.old.second)
+            (K.failed self.new.second) }
         ensures no_fault { OnOk result ((K.failed self.new.first ≡ K.failed self.old.first) × (K.failed self.new.second ≡ K.failed self.old.second)) }
         ensures memory { IsErrOf result PairFault.Memory → self.new ≡ self.old }
-        ensures too_long { IsErrOf result PairFault.TooLong → (self.new ≡ self.old) × IsTooLong (2 ^ 32 - 1) self.old.gate (length (M.spelling message.now)) }
-        ensures refused_if_long { self.old.failed ≡ false → IsTooLong (2 ^ 32 - 1) self.old.gate (length (M.spelling message.now)) → IsErrOf result PairFault.TooLong }
+        ensures too_long { IsErrOf result PairFault.TooLong
+            → (self.new ≡ self.old) × IsTooLong (2 ^ 32 - 1) self.old.gate (length (M.spelling message.now)) }
+        ensures refused_if_long { self.old.failed ≡ false
+            → IsTooLong (2 ^ 32 - 1) self.old.gate (length (M.spelling message.now))
+            → IsErrOf result PairFault.TooLong }
         ensures failed { IsErrOf result PairFault.Failed → (self.new ≡ self.old) × (self.old.failed ≡ true) }
         ensures refused_if_failed { self.old.failed ≡ true → IsErrOf result PairFault.Failed }
     {
@@ -196,11 +230,17 @@ impl<M: Read + EncodeSize + Drop, K: Disk> Pair<M, K> {
     /// answers `Failed` until then.
     pub fn rewrite(&mut self, list: &[M]) -> Result<(), PairFault>
         requires { All (M.within BOUND) list.now }
-        ensures record { OnOk result ((messages : List M) → K.keeps → IsPairRecord M.spelling K.seen K.calls self.old messages → IsPairRecord M.spelling K.seen K.calls self.new list.now) }
+        ensures record { OnOk result ((messages : List M)
+            → K.keeps
+            → IsPairRecord M.spelling K.seen K.calls self.old messages
+            → IsPairRecord M.spelling K.seen K.calls self.new list.now) }
 
         // A crash at any moment of the call leaves the record from before it or the list.
-        ensures any_moment { (messages : List M) → K.keeps → IsPairRecord M.spelling K.seen K.calls self.old messages
-            → BothLeaveOnly (K.calls self.old.first) (K.calls self.new.first) (K.calls self.old.second) (K.calls self.new.second) (ReadsEither (map M.spelling messages) (map M.spelling list.now)) }
+        ensures any_moment { (messages : List M)
+            → K.keeps
+            → IsPairRecord M.spelling K.seen K.calls self.old messages
+            → BothLeaveOnly (K.calls self.old.first) (K.calls self.new.first) (K.calls self.old.second) (K.calls self.new.second)
+            (ReadsEither (map M.spelling messages) (map M.spelling list.now)) }
 
         ensures next { OnOk result (self.new.generation ≡ self.old.generation + 1) }
         ensures readable { OnOk result (All M.fits list.now) }
@@ -208,12 +248,18 @@ impl<M: Read + EncodeSize + Drop, K: Disk> Pair<M, K> {
         ensures stays_open { OnOk result (self.new.failed ≡ false) }
         ensures short { OnOk result (IsShortList M.spelling list.now) }
         ensures short_of_others { IfErr result (λ fault. (fault ≡ Device) ⊎ (fault ≡ Memory) → IsShortList M.spelling list.now) }
-        ensures faults { IfErr result (λ fault. (fault ≡ Device) ⊎ ((fault ≡ Memory) ⊎ ((fault ≡ TooLong) ⊎ ((fault ≡ Failed) ⊎ (fault ≡ Exhausted))))) }
-        ensures device { IsErrOf result PairFault.Device → (self.new.failed ≡ true) × OneCounted false (K.failed self.old.first) (K.failed self.new.first) (K.failed self.old.second) (K.failed self.new.second) }
+        ensures faults { IfErr result
+            (λ fault. (fault ≡ Device) ⊎ ((fault ≡ Memory) ⊎ ((fault ≡ TooLong) ⊎ ((fault ≡ Failed) ⊎ (fault ≡ Exhausted))))) }
+        ensures device { IsErrOf result PairFault.Device
+            → (self.new.failed ≡ true) × OneCounted false (K.failed self.old.first) (K.failed self.new.first) (K.failed self.old.second)
+            (K.failed self.new.second) }
         ensures no_fault { OnOk result ((K.failed self.new.first ≡ K.failed self.old.first) × (K.failed self.new.second ≡ K.failed self.old.second)) }
         ensures unchanged { IfErr result (λ fault. fault ≢ Device → self.new ≡ self.old) }
         ensures too_long { IsErrOf result PairFault.TooLong → IsShortList M.spelling list.now → ⊥ }
-        ensures refused_if_long { self.old.failed ≡ false → self.old.generation < 2 ^ 32 - 1 → (IsShortList M.spelling list.now → ⊥) → IsErrOf result PairFault.TooLong }
+        ensures refused_if_long { self.old.failed ≡ false
+            → self.old.generation < 2 ^ 32 - 1
+            → (IsShortList M.spelling list.now → ⊥)
+            → IsErrOf result PairFault.TooLong }
         ensures exhausted { IsErrOf result PairFault.Exhausted → self.old.generation ≡ 2 ^ 32 - 1 }
         ensures refused_if_exhausted { self.old.failed ≡ false → self.old.generation ≡ 2 ^ 32 - 1 → IsErrOf result PairFault.Exhausted }
         ensures failed { IsErrOf result PairFault.Failed → self.old.failed ≡ true }

@@ -9,8 +9,8 @@ use Rattle.simplex_messages.specs.declared.vote.Vote.TheVariants as vote
 use Rattle.types_terms.specs.declared.kind.Kind.TheVariants as kind
 use Rattle.voter_history.specs.History as views
 use Rattle.voter_history.specs.History.{finalized, last_finalized, pruned, sent}
-use Rattle.simplex_resolver.specs.History as repair
-use Rattle.simplex_resolver.specs.History.{Item, item_of}
+use Rattle.simplex_resolver.specs.RepairHistory as repair
+use Rattle.simplex_resolver.specs.RepairHistory.{Item, item_of}
 use Rattle.simplex_member.specs.Layers.{finalized_of, finalizes_above, finds, latest, repair_found, repair_items, repair_of, takes_certificate, takes_outcome, voter_of, voter_points}
 use Rattle.simplex_member.specs.Packet.{Formats}
 use Rattle.simplex_member.specs.Point.{Outcome, Counts, Falls, Passes, Point, Found, Began, Came, Built, Checked, Judged, Constructs, Votes, History}

@@ -23,8 +23,8 @@ use Rattle.voter_laws.specs.Missing.{IsMissing}
 use Rattle.simplex_resolver.specs.declared.ask.Ask.{Ask}
 use Rattle.simplex_resolver.specs.declared.ask.Kind as repair
 use Rattle.simplex_resolver.specs.declared.ask.Kind.TheVariants as repair_kind
-use Rattle.simplex_resolver.specs.History as repair_history
-use Rattle.simplex_resolver.specs.History.{Item, certificate_view, has_failed, item_of}
+use Rattle.simplex_resolver.specs.RepairHistory as repair_history
+use Rattle.simplex_resolver.specs.RepairHistory.{Item, certificate_view, has_failed, item_of}
 use Rattle.simplex_member.specs.Allowed.{Allowed, AreAllowed, IsSought, MayRecord}
 use Rattle.simplex_member.specs.Layers.{known_of, notarization_bytes, repair_found, repair_items, repair_of}
 use Rattle.simplex_member.specs.Laws.{RecordLaws}

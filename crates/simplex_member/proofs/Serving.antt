@@ -16,8 +16,8 @@ use Rattle.messages_certificates.specs.Artifact.{certificate_artifact}
 use Rattle.messages_certificates.specs.ProposalCertificate.{Notarization}
 use Rattle.simplex_record.specs.Record.{Entry, entry, entries, taken, HasTaken}
 use Rattle.simplex_resolver.specs.Answers.{WhatIsProducedCame, brings, produced}
-use Rattle.simplex_resolver.specs.History as repair
-use Rattle.simplex_resolver.specs.History.{Item, item_of}
+use Rattle.simplex_resolver.specs.RepairHistory as repair
+use Rattle.simplex_resolver.specs.RepairHistory.{Item, item_of}
 use Rattle.simplex_member.specs.Allowed.{Allowed, AreAllowed, MayRecord}
 use Rattle.simplex_member.specs.Layers.{notarization_bytes, repair_found, repair_items, repair_of}
 use Rattle.simplex_member.specs.Packet.{Formats}

@@ -61,7 +61,7 @@ use Rattle.simplex_member.specs.Refusals.{refused_deeds, tests}
 use Rattle.batcher_admission.specs.Evidence.{as_report}
 use Rattle.simplex_resolver.specs.declared.ask.Ask.{Ask}
 use Rattle.simplex_resolver.specs.Answers.{produced}
-use Rattle.simplex_resolver.specs.History as repair
+use Rattle.simplex_resolver.specs.RepairHistory as repair
 use Rattle.simplex_member.specs.Deeds.{Deed, Sends, Serves, Blocks, Reports, all_deeds, deeds_of}
 use Rattle.simplex_member.specs.Layers.{current_of, finalized_of, floor_of, is_begun, known_of, repair_of, stage, voter_of, votes_of, votes_setup}
 use Rattle.simplex_member.specs.Lives.{Life, Lives, Members, AreMembers, IsWorldOfLives, AreFaithful, HandedOut, CameIn, IsHonestVote, WasHanded, points_of}

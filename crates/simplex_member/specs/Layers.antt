@@ -23,8 +23,8 @@ use Rattle.voter_rules.specs.Building.{proposal_on}
 use Rattle.batcher_verifier.specs.History as votes
 use Rattle.batcher_verifier.specs.History.{Taken, Cast, Certified, Led, Forwarded}
 use Rattle.batcher_verifier.specs.ConstructionResult.{after}
-use Rattle.simplex_resolver.specs.History as repair
-use Rattle.simplex_resolver.specs.History.{Item, Replayed, item_of}
+use Rattle.simplex_resolver.specs.RepairHistory as repair
+use Rattle.simplex_resolver.specs.RepairHistory.{Item, Replayed, item_of}
 use Rattle.simplex_member.specs.Packet.{Formats}
 use Rattle.simplex_member.specs.Point.{Outcome, Counts, Falls, Passes, Point, Opened, Found, Began, Told, Heard, Came, Built, Checked, Judged, Leads, Forwards, Constructs, Latches, Looks, AsksBuild, AsksVerify, AsksCertify, GivesBack, PutsOff, Resolves, Votes, Repeats, History}
 use Rattle.simplex_member.specs.Recorded.{notarization_in, record_of}

@@ -86,7 +86,10 @@ pub fn early_moments_are_in_time<S: Scheme<D>, D: Digest>()
 
 /// An image of a disk reads as one record alone: so what an opening finds is what was left.
 pub fn one_record_is_read<S: Scheme<D>, D: Digest>()
-    ensures { (f : Formats S D S.PublicKey S.Signature S.Certificate) (s : Setup S D S.Certificate) → f.artifact ≡ artifact_spelling D.spelling S.Signature.spelling S.Certificate.spelling → OneIsRead S.Scheme f s (Readable (artifact_fits D.fits S.Signature.fits S.Certificate.fits) (artifact_within (S.Certificate.within 65535))) }
+    ensures { (f : Formats S D S.PublicKey S.Signature S.Certificate) (s : Setup S D S.Certificate)
+        → f.artifact ≡ artifact_spelling D.spelling S.Signature.spelling S.Certificate.spelling
+        → OneIsRead S.Scheme f s
+        (Readable (artifact_fits D.fits S.Signature.fits S.Certificate.fits) (artifact_within (S.Certificate.within 65535))) }
 {
     a_disk_reads_as_one_record::<Artifact<S, D>>();
 }
@@ -104,7 +107,9 @@ pub fn votes_are_recorded<S: Scheme<D>, D: Digest>()
 /// deadlines don't matter, and only views whose votes had come up count.
 pub fn steps_raise_little<S: Listing<D>, D: Digest>()
     ensures all { (f : Formats S D S.PublicKey S.Signature S.Certificate) (s : Setup S D S.Certificate) → IsExact f → StepsRaiseLittle S.Scheme f s }
-    ensures of_several { (f : Formats S D S.PublicKey S.Signature S.Certificate) (s : Setup S D S.Certificate) → IsExact f → StepsOfSeveralRaiseLittle S.Scheme f s }
+    ensures of_several { (f : Formats S D S.PublicKey S.Signature S.Certificate) (s : Setup S D S.Certificate)
+        → IsExact f
+        → StepsOfSeveralRaiseLittle S.Scheme f s }
 {
     records_obey::<S, D>();
     rounds_obey::<S, D>();
@@ -134,7 +139,9 @@ pub fn voters_tell_the_record<S: Scheme<D>, D: Digest>()
 
 /// Each proposal that came to the voter is of the epoch, and of the view for which it came: so are those that it votes on.
 pub fn proposals_lie_in_their_views<S: Scheme<D>, D: Digest>()
-    ensures { (f : Formats S D S.PublicKey S.Signature S.Certificate) (s : Setup S D S.Certificate) → IsExact f → ProposalsLieInTheirViews S.Scheme f s }
+    ensures { (f : Formats S D S.PublicKey S.Signature S.Certificate) (s : Setup S D S.Certificate)
+        → IsExact f
+        → ProposalsLieInTheirViews S.Scheme f s }
 {
     rounds_obey::<S, D>();
 }
@@ -162,7 +169,9 @@ pub fn due_may_be_recorded<S: Scheme<D>, D: Digest>()
     ensures finalize { (f : Formats S D S.PublicKey S.Signature S.Certificate) (s : Setup S D S.Certificate) → DueFinalizeMayBeRecorded S.Scheme f s }
     ensures nullify { (f : Formats S D S.PublicKey S.Signature S.Certificate) (s : Setup S D S.Certificate) → DueNullifyMayBeRecorded S.Scheme f s }
     ensures verdict { (f : Formats S D S.PublicKey S.Signature S.Certificate) (s : Setup S D S.Certificate) → AwaitedMayBeRecorded S.Scheme f s }
-    ensures votes { (f : Formats S D S.PublicKey S.Signature S.Certificate) (s : Setup S D S.Certificate) → IsExact f → DueMayBeRecorded S.Scheme f s }
+    ensures votes { (f : Formats S D S.PublicKey S.Signature S.Certificate) (s : Setup S D S.Certificate)
+        → IsExact f
+        → DueMayBeRecorded S.Scheme f s }
 {
     rounds_obey::<S, D>();
     what_is_known_is_recorded::<S, D>();
@@ -360,7 +369,16 @@ pub fn none_is_blamed<S: Listing<D>, D: Digest>()
 /// 32 bits can tell, what can be read is read back from its own bytes, and each vote and certificate of a record that
 /// can be written, and is within the committee's bound, can be read as a packet.
 pub fn packets_are_read_back<S: Scheme<D>, D: Digest>()
-    ensures exact { (n : ℕ) → IsExact (formats {S = S} {P = S.PublicKey} D.PartialEq.eq D.spelling S.Signature.spelling S.Certificate.spelling D.reading S.Signature.reading S.Certificate.reading n) }
-    ensures read_back { (n : ℕ) → n < 2 ^ 32 → AreReadBack (formats {S = S} {P = S.PublicKey} D.PartialEq.eq D.spelling S.Signature.spelling S.Certificate.spelling D.reading S.Signature.reading S.Certificate.reading n) }
-    ensures readable { (n : ℕ) → n < 2 ^ 32 → CanBeSent (Readable (artifact_fits D.fits S.Signature.fits S.Certificate.fits) (artifact_within (S.Certificate.within n))) (formats {S = S} {P = S.PublicKey} D.PartialEq.eq D.spelling S.Signature.spelling S.Certificate.spelling D.reading S.Signature.reading S.Certificate.reading n) }
+    ensures exact { (n : ℕ)
+        → IsExact (formats {S = S} {P = S.PublicKey} D.PartialEq.eq D.spelling S.Signature.spelling S.Certificate.spelling D.reading
+        S.Signature.reading S.Certificate.reading n) }
+    ensures read_back { (n : ℕ)
+        → n < 2 ^ 32
+        → AreReadBack (formats {S = S} {P = S.PublicKey} D.PartialEq.eq D.spelling S.Signature.spelling S.Certificate.spelling D.reading
+        S.Signature.reading S.Certificate.reading n) }
+    ensures readable { (n : ℕ)
+        → n < 2 ^ 32
+        → CanBeSent (Readable (artifact_fits D.fits S.Signature.fits S.Certificate.fits) (artifact_within (S.Certificate.within n)))
+        (formats {S = S} {P = S.PublicKey} D.PartialEq.eq D.spelling S.Signature.spelling S.Certificate.spelling D.reading
+        S.Signature.reading S.Certificate.reading n) }
 {}

@@ -7,6 +7,7 @@ mod event;
 mod fault;
 mod laws;
 mod refusal;
+mod speaks;
 
 pub use action::{Action, Reply};
 pub use asked::Asked;
@@ -26,3 +27,4 @@ pub use laws::{
     votes_are_lawful, votes_are_recorded, what_is_made_may_be_recorded,
 };
 pub use refusal::Refusal;
+pub use speaks::Speaks;

@@ -276,7 +276,8 @@ impl<S: Scheme<D>, D: Digest> Read for Activity<S, D> {
 
     ghost reading = { λ n. activity_at D.PartialEq.eq (D.reading n) (S.Signature.reading n) (S.Certificate.reading n) };
 
-    ghost one_spelling = { λ n small. activity-IsCodec D.PartialEq.eq (bounded-IsCodec (D.one_spelling n small) (D.unbounded n)) (bounded-IsCodec (S.Signature.one_spelling n small) (S.Signature.unbounded n)) (S.Certificate.one_spelling n small) };
+    ghost one_spelling = { λ n small. activity-IsCodec D.PartialEq.eq (bounded-IsCodec (D.one_spelling n small) (D.unbounded n))
+        (bounded-IsCodec (S.Signature.one_spelling n small) (S.Signature.unbounded n)) (S.Certificate.one_spelling n small) };
 
     ghost grows = { λ n m x up h. activity_within-weaker (λ c. S.Certificate.grows n m c up) x h };
 
@@ -304,7 +305,9 @@ fn read_behind<S: Scheme<D>, D: Digest>(
     input: &mut &[u8],
     bound: u32,
 ) -> Result<Activity<S, D>, CodecError>
-    ensures some { IfSome tag (λ tag. Gives (activity_behind D.PartialEq.eq (D.reading bound) (S.Signature.reading bound) (S.Certificate.reading bound) tag) input.old.now input.new.now result) }
+    ensures some { IfSome tag (λ tag.
+        Gives (activity_behind D.PartialEq.eq (D.reading bound) (S.Signature.reading bound) (S.Certificate.reading bound) tag) input.old.now
+        input.new.now result) }
     ensures none { IfNone tag (result ≡ Err End) }
 {
     let Some(tag) = tag else {
@@ -329,7 +332,8 @@ fn read_further<S: Scheme<D>, D: Digest>(
     bound: u32,
 ) -> Result<Activity<S, D>, CodecError>
     requires { 5 ≤ tag }
-    ensures { Gives (activity_behind D.PartialEq.eq (D.reading bound) (S.Signature.reading bound) (S.Certificate.reading bound) tag) input.old.now input.new.now result }
+    ensures { Gives (activity_behind D.PartialEq.eq (D.reading bound) (S.Signature.reading bound) (S.Certificate.reading bound) tag)
+        input.old.now input.new.now result }
 {
     match tag {
         5 => return Ok(Activity::Finalize(Finalize::read_cfg(alloc, input, bound)?)),

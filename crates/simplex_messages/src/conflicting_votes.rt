@@ -163,7 +163,9 @@ impl<K: ProposalKind<D>, S: Scheme<D>, D: Digest> Read for ConflictingVotes<K, S
 
     ghost reading = { λ n. conflicting_at D.PartialEq.eq (D.reading n) (S.Signature.reading n) };
 
-    ghost one_spelling = { λ n small. unbounded-IsCodec (conflicting-IsCodec D.PartialEq.eq (bounded-IsCodec (D.one_spelling n small) (D.unbounded n)) (bounded-IsCodec (S.Signature.one_spelling n small) (S.Signature.unbounded n))) };
+    ghost one_spelling = { λ n small. unbounded-IsCodec (conflicting-IsCodec D.PartialEq.eq
+        (bounded-IsCodec (D.one_spelling n small) (D.unbounded n))
+        (bounded-IsCodec (S.Signature.one_spelling n small) (S.Signature.unbounded n))) };
 
     ghost grows = { λ n m x up h. h };
 

@@ -19,12 +19,17 @@ use types_core::{Digest, Scheme};
 /// Equality of votes, certificates and evidence is identity. By the laws of `Hash`, equal ones then hash
 /// alike.
 pub fn equal_messages_are_one<K: ProposalKind<D>, S: Scheme<D>, D: Digest>()
-    ensures votes { (x y : ProposalVote K S D S.PublicKey S.Signature S.Certificate) → IsTrue (⟦<ProposalVote<K, S, D> as PartialEq>⟧.eq x y) ↔ (x ≡ y) }
+    ensures votes { (x y : ProposalVote K S D S.PublicKey S.Signature S.Certificate)
+        → IsTrue (⟦<ProposalVote<K, S, D> as PartialEq>⟧.eq x y) ↔ (x ≡ y) }
     ensures nullifies { (x y : Nullify S D S.PublicKey S.Signature S.Certificate) → IsTrue (⟦<Nullify<S, D> as PartialEq>⟧.eq x y) ↔ (x ≡ y) }
-    ensures certificates { (x y : ProposalCertificate K S D S.PublicKey S.Signature S.Certificate) → IsTrue (⟦<ProposalCertificate<K, S, D> as PartialEq>⟧.eq x y) ↔ (x ≡ y) }
-    ensures nullifications { (x y : Nullification S D S.PublicKey S.Signature S.Certificate) → IsTrue (⟦<Nullification<S, D> as PartialEq>⟧.eq x y) ↔ (x ≡ y) }
-    ensures conflicts { (x y : ProposalVote K S D S.PublicKey S.Signature S.Certificate × ProposalVote K S D S.PublicKey S.Signature S.Certificate) → IsTrue (⟦<ConflictingVotes<K, S, D> as PartialEq>⟧.eq x y) ↔ (x ≡ y) }
-    ensures nullifies_beside { (x y : Nullify S D S.PublicKey S.Signature S.Certificate × Finalize S D S.PublicKey S.Signature S.Certificate) → IsTrue (⟦<NullifyFinalize<S, D> as PartialEq>⟧.eq x y) ↔ (x ≡ y) }
+    ensures certificates { (x y : ProposalCertificate K S D S.PublicKey S.Signature S.Certificate)
+        → IsTrue (⟦<ProposalCertificate<K, S, D> as PartialEq>⟧.eq x y) ↔ (x ≡ y) }
+    ensures nullifications { (x y : Nullification S D S.PublicKey S.Signature S.Certificate)
+        → IsTrue (⟦<Nullification<S, D> as PartialEq>⟧.eq x y) ↔ (x ≡ y) }
+    ensures conflicts { (x y : ProposalVote K S D S.PublicKey S.Signature S.Certificate × ProposalVote K S D S.PublicKey S.Signature S.Certificate)
+        → IsTrue (⟦<ConflictingVotes<K, S, D> as PartialEq>⟧.eq x y) ↔ (x ≡ y) }
+    ensures nullifies_beside { (x y : Nullify S D S.PublicKey S.Signature S.Certificate × Finalize S D S.PublicKey S.Signature S.Certificate)
+        → IsTrue (⟦<NullifyFinalize<S, D> as PartialEq>⟧.eq x y) ↔ (x ≡ y) }
 {}
 
 /// Equality of reports is identity. By the laws of `Hash`, equal ones then hash alike.

@@ -6,7 +6,7 @@ mod attributable_map;
 mod conflicting_votes;
 mod laws;
 mod nullify_finalize;
-mod verifying;
+mod verifying_batches;
 mod vote;
 
 pub use activity::Activity;
@@ -18,5 +18,5 @@ pub use messages_certificates::{
     Notarizing, Nullification, Nullify, ProposalCertificate, ProposalKind, ProposalVote,
 };
 pub use nullify_finalize::NullifyFinalize;
-pub use verifying::verify_certificates;
+pub use verifying_batches::verify_certificates;
 pub use vote::Vote;

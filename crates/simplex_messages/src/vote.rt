@@ -160,7 +160,8 @@ impl<S: Scheme<D>, D: Digest> Read for Vote<S, D> {
 
     ghost reading = { λ n. any_vote_at (D.reading n) (S.Signature.reading n) };
 
-    ghost one_spelling = { λ n small. unbounded-IsCodec (any_vote-IsCodec (bounded-IsCodec (D.one_spelling n small) (D.unbounded n)) (bounded-IsCodec (S.Signature.one_spelling n small) (S.Signature.unbounded n))) };
+    ghost one_spelling = { λ n small. unbounded-IsCodec (any_vote-IsCodec (bounded-IsCodec (D.one_spelling n small) (D.unbounded n))
+        (bounded-IsCodec (S.Signature.one_spelling n small) (S.Signature.unbounded n))) };
 
     ghost grows = { λ n m x up h. h };
 

@@ -3,15 +3,15 @@
 ghost use Rattle.std.specs.Prelude.{◌<◌, ◌^◌};
 ghost use Rattle.types_codec.specs.Codec.{Readable};
 ghost use Rattle.simplex_member.specs.Laws.{AreReadBack, IsExact, NoneIsBlamed};
-ghost use Rattle.simplex_member.specs.Packet.{Formats, formats};
+ghost use Rattle.simplex_member.specs.Packet.{Formats};
 ghost use Rattle.simplex_network.specs.Accountability.{ContradictionsNameEnough, JoinedAreAudited, NoneIsNamed, ReportedNameEnough};
 ghost use Rattle.simplex_network.specs.Agreement.{AllAreSound, FinalizedViewsLieOnOneChain, NoFinalizedViewIsNullified, NoFinalizedViewIsSkipped, NoViewHasTwoProposals};
 
 use simplex_member::{
-    accepted_votes_are_known, agreement_of_lives, deeds_are_done, deeds_are_of_their_points,
-    finalized_views_lie_on_one_chain, histories_of_lives_are_gone_to, made_certificates_are_sound,
-    none_is_blamed, own_votes_agree, packets_are_read_back, reported_certificates_certify,
-    reports_are_honest,
+    Speaks, accepted_votes_are_known, agreement_of_lives, deeds_are_done,
+    deeds_are_of_their_points, finalized_views_lie_on_one_chain, histories_of_lives_are_gone_to,
+    made_certificates_are_sound, none_is_blamed, own_votes_agree, packets_are_read_back,
+    reported_certificates_certify, reports_are_honest,
 };
 use simplex_messages::Activity;
 use simplex_rules::{a_contradicted_round_names_enough, joined_reports_are_read};
@@ -31,7 +31,9 @@ use types_core::{Digest, Listing, Read, Write};
 pub fn agreement<S: Listing<D>, D: Digest>()
     ensures sound { (f : Formats S D S.PublicKey S.Signature S.Certificate) → IsExact f → AllAreSound S.Scheme f }
     ensures one_proposal_a_view { (f : Formats S D S.PublicKey S.Signature S.Certificate) → IsExact f → NoViewHasTwoProposals S.Scheme f }
-    ensures no_finalized_view_nullified { (f : Formats S D S.PublicKey S.Signature S.Certificate) → IsExact f → NoFinalizedViewIsNullified S.Scheme f }
+    ensures no_finalized_view_nullified { (f : Formats S D S.PublicKey S.Signature S.Certificate)
+        → IsExact f
+        → NoFinalizedViewIsNullified S.Scheme f }
     ensures no_finalized_view_skipped { (f : Formats S D S.PublicKey S.Signature S.Certificate) → IsExact f → NoFinalizedViewIsSkipped S.Scheme f }
     ensures one_chain { (f : Formats S D S.PublicKey S.Signature S.Certificate) → IsExact f → FinalizedViewsLieOnOneChain S.Scheme f }
 {
@@ -52,8 +54,11 @@ pub fn agreement<S: Listing<D>, D: Digest>()
 pub fn accountability<S: Listing<D>, D: Digest>()
     ensures none_blocked { (f : Formats S D S.PublicKey S.Signature S.Certificate) → IsExact f → AreReadBack f → NoneIsBlamed S.Scheme f }
     ensures none_named { (f : Formats S D S.PublicKey S.Signature S.Certificate) → IsExact f → NoneIsNamed S.Scheme f D.cmp }
-    ensures read_to_the_end { (scheme : S) → S.size scheme < 2 ^ 32 → JoinedAreAudited S.Scheme (formats D.PartialEq.eq D.spelling S.Signature.spelling S.Certificate.spelling D.reading S.Signature.reading S.Certificate.reading (S.size scheme)) D.cmp scheme
-        (Readable ⟦<Activity<S, D> as Write>⟧.fits (⟦<Activity<S, D> as Read>⟧.within (S.size scheme))) ⟦<Activity<S, D> as Write>⟧.spelling (⟦<Activity<S, D> as Read>⟧.reading (S.size scheme)) }
+    ensures read_to_the_end { (scheme : S)
+        → S.size scheme < 2 ^ 32
+        → JoinedAreAudited S.Scheme (⟦<S as Speaks<D>>⟧.formats (S.size scheme)) D.cmp scheme
+        (Readable ⟦<Activity<S, D> as Write>⟧.fits (⟦<Activity<S, D> as Read>⟧.within (S.size scheme))) ⟦<Activity<S, D> as Write>⟧.spelling
+        (⟦<Activity<S, D> as Read>⟧.reading (S.size scheme)) }
     ensures enough_named { (f : Formats S D S.PublicKey S.Signature S.Certificate) → IsExact f → ContradictionsNameEnough S.Scheme f D.cmp }
     ensures reported_enough { (f : Formats S D S.PublicKey S.Signature S.Certificate) → IsExact f → ReportedNameEnough S.Scheme f D.cmp }
 {

@@ -14,8 +14,8 @@ use Rattle.simplex_member.specs.Point.{History}
 use Rattle.simplex_member.specs.Setup.{Setup}
 use Rattle.node_steps.specs.declared.node.Node.{Node}
 use Rattle.node_steps.specs.Keeps.{AtOwn, NodeKeeps, disk_of, has_failed}
-use Rattle.node_streams.specs.declared.listing.Answers.{Answers}
-use Rattle.node_streams.specs.Stepping.{Answer, AnswerBefore, EndsList}
+use Rattle.node_wire.specs.declared.listing.Answers.{Answers}
+use Rattle.node_wire.specs.Stepper.{Answer, AnswerBefore, EndsList}
 use Rattle.simplex_node.specs.Running.{IsPassed, LeavesAtMost, RunFails, RunsTo}
 use Rattle.simplex_node.specs.Stepping.{IsStep}
 use Rattle.simplex_node.proofs.Passing.{leaves_more}

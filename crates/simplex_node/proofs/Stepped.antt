@@ -14,7 +14,7 @@ use Rattle.simplex_member.specs.Point.{History}
 use Rattle.simplex_member.specs.Setup.{Setup}
 use Rattle.node_steps.specs.declared.node.Node.{Node}
 use Rattle.node_steps.specs.Keeps.{NodeKeeps, disk_of, has_failed}
-use Rattle.node_streams.specs.Stepping.{Answer, AnswerBefore, AnswersNone}
+use Rattle.node_wire.specs.Stepper.{Answer, AnswerBefore, AnswersNone}
 use Rattle.simplex_node.specs.Running.{IsPassed, LeavesAtMost, RunFails, RunsTo}
 use Rattle.simplex_node.specs.Stepping.{IsStep}
 use Rattle.simplex_node.proofs.Passing.{leaves_behind, leaves_on}

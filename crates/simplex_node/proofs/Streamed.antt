@@ -16,9 +16,9 @@ use Rattle.simplex_member.specs.Point.{History}
 use Rattle.simplex_member.specs.Setup.{Setup}
 use Rattle.node_steps.specs.declared.node.Node.{Node}
 use Rattle.node_steps.specs.Keeps.{NodeKeeps, disk_of, has_failed}
-use Rattle.node_streams.specs.Over.{ends_as, ends_by, ends_over}
-use Rattle.node_streams.specs.Stepping.{Answer, AnswerBefore}
-use Rattle.node_streams.specs.Streaming.{EndsIn}
+use Rattle.node_wire.specs.Over.{ends_as, ends_by, ends_over}
+use Rattle.node_wire.specs.Stepper.{Answer, AnswerBefore}
+use Rattle.node_wire.specs.Streaming.{EndsIn}
 use Rattle.simplex_node.specs.Running.{IsPassed, LeavesAtMost, LeavesPassed, RunFails, RunsTo}
 use Rattle.simplex_node.specs.Stepping.{IsStep}
 use Rattle.simplex_node.proofs.Stepped.{failed_stays, failed_stays_too, leaves, leaves_too, no_fault, one_fault, runs, runs_fail, same_faults}

@@ -17,8 +17,8 @@ use Rattle.simplex_member.specs.Point.{History}
 use Rattle.simplex_member.specs.Setup.{Setup}
 use Rattle.node_steps.specs.declared.node.Node.{Node}
 use Rattle.node_steps.specs.Keeps.{NodeKeeps, disk_of, has_failed}
-use Rattle.types_output.specs.Front.{AppendsFront}
-use Rattle.node_streams.specs.Streaming.{StandInFront}
+use Rattle.types_codec.specs.Front.{AppendsFront}
+use Rattle.node_wire.specs.Streaming.{StandInFront}
 
 -- a disk was asked for nothing since, or a crash at any moment since leaves what has P
 abbrev pub LeavesAtMost : List Call → List Call → (List ℕ → Type 0) → Type 0

@@ -1,11 +1,18 @@
-//! A node over a list of events, and over streams, with its opening.
+//! The node of one member, passed on from `node_steps`, with all that it takes and hands out; over a list of events, and over streams,
+//! with its opening; and what a network of such nodes agrees on.
 #![tactic(auto)]
 
-mod opening;
+mod opening_io;
 mod running;
 mod stepping;
 mod streaming;
 
-pub use opening::open_io;
+pub use node_steps::{Node, Owner, accountability, agreement, first_refused};
+pub use node_wire::{Answers, EventInput, read_event, write_event, write_out, write_reply};
+pub use opening_io::open_io;
 pub use running::run;
+pub use simplex_member::{Action, Channel, Event, IoFault, NodeFault, OpenFault, Refusal, Reply};
 pub use streaming::run_io;
+pub use voter_rules::config::{
+    Config, ConfigFault, ForwardPolicy, SkipBudget, SkipPolicy, check_config,
+};

@@ -3,16 +3,15 @@
 ghost use Rattle.std.specs.Prelude.{◌≡◌, ◌≢◌, [], false, true, Some, IfOk, IsSome, OnErr};
 ghost use Rattle.journal_single.specs.Disk.{counted};
 ghost use Rattle.simplex_member.specs.declared.fault.NodeFault.TheVariants.{Device, Failed};
-ghost use Rattle.simplex_member.specs.Packet.{formats};
 ghost use Rattle.node_steps.specs.Keeps.{AtOwn, disk_of, has_failed};
 ghost use Rattle.simplex_node.specs.Running.{IsPassed, LeavesAtMost, RunFails, RunsTo};
-ghost use Rattle.node_streams.specs.Stepping.{EndsList};
+ghost use Rattle.node_wire.specs.Stepper.{EndsList};
 
 use crate::stepping::NodeSteps;
 use journal_single::Disk;
 use node_steps::Node;
-use node_streams::{Answers, answer_list};
-use simplex_member::Event;
+use node_wire::{Answers, answer_list};
+use simplex_member::{Event, Speaks};
 use std::alloc::{AllocError, Global};
 use types_core::{Digest, Scheme};
 use types_terms::Elector;
@@ -28,9 +27,13 @@ pub fn run<S: Scheme<D> + Drop, L: Elector<S, D>, D: Digest, K: Disk>(
     node: &mut Node<S, L, D, K>,
     events: Vec<Event<D>>,
 ) -> Result<Answers<S, D>, AllocError>
-    ensures answers { IfOk result (λ r. AtOwn S.Scheme L.Elector K.Disk (formats D.PartialEq.eq D.spelling S.Signature.spelling S.Certificate.spelling D.reading S.Signature.reading S.Certificate.reading) node.old (λ f s h. EndsList (RunsTo S.Scheme L.Elector K.Disk f s h node.new) (RunFails S.Scheme L.Elector K.Disk f s h node.new) events.items r.replies.items r.fault)) }
+    ensures answers { IfOk result (λ r.
+        AtOwn S.Scheme L.Elector K.Disk ⟦<S as Speaks<D>>⟧.formats node.old (λ f s h.
+        EndsList (RunsTo S.Scheme L.Elector K.Disk f s h node.new) (RunFails S.Scheme L.Elector K.Disk f s h node.new) events.items
+        r.replies.items r.fault)) }
     ensures failed { IfOk result (λ r. IsSome r.fault → has_failed node.new ≡ true) }
-    ensures refused_if_failed { has_failed node.old ≡ true → (node.new ≡ node.old) × IfOk result (λ r. (r.replies.items ≡ []) × (events.items ≢ [] → r.fault ≡ Some Failed)) }
+    ensures refused_if_failed { has_failed node.old ≡ true
+        → (node.new ≡ node.old) × IfOk result (λ r. (r.replies.items ≡ []) × (events.items ≢ [] → r.fault ≡ Some Failed)) }
     ensures no_room { OnErr result (node.new ≡ node.old) }
 
     // The disk has failed once more exactly where that is told.
@@ -38,7 +41,8 @@ pub fn run<S: Scheme<D> + Drop, L: Elector<S, D>, D: Digest, K: Disk>(
     ensures no_device { IfOk result (λ r. r.fault ≢ Some Device → K.failed (disk_of node.new) ≡ K.failed (disk_of node.old)) }
 
     // A crash at any moment of the call leaves the record at a point of the step over one of the events.
-    ensures any_moment { AtOwn S.Scheme L.Elector K.Disk (formats D.PartialEq.eq D.spelling S.Signature.spelling S.Certificate.spelling D.reading S.Signature.reading S.Certificate.reading) node.old (λ f s h. K.keeps → LeavesAtMost (K.calls (disk_of node.old)) (K.calls (disk_of node.new)) (IsPassed S.Scheme f s h events.items)) }
+    ensures any_moment { AtOwn S.Scheme L.Elector K.Disk ⟦<S as Speaks<D>>⟧.formats node.old
+        (λ f s h. K.keeps → LeavesAtMost (K.calls (disk_of node.old)) (K.calls (disk_of node.new)) (IsPassed S.Scheme f s h events.items)) }
 {
     answer_list::<NodeSteps, S, D, Node<S, L, D, K>>(alloc, node, events)
 }

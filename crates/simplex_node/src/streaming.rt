@@ -5,16 +5,15 @@ ghost use Rattle.journal_single.specs.Disk.{counted};
 ghost use Rattle.simplex_member.specs.declared.fault.IoFault.TheVariants as fault;
 ghost use Rattle.simplex_member.specs.declared.fault.NodeFault.{NodeFault};
 ghost use Rattle.simplex_member.specs.declared.fault.NodeFault.TheVariants.{Device};
-ghost use Rattle.simplex_member.specs.Packet.{formats};
 ghost use Rattle.node_steps.specs.Keeps.{AtOwn, disk_of, has_failed};
 ghost use Rattle.simplex_node.specs.Running.{LeavesPassed, RunFails, RunsTo};
-ghost use Rattle.node_streams.specs.Streaming.{EndsIn, spelled};
+ghost use Rattle.node_wire.specs.Streaming.{EndsIn, spelled};
 
 use crate::stepping::NodeSteps;
 use journal_single::Disk;
 use node_steps::Node;
-use node_streams::answer_stream;
-use simplex_member::IoFault;
+use node_wire::answer_stream;
+use simplex_member::{IoFault, Speaks};
 use std::alloc::Global;
 use std::io::{Read, Write};
 use types_core::{Digest, Scheme};
@@ -35,7 +34,10 @@ pub fn run_io<S: Scheme<D> + Drop, L: Elector<S, D>, D: Digest, K: Disk, R: Read
     reader: &mut R,
     writer: &mut W,
 ) -> Result<(), IoFault>
-    ensures answers { AtOwn S.Scheme L.Elector K.Disk (formats D.PartialEq.eq D.spelling S.Signature.spelling S.Certificate.spelling D.reading S.Signature.reading S.Certificate.reading) node.old (λ f s h. EndsIn D.fits D.spelling (spelled S.PublicKey.spelling D.spelling S.Signature.spelling S.Certificate.spelling) (D.reading 65535) (RunsTo S.Scheme L.Elector K.Disk f s h node.new) (RunFails S.Scheme L.Elector K.Disk f s h node.new) result (R.remaining reader.old) (W.contents writer.old) (W.contents writer.new)) }
+    ensures answers { AtOwn S.Scheme L.Elector K.Disk ⟦<S as Speaks<D>>⟧.formats node.old (λ f s h.
+        EndsIn D.fits D.spelling (spelled S.PublicKey.spelling D.spelling S.Signature.spelling S.Certificate.spelling) (D.reading 65535)
+        (RunsTo S.Scheme L.Elector K.Disk f s h node.new) (RunFails S.Scheme L.Elector K.Disk f s h node.new) result
+        (R.remaining reader.old) (W.contents writer.old) (W.contents writer.new)) }
     ensures failed { (why : NodeFault) → result ≡ Err (fault.Node why) → has_failed node.new ≡ true }
     ensures refused_if_failed { has_failed node.old ≡ true → (node.new ≡ node.old) × (writer.new ≡ writer.old) }
 
@@ -44,7 +46,9 @@ pub fn run_io<S: Scheme<D> + Drop, L: Elector<S, D>, D: Digest, K: Disk, R: Read
     ensures no_device { result ≢ Err (fault.Node Device) → K.failed (disk_of node.new) ≡ K.failed (disk_of node.old) }
 
     // A crash at any moment of the call leaves the record at a point of the step over one of the events that were read.
-    ensures any_moment { AtOwn S.Scheme L.Elector K.Disk (formats D.PartialEq.eq D.spelling S.Signature.spelling S.Certificate.spelling D.reading S.Signature.reading S.Certificate.reading) node.old (λ f s h. K.keeps → LeavesPassed S.Scheme f s D.fits D.spelling h (R.remaining reader.old) (K.calls (disk_of node.old)) (K.calls (disk_of node.new))) }
+    ensures any_moment { AtOwn S.Scheme L.Elector K.Disk ⟦<S as Speaks<D>>⟧.formats node.old (λ f s h.
+        K.keeps
+        → LeavesPassed S.Scheme f s D.fits D.spelling h (R.remaining reader.old) (K.calls (disk_of node.old)) (K.calls (disk_of node.new))) }
 {
     answer_stream::<NodeSteps, S, D, Node<S, L, D, K>, R, W>(alloc, node, reader, writer)
 }

@@ -15,7 +15,9 @@ use types_core::{Digest, Proposal, Round, TermLength};
 impl<D: Digest> Standing<D> {
     /// Adds the member's vote to notarize the proposal.
     pub(crate) fn add_notarize(&mut self, proposal: &Proposal<D>) -> Result<(), AllocError>
-        ensures keeps { OnOk result ((views : ℕ) (before : List (Entry D)) → KeepsViews views self.old before → KeepsViews views self.new (before ++ voted (notarize proposal.now) ∷ [])) }
+        ensures keeps { OnOk result ((views : ℕ) (before : List (Entry D))
+            → KeepsViews views self.old before
+            → KeepsViews views self.new (before ++ voted (notarize proposal.now) ∷ [])) }
         ensures numbering { OnOk result (self.new.numbering ≡ self.old.numbering) }
     {
         self.votes.notarizes.insert(Reverse(proposal.round.view))?;
@@ -24,7 +26,9 @@ impl<D: Digest> Standing<D> {
 
     /// Adds its vote to nullify the round.
     pub(crate) fn add_nullify(&mut self, round: Round) -> Result<(), AllocError>
-        ensures keeps { OnOk result ((views : ℕ) (before : List (Entry D)) → KeepsViews views self.old before → KeepsViews views self.new (before ++ voted (nullify round) ∷ [])) }
+        ensures keeps { OnOk result ((views : ℕ) (before : List (Entry D))
+            → KeepsViews views self.old before
+            → KeepsViews views self.new (before ++ voted (nullify round) ∷ [])) }
         ensures numbering { OnOk result (self.new.numbering ≡ self.old.numbering) }
     {
         self.votes.nullifies.insert(Reverse(round.view))?;
@@ -33,7 +37,9 @@ impl<D: Digest> Standing<D> {
 
     /// Adds its vote to finalize the proposal.
     pub(crate) fn add_finalize(&mut self, proposal: &Proposal<D>) -> Result<(), AllocError>
-        ensures keeps { OnOk result ((views : ℕ) (before : List (Entry D)) → KeepsViews views self.old before → KeepsViews views self.new (before ++ voted (finalize proposal.now) ∷ [])) }
+        ensures keeps { OnOk result ((views : ℕ) (before : List (Entry D))
+            → KeepsViews views self.old before
+            → KeepsViews views self.new (before ++ voted (finalize proposal.now) ∷ [])) }
         ensures numbering { OnOk result (self.new.numbering ≡ self.old.numbering) }
     {
         self.votes.finalizes.insert(Reverse(proposal.round.view))?;
@@ -42,7 +48,10 @@ impl<D: Digest> Standing<D> {
 
     /// Adds a notarization of the proposal.
     pub(crate) fn add_notarization(&mut self, proposal: &Proposal<D>) -> Result<(), AllocError>
-        ensures keeps { OnOk result ((views : ℕ) (before : List (Entry D)) → KeepsViews views self.old before → MayTake views before (notarize proposal.now) → KeepsViews views self.new (before ++ taken (notarize proposal.now) ∷ [])) }
+        ensures keeps { OnOk result ((views : ℕ) (before : List (Entry D))
+            → KeepsViews views self.old before
+            → MayTake views before (notarize proposal.now)
+            → KeepsViews views self.new (before ++ taken (notarize proposal.now) ∷ [])) }
         ensures numbering { OnOk result (self.new.numbering ≡ self.old.numbering) }
     {
         self.certificates
@@ -58,7 +67,10 @@ impl<D: Digest> Standing<D> {
         round: Round,
     ) -> Result<(), AllocError>
         requires { HasRoom length round.view }
-        ensures keeps { OnOk result ((before : List (Entry D)) → KeepsViews length self.old before → MayTake length before (nullify round) → KeepsViews length self.new (before ++ taken (nullify round) ∷ [])) }
+        ensures keeps { OnOk result ((before : List (Entry D))
+            → KeepsViews length self.old before
+            → MayTake length before (nullify round)
+            → KeepsViews length self.new (before ++ taken (nullify round) ∷ [])) }
         ensures numbering { OnOk result (self.new.numbering ≡ self.old.numbering) }
     {
         let end = round.view.term_end(length);
@@ -73,7 +85,10 @@ impl<D: Digest> Standing<D> {
     /// Adds a finalization of the proposal, of which the view isn't the last number of 64 bits.
     pub(crate) fn add_finalization(&mut self, proposal: &Proposal<D>) -> Result<(), AllocError>
         requires { proposal.now.round.view + 1 < 2 ^ 64 }
-        ensures keeps { OnOk result ((views : ℕ) (before : List (Entry D)) → KeepsViews views self.old before → MayTake views before (finalize proposal.now) → KeepsViews views self.new (before ++ taken (finalize proposal.now) ∷ [])) }
+        ensures keeps { OnOk result ((views : ℕ) (before : List (Entry D))
+            → KeepsViews views self.old before
+            → MayTake views before (finalize proposal.now)
+            → KeepsViews views self.new (before ++ taken (finalize proposal.now) ∷ [])) }
         ensures numbering { OnOk result (self.new.numbering ≡ self.old.numbering) }
     {
         let view = proposal.round.view;
@@ -86,7 +101,10 @@ impl<D: Digest> Standing<D> {
     /// Adds a verdict on the round, of which the view isn't the last number of 64 bits.
     pub(crate) fn add_verdict(&mut self, round: Round, verdict: bool) -> Result<(), AllocError>
         requires { round.view + 1 < 2 ^ 64 }
-        ensures keeps { OnOk result ((views : ℕ) (before : List (Entry D)) → KeepsViews views self.old before → MayJudge before round → KeepsViews views self.new (before ++ judged round verdict ∷ [])) }
+        ensures keeps { OnOk result ((views : ℕ) (before : List (Entry D))
+            → KeepsViews views self.old before
+            → MayJudge before round
+            → KeepsViews views self.new (before ++ judged round verdict ∷ [])) }
         ensures numbering { OnOk result (self.new.numbering ≡ self.old.numbering) }
     {
         self.verdicts.insert(Reverse(round.view), verdict)?;

@@ -151,7 +151,10 @@ impl<D: Digest> Standing<D> {
     ) -> Result<bool, AllocError>
         ensures taken { IfOk result (λ taken. IsTrue taken ↔ LeavesRoom length (entry artifact.now)) }
         ensures not_taken { IfOk result (λ taken. taken ≡ false → self.new ≡ self.old) }
-        ensures keeps { OnOk result ((before : List (Entry D)) → Keeps length self.old before → MayFollow length before (entry artifact.now) → Keeps length self.new (before ++ entry artifact.now ∷ [])) }
+        ensures keeps { OnOk result ((before : List (Entry D))
+            → Keeps length self.old before
+            → MayFollow length before (entry artifact.now)
+            → Keeps length self.new (before ++ entry artifact.now ∷ [])) }
     {
         if !leaves_room(length, artifact) {
             return Ok(false);
@@ -168,7 +171,10 @@ impl<D: Digest> Standing<D> {
         artifact: &Artifact<S, D>,
     ) -> Result<(), AllocError>
         requires { LeavesRoom length (entry artifact.now) }
-        ensures keeps { OnOk result ((before : List (Entry D)) → KeepsViews length self.old before → MayFollow length before (entry artifact.now) → KeepsViews length self.new (before ++ entry artifact.now ∷ [])) }
+        ensures keeps { OnOk result ((before : List (Entry D))
+            → KeepsViews length self.old before
+            → MayFollow length before (entry artifact.now)
+            → KeepsViews length self.new (before ++ entry artifact.now ∷ [])) }
         ensures numbering { OnOk result (self.new.numbering ≡ self.old.numbering) }
     {
         match artifact {

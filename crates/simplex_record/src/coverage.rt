@@ -128,7 +128,8 @@ impl Coverage {
 /// Takes out the spans that begin after `start` and up to `end`.
 fn remove_between(last_by_first: &mut BTreeMap<View, View>, start: View, end: View)
     requires { start ≤ end }
-    ensures { (span : ℕ × ℕ) → Contains last_by_first.new.entries span ↔ (Contains last_by_first.old.entries span × ((span.0 ≤ start) ⊎ (end < span.0))) }
+    ensures { (span : ℕ × ℕ)
+        → Contains last_by_first.new.entries span ↔ (Contains last_by_first.old.entries span × ((span.0 ≤ start) ⊎ (end < span.0))) }
 {
     while let Some((&first, _)) = last_by_first
         .range((Bound::Excluded(start), Bound::Included(end)))

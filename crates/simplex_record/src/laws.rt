@@ -25,9 +25,15 @@ use types_core::{Digest, Listing, Scheme};
 /// no notarized proposal skips a finalized view. Whatever verifies under a scheme of this kind lists such
 /// attestations.
 pub fn agreement<S: Listing<D>, D: Digest>()
-    ensures one_proposal_a_view { (scheme : S) (schemes : ℕ → S) (world : World S D S.PublicKey S.Signature S.Certificate) → IsWorld (S.attests scheme) (λ i. S.size (schemes i)) (λ i. S.attests (schemes i)) (λ i. S.certifies (schemes i)) S.lists world → OneProposalAView (S.attests scheme) S.lists world }
-    ensures no_finalized_view_nullified { (scheme : S) (schemes : ℕ → S) (world : World S D S.PublicKey S.Signature S.Certificate) → IsWorld (S.attests scheme) (λ i. S.size (schemes i)) (λ i. S.attests (schemes i)) (λ i. S.certifies (schemes i)) S.lists world → NoFinalizedViewNullified (S.attests scheme) S.lists world }
-    ensures no_finalized_view_skipped { (scheme : S) (schemes : ℕ → S) (world : World S D S.PublicKey S.Signature S.Certificate) → IsWorld (S.attests scheme) (λ i. S.size (schemes i)) (λ i. S.attests (schemes i)) (λ i. S.certifies (schemes i)) S.lists world → NoFinalizedViewSkipped (S.attests scheme) S.lists world }
+    ensures one_proposal_a_view { (scheme : S) (schemes : ℕ → S) (world : World S D S.PublicKey S.Signature S.Certificate)
+        → IsWorld (S.attests scheme) (λ i. S.size (schemes i)) (λ i. S.attests (schemes i)) (λ i. S.certifies (schemes i)) S.lists world
+        → OneProposalAView (S.attests scheme) S.lists world }
+    ensures no_finalized_view_nullified { (scheme : S) (schemes : ℕ → S) (world : World S D S.PublicKey S.Signature S.Certificate)
+        → IsWorld (S.attests scheme) (λ i. S.size (schemes i)) (λ i. S.attests (schemes i)) (λ i. S.certifies (schemes i)) S.lists world
+        → NoFinalizedViewNullified (S.attests scheme) S.lists world }
+    ensures no_finalized_view_skipped { (scheme : S) (schemes : ℕ → S) (world : World S D S.PublicKey S.Signature S.Certificate)
+        → IsWorld (S.attests scheme) (λ i. S.size (schemes i)) (λ i. S.attests (schemes i)) (λ i. S.certifies (schemes i)) S.lists world
+        → NoFinalizedViewSkipped (S.attests scheme) S.lists world }
 {}
 
 /// The law of the chain. Let also each correct member's record stand on ground, by one schedule of leaders:
@@ -37,37 +43,57 @@ pub fn agreement<S: Listing<D>, D: Digest>()
 /// that it judged true.) Then from each finalized proposal the parents lead down to each that is finalized
 /// of a view no higher, through proposals that are notarized.
 pub fn chain<S: Listing<D>, D: Digest>()
-    ensures { (scheme : S) (schemes : ℕ → S) (world : World S D S.PublicKey S.Signature S.Certificate) (leader : ℕ → Option ℕ) → IsWorld (S.attests scheme) (λ i. S.size (schemes i)) (λ i. S.attests (schemes i)) (λ i. S.certifies (schemes i)) S.lists world → AllStandOnGround leader world → OneChain (S.attests scheme) S.lists world }
+    ensures { (scheme : S) (schemes : ℕ → S) (world : World S D S.PublicKey S.Signature S.Certificate) (leader : ℕ → Option ℕ)
+        → IsWorld (S.attests scheme) (λ i. S.size (schemes i)) (λ i. S.attests (schemes i)) (λ i. S.certifies (schemes i)) S.lists world
+        → AllStandOnGround leader world
+        → OneChain (S.attests scheme) S.lists world }
 {}
 
 /// An empty record stands on ground, and so does one that did with an entry more that may follow on ground.
 pub fn records_stand_on_ground<D: Digest>()
     ensures first { (size views : ℕ) (leader : ℕ → Option ℕ) (member : ℕ) → StandsOnGround {D = D} size views leader member [] }
-    ensures further { (size views : ℕ) (leader : ℕ → Option ℕ) (member : ℕ) (before : List (Entry D)) (e : Entry D) → StandsOnGround size views leader member before → MayFollowOnGround size views leader member before e → StandsOnGround size views leader member (before ++ e ∷ []) }
+    ensures further { (size views : ℕ) (leader : ℕ → Option ℕ) (member : ℕ) (before : List (Entry D)) (e : Entry D)
+        → StandsOnGround size views leader member before
+        → MayFollowOnGround size views leader member before e
+        → StandsOnGround size views leader member (before ++ e ∷ []) }
 {}
 
 /// An empty record is lawful, and so is a lawful one with one more artifact that fits behind it.
 pub fn a_lawful_record_grows<S: Scheme<D>, D: Digest>()
     ensures first { (scheme : S) (owner : Owner) → IsLawful {S = S} {P = S.PublicKey} (S.attests scheme) (S.certifies scheme) owner [] }
-    ensures further { (scheme : S) (owner : Owner) (before : List (Artifact S D S.PublicKey S.Signature S.Certificate)) (x : Artifact S D S.PublicKey S.Signature S.Certificate) → IsLawful (S.attests scheme) (S.certifies scheme) owner before → Fits (S.attests scheme) (S.certifies scheme) owner before x → IsLawful (S.attests scheme) (S.certifies scheme) owner (before ++ x ∷ []) }
+    ensures further { (scheme : S) (owner : Owner) (before : List (Artifact S D S.PublicKey S.Signature S.Certificate))
+        (x : Artifact S D S.PublicKey S.Signature S.Certificate)
+        → IsLawful (S.attests scheme) (S.certifies scheme) owner before
+        → Fits (S.attests scheme) (S.certifies scheme) owner before x
+        → IsLawful (S.attests scheme) (S.certifies scheme) owner (before ++ x ∷ []) }
 {}
 
 /// No vote that a record has stands in the way of an own vote that may follow it.
 pub fn no_own_vote_stands_in_the_way<D: Digest>()
-    ensures { (views : ℕ) (before : List (Entry D)) (s t : Statement D) → MayFollow views before (voted s) → HasVoted before t → ¬ StandsInTheWay s t }
+    ensures { (views : ℕ) (before : List (Entry D)) (s t : Statement D)
+        → MayFollow views before (voted s)
+        → HasVoted before t
+        → ¬ StandsInTheWay s t }
 {}
 
 /// A member votes lawfully, of whom all that it ever recorded is lawful.
 pub fn ever_lawful_members_vote_lawfully<S: Scheme<D>, D: Digest>()
-    ensures { (scheme : S) (owner : Owner) (artifacts : List (Artifact S D S.PublicKey S.Signature S.Certificate)) → IsEverLawful (S.attests scheme) (S.certifies scheme) owner artifacts → VotesLawfully (S.attests scheme) (S.certifies scheme) owner artifacts }
+    ensures { (scheme : S) (owner : Owner) (artifacts : List (Artifact S D S.PublicKey S.Signature S.Certificate))
+        → IsEverLawful (S.attests scheme) (S.certifies scheme) owner artifacts
+        → VotesLawfully (S.attests scheme) (S.certifies scheme) owner artifacts }
 {}
 
 /// Where all that was ever recorded is lawful, a notarization of a verdict's round stands before it.
 pub fn verdicts_follow_their_notarizations<S: Scheme<D>, D: Digest>()
-    ensures { (scheme : S) (owner : Owner) (before after : List (Artifact S D S.PublicKey S.Signature S.Certificate)) (round : Round) (verdict : Bool) → IsEverLawful (S.attests scheme) (S.certifies scheme) owner (before ++ artifact.Certification round verdict ∷ after) → (p : Proposal D) × (p.round ≡ round) × HasTaken (entries before) (notarize p) }
+    ensures { (scheme : S) (owner : Owner) (before after : List (Artifact S D S.PublicKey S.Signature S.Certificate)) (round : Round)
+        (verdict : Bool)
+        → IsEverLawful (S.attests scheme) (S.certifies scheme) owner (before ++ artifact.Certification round verdict ∷ after)
+        → (p : Proposal D) × (p.round ≡ round) × HasTaken (entries before) (notarize p) }
 {}
 
 /// A lawful record of which nothing was ever dropped is lawful as the list of all that was ever recorded.
 pub fn whole_records_are_ever_lawful<S: Scheme<D>, D: Digest>()
-    ensures { (scheme : S) (owner : Owner) (artifacts : List (Artifact S D S.PublicKey S.Signature S.Certificate)) → IsLawful (S.attests scheme) (S.certifies scheme) owner artifacts → IsEverLawful (S.attests scheme) (S.certifies scheme) owner artifacts }
+    ensures { (scheme : S) (owner : Owner) (artifacts : List (Artifact S D S.PublicKey S.Signature S.Certificate))
+        → IsLawful (S.attests scheme) (S.certifies scheme) owner artifacts
+        → IsEverLawful (S.attests scheme) (S.certifies scheme) owner artifacts }
 {}

@@ -53,7 +53,10 @@ impl<D: Digest> Standing<D> {
 
     /// The verdict on the view, where one is recorded.
     pub fn verdict(&self, view: View) -> Option<bool>
-        ensures { (views : ℕ) (before : List (Entry D)) → Keeps views self.now before → (verdict : Bool) → (result ≡ Some verdict) ↔ HasVerdict before view verdict }
+        ensures { (views : ℕ) (before : List (Entry D))
+            → Keeps views self.now before
+            → (verdict : Bool)
+            → (result ≡ Some verdict) ↔ HasVerdict before view verdict }
     {
         self.verdicts.get(&Reverse(view)).copied()
     }

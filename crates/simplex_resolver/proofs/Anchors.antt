@@ -4,7 +4,7 @@ use Rattle.std.proofs.Common.{◌≡◌, inl, inr, ◌≤◌, ◌<◌, ◌+◌, 
 use Rattle.std.proofs.lemmas.Bool.{cases_lt}
 use Rattle.types_core.specs.Positions.{term_end, next_term_start}
 use Rattle.simplex_resolver.specs.declared.effect.Effect.{Effect}
-use Rattle.simplex_resolver.specs.History.{Item, covered, current, has_failed}
+use Rattle.simplex_resolver.specs.RepairHistory.{Item, covered, current, has_failed}
 use Rattle.simplex_resolver.specs.Outstanding.{AreAnchors, AreMissing, Scans, fetch, fetches, fetch_failed, is_missing, when}
 use Rattle.simplex_resolver.proofs.Covers.{covered-on}
 use Rattle.simplex_resolver.proofs.TermStarts.{next_term_start-gt}

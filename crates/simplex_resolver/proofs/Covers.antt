@@ -11,7 +11,7 @@ use Rattle.std.proofs.lemmas.Bool.Decides.{nat_tests}
 use Rattle.std.proofs.lemmas.Map.Keys.{ge_from_not_lt, le_from_not_gt}
 use Rattle.types_core.specs.Positions.{term_start, term_end}
 use Rattle.simplex_resolver.specs.declared.held.Held.{Held}
-use Rattle.simplex_resolver.specs.History.{Item, Nullified, Notarized, Finalized, Judged, Replayed, covered, covers, finalized, floor, nullification}
+use Rattle.simplex_resolver.specs.RepairHistory.{Item, Nullified, Notarized, Finalized, Judged, Replayed, covered, covers, finalized, floor, nullification}
 use Rattle.simplex_resolver.specs.Answers.{highest_nullification, covering}
 use Rattle.simplex_resolver.specs.Keeps.{Holds, kept_nullification}
 use Rattle.simplex_resolver.proofs.Choices.{bool_cases, or_cases, or_right, option_cases, option_or-some, option_or-later, option_or-none, option_or-cases, if_same, if_other, nat_lt-yes, nat_le-yes, nat_le-no, not_gt_from_le}

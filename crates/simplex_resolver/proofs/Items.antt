@@ -5,7 +5,7 @@ use Rattle.messages_certificates.specs.declared.certificate.Certificate.TheVaria
 use Rattle.messages_certificates.specs.declared.nullification.Nullification.{Nullification}
 use Rattle.messages_certificates.specs.ProposalCertificate.{Notarization, Finalization}
 use Rattle.messages_certificates.specs.Certificate.{certificate_round}
-use Rattle.simplex_resolver.specs.History.{Nullified, Notarized, Finalized, item_of}
+use Rattle.simplex_resolver.specs.RepairHistory.{Nullified, Notarized, Finalized, item_of}
 
 module _ {S D P G C : Type 0} (spelling : Certificate S D P G C → List ℕ) (x : Certificate S D P G C) (v : ℕ) (view : v ≡ (certificate_round x).view) where
   pub notarized_item : (n : Notarization S D P G C) → x ≡ certificate.Notarization n → Notarized v ≡ item_of spelling x

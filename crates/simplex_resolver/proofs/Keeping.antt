@@ -11,7 +11,7 @@ use Rattle.types_core.specs.Positions.{term_start, term_end}
 use Rattle.simplex_record.specs.Coverage.{IsCovered, LiesIn}
 use Rattle.simplex_resolver.specs.declared.held.Held.{Held}
 use Rattle.simplex_resolver.specs.declared.scanner.Scanner.{Scanner}
-use Rattle.simplex_resolver.specs.History.{Item, Nullified, Finalized, Replayed, covered, covers, current, floor, finalized, finalization, nullification, certified, has_failed, is_known}
+use Rattle.simplex_resolver.specs.RepairHistory.{Item, Nullified, Finalized, Replayed, covered, covers, current, floor, finalized, finalization, nullification, certified, has_failed, is_known}
 use Rattle.simplex_resolver.specs.Answers.{servable}
 use Rattle.simplex_resolver.specs.Keeps.{Holds, Stands, kept_nullification}
 use Rattle.simplex_resolver.proofs.Choices.{bool_cases, or_cases, or_right, is_some-map, is_some-none, option_or-none, if_same, if_other, apart, nat_lt-yes, nat_lt-no, nat_le-yes, nat_le-no, max_zero}

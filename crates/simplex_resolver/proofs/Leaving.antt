@@ -7,7 +7,7 @@ use Rattle.types_core.specs.Positions.{term_start, term_end, next_term_start, Is
 use Rattle.simplex_resolver.specs.declared.effect.Effect.{Effect}
 use Rattle.simplex_resolver.specs.declared.effect.Effect.TheVariants as effect
 use Rattle.simplex_resolver.specs.declared.ask.Kind.TheVariants as kind
-use Rattle.simplex_resolver.specs.History.{Item, Nullified, Notarized, Finalized, Judged, Replayed, finalized, floor, current, live, covered, covers, has_failed}
+use Rattle.simplex_resolver.specs.RepairHistory.{Item, Nullified, Notarized, Finalized, Judged, Replayed, finalized, floor, current, live, covered, covers, has_failed}
 use Rattle.simplex_resolver.specs.Outstanding.{IsOutstanding, AreAnchors, AreMissing, Scans, ScansBehind, Gives, Apply, ApplyAll, EffectsLeaveTheOutstanding, fetch, fetches, fetch_failed, is_missing, scanned, scan_start, settled_notarization, settled_nullifications, start_behind, term_start_from, when}
 use Rattle.simplex_resolver.proofs.Anchors.{passed-one}
 use Rattle.simplex_resolver.proofs.Choices.{bool_cases, or_cases, or_right, max_zero, nat_lt-yes, nat_lt-no, nat_le-yes, nat_le-no}

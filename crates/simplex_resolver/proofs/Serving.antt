@@ -3,7 +3,7 @@ use Rattle.std.specs.Prelude.{nat_lt, nat_le}
 use Rattle.std.specs.Option.{option_or}
 use Rattle.std.proofs.Common.{◌≡◌, ◌⊎◌, inl, inr, ⊎_elim, ◌==◌, ℕ, zero, suc, Bool, true, false, List, [], ◌∷◌, Option, Some, None, refl, arith, if◌then◌else◌}
 use Rattle.types_core.specs.Positions.{term_start}
-use Rattle.simplex_resolver.specs.History.{Item, Nullified, Notarized, Finalized, Judged, Replayed, finalized, finalization, floor, nullification, certified}
+use Rattle.simplex_resolver.specs.RepairHistory.{Item, Nullified, Notarized, Finalized, Judged, Replayed, finalized, finalization, floor, nullification, certified}
 use Rattle.simplex_resolver.specs.Answers.{Came, WhatIsProducedCame, brings, covering, highest_nullification, produced, servable}
 
 -- of two the first that is there, and one behind a test

@@ -4,7 +4,7 @@ use Rattle.std.specs.Option.{option_or}
 use Rattle.types_core.specs.Positions.{term_start}
 use Rattle.simplex_resolver.specs.declared.ask.Kind.{Kind}
 use Rattle.simplex_resolver.specs.declared.ask.Kind.TheVariants as kind
-use Rattle.simplex_resolver.specs.History.{Item, Nullified, Notarized, Finalized, Judged, Replayed, finalized, floor, nullification, certified, finalization, covered, has_failed, is_known}
+use Rattle.simplex_resolver.specs.RepairHistory.{Item, Nullified, Notarized, Finalized, Judged, Replayed, finalized, floor, nullification, certified, finalization, covered, has_failed, is_known}
 
 -- nothing is left to be asked of the kind at the view
 abbrev pub is_settled : ℕ → List Item → ℕ → Kind → Bool

@@ -10,7 +10,7 @@ use Rattle.simplex_resolver.specs.declared.held.Held.{Held}
 use Rattle.simplex_resolver.specs.declared.scanner.Scanner.{Scanner}
 use Rattle.simplex_resolver.specs.declared.gaps.Gaps.{Gaps}
 use Rattle.simplex_resolver.specs.declared.state.State.{State}
-use Rattle.simplex_resolver.specs.History.{Item, finalized, floor, current, live, nullification, finalization, covered, has_failed, is_known}
+use Rattle.simplex_resolver.specs.RepairHistory.{Item, finalized, floor, current, live, nullification, finalization, covered, has_failed, is_known}
 use Rattle.simplex_resolver.specs.Outstanding.{IsOutstanding}
 use Rattle.simplex_resolver.specs.Answers.{servable}
 

@@ -1,5 +1,5 @@
 pub mod Answers
 pub mod Asking
-pub mod History
+pub mod RepairHistory
 pub mod Keeps
 pub mod Outstanding

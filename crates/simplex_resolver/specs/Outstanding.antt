@@ -5,7 +5,7 @@ use Rattle.simplex_resolver.specs.declared.effect.Effect.{Effect}
 use Rattle.simplex_resolver.specs.declared.effect.Effect.TheVariants as effect
 use Rattle.simplex_resolver.specs.declared.ask.Kind.TheVariants as kind
 use Rattle.simplex_resolver.specs.declared.effect.FetchReason.TheVariants as reason
-use Rattle.simplex_resolver.specs.History.{Item, Nullified, Notarized, Finalized, Judged, Replayed, finalized, floor, current, live, covered, has_failed}
+use Rattle.simplex_resolver.specs.RepairHistory.{Item, Nullified, Notarized, Finalized, Judged, Replayed, finalized, floor, current, live, covered, has_failed}
 
 -- The views that a member has to repair: not covered, above the floor, and either below the highest certificate's view
 -- and the first above the floor or a term's start, or with a false verdict. None before the replay has ended.

@@ -6,7 +6,7 @@ ghost use Rattle.std.specs.Ordering.{nat_cmp};
 ghost use Rattle.std.specs.BTreeMap.{get};
 ghost use Rattle.std.specs.BTreeSet.{contains};
 ghost use Rattle.types_core.specs.Positions.{HasRoom, term_start, term_end};
-ghost use Rattle.simplex_resolver.specs.History.{Nullified, Notarized, Finalized, Judged, finalized, finalization, covered, has_failed, is_known};
+ghost use Rattle.simplex_resolver.specs.RepairHistory.{Nullified, Notarized, Finalized, Judged, finalized, finalization, covered, has_failed, is_known};
 ghost use Rattle.simplex_resolver.specs.Answers.{covering, servable};
 ghost use Rattle.simplex_resolver.specs.Keeps.{Holds, AtEachHeld};
 
@@ -183,8 +183,10 @@ impl Held {
         ensures from { IfSome result (λ missing. first ≤ missing) }
         ensures below { IfSome result (λ missing. missing < end) }
         ensures bare { IfSome result (λ missing. AtEachHeld self.now (λ views h. finalized h < first → covered views h missing ≡ false)) }
-        ensures least { IfSome result (λ missing. AtEachHeld self.now (λ views h. (v : ℕ) → finalized h < first → first ≤ v → v < missing → covered views h v ≡ true)) }
-        ensures none { IfNone result (AtEachHeld self.now (λ views h. (v : ℕ) → finalized h < first → first ≤ v → v < end → covered views h v ≡ true)) }
+        ensures least { IfSome result
+            (λ missing. AtEachHeld self.now (λ views h. (v : ℕ) → finalized h < first → first ≤ v → v < missing → covered views h v ≡ true)) }
+        ensures none { IfNone result
+            (AtEachHeld self.now (λ views h. (v : ℕ) → finalized h < first → first ≤ v → v < end → covered views h v ≡ true)) }
     {
         let before = View::new(first.get() - 1);
         self.covered.first_uncovered(before, end)
@@ -195,7 +197,8 @@ impl Held {
         requires { first < end }
         ensures from { first ≤ result }
         ensures below { result < end }
-        ensures bare { AtEachHeld self.now (λ views h. (v : ℕ) → finalized h < first → covered views h first ≡ false → first ≤ v → v ≤ result → covered views h v ≡ false) }
+        ensures bare { AtEachHeld self.now
+            (λ views h. (v : ℕ) → finalized h < first → covered views h first ≡ false → first ≤ v → v ≤ result → covered views h v ≡ false) }
         ensures most { AtEachHeld self.now (λ views h. finalized h < first → result + 1 < end → covered views h (result + 1) ≡ true) }
     {
         let between = (Bound::Excluded(first), Bound::Excluded(end));
@@ -209,7 +212,8 @@ impl Held {
     pub(crate) fn next_failed(&self, above: View) -> Option<View>
         ensures above { IfSome result (λ failed. above < failed) }
         ensures failed { IfSome result (λ failed. AtEachHeld self.now (λ views h. has_failed h failed ≡ true)) }
-        ensures least { IfSome result (λ failed. AtEachHeld self.now (λ views h. (v : ℕ) → finalized h ≤ above → above < v → v < failed → has_failed h v ≡ false)) }
+        ensures least { IfSome result
+            (λ failed. AtEachHeld self.now (λ views h. (v : ℕ) → finalized h ≤ above → above < v → v < failed → has_failed h v ≡ false)) }
         ensures none { IfNone result (AtEachHeld self.now (λ views h. (v : ℕ) → finalized h ≤ above → above < v → has_failed h v ≡ false)) }
     {
         match self
@@ -248,7 +252,8 @@ impl Held {
 
     /// The highest finalization, where it is of this view or a later one.
     pub(crate) fn finalization_from(&self, view: View) -> Option<&[u8]>
-        ensures { AtEachHeld self.now (λ views h. option_map (λ bytes. bytes.now) result ≡ (if nat_le view (finalized h) then finalization h else None)) }
+        ensures { AtEachHeld self.now
+            (λ views h. option_map (λ bytes. bytes.now) result ≡ (if nat_le view (finalized h) then finalization h else None)) }
     {
         if view > self.last_finalized {
             return None;

@@ -30,7 +30,7 @@ impl Scanner {
     ghost use Rattle.std.specs.Prelude.{◌≡◌, ◌+◌, ◌++◌, ◌∷◌, [], ℕ, List, not, nat_lt, ◌&&◌, OnOk, IfOk, true, false, map};
     ghost use Rattle.messages_certificates.specs.Certificate.{any_certificate_spelling, certificate_round, as_notarization};
     ghost use Rattle.simplex_resolver.specs.declared.effect.Effect.{Effect};
-    ghost use Rattle.simplex_resolver.specs.History.{Item, Nullified, Notarized, Finalized, Judged, Replayed, item_of, covered, floor, live};
+    ghost use Rattle.simplex_resolver.specs.RepairHistory.{Item, Nullified, Notarized, Finalized, Judged, Replayed, item_of, covered, floor, live};
     ghost use Rattle.simplex_resolver.specs.Outstanding.{Gives, Scans, ScansBehind, AreMissing, fetch_failed, scanned};
     ghost use Rattle.simplex_resolver.specs.Keeps.{Stands, AtEachScan, scan_length};
 
@@ -56,8 +56,11 @@ impl Scanner {
         certificate: &Certificate<S, D>,
     ) -> Result<Vec<Effect>, AllocError>
         requires { HasRoom (scan_length self.old) (certificate_round certificate.now).view }
-        ensures keeps { OnOk result (AtEachScan self.old (λ views h. Stands views self.new (item_of (any_certificate_spelling D.spelling S.Certificate.spelling) certificate.now ∷ h))) }
-        ensures gives { IfOk result (λ given. AtEachScan self.old (λ views h. Gives views h (item_of (any_certificate_spelling D.spelling S.Certificate.spelling) certificate.now) given.items)) }
+        ensures keeps { OnOk result (AtEachScan self.old
+            (λ views h. Stands views self.new (item_of (any_certificate_spelling D.spelling S.Certificate.spelling) certificate.now ∷ h))) }
+        ensures gives { IfOk result (λ given.
+            AtEachScan self.old
+            (λ views h. Gives views h (item_of (any_certificate_spelling D.spelling S.Certificate.spelling) certificate.now) given.items)) }
         ensures length { scan_length self.new ≡ scan_length self.old }
     {
         let view = certificate.view();
@@ -77,8 +80,13 @@ impl Scanner {
         success: bool,
     ) -> Result<Vec<Effect>, AllocError>
         requires { HasRoom (scan_length self.old) notarization.proposal.round.view }
-        ensures keeps { OnOk result (AtEachScan self.old (λ views h. Stands views self.new (Judged notarization.proposal.round.view (any_certificate_spelling D.spelling S.Certificate.spelling (as_notarization notarization)) success ∷ h))) }
-        ensures gives { IfOk result (λ given. AtEachScan self.old (λ views h. Gives views h (Judged notarization.proposal.round.view (any_certificate_spelling D.spelling S.Certificate.spelling (as_notarization notarization)) success) given.items)) }
+        ensures keeps { OnOk result (AtEachScan self.old (λ views h.
+            Stands views self.new (Judged notarization.proposal.round.view
+            (any_certificate_spelling D.spelling S.Certificate.spelling (as_notarization notarization)) success ∷ h))) }
+        ensures gives { IfOk result (λ given.
+            AtEachScan self.old (λ views h.
+            Gives views h (Judged notarization.proposal.round.view
+            (any_certificate_spelling D.spelling S.Certificate.spelling (as_notarization notarization)) success) given.items)) }
         ensures length { scan_length self.new ≡ scan_length self.old }
     {
         let view = notarization.view();
@@ -114,7 +122,8 @@ impl Scanner {
     ) -> Result<Vec<Effect>, AllocError>
         requires { HasRoom (scan_length self.old) view }
         ensures keeps { OnOk result (AtEachScan self.old (λ views h. Stands views self.new (Nullified view (W.spelling nullification.now) ∷ h))) }
-        ensures gives { IfOk result (λ given. AtEachScan self.old (λ views h. Gives views h (Nullified view (W.spelling nullification.now)) given.items)) }
+        ensures gives { IfOk result
+            (λ given. AtEachScan self.old (λ views h. Gives views h (Nullified view (W.spelling nullification.now)) given.items)) }
         ensures length { scan_length self.new ≡ scan_length self.old }
     {
         let mut effects = Vec::new(alloc);
@@ -158,7 +167,8 @@ impl Scanner {
     ) -> Result<Vec<Effect>, AllocError>
         requires { HasRoom (scan_length self.old) view }
         ensures keeps { OnOk result (AtEachScan self.old (λ views h. Stands views self.new (Finalized view (W.spelling finalization.now) ∷ h))) }
-        ensures gives { IfOk result (λ given. AtEachScan self.old (λ views h. Gives views h (Finalized view (W.spelling finalization.now)) given.items)) }
+        ensures gives { IfOk result
+            (λ given. AtEachScan self.old (λ views h. Gives views h (Finalized view (W.spelling finalization.now)) given.items)) }
         ensures length { scan_length self.new ≡ scan_length self.old }
     {
         let mut effects = Vec::new(alloc);
@@ -183,7 +193,8 @@ impl Scanner {
     ) -> Result<Vec<Effect>, AllocError>
         requires { HasRoom (scan_length self.old) view }
         ensures keeps { OnOk result (AtEachScan self.old (λ views h. Stands views self.new (Judged view (W.spelling notarization.now) true ∷ h))) }
-        ensures gives { IfOk result (λ given. AtEachScan self.old (λ views h. Gives views h (Judged view (W.spelling notarization.now) true) given.items)) }
+        ensures gives { IfOk result
+            (λ given. AtEachScan self.old (λ views h. Gives views h (Judged view (W.spelling notarization.now) true) given.items)) }
         ensures length { scan_length self.new ≡ scan_length self.old }
     {
         let mut effects = Vec::new(alloc);
@@ -201,7 +212,8 @@ impl Scanner {
     #[tactic(auto, using(crate::proofs::TermStarts::room_kept, crate::proofs::TermStarts::room_of_max))]
     fn failed(&mut self, alloc: Global, view: View) -> Result<Vec<Effect>, AllocError>
         ensures keeps { OnOk result ((bytes : List ℕ) → AtEachScan self.old (λ views h. Stands views self.new (Judged view bytes false ∷ h))) }
-        ensures gives { IfOk result (λ given. (bytes : List ℕ) → AtEachScan self.old (λ views h. Gives views h (Judged view bytes false) given.items)) }
+        ensures gives { IfOk result
+            (λ given. (bytes : List ℕ) → AtEachScan self.old (λ views h. Gives views h (Judged view bytes false) given.items)) }
         ensures length { scan_length self.new ≡ scan_length self.old }
     {
         let mut effects = Vec::new(alloc);
@@ -246,7 +258,11 @@ impl Scanner {
         raised: bool,
     ) -> Result<(), AllocError>
         requires { HasRoom (scan_length self.now) went }
-        ensures { OnOk result ((views : ℕ) (h : List Item) (x : Item) → Stands views self.now (x ∷ h) → went ≡ scanned h → raised ≡ nat_lt (floor h) (floor (x ∷ h)) → (asked : List Effect) × ScansBehind views h x cause asked × (effects.new.items ≡ effects.old.items ++ asked)) }
+        ensures { OnOk result ((views : ℕ) (h : List Item) (x : Item)
+            → Stands views self.now (x ∷ h)
+            → went ≡ scanned h
+            → raised ≡ nat_lt (floor h) (floor (x ∷ h))
+            → (asked : List Effect) × ScansBehind views h x cause asked × (effects.new.items ≡ effects.old.items ++ asked)) }
     {
         if self.live {
             let start = scan_start(went, self.floor, raised, self.held.length);
@@ -264,7 +280,8 @@ impl Scanner {
         start: View,
     ) -> Result<(), AllocError>
         requires { self.now.floor < start }
-        ensures { OnOk result (AtEachScan self.now (λ views h. (asked : List Effect) × Scans views h cause start asked × (effects.new.items ≡ effects.old.items ++ asked))) }
+        ensures { OnOk result (AtEachScan self.now
+            (λ views h. (asked : List Effect) × Scans views h cause start asked × (effects.new.items ≡ effects.old.items ++ asked))) }
     {
         let mut anchor = start;
         'gaps: while let Some(first) = self.held.first_missing(anchor, self.current) {
@@ -282,7 +299,8 @@ impl Scanner {
 
     /// Asks for each view with a false verdict that is above the floor and that no nullification covers.
     fn ask_for_failed(&self, effects: &mut Vec<Effect>) -> Result<(), AllocError>
-        ensures { OnOk result (AtEachScan self.now (λ views h. (missing : List ℕ) × AreMissing views h (floor h) missing × (effects.new.items ≡ effects.old.items ++ map fetch_failed missing))) }
+        ensures { OnOk result (AtEachScan self.now (λ views h.
+            (missing : List ℕ) × AreMissing views h (floor h) missing × (effects.new.items ≡ effects.old.items ++ map fetch_failed missing))) }
     {
         let mut last = self.floor;
         while let Some(view) = self.held.next_failed(last) {

@@ -28,7 +28,7 @@ impl State {
     ghost use Rattle.std.specs.List.Sorted.{IsStrictlySortedBy};
     ghost use Rattle.std.specs.Option.{option_map};
     ghost use Rattle.messages_certificates.specs.Certificate.{any_certificate_spelling, certificate_round, as_notarization};
-    ghost use Rattle.simplex_resolver.specs.History.{Judged, Replayed, item_of};
+    ghost use Rattle.simplex_resolver.specs.RepairHistory.{Judged, Replayed, item_of};
     ghost use Rattle.simplex_resolver.specs.Outstanding.{Gives, IsOutstanding};
     ghost use Rattle.simplex_resolver.specs.Answers.{is_settled, is_key_settled, is_uncertifiable, produced};
     ghost use Rattle.simplex_resolver.specs.Keeps.{Keeps, AtEach, length_of};
@@ -63,8 +63,13 @@ impl State {
         alloc: Global,
         certificate: &Certificate<S, D>,
     ) -> Result<Vec<Effect>, AllocError>
-        ensures keeps { HasRoom (length_of self.old) (certificate_round certificate.now).view → OnOk result (AtEach self.old (λ views h. Keeps views self.new (item_of (any_certificate_spelling D.spelling S.Certificate.spelling) certificate.now ∷ h))) }
-        ensures gives { HasRoom (length_of self.old) (certificate_round certificate.now).view → IfOk result (λ given. AtEach self.old (λ views h. Gives views h (item_of (any_certificate_spelling D.spelling S.Certificate.spelling) certificate.now) given.items)) }
+        ensures keeps { HasRoom (length_of self.old) (certificate_round certificate.now).view
+            → OnOk result (AtEach self.old
+            (λ views h. Keeps views self.new (item_of (any_certificate_spelling D.spelling S.Certificate.spelling) certificate.now ∷ h))) }
+        ensures gives { HasRoom (length_of self.old) (certificate_round certificate.now).view
+            → IfOk result (λ given.
+            AtEach self.old
+            (λ views h. Gives views h (item_of (any_certificate_spelling D.spelling S.Certificate.spelling) certificate.now) given.items)) }
         ensures no_room { ¬ HasRoom (length_of self.old) (certificate_round certificate.now).view → self.new ≡ self.old }
         ensures nothing { ¬ HasRoom (length_of self.old) (certificate_round certificate.now).view → IfOk result (λ given. given.items ≡ []) }
         ensures err { OnErr result (HasRoom (length_of self.old) (certificate_round certificate.now).view) }
@@ -91,8 +96,15 @@ impl State {
         notarization: Notarization<S, D>,
         success: bool,
     ) -> Result<Vec<Effect>, AllocError>
-        ensures keeps { HasRoom (length_of self.old) notarization.proposal.round.view → OnOk result (AtEach self.old (λ views h. Keeps views self.new (Judged notarization.proposal.round.view (any_certificate_spelling D.spelling S.Certificate.spelling (as_notarization notarization)) success ∷ h))) }
-        ensures gives { HasRoom (length_of self.old) notarization.proposal.round.view → IfOk result (λ given. AtEach self.old (λ views h. Gives views h (Judged notarization.proposal.round.view (any_certificate_spelling D.spelling S.Certificate.spelling (as_notarization notarization)) success) given.items)) }
+        ensures keeps { HasRoom (length_of self.old) notarization.proposal.round.view
+            → OnOk result (AtEach self.old (λ views h.
+            Keeps views self.new (Judged notarization.proposal.round.view
+            (any_certificate_spelling D.spelling S.Certificate.spelling (as_notarization notarization)) success ∷ h))) }
+        ensures gives { HasRoom (length_of self.old) notarization.proposal.round.view
+            → IfOk result (λ given.
+            AtEach self.old (λ views h.
+            Gives views h (Judged notarization.proposal.round.view
+            (any_certificate_spelling D.spelling S.Certificate.spelling (as_notarization notarization)) success) given.items)) }
         ensures no_room { ¬ HasRoom (length_of self.old) notarization.proposal.round.view → self.new ≡ self.old }
         ensures nothing { ¬ HasRoom (length_of self.old) notarization.proposal.round.view → IfOk result (λ given. given.items ≡ []) }
         ensures err { OnErr result (HasRoom (length_of self.old) notarization.proposal.round.view) }

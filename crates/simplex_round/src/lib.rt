@@ -9,3 +9,4 @@ mod slot;
 pub use leader::Leader;
 pub use round::Round;
 pub use slot::{Change, Slot, Status};
+pub use voter_history::{HandoffAbandonedReason, TimeoutReason, Token};

@@ -32,11 +32,19 @@ pub fn audit<S: Listing<D>, D: Digest>(
     scheme: &S,
     bytes: &[u8],
 ) -> Result<Audit<S, D>, AllocError>
-    ensures exact { IfOk result (λ a. IsAudit S.lists (S.attests scheme.now) D.cmp (Readable ⟦<Activity<S, D> as Write>⟧.fits (⟦<Activity<S, D> as Read>⟧.within (S.size scheme.now))) ⟦<Activity<S, D> as Write>⟧.spelling (⟦<Activity<S, D> as Read>⟧.reading (S.size scheme.now)) bytes.now a.evidence.items a.fault) }
+    ensures exact { IfOk result (λ a.
+        IsAudit S.lists (S.attests scheme.now) D.cmp
+        (Readable ⟦<Activity<S, D> as Write>⟧.fits (⟦<Activity<S, D> as Read>⟧.within (S.size scheme.now)))
+        ⟦<Activity<S, D> as Write>⟧.spelling (⟦<Activity<S, D> as Read>⟧.reading (S.size scheme.now)) bytes.now a.evidence.items a.fault) }
 
     // Where certificates among the reports contradict each other, at least one member more is named than
     // may be faulty.
-    ensures accountable { IfOk result (λ a. (reports : List (Activity S D S.PublicKey S.Signature S.Certificate)) → IsVerdict S.lists (S.attests scheme.now) D.cmp reports a.evidence.items → (round : Round) → IsContradicted (S.certifies scheme.now) reports round → NamesAtLeast (faults (S.size scheme.now) + 1) (S.size scheme.now) a.evidence.items round) }
+    ensures accountable { IfOk result (λ a.
+        (reports : List (Activity S D S.PublicKey S.Signature S.Certificate))
+        → IsVerdict S.lists (S.attests scheme.now) D.cmp reports a.evidence.items
+        → (round : Round)
+        → IsContradicted (S.certifies scheme.now) reports round
+        → NamesAtLeast (faults (S.size scheme.now) + 1) (S.size scheme.now) a.evidence.items round) }
 {
     let participants = scheme.participants();
     let (contested, fault) = contested(alloc, scheme, participants, bytes)?;
@@ -54,7 +62,10 @@ fn contested<S: Listing<D>, D: Digest>(
     bytes: &[u8],
 ) -> Result<(Suspects, Option<usize>), AllocError>
     requires bound { participants ≡ S.size scheme.now }
-    ensures { IfOk result (λ found. Counts (HasGuilty S.lists (S.attests scheme.now)) (Readable ⟦<Activity<S, D> as Write>⟧.fits (⟦<Activity<S, D> as Read>⟧.within (S.size scheme.now))) ⟦<Activity<S, D> as Write>⟧.spelling (⟦<Activity<S, D> as Read>⟧.reading (S.size scheme.now)) bytes.now found.1 found.0) }
+    ensures { IfOk result (λ found.
+        Counts (HasGuilty S.lists (S.attests scheme.now))
+        (Readable ⟦<Activity<S, D> as Write>⟧.fits (⟦<Activity<S, D> as Read>⟧.within (S.size scheme.now)))
+        ⟦<Activity<S, D> as Write>⟧.spelling (⟦<Activity<S, D> as Read>⟧.reading (S.size scheme.now)) bytes.now found.1 found.0) }
 {
     let mut survey: Survey<D> = Survey::new::<S>(alloc);
     let fault = survey_reports(alloc, scheme, participants, bytes, &mut survey)?;
@@ -71,7 +82,12 @@ fn evidence_among<S: Listing<D>, D: Digest>(
     bytes: &[u8],
 ) -> Result<Vec<Activity<S, D>>, AllocError>
     requires bound { participants ≡ S.size scheme.now }
-    ensures { IfOk result (λ evidence. (reports : List (Activity S D S.PublicKey S.Signature S.Certificate)) (fault : Option ℕ) → IsRead (Readable ⟦<Activity<S, D> as Write>⟧.fits (⟦<Activity<S, D> as Read>⟧.within (S.size scheme.now))) ⟦<Activity<S, D> as Write>⟧.spelling (⟦<Activity<S, D> as Read>⟧.reading (S.size scheme.now)) bytes.now reports fault → HasGuilty S.lists (S.attests scheme.now) reports contested.now → IsVerdict S.lists (S.attests scheme.now) D.cmp reports evidence.items) }
+    ensures { IfOk result (λ evidence.
+        (reports : List (Activity S D S.PublicKey S.Signature S.Certificate)) (fault : Option ℕ)
+        → IsRead (Readable ⟦<Activity<S, D> as Write>⟧.fits (⟦<Activity<S, D> as Read>⟧.within (S.size scheme.now)))
+        ⟦<Activity<S, D> as Write>⟧.spelling (⟦<Activity<S, D> as Read>⟧.reading (S.size scheme.now)) bytes.now reports fault
+        → HasGuilty S.lists (S.attests scheme.now) reports contested.now
+        → IsVerdict S.lists (S.attests scheme.now) D.cmp reports evidence.items) }
 {
     if contested.as_slice().is_empty() {
         return Ok(Vec::new(alloc));
@@ -91,7 +107,10 @@ fn survey_reports<S: Listing<D>, D: Digest>(
 ) -> Result<Option<usize>, AllocError>
     requires bound { participants ≡ S.size scheme.now }
     requires empty { AreSurveyed {S = S} {P = S.PublicKey} S.lists [] survey.old }
-    ensures { IfOk result (λ fault. Counts (AreSurveyed {S = S} {P = S.PublicKey} S.lists) (Readable ⟦<Activity<S, D> as Write>⟧.fits (⟦<Activity<S, D> as Read>⟧.within (S.size scheme.now))) ⟦<Activity<S, D> as Write>⟧.spelling (⟦<Activity<S, D> as Read>⟧.reading (S.size scheme.now)) bytes.now fault survey.new) }
+    ensures { IfOk result (λ fault.
+        Counts (AreSurveyed {S = S} {P = S.PublicKey} S.lists)
+        (Readable ⟦<Activity<S, D> as Write>⟧.fits (⟦<Activity<S, D> as Read>⟧.within (S.size scheme.now)))
+        ⟦<Activity<S, D> as Write>⟧.spelling (⟦<Activity<S, D> as Read>⟧.reading (S.size scheme.now)) bytes.now fault survey.new) }
 {
     let mut rest = bytes;
     while !rest.is_empty() {
@@ -112,9 +131,11 @@ fn survey_next<S: Listing<D>, D: Digest>(
     survey: &mut Survey<D>,
 ) -> Result<bool, AllocError>
     requires bound { participants ≡ S.size scheme.now }
-    ensures { IfOk result (λ counted. MatchBool counted
-        (CountsOne (AreSurveyed {S = S} {P = S.PublicKey} S.lists) (Readable ⟦<Activity<S, D> as Write>⟧.fits (⟦<Activity<S, D> as Read>⟧.within (S.size scheme.now))) ⟦<Activity<S, D> as Write>⟧.spelling rest.old.now rest.new.now survey.old survey.new)
-        (IsErr (⟦<Activity<S, D> as Read>⟧.reading (S.size scheme.now) rest.old.now) × (rest.new.now ≡ rest.old.now) × (survey.new ≡ survey.old))) }
+    ensures { IfOk result (λ counted.
+        MatchBool counted (CountsOne (AreSurveyed {S = S} {P = S.PublicKey} S.lists)
+        (Readable ⟦<Activity<S, D> as Write>⟧.fits (⟦<Activity<S, D> as Read>⟧.within (S.size scheme.now)))
+        ⟦<Activity<S, D> as Write>⟧.spelling rest.old.now rest.new.now survey.old survey.new) (IsErr
+        (⟦<Activity<S, D> as Read>⟧.reading (S.size scheme.now) rest.old.now) × (rest.new.now ≡ rest.old.now) × (survey.new ≡ survey.old))) }
 {
     match behind_notarize(rest) {
         Some(behind) => {
@@ -148,9 +169,11 @@ fn survey_report<S: Listing<D>, D: Digest>(
     survey: &mut Survey<D>,
 ) -> Result<bool, AllocError>
     requires bound { participants ≡ S.size scheme.now }
-    ensures { IfOk result (λ counted. MatchBool counted
-        (CountsOne (AreSurveyed {S = S} {P = S.PublicKey} S.lists) (Readable ⟦<Activity<S, D> as Write>⟧.fits (⟦<Activity<S, D> as Read>⟧.within (S.size scheme.now))) ⟦<Activity<S, D> as Write>⟧.spelling rest.old.now rest.new.now survey.old survey.new)
-        (IsErr (⟦<Activity<S, D> as Read>⟧.reading (S.size scheme.now) rest.old.now) × (rest.new.now ≡ rest.old.now) × (survey.new ≡ survey.old))) }
+    ensures { IfOk result (λ counted.
+        MatchBool counted (CountsOne (AreSurveyed {S = S} {P = S.PublicKey} S.lists)
+        (Readable ⟦<Activity<S, D> as Write>⟧.fits (⟦<Activity<S, D> as Read>⟧.within (S.size scheme.now)))
+        ⟦<Activity<S, D> as Write>⟧.spelling rest.old.now rest.new.now survey.old survey.new) (IsErr
+        (⟦<Activity<S, D> as Read>⟧.reading (S.size scheme.now) rest.old.now) × (rest.new.now ≡ rest.old.now) × (survey.new ≡ survey.old))) }
 {
     let read: Result<Activity<S, D>, CodecError> = next_message(alloc, rest, participants);
     let noted = survey_read(&read, survey);
@@ -186,7 +209,10 @@ fn count_reports<S: Listing<D>, D: Digest>(
 ) -> Result<Option<usize>, AllocError>
     requires bound { participants ≡ S.size scheme.now }
     requires empty { HoldsReports S.lists (S.attests scheme.now) D.cmp contested.now [] tally.old }
-    ensures { IfOk result (λ fault. Counts (HoldsReports S.lists (S.attests scheme.now) D.cmp contested.now) (Readable ⟦<Activity<S, D> as Write>⟧.fits (⟦<Activity<S, D> as Read>⟧.within (S.size scheme.now))) ⟦<Activity<S, D> as Write>⟧.spelling (⟦<Activity<S, D> as Read>⟧.reading (S.size scheme.now)) bytes.now fault tally.new) }
+    ensures { IfOk result (λ fault.
+        Counts (HoldsReports S.lists (S.attests scheme.now) D.cmp contested.now)
+        (Readable ⟦<Activity<S, D> as Write>⟧.fits (⟦<Activity<S, D> as Read>⟧.within (S.size scheme.now)))
+        ⟦<Activity<S, D> as Write>⟧.spelling (⟦<Activity<S, D> as Read>⟧.reading (S.size scheme.now)) bytes.now fault tally.new) }
 {
     let mut rest = bytes;
     while !rest.is_empty() {
@@ -207,9 +233,11 @@ fn count_next<S: Listing<D>, D: Digest>(
     tally: &mut Tally<S, D>,
 ) -> Result<bool, AllocError>
     requires bound { participants ≡ S.size scheme.now }
-    ensures { IfOk result (λ counted. MatchBool counted
-        (CountsOne (HoldsReports S.lists (S.attests scheme.now) D.cmp contested.now) (Readable ⟦<Activity<S, D> as Write>⟧.fits (⟦<Activity<S, D> as Read>⟧.within (S.size scheme.now))) ⟦<Activity<S, D> as Write>⟧.spelling rest.old.now rest.new.now tally.old tally.new)
-        (IsErr (⟦<Activity<S, D> as Read>⟧.reading (S.size scheme.now) rest.old.now) × (rest.new.now ≡ rest.old.now) × (tally.new ≡ tally.old))) }
+    ensures { IfOk result (λ counted.
+        MatchBool counted (CountsOne (HoldsReports S.lists (S.attests scheme.now) D.cmp contested.now)
+        (Readable ⟦<Activity<S, D> as Write>⟧.fits (⟦<Activity<S, D> as Read>⟧.within (S.size scheme.now)))
+        ⟦<Activity<S, D> as Write>⟧.spelling rest.old.now rest.new.now tally.old tally.new) (IsErr
+        (⟦<Activity<S, D> as Read>⟧.reading (S.size scheme.now) rest.old.now) × (rest.new.now ≡ rest.old.now) × (tally.new ≡ tally.old))) }
 {
     match behind_notarize(rest) {
         Some(behind) => {
@@ -244,9 +272,11 @@ fn count_report<S: Listing<D>, D: Digest>(
     tally: &mut Tally<S, D>,
 ) -> Result<bool, AllocError>
     requires bound { participants ≡ S.size scheme.now }
-    ensures { IfOk result (λ counted. MatchBool counted
-        (CountsOne (HoldsReports S.lists (S.attests scheme.now) D.cmp contested.now) (Readable ⟦<Activity<S, D> as Write>⟧.fits (⟦<Activity<S, D> as Read>⟧.within (S.size scheme.now))) ⟦<Activity<S, D> as Write>⟧.spelling rest.old.now rest.new.now tally.old tally.new)
-        (IsErr (⟦<Activity<S, D> as Read>⟧.reading (S.size scheme.now) rest.old.now) × (rest.new.now ≡ rest.old.now) × (tally.new ≡ tally.old))) }
+    ensures { IfOk result (λ counted.
+        MatchBool counted (CountsOne (HoldsReports S.lists (S.attests scheme.now) D.cmp contested.now)
+        (Readable ⟦<Activity<S, D> as Write>⟧.fits (⟦<Activity<S, D> as Read>⟧.within (S.size scheme.now)))
+        ⟦<Activity<S, D> as Write>⟧.spelling rest.old.now rest.new.now tally.old tally.new) (IsErr
+        (⟦<Activity<S, D> as Read>⟧.reading (S.size scheme.now) rest.old.now) × (rest.new.now ≡ rest.old.now) × (tally.new ≡ tally.old))) }
 {
     let read = next_message(alloc, rest, participants);
     let counted = count_read(scheme, contested, &read, tally);

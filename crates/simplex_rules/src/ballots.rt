@@ -33,7 +33,8 @@ pub(crate) struct Ballots<K: ProposalKind<D>, S: Scheme<D>, D: Digest> {
 impl<K: ProposalKind<D>, S: Scheme<D>, D: Digest> Ballots<K, S, D> {
     /// Nothing counted.
     pub(crate) fn new(alloc: Global) -> Self
-        ensures { (scheme : S) (contested : BTreeSet Suspect) → HoldsVotes {K = K} {S = S} {P = S.PublicKey} {C = S.Certificate} K.states (S.attests scheme) D.cmp contested [] result.kept.items }
+        ensures { (scheme : S) (contested : BTreeSet Suspect)
+            → HoldsVotes {K = K} {S = S} {P = S.PublicKey} {C = S.Certificate} K.states (S.attests scheme) D.cmp contested [] result.kept.items }
     {
         Ballots {
             kept: Vec::new(alloc),
@@ -90,7 +91,10 @@ impl<K: ProposalKind<D>, S: Scheme<D>, D: Digest> Ballots<K, S, D> {
         kept: &mut Kept<D, S::Signature>,
         cast: &Cast<D, S::Signature>,
     )
-        ensures { (casts : List (Cast D S.Signature)) → IsSettled kept.old → KeepsVotes K.states (S.attests scheme.now) D.cmp suspect.now casts kept.old → KeepsVotes K.states (S.attests scheme.now) D.cmp suspect.now (casts ++ cast.now ∷ []) kept.new }
+        ensures { (casts : List (Cast D S.Signature))
+            → IsSettled kept.old
+            → KeepsVotes K.states (S.attests scheme.now) D.cmp suspect.now casts kept.old
+            → KeepsVotes K.states (S.attests scheme.now) D.cmp suspect.now (casts ++ cast.now ∷ []) kept.new }
     {
         let place = match kept.place_of(cast) {
             None => return,
@@ -125,7 +129,9 @@ impl<K: ProposalKind<D>, S: Scheme<D>, D: Digest> Ballots<K, S, D> {
         kept: &mut Kept<D, S::Signature>,
         cast: &Cast<D, S::Signature>,
     )
-        ensures { (casts : List (Cast D S.Signature)) → KeepsVotes K.states (S.attests scheme.now) D.cmp suspect.now casts kept.old → KeepsVotes K.states (S.attests scheme.now) D.cmp suspect.now (casts ++ cast.now ∷ []) kept.new }
+        ensures { (casts : List (Cast D S.Signature))
+            → KeepsVotes K.states (S.attests scheme.now) D.cmp suspect.now casts kept.old
+            → KeepsVotes K.states (S.attests scheme.now) D.cmp suspect.now (casts ++ cast.now ∷ []) kept.new }
     {
         if Self::challenge(scheme, suspect, kept, cast) {
             Self::add(scheme, suspect, kept, cast);
@@ -135,7 +141,9 @@ impl<K: ProposalKind<D>, S: Scheme<D>, D: Digest> Ballots<K, S, D> {
     /// Makes room for what is kept of the suspect at the place.
     fn reach(&mut self, place: usize) -> Result<(), AllocError>
         ensures reached { OnOk result (place < length self.new.kept.items) }
-        ensures same { OnOk result ((scheme : S) (contested : BTreeSet Suspect) (counted : List (Suspect × Cast D S.Signature)) → Tallies contested (KeepsVotes K.states (S.attests scheme) D.cmp) counted self.old.kept.items → Tallies contested (KeepsVotes K.states (S.attests scheme) D.cmp) counted self.new.kept.items) }
+        ensures same { OnOk result ((scheme : S) (contested : BTreeSet Suspect) (counted : List (Suspect × Cast D S.Signature))
+            → Tallies contested (KeepsVotes K.states (S.attests scheme) D.cmp) counted self.old.kept.items
+            → Tallies contested (KeepsVotes K.states (S.attests scheme) D.cmp) counted self.new.kept.items) }
     {
         while self.kept.len() <= place {
             self.kept.push(Kept::Nothing)?;
@@ -151,7 +159,11 @@ impl<K: ProposalKind<D>, S: Scheme<D>, D: Digest> Ballots<K, S, D> {
         suspect: &Suspect,
         vote: &ProposalVote<K, S, D>,
     ) -> Result<(), AllocError>
-        ensures { OnOk result ((contested : BTreeSet Suspect) (counted : List (Suspect × Cast D S.Signature)) → StandsAt contested place suspect.now → Tallies contested (KeepsVotes K.states (S.attests scheme.now) D.cmp) counted self.old.kept.items → Tallies contested (KeepsVotes K.states (S.attests scheme.now) D.cmp) (counted ++ (suspect.now, cast_of vote.now) ∷ []) self.new.kept.items) }
+        ensures { OnOk result ((contested : BTreeSet Suspect) (counted : List (Suspect × Cast D S.Signature))
+            → StandsAt contested place suspect.now
+            → Tallies contested (KeepsVotes K.states (S.attests scheme.now) D.cmp) counted self.old.kept.items
+            → Tallies contested (KeepsVotes K.states (S.attests scheme.now) D.cmp) (counted ++ (suspect.now, cast_of vote.now) ∷ [])
+            self.new.kept.items) }
     {
         self.reach(place)?;
         let choice = Choice {
@@ -171,7 +183,9 @@ impl<K: ProposalKind<D>, S: Scheme<D>, D: Digest> Ballots<K, S, D> {
         contested: &Suspects,
         vote: &ProposalVote<K, S, D>,
     ) -> Result<(), AllocError>
-        ensures { OnOk result ((votes : List (ProposalVote K S D S.PublicKey S.Signature S.Certificate)) → HoldsVotes K.states (S.attests scheme.now) D.cmp contested.now votes self.old.kept.items → HoldsVotes K.states (S.attests scheme.now) D.cmp contested.now (votes ++ vote.now ∷ []) self.new.kept.items) }
+        ensures { OnOk result ((votes : List (ProposalVote K S D S.PublicKey S.Signature S.Certificate))
+            → HoldsVotes K.states (S.attests scheme.now) D.cmp contested.now votes self.old.kept.items
+            → HoldsVotes K.states (S.attests scheme.now) D.cmp contested.now (votes ++ vote.now ∷ []) self.new.kept.items) }
     {
         let suspect = Suspect {
             round: vote.proposal.round,
@@ -196,7 +210,9 @@ impl<K: ProposalKind<D>, S: Scheme<D>, D: Digest> Ballots<K, S, D> {
         contested: &Suspects,
         both: &ConflictingVotes<K, S, D>,
     ) -> Result<(), AllocError>
-        ensures { OnOk result ((votes : List (ProposalVote K S D S.PublicKey S.Signature S.Certificate)) → HoldsVotes K.states (S.attests scheme.now) D.cmp contested.now votes self.old.kept.items → HoldsVotes K.states (S.attests scheme.now) D.cmp contested.now (votes ++ both.now.0 ∷ both.now.1 ∷ []) self.new.kept.items) }
+        ensures { OnOk result ((votes : List (ProposalVote K S D S.PublicKey S.Signature S.Certificate))
+            → HoldsVotes K.states (S.attests scheme.now) D.cmp contested.now votes self.old.kept.items
+            → HoldsVotes K.states (S.attests scheme.now) D.cmp contested.now (votes ++ both.now.0 ∷ both.now.1 ∷ []) self.new.kept.items) }
     {
         self.count(scheme, contested, both.first())?;
         self.count(scheme, contested, both.second())
@@ -235,7 +251,10 @@ impl<K: ProposalKind<D>, S: Scheme<D>, D: Digest> Ballots<K, S, D> {
         suspect: &Suspect,
     ) -> Option<ProposalVote<K, S, D>>
         ensures own { IfSome result (λ v. suspect_of v ≡ suspect.now) }
-        ensures least { (contested : BTreeSet Suspect) (votes : List (ProposalVote K S D S.PublicKey S.Signature S.Certificate)) → StandsAt contested place suspect.now → HoldsVotes K.states (S.attests scheme.now) D.cmp contested votes self.now.kept.items → IsLeastOf K.states (S.attests scheme.now) D.cmp votes suspect.now result }
+        ensures least { (contested : BTreeSet Suspect) (votes : List (ProposalVote K S D S.PublicKey S.Signature S.Certificate))
+            → StandsAt contested place suspect.now
+            → HoldsVotes K.states (S.attests scheme.now) D.cmp contested votes self.now.kept.items
+            → IsLeastOf K.states (S.attests scheme.now) D.cmp votes suspect.now result }
     {
         match self.kept.get(place)? {
             Kept::Nothing => None,
@@ -259,7 +278,9 @@ impl<K: ProposalKind<D>, S: Listing<D>, D: Digest> Ballots<K, S, D> {
         contested: &Suspects,
         held: HeldVotes<'_, K, S, D>,
     ) -> Result<(), AllocError>
-        ensures { OnOk result ((votes : List (ProposalVote K S D S.PublicKey S.Signature S.Certificate)) → HoldsVotes K.states (S.attests scheme.now) D.cmp contested.now votes self.old.kept.items → HoldsVotes K.states (S.attests scheme.now) D.cmp contested.now (votes ++ votes_held S.lists held.entry) self.new.kept.items) }
+        ensures { OnOk result ((votes : List (ProposalVote K S D S.PublicKey S.Signature S.Certificate))
+            → HoldsVotes K.states (S.attests scheme.now) D.cmp contested.now votes self.old.kept.items
+            → HoldsVotes K.states (S.attests scheme.now) D.cmp contested.now (votes ++ votes_held S.lists held.entry) self.new.kept.items) }
     {
         match held {
             HeldVotes::Nothing => Ok(()),
@@ -276,7 +297,9 @@ impl<K: ProposalKind<D>, S: Listing<D>, D: Digest> Ballots<K, S, D> {
         contested: &Suspects,
         made: &ProposalCertificate<K, S, D>,
     ) -> Result<(), AllocError>
-        ensures { OnOk result ((votes : List (ProposalVote K S D S.PublicKey S.Signature S.Certificate)) → HoldsVotes K.states (S.attests scheme.now) D.cmp contested.now votes self.old.kept.items → HoldsVotes K.states (S.attests scheme.now) D.cmp contested.now (votes ++ votes_listed S.lists made.now) self.new.kept.items) }
+        ensures { OnOk result ((votes : List (ProposalVote K S D S.PublicKey S.Signature S.Certificate))
+            → HoldsVotes K.states (S.attests scheme.now) D.cmp contested.now votes self.old.kept.items
+            → HoldsVotes K.states (S.attests scheme.now) D.cmp contested.now (votes ++ votes_listed S.lists made.now) self.new.kept.items) }
     {
         for attestation in S::attestations(&made.certificate) {
             let vote = ProposalVote::new(made.proposal, *attestation);

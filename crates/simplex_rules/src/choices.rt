@@ -78,7 +78,8 @@ impl<D: Digest> Choices<D> {
     /// Makes this the round's choice where it has none. Whether it is the round's choice then.
     pub(crate) fn choose(&mut self, proposal: &Proposal<D>) -> Result<bool, AllocError>
         ensures extends { OnOk result (Extends self.old self.new) }
-        ensures own { IfOk result (λ own. IsTrue own → choice_in self.new proposal.now.round ≡ Some (record { parent = proposal.now.parent; payload = proposal.now.payload })) }
+        ensures own { IfOk result (λ own.
+            IsTrue own → choice_in self.new proposal.now.round ≡ Some (record { parent = proposal.now.parent; payload = proposal.now.payload })) }
     {
         if let Some(first) = self.get(&proposal.round) {
             return Ok(first.parent == proposal.parent && first.payload == proposal.payload);
@@ -93,7 +94,8 @@ impl<D: Digest> Choices<D> {
     fn choose_first(&mut self, proposal: &Proposal<D>) -> Result<(), AllocError>
         requires none { choice_in self.old proposal.now.round ≡ None }
         ensures extends { OnOk result (Extends self.old self.new) }
-        ensures own { OnOk result (choice_in self.new proposal.now.round ≡ Some (record { parent = proposal.now.parent; payload = proposal.now.payload })) }
+        ensures own { OnOk result
+            (choice_in self.new proposal.now.round ≡ Some (record { parent = proposal.now.parent; payload = proposal.now.payload })) }
     {
         let round = proposal.round;
         let choice = Choice {

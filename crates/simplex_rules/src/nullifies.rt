@@ -39,7 +39,8 @@ pub(crate) struct Nullifies<S: Scheme<D>, D: Digest> {
 impl<S: Scheme<D>, D: Digest> Nullifies<S, D> {
     /// Nothing counted.
     pub(crate) fn new(alloc: Global) -> Self
-        ensures { (scheme : S) (contested : BTreeSet Suspect) → HoldsNullifies {S = S} {P = S.PublicKey} {C = S.Certificate} (S.attests scheme) contested [] result.kept.items }
+        ensures { (scheme : S) (contested : BTreeSet Suspect)
+            → HoldsNullifies {S = S} {P = S.PublicKey} {C = S.Certificate} (S.attests scheme) contested [] result.kept.items }
     {
         Nullifies {
             kept: Vec::new(alloc),
@@ -62,7 +63,9 @@ impl<S: Scheme<D>, D: Digest> Nullifies<S, D> {
         given: &mut Given<S::Signature>,
         signature: S::Signature,
     )
-        ensures { (signatures : List S.Signature) → KeepsNullifies (S.attests scheme.now) suspect.now signatures given.old → KeepsNullifies (S.attests scheme.now) suspect.now (signatures ++ signature ∷ []) given.new }
+        ensures { (signatures : List S.Signature)
+            → KeepsNullifies (S.attests scheme.now) suspect.now signatures given.old
+            → KeepsNullifies (S.attests scheme.now) suspect.now (signatures ++ signature ∷ []) given.new }
     {
         let claim = match given {
             Given::Nothing => {
@@ -85,7 +88,9 @@ impl<S: Scheme<D>, D: Digest> Nullifies<S, D> {
     /// Makes room for what is kept of the suspect at the place.
     fn reach(&mut self, place: usize) -> Result<(), AllocError>
         ensures reached { OnOk result (place < length self.new.kept.items) }
-        ensures same { OnOk result ((scheme : S) (contested : BTreeSet Suspect) (counted : List (Suspect × S.Signature)) → Tallies contested (KeepsNullifies (S.attests scheme)) counted self.old.kept.items → Tallies contested (KeepsNullifies (S.attests scheme)) counted self.new.kept.items) }
+        ensures same { OnOk result ((scheme : S) (contested : BTreeSet Suspect) (counted : List (Suspect × S.Signature))
+            → Tallies contested (KeepsNullifies (S.attests scheme)) counted self.old.kept.items
+            → Tallies contested (KeepsNullifies (S.attests scheme)) counted self.new.kept.items) }
     {
         while self.kept.len() <= place {
             self.kept.push(Given::Nothing)?;
@@ -101,7 +106,10 @@ impl<S: Scheme<D>, D: Digest> Nullifies<S, D> {
         suspect: &Suspect,
         signature: S::Signature,
     ) -> Result<(), AllocError>
-        ensures { OnOk result ((contested : BTreeSet Suspect) (counted : List (Suspect × S.Signature)) → StandsAt contested place suspect.now → Tallies contested (KeepsNullifies (S.attests scheme.now)) counted self.old.kept.items → Tallies contested (KeepsNullifies (S.attests scheme.now)) (counted ++ (suspect.now, signature) ∷ []) self.new.kept.items) }
+        ensures { OnOk result ((contested : BTreeSet Suspect) (counted : List (Suspect × S.Signature))
+            → StandsAt contested place suspect.now
+            → Tallies contested (KeepsNullifies (S.attests scheme.now)) counted self.old.kept.items
+            → Tallies contested (KeepsNullifies (S.attests scheme.now)) (counted ++ (suspect.now, signature) ∷ []) self.new.kept.items) }
     {
         self.reach(place)?;
         Self::weigh(scheme, suspect, &mut self.kept[place], signature);
@@ -115,7 +123,9 @@ impl<S: Scheme<D>, D: Digest> Nullifies<S, D> {
         contested: &Suspects,
         vote: &Nullify<S, D>,
     ) -> Result<(), AllocError>
-        ensures { OnOk result ((votes : List (Nullify S D S.PublicKey S.Signature S.Certificate)) → HoldsNullifies (S.attests scheme.now) contested.now votes self.old.kept.items → HoldsNullifies (S.attests scheme.now) contested.now (votes ++ vote.now ∷ []) self.new.kept.items) }
+        ensures { OnOk result ((votes : List (Nullify S D S.PublicKey S.Signature S.Certificate))
+            → HoldsNullifies (S.attests scheme.now) contested.now votes self.old.kept.items
+            → HoldsNullifies (S.attests scheme.now) contested.now (votes ++ vote.now ∷ []) self.new.kept.items) }
     {
         let suspect = Suspect {
             round: vote.round,
@@ -136,7 +146,10 @@ impl<S: Scheme<D>, D: Digest> Nullifies<S, D> {
     /// Of the nullifies of the suspect at the place the first that verifies.
     pub(crate) fn first(&self, scheme: &S, place: usize, suspect: &Suspect) -> Option<Nullify<S, D>>
         ensures own { IfSome result (λ v. nullify_suspect v ≡ suspect.now) }
-        ensures first { (contested : BTreeSet Suspect) (votes : List (Nullify S D S.PublicKey S.Signature S.Certificate)) → StandsAt contested place suspect.now → HoldsNullifies (S.attests scheme.now) contested votes self.now.kept.items → IsFirstOf (S.attests scheme.now) votes suspect.now result }
+        ensures first { (contested : BTreeSet Suspect) (votes : List (Nullify S D S.PublicKey S.Signature S.Certificate))
+            → StandsAt contested place suspect.now
+            → HoldsNullifies (S.attests scheme.now) contested votes self.now.kept.items
+            → IsFirstOf (S.attests scheme.now) votes suspect.now result }
     {
         match self.kept.get(place)? {
             Given::Nothing => None,
@@ -159,7 +172,9 @@ impl<S: Listing<D>, D: Digest> Nullifies<S, D> {
         contested: &Suspects,
         held: HeldNullifies<'_, S, D>,
     ) -> Result<(), AllocError>
-        ensures { OnOk result ((votes : List (Nullify S D S.PublicKey S.Signature S.Certificate)) → HoldsNullifies (S.attests scheme.now) contested.now votes self.old.kept.items → HoldsNullifies (S.attests scheme.now) contested.now (votes ++ nullifies_held S.lists held.entry) self.new.kept.items) }
+        ensures { OnOk result ((votes : List (Nullify S D S.PublicKey S.Signature S.Certificate))
+            → HoldsNullifies (S.attests scheme.now) contested.now votes self.old.kept.items
+            → HoldsNullifies (S.attests scheme.now) contested.now (votes ++ nullifies_held S.lists held.entry) self.new.kept.items) }
     {
         match held {
             HeldNullifies::Nothing => Ok(()),
@@ -175,7 +190,9 @@ impl<S: Listing<D>, D: Digest> Nullifies<S, D> {
         contested: &Suspects,
         made: &Nullification<S, D>,
     ) -> Result<(), AllocError>
-        ensures { OnOk result ((votes : List (Nullify S D S.PublicKey S.Signature S.Certificate)) → HoldsNullifies (S.attests scheme.now) contested.now votes self.old.kept.items → HoldsNullifies (S.attests scheme.now) contested.now (votes ++ nullifies_listed S.lists made.now) self.new.kept.items) }
+        ensures { OnOk result ((votes : List (Nullify S D S.PublicKey S.Signature S.Certificate))
+            → HoldsNullifies (S.attests scheme.now) contested.now votes self.old.kept.items
+            → HoldsNullifies (S.attests scheme.now) contested.now (votes ++ nullifies_listed S.lists made.now) self.new.kept.items) }
     {
         for attestation in S::attestations(&made.certificate) {
             let vote = Nullify {

@@ -77,7 +77,11 @@ impl<D: Digest> Survey<D> {
     /// Whose votes may contradict each other: also of those who voted to give up a round that was finalized.
     pub(crate) fn into_contested(self, alloc: Global) -> Result<Suspects, AllocError>
         ensures stay { IfOk result (λ contested. IsSubset suspect_cmp self.contested contested) }
-        ensures added { IfOk result (λ contested. (q : Suspect) → IsTrue (contains suspect_cmp self.nullified q) → IsSome (choice_in self.finalized q.round) → IsTrue (contains suspect_cmp contested q)) }
+        ensures added { IfOk result (λ contested.
+            (q : Suspect)
+            → IsTrue (contains suspect_cmp self.nullified q)
+            → IsSome (choice_in self.finalized q.round)
+            → IsTrue (contains suspect_cmp contested q)) }
     {
         let Survey {
             notarized: _,
@@ -98,7 +102,10 @@ fn contest<D: Digest>(
     contested: &mut Gathered,
 ) -> Result<(), AllocError>
     ensures stay { OnOk result (IsSubset suspect_cmp contested.old contested.new) }
-    ensures added { OnOk result ((q : Suspect) → Contains nullified.now q → IsSome (choice_in finalized.now q.round) → IsTrue (contains suspect_cmp contested.new q)) }
+    ensures added { OnOk result ((q : Suspect)
+        → Contains nullified.now q
+        → IsSome (choice_in finalized.now q.round)
+        → IsTrue (contains suspect_cmp contested.new q)) }
 {
     for suspect in nullified {
         if finalized.contains(&suspect.round) {
@@ -216,7 +223,9 @@ fn insert_all<S: Scheme<D>, D: Digest>(
     listed: &[Attestation<S::Signature>],
 ) -> Result<(), AllocError>
     ensures stay { OnOk result (IsSubset suspect_cmp suspects.old suspects.new) }
-    ensures added { OnOk result ((a : Attestation S.Signature) → Contains listed.now a → IsTrue (contains suspect_cmp suspects.new (record { round = round.now; signer = a.signer }))) }
+    ensures added { OnOk result ((a : Attestation S.Signature)
+        → Contains listed.now a
+        → IsTrue (contains suspect_cmp suspects.new (record { round = round.now; signer = a.signer }))) }
 {
     for attestation in listed {
         insert(suspects, *round, attestation)?;

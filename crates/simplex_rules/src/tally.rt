@@ -46,8 +46,13 @@ impl<S: Scheme<D>, D: Digest> Tally<S, D> {
         scheme: &S,
         contested: &Suspects,
     ) -> Result<Vec<Activity<S, D>>, AllocError>
-        requires { (reports : List (Activity S D S.PublicKey S.Signature S.Certificate)) × HoldsReports S.lists (S.attests scheme.now) D.cmp contested.now reports self.now }
-        ensures { IfOk result (λ evidence. (reports : List (Activity S D S.PublicKey S.Signature S.Certificate)) → HasGuilty S.lists (S.attests scheme.now) reports contested.now → HoldsReports S.lists (S.attests scheme.now) D.cmp contested.now reports self.now → IsVerdict S.lists (S.attests scheme.now) D.cmp reports evidence.items) }
+        requires { (reports : List (Activity S D S.PublicKey S.Signature S.Certificate)) × HoldsReports S.lists (S.attests scheme.now) D.cmp
+            contested.now reports self.now }
+        ensures { IfOk result (λ evidence.
+            (reports : List (Activity S D S.PublicKey S.Signature S.Certificate))
+            → HasGuilty S.lists (S.attests scheme.now) reports contested.now
+            → HoldsReports S.lists (S.attests scheme.now) D.cmp contested.now reports self.now
+            → IsVerdict S.lists (S.attests scheme.now) D.cmp reports evidence.items) }
     {
         let mut evidence = Vec::new(alloc);
         let suspects = contested.as_slice();
@@ -67,7 +72,10 @@ impl<S: Scheme<D>, D: Digest> Tally<S, D> {
     ) -> Result<(), AllocError>
         requires notarizes { AreApart self.now.notarizes.kept.items place }
         requires finalizes { AreApart self.now.finalizes.kept.items place }
-        ensures { OnOk result ((contested : BTreeSet Suspect) → StandsAt contested place suspect.now → AddsEvidence S.lists (S.attests scheme.now) D.cmp contested self.now suspect.now (evidence_at contested self.now suspect.now) evidence.old.items evidence.new.items) }
+        ensures { OnOk result ((contested : BTreeSet Suspect)
+            → StandsAt contested place suspect.now
+            → AddsEvidence S.lists (S.attests scheme.now) D.cmp contested self.now suspect.now (evidence_at contested self.now suspect.now)
+            evidence.old.items evidence.new.items) }
     {
         self.push_notarizes(place, suspect, evidence)?;
         self.push_finalizes(place, suspect, evidence)?;
@@ -82,7 +90,8 @@ impl<S: Scheme<D>, D: Digest> Tally<S, D> {
         evidence: &mut Vec<Activity<S, D>>,
     ) -> Result<(), AllocError>
         requires { AreApart self.now.notarizes.kept.items place }
-        ensures { OnOk result (evidence.new.items ≡ evidence.old.items ++ reported conflicting_notarize_report (conflict_in suspect.now (slice_get self.now.notarizes.kept.items place))) }
+        ensures { OnOk result (evidence.new.items ≡ evidence.old.items ++ reported conflicting_notarize_report
+            (conflict_in suspect.now (slice_get self.now.notarizes.kept.items place))) }
     {
         match self.notarizes.conflict(place, suspect) {
             None => Ok(()),
@@ -98,7 +107,8 @@ impl<S: Scheme<D>, D: Digest> Tally<S, D> {
         evidence: &mut Vec<Activity<S, D>>,
     ) -> Result<(), AllocError>
         requires { AreApart self.now.finalizes.kept.items place }
-        ensures { OnOk result (evidence.new.items ≡ evidence.old.items ++ reported conflicting_finalize_report (conflict_in suspect.now (slice_get self.now.finalizes.kept.items place))) }
+        ensures { OnOk result (evidence.new.items ≡ evidence.old.items ++ reported conflicting_finalize_report
+            (conflict_in suspect.now (slice_get self.now.finalizes.kept.items place))) }
     {
         match self.finalizes.conflict(place, suspect) {
             None => Ok(()),
@@ -114,7 +124,10 @@ impl<S: Scheme<D>, D: Digest> Tally<S, D> {
         suspect: &Suspect,
         evidence: &mut Vec<Activity<S, D>>,
     ) -> Result<(), AllocError>
-        ensures { OnOk result ((contested : BTreeSet Suspect) → StandsAt contested place suspect.now → AddsEvidence S.lists (S.attests scheme.now) D.cmp contested self.now suspect.now (reported nullify_finalize_report) evidence.old.items evidence.new.items) }
+        ensures { OnOk result ((contested : BTreeSet Suspect)
+            → StandsAt contested place suspect.now
+            → AddsEvidence S.lists (S.attests scheme.now) D.cmp contested self.now suspect.now (reported nullify_finalize_report)
+            evidence.old.items evidence.new.items) }
     {
         match self.beside(scheme, place, suspect) {
             None => Ok(()),
@@ -125,7 +138,9 @@ impl<S: Scheme<D>, D: Digest> Tally<S, D> {
     /// The suspect's first nullify that verifies, and beside it its first finalize for the least
     /// proposal that does.
     fn beside(&self, scheme: &S, place: usize, suspect: &Suspect) -> Option<NullifyFinalize<S, D>>
-        ensures { (contested : BTreeSet Suspect) → StandsAt contested place suspect.now → IsBesideIn S.lists (S.attests scheme.now) D.cmp contested self.now suspect.now result }
+        ensures { (contested : BTreeSet Suspect)
+            → StandsAt contested place suspect.now
+            → IsBesideIn S.lists (S.attests scheme.now) D.cmp contested self.now suspect.now result }
     {
         if !self.finalizes.contains(place) {
             return None;
@@ -144,7 +159,9 @@ impl<S: Listing<D>, D: Digest> Tally<S, D> {
         contested: &Suspects,
         report: &Activity<S, D>,
     ) -> Result<(), AllocError>
-        ensures { OnOk result ((reports : List (Activity S D S.PublicKey S.Signature S.Certificate)) → HoldsReports S.lists (S.attests scheme.now) D.cmp contested.now reports self.old → HoldsReports S.lists (S.attests scheme.now) D.cmp contested.now (reports ++ report.now ∷ []) self.new) }
+        ensures { OnOk result ((reports : List (Activity S D S.PublicKey S.Signature S.Certificate))
+            → HoldsReports S.lists (S.attests scheme.now) D.cmp contested.now reports self.old
+            → HoldsReports S.lists (S.attests scheme.now) D.cmp contested.now (reports ++ report.now ∷ []) self.new) }
     {
         self.notarizes
             .count_held(scheme, contested, held_notarizes(report))?;
@@ -162,7 +179,9 @@ impl<S: Listing<D>, D: Digest> Tally<S, D> {
         contested: &Suspects,
         vote: &Notarize<S, D>,
     ) -> Result<(), AllocError>
-        ensures { OnOk result ((reports : List (Activity S D S.PublicKey S.Signature S.Certificate)) → HoldsReports S.lists (S.attests scheme.now) D.cmp contested.now reports self.old → HoldsReports S.lists (S.attests scheme.now) D.cmp contested.now (reports ++ notarize_report vote.now ∷ []) self.new) }
+        ensures { OnOk result ((reports : List (Activity S D S.PublicKey S.Signature S.Certificate))
+            → HoldsReports S.lists (S.attests scheme.now) D.cmp contested.now reports self.old
+            → HoldsReports S.lists (S.attests scheme.now) D.cmp contested.now (reports ++ notarize_report vote.now ∷ []) self.new) }
     {
         self.notarizes.count(scheme, contested, vote)
     }

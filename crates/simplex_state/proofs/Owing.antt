@@ -23,7 +23,7 @@ use Rattle.voter_history.specs.Known.{known}
 use Rattle.voter_views.specs.Views.{recalls}
 use Rattle.voter_rules.specs.Ancestry.{member}
 use Rattle.voter_rules.specs.VotesDue.{NotarizeIsDue, FinalizeIsDue}
-use Rattle.voter_laws.specs.Stepping.{choose_holds, put_holds, put_both, enter_holds, bind_holds}
+use Rattle.voter_laws.specs.Steps.{choose_holds, put_holds, put_both, enter_holds, bind_holds}
 use Rattle.simplex_state.specs.declared.owed.Owed.{Owed}
 use Rattle.simplex_state.specs.OwedViews.{Has, IsFirstFrom}
 use Rattle.simplex_state.specs.Candidates.{put_off}

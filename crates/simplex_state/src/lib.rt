@@ -1,4 +1,4 @@
-//! The voter: a member without network, clock or disk, which says what is due.
+//! The voter: a member without network, clock or disk, which says what is due; how a member is set up; and repair (`resolver`).
 #![tactic(auto)]
 
 mod owed;
@@ -6,6 +6,7 @@ mod state;
 mod verify;
 mod wanted;
 
+pub use simplex_resolver as resolver;
 pub use state::State;
 pub use verify::Verify;
 pub use voter_rules::config::{

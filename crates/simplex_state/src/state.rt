@@ -12,7 +12,7 @@ mod owing;
 mod proposing;
 mod sending;
 mod starting;
-mod timing;
+mod timeouts;
 mod verifying;
 mod voting;
 

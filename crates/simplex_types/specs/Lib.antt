@@ -4,3 +4,10 @@ pub mod ListEquality
 pub mod ListSize
 pub mod Plain
 pub mod Salted
+pub use Rattle.types_core.specs.Attestation
+pub use Rattle.types_core.specs.Context
+pub use Rattle.types_core.specs.Positions
+pub use Rattle.types_core.specs.Proposal
+pub use Rattle.types_core.specs.Quorum
+pub use Rattle.types_core.specs.Round
+pub use Rattle.types_core.specs.Subject

@@ -78,7 +78,8 @@ impl<G: Signature> AttestationList<G> {
         ensures ascending { IfOk result (λ c. AscendsFrom 0 c) }
         ensures quorum { IfOk result (λ c. quorum participants ≤ length c) }
         ensures within { IfOk result (λ c. list_within participants c) }
-        ensures too_few { length attestations.now < quorum participants → result ≡ Err (InsufficientAttestations (quorum participants) (length attestations.now)) }
+        ensures too_few { length attestations.now < quorum participants
+            → result ≡ Err (InsufficientAttestations (quorum participants) (length attestations.now)) }
         ensures enough { quorum participants ≤ length attestations.now → IfErr result (λ e. e ≡ Memory) }
     {
         let needed = quorum(participants);
@@ -228,7 +229,8 @@ impl<G: Signature> Hash for AttestationList<G> {
 
     ghost hash_input = { λ c. fed.slice (λ a. fed.u32 a.signer ++ G.hash_input a.signature) c };
 
-    ghost respects_eq = { λ x y same. ap (λ c. fed.slice (λ a. fed.u32 a.signer ++ G.hash_input a.signature) c) ((same_list-is G.PartialEq.eq G.equal_is_same x y).0 same) };
+    ghost respects_eq = { λ x y same. ap (λ c. fed.slice (λ a. fed.u32 a.signer ++ G.hash_input a.signature) c)
+        ((same_list-is G.PartialEq.eq G.equal_is_same x y).0 same) };
 
     fn hash<H: Hasher>(&self, state: &mut H) {
         self.attestations.hash(state);

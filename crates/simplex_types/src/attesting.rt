@@ -97,8 +97,10 @@ pub fn list_of_quorum<C: Attesting<D>, D: Digest>(
     subject: &Subject<'_, D>,
     attestations: &[Attestation<C::Mark>],
 ) -> Result<Option<AttestationList<C::Mark>>, AllocError>
-    ensures exact { IfOk result (λ made. IsSome made ↔ IsQuorum (C.members committee.now) (λ i a. C.marks committee.now i (statement subject.now) a) attestations.now) }
-    ensures certifies { IfOk result (λ made. IfSome made (λ c. IsQuorum (C.members committee.now) (λ i a. C.marks committee.now i (statement subject.now) a) c)) }
+    ensures exact { IfOk result (λ made.
+        IsSome made ↔ IsQuorum (C.members committee.now) (λ i a. C.marks committee.now i (statement subject.now) a) attestations.now) }
+    ensures certifies { IfOk result
+        (λ made. IfSome made (λ c. IsQuorum (C.members committee.now) (λ i a. C.marks committee.now i (statement subject.now) a) c)) }
     ensures only_given { IfOk result (λ made. IfSome made (λ c. (a : Attestation C.Mark) → Contains c a → Contains attestations.now a)) }
     ensures all_given { IfOk result (λ made. IfSome made (λ c. (a : Attestation C.Mark) → Contains attestations.now a → Contains c a)) }
     ensures readable { IfOk result (λ made. IfSome made (λ c. list_within (C.members committee.now) c)) }

@@ -104,13 +104,16 @@ impl<C: Signing<D>, D: Digest> Scheme<D> for Listed<C> {
         subject: &Subject<'_, D>,
         attestations: &[Attestation<C::Mark>],
     ) -> Result<Option<AttestationList<C::Mark>>, AllocError>
-        ensures exact { IfOk result (λ made. IsSome made ↔ IsQuorum (C.members self.now) (λ i a. C.marks self.now i (statement subject.now) a) attestations.now) }
-        ensures certifies { IfOk result (λ made. IfSome made (λ c. IsQuorum (C.members self.now) (λ i a. C.marks self.now i (statement subject.now) a) c)) }
+        ensures exact { IfOk result
+            (λ made. IsSome made ↔ IsQuorum (C.members self.now) (λ i a. C.marks self.now i (statement subject.now) a) attestations.now) }
+        ensures certifies { IfOk result
+            (λ made. IfSome made (λ c. IsQuorum (C.members self.now) (λ i a. C.marks self.now i (statement subject.now) a) c)) }
         ensures only_given { IfOk result (λ made. IfSome made (λ c. (a : Attestation C.Mark) → Contains c a → Contains attestations.now a)) }
         ensures all_given { IfOk result (λ made. IfSome made (λ c. (a : Attestation C.Mark) → Contains attestations.now a → Contains c a)) }
         ensures readable { IfOk result (λ made. IfSome made (λ c. list_within (C.members self.now) c)) }
         ensures within { IfOk result (λ made. IfSome made (λ c. list_within 65535 c)) }
-        ensures declined { IfOk result (λ made. made ≡ None → IsQuorum (C.members self.now) (λ i a. C.marks self.now i (statement subject.now) a) attestations.now → ⊥) }
+        ensures declined { IfOk result
+            (λ made. made ≡ None → IsQuorum (C.members self.now) (λ i a. C.marks self.now i (statement subject.now) a) attestations.now → ⊥) }
     {
         list_of_quorum(alloc, &self.committee, subject, attestations)
     }
@@ -135,7 +138,8 @@ impl<C: Signing<D>, D: Digest> Scheme<D> for Listed<C> {
 
     ghost attests_member = { λ s i x a h. C.marks_member s i x a h };
 
-    ghost declined_in_each_order = { λ s x given others moved declined quorum. declined (IsQuorum-permutation (C.members s) (λ i a. C.marks s i x a) others given (IsPermutation-sym given others moved) quorum) };
+    ghost declined_in_each_order = { λ s x given others moved declined quorum. declined
+        (IsQuorum-permutation (C.members s) (λ i a. C.marks s i x a) others given (IsPermutation-sym given others moved) quorum) };
 }
 
 impl<C: Signing<D>, D: Digest> Listing<D> for Listed<C> {

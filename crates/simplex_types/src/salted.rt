@@ -256,5 +256,10 @@ impl SaltedScheme {
 
 /// A law of the salted scheme: signatures that carry two counters differ, whatever they sign.
 pub fn signatures_of_two_counters_differ<D: Digest>()
-    ensures { (first second : ℕ) → first < 2 ^ 64 → second < 2 ^ 64 → (b c : List ℕ) (i j : ℕ) (x y : Statement D) → salted_signature D.spelling b first i x ≡ salted_signature D.spelling c second j y → first ≡ second }
+    ensures { (first second : ℕ)
+        → first < 2 ^ 64
+        → second < 2 ^ 64
+        → (b c : List ℕ) (i j : ℕ) (x y : Statement D)
+        → salted_signature D.spelling b first i x ≡ salted_signature D.spelling c second j y
+        → first ≡ second }
 {}

@@ -12,8 +12,7 @@ use std::rc::Rc;
 use test_words::Committee;
 use types_core::Sha256Digest;
 use world_members::{Halt, Seat, config_of, member_of};
-use world_network::Fuse;
-use world_scenario::{Broken, Scenario, Times};
+use world_network::{Broken, Fuse, Scenario, Times};
 
 /// A member's disk, and its node while that is open on it.
 #[derive(Drop)]

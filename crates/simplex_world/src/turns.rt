@@ -7,7 +7,7 @@ use types_core::{Scheme, Sha256Digest};
 use types_terms::RoundRobinElector;
 use types_terms::elector::{Config, Elector};
 use world_members::rotation_of;
-use world_scenario::Times;
+use world_network::Times;
 
 /// What a scenario can have decide who leads.
 pub(crate) trait Turns<S: Scheme<Sha256Digest>>: Elector<S, Sha256Digest> {

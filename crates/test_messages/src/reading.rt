@@ -1,8 +1,8 @@
 //! Votes of any kind, read.
 
+use crate::reading_certificates::CertificateWords;
 use simplex_messages::Vote;
 use std::alloc::Global;
-use test_certificates::CertificateWords;
 use test_words::{Committee, Trouble, Words};
 use types_core::Sha256Digest;
 

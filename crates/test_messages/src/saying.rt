@@ -1,7 +1,7 @@
 //! Votes of any kind and reports, said.
 
+use crate::saying_certificates::SayCertificates;
 use simplex_messages::{Activity, ConflictingFinalize, ConflictingNotarize, NullifyFinalize, Vote};
-use test_certificates::SayCertificates;
 use test_words::{Committee, Say, Trouble};
 use types_core::Sha256Digest;
 

@@ -5,7 +5,7 @@
 #![tactic(auto)]
 
 mod comparing;
-mod reading;
+mod read_values;
 
 pub use comparing::{all, distinct, equal, order};
-pub use reading::{belongs, changes, cuts, read, signer};
+pub use read_values::{belongs, changes, cuts, read, signer};

@@ -1,3 +1,4 @@
+pub mod Longer
 pub mod OneVarint
 pub mod ShortVarints
 pub mod Decoding

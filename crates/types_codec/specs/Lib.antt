@@ -1,3 +1,4 @@
+pub mod Front
 pub mod Codec
 pub mod Truth
 pub mod Varint

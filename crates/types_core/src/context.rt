@@ -92,7 +92,8 @@ impl<D: Digest, P: PublicKey> Read for Context<D, P> {
 
     ghost reading = { λ n. context_at (P.reading n) (D.reading n) };
 
-    ghost one_spelling = { λ n small. unbounded-IsCodec (context-IsCodec (bounded-IsCodec (P.one_spelling n small) (P.unbounded n)) (bounded-IsCodec (D.one_spelling n small) (D.unbounded n))) };
+    ghost one_spelling = { λ n small. unbounded-IsCodec (context-IsCodec (bounded-IsCodec (P.one_spelling n small) (P.unbounded n))
+        (bounded-IsCodec (D.one_spelling n small) (D.unbounded n))) };
 
     ghost grows = { λ n m x up h. h };
 

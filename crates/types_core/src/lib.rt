@@ -1,4 +1,4 @@
-//! Positions, values as bytes, proposals and signing schemes: what every layer of the node stands on.
+//! Positions, proposals, what is signed, and what a signing scheme promises: what every layer of the node stands on.
 #![tactic(auto)]
 
 mod attestation;

@@ -160,7 +160,8 @@ pub trait Scheme<D: Digest> {
         attestations: &[Attestation<Self::Signature>],
     ) -> Result<Option<Self::Certificate>, AllocError>
         ensures certifies { IfOk result (λ made. IfSome made (λ c. certifies self.now (statement subject.now) c)) }
-        ensures only_given { IfOk result (λ made. IfSome made (λ c. (a : Attestation Self.Signature) → Contains (lists c) a → Contains attestations.now a)) }
+        ensures only_given { IfOk result
+            (λ made. IfSome made (λ c. (a : Attestation Self.Signature) → Contains (lists c) a → Contains attestations.now a)) }
         ensures readable { IfOk result (λ made. IfSome made (λ c. Self.Certificate.within (size self.now) c)) }
         ensures within { IfOk result (λ made. IfSome made (λ c. Self.Certificate.within 65535 c)) }
         ensures declined { IfOk result (λ made. made ≡ None → may_decline self.now (statement subject.now) attestations.now) };
@@ -183,19 +184,24 @@ pub trait Scheme<D: Digest> {
     ) -> Result<Self::Certificate, AssemblyError>
         requires distinct { AreDistinct attestations.now }
         requires members { All (λ a. a.signer < size self.now) attestations.now }
-        ensures certifies { IfOk result (λ c. (x : Statement D) → All (λ a. attests self.now a.signer x a.signature) attestations.now → certifies self.now x c) }
+        ensures certifies { IfOk result
+            (λ c. (x : Statement D) → All (λ a. attests self.now a.signer x a.signature) attestations.now → certifies self.now x c) }
         ensures only_given { IfOk result (λ c. (a : Attestation Self.Signature) → Contains (lists c) a → Contains attestations.now a) }
         ensures all_given { IfOk result (λ c. enumerates → (a : Attestation Self.Signature) → Contains attestations.now a → Contains (lists c) a) }
         ensures readable { IfOk result (λ c. Self.Certificate.within (size self.now) c) }
         ensures within { IfOk result (λ c. Self.Certificate.within 65535 c) }
-        ensures too_few { length attestations.now < quorum (size self.now) → result ≡ Err (InsufficientAttestations (quorum (size self.now)) (length attestations.now)) }
+        ensures too_few { length attestations.now < quorum (size self.now)
+            → result ≡ Err (InsufficientAttestations (quorum (size self.now)) (length attestations.now)) }
         ensures enough { quorum (size self.now) ≤ length attestations.now → IfErr result (λ e. e ≡ Memory) };
 
     /// Only members attest.
     ghost attests_member: { (s : Self) (i : ℕ) (x : Statement D) (a : Self.Signature) → attests s i x a → i < size s };
 
     /// Whether attestations may be declined doesn't rest on their order.
-    ghost declined_in_each_order: { (s : Self) (x : Statement D) (given others : List (Attestation Self.Signature)) → IsPermutation given others → may_decline s x given → may_decline s x others };
+    ghost declined_in_each_order: { (s : Self) (x : Statement D) (given others : List (Attestation Self.Signature))
+        → IsPermutation given others
+        → may_decline s x given
+        → may_decline s x others };
 }
 
 /// Schemes whose certificates list their attestations.
@@ -209,8 +215,12 @@ pub trait Listing<D: Digest>: Scheme<D> {
     ghost enumerated: { Self.enumerates };
 
     /// What lists attestations of a quorum certifies.
-    ghost sufficient: { (s : Self) (x : Statement D) (c : Self.Certificate) → IsQuorum (Self.size s) (λ i a. Self.attests s i x a) (Self.lists c) → Self.certifies s x c };
+    ghost sufficient: { (s : Self) (x : Statement D) (c : Self.Certificate)
+        → IsQuorum (Self.size s) (λ i a. Self.attests s i x a) (Self.lists c)
+        → Self.certifies s x c };
 
     /// What certifies lists attestations of a quorum.
-    ghost backed: { (s : Self) (x : Statement D) (c : Self.Certificate) → Self.certifies s x c → IsQuorum (Self.size s) (λ i a. Self.attests s i x a) (Self.lists c) };
+    ghost backed: { (s : Self) (x : Statement D) (c : Self.Certificate)
+        → Self.certifies s x c
+        → IsQuorum (Self.size s) (λ i a. Self.attests s i x a) (Self.lists c) };
 }

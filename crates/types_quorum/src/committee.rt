@@ -24,5 +24,10 @@ pub const fn quorum(n: u32) -> u32
 /// and so, whichever members are faulty, one that isn't.
 pub fn two_quorums_share_members()
     ensures shared { (n : ℕ) (xs ys : List ℕ) → 1 ≤ n → AreQuorum n xs → AreQuorum n ys → words.faults n + 1 ≤ length (common xs ys) }
-    ensures correct { (n : ℕ) (xs ys faulty : List ℕ) → 1 ≤ n → AreQuorum n xs → AreQuorum n ys → length faulty ≤ words.faults n → (i : ℕ) × Contains xs i × Contains ys i × (Contains faulty i → ⊥) }
+    ensures correct { (n : ℕ) (xs ys faulty : List ℕ)
+        → 1 ≤ n
+        → AreQuorum n xs
+        → AreQuorum n ys
+        → length faulty ≤ words.faults n
+        → (i : ℕ) × Contains xs i × Contains ys i × (Contains faulty i → ⊥) }
 {}

@@ -128,7 +128,10 @@ pub fn what_is_spoken_of_is_listened_to()
 
 /// A law of the windows: how many views after the current one are listened to.
 pub fn few_views_ahead_are_listened_to()
-    ensures { (views optimistic current : ℕ) → 0 < views → HasExactly (λ view. (current < view) × Admits views optimistic current view) (min (2 * optimistic + 1) (term_end views current - current) + 2 + early_views views optimistic) }
+    ensures { (views optimistic current : ℕ)
+        → 0 < views
+        → HasExactly (λ view. (current < view) × Admits views optimistic current view)
+        (min (2 * optimistic + 1) (term_end views current - current) + 2 + early_views views optimistic) }
 {}
 
 /// A law of the windows: the admission limit is the last view that is listened to.
@@ -140,5 +143,9 @@ pub fn admission_limit_is_the_last_view_listened_to()
 /// A law of the windows: an earlier view lies at or above the issuance floor exactly where at most
 /// the optimistic views lie strictly between the two.
 pub fn issuance_floor_leaves_the_optimistic_views_between()
-    ensures { (optimistic earlier view : ℕ) → earlier < view → (between : ℕ) → HasExactly (λ v. (earlier < v) × (v < view)) between → (issuance_floor optimistic view ≤ earlier) ↔ (between ≤ optimistic) }
+    ensures { (optimistic earlier view : ℕ)
+        → earlier < view
+        → (between : ℕ)
+        → HasExactly (λ v. (earlier < v) × (v < view)) between
+        → (issuance_floor optimistic view ≤ earlier) ↔ (between ≤ optimistic) }
 {}

@@ -37,7 +37,10 @@ impl Viewport {
     /// than that the floor isn't passed.
     pub fn first_reaching(&self) -> View
         ensures up_to_floor { result ≤ retention_floor self.now.finalized self.now.view_retention }
-        ensures reaches { self.now.finalized + 1 < 2 ^ 64 → (view : ℕ) → view < retention_floor self.now.finalized self.now.view_retention → (view < result) ↔ (term_end self.now.lookahead.length view ≤ self.now.finalized) }
+        ensures reaches { self.now.finalized + 1 < 2 ^ 64
+            → (view : ℕ)
+            → view < retention_floor self.now.finalized self.now.view_retention
+            → (view < result) ↔ (term_end self.now.lookahead.length view ≤ self.now.finalized) }
     {
         // The proof takes from the number that a term has at least one view.
         let _views = self.lookahead.length.get();
@@ -56,7 +59,8 @@ impl Viewport {
 
     /// Whether a vote of the view is taken: the view is kept and listened to.
     pub fn admits_vote(&self, view: View) -> bool
-        ensures { IsTrue result ↔ (Retains self.now.finalized self.now.view_retention view × Admits self.now.lookahead.length self.now.lookahead.optimistic_views self.now.current view) }
+        ensures { IsTrue result ↔ (Retains self.now.finalized self.now.view_retention view × Admits self.now.lookahead.length
+            self.now.lookahead.optimistic_views self.now.current view) }
     {
         self.retains(view) && self.lookahead.admits(self.current, view)
     }

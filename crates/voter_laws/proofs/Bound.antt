@@ -15,7 +15,7 @@ use Rattle.voter_history.specs.History.{Setup, Point, started, notarized, nullif
 use Rattle.voter_laws.specs.Placing.{AnswersWereBound, DueNotarizeIsBound}
 use Rattle.voter_laws.proofs.Matched.{same_proposal}
 use Rattle.voter_laws.proofs.Placed.{held_lies_in_its_view}
-use Rattle.voter_laws.specs.Stepping.{choose_holds, put_holds, put_both, enter_holds}
+use Rattle.voter_laws.specs.Steps.{choose_holds, put_holds, put_both, enter_holds}
 
 module _ {S D P G C : Type 0} (same : (x y : D) → (x ≡ y) ⊎ (x ≢ y)) where
   -- the held proposal is bound

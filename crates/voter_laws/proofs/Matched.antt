@@ -25,7 +25,7 @@ use Rattle.voter_history.specs.Pasts.{put, bind}
 use Rattle.voter_history.specs.History.{Setup, Point, started, notarized, nullified, finalized, judged, voted_notarize, voted_nullify, voted_finalize, recalled_notarize, recalled_nullify, recalled_finalize, recalled_verdict, pruned, enter, undecided_payload, was_nullified, current, last_finalized, min_active, seen}
 use Rattle.voter_laws.specs.Matching.{round_of, told, record_of, OwnWereTaken, EachHistoryMatches}
 use Rattle.voter_laws.specs.Recording.{EachRecordIsKnown}
-use Rattle.voter_laws.specs.Stepping.{choose_holds, put_holds, enter_holds}
+use Rattle.voter_laws.specs.Steps.{choose_holds, put_holds, enter_holds}
 use Rattle.voter_laws.proofs.Growing.{told_still, IsRecordedWell, IsFounded, founded_still, Grows, still, more, stays_kept, grows, finalized_rises, grown}
 
 -- the greatest number that a list gives is that of the list turned round

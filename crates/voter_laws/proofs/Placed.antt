@@ -15,7 +15,7 @@ use Rattle.voter_history.specs.Pasts.{put}
 use Rattle.voter_history.specs.History.{Setup, Point, started, notarized, nullified, finalized, judged, forwarded, built, confirmed, unbound, latched, build_asked, build_released, verify_asked, ancestry_asked, certify_asked, certify_waited, voted_notarize, voted_nullify, voted_finalize, recalled_notarize, recalled_nullify, recalled_finalize, recalled_verdict, sent, polled, pruned, enter, undecided_payload, current, min_active, seen}
 use Rattle.voter_laws.specs.Matching.{round_of}
 use Rattle.voter_laws.specs.Placing.{AreOfTheirViews, HeldLiesInItsView}
-use Rattle.voter_laws.specs.Stepping.{choose_holds, put_holds, enter_holds, bind_holds}
+use Rattle.voter_laws.specs.Steps.{choose_holds, put_holds, enter_holds, bind_holds}
 
 -- a round is known by its epoch and its view
 round_by : (x : Round) (epoch view : ℕ) → x.epoch ≡ epoch → x.view ≡ view → x ≡ record { epoch = epoch; view = view }

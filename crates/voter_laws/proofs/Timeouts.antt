@@ -15,7 +15,7 @@ use Rattle.voter_history.specs.Past.{Item}
 use Rattle.voter_history.specs.Pasts.{put}
 use Rattle.voter_history.specs.History.{Setup, Point, started, nullified, finalized, judged, polled, pruned, enter, current, seen}
 use Rattle.voter_rules.specs.GivingUp.{earlier, has_budget, oldest_entered, term_deadline, timeout_of}
-use Rattle.voter_laws.specs.Stepping.{put_holds}
+use Rattle.voter_laws.specs.Steps.{put_holds}
 use Rattle.voter_laws.specs.Timeouts.{CurrentHasTimeout, TimeoutIsEarliest, PolledOnceIsPolled}
 use Rattle.voter_laws.proofs.Growing.{grows, grown}
 use Rattle.voter_laws.proofs.Pruning.{first_same, then_same, behind}

@@ -4,5 +4,5 @@ pub mod Matching
 pub mod Missing
 pub mod Placing
 pub mod Recording
-pub mod Stepping
+pub mod Steps
 pub mod Timeouts

@@ -92,7 +92,9 @@ impl Marks {
 
     /// The last marked one of the views from the first on and up to the last. Mostly that is the last mark of all.
     pub fn last_within(&self, first: View, last: View) -> Option<View>
-        ensures { (f : ℕ → Bool) → Shows self.now f → MatchOption result ((view : ℕ) → first ≤ view → view ≤ last → f view ≡ false) (λ found. IsLastMarked f first last found) }
+        ensures { (f : ℕ → Bool)
+            → Shows self.now f
+            → MatchOption result ((view : ℕ) → first ≤ view → view ≤ last → f view ≡ false) (λ found. IsLastMarked f first last found) }
     {
         if let Some(greatest) = self.views.last() {
             if *greatest < first {
@@ -107,7 +109,9 @@ impl Marks {
 
     /// The last marked one of these views, by a search.
     fn search_last(&self, first: View, last: View) -> Option<View>
-        ensures { (f : ℕ → Bool) → Shows self.now f → MatchOption result ((view : ℕ) → first ≤ view → view ≤ last → f view ≡ false) (λ found. IsLastMarked f first last found) }
+        ensures { (f : ℕ → Bool)
+            → Shows self.now f
+            → MatchOption result ((view : ℕ) → first ≤ view → view ≤ last → f view ≡ false) (λ found. IsLastMarked f first last found) }
     {
         if last < first {
             return None;

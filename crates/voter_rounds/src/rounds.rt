@@ -42,7 +42,9 @@ impl<S: Scheme<D> + Drop, D: Digest> Rounds<S, D> {
 
     /// What is known of a view, where something is.
     pub(crate) fn get(&self, view: View) -> Option<&Round<S, D>>
-        ensures { AtEach S.key_of self.now (λ s led past. MatchOption result ((past view ≡ []) × (led view ≡ None)) (λ r. IsTracked (past view) (led view) × one.Keeps S.key_of (setup_of s view) r.now (led view) (past view))) }
+        ensures { AtEach S.key_of self.now (λ s led past.
+            MatchOption result ((past view ≡ []) × (led view ≡ None))
+            (λ r. IsTracked (past view) (led view) × one.Keeps S.key_of (setup_of s view) r.now (led view) (past view))) }
     {
         // The proof takes from the number that it has 64 bits.
         let _number = view.get();
@@ -58,7 +60,9 @@ impl<S: Scheme<D> + Drop, D: Digest> Rounds<S, D> {
     /// The same by a search. A call of its own, so that callers needn't have its code at hand.
     #[inline(never)]
     fn search(&self, view: View) -> Option<&Round<S, D>>
-        ensures { AtEach S.key_of self.now (λ s led past. MatchOption result ((past view ≡ []) × (led view ≡ None)) (λ r. IsTracked (past view) (led view) × one.Keeps S.key_of (setup_of s view) r.now (led view) (past view))) }
+        ensures { AtEach S.key_of self.now (λ s led past.
+            MatchOption result ((past view ≡ []) × (led view ≡ None))
+            (λ r. IsTracked (past view) (led view) × one.Keeps S.key_of (setup_of s view) r.now (led view) (past view))) }
     {
         // The proof takes from the number that it has 64 bits.
         let _number = view.get();
@@ -80,7 +84,8 @@ impl<S: Scheme<D> + Drop, D: Digest> Rounds<S, D> {
     /// The first view from this one on of which something is known. Mostly that is the last view of all, or there is none behind it.
     pub(crate) fn first_tracked(&self, from: View) -> Option<View>
         ensures behind { IfSome result (λ first. from ≤ first) }
-        ensures tracked { AtEach S.key_of self.now (λ s led past. MatchOption result (AreUntracked led past from (2 ^ 64)) (λ first. IsFirstTracked led past from first)) }
+        ensures tracked { AtEach S.key_of self.now
+            (λ s led past. MatchOption result (AreUntracked led past from (2 ^ 64)) (λ first. IsFirstTracked led past from first)) }
     {
         let Some((last, _)) = self.by_view.first_key_value() else {
             return None;
@@ -100,7 +105,8 @@ impl<S: Scheme<D> + Drop, D: Digest> Rounds<S, D> {
     #[inline(never)]
     fn search_from(&self, from: View) -> Option<View>
         ensures behind { IfSome result (λ first. from ≤ first) }
-        ensures tracked { AtEach S.key_of self.now (λ s led past. MatchOption result (AreUntracked led past from (2 ^ 64)) (λ first. IsFirstTracked led past from first)) }
+        ensures tracked { AtEach S.key_of self.now
+            (λ s led past. MatchOption result (AreUntracked led past from (2 ^ 64)) (λ first. IsFirstTracked led past from first)) }
     {
         match self
             .by_view
@@ -134,7 +140,8 @@ impl<S: Scheme<D> + Drop, D: Digest> Rounds<S, D> {
     #[inline(never)]
     fn add_fresh(&mut self, view: View) -> Result<(), AllocError>
         ensures there { OnOk result (IsSome (stored self.new.by_view view)) }
-        ensures opens { OnOk result (AtEach S.key_of self.old (λ s led past. stored self.old.by_view view ≡ None → IsOpen S.key_of s self.new led past view)) }
+        ensures opens { OnOk result
+            (AtEach S.key_of self.old (λ s led past. stored self.old.by_view view ≡ None → IsOpen S.key_of s self.new led past view)) }
     {
         // The proof takes from the number that it has 64 bits.
         let _number = view.get();
@@ -146,7 +153,8 @@ impl<S: Scheme<D> + Drop, D: Digest> Rounds<S, D> {
     /// Lends the round of a view, a fresh one where nothing is known of it. Then something has to happen to it.
     pub(crate) fn open(&mut self, view: View) -> Result<&mut Round<S, D>, AllocError>
         ensures* writes_back { sem 𝓛 (LendsOpen S.row D.row S.PublicKey.row S.Signature.row S.Certificate.row S.key_of self.entry view result) }
-        ensures stands { IfOk result (λ round. AtEach S.key_of self.old (λ s led past. one.Keeps S.key_of (setup_of s view) round.now (led view) (past view))) }
+        ensures stands { IfOk result
+            (λ round. AtEach S.key_of self.old (λ s led past. one.Keeps S.key_of (setup_of s view) round.now (led view) (past view))) }
     {
         self.add(view)?;
         match self.by_view.get_mut(&Reverse(view)) {
@@ -158,7 +166,9 @@ impl<S: Scheme<D> + Drop, D: Digest> Rounds<S, D> {
     /// Lends the round of a view, where something is known of it.
     pub(crate) fn get_mut(&mut self, view: View) -> Option<&mut Round<S, D>>
         ensures* writes_back { sem 𝓛 (LendsKnown S.row D.row S.PublicKey.row S.Signature.row S.Certificate.row S.key_of self.entry view result) }
-        ensures stands { AtEach S.key_of self.old (λ s led past. MatchOption result ((past view ≡ []) × (led view ≡ None)) (λ round. IsTracked (past view) (led view) × one.Keeps S.key_of (setup_of s view) round.now (led view) (past view))) }
+        ensures stands { AtEach S.key_of self.old (λ s led past.
+            MatchOption result ((past view ≡ []) × (led view ≡ None))
+            (λ round. IsTracked (past view) (led view) × one.Keeps S.key_of (setup_of s view) round.now (led view) (past view))) }
     {
         // The proof takes from the number that it has 64 bits.
         let _number = view.get();
@@ -167,7 +177,8 @@ impl<S: Scheme<D> + Drop, D: Digest> Rounds<S, D> {
 
     /// The leader of the view becomes known, where it isn't: whether it wasn't.
     pub(crate) fn learn(&mut self, view: View, leader: Participant) -> Result<bool, AllocError>
-        ensures keeps { OnOk result (AtEach S.key_of self.old (λ s led past. leader < S.size s.scheme → Keep S.key_of s self.new (learn view leader led) past)) }
+        ensures keeps { OnOk result
+            (AtEach S.key_of self.old (λ s led past. leader < S.size s.scheme → Keep S.key_of s self.new (learn view leader led) past)) }
         ensures answer { IfOk result (λ new. AtEach S.key_of self.old (λ s led past. new ≡ is_none (led view))) }
     {
         Ok(self.open(view)?.learn_leader(leader))
@@ -175,7 +186,8 @@ impl<S: Scheme<D> + Drop, D: Digest> Rounds<S, D> {
 
     /// Takes in an artifact of this member's record.
     pub(crate) fn replay(&mut self, artifact: &Artifact<S, D>) -> Result<(), AllocError>
-        ensures { OnOk result (AtEach S.key_of self.old (λ s led past. (taken : Bool) × Takes past artifact.now taken × Keep S.key_of s self.new led (recalled taken artifact.now past))) }
+        ensures { OnOk result (AtEach S.key_of self.old
+            (λ s led past. (taken : Bool) × Takes past artifact.now taken × Keep S.key_of s self.new led (recalled taken artifact.now past))) }
     {
         let view = artifact.view();
         self.open(view)?.replay(artifact);
@@ -186,8 +198,11 @@ impl<S: Scheme<D> + Drop, D: Digest> Rounds<S, D> {
     pub(crate) fn pop_below(&mut self, floor: View) -> Option<(View, Round<S, D>)>
         ensures below { IfSome result (λ x. x.0 < floor) }
         ensures fewer { IsSome result → btree_map_len self.new.by_view < btree_map_len self.old.by_view }
-        ensures keeps { AtEach S.key_of self.old (λ s led past. MatchOption result (Keep S.key_of s self.new (unled floor led) (forget floor past)) (λ x. Keep S.key_of s self.new (unled (x.0 + 1) led) (forget (x.0 + 1) past))) }
-        ensures popped { AtEach S.key_of self.old (λ s led past. MatchOption result (AreUntracked led past 0 floor) (λ x. IsFirstBelow S.key_of s floor x.0 x.1 led past)) }
+        ensures keeps { AtEach S.key_of self.old (λ s led past.
+            MatchOption result (Keep S.key_of s self.new (unled floor led) (forget floor past))
+            (λ x. Keep S.key_of s self.new (unled (x.0 + 1) led) (forget (x.0 + 1) past))) }
+        ensures popped { AtEach S.key_of self.old
+            (λ s led past. MatchOption result (AreUntracked led past 0 floor) (λ x. IsFirstBelow S.key_of s floor x.0 x.1 led past)) }
     {
         // The proof takes from the number that it has 64 bits.
         let _number = floor.get();

@@ -44,7 +44,9 @@ pub struct Tracked<S: Scheme<D>, D: Digest> {
 impl<S: Scheme<D> + Drop, D: Digest> Tracked<S, D> {
     /// Nothing is known of any view.
     pub fn new(alloc: Global, scheme: Rc<S>, epoch: Epoch, lookahead: Lookahead) -> Self
-        ensures { Holds S.Scheme (record { common = record { scheme = scheme.value; epoch = epoch }; length = lookahead.length; optimistic_views = lookahead.optimistic_views }) result (record { led = λ view. None; past = λ view. []; noted = λ view. false }) }
+        ensures { Holds S.Scheme (record
+            { common = record { scheme = scheme.value; epoch = epoch }; length = lookahead.length; optimistic_views = lookahead.optimistic_views })
+            result (record { led = λ view. None; past = λ view. []; noted = λ view. false }) }
     {
         Tracked {
             lookahead,
@@ -106,8 +108,12 @@ impl<S: Scheme<D> + Drop, D: Digest> Tracked<S, D> {
 
     /// Hands the leader of the view before on to a view, where it has the same: whether that became known.
     fn inherit(&mut self, view: View) -> Result<bool, AllocError>
-        ensures keeps { OnOk result (AtEach S.Scheme self.old (λ f t. Holds S.Scheme f self.new (record t { led = λ u. if view == u then option_or (t.led view) (if inherits_by f t view then t.led (view - 1) else None) else t.led u }))) }
-        ensures answer { IfOk result (λ new. AtEach S.Scheme self.old (λ f t. new ≡ false → option_or (t.led view) (if inherits_by f t view then t.led (view - 1) else None) ≡ t.led view)) }
+        ensures keeps { OnOk result (AtEach S.Scheme self.old (λ f t.
+            Holds S.Scheme f self.new (record t
+            { led = λ u. if view == u then option_or (t.led view) (if inherits_by f t view then t.led (view - 1) else None) else t.led u }))) }
+        ensures answer { IfOk result (λ new.
+            AtEach S.Scheme self.old
+            (λ f t. new ≡ false → option_or (t.led view) (if inherits_by f t view then t.led (view - 1) else None) ≡ t.led view)) }
     {
         let Some(before) = view.previous() else {
             return Ok(false);
@@ -148,7 +154,10 @@ impl<S: Scheme<D> + Drop, D: Digest> Tracked<S, D> {
     /// Hands leaders on from the first view, up to the last at least, and on while one becomes known. The cost is that of the views
     /// on the way of which something is known, however far the last one lies.
     fn hand_on(&mut self, first: View, last: View) -> Result<(), AllocError>
-        ensures { OnOk result (AtEach S.Scheme self.old (λ f t. (here known : ℕ → Option ℕ) → IsBegun f t here known first last → Holds S.Scheme f self.new (record t { led = extend here (inherits_by f t) known }))) }
+        ensures { OnOk result (AtEach S.Scheme self.old (λ f t.
+            (here known : ℕ → Option ℕ)
+            → IsBegun f t here known first last
+            → Holds S.Scheme f self.new (record t { led = extend here (inherits_by f t) known }))) }
     {
         let mut view = first;
         'views: while view.get() < u64::MAX {
@@ -164,7 +173,11 @@ impl<S: Scheme<D> + Drop, D: Digest> Tracked<S, D> {
 
     /// Names the leader of a view, where it isn't known, and hands leaders on behind it.
     pub fn lead(&mut self, first: View, leader: Participant, last: View) -> Result<(), AllocError>
-        ensures { OnOk result (AtEach S.Scheme self.old (λ f t. 0 < first → leader < S.size f.common.scheme → ((u : ℕ) → (u + 1 < first) ⊎ (last ≤ u) → u + 1 < 2 ^ 64 → IsClosedAt (inherits_by f t) t.led u) → Holds S.Scheme f self.new (record t { led = extend (λ u. if u == first then Some leader else None) (inherits_by f t) t.led }))) }
+        ensures { OnOk result (AtEach S.Scheme self.old (λ f t.
+            0 < first
+            → leader < S.size f.common.scheme
+            → ((u : ℕ) → (u + 1 < first) ⊎ (last ≤ u) → u + 1 < 2 ^ 64 → IsClosedAt (inherits_by f t) t.led u)
+            → Holds S.Scheme f self.new (record t { led = extend (λ u. if u == first then Some leader else None) (inherits_by f t) t.led }))) }
     {
         let _new = self.rounds.learn(first, leader)?;
         if first.get() == u64::MAX {
@@ -182,7 +195,8 @@ impl<S: Scheme<D> + Drop, D: Digest> Tracked<S, D> {
         certification: u64,
         stall: Option<u64>,
     ) -> Result<(), AllocError>
-        ensures { OnOk result (AtEach S.Scheme self.old (λ f t. Holds S.Scheme f self.new (record t { past = put view (armed leader certification stall) (put view (entered now) t.past) }))) }
+        ensures { OnOk result (AtEach S.Scheme self.old
+            (λ f t. Holds S.Scheme f self.new (record t { past = put view (armed leader certification stall) (put view (entered now) t.past) }))) }
     {
         let round = self.rounds.open(view)?;
         round.mark_entered(now);
@@ -192,7 +206,9 @@ impl<S: Scheme<D> + Drop, D: Digest> Tracked<S, D> {
 
     /// Takes a nullification, the first of its view.
     pub fn add_nullification(&mut self, certificate: Nullification<S, D>) -> Result<(), AllocError>
-        ensures { OnOk result (AtEach S.Scheme self.old (λ f t. nullification (t.past certificate.round.view) ≡ None → Holds S.Scheme f self.new (record t { past = put certificate.round.view (nullified certificate) t.past }))) }
+        ensures { OnOk result (AtEach S.Scheme self.old (λ f t.
+            nullification (t.past certificate.round.view) ≡ None
+            → Holds S.Scheme f self.new (record t { past = put certificate.round.view (nullified certificate) t.past }))) }
     {
         let view = certificate.view();
         let _first = self.rounds.open(view)?.add_nullification(certificate);
@@ -204,9 +220,16 @@ impl<S: Scheme<D> + Drop, D: Digest> Tracked<S, D> {
         &mut self,
         certificate: Notarization<S, D>,
     ) -> Result<Option<S::PublicKey>, AllocError>
-        ensures keeps { OnOk result (AtEach S.Scheme self.old (λ f t. notarization (t.past certificate.proposal.round.view) ≡ None → Holds S.Scheme f self.new (record t { past = put certificate.proposal.round.view (notarized certificate) t.past }))) }
-        ensures replaced { IfOk result (λ key. AtEach S.Scheme self.old (λ f t. notarization (t.past certificate.proposal.round.view) ≡ None → Differs (held (offers (t.past certificate.proposal.round.view))) certificate.proposal → key ≡ option_map (S.key_of f.common.scheme) (t.led certificate.proposal.round.view))) }
-        ensures same { IfOk result (λ key. AtEach S.Scheme self.old (λ f t. Agrees (held (offers (t.past certificate.proposal.round.view))) certificate.proposal → key ≡ None)) }
+        ensures keeps { OnOk result (AtEach S.Scheme self.old (λ f t.
+            notarization (t.past certificate.proposal.round.view) ≡ None
+            → Holds S.Scheme f self.new (record t { past = put certificate.proposal.round.view (notarized certificate) t.past }))) }
+        ensures replaced { IfOk result (λ key.
+            AtEach S.Scheme self.old (λ f t.
+            notarization (t.past certificate.proposal.round.view) ≡ None
+            → Differs (held (offers (t.past certificate.proposal.round.view))) certificate.proposal
+            → key ≡ option_map (S.key_of f.common.scheme) (t.led certificate.proposal.round.view))) }
+        ensures same { IfOk result (λ key.
+            AtEach S.Scheme self.old (λ f t. Agrees (held (offers (t.past certificate.proposal.round.view))) certificate.proposal → key ≡ None)) }
     {
         let view = certificate.view();
         self.direct.mark(view)?;
@@ -219,9 +242,16 @@ impl<S: Scheme<D> + Drop, D: Digest> Tracked<S, D> {
         &mut self,
         certificate: Finalization<S, D>,
     ) -> Result<Option<S::PublicKey>, AllocError>
-        ensures keeps { OnOk result (AtEach S.Scheme self.old (λ f t. finalization (t.past certificate.proposal.round.view) ≡ None → Holds S.Scheme f self.new (record t { past = put certificate.proposal.round.view (finalized certificate) t.past }))) }
-        ensures replaced { IfOk result (λ key. AtEach S.Scheme self.old (λ f t. finalization (t.past certificate.proposal.round.view) ≡ None → Differs (held (offers (t.past certificate.proposal.round.view))) certificate.proposal → key ≡ option_map (S.key_of f.common.scheme) (t.led certificate.proposal.round.view))) }
-        ensures same { IfOk result (λ key. AtEach S.Scheme self.old (λ f t. Agrees (held (offers (t.past certificate.proposal.round.view))) certificate.proposal → key ≡ None)) }
+        ensures keeps { OnOk result (AtEach S.Scheme self.old (λ f t.
+            finalization (t.past certificate.proposal.round.view) ≡ None
+            → Holds S.Scheme f self.new (record t { past = put certificate.proposal.round.view (finalized certificate) t.past }))) }
+        ensures replaced { IfOk result (λ key.
+            AtEach S.Scheme self.old (λ f t.
+            finalization (t.past certificate.proposal.round.view) ≡ None
+            → Differs (held (offers (t.past certificate.proposal.round.view))) certificate.proposal
+            → key ≡ option_map (S.key_of f.common.scheme) (t.led certificate.proposal.round.view))) }
+        ensures same { IfOk result (λ key.
+            AtEach S.Scheme self.old (λ f t. Agrees (held (offers (t.past certificate.proposal.round.view))) certificate.proposal → key ≡ None)) }
     {
         let view = certificate.view();
         self.direct.mark(view)?;
@@ -241,7 +271,9 @@ impl<S: Scheme<D> + Drop, D: Digest> Tracked<S, D> {
 
     /// Hands leaders on from this view, where more is known of it now.
     pub fn follow(&mut self, view: View) -> Result<(), AllocError>
-        ensures { OnOk result (AtEach S.Scheme self.old (λ f t. ((u : ℕ) → (view == u) ≡ false → IsClosedAt (inherits_by f t) t.led u) → Holds S.Scheme f self.new (record t { led = extend (λ u. None) (inherits_by f t) t.led }))) }
+        ensures { OnOk result (AtEach S.Scheme self.old (λ f t.
+            ((u : ℕ) → (view == u) ≡ false → IsClosedAt (inherits_by f t) t.led u)
+            → Holds S.Scheme f self.new (record t { led = extend (λ u. None) (inherits_by f t) t.led }))) }
     {
         if view.get() == u64::MAX {
             return Ok(());
@@ -257,7 +289,10 @@ impl<S: Scheme<D> + Drop, D: Digest> Tracked<S, D> {
         view: View,
         next_leader: Option<Participant>,
     ) -> Result<(), AllocError>
-        ensures { OnOk result (AtEach S.Scheme self.old (λ f t. ForSome next_leader (λ i. i < S.size f.common.scheme) → ((u : ℕ) → (view == u) ≡ false → IsClosedAt (inherits_by f t) t.led u) → Holds S.Scheme f self.new (record t { led = extend (λ u. if u == view + 1 then next_leader else None) (inherits_by f t) t.led }))) }
+        ensures { OnOk result (AtEach S.Scheme self.old (λ f t.
+            ForSome next_leader (λ i. i < S.size f.common.scheme)
+            → ((u : ℕ) → (view == u) ≡ false → IsClosedAt (inherits_by f t) t.led u)
+            → Holds S.Scheme f self.new (record t { led = extend (λ u. if u == view + 1 then next_leader else None) (inherits_by f t) t.led }))) }
     {
         let Some(leader) = next_leader else {
             return self.follow(view);
@@ -271,8 +306,10 @@ impl<S: Scheme<D> + Drop, D: Digest> Tracked<S, D> {
 
     /// Offers the leader's proposal of a view: whether it is the first there. Behind an own nullify it is not taken.
     pub fn forward(&mut self, view: View, proposal: &Proposal<D>) -> Result<bool, AllocError>
-        ensures keeps { OnOk result (AtEach S.Scheme self.old (λ f t. ((u : ℕ) → IsClosedAt (inherits_by f t) t.led u) → Holds S.Scheme f self.new (proposed f t view proposal.now))) }
-        ensures answer { IfOk result (λ first. AtEach S.Scheme self.old (λ f t. IsTrue first ↔ ((has_nullified (t.past view) ≡ false) × (held (offers (t.past view)) ≡ None)))) }
+        ensures keeps { OnOk result (AtEach S.Scheme self.old
+            (λ f t. ((u : ℕ) → IsClosedAt (inherits_by f t) t.led u) → Holds S.Scheme f self.new (proposed f t view proposal.now))) }
+        ensures answer { IfOk result (λ first.
+            AtEach S.Scheme self.old (λ f t. IsTrue first ↔ ((has_nullified (t.past view) ≡ false) × (held (offers (t.past view)) ≡ None)))) }
     {
         let first = self.rounds.open(view)?.set_proposal(proposal);
         self.noted.mark(view)?;
@@ -284,8 +321,10 @@ impl<S: Scheme<D> + Drop, D: Digest> Tracked<S, D> {
     /// the views up to it. Where there is none, it drops what is known of the views below the floor.
     pub fn pop_below(&mut self, floor: View) -> Option<(View, Round<S, D>)>
         ensures fewer { IsSome result → count self.new < count self.old }
-        ensures keeps { AtEach S.Scheme self.old (λ f t. MatchOption result (Holds S.Scheme f self.new (forgotten floor t)) (λ x. Holds S.Scheme f self.new (forgotten (x.0 + 1) t))) }
-        ensures popped { AtEach S.Scheme self.old (λ f t. MatchOption result (AreUntracked t.led t.past 0 floor) (λ x. IsFirstBelow S.key_of f.common floor x.0 x.1 t.led t.past)) }
+        ensures keeps { AtEach S.Scheme self.old
+            (λ f t. MatchOption result (Holds S.Scheme f self.new (forgotten floor t)) (λ x. Holds S.Scheme f self.new (forgotten (x.0 + 1) t))) }
+        ensures popped { AtEach S.Scheme self.old
+            (λ f t. MatchOption result (AreUntracked t.led t.past 0 floor) (λ x. IsFirstBelow S.key_of f.common floor x.0 x.1 t.led t.past)) }
     {
         // The proof takes from the number that it has 64 bits.
         let _number = floor.get();
@@ -302,9 +341,13 @@ impl<S: Scheme<D> + Drop, D: Digest> Tracked<S, D> {
         ensures lookahead { self.new.lookahead ≡ self.old.lookahead }
         ensures rounds { self.new.rounds ≡ self.old.rounds }
         ensures direct { (marked : ℕ → Bool) → Shows self.old.direct marked → Shows self.new.direct (λ u. if nat_lt u end then false else marked u) }
-        ensures certified { (marked : ℕ → Bool) → Shows self.old.certified marked → Shows self.new.certified (λ u. if nat_lt u end then false else marked u) }
+        ensures certified { (marked : ℕ → Bool)
+            → Shows self.old.certified marked
+            → Shows self.new.certified (λ u. if nat_lt u end then false else marked u) }
         ensures failed { (marked : ℕ → Bool) → Shows self.old.failed marked → Shows self.new.failed (λ u. if nat_lt u end then false else marked u) }
-        ensures given_up { (marked : ℕ → Bool) → Shows self.old.given_up marked → Shows self.new.given_up (λ u. if nat_lt u end then false else marked u) }
+        ensures given_up { (marked : ℕ → Bool)
+            → Shows self.old.given_up marked
+            → Shows self.new.given_up (λ u. if nat_lt u end then false else marked u) }
         ensures noted { (marked : ℕ → Bool) → Shows self.old.noted marked → Shows self.new.noted (λ u. if nat_lt u end then false else marked u) }
     {
         self.direct.forget_below(end);
@@ -328,7 +371,9 @@ impl<S: Scheme<D> + Drop, D: Digest> Tracked<S, D> {
 
     /// What is known of a view, where something is.
     pub fn round(&self, view: View) -> Option<&Round<S, D>>
-        ensures { AtEach S.Scheme self.now (λ f t. MatchOption result ((t.past view ≡ []) × (t.led view ≡ None)) (λ r. IsTracked (t.past view) (t.led view) × one.Keeps S.key_of (setup_of f.common view) r.now (t.led view) (t.past view))) }
+        ensures { AtEach S.Scheme self.now (λ f t.
+            MatchOption result ((t.past view ≡ []) × (t.led view ≡ None))
+            (λ r. IsTracked (t.past view) (t.led view) × one.Keeps S.key_of (setup_of f.common view) r.now (t.led view) (t.past view))) }
     {
         self.rounds.get(view)
     }

@@ -73,7 +73,8 @@ pub fn is_in_window<K: Knowledge<D>, D: Digest>(known: &K, view: View) -> bool
 /// member voted for, as far as its parents support what they were bound to.
 pub fn optimistic_payload<K: Knowledge<D>, D: Digest>(known: &K, view: View) -> Option<D>
     requires { view + 1 < 2 ^ 64 }
-    ensures { AtEach K.shows known.now (λ m k. MatchOption result ((payload : D) → ¬ Optimistic m k view payload) (λ payload. Optimistic m k view payload)) }
+    ensures { AtEach K.shows known.now
+        (λ m k. MatchOption result ((payload : D) → ¬ Optimistic m k view payload) (λ payload. Optimistic m k view payload)) }
 {
     let first = support(known, view)?;
     let mut below = first.below;
@@ -92,7 +93,8 @@ fn follow<K: Knowledge<D>, D: Digest>(
 ) -> Option<Option<(View, Option<D>)>>
     requires { parent + 1 < 2 ^ 64 }
     ensures lower { IfSome result (λ below. ForSome below (λ b. b.0 < parent)) }
-    ensures rests { AtEach K.shows known.now (λ m k. MatchOption result (¬ Rests m k (Some (parent, bound))) (λ below. Rests m k below ↔ Rests m k (Some (parent, bound)))) }
+    ensures rests { AtEach K.shows known.now
+        (λ m k. MatchOption result (¬ Rests m k (Some (parent, bound))) (λ below. Rests m k below ↔ Rests m k (Some (parent, bound)))) }
 {
     let next = support(known, parent)?;
     if !is_met(bound, next.payload) {
@@ -134,7 +136,10 @@ fn support<K: Knowledge<D>, D: Digest>(known: &K, view: View) -> Option<Link<D>>
 fn certified_link<K: Knowledge<D>, D: Digest>(known: &K, view: View) -> Option<Link<D>>
     requires { view + 1 < 2 ^ 64 }
     ensures lower { IfSome result (λ l. ForSome l.below (λ below. below.0 < view)) }
-    ensures link { AtEach K.shows known.now (λ m k. view ≢ 0 → has_certificate m k view ≡ true → MatchOption result ((payload : D) → ¬ Optimistic m k view payload) (λ l. IsLink m k view l)) }
+    ensures link { AtEach K.shows known.now (λ m k.
+        view ≢ 0
+        → has_certificate m k view ≡ true
+        → MatchOption result ((payload : D) → ¬ Optimistic m k view payload) (λ l. IsLink m k view l)) }
 {
     if has_failed(known, view) {
         return None;
@@ -163,7 +168,10 @@ fn has_failed<K: Knowledge<D>, D: Digest>(known: &K, view: View) -> bool
 fn voted_link<K: Knowledge<D>, D: Digest>(known: &K, view: View) -> Option<Link<D>>
     requires { view + 1 < 2 ^ 64 }
     ensures lower { IfSome result (λ l. ForSome l.below (λ below. below.0 < view)) }
-    ensures link { AtEach K.shows known.now (λ m k. view ≢ 0 → has_certificate m k view ≡ false → MatchOption result ((payload : D) → ¬ Optimistic m k view payload) (λ l. IsLink m k view l)) }
+    ensures link { AtEach K.shows known.now (λ m k.
+        view ≢ 0
+        → has_certificate m k view ≡ false
+        → MatchOption result ((payload : D) → ¬ Optimistic m k view payload) (λ l. IsLink m k view l)) }
 {
     let proposal = known.backed_proposal(view)?;
     if proposal.parent < known.last_finalized() || view <= proposal.parent {
@@ -229,7 +237,8 @@ pub fn supported_payload<K: Knowledge<D>, D: Digest>(
     parent: View,
 ) -> Option<D>
     requires { parent < view }
-    ensures { AtEach K.shows known.now (λ m k. MatchOption result ((payload : D) → ¬ Supports m k view parent payload) (λ payload. Supports m k view parent payload)) }
+    ensures { AtEach K.shows known.now
+        (λ m k. MatchOption result ((payload : D) → ¬ Supports m k view parent payload) (λ payload. Supports m k view parent payload)) }
 {
     if is_in_window(known, view) {
         return optimistic_payload(known, parent);
@@ -247,7 +256,8 @@ pub fn parent_payload<K: Knowledge<D>, D: Digest>(
     view: View,
     parent: View,
 ) -> Result<D, ParentFault>
-    ensures { AtEach K.shows known.now (λ m k. MatchResult result (λ payload. IsParent m k view parent payload) (λ fault. Explains m k view parent fault)) }
+    ensures { AtEach K.shows known.now
+        (λ m k. MatchResult result (λ payload. IsParent m k view parent payload) (λ fault. Explains m k view parent fault)) }
 {
     if let Some(fault) = span_fault(known, view, parent) {
         return Err(fault);
@@ -262,7 +272,8 @@ pub fn span_fault<K: Knowledge<D>, D: Digest>(
     parent: View,
 ) -> Option<ParentFault>
     ensures below { result ≡ None → parent < view }
-    ensures fault { AtEach K.shows known.now (λ m k. MatchOption result (IsSpan m k view parent) (λ fault. Explains m k view parent fault × ¬ IsSpan m k view parent)) }
+    ensures fault { AtEach K.shows known.now
+        (λ m k. MatchOption result (IsSpan m k view parent) (λ fault. Explains m k view parent fault × ¬ IsSpan m k view parent)) }
 {
     if view <= parent || parent < known.last_finalized() {
         return Some(ParentFault::Invalid);
@@ -280,7 +291,8 @@ pub fn span_fault<K: Knowledge<D>, D: Digest>(
 /// term's start the highest explicit view below, where each view between is covered, or else the view before, where it
 /// may be handed off.
 pub fn preferred_parent<K: Knowledge<D>, D: Digest>(known: &K, view: View) -> Option<(View, D)>
-    ensures { AtEach K.shows known.now (λ m k. MatchOption result ((parent : ℕ) (payload : D) → ¬ IsPreferred m k view parent payload) (λ x. IsPreferred m k view x.0 x.1)) }
+    ensures { AtEach K.shows known.now
+        (λ m k. MatchOption result ((parent : ℕ) (payload : D) → ¬ IsPreferred m k view parent payload) (λ x. IsPreferred m k view x.0 x.1)) }
 {
     if view.is_term_start(known.lookahead().length) {
         return last_parent(known, view);
@@ -290,7 +302,9 @@ pub fn preferred_parent<K: Knowledge<D>, D: Digest>(known: &K, view: View) -> Op
 
 /// The same inside a term.
 fn previous_parent<K: Knowledge<D>, D: Digest>(known: &K, view: View) -> Option<(View, D)>
-    ensures { AtEach K.shows known.now (λ m k. ¬ IsTermStart m.length view → MatchOption result ((parent : ℕ) (payload : D) → ¬ IsPreferred m k view parent payload) (λ x. IsPreferred m k view x.0 x.1)) }
+    ensures { AtEach K.shows known.now (λ m k.
+        ¬ IsTermStart m.length view
+        → MatchOption result ((parent : ℕ) (payload : D) → ¬ IsPreferred m k view parent payload) (λ x. IsPreferred m k view x.0 x.1)) }
 {
     let parent = view.previous()?;
     match supported_payload(known, view, parent) {
@@ -301,7 +315,9 @@ fn previous_parent<K: Knowledge<D>, D: Digest>(known: &K, view: View) -> Option<
 
 /// The same at a term's start.
 fn last_parent<K: Knowledge<D>, D: Digest>(known: &K, view: View) -> Option<(View, D)>
-    ensures { AtEach K.shows known.now (λ m k. IsTermStart m.length view → MatchOption result ((parent : ℕ) (payload : D) → ¬ IsPreferred m k view parent payload) (λ x. IsPreferred m k view x.0 x.1)) }
+    ensures { AtEach K.shows known.now (λ m k.
+        IsTermStart m.length view
+        → MatchOption result ((parent : ℕ) (payload : D) → ¬ IsPreferred m k view parent payload) (λ x. IsPreferred m k view x.0 x.1)) }
 {
     if let Some(found) = certified_parent(known, view) {
         return Some(found);
@@ -311,7 +327,10 @@ fn last_parent<K: Knowledge<D>, D: Digest>(known: &K, view: View) -> Option<(Vie
 
 /// The highest explicit view below a term's start with its payload, where each view between is covered.
 fn certified_parent<K: Knowledge<D>, D: Digest>(known: &K, view: View) -> Option<(View, D)>
-    ensures { AtEach K.shows known.now (λ m k. IsTermStart m.length view → MatchOption result ((parent : ℕ) (payload : D) → ¬ IsLastCertified m k view parent payload) (λ x. IsLastCertified m k view x.0 x.1)) }
+    ensures { AtEach K.shows known.now (λ m k.
+        IsTermStart m.length view
+        → MatchOption result ((parent : ℕ) (payload : D) → ¬ IsLastCertified m k view parent payload)
+        (λ x. IsLastCertified m k view x.0 x.1)) }
 {
     let (parent, payload) = known.last_certified(view)?;
     if known.first_uncovered(parent, view).is_some() {
@@ -322,7 +341,10 @@ fn certified_parent<K: Knowledge<D>, D: Digest>(known: &K, view: View) -> Option
 
 /// The view before a term's start with the payload that it supports, where it may be handed off.
 fn handed_over<K: Knowledge<D>, D: Digest>(known: &K, view: View) -> Option<(View, D)>
-    ensures { AtEach K.shows known.now (λ m k. IsTermStart m.length view → ((u : ℕ) (other : D) → ¬ IsLastCertified m k view u other) → MatchOption result ((parent : ℕ) (payload : D) → ¬ IsHandedOver m k view parent payload) (λ x. IsHandedOver m k view x.0 x.1)) }
+    ensures { AtEach K.shows known.now (λ m k.
+        IsTermStart m.length view
+        → ((u : ℕ) (other : D) → ¬ IsLastCertified m k view u other)
+        → MatchOption result ((parent : ℕ) (payload : D) → ¬ IsHandedOver m k view parent payload) (λ x. IsHandedOver m k view x.0 x.1)) }
 {
     let parent = view.previous()?;
     if !is_handoff_parent(known, parent) {
@@ -372,7 +394,8 @@ fn is_held<D: Digest>(held: Option<Proposal<D>>, proposal: &Proposal<D>) -> bool
 
 /// Whether a view's proposal may stand on this parent with this payload, or this member, which leads, would build it so.
 fn may_stand_on<K: Knowledge<D>, D: Digest>(known: &K, view: View, parent: View, payload: D) -> bool
-    ensures { AtEach K.shows known.now (λ m k. IsTrue result ↔ (IsParent m k view parent payload ⊎ (Leads m k view × IsPreferred m k view parent payload))) }
+    ensures { AtEach K.shows known.now
+        (λ m k. IsTrue result ↔ (IsParent m k view parent payload ⊎ (Leads m k view × IsPreferred m k view parent payload))) }
 {
     if allows_parent(known, view, parent, payload) {
         return true;
@@ -420,7 +443,8 @@ pub fn required_parent<K: Knowledge<D>, D: Digest>(
     view: View,
     parent: View,
 ) -> Option<View>
-    ensures { AtEach K.shows known.now (λ m k. MatchOption result ((required : ℕ) → ¬ IsRequired m k view parent required) (λ required. IsRequired m k view parent required)) }
+    ensures { AtEach K.shows known.now (λ m k.
+        MatchOption result ((required : ℕ) → ¬ IsRequired m k view parent required) (λ required. IsRequired m k view parent required)) }
 {
     let before = view.previous()?;
     if !view.is_term_start(known.lookahead().length) {

@@ -62,7 +62,8 @@ pub trait Knowledge<D: Digest> {
 
     /// The highest view below this one that is explicit, with its payload.
     fn last_certified(&self, view: View) -> Option<(View, D)>
-        ensures { AtEach shows self.now (λ m k. MatchOption result ((u : ℕ) → u < view → explicit m k u ≡ None) (λ last. IsHighest m k view last.0 last.1)) };
+        ensures { AtEach shows self.now
+            (λ m k. MatchOption result ((u : ℕ) → u < view → explicit m k u ≡ None) (λ last. IsHighest m k view last.0 last.1)) };
 
     /// Whether this member leads a view, as far as is known.
     fn leads(&self, view: View) -> bool
@@ -130,5 +131,6 @@ pub trait Knowledge<D: Digest> {
 
     /// The first view strictly between a parent and a view that isn't covered.
     fn first_uncovered(&self, parent: View, view: View) -> Option<View>
-        ensures { AtEach shows self.now (λ m k. MatchOption result (AreCoveredBetween m k parent view) (λ first. IsFirstUncovered m k parent view first)) };
+        ensures { AtEach shows self.now
+            (λ m k. MatchOption result (AreCoveredBetween m k parent view) (λ first. IsFirstUncovered m k parent view first)) };
 }

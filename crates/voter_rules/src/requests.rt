@@ -45,7 +45,8 @@ pub enum CertifyRequest<D: Digest> {
 
 /// The parent that a build of a view is to be asked for on, with its payload; `None` where none is to be asked for.
 pub fn build_on<K: Knowledge<D>, D: Digest>(known: &K, view: View) -> Option<(View, D)>
-    ensures { AtEach K.shows known.now (λ m k. MatchOption result ((parent : ℕ) (payload : D) → ¬ BuildIsDue m k view parent payload) (λ x. BuildIsDue m k view x.0 x.1)) }
+    ensures { AtEach K.shows known.now
+        (λ m k. MatchOption result ((parent : ℕ) (payload : D) → ¬ BuildIsDue m k view parent payload) (λ x. BuildIsDue m k view x.0 x.1)) }
 {
     if !known.should_propose(view) {
         return None;
@@ -157,7 +158,11 @@ fn uncovered<K: Knowledge<D>, D: Digest>(
     proposal: Proposal<D>,
     first: View,
 ) -> VerifyRequest<D>
-    ensures { AtEach K.shows known.now (λ m k. WaitsForParent m k view proposal → ¬ IsInvalidParent m k view proposal.parent → IsFirstUncovered m k proposal.parent view first → Finds m k view result) }
+    ensures { AtEach K.shows known.now (λ m k.
+        WaitsForParent m k view proposal
+        → ¬ IsInvalidParent m k view proposal.parent
+        → IsFirstUncovered m k proposal.parent view first
+        → Finds m k view result) }
 {
     if known.is_requested(view, first) {
         return VerifyRequest::Wait;

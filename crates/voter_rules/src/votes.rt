@@ -82,7 +82,8 @@ fn is_supported<K: Knowledge<D>, D: Digest>(known: &K, view: View) -> bool
 
 /// Whether no earlier view of the term above the last finalized one was given up here.
 fn is_healed<K: Knowledge<D>, D: Digest>(known: &K, view: View) -> bool
-    ensures { AtEach K.shows known.now (λ m k. IsTrue result ↔ ((u : ℕ) → term_start m.length view ≤ u → u < view → k.last_finalized < u → k.has_nullified u ≡ false)) }
+    ensures { AtEach K.shows known.now
+        (λ m k. IsTrue result ↔ ((u : ℕ) → term_start m.length view ≤ u → u < view → k.last_finalized < u → k.has_nullified u ≡ false)) }
 {
     let finalized = known.last_finalized();
     if view <= finalized {
@@ -94,7 +95,11 @@ fn is_healed<K: Knowledge<D>, D: Digest>(known: &K, view: View) -> bool
 
 /// Whether the parent that the held proposal requires is explicit, where it requires one.
 fn is_grounded<K: Knowledge<D>, D: Digest>(known: &K, view: View) -> bool
-    ensures { AtEach K.shows known.now (λ m k. IsTrue result ↔ ((p : Proposal D) (required : ℕ) → held_at m k view ≡ Some p → IsRequired m k view p.parent required → IsSome (explicit m k required))) }
+    ensures { AtEach K.shows known.now (λ m k.
+        IsTrue result ↔ ((p : Proposal D) (required : ℕ)
+        → held_at m k view ≡ Some p
+        → IsRequired m k view p.parent required
+        → IsSome (explicit m k required))) }
 {
     match known.proposal(view) {
         Some(proposal) => is_explicit(known, required_parent(known, view, proposal.parent)),

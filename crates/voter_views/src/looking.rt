@@ -34,7 +34,9 @@ pub(crate) fn last_explicit<S: Scheme<D> + Drop, L: Elector<S, D>, D: Digest>(
     views: &Views<S, L, D>,
     view: View,
 ) -> Option<(View, D)>
-    ensures { AtEach S.Scheme L.Elector views.now (λ s h. MatchOption result ((u : ℕ) → u < view → explicit (member s) (known s h) u ≡ None) (λ last. IsHighest (member s) (known s h) view last.0 last.1)) }
+    ensures { AtEach S.Scheme L.Elector views.now (λ s h.
+        MatchOption result ((u : ℕ) → u < view → explicit (member s) (known s h) u ≡ None)
+        (λ last. IsHighest (member s) (known s h) view last.0 last.1)) }
 {
     let mut end = view;
     // A certified view is explicit, and so the first one found: but for one of which the record recalls a true verdict, while no
@@ -54,7 +56,9 @@ fn last_certified<S: Scheme<D> + Drop, L: Elector<S, D>, D: Digest>(
     end: View,
 ) -> Option<View>
     ensures before { IfSome result (λ last. last < end) }
-    ensures certified { AtEach S.Scheme L.Elector views.now (λ s h. MatchOption result ((u : ℕ) → 0 < u → u < end → is_certified (seen s h u) ≡ false) (λ last. IsLastMarked (λ u. is_certified (seen s h u)) 1 (end - 1) last)) }
+    ensures certified { AtEach S.Scheme L.Elector views.now (λ s h.
+        MatchOption result ((u : ℕ) → 0 < u → u < end → is_certified (seen s h u) ≡ false)
+        (λ last. IsLastMarked (λ u. is_certified (seen s h u)) 1 (end - 1) last)) }
 {
     let Some(below) = end.previous() else {
         return None;
@@ -69,7 +73,9 @@ fn start_below<S: Scheme<D> + Drop, L: Elector<S, D>, D: Digest>(
     views: &Views<S, L, D>,
     view: View,
 ) -> Option<(View, D)>
-    ensures { AtEach S.Scheme L.Elector views.now (λ s h. MatchOption result (0 < view → explicit (member s) (known s h) 0 ≡ None) (λ start. (start.0 ≡ 0) × (0 < view) × (explicit (member s) (known s h) 0 ≡ Some start.1))) }
+    ensures { AtEach S.Scheme L.Elector views.now (λ s h.
+        MatchOption result (0 < view → explicit (member s) (known s h) 0 ≡ None)
+        (λ start. (start.0 ≡ 0) × (0 < view) × (explicit (member s) (known s h) 0 ≡ Some start.1))) }
 {
     if view.is_zero() {
         return None;

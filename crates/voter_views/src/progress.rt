@@ -22,7 +22,9 @@ pub(crate) struct Progress<S: Scheme<D>, D: Digest> {
 impl<S: Scheme<D> + Drop, D: Digest> Progress<S, D> {
     /// Enters the view, where it lies above the current one. A deadline that would lie past the last moment of 64 bits is that one.
     pub(crate) fn enter(&mut self, now: u64, view: View) -> Result<(), AllocError>
-        ensures { OnOk result ((s : Setup S S.Certificate) (c : ℕ) (t : Tables S D S.PublicKey S.Signature S.Certificate) → IsAt S.Scheme s self.old c t → IsAt S.Scheme s self.new (max view c) (record t { past = enter s c now view t.past })) }
+        ensures { OnOk result ((s : Setup S S.Certificate) (c : ℕ) (t : Tables S D S.PublicKey S.Signature S.Certificate)
+            → IsAt S.Scheme s self.old c t
+            → IsAt S.Scheme s self.new (max view c) (record t { past = enter s c now view t.past })) }
     {
         if view <= self.view {
             return Ok(());

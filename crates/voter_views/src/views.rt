@@ -3,12 +3,12 @@
 
 mod asking;
 mod learning;
+mod own_votes;
 mod proposing;
 mod pruning;
 mod recalling;
 mod sending;
 mod timing;
-mod voting;
 
 ghost use Rattle.std.specs.Prelude.{◌≡◌, ◌↔◌, ◌+◌, ◌<◌, ◌≤◌, ◌^◌, ◌∷◌, ℕ, [], Some, None, IsTrue, IfSome, IfOk, OnOk, MatchOption, option_copied};
 ghost use Rattle.std.specs.Option.{ForSome};
@@ -142,7 +142,8 @@ impl<S: Scheme<D> + Drop, L: Elector<S, D>, D: Digest> Views<S, L, D> {
 
     /// Whether a vote of the view is taken: the view is kept and listened to.
     pub fn admits_vote(&self, view: View) -> bool
-        ensures { AtEach S.Scheme L.Elector self.now (λ s h. IsTrue result ↔ (Retains (last_finalized h) s.retention view × Admits s.length s.optimistic_views (current s h) view)) }
+        ensures { AtEach S.Scheme L.Elector self.now
+            (λ s h. IsTrue result ↔ (Retains (last_finalized h) s.retention view × Admits s.length s.optimistic_views (current s h) view)) }
     {
         self.viewport().admits_vote(view)
     }
@@ -219,7 +220,9 @@ impl<S: Scheme<D> + Drop, L: Elector<S, D>, D: Digest> Views<S, L, D> {
 
     /// What is known of a view, where something is.
     pub fn round(&self, view: View) -> Option<&Round<S, D>>
-        ensures value { AtEach S.Scheme L.Elector self.now (λ s h. MatchOption result ((seen s h view ≡ []) × (leader s h view ≡ None)) (λ r. IsTracked s h view × one.Keeps S.key_of (round_of s view) r.now (leader s h view) (seen s h view))) }
+        ensures value { AtEach S.Scheme L.Elector self.now (λ s h.
+            MatchOption result ((seen s h view ≡ []) × (leader s h view ≡ None))
+            (λ r. IsTracked s h view × one.Keeps S.key_of (round_of s view) r.now (leader s h view) (seen s h view))) }
         ensures own { AtEach S.Scheme L.Elector self.now (λ s h. S.own s.scheme ≡ s.me) }
     {
         self.progress.tracked.round(view)
@@ -235,7 +238,8 @@ impl<S: Scheme<D> + Drop, L: Elector<S, D>, D: Digest> Views<S, L, D> {
     /// The first view from this one on of which something is known.
     pub fn first_tracked(&self, from: View) -> Option<View>
         ensures behind { IfSome result (λ first. from ≤ first) }
-        ensures tracked { AtEach S.Scheme L.Elector self.now (λ s h. MatchOption result (AreUntracked (leader s h) (seen s h) from (2 ^ 64)) (λ first. IsFirstTracked (leader s h) (seen s h) from first)) }
+        ensures tracked { AtEach S.Scheme L.Elector self.now (λ s h.
+            MatchOption result (AreUntracked (leader s h) (seen s h) from (2 ^ 64)) (λ first. IsFirstTracked (leader s h) (seen s h) from first)) }
     {
         self.progress.tracked.first_tracked(from)
     }
@@ -272,7 +276,8 @@ impl<S: Scheme<D> + Drop, L: Elector<S, D>, D: Digest> Views<S, L, D> {
 
     /// The highest nullification that covers the view: of those that are kept of the views from the start of its term up to it.
     pub fn covering_nullification(&self, view: View) -> Option<&Nullification<S, D>>
-        ensures { AtEach S.Scheme L.Elector self.now (λ s h. MatchOption result ((u : ℕ) → InCoveringRange s.length view u → nullification s h u ≡ None) (λ c. IsHighestCovering s h view c.now)) }
+        ensures { AtEach S.Scheme L.Elector self.now (λ s h.
+            MatchOption result ((u : ℕ) → InCoveringRange s.length view u → nullification s h u ≡ None) (λ c. IsHighestCovering s h view c.now)) }
     {
         let start = view.term_start(self.lookahead.length);
         let last = self.nullified.last_within(start, view)?;

@@ -1,14 +1,13 @@
 //! A member of a world.
 
+use crate::liar::Liar;
 use crate::seat::Seat;
 use std::alloc::{AllocError, Global};
 use std::cell::Cell;
 use std::rc::Rc;
 use test_words::{Committee, Trouble};
 use types_core::{Participant, Sha256Digest};
-use world_liars::Liar;
-use world_network::{Fuse, NO_FUSE};
-use world_scenario::{Broken, Crash, Scenario};
+use world_network::{Broken, Crash, Fuse, NO_FUSE, Scenario};
 
 /// A member.
 #[derive(Drop)]

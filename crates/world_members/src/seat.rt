@@ -4,8 +4,7 @@ use simplex_member::{Action, Event, Reply};
 use std::alloc::{AllocError, AllocFailed, Global};
 use test_words::Committee;
 use types_core::Sha256Digest;
-use world_network::Fuse;
-use world_scenario::{Broken, Scenario};
+use world_network::{Broken, Fuse, Scenario};
 
 /// Why a seat has no answer.
 #[derive(Clone, Copy)]

@@ -5,8 +5,7 @@ ghost use Rattle.std.specs.Prelude.{◌<◌};
 use types_core::{Epoch, Sha256Digest, TermLength, ViewDelta};
 use types_terms::elector::RoundRobin;
 use voter_rules::config::{Config, ForwardPolicy, SkipBudget, SkipPolicy};
-use world_network::genesis;
-use world_scenario::Times;
+use world_network::{Times, genesis};
 
 /// Who leads: all in turn, a term each.
 pub fn rotation_of(times: &Times) -> RoundRobin {

@@ -1,11 +1,11 @@
 //! What is under way: packets and answers of the application, which come at moments that chance picks.
 
+use crate::scenario::{Scenario, Span};
 use simplex_member::{Channel, Event};
 use std::alloc::{AllocError, Global};
 use std::collections::BTreeMap;
 use test_schemes::Chance;
 use types_core::{Participant, Sha256Digest};
-use world_scenario::{Scenario, Span};
 
 /// What comes to a member.
 #[derive(Drop)]

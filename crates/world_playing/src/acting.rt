@@ -6,10 +6,8 @@ use simplex_messages::Activity;
 use std::alloc::AllocError;
 use test_words::Committee;
 use types_core::{Proposal, Sha256Digest, Viewable};
-use world_liars::{Handed, Lie, Parcel};
-use world_members::Seat;
-use world_network::{Ground, Packet};
-use world_scenario::Broken;
+use world_members::{Handed, Lie, Parcel, Seat};
+use world_network::{Broken, Ground, Packet};
 
 impl<S: Committee, M: Seat<S>> World<S, M> {
     /// Does all that a node handed out.

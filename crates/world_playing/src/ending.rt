@@ -1,11 +1,12 @@
 //! The end of a run: a table of the members, the audit of their reports, and the status.
 
+use crate::findings::Findings;
+use crate::sums::{Standing, Sums};
 use crate::world::World;
 use std::alloc::AllocError;
 use test_words::Committee;
-use world_lines::{Findings, Standing, Sums};
 use world_members::{Member, Seat};
-use world_scenario::Broken;
+use world_network::Broken;
 
 /// The status of a run in which no finalized proposals differed, nobody correct was blamed, and each record was opened again.
 const KEPT: u8 = 0;

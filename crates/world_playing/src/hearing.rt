@@ -4,10 +4,8 @@ use crate::world::{World, index_of};
 use simplex_member::Event;
 use test_words::Committee;
 use types_core::{Participant, Sha256Digest};
-use world_liars::{Handed, Parcel};
-use world_members::Seat;
-use world_network::{Arrival, Packet};
-use world_scenario::Broken;
+use world_members::{Handed, Parcel, Seat};
+use world_network::{Arrival, Broken, Packet};
 
 impl<S: Committee, M: Seat<S>> World<S, M> {
     /// Hands over what comes next, unless nothing does before the run's end.

@@ -6,7 +6,7 @@ use std::io::{BufRead, BufReader, Read, Write};
 use test_words::Committee;
 use voter_rules::config::check_config;
 use world_members::{Seat, config_of};
-use world_scenario::{Broken, Detail, Refusal, Scenario, Teller};
+use world_network::{Broken, Detail, Refusal, Scenario, Teller};
 
 /// The status where a line was refused.
 const REFUSED: u8 = 2;

@@ -1,15 +1,15 @@
 //! The world of a scenario: its members, what is under way, and what comes next.
 
+use crate::chronicle::Chronicle;
+use crate::reports::Reports;
 use simplex_member::{Action, Event, Reply};
 use std::alloc::Global;
 use std::io::Write;
 use test_schemes::Chance;
 use test_words::Committee;
 use types_core::Sha256Digest;
-use world_lines::{Chronicle, Reports};
 use world_members::{Halt, Member, Seat};
-use world_network::{Chain, Network, Payloads};
-use world_scenario::{Broken, Scenario};
+use world_network::{Broken, Chain, Network, Payloads, Scenario};
 
 /// The most events of a run.
 const MOST_EVENTS: u64 = 1_000_000_000;

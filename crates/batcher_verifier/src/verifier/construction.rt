@@ -10,8 +10,8 @@ ghost use Rattle.batcher_verifier.specs.Keeping.{VerifierKeeps, AtEachOf, select
 ghost use Rattle.batcher_verifier.specs.History.{proposal_of};
 
 use crate::batch::Batch;
+use crate::certificate_kinds::{certificate_on, subject_of};
 use crate::verifier::Verifier;
-use crate::votes::{certificate_on, subject_of};
 use batcher_assembly::{Judged, assemble_enough, judge};
 use simplex_messages::Certificate;
 use std::alloc::{AllocError, Global};
@@ -46,11 +46,19 @@ impl<S: Scheme<D>, D: Digest> Verifier<S, D> {
         &mut self,
         alloc: Global,
     ) -> Result<Option<Batch<Certificate<S, D>>>, AllocError>
-        ensures due { IfOk result (λ made. AtEachOf D.PartialEq.eq S.Scheme S.batchable self.old (λ s h. is_some made ≡ is_due D.PartialEq.eq s Notarization h)) }
-        ensures batch { IfOk result (λ made. IfSome made (λ batch. AtEachOf D.PartialEq.eq S.Scheme S.batchable self.old (λ s h. IsBatch S.Scheme D.PartialEq.eq s Notarization h batch))) }
-        ensures readable { IfOk result (λ made. IfSome made (λ batch. AtEachOf D.PartialEq.eq S.Scheme S.batchable self.old (λ s h. IfSome batch.certificate (IsReadable S.Certificate.within s.members)))) }
-        ensures keeps { IfOk result (λ made. AtEachOf D.PartialEq.eq S.Scheme S.batchable self.old (λ s h. VerifierKeeps D.PartialEq.eq S.Scheme S.batchable s self.new (after Notarization made h))) }
-        ensures err { OnErr result (AtEachOf D.PartialEq.eq S.Scheme S.batchable self.old (λ s h. VerifierKeeps D.PartialEq.eq S.Scheme S.batchable s self.new h)) }
+        ensures due { IfOk result
+            (λ made. AtEachOf D.PartialEq.eq S.Scheme S.batchable self.old (λ s h. is_some made ≡ is_due D.PartialEq.eq s Notarization h)) }
+        ensures batch { IfOk result (λ made.
+            IfSome made
+            (λ batch. AtEachOf D.PartialEq.eq S.Scheme S.batchable self.old (λ s h. IsBatch S.Scheme D.PartialEq.eq s Notarization h batch))) }
+        ensures readable { IfOk result (λ made.
+            IfSome made (λ batch.
+            AtEachOf D.PartialEq.eq S.Scheme S.batchable self.old (λ s h. IfSome batch.certificate (IsReadable S.Certificate.within s.members)))) }
+        ensures keeps { IfOk result (λ made.
+            AtEachOf D.PartialEq.eq S.Scheme S.batchable self.old
+            (λ s h. VerifierKeeps D.PartialEq.eq S.Scheme S.batchable s self.new (after Notarization made h))) }
+        ensures err { OnErr result
+            (AtEachOf D.PartialEq.eq S.Scheme S.batchable self.old (λ s h. VerifierKeeps D.PartialEq.eq S.Scheme S.batchable s self.new h)) }
     {
         self.construct(alloc, Kind::Notarization)
     }
@@ -61,11 +69,19 @@ impl<S: Scheme<D>, D: Digest> Verifier<S, D> {
         &mut self,
         alloc: Global,
     ) -> Result<Option<Batch<Certificate<S, D>>>, AllocError>
-        ensures due { IfOk result (λ made. AtEachOf D.PartialEq.eq S.Scheme S.batchable self.old (λ s h. is_some made ≡ is_due D.PartialEq.eq s Nullification h)) }
-        ensures batch { IfOk result (λ made. IfSome made (λ batch. AtEachOf D.PartialEq.eq S.Scheme S.batchable self.old (λ s h. IsBatch S.Scheme D.PartialEq.eq s Nullification h batch))) }
-        ensures readable { IfOk result (λ made. IfSome made (λ batch. AtEachOf D.PartialEq.eq S.Scheme S.batchable self.old (λ s h. IfSome batch.certificate (IsReadable S.Certificate.within s.members)))) }
-        ensures keeps { IfOk result (λ made. AtEachOf D.PartialEq.eq S.Scheme S.batchable self.old (λ s h. VerifierKeeps D.PartialEq.eq S.Scheme S.batchable s self.new (after Nullification made h))) }
-        ensures err { OnErr result (AtEachOf D.PartialEq.eq S.Scheme S.batchable self.old (λ s h. VerifierKeeps D.PartialEq.eq S.Scheme S.batchable s self.new h)) }
+        ensures due { IfOk result
+            (λ made. AtEachOf D.PartialEq.eq S.Scheme S.batchable self.old (λ s h. is_some made ≡ is_due D.PartialEq.eq s Nullification h)) }
+        ensures batch { IfOk result (λ made.
+            IfSome made
+            (λ batch. AtEachOf D.PartialEq.eq S.Scheme S.batchable self.old (λ s h. IsBatch S.Scheme D.PartialEq.eq s Nullification h batch))) }
+        ensures readable { IfOk result (λ made.
+            IfSome made (λ batch.
+            AtEachOf D.PartialEq.eq S.Scheme S.batchable self.old (λ s h. IfSome batch.certificate (IsReadable S.Certificate.within s.members)))) }
+        ensures keeps { IfOk result (λ made.
+            AtEachOf D.PartialEq.eq S.Scheme S.batchable self.old
+            (λ s h. VerifierKeeps D.PartialEq.eq S.Scheme S.batchable s self.new (after Nullification made h))) }
+        ensures err { OnErr result
+            (AtEachOf D.PartialEq.eq S.Scheme S.batchable self.old (λ s h. VerifierKeeps D.PartialEq.eq S.Scheme S.batchable s self.new h)) }
     {
         self.construct(alloc, Kind::Nullification)
     }
@@ -76,11 +92,19 @@ impl<S: Scheme<D>, D: Digest> Verifier<S, D> {
         &mut self,
         alloc: Global,
     ) -> Result<Option<Batch<Certificate<S, D>>>, AllocError>
-        ensures due { IfOk result (λ made. AtEachOf D.PartialEq.eq S.Scheme S.batchable self.old (λ s h. is_some made ≡ is_due D.PartialEq.eq s Finalization h)) }
-        ensures batch { IfOk result (λ made. IfSome made (λ batch. AtEachOf D.PartialEq.eq S.Scheme S.batchable self.old (λ s h. IsBatch S.Scheme D.PartialEq.eq s Finalization h batch))) }
-        ensures readable { IfOk result (λ made. IfSome made (λ batch. AtEachOf D.PartialEq.eq S.Scheme S.batchable self.old (λ s h. IfSome batch.certificate (IsReadable S.Certificate.within s.members)))) }
-        ensures keeps { IfOk result (λ made. AtEachOf D.PartialEq.eq S.Scheme S.batchable self.old (λ s h. VerifierKeeps D.PartialEq.eq S.Scheme S.batchable s self.new (after Finalization made h))) }
-        ensures err { OnErr result (AtEachOf D.PartialEq.eq S.Scheme S.batchable self.old (λ s h. VerifierKeeps D.PartialEq.eq S.Scheme S.batchable s self.new h)) }
+        ensures due { IfOk result
+            (λ made. AtEachOf D.PartialEq.eq S.Scheme S.batchable self.old (λ s h. is_some made ≡ is_due D.PartialEq.eq s Finalization h)) }
+        ensures batch { IfOk result (λ made.
+            IfSome made
+            (λ batch. AtEachOf D.PartialEq.eq S.Scheme S.batchable self.old (λ s h. IsBatch S.Scheme D.PartialEq.eq s Finalization h batch))) }
+        ensures readable { IfOk result (λ made.
+            IfSome made (λ batch.
+            AtEachOf D.PartialEq.eq S.Scheme S.batchable self.old (λ s h. IfSome batch.certificate (IsReadable S.Certificate.within s.members)))) }
+        ensures keeps { IfOk result (λ made.
+            AtEachOf D.PartialEq.eq S.Scheme S.batchable self.old
+            (λ s h. VerifierKeeps D.PartialEq.eq S.Scheme S.batchable s self.new (after Finalization made h))) }
+        ensures err { OnErr result
+            (AtEachOf D.PartialEq.eq S.Scheme S.batchable self.old (λ s h. VerifierKeeps D.PartialEq.eq S.Scheme S.batchable s self.new h)) }
     {
         self.construct(alloc, Kind::Finalization)
     }
@@ -91,11 +115,18 @@ impl<S: Scheme<D>, D: Digest> Verifier<S, D> {
         alloc: Global,
         kind: Kind,
     ) -> Result<Option<Batch<Certificate<S, D>>>, AllocError>
-        ensures due { IfOk result (λ made. AtEachOf D.PartialEq.eq S.Scheme S.batchable self.old (λ s h. is_some made ≡ is_due D.PartialEq.eq s kind h)) }
-        ensures batch { IfOk result (λ made. IfSome made (λ batch. AtEachOf D.PartialEq.eq S.Scheme S.batchable self.old (λ s h. IsBatch S.Scheme D.PartialEq.eq s kind h batch))) }
-        ensures readable { IfOk result (λ made. IfSome made (λ batch. AtEachOf D.PartialEq.eq S.Scheme S.batchable self.old (λ s h. IfSome batch.certificate (IsReadable S.Certificate.within s.members)))) }
-        ensures keeps { IfOk result (λ made. AtEachOf D.PartialEq.eq S.Scheme S.batchable self.old (λ s h. VerifierKeeps D.PartialEq.eq S.Scheme S.batchable s self.new (after kind made h))) }
-        ensures err { OnErr result (AtEachOf D.PartialEq.eq S.Scheme S.batchable self.old (λ s h. VerifierKeeps D.PartialEq.eq S.Scheme S.batchable s self.new h)) }
+        ensures due { IfOk result
+            (λ made. AtEachOf D.PartialEq.eq S.Scheme S.batchable self.old (λ s h. is_some made ≡ is_due D.PartialEq.eq s kind h)) }
+        ensures batch { IfOk result (λ made.
+            IfSome made (λ batch. AtEachOf D.PartialEq.eq S.Scheme S.batchable self.old (λ s h. IsBatch S.Scheme D.PartialEq.eq s kind h batch))) }
+        ensures readable { IfOk result (λ made.
+            IfSome made (λ batch.
+            AtEachOf D.PartialEq.eq S.Scheme S.batchable self.old (λ s h. IfSome batch.certificate (IsReadable S.Certificate.within s.members)))) }
+        ensures keeps { IfOk result (λ made.
+            AtEachOf D.PartialEq.eq S.Scheme S.batchable self.old
+            (λ s h. VerifierKeeps D.PartialEq.eq S.Scheme S.batchable s self.new (after kind made h))) }
+        ensures err { OnErr result
+            (AtEachOf D.PartialEq.eq S.Scheme S.batchable self.old (λ s h. VerifierKeeps D.PartialEq.eq S.Scheme S.batchable s self.new h)) }
     {
         if self.is_ready(kind) {
             let made = self.construct_of_verified(alloc, kind)?;
@@ -164,10 +195,17 @@ impl<S: Scheme<D>, D: Digest> Verifier<S, D> {
         alloc: Global,
         kind: Kind,
     ) -> Result<Option<Batch<Certificate<S, D>>>, AllocError>
-        ensures batch { IfOk result (λ made. AtEachOf D.PartialEq.eq S.Scheme S.batchable self.old (λ s h. is_ready D.PartialEq.eq s kind h ≡ true → MatchOption made ⊥ (λ batch. IsOfVerified S.Scheme D.PartialEq.eq s kind h batch))) }
-        ensures readable { IfOk result (λ made. IfSome made (λ batch. AtEachOf D.PartialEq.eq S.Scheme S.batchable self.old (λ s h. IfSome batch.certificate (IsReadable S.Certificate.within s.members)))) }
-        ensures keeps { IfOk result (λ made. AtEachOf D.PartialEq.eq S.Scheme S.batchable self.old (λ s h. is_ready D.PartialEq.eq s kind h ≡ true → VerifierKeeps D.PartialEq.eq S.Scheme S.batchable s self.new (after kind made h))) }
-        ensures err { OnErr result (AtEachOf D.PartialEq.eq S.Scheme S.batchable self.old (λ s h. VerifierKeeps D.PartialEq.eq S.Scheme S.batchable s self.new h)) }
+        ensures batch { IfOk result (λ made.
+            AtEachOf D.PartialEq.eq S.Scheme S.batchable self.old
+            (λ s h. is_ready D.PartialEq.eq s kind h ≡ true → MatchOption made ⊥ (λ batch. IsOfVerified S.Scheme D.PartialEq.eq s kind h batch))) }
+        ensures readable { IfOk result (λ made.
+            IfSome made (λ batch.
+            AtEachOf D.PartialEq.eq S.Scheme S.batchable self.old (λ s h. IfSome batch.certificate (IsReadable S.Certificate.within s.members)))) }
+        ensures keeps { IfOk result (λ made.
+            AtEachOf D.PartialEq.eq S.Scheme S.batchable self.old
+            (λ s h. is_ready D.PartialEq.eq s kind h ≡ true → VerifierKeeps D.PartialEq.eq S.Scheme S.batchable s self.new (after kind made h))) }
+        ensures err { OnErr result
+            (AtEachOf D.PartialEq.eq S.Scheme S.batchable self.old (λ s h. VerifierKeeps D.PartialEq.eq S.Scheme S.batchable s self.new h)) }
     {
         let Some(certificate) = self.assemble_verified(alloc, kind)? else {
             return Ok(None);
@@ -187,8 +225,12 @@ impl<S: Scheme<D>, D: Digest> Verifier<S, D> {
         alloc: Global,
         kind: Kind,
     ) -> Result<Option<Certificate<S, D>>, AllocError>
-        ensures made { IfOk result (λ made. AtEachOf D.PartialEq.eq S.Scheme S.batchable self.now (λ s h. is_ready D.PartialEq.eq s kind h ≡ true → MatchOption made ⊥ (λ c. IsCertificateOf S.Scheme s kind (verified D.PartialEq.eq s kind h) c))) }
-        ensures readable { IfOk result (λ made. IfSome made (λ c. AtEachOf D.PartialEq.eq S.Scheme S.batchable self.now (λ s h. IsReadable S.Certificate.within s.members c))) }
+        ensures made { IfOk result (λ made.
+            AtEachOf D.PartialEq.eq S.Scheme S.batchable self.now (λ s h.
+            is_ready D.PartialEq.eq s kind h ≡ true
+            → MatchOption made ⊥ (λ c. IsCertificateOf S.Scheme s kind (verified D.PartialEq.eq s kind h) c))) }
+        ensures readable { IfOk result (λ made.
+            IfSome made (λ c. AtEachOf D.PartialEq.eq S.Scheme S.batchable self.now (λ s h. IsReadable S.Certificate.within s.members c))) }
     {
         let Some(first) = self.rows.first_verified(kind) else {
             return Ok(None);
@@ -213,10 +255,17 @@ impl<S: Scheme<D>, D: Digest> Verifier<S, D> {
         alloc: Global,
         kind: Kind,
     ) -> Result<Option<Batch<Certificate<S, D>>>, AllocError>
-        ensures batch { IfOk result (λ made. AtEachOf D.PartialEq.eq S.Scheme S.batchable self.old (λ s h. is_some (context s kind h) ≡ true → MatchOption made ⊥ (λ batch. IsOfWaiting S.Scheme D.PartialEq.eq s kind h batch))) }
-        ensures readable { IfOk result (λ made. IfSome made (λ batch. AtEachOf D.PartialEq.eq S.Scheme S.batchable self.old (λ s h. IfSome batch.certificate (IsReadable S.Certificate.within s.members)))) }
-        ensures keeps { IfOk result (λ made. AtEachOf D.PartialEq.eq S.Scheme S.batchable self.old (λ s h. VerifierKeeps D.PartialEq.eq S.Scheme S.batchable s self.new (after kind made h))) }
-        ensures err { OnErr result (AtEachOf D.PartialEq.eq S.Scheme S.batchable self.old (λ s h. VerifierKeeps D.PartialEq.eq S.Scheme S.batchable s self.new h)) }
+        ensures batch { IfOk result (λ made.
+            AtEachOf D.PartialEq.eq S.Scheme S.batchable self.old
+            (λ s h. is_some (context s kind h) ≡ true → MatchOption made ⊥ (λ batch. IsOfWaiting S.Scheme D.PartialEq.eq s kind h batch))) }
+        ensures readable { IfOk result (λ made.
+            IfSome made (λ batch.
+            AtEachOf D.PartialEq.eq S.Scheme S.batchable self.old (λ s h. IfSome batch.certificate (IsReadable S.Certificate.within s.members)))) }
+        ensures keeps { IfOk result (λ made.
+            AtEachOf D.PartialEq.eq S.Scheme S.batchable self.old
+            (λ s h. VerifierKeeps D.PartialEq.eq S.Scheme S.batchable s self.new (after kind made h))) }
+        ensures err { OnErr result
+            (AtEachOf D.PartialEq.eq S.Scheme S.batchable self.old (λ s h. VerifierKeeps D.PartialEq.eq S.Scheme S.batchable s self.new h)) }
     {
         let selected = match self.proposal.proposal() {
             Some(proposal) => Some(*proposal),
@@ -236,10 +285,17 @@ impl<S: Scheme<D>, D: Digest> Verifier<S, D> {
         kind: Kind,
         subject: &Subject<'_, D>,
     ) -> Result<Batch<Certificate<S, D>>, AllocError>
-        ensures batch { IfOk result (λ batch. AtEachOf D.PartialEq.eq S.Scheme S.batchable self.old (λ s h. context s kind h ≡ Some (statement subject.now) → IsOfWaiting S.Scheme D.PartialEq.eq s kind h batch)) }
-        ensures readable { IfOk result (λ batch. AtEachOf D.PartialEq.eq S.Scheme S.batchable self.old (λ s h. IfSome batch.certificate (IsReadable S.Certificate.within s.members))) }
-        ensures keeps { IfOk result (λ batch. AtEachOf D.PartialEq.eq S.Scheme S.batchable self.old (λ s h. context s kind h ≡ Some (statement subject.now) → VerifierKeeps D.PartialEq.eq S.Scheme S.batchable s self.new (after kind (Some batch) h))) }
-        ensures err { OnErr result (AtEachOf D.PartialEq.eq S.Scheme S.batchable self.old (λ s h. VerifierKeeps D.PartialEq.eq S.Scheme S.batchable s self.new h)) }
+        ensures batch { IfOk result (λ batch.
+            AtEachOf D.PartialEq.eq S.Scheme S.batchable self.old
+            (λ s h. context s kind h ≡ Some (statement subject.now) → IsOfWaiting S.Scheme D.PartialEq.eq s kind h batch)) }
+        ensures readable { IfOk result (λ batch.
+            AtEachOf D.PartialEq.eq S.Scheme S.batchable self.old (λ s h. IfSome batch.certificate (IsReadable S.Certificate.within s.members))) }
+        ensures keeps { IfOk result (λ batch.
+            AtEachOf D.PartialEq.eq S.Scheme S.batchable self.old (λ s h.
+            context s kind h ≡ Some (statement subject.now)
+            → VerifierKeeps D.PartialEq.eq S.Scheme S.batchable s self.new (after kind (Some batch) h))) }
+        ensures err { OnErr result
+            (AtEachOf D.PartialEq.eq S.Scheme S.batchable self.old (λ s h. VerifierKeeps D.PartialEq.eq S.Scheme S.batchable s self.new h)) }
     {
         let processed = self.waiting(kind);
         let verified = self.rows.attestations(alloc, kind, true)?;

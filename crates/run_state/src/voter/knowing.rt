@@ -5,7 +5,7 @@ use crate::voter::looking::wanted;
 use crate::voter::voting::timeout;
 use messages_certificates::{Certificate, Finalization, Notarization, Nullification};
 use simplex_types::PlainKey;
-use test_certificates::SayCertificates;
+use test_messages::SayCertificates;
 use test_words::{Committee, Say, Trouble};
 use types_core::{Participant, Scheme, Sha256Digest, View};
 use types_terms::Elector;

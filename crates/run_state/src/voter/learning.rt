@@ -6,7 +6,7 @@ use crate::voter::knowing::{finalized, notarized};
 use messages_certificates::{Artifact, Finalization, Notarization, Nullification};
 use simplex_types::PlainKey;
 use std::alloc::Global;
-use test_certificates::CertificateWords;
+use test_messages::CertificateWords;
 use test_words::{Committee, Say, Trouble, Words};
 use types_core::{Scheme, Sha256Digest, View};
 use types_terms::Elector;

@@ -4,7 +4,7 @@ use crate::reading::view_and_reason;
 use crate::voter::Voter;
 use messages_certificates::{Finalize, Notarize, Nullify};
 use simplex_types::PlainKey;
-use test_certificates::SayCertificates;
+use test_messages::SayCertificates;
 use test_words::{Committee, Say, Trouble, Words};
 use types_core::{Scheme, Sha256Digest, View};
 use types_terms::Elector;

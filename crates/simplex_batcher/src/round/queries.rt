@@ -30,7 +30,9 @@ impl<S: Scheme<D>, D: Digest> Round<S, D> {
 
     /// Whether a notarize or a finalize of this member for the proposal was accepted.
     fn has_backed(&self, signer: Participant, proposal: &Proposal<D>) -> bool
-        ensures { AtEach D.PartialEq.eq S.Scheme S.batchable self.now (λ s h. result ≡ (passes (is_backing D.PartialEq.eq proposal.now) (find (is_notarize_of signer) (accepted h)) || passes (is_backing D.PartialEq.eq proposal.now) (find (is_other_of signer) (accepted h)))) }
+        ensures { AtEach D.PartialEq.eq S.Scheme S.batchable self.now (λ s h.
+            result ≡ (passes (is_backing D.PartialEq.eq proposal.now) (find (is_notarize_of signer) (accepted h)) || passes
+            (is_backing D.PartialEq.eq proposal.now) (find (is_other_of signer) (accepted h)))) }
     {
         is_for(self.verifier.vote_of(signer, true), proposal)
             || is_for(self.verifier.vote_of(signer, false), proposal)
@@ -42,7 +44,8 @@ impl<S: Scheme<D>, D: Digest> Round<S, D> {
         alloc: Global,
         proposal: &Proposal<D>,
     ) -> Result<Vec<Participant>, AllocError>
-        ensures { IfOk result (λ missing. AtEach D.PartialEq.eq S.Scheme S.batchable self.now (λ s h. missing.items ≡ missing_voters D.PartialEq.eq s h proposal.now)) }
+        ensures { IfOk result (λ missing.
+            AtEach D.PartialEq.eq S.Scheme S.batchable self.now (λ s h. missing.items ≡ missing_voters D.PartialEq.eq s h proposal.now)) }
     {
         let mut missing = Vec::new(alloc);
         for index in 0..self.verifier.participants() {

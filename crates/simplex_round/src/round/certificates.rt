@@ -58,7 +58,8 @@ impl<S: Scheme<D>, D: Digest> Round<S, D> {
         ensures keeps { Becomes S.key_of self.old self.new (λ h. if result.0 then notarized certificate ∷ h else h) }
         ensures first { AtEach S.key_of self.old (λ s l h. result.0 ≡ is_none (notarization h)) }
         ensures again { result.0 ≡ false → result.1 ≡ None }
-        ensures replaced { AtEach S.key_of self.old (λ s l h. result.0 ≡ true → Differs (held (offers h)) certificate.proposal → result.1 ≡ option_map (S.key_of s.scheme) l) }
+        ensures replaced { AtEach S.key_of self.old
+            (λ s l h. result.0 ≡ true → Differs (held (offers h)) certificate.proposal → result.1 ≡ option_map (S.key_of s.scheme) l) }
         ensures same { AtEach S.key_of self.old (λ s l h. Agrees (held (offers h)) certificate.proposal → result.1 ≡ None) }
     {
         if self.notarization.is_some() {
@@ -90,7 +91,8 @@ impl<S: Scheme<D>, D: Digest> Round<S, D> {
         ensures keeps { Becomes S.key_of self.old self.new (λ h. if result.0 then finalized certificate ∷ h else h) }
         ensures first { AtEach S.key_of self.old (λ s l h. result.0 ≡ is_none (finalization h)) }
         ensures again { result.0 ≡ false → result.1 ≡ None }
-        ensures replaced { AtEach S.key_of self.old (λ s l h. result.0 ≡ true → Differs (held (offers h)) certificate.proposal → result.1 ≡ option_map (S.key_of s.scheme) l) }
+        ensures replaced { AtEach S.key_of self.old
+            (λ s l h. result.0 ≡ true → Differs (held (offers h)) certificate.proposal → result.1 ≡ option_map (S.key_of s.scheme) l) }
         ensures same { AtEach S.key_of self.old (λ s l h. Agrees (held (offers h)) certificate.proposal → result.1 ≡ None) }
     {
         if self.finalization.is_some() {
@@ -132,7 +134,8 @@ impl<S: Scheme<D>, D: Digest> Round<S, D> {
         &mut self,
         alloc: Global,
     ) -> Result<Option<Nullification<S, D>>, AllocError>
-        ensures answer { IfOk result (λ sent. AtEach S.key_of self.old (λ s l h. sent ≡ (if has_sent_nullification h then None else nullification h))) }
+        ensures answer { IfOk result
+            (λ sent. AtEach S.key_of self.old (λ s l h. sent ≡ (if has_sent_nullification h then None else nullification h))) }
         ensures keeps { IfOk result (λ sent. Becomes S.key_of self.old self.new (λ h. if is_some sent then sent_nullification ∷ h else h)) }
         ensures err { OnErr result (Becomes S.key_of self.old self.new (λ h. h)) }
     {

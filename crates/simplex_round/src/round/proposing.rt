@@ -25,7 +25,8 @@ impl<S: Scheme<D>, D: Digest> Round<S, D> {
     /// Asks for a build, where one is to be asked for: the leader, which is this member.
     pub fn try_propose(&mut self) -> Option<Leader<S::PublicKey>>
         ensures keeps { Becomes S.key_of self.old self.new (λ h. if is_some result then offered building ∷ h else h) }
-        ensures answer { AtEach S.key_of self.old (λ s l h. MatchOption result (¬ MayPropose (S.own s.scheme) l h) (λ x. MayPropose (S.own s.scheme) l h × IsLeader S.key_of s l x)) }
+        ensures answer { AtEach S.key_of self.old
+            (λ s l h. MatchOption result (¬ MayPropose (S.own s.scheme) l h) (λ x. MayPropose (S.own s.scheme) l h × IsLeader S.key_of s l x)) }
     {
         if !self.should_propose() {
             return None;
@@ -80,7 +81,8 @@ impl<S: Scheme<D>, D: Digest> Round<S, D> {
     /// Offers a proposal that was built here at this moment: whether it is held then. Behind an own nullify, and
     /// where another one is held, nothing changes.
     pub fn proposed(&mut self, now: u64, proposal: Proposal<D>) -> bool
-        ensures keeps { AtEach S.key_of self.old (λ s l h. MatchBool result (Keeps S.key_of s self.new l (built now proposal ∷ h)) (Keeps S.key_of s self.new l h)) }
+        ensures keeps { AtEach S.key_of self.old
+            (λ s l h. MatchBool result (Keeps S.key_of s self.new l (built now proposal ∷ h)) (Keeps S.key_of s self.new l h)) }
         ensures answer { AtEach S.key_of self.old (λ s l h. IsTrue result ↔ ((has_nullified h ≡ false) × Agrees (held (offers h)) proposal)) }
     {
         if self.votes.nullify {

@@ -26,7 +26,8 @@ impl<S: Scheme<D>, D: Digest> Round<S, D> {
 
     /// The leader and the held proposal, where a verification is to be asked for.
     pub fn pending_verification(&self) -> Option<(Leader<S::PublicKey>, Proposal<D>)>
-        ensures some { AtEach S.key_of self.now (λ s l h. IfSome result (λ p. MayVerify (S.own s.scheme) l h × IsLeader S.key_of s l p.0 × (held (offers h) ≡ Some p.1))) }
+        ensures some { AtEach S.key_of self.now
+            (λ s l h. IfSome result (λ p. MayVerify (S.own s.scheme) l h × IsLeader S.key_of s l p.0 × (held (offers h) ≡ Some p.1))) }
         ensures none { AtEach S.key_of self.now (λ s l h. result ≡ None → ¬ (MayVerify (S.own s.scheme) l h × IsSome (held (offers h)))) }
     {
         if !self.may_verify() {

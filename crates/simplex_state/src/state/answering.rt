@@ -26,8 +26,13 @@ impl<S: Scheme<D> + Drop, L: Elector<S, D>, D: Digest> State<S, L, D> {
     ///
     /// `AllocError` where memory ran out.
     pub fn verified(&mut self, view: View) -> Result<bool, AllocError>
-        ensures keeps { OnOk result (AtEach S.Scheme L.Elector self.old (λ s h. (IsSteady (member s) (known s h) view × AddsIfTracked S.Scheme L.Elector s self.new h view (confirmed view)) ⊎ ((¬ IsSteady (member s) (known s h) view) × Keeps S.Scheme L.Elector s self.new (unbound view ∷ h)))) }
-        ensures answer { IfOk result (λ became. AtEach S.Scheme L.Elector self.old (λ s h. IsTrue became ↔ (IsSteady (member s) (known s h) view × (has_nullified (seen s h view) ≡ false) × IsUnverified (offers (seen s h view))))) }
+        ensures keeps { OnOk result (AtEach S.Scheme L.Elector self.old (λ s h.
+            (IsSteady (member s) (known s h) view × AddsIfTracked S.Scheme L.Elector s self.new h view (confirmed view)) ⊎
+            ((¬ IsSteady (member s) (known s h) view) × Keeps S.Scheme L.Elector s self.new (unbound view ∷ h)))) }
+        ensures answer { IfOk result (λ became.
+            AtEach S.Scheme L.Elector self.old (λ s h.
+            IsTrue became ↔
+            (IsSteady (member s) (known s h) view × (has_nullified (seen s h view) ≡ false) × IsUnverified (offers (seen s h view))))) }
     {
         if !self.views.is_tracked(view) {
             return Ok(false);
@@ -52,9 +57,15 @@ impl<S: Scheme<D> + Drop, L: Elector<S, D>, D: Digest> State<S, L, D> {
         view: View,
         reason: TimeoutReason,
     ) -> Result<bool, AllocError>
-        ensures keeps { OnOk result (AtEach S.Scheme L.Elector self.old (λ s h. (IsSteady (member s) (known s h) view × (MayLatch s h view reason → Keeps S.Scheme L.Elector s self.new (latched now view reason ∷ h))) ⊎ ((¬ IsSteady (member s) (known s h) view) × Keeps S.Scheme L.Elector s self.new (unbound view ∷ h)))) }
-        ensures unchanged { IfOk result (λ first. first ≡ false → AtEach S.Scheme L.Elector self.old (λ s h. IsSteady (member s) (known s h) view → Keeps S.Scheme L.Elector s self.new h)) }
-        ensures answer { IfOk result (λ first. AtEach S.Scheme L.Elector self.old (λ s h. IsTrue first ↔ (IsSteady (member s) (known s h) view × IsFirstLatch s h view reason))) }
+        ensures keeps { OnOk result (AtEach S.Scheme L.Elector self.old (λ s h.
+            (IsSteady (member s) (known s h) view ×
+            (MayLatch s h view reason → Keeps S.Scheme L.Elector s self.new (latched now view reason ∷ h))) ⊎
+            ((¬ IsSteady (member s) (known s h) view) × Keeps S.Scheme L.Elector s self.new (unbound view ∷ h)))) }
+        ensures unchanged { IfOk result (λ first.
+            first ≡ false
+            → AtEach S.Scheme L.Elector self.old (λ s h. IsSteady (member s) (known s h) view → Keeps S.Scheme L.Elector s self.new h)) }
+        ensures answer { IfOk result (λ first.
+            AtEach S.Scheme L.Elector self.old (λ s h. IsTrue first ↔ (IsSteady (member s) (known s h) view × IsFirstLatch s h view reason))) }
     {
         if is_steady(&self.views, view) {
             return self.trigger_timeout(now, view, reason);
@@ -69,7 +80,8 @@ impl<S: Scheme<D> + Drop, L: Elector<S, D>, D: Digest> State<S, L, D> {
     ///
     /// `AllocError` where memory ran out.
     pub fn set_certify_handle(&mut self, view: View, handle: Token) -> Result<(), AllocError>
-        ensures { OnOk result (AtEach S.Scheme L.Elector self.old (λ s h. AddsIfTracked S.Scheme L.Elector s self.new h view (certify_asked view handle))) }
+        ensures { OnOk result
+            (AtEach S.Scheme L.Elector self.old (λ s h. AddsIfTracked S.Scheme L.Elector s self.new h view (certify_asked view handle))) }
     {
         if !self.views.is_tracked(view) {
             return Ok(());

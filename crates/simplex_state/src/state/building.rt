@@ -19,9 +19,16 @@ impl<S: Scheme<D> + Drop, L: Elector<S, D>, D: Digest> State<S, L, D> {
     /// Asks for a build in the lowest view where one is due: what is to be built on, and whether that is a handoff. Else nothing
     /// changes.
     pub fn try_propose(&mut self) -> Option<ProposalRequest<D, S::PublicKey>>
-        ensures keeps { AtEach S.Scheme L.Elector self.old (λ s h. MatchOption result (Keeps S.Scheme L.Elector s self.new h) (λ x. Keeps S.Scheme L.Elector s self.new (build_asked (context_of x).round.view ∷ h))) }
-        ensures answer { AtEach S.Scheme L.Elector self.old (λ s h. MatchOption result (NoBuildIsDue (member s) (known s h)) (λ x. IsFirstBuild (member s) (known s h) (context_of x).round.view (context_of x).parent.0 (context_of x).parent.1 × IsContextOf S.Scheme s (context_of x))) }
-        ensures handoff { AtEach S.Scheme L.Elector self.old (λ s h. IfSome result (λ x. IsPrepared x ↔ IsHandoff (member s) (known s h) (context_of x).round.view (context_of x).parent.0 (context_of x).parent.1)) }
+        ensures keeps { AtEach S.Scheme L.Elector self.old (λ s h.
+            MatchOption result (Keeps S.Scheme L.Elector s self.new h)
+            (λ x. Keeps S.Scheme L.Elector s self.new (build_asked (context_of x).round.view ∷ h))) }
+        ensures answer { AtEach S.Scheme L.Elector self.old (λ s h.
+            MatchOption result (NoBuildIsDue (member s) (known s h)) (λ x.
+            IsFirstBuild (member s) (known s h) (context_of x).round.view (context_of x).parent.0 (context_of x).parent.1 × IsContextOf S.Scheme
+            s (context_of x))) }
+        ensures handoff { AtEach S.Scheme L.Elector self.old (λ s h.
+            IfSome result
+            (λ x. IsPrepared x ↔ IsHandoff (member s) (known s h) (context_of x).round.view (context_of x).parent.0 (context_of x).parent.1)) }
     {
         let Some(first) = self.first_build() else {
             return None;
@@ -41,7 +48,8 @@ impl<S: Scheme<D> + Drop, L: Elector<S, D>, D: Digest> State<S, L, D> {
 
     /// The lowest view where a build is due, with the parent to build on.
     fn first_build(&self) -> Option<(View, View, D)>
-        ensures { AtEach S.Scheme L.Elector self.now (λ s h. MatchOption result (NoBuildIsDue (member s) (known s h)) (λ x. IsFirstBuild (member s) (known s h) x.0 x.1 x.2)) }
+        ensures { AtEach S.Scheme L.Elector self.now
+            (λ s h. MatchOption result (NoBuildIsDue (member s) (known s h)) (λ x. IsFirstBuild (member s) (known s h) x.0 x.1 x.2)) }
     {
         // The proof takes from the number that a term has at least one view.
         let _views = self.views.lookahead().length.get();

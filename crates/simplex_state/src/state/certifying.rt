@@ -86,7 +86,8 @@ impl<S: Scheme<D> + Drop, L: Elector<S, D>, D: Digest> State<S, L, D> {
         &mut self,
         alloc: Global,
     ) -> Result<(Vec<Proposal<D>>, Vec<CertificateFetch>), AllocError>
-        ensures keeps { OnOk result (AtEach S.Scheme L.Elector self.old (λ s h. (views : List ℕ) × ArePutOff (member s) (known s h) views × Keeps S.Scheme L.Elector s self.new (put_off views h))) }
+        ensures keeps { OnOk result (AtEach S.Scheme L.Elector self.old
+            (λ s h. (views : List ℕ) × ArePutOff (member s) (known s h) views × Keeps S.Scheme L.Elector s self.new (put_off views h))) }
         ensures ready { IfOk result (λ r. AtEach S.Scheme L.Elector self.old (λ s h. AreReady (member s) (known s h) r.0.items)) }
         ensures wanted { IfOk result (λ r. AtEach S.Scheme L.Elector self.old (λ s h. AreWanted (member s) (known s h) r.1.items)) }
     {
@@ -113,7 +114,8 @@ fn look_at<S: Scheme<D> + Drop, L: Elector<S, D>, D: Digest>(
     alloc: Global,
     candidates: BTreeSet<View>,
 ) -> Result<Verdicts<D>, AllocError>
-    ensures { IfOk result (λ found. above.AtEach S.Scheme L.Elector views.now (λ s h. AreAmong s h candidates → AreAll (member s) (known s h) found)) }
+    ensures { IfOk result
+        (λ found. above.AtEach S.Scheme L.Elector views.now (λ s h. AreAmong s h candidates → AreAll (member s) (known s h) found)) }
 {
     // The proof takes from the number that a term has at least one view.
     let _views = views.lookahead().length.get();

@@ -63,7 +63,8 @@ impl<S: Scheme<D> + Drop, L: Elector<S, D>, D: Digest> State<S, L, D> {
 
     /// The highest nullification that covers the view before, where this one starts a term.
     fn skipping_nullification(&self, view: View, before: View) -> Option<&Nullification<S, D>>
-        ensures { AtEach S.Scheme L.Elector self.now (λ s h. option_copied result ≡ (if view == term_start s.length view then covering_nullification s h before else None)) }
+        ensures { AtEach S.Scheme L.Elector self.now
+            (λ s h. option_copied result ≡ (if view == term_start s.length view then covering_nullification s h before else None)) }
     {
         if !view.is_term_start(self.views.lookahead().length) {
             return None;

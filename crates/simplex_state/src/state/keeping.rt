@@ -25,7 +25,8 @@ impl<S: Scheme<D> + Drop, L: Elector<S, D>, D: Digest> State<S, L, D> {
     ///
     /// `AllocError` where memory ran out.
     pub fn replay(&mut self, artifact: &Artifact<S, D>) -> Result<(), AllocError>
-        ensures { OnOk result (AtEach S.Scheme L.Elector self.old (λ s h. (taken : Bool) × Takes (seen s h) artifact.now taken × Keeps S.Scheme L.Elector s self.new (recalls taken artifact.now ∷ h))) }
+        ensures { OnOk result (AtEach S.Scheme L.Elector self.old
+            (λ s h. (taken : Bool) × Takes (seen s h) artifact.now taken × Keeps S.Scheme L.Elector s self.new (recalls taken artifact.now ∷ h))) }
     {
         wake(&mut self.candidates, artifact.view())?;
         self.finalizes

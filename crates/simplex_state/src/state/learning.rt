@@ -39,11 +39,21 @@ impl<S: Scheme<D> + Drop, L: Elector<S, D>, D: Digest> State<S, L, D> {
         &mut self,
         certificate: Notarization<S, D>,
     ) -> Result<(bool, Option<S::PublicKey>), AllocError>
-        ensures keeps { IfOk result (λ r. AtEach S.Scheme L.Elector self.old (λ s h. Keeps S.Scheme L.Elector s self.new (if r.0 then notarized certificate ∷ h else h))) }
-        ensures first { IfOk result (λ r. AtEach S.Scheme L.Elector self.old (λ s h. IsTrue r.0 ↔ (HasRoom s.length certificate.proposal.round.view × (past.notarization (seen s h certificate.proposal.round.view) ≡ None)))) }
+        ensures keeps { IfOk result (λ r.
+            AtEach S.Scheme L.Elector self.old (λ s h. Keeps S.Scheme L.Elector s self.new (if r.0 then notarized certificate ∷ h else h))) }
+        ensures first { IfOk result (λ r.
+            AtEach S.Scheme L.Elector self.old (λ s h.
+            IsTrue r.0 ↔
+            (HasRoom s.length certificate.proposal.round.view × (past.notarization (seen s h certificate.proposal.round.view) ≡ None)))) }
         ensures again { IfOk result (λ r. r.0 ≡ false → r.1 ≡ None) }
-        ensures replaced { IfOk result (λ r. AtEach S.Scheme L.Elector self.old (λ s h. r.0 ≡ true → Differs (held (offers (seen s h certificate.proposal.round.view))) certificate.proposal → r.1 ≡ option_map (S.key_of s.scheme) (leader s h certificate.proposal.round.view))) }
-        ensures same { IfOk result (λ r. AtEach S.Scheme L.Elector self.old (λ s h. Agrees (held (offers (seen s h certificate.proposal.round.view))) certificate.proposal → r.1 ≡ None)) }
+        ensures replaced { IfOk result (λ r.
+            AtEach S.Scheme L.Elector self.old (λ s h.
+            r.0 ≡ true
+            → Differs (held (offers (seen s h certificate.proposal.round.view))) certificate.proposal
+            → r.1 ≡ option_map (S.key_of s.scheme) (leader s h certificate.proposal.round.view))) }
+        ensures same { IfOk result (λ r.
+            AtEach S.Scheme L.Elector self.old
+            (λ s h. Agrees (held (offers (seen s h certificate.proposal.round.view))) certificate.proposal → r.1 ≡ None)) }
     {
         wake(&mut self.candidates, certificate.view())?;
         self.views.add_notarization(certificate)
@@ -60,8 +70,11 @@ impl<S: Scheme<D> + Drop, L: Elector<S, D>, D: Digest> State<S, L, D> {
         now: u64,
         certificate: Nullification<S, D>,
     ) -> Result<bool, AllocError>
-        ensures keeps { IfOk result (λ new. AtEach S.Scheme L.Elector self.old (λ s h. Keeps S.Scheme L.Elector s self.new (if new then nullified now certificate ∷ h else h))) }
-        ensures answer { IfOk result (λ new. AtEach S.Scheme L.Elector self.old (λ s h. IsTrue new ↔ (HasRoom s.length certificate.round.view × (nullification s h certificate.round.view ≡ None)))) }
+        ensures keeps { IfOk result (λ new.
+            AtEach S.Scheme L.Elector self.old (λ s h. Keeps S.Scheme L.Elector s self.new (if new then nullified now certificate ∷ h else h))) }
+        ensures answer { IfOk result (λ new.
+            AtEach S.Scheme L.Elector self.old
+            (λ s h. IsTrue new ↔ (HasRoom s.length certificate.round.view × (nullification s h certificate.round.view ≡ None)))) }
     {
         self.views.add_nullification(now, certificate)
     }
@@ -77,11 +90,21 @@ impl<S: Scheme<D> + Drop, L: Elector<S, D>, D: Digest> State<S, L, D> {
         now: u64,
         certificate: Finalization<S, D>,
     ) -> Result<(bool, Option<S::PublicKey>), AllocError>
-        ensures keeps { IfOk result (λ r. AtEach S.Scheme L.Elector self.old (λ s h. Keeps S.Scheme L.Elector s self.new (if r.0 then finalized now certificate ∷ h else h))) }
-        ensures first { IfOk result (λ r. AtEach S.Scheme L.Elector self.old (λ s h. IsTrue r.0 ↔ (HasRoom s.length certificate.proposal.round.view × (past.finalization (seen s h certificate.proposal.round.view) ≡ None)))) }
+        ensures keeps { IfOk result (λ r.
+            AtEach S.Scheme L.Elector self.old (λ s h. Keeps S.Scheme L.Elector s self.new (if r.0 then finalized now certificate ∷ h else h))) }
+        ensures first { IfOk result (λ r.
+            AtEach S.Scheme L.Elector self.old (λ s h.
+            IsTrue r.0 ↔
+            (HasRoom s.length certificate.proposal.round.view × (past.finalization (seen s h certificate.proposal.round.view) ≡ None)))) }
         ensures again { IfOk result (λ r. r.0 ≡ false → r.1 ≡ None) }
-        ensures replaced { IfOk result (λ r. AtEach S.Scheme L.Elector self.old (λ s h. r.0 ≡ true → Differs (held (offers (seen s h certificate.proposal.round.view))) certificate.proposal → r.1 ≡ option_map (S.key_of s.scheme) (leader s h certificate.proposal.round.view))) }
-        ensures same { IfOk result (λ r. AtEach S.Scheme L.Elector self.old (λ s h. Agrees (held (offers (seen s h certificate.proposal.round.view))) certificate.proposal → r.1 ≡ None)) }
+        ensures replaced { IfOk result (λ r.
+            AtEach S.Scheme L.Elector self.old (λ s h.
+            r.0 ≡ true
+            → Differs (held (offers (seen s h certificate.proposal.round.view))) certificate.proposal
+            → r.1 ≡ option_map (S.key_of s.scheme) (leader s h certificate.proposal.round.view))) }
+        ensures same { IfOk result (λ r.
+            AtEach S.Scheme L.Elector self.old
+            (λ s h. Agrees (held (offers (seen s h certificate.proposal.round.view))) certificate.proposal → r.1 ≡ None)) }
     {
         let finalized = certificate.view();
         wake(&mut self.candidates, finalized)?;
@@ -102,8 +125,11 @@ impl<S: Scheme<D> + Drop, L: Elector<S, D>, D: Digest> State<S, L, D> {
         view: View,
         is_success: bool,
     ) -> Result<Option<Notarization<S, D>>, AllocError>
-        ensures keeps { IfOk result (λ answer. AtEach S.Scheme L.Elector self.old (λ s h. Keeps S.Scheme L.Elector s self.new (if is_some answer then judged now view is_success ∷ h else h))) }
-        ensures answer { IfOk result (λ answer. AtEach S.Scheme L.Elector self.old (λ s h. HasRoom s.length view → answer ≡ past.notarization (seen s h view))) }
+        ensures keeps { IfOk result (λ answer.
+            AtEach S.Scheme L.Elector self.old
+            (λ s h. Keeps S.Scheme L.Elector s self.new (if is_some answer then judged now view is_success ∷ h else h))) }
+        ensures answer { IfOk result
+            (λ answer. AtEach S.Scheme L.Elector self.old (λ s h. HasRoom s.length view → answer ≡ past.notarization (seen s h view))) }
         ensures no_room { IfOk result (λ answer. AtEach S.Scheme L.Elector self.old (λ s h. (HasRoom s.length view → ⊥) → answer ≡ None)) }
     {
         let owes = self.owes_finalize(view, is_success);
@@ -131,8 +157,11 @@ impl<S: Scheme<D> + Drop, L: Elector<S, D>, D: Digest> State<S, L, D> {
     ///
     /// `AllocError` where memory ran out.
     pub fn set_proposal(&mut self, view: View, proposal: &Proposal<D>) -> Result<bool, AllocError>
-        ensures keeps { OnOk result (AtEach S.Scheme L.Elector self.old (λ s h. Keeps S.Scheme L.Elector s self.new (forwarded view proposal.now ∷ h))) }
-        ensures answer { IfOk result (λ first. AtEach S.Scheme L.Elector self.old (λ s h. IsTrue first ↔ ((has_nullified (seen s h view) ≡ false) × (held (offers (seen s h view)) ≡ None)))) }
+        ensures keeps { OnOk result
+            (AtEach S.Scheme L.Elector self.old (λ s h. Keeps S.Scheme L.Elector s self.new (forwarded view proposal.now ∷ h))) }
+        ensures answer { IfOk result (λ first.
+            AtEach S.Scheme L.Elector self.old
+            (λ s h. IsTrue first ↔ ((has_nullified (seen s h view) ≡ false) × (held (offers (seen s h view)) ≡ None)))) }
     {
         wake(&mut self.candidates, view)?;
         self.views.set_proposal(view, proposal)

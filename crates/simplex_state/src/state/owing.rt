@@ -15,7 +15,8 @@ impl<S: Scheme<D> + Drop, L: Elector<S, D>, D: Digest> State<S, L, D> {
     /// The lowest view of which a notarize is due, whether this member has a key or not; `None` where none is of any view. The cost
     /// is that of the views whose proposal was found good, and that wait to be voted for.
     pub fn next_notarize(&self) -> Option<View>
-        ensures { AtEach S.Scheme L.Elector self.now (λ s h. MatchOption result (NoNotarizeIsDue (member s) (known s h)) (λ view. IsFirstNotarize (member s) (known s h) view)) }
+        ensures { AtEach S.Scheme L.Elector self.now
+            (λ s h. MatchOption result (NoNotarizeIsDue (member s) (known s h)) (λ view. IsFirstNotarize (member s) (known s h) view)) }
     {
         // The proof takes from the number that a term has at least one view.
         let _views = self.views.lookahead().length.get();
@@ -35,7 +36,8 @@ impl<S: Scheme<D> + Drop, L: Elector<S, D>, D: Digest> State<S, L, D> {
     /// The lowest view of which a finalize is due, whether this member has a key or not; `None` where none is of any view. The cost
     /// is that of the views above the last finalized one whose verdict is true, and that wait to be voted for.
     pub fn next_finalize(&self) -> Option<View>
-        ensures { AtEach S.Scheme L.Elector self.now (λ s h. MatchOption result (NoFinalizeIsDue (member s) (known s h)) (λ view. IsFirstFinalize (member s) (known s h) view)) }
+        ensures { AtEach S.Scheme L.Elector self.now
+            (λ s h. MatchOption result (NoFinalizeIsDue (member s) (known s h)) (λ view. IsFirstFinalize (member s) (known s h) view)) }
     {
         // The proof takes from the number that a term has at least one view.
         let _views = self.views.lookahead().length.get();

@@ -33,8 +33,14 @@ impl<S: Scheme<D> + Drop, L: Elector<S, D>, D: Digest> State<S, L, D> {
         context: &Context<D, S::PublicKey>,
         payload: D,
     ) -> Result<bool, AllocError>
-        ensures keeps { IfOk result (λ taken. AtEach S.Scheme L.Elector self.old (λ s h. Keeps S.Scheme L.Elector s self.new (if taken then built now (proposal_on context.now payload) context.now.parent.1 ∷ h else h))) }
-        ensures answer { IfOk result (λ taken. AtEach S.Scheme L.Elector self.old (λ s h. IsTrue taken ↔ (IsTracked s h context.now.round.view × IsCaptured (member s) (known s h) context.now.round.view context.now.parent.0 context.now.parent.1 × (has_nullified (seen s h context.now.round.view) ≡ false) × Agrees (held (offers (seen s h context.now.round.view))) (proposal_on context.now payload)))) }
+        ensures keeps { IfOk result (λ taken.
+            AtEach S.Scheme L.Elector self.old (λ s h.
+            Keeps S.Scheme L.Elector s self.new (if taken then built now (proposal_on context.now payload) context.now.parent.1 ∷ h else h))) }
+        ensures answer { IfOk result (λ taken.
+            AtEach S.Scheme L.Elector self.old (λ s h.
+            IsTrue taken ↔ (IsTracked s h context.now.round.view × IsCaptured (member s) (known s h) context.now.round.view context.now.parent.0
+            context.now.parent.1 × (has_nullified (seen s h context.now.round.view) ≡ false) × Agrees
+            (held (offers (seen s h context.now.round.view))) (proposal_on context.now payload)))) }
     {
         let (parent, parent_payload) = context.parent;
         if !self.views.is_tracked(context.round.view) {
@@ -83,8 +89,12 @@ impl<S: Scheme<D> + Drop, L: Elector<S, D>, D: Digest> State<S, L, D> {
         &mut self,
         context: &Context<D, S::PublicKey>,
     ) -> Result<bool, AllocError>
-        ensures keeps { IfOk result (λ superseded. AtEach S.Scheme L.Elector self.old (λ s h. AddsWhere S.Scheme L.Elector s self.new h context.now.round.view (build_released context.now.round.view) superseded)) }
-        ensures answer { IfOk result (λ superseded. AtEach S.Scheme L.Elector self.old (λ s h. IsTrue superseded ↔ IsSuperseded (member s) (known s h) context.now.round.view context.now.parent.0 context.now.parent.1)) }
+        ensures keeps { IfOk result (λ superseded.
+            AtEach S.Scheme L.Elector self.old
+            (λ s h. AddsWhere S.Scheme L.Elector s self.new h context.now.round.view (build_released context.now.round.view) superseded)) }
+        ensures answer { IfOk result (λ superseded.
+            AtEach S.Scheme L.Elector self.old
+            (λ s h. IsTrue superseded ↔ IsSuperseded (member s) (known s h) context.now.round.view context.now.parent.0 context.now.parent.1)) }
     {
         let (parent, parent_payload) = context.parent;
         let view = context.round.view;
@@ -111,7 +121,8 @@ impl<S: Scheme<D> + Drop, L: Elector<S, D>, D: Digest> State<S, L, D> {
         &self,
         context: &Context<D, S::PublicKey>,
     ) -> Option<HandoffAbandonedReason>
-        ensures { AtEach S.Scheme L.Elector self.now (λ s h. StopsHandoff (member s) (known s h) context.now.round.view context.now.parent.0 context.now.parent.1 result) }
+        ensures { AtEach S.Scheme L.Elector self.now
+            (λ s h. StopsHandoff (member s) (known s h) context.now.round.view context.now.parent.0 context.now.parent.1 result) }
     {
         let (parent, payload) = context.parent;
         if self.parent_certified(parent, payload) {

@@ -23,8 +23,12 @@ impl<S: Scheme<D> + Drop, L: Elector<S, D>, D: Digest> State<S, L, D> {
         alloc: Global,
         view: View,
     ) -> Result<Option<Notarization<S, D>>, AllocError>
-        ensures keeps { IfOk result (λ copy. AtEach S.Scheme L.Elector self.old (λ s h. Keeps S.Scheme L.Elector s self.new (if is_some copy then sent kind.Notarization view ∷ h else h))) }
-        ensures answer { IfOk result (λ copy. AtEach S.Scheme L.Elector self.old (λ s h. copy ≡ (if past.has_sent_notarization (seen s h view) then None else past.notarization (seen s h view)))) }
+        ensures keeps { IfOk result (λ copy.
+            AtEach S.Scheme L.Elector self.old
+            (λ s h. Keeps S.Scheme L.Elector s self.new (if is_some copy then sent kind.Notarization view ∷ h else h))) }
+        ensures answer { IfOk result (λ copy.
+            AtEach S.Scheme L.Elector self.old
+            (λ s h. copy ≡ (if past.has_sent_notarization (seen s h view) then None else past.notarization (seen s h view)))) }
     {
         self.views.broadcast_notarization(alloc, view)
     }
@@ -39,8 +43,12 @@ impl<S: Scheme<D> + Drop, L: Elector<S, D>, D: Digest> State<S, L, D> {
         alloc: Global,
         view: View,
     ) -> Result<Option<Nullification<S, D>>, AllocError>
-        ensures keeps { IfOk result (λ copy. AtEach S.Scheme L.Elector self.old (λ s h. Keeps S.Scheme L.Elector s self.new (if is_some copy then sent kind.Nullification view ∷ h else h))) }
-        ensures answer { IfOk result (λ copy. AtEach S.Scheme L.Elector self.old (λ s h. copy ≡ (if past.has_sent_nullification (seen s h view) then None else past.nullification (seen s h view)))) }
+        ensures keeps { IfOk result (λ copy.
+            AtEach S.Scheme L.Elector self.old
+            (λ s h. Keeps S.Scheme L.Elector s self.new (if is_some copy then sent kind.Nullification view ∷ h else h))) }
+        ensures answer { IfOk result (λ copy.
+            AtEach S.Scheme L.Elector self.old
+            (λ s h. copy ≡ (if past.has_sent_nullification (seen s h view) then None else past.nullification (seen s h view)))) }
     {
         self.views.broadcast_nullification(alloc, view)
     }
@@ -55,8 +63,12 @@ impl<S: Scheme<D> + Drop, L: Elector<S, D>, D: Digest> State<S, L, D> {
         alloc: Global,
         view: View,
     ) -> Result<Option<Finalization<S, D>>, AllocError>
-        ensures keeps { IfOk result (λ copy. AtEach S.Scheme L.Elector self.old (λ s h. Keeps S.Scheme L.Elector s self.new (if is_some copy then sent kind.Finalization view ∷ h else h))) }
-        ensures answer { IfOk result (λ copy. AtEach S.Scheme L.Elector self.old (λ s h. copy ≡ (if past.has_sent_finalization (seen s h view) then None else past.finalization (seen s h view)))) }
+        ensures keeps { IfOk result (λ copy.
+            AtEach S.Scheme L.Elector self.old
+            (λ s h. Keeps S.Scheme L.Elector s self.new (if is_some copy then sent kind.Finalization view ∷ h else h))) }
+        ensures answer { IfOk result (λ copy.
+            AtEach S.Scheme L.Elector self.old
+            (λ s h. copy ≡ (if past.has_sent_finalization (seen s h view) then None else past.finalization (seen s h view)))) }
     {
         self.views.broadcast_finalization(alloc, view)
     }

@@ -42,7 +42,8 @@ impl<S: Scheme<D> + Drop, L: Elector<S, D>, D: Digest> State<S, L, D> {
         now: u64,
         finalization: Finalization<S, D>,
     ) -> Result<Option<Finalization<S, D>>, AllocError>
-        ensures { IfOk result (λ answer. AtEach S.Scheme L.Elector self.old (λ s h. StandsOn S.Scheme L.Elector s self.new now h finalization answer)) }
+        ensures { IfOk result
+            (λ answer. AtEach S.Scheme L.Elector self.old (λ s h. StandsOn S.Scheme L.Elector s self.new now h finalization answer)) }
     {
         let view = finalization.view();
         let _taken = self.add_finalization(now, finalization)?;

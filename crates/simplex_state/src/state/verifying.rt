@@ -45,7 +45,8 @@ impl<S: Scheme<D> + Drop, L: Elector<S, D>, D: Digest> State<S, L, D> {
         now: u64,
         from: View,
     ) -> Result<Verify<D, S::PublicKey>, AllocError>
-        ensures answer { IfOk result (λ answer. AtEach S.Scheme L.Elector self.old (λ s h. AnswersFrom S.Scheme L.Elector s self.new now h from answer)) }
+        ensures answer { IfOk result
+            (λ answer. AtEach S.Scheme L.Elector self.old (λ s h. AnswersFrom S.Scheme L.Elector s self.new now h from answer)) }
         ensures rises { IfOk result (λ answer. IsFrom from answer) }
     {
         let found = self.first_wanted(now, from)?;
@@ -63,7 +64,10 @@ impl<S: Scheme<D> + Drop, L: Elector<S, D>, D: Digest> State<S, L, D> {
         now: u64,
         from: View,
     ) -> Result<Option<(View, Wanted<D>)>, AllocError>
-        ensures found { IfOk result (λ found. AtEach S.Scheme L.Elector self.old (λ s h. MatchOption found ((last : ℕ) × BehindLookFrom s h now from last (PassesFrom S.Scheme L.Elector s self.new from last)) (λ x. BehindLookFrom s h now from x.0 (λ end. IsWanted (member s) (known s end) x.0 x.1 × Keeps S.Scheme L.Elector s self.new end)))) }
+        ensures found { IfOk result (λ found.
+            AtEach S.Scheme L.Elector self.old (λ s h.
+            MatchOption found ((last : ℕ) × BehindLookFrom s h now from last (PassesFrom S.Scheme L.Elector s self.new from last))
+            (λ x. BehindLookFrom s h now from x.0 (λ end. IsWanted (member s) (known s end) x.0 x.1 × Keeps S.Scheme L.Elector s self.new end)))) }
         ensures rises { IfOk result (λ found. IfSome found (λ x. from ≤ x.0)) }
     {
         a_look_leaves_nothing_to_ask::<S, D>();
@@ -97,7 +101,10 @@ impl<S: Scheme<D> + Drop, L: Elector<S, D>, D: Digest> State<S, L, D> {
 
     /// What is to be asked for the view's proposal. Where it can never stand, the view is given up.
     fn look(&mut self, now: u64, view: View) -> Result<Option<Wanted<D>>, AllocError>
-        ensures { IfOk result (λ found. AtEach S.Scheme L.Elector self.old (λ s h. MatchOption found (Passes S.Scheme L.Elector s self.new now h view) (λ x. IsWanted (member s) (known s h) view x × Keeps S.Scheme L.Elector s self.new h))) }
+        ensures { IfOk result (λ found.
+            AtEach S.Scheme L.Elector self.old (λ s h.
+            MatchOption found (Passes S.Scheme L.Elector s self.new now h view)
+            (λ x. IsWanted (member s) (known s h) view x × Keeps S.Scheme L.Elector s self.new h))) }
     {
         match request_for(&self.views, view) {
             VerifyRequest::Ready(proposal, payload) => {
@@ -122,7 +129,9 @@ impl<S: Scheme<D> + Drop, L: Elector<S, D>, D: Digest> State<S, L, D> {
     /// Asks for what is wanted for the view's proposal, and puts that down.
     fn ask(&mut self, view: View, wanted: Wanted<D>) -> Result<Verify<D, S::PublicKey>, AllocError>
         ensures of_view { IfOk result (λ answer. IsFrom view answer) }
-        ensures asks { IfOk result (λ answer. AtEach S.Scheme L.Elector self.old (λ s h. IsWanted (member s) (known s h) view wanted → Asks S.Scheme L.Elector s self.new h view answer)) }
+        ensures asks { IfOk result (λ answer.
+            AtEach S.Scheme L.Elector self.old
+            (λ s h. IsWanted (member s) (known s h) view wanted → Asks S.Scheme L.Elector s self.new h view answer)) }
     {
         let Some(leader) = self.leader_key(view) else {
             return Ok(Verify::Wait);
@@ -151,7 +160,8 @@ impl<S: Scheme<D> + Drop, L: Elector<S, D>, D: Digest> State<S, L, D> {
 
     /// The key of the member that leads the view, where that is known.
     fn leader_key(&self, view: View) -> Option<S::PublicKey>
-        ensures { AtEach S.Scheme L.Elector self.now (λ s h. MatchOption result (leader s h view ≡ None) (λ key. IsKeyOfLeader S.Scheme s h view key)) }
+        ensures { AtEach S.Scheme L.Elector self.now
+            (λ s h. MatchOption result (leader s h view ≡ None) (λ key. IsKeyOfLeader S.Scheme s h view key)) }
     {
         let Some(round) = self.views.round(view) else {
             return None;

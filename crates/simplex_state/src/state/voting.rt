@@ -31,9 +31,16 @@ impl<S: Scheme<D> + Drop, L: Elector<S, D>, D: Digest> State<S, L, D> {
     ///
     /// `AllocError` where memory ran out.
     pub fn construct_notarize(&mut self, view: View) -> Result<Option<Notarize<S, D>>, AllocError>
-        ensures keeps { IfOk result (λ vote. AtEach S.Scheme L.Elector self.old (λ s h. MatchOption vote (Keeps S.Scheme L.Elector s self.new h) (λ v. Keeps S.Scheme L.Elector s self.new (voted_notarize view v.proposal ∷ h)))) }
-        ensures answer { IfOk result (λ vote. AtEach S.Scheme L.Elector self.old (λ s h. MatchOption vote (IsSome s.me → ¬ NotarizeIsDue (member s) (known s h) view) (λ v. NotarizeIsDue (member s) (known s h) view × (held_at (member s) (known s h) view ≡ Some v.proposal) × IsOwn S.Scheme s notarize v))) }
-        ensures of_view { IfOk result (λ vote. AtEach S.Scheme L.Elector self.old (λ s h. AreOfTheirViews s h → IfSome vote (λ v. v.proposal.round ≡ round_of s view))) }
+        ensures keeps { IfOk result (λ vote.
+            AtEach S.Scheme L.Elector self.old (λ s h.
+            MatchOption vote (Keeps S.Scheme L.Elector s self.new h)
+            (λ v. Keeps S.Scheme L.Elector s self.new (voted_notarize view v.proposal ∷ h)))) }
+        ensures answer { IfOk result (λ vote.
+            AtEach S.Scheme L.Elector self.old (λ s h.
+            MatchOption vote (IsSome s.me → ¬ NotarizeIsDue (member s) (known s h) view) (λ v.
+            NotarizeIsDue (member s) (known s h) view × (held_at (member s) (known s h) view ≡ Some v.proposal) × IsOwn S.Scheme s notarize v))) }
+        ensures of_view { IfOk result
+            (λ vote. AtEach S.Scheme L.Elector self.old (λ s h. AreOfTheirViews s h → IfSome vote (λ v. v.proposal.round ≡ round_of s view))) }
     {
         held_lies_in_its_view::<S, D>();
         if self.scheme.me().is_none() {
@@ -52,8 +59,12 @@ impl<S: Scheme<D> + Drop, L: Elector<S, D>, D: Digest> State<S, L, D> {
     /// Votes to finalize the held proposal of the view, where that is due. Else nothing changes. Without a key nothing is voted.
     /// Where each proposal that came was of its view and the epoch, the vote is of this view and the epoch.
     pub fn construct_finalize(&mut self, view: View) -> Option<Finalize<S, D>>
-        ensures keeps { AtEach S.Scheme L.Elector self.old (λ s h. MatchOption result (Keeps S.Scheme L.Elector s self.new h) (λ v. Keeps S.Scheme L.Elector s self.new (voted_finalize view v.proposal ∷ h))) }
-        ensures answer { AtEach S.Scheme L.Elector self.old (λ s h. MatchOption result (IsSome s.me → ¬ FinalizeIsDue (member s) (known s h) view) (λ v. FinalizeIsDue (member s) (known s h) view × (held_at (member s) (known s h) view ≡ Some v.proposal) × IsOwn S.Scheme s finalize v)) }
+        ensures keeps { AtEach S.Scheme L.Elector self.old (λ s h.
+            MatchOption result (Keeps S.Scheme L.Elector s self.new h)
+            (λ v. Keeps S.Scheme L.Elector s self.new (voted_finalize view v.proposal ∷ h))) }
+        ensures answer { AtEach S.Scheme L.Elector self.old (λ s h.
+            MatchOption result (IsSome s.me → ¬ FinalizeIsDue (member s) (known s h) view) (λ v.
+            FinalizeIsDue (member s) (known s h) view × (held_at (member s) (known s h) view ≡ Some v.proposal) × IsOwn S.Scheme s finalize v)) }
         ensures of_view { AtEach S.Scheme L.Elector self.old (λ s h. AreOfTheirViews s h → IfSome result (λ v. v.proposal.round ≡ round_of s view)) }
     {
         held_lies_in_its_view::<S, D>();
@@ -82,8 +93,12 @@ impl<S: Scheme<D> + Drop, L: Elector<S, D>, D: Digest> State<S, L, D> {
         view: View,
         _reason: TimeoutReason,
     ) -> Result<Option<(bool, Nullify<S, D>)>, AllocError>
-        ensures keeps { IfOk result (λ vote. AtEach S.Scheme L.Elector self.old (λ s h. Keeps S.Scheme L.Elector s self.new (if is_some vote then voted_nullify view ∷ h else h))) }
-        ensures answer { IfOk result (λ vote. AtEach S.Scheme L.Elector self.old (λ s h. MatchOption vote (IsSome s.me → ¬ MayGiveUp s h view) (λ v. MayGiveUp s h view × (v.0 ≡ has_nullified (seen s h view)) × IsOwnNullify S.Scheme s view v.1))) }
+        ensures keeps { IfOk result (λ vote.
+            AtEach S.Scheme L.Elector self.old (λ s h. Keeps S.Scheme L.Elector s self.new (if is_some vote then voted_nullify view ∷ h else h))) }
+        ensures answer { IfOk result (λ vote.
+            AtEach S.Scheme L.Elector self.old (λ s h.
+            MatchOption vote (IsSome s.me → ¬ MayGiveUp s h view)
+            (λ v. MayGiveUp s h view × (v.0 ≡ has_nullified (seen s h view)) × IsOwnNullify S.Scheme s view v.1))) }
     {
         if !self.is_current(view) {
             return Ok(None);

@@ -8,12 +8,20 @@ ghost use Rattle.types_terms.specs.Shuffle.{IsShuffled};
 /// Of so many terms of an epoch in a row as there are participants, each participant leads exactly
 /// one, where their numbers with the epoch's are numbers of 64 bits.
 pub fn each_participant_leads_once()
-    ensures { (n : ℕ) (order : List ℕ) → IsOrder n order → (epoch first : ℕ) → epoch + first + n ≤ 2 ^ 64 → (member : ℕ) → member < n → LeadsOnce order epoch first member }
+    ensures { (n : ℕ) (order : List ℕ)
+        → IsOrder n order
+        → (epoch first : ℕ)
+        → epoch + first + n ≤ 2 ^ 64
+        → (member : ℕ)
+        → member < n
+        → LeadsOnce order epoch first member }
 {}
 
 /// The views of a term have one leader in each epoch.
 pub fn a_term_has_one_leader()
-    ensures { (r : Rotation) (epoch view later : ℕ) → term_index r.terms.length view ≡ term_index r.terms.length later → view_leader r epoch view ≡ view_leader r epoch later }
+    ensures { (r : Rotation) (epoch view later : ℕ)
+        → term_index r.terms.length view ≡ term_index r.terms.length later
+        → view_leader r epoch view ≡ view_leader r epoch later }
 {}
 
 /// A seed makes one order of so many participants.

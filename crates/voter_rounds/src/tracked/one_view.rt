@@ -21,14 +21,16 @@ impl<S: Scheme<D> + Drop, D: Digest> Tracked<S, D> {
     /// The first view from this one on of which something is known.
     pub fn first_tracked(&self, from: View) -> Option<View>
         ensures behind { IfSome result (λ first. from ≤ first) }
-        ensures tracked { AtEach S.Scheme self.now (λ f t. MatchOption result (AreUntracked t.led t.past from (2 ^ 64)) (λ first. IsFirstTracked t.led t.past from first)) }
+        ensures tracked { AtEach S.Scheme self.now
+            (λ f t. MatchOption result (AreUntracked t.led t.past from (2 ^ 64)) (λ first. IsFirstTracked t.led t.past from first)) }
     {
         self.rounds.first_tracked(from)
     }
 
     /// Takes in the verdict on a view.
     pub fn judge(&mut self, view: View, is_success: bool) -> Result<(), AllocError>
-        ensures { OnOk result (AtEach S.Scheme self.old (λ f t. Holds S.Scheme f self.new (record t { past = put view (judged is_success) t.past }))) }
+        ensures { OnOk result
+            (AtEach S.Scheme self.old (λ f t. Holds S.Scheme f self.new (record t { past = put view (judged is_success) t.past }))) }
     {
         // The first verdict stays.
         let is_first = !self.is_judged(view);
@@ -63,7 +65,8 @@ impl<S: Scheme<D> + Drop, D: Digest> Tracked<S, D> {
         now: u64,
         reason: TimeoutReason,
     ) -> Result<bool, AllocError>
-        ensures keeps { OnOk result (AtEach S.Scheme self.old (λ f t. Holds S.Scheme f self.new (record t { past = put view (latched now reason) t.past }))) }
+        ensures keeps { OnOk result
+            (AtEach S.Scheme self.old (λ f t. Holds S.Scheme f self.new (record t { past = put view (latched now reason) t.past }))) }
         ensures unchanged { IfOk result (λ first. first ≡ false → AtEach S.Scheme self.old (λ f t. Holds S.Scheme f self.new t)) }
         ensures answer { IfOk result (λ first. AtEach S.Scheme self.old (λ f t. first ≡ is_unlatched (t.past view))) }
     {
@@ -72,8 +75,10 @@ impl<S: Scheme<D> + Drop, D: Digest> Tracked<S, D> {
 
     /// Takes it that the held proposal was found good: whether it became verified. Behind an own nullify nothing changes.
     pub fn verified(&mut self, view: View) -> Result<bool, AllocError>
-        ensures keeps { OnOk result (AtEach S.Scheme self.old (λ f t. Holds S.Scheme f self.new (record t { past = if has_nullified (t.past view) then t.past else put view (offered confirmed) t.past }))) }
-        ensures answer { IfOk result (λ became. AtEach S.Scheme self.old (λ f t. IsTrue became ↔ ((has_nullified (t.past view) ≡ false) × IsUnverified (offers (t.past view))))) }
+        ensures keeps { OnOk result (AtEach S.Scheme self.old (λ f t.
+            Holds S.Scheme f self.new (record t { past = if has_nullified (t.past view) then t.past else put view (offered confirmed) t.past }))) }
+        ensures answer { IfOk result (λ became.
+            AtEach S.Scheme self.old (λ f t. IsTrue became ↔ ((has_nullified (t.past view) ≡ false) × IsUnverified (offers (t.past view))))) }
     {
         Ok(self.rounds.open(view)?.verified())
     }
@@ -85,8 +90,13 @@ impl<S: Scheme<D> + Drop, D: Digest> Tracked<S, D> {
         proposal: Proposal<D>,
         payload: D,
     ) -> Result<bool, AllocError>
-        ensures keeps { IfOk result (λ taken. AtEach S.Scheme self.old (λ f t. Holds S.Scheme f self.new (record t { past = if taken then put proposal.round.view (bound proposal payload) (put proposal.round.view (built now proposal) t.past) else t.past }))) }
-        ensures answer { IfOk result (λ taken. AtEach S.Scheme self.old (λ f t. IsTrue taken ↔ ((has_nullified (t.past proposal.round.view) ≡ false) × Agrees (held (offers (t.past proposal.round.view))) proposal))) }
+        ensures keeps { IfOk result (λ taken.
+            AtEach S.Scheme self.old (λ f t.
+            Holds S.Scheme f self.new (record t
+            { past = if taken then put proposal.round.view (bound proposal payload) (put proposal.round.view (built now proposal) t.past) else t.past }))) }
+        ensures answer { IfOk result (λ taken.
+            AtEach S.Scheme self.old (λ f t.
+            IsTrue taken ↔ ((has_nullified (t.past proposal.round.view) ≡ false) × Agrees (held (offers (t.past proposal.round.view))) proposal))) }
     {
         let round = self.rounds.open(proposal.view())?;
         Ok(record_build(round, now, proposal, payload))
@@ -94,8 +104,10 @@ impl<S: Scheme<D> + Drop, D: Digest> Tracked<S, D> {
 
     /// Votes to notarize the view, where it allows that: the held proposal.
     pub fn construct_notarize(&mut self, view: View) -> Option<Proposal<D>>
-        ensures keeps { AtEach S.Scheme self.old (λ f t. Holds S.Scheme f self.new (record t { past = if is_some result then put view voted_notarize t.past else t.past })) }
-        ensures answer { AtEach S.Scheme self.old (λ f t. MatchOption result (¬ MayNotarize (t.past view)) (λ p. MayNotarize (t.past view) × (held (offers (t.past view)) ≡ Some p))) }
+        ensures keeps { AtEach S.Scheme self.old
+            (λ f t. Holds S.Scheme f self.new (record t { past = if is_some result then put view voted_notarize t.past else t.past })) }
+        ensures answer { AtEach S.Scheme self.old
+            (λ f t. MatchOption result (¬ MayNotarize (t.past view)) (λ p. MayNotarize (t.past view) × (held (offers (t.past view)) ≡ Some p))) }
     {
         match self.rounds.get_mut(view) {
             Some(round) => round.construct_notarize(),
@@ -105,8 +117,10 @@ impl<S: Scheme<D> + Drop, D: Digest> Tracked<S, D> {
 
     /// Votes to finalize the view, where it allows that: the held proposal.
     pub fn construct_finalize(&mut self, view: View) -> Option<Proposal<D>>
-        ensures keeps { AtEach S.Scheme self.old (λ f t. Holds S.Scheme f self.new (record t { past = if is_some result then put view voted_finalize t.past else t.past })) }
-        ensures answer { AtEach S.Scheme self.old (λ f t. MatchOption result (¬ MayFinalize (t.past view)) (λ p. MayFinalize (t.past view) × (held (offers (t.past view)) ≡ Some p))) }
+        ensures keeps { AtEach S.Scheme self.old
+            (λ f t. Holds S.Scheme f self.new (record t { past = if is_some result then put view voted_finalize t.past else t.past })) }
+        ensures answer { AtEach S.Scheme self.old
+            (λ f t. MatchOption result (¬ MayFinalize (t.past view)) (λ p. MayFinalize (t.past view) × (held (offers (t.past view)) ≡ Some p))) }
     {
         match self.rounds.get_mut(view) {
             Some(round) => round.construct_finalize(),
@@ -116,8 +130,11 @@ impl<S: Scheme<D> + Drop, D: Digest> Tracked<S, D> {
 
     /// Votes to nullify the view, unless this member voted to finalize it: whether it did before.
     pub fn construct_nullify(&mut self, view: View) -> Result<Option<bool>, AllocError>
-        ensures keeps { IfOk result (λ voted. AtEach S.Scheme self.old (λ f t. Holds S.Scheme f self.new (record t { past = if is_some voted then put view voted_nullify t.past else t.past }))) }
-        ensures answer { IfOk result (λ voted. AtEach S.Scheme self.old (λ f t. voted ≡ (if has_finalized (t.past view) then None else Some (has_nullified (t.past view))))) }
+        ensures keeps { IfOk result (λ voted.
+            AtEach S.Scheme self.old
+            (λ f t. Holds S.Scheme f self.new (record t { past = if is_some voted then put view voted_nullify t.past else t.past }))) }
+        ensures answer { IfOk result (λ voted.
+            AtEach S.Scheme self.old (λ f t. voted ≡ (if has_finalized (t.past view) then None else Some (has_nullified (t.past view))))) }
     {
         let voted = self.rounds.open(view)?.construct_nullify();
         self.given_up.mark_if(view, voted.is_some())?;
@@ -133,8 +150,10 @@ impl<S: Scheme<D> + Drop, D: Digest> Tracked<S, D> {
         retry_interval: u64,
         allow_latched_timeout: bool,
     ) -> Result<Option<(u64, TimeoutReason)>, AllocError>
-        ensures keeps { OnOk result (AtEach S.Scheme self.old (λ f t. Holds S.Scheme f self.new (record t { past = put view (polled (deadline now retry_interval)) t.past }))) }
-        ensures answer { IfOk result (λ timeout. AtEach S.Scheme self.old (λ f t. timeout ≡ next_timeout (polled (deadline now retry_interval) ∷ t.past view) allow_latched_timeout)) }
+        ensures keeps { OnOk result (AtEach S.Scheme self.old
+            (λ f t. Holds S.Scheme f self.new (record t { past = put view (polled (deadline now retry_interval)) t.past }))) }
+        ensures answer { IfOk result (λ timeout.
+            AtEach S.Scheme self.old (λ f t. timeout ≡ next_timeout (polled (deadline now retry_interval) ∷ t.past view) allow_latched_timeout)) }
     {
         let round = self.rounds.open(view)?;
         Ok(round.next_timeout(now, retry_interval, allow_latched_timeout))
@@ -142,8 +161,11 @@ impl<S: Scheme<D> + Drop, D: Digest> Tracked<S, D> {
 
     /// Asks for a build in the view: its leader, this member, where one may be asked for. Else nothing changes.
     pub fn try_propose(&mut self, view: View) -> Option<Leader<S::PublicKey>>
-        ensures keeps { AtEach S.Scheme self.old (λ f t. Holds S.Scheme f self.new (record t { past = if is_some result then put view (offered building) t.past else t.past })) }
-        ensures answer { AtEach S.Scheme self.old (λ f t. MatchOption result (¬ MayPropose (S.own f.common.scheme) (t.led view) (t.past view)) (λ x. MayPropose (S.own f.common.scheme) (t.led view) (t.past view) × one.IsLeader S.key_of (setup_of f.common view) (t.led view) x)) }
+        ensures keeps { AtEach S.Scheme self.old
+            (λ f t. Holds S.Scheme f self.new (record t { past = if is_some result then put view (offered building) t.past else t.past })) }
+        ensures answer { AtEach S.Scheme self.old (λ f t.
+            MatchOption result (¬ MayPropose (S.own f.common.scheme) (t.led view) (t.past view))
+            (λ x. MayPropose (S.own f.common.scheme) (t.led view) (t.past view) × one.IsLeader S.key_of (setup_of f.common view) (t.led view) x)) }
     {
         match self.rounds.get_mut(view) {
             Some(round) => round.try_propose(),
@@ -154,7 +176,9 @@ impl<S: Scheme<D> + Drop, D: Digest> Tracked<S, D> {
     /// Asks for a verification of the view's proposal over its parent's payload, and binds it to that: whether one may be asked
     /// for. Else nothing changes.
     pub fn request_verify(&mut self, view: View, proposal: Proposal<D>, payload: D) -> bool
-        ensures keeps { AtEach S.Scheme self.old (λ f t. Holds S.Scheme f self.new (record t { past = if result then put view (bound proposal payload) (put view (offered verifying) t.past) else t.past })) }
+        ensures keeps { AtEach S.Scheme self.old (λ f t.
+            Holds S.Scheme f self.new
+            (record t { past = if result then put view (bound proposal payload) (put view (offered verifying) t.past) else t.past })) }
         ensures answer { AtEach S.Scheme self.old (λ f t. IsTrue result ↔ MayVerify (S.own f.common.scheme) (t.led view) (t.past view)) }
     {
         match self.rounds.get_mut(view) {
@@ -169,8 +193,11 @@ impl<S: Scheme<D> + Drop, D: Digest> Tracked<S, D> {
         alloc: Global,
         view: View,
     ) -> Result<Option<Notarization<S, D>>, AllocError>
-        ensures keeps { IfOk result (λ copy. AtEach S.Scheme self.old (λ f t. Holds S.Scheme f self.new (record t { past = if is_some copy then put view sent_notarization t.past else t.past }))) }
-        ensures answer { IfOk result (λ copy. AtEach S.Scheme self.old (λ f t. copy ≡ (if has_sent_notarization (t.past view) then None else notarization (t.past view)))) }
+        ensures keeps { IfOk result (λ copy.
+            AtEach S.Scheme self.old
+            (λ f t. Holds S.Scheme f self.new (record t { past = if is_some copy then put view sent_notarization t.past else t.past }))) }
+        ensures answer { IfOk result (λ copy.
+            AtEach S.Scheme self.old (λ f t. copy ≡ (if has_sent_notarization (t.past view) then None else notarization (t.past view)))) }
     {
         match self.rounds.get_mut(view) {
             Some(round) => round.broadcast_notarization(alloc),
@@ -184,8 +211,11 @@ impl<S: Scheme<D> + Drop, D: Digest> Tracked<S, D> {
         alloc: Global,
         view: View,
     ) -> Result<Option<Nullification<S, D>>, AllocError>
-        ensures keeps { IfOk result (λ copy. AtEach S.Scheme self.old (λ f t. Holds S.Scheme f self.new (record t { past = if is_some copy then put view sent_nullification t.past else t.past }))) }
-        ensures answer { IfOk result (λ copy. AtEach S.Scheme self.old (λ f t. copy ≡ (if has_sent_nullification (t.past view) then None else nullification (t.past view)))) }
+        ensures keeps { IfOk result (λ copy.
+            AtEach S.Scheme self.old
+            (λ f t. Holds S.Scheme f self.new (record t { past = if is_some copy then put view sent_nullification t.past else t.past }))) }
+        ensures answer { IfOk result (λ copy.
+            AtEach S.Scheme self.old (λ f t. copy ≡ (if has_sent_nullification (t.past view) then None else nullification (t.past view)))) }
     {
         match self.rounds.get_mut(view) {
             Some(round) => round.broadcast_nullification(alloc),
@@ -199,8 +229,11 @@ impl<S: Scheme<D> + Drop, D: Digest> Tracked<S, D> {
         alloc: Global,
         view: View,
     ) -> Result<Option<Finalization<S, D>>, AllocError>
-        ensures keeps { IfOk result (λ copy. AtEach S.Scheme self.old (λ f t. Holds S.Scheme f self.new (record t { past = if is_some copy then put view sent_finalization t.past else t.past }))) }
-        ensures answer { IfOk result (λ copy. AtEach S.Scheme self.old (λ f t. copy ≡ (if has_sent_finalization (t.past view) then None else finalization (t.past view)))) }
+        ensures keeps { IfOk result (λ copy.
+            AtEach S.Scheme self.old
+            (λ f t. Holds S.Scheme f self.new (record t { past = if is_some copy then put view sent_finalization t.past else t.past }))) }
+        ensures answer { IfOk result (λ copy.
+            AtEach S.Scheme self.old (λ f t. copy ≡ (if has_sent_finalization (t.past view) then None else finalization (t.past view)))) }
     {
         match self.rounds.get_mut(view) {
             Some(round) => round.broadcast_finalization(alloc),
@@ -210,7 +243,9 @@ impl<S: Scheme<D> + Drop, D: Digest> Tracked<S, D> {
 
     /// Takes in an artifact of this member's record.
     pub fn replay(&mut self, artifact: &Artifact<S, D>) -> Result<(), AllocError>
-        ensures { OnOk result (AtEach S.Scheme self.old (λ f t. (taken : Bool) × Takes t.past artifact.now taken × Holds S.Scheme f self.new (record t { past = recalled taken artifact.now t.past }))) }
+        ensures { OnOk result (AtEach S.Scheme self.old (λ f t.
+            (taken : Bool) × Takes t.past artifact.now taken × Holds S.Scheme f self.new
+            (record t { past = recalled taken artifact.now t.past }))) }
     {
         match artifact {
             Artifact::Certification(round, is_success) => self.judge(round.view(), *is_success),

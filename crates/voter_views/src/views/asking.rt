@@ -17,7 +17,8 @@ impl<S: Scheme<D> + Drop, L: Elector<S, D>, D: Digest> Views<S, L, D> {
     /// Asks for a verification of the view's proposal over its parent's payload, and binds it to that: whether one may be asked
     /// for, since another member leads the view, this one has not given it up, and none was asked for. Else nothing changes.
     pub fn request_verify(&mut self, view: View, proposal: Proposal<D>, parent_payload: D) -> bool
-        ensures keeps { AtEach S.Scheme L.Elector self.old (λ s h. Keeps S.Scheme L.Elector s self.new (if result then verify_asked view proposal parent_payload ∷ h else h)) }
+        ensures keeps { AtEach S.Scheme L.Elector self.old
+            (λ s h. Keeps S.Scheme L.Elector s self.new (if result then verify_asked view proposal parent_payload ∷ h else h)) }
         ensures answer { AtEach S.Scheme L.Elector self.old (λ s h. IsTrue result ↔ MayVerify s.me (leader s h view) (seen s h view)) }
     {
         self.progress

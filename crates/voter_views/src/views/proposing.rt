@@ -18,8 +18,11 @@ use voter_rounds::Notice;
 impl<S: Scheme<D> + Drop, L: Elector<S, D>, D: Digest> Views<S, L, D> {
     /// Asks for a build in the view: its leader, this member, where one may be asked for. Else nothing changes.
     pub fn try_propose(&mut self, view: View) -> Option<Leader<S::PublicKey>>
-        ensures keeps { AtEach S.Scheme L.Elector self.old (λ s h. Keeps S.Scheme L.Elector s self.new (if is_some result then build_asked view ∷ h else h)) }
-        ensures answer { AtEach S.Scheme L.Elector self.old (λ s h. MatchOption result (¬ MayPropose s.me (leader s h view) (seen s h view)) (λ x. MayPropose s.me (leader s h view) (seen s h view) × IsLeader S.key_of (round_of s view) (leader s h view) x)) }
+        ensures keeps { AtEach S.Scheme L.Elector self.old
+            (λ s h. Keeps S.Scheme L.Elector s self.new (if is_some result then build_asked view ∷ h else h)) }
+        ensures answer { AtEach S.Scheme L.Elector self.old (λ s h.
+            MatchOption result (¬ MayPropose s.me (leader s h view) (seen s h view))
+            (λ x. MayPropose s.me (leader s h view) (seen s h view) × IsLeader S.key_of (round_of s view) (leader s h view) x)) }
     {
         self.progress.tracked.try_propose(view)
     }
@@ -47,8 +50,13 @@ impl<S: Scheme<D> + Drop, L: Elector<S, D>, D: Digest> Views<S, L, D> {
         proposal: Proposal<D>,
         parent_payload: D,
     ) -> Result<bool, AllocError>
-        ensures keeps { IfOk result (λ taken. AtEach S.Scheme L.Elector self.old (λ s h. Keeps S.Scheme L.Elector s self.new (if taken then built now proposal parent_payload ∷ h else h))) }
-        ensures answer { IfOk result (λ taken. AtEach S.Scheme L.Elector self.old (λ s h. IsTrue taken ↔ ((has_nullified (seen s h proposal.round.view) ≡ false) × Agrees (held (offers (seen s h proposal.round.view))) proposal))) }
+        ensures keeps { IfOk result (λ taken.
+            AtEach S.Scheme L.Elector self.old
+            (λ s h. Keeps S.Scheme L.Elector s self.new (if taken then built now proposal parent_payload ∷ h else h))) }
+        ensures answer { IfOk result (λ taken.
+            AtEach S.Scheme L.Elector self.old (λ s h.
+            IsTrue taken ↔
+            ((has_nullified (seen s h proposal.round.view) ≡ false) × Agrees (held (offers (seen s h proposal.round.view))) proposal))) }
     {
         self.progress
             .tracked
@@ -63,7 +71,9 @@ impl<S: Scheme<D> + Drop, L: Elector<S, D>, D: Digest> Views<S, L, D> {
     /// `AllocError` where memory ran out.
     pub fn verified(&mut self, view: View) -> Result<bool, AllocError>
         ensures keeps { OnOk result (AtEach S.Scheme L.Elector self.old (λ s h. Keeps S.Scheme L.Elector s self.new (confirmed view ∷ h))) }
-        ensures answer { IfOk result (λ became. AtEach S.Scheme L.Elector self.old (λ s h. IsTrue became ↔ ((has_nullified (seen s h view) ≡ false) × IsUnverified (offers (seen s h view))))) }
+        ensures answer { IfOk result (λ became.
+            AtEach S.Scheme L.Elector self.old
+            (λ s h. IsTrue became ↔ ((has_nullified (seen s h view) ≡ false) × IsUnverified (offers (seen s h view))))) }
     {
         self.progress.tracked.verified(view)
     }

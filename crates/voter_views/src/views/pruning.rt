@@ -78,7 +78,8 @@ fn clear_below<S: Scheme<D> + Drop, D: Digest>(
 ) -> Result<Vec<View>, AllocError>
     ensures forgets { OnOk result (many.AtEach S.Scheme tracked.old (λ f t. Holds S.Scheme f tracked.new (forgotten floor t))) }
     ensures dropped { IfOk result (λ views. many.AtEach S.Scheme tracked.old (λ f t. AreTrackedBelow t floor views.items)) }
-    ensures keeps { OnOk result (many.AtEach S.Scheme tracked.old (λ f t. (u : ℕ) → get nat_cmp reaching.new u ≡ kept_from first floor (get nat_cmp reaching.old u) (t.past u) u)) }
+    ensures keeps { OnOk result (many.AtEach S.Scheme tracked.old
+        (λ f t. (u : ℕ) → get nat_cmp reaching.new u ≡ kept_from first floor (get nat_cmp reaching.old u) (t.past u) u)) }
 {
     let mut views = Vec::new(alloc);
     while let Some(entry) = tracked.pop_below(floor) {
@@ -95,7 +96,10 @@ fn keep_one<S: Scheme<D>, D: Digest>(
     entry: &(View, Round<S, D>),
     first: View,
 ) -> Result<(), AllocError>
-    ensures { OnOk result (one.AtEach S.key_of entry.now.1 (λ s l h. (u : ℕ) → get nat_cmp reaching.new u ≡ (if entry.now.0 == u then option_or (get nat_cmp reaching.old u) (if nat_lt u first then None else past.nullification h) else get nat_cmp reaching.old u))) }
+    ensures { OnOk result (one.AtEach S.key_of entry.now.1 (λ s l h.
+        (u : ℕ)
+        → get nat_cmp reaching.new u ≡ (if entry.now.0 == u then option_or (get nat_cmp reaching.old u)
+        (if nat_lt u first then None else past.nullification h) else get nat_cmp reaching.old u))) }
 {
     let (view, round) = entry;
     if *view < first {

@@ -23,7 +23,8 @@ impl<S: Scheme<D> + Drop, L: Elector<S, D>, D: Digest> Views<S, L, D> {
     ///
     /// `AllocError` where memory ran out.
     pub fn replay(&mut self, artifact: &Artifact<S, D>) -> Result<(), AllocError>
-        ensures { OnOk result (AtEach S.Scheme L.Elector self.old (λ s h. (taken : Bool) × Takes (seen s h) artifact.now taken × Keeps S.Scheme L.Elector s self.new (recalls taken artifact.now ∷ h))) }
+        ensures { OnOk result (AtEach S.Scheme L.Elector self.old
+            (λ s h. (taken : Bool) × Takes (seen s h) artifact.now taken × Keeps S.Scheme L.Elector s self.new (recalls taken artifact.now ∷ h))) }
     {
         let Artifact::Notarize(vote) = artifact else {
             return self.progress.tracked.replay(artifact);

@@ -43,8 +43,12 @@ impl<S: Scheme<D> + Drop, L: Elector<S, D>, D: Digest> Views<S, L, D> {
         retry_interval: u64,
         allow_latched_timeout: bool,
     ) -> Result<Option<(u64, TimeoutReason)>, AllocError>
-        ensures keeps { OnOk result (AtEach S.Scheme L.Elector self.old (λ s h. s.timeout_retry ≡ retry_interval → Keeps S.Scheme L.Elector s self.new (polled now ∷ h))) }
-        ensures answer { IfOk result (λ timeout. AtEach S.Scheme L.Elector self.old (λ s h. timeout ≡ (if nat_lt 0 (current s h) then past.next_timeout (past.polled (past.deadline now retry_interval) ∷ seen s h (current s h)) allow_latched_timeout else None))) }
+        ensures keeps { OnOk result (AtEach S.Scheme L.Elector self.old
+            (λ s h. s.timeout_retry ≡ retry_interval → Keeps S.Scheme L.Elector s self.new (polled now ∷ h))) }
+        ensures answer { IfOk result (λ timeout.
+            AtEach S.Scheme L.Elector self.old (λ s h.
+            timeout ≡ (if nat_lt 0 (current s h) then past.next_timeout
+            (past.polled (past.deadline now retry_interval) ∷ seen s h (current s h)) allow_latched_timeout else None))) }
     {
         let view = self.progress.view;
         if view.is_zero() {

@@ -2,7 +2,7 @@ use Rattle.std.proofs.Common.{◌∷◌, ℕ, sym, subst}
 use Rattle.types_core.specs.Positions.{HasRoom}
 use Rattle.messages_certificates.specs.Certificate.{any_certificate_spelling, as_notarization}
 use Rattle.messages_certificates.specs.ProposalCertificate.{Notarization}
-use Rattle.simplex_resolver.specs.History.{Judged}
+use Rattle.simplex_resolver.specs.RepairHistory.{Judged}
 use Rattle.simplex_resolver.specs.Keeps as repairing
 use Rattle.node_core.proofs.Recalled.{notarization-at}
 use Rattle.node_core.proofs.recalling.judge.Goals as goal

@@ -4,7 +4,7 @@ use Rattle.types_core.specs.Positions.{HasRoom}
 use Rattle.messages_certificates.specs.declared.artifact.Artifact.{Artifact}
 use Rattle.messages_certificates.specs.declared.artifact.Artifact.TheVariants as artifact
 use Rattle.simplex_record.specs.Lawful.{Verifies}
-use Rattle.node_votes.specs.Keeps as accepting
+use Rattle.node_votes.specs.KeepsVotes as accepting
 use Rattle.simplex_member.specs.Point.{Found}
 use Rattle.simplex_member.specs.Setup.{owner_of}
 use Rattle.node_core.specs.Saying.{said_artifact}

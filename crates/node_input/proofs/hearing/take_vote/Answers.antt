@@ -2,7 +2,7 @@ use Rattle.std.proofs.Common.{[], ◌∷◌, refl, sym, ◌∙◌, map, subst}
 use Rattle.std.specs.Prelude.{Option, option_to_list}
 use Rattle.simplex_messages.specs.declared.activity.Activity.{Activity}
 use Rattle.simplex_messages.specs.VoteParts.{vote_round}
-use Rattle.node_votes.specs.Keeps.{IsOpenTo}
+use Rattle.node_votes.specs.KeepsVotes.{IsOpenTo}
 use Rattle.simplex_member.specs.Deeds.{Blocks, Reports}
 use Rattle.simplex_member.specs.Layers.{finalized_of}
 use Rattle.simplex_member.specs.Packet.{formats}

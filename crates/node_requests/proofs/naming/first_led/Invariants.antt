@@ -1,6 +1,6 @@
 use Rattle.std.proofs.Common.{◌-◌, ◌^◌}
 use Rattle.simplex_state.specs.State as voting
-use Rattle.node_votes.specs.Keeps as accepting
+use Rattle.node_votes.specs.KeepsVotes as accepting
 use Rattle.simplex_member.specs.Layers.{voter_of}
 use Rattle.simplex_member.specs.Point.{History}
 use Rattle.simplex_member.specs.Setup.{Setup}

@@ -1,5 +1,5 @@
 use Rattle.simplex_member.specs.Layers.{stage, votes_of}
-use Rattle.node_votes.specs.Keeps.{Keeps, common_part}
+use Rattle.node_votes.specs.KeepsVotes.{Keeps, common_part}
 use Rattle.node_votes.proofs.Opening.{came-where-kept}
 use Rattle.node_votes.proofs.laws.kept_votes_came_up.Goals as goal
 

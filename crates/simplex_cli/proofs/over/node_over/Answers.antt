@@ -1,7 +1,7 @@
 use Rattle.std.proofs.Common.{◌⊎◌}
 use Rattle.simplex_cli.specs.declared.ending.Ending.{Ending}
 use Rattle.simplex_cli.specs.Ending.{ending_line, memory_line}
-use Rattle.types_output.specs.Front.{AppendsFront}
+use Rattle.types_codec.specs.Front.{AppendsFront}
 use Rattle.simplex_cli.proofs.Statuses.{silent, statuses, told}
 use Rattle.simplex_cli.proofs.over.node_over.Goals as goal
 

@@ -2,7 +2,7 @@ use Rattle.std.proofs.Common.{inr, ap}
 use Rattle.std.specs.Prelude.{Err}
 use Rattle.simplex_member.specs.Packet.{formats}
 use Rattle.simplex_member.specs.Setup.{setup_of}
-use Rattle.node_streams.specs.Streaming.{spelled}
+use Rattle.node_wire.specs.Streaming.{spelled}
 use Rattle.simplex_cli.proofs.Served.{served_not, served_over}
 use Rattle.simplex_cli.proofs.serving.serve_over.Goals as goal
 

@@ -1,5 +1,5 @@
 use Rattle.simplex_member.specs.Packet.{formats}
-use Rattle.node_streams.specs.Streaming.{spelled}
+use Rattle.node_wire.specs.Streaming.{spelled}
 use Rattle.simplex_node.proofs.Stepped.{failed_answers_none}
 use Rattle.simplex_node.proofs.Streamed.{io_answers, io_device, io_failed, io_leaves, io_no_device, io_still}
 use Rattle.simplex_node.proofs.streaming.run_io.Goals as goal

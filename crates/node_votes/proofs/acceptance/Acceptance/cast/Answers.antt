@@ -1,7 +1,7 @@
 use Rattle.std.proofs.Common.{◌≡◌, true, false, refl}
 use Rattle.simplex_messages.specs.VoteParts.{vote_round}
 use Rattle.simplex_member.specs.Layers.{floor_of, stage, votes_of}
-use Rattle.node_votes.specs.Keeps.{Keeps, common_part}
+use Rattle.node_votes.specs.KeepsVotes.{Keeps, common_part}
 use Rattle.node_votes.proofs.Answering.{cast-found, cast-kept, cast-now, cast-unkept, found-unkept, low-where-shut, shut-open, still, why-now}
 use Rattle.node_votes.proofs.acceptance.Acceptance.cast.Goals as goal
 

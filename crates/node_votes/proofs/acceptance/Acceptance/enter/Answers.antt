@@ -1,7 +1,7 @@
 use Rattle.std.proofs.Common.{◌≡◌, ℕ, true, false, refl, subst}
 use Rattle.simplex_member.specs.Layers.{current_of, floor_of}
 use Rattle.node_votes.specs.Standing.{Stand, come_up, is_passed}
-use Rattle.node_votes.specs.Keeps.{KeepsAhead, common_part, stage_ahead, votes_ahead}
+use Rattle.node_votes.specs.KeepsVotes.{KeepsAhead, common_part, stage_ahead, votes_ahead}
 use Rattle.node_votes.proofs.Changing.{on-err}
 use Rattle.node_votes.proofs.Entering.{entered-still, entered-up, iff-shut}
 use Rattle.node_votes.proofs.acceptance.Acceptance.enter.Goals as goal

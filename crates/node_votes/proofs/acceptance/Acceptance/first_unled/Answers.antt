@@ -1,5 +1,5 @@
 use Rattle.simplex_member.specs.Layers.{stage, votes_of}
-use Rattle.node_votes.specs.Keeps.{Keeps, common_part}
+use Rattle.node_votes.specs.KeepsVotes.{Keeps, common_part}
 use Rattle.node_votes.proofs.acceptance.Acceptance.first_unled.Goals as goal
 
 pub returns-clause-first : goal.returns-clause-first

@@ -2,7 +2,7 @@ use Rattle.std.proofs.Common.{◌≤◌, ◌<◌, arith}
 use Rattle.std.proofs.lemmas.Bool.Decides.{nat_tests}
 use Rattle.types_core.specs.Positions.{HasRoom}
 use Rattle.simplex_member.specs.Layers.{floor_of}
-use Rattle.node_votes.specs.Keeps.{Keeps}
+use Rattle.node_votes.specs.KeepsVotes.{Keeps}
 use Rattle.node_votes.proofs.Answering.{both-open, none-open}
 use Rattle.node_votes.proofs.acceptance.Acceptance.is_open_to.Goals as goal
 

@@ -1,5 +1,5 @@
 use Rattle.std.proofs.Common.{refl}
-use Rattle.node_votes.specs.Keeps.{common_part}
+use Rattle.node_votes.specs.KeepsVotes.{common_part}
 use Rattle.node_votes.proofs.acceptance.Acceptance.move_to.Goals as goal
 
 pub returns : goal.returns

@@ -1,5 +1,5 @@
 use Rattle.std.proofs.Common.{◌∙◌, refl}
-use Rattle.node_votes.specs.Keeps.{Keeps}
+use Rattle.node_votes.specs.KeepsVotes.{Keeps}
 use Rattle.node_votes.proofs.Answering.{bare-floor, bare-stands}
 use Rattle.node_votes.proofs.acceptance.Acceptance.new.Goals as goal
 

@@ -1,6 +1,6 @@
 use Rattle.std.proofs.lemmas.Option.{IfSome_then}
 use Rattle.simplex_member.specs.Layers.{stage, votes_of}
-use Rattle.node_votes.specs.Keeps.{Keeps, common_part}
+use Rattle.node_votes.specs.KeepsVotes.{Keeps, common_part}
 use Rattle.node_votes.proofs.Advancing.{does, none-is-due}
 use Rattle.node_votes.proofs.Answering.{still}
 use Rattle.node_votes.proofs.acceptance.Acceptance.next_due.Goals as goal

@@ -1,7 +1,7 @@
 use Rattle.std.proofs.Common.{◌≡◌, true, false}
 use Rattle.messages_certificates.specs.Certificate.{certificate_round}
 use Rattle.simplex_member.specs.Layers.{floor_of, stage, votes_of}
-use Rattle.node_votes.specs.Keeps.{Keeps, common_part}
+use Rattle.node_votes.specs.KeepsVotes.{Keeps, common_part}
 use Rattle.node_votes.proofs.Answering.{came-unkept, certificate-unkept, certified-ahead, certified-found, low-where-shut, shut-open, still}
 use Rattle.node_votes.proofs.acceptance.Acceptance.record.Goals as goal
 

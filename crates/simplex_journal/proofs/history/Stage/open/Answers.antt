@@ -3,7 +3,7 @@ use Rattle.std.proofs.lemmas.List.Elements.{All-weaker}
 use Rattle.types_codec.specs.Codec.{Readable}
 use Rattle.journal_single.specs.OneReading.{spellings-one}
 use Rattle.journal_single.specs.Record.{FitsBelow}
-use Rattle.simplex_journal.specs.History.{disks_of}
+use Rattle.simplex_journal.specs.PairHistory.{disks_of}
 use Rattle.simplex_journal.proofs.Histories.{opened_stands, open_failed_stands, open_failed_comes}
 use Rattle.simplex_journal.proofs.history.Stage.open.Goals as goal
 

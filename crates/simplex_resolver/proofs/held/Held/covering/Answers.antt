@@ -4,7 +4,7 @@ use Rattle.std.specs.Ordering.{nat_cmp}
 use Rattle.std.specs.BTreeMap.Range.{IsRangeOf}
 use Rattle.std.specs.declared.ops.Bound.TheVariants.{Included}
 use Rattle.types_core.specs.Positions.{term_start}
-use Rattle.simplex_resolver.specs.History.{finalized}
+use Rattle.simplex_resolver.specs.RepairHistory.{finalized}
 use Rattle.simplex_resolver.proofs.Covers.{covering-none, covering-is}
 use Rattle.simplex_resolver.proofs.held.Held.covering.Goals as goal
 

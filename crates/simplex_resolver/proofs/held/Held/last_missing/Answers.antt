@@ -4,7 +4,7 @@ use Rattle.std.specs.BTreeMap.{get}
 use Rattle.std.specs.declared.cmp.Ordering.TheVariants.{Less}
 use Rattle.std.proofs.lemmas.Cmp.{ranked}
 use Rattle.std.proofs.lemmas.Map.Keys.{le_from_not_gt}
-use Rattle.simplex_resolver.specs.History.{covered}
+use Rattle.simplex_resolver.specs.RepairHistory.{covered}
 use Rattle.simplex_resolver.proofs.Choices.{less_from_lt, option_cases}
 use Rattle.simplex_resolver.proofs.Covers.{bare-on, entry-covered}
 use Rattle.simplex_resolver.proofs.held.Held.last_missing.Goals as goal

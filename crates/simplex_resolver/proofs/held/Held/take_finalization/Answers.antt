@@ -1,7 +1,7 @@
 use Rattle.std.proofs.Common.{◌≡◌, ◌<◌, arith}
 use Rattle.std.proofs.lemmas.Bool.Decides.{nat_tests}
 use Rattle.types_core.specs.Positions.{term_start}
-use Rattle.simplex_resolver.specs.History.{finalized}
+use Rattle.simplex_resolver.specs.RepairHistory.{finalized}
 use Rattle.simplex_resolver.proofs.Keeping.{finalized-first}
 use Rattle.simplex_resolver.proofs.held.Held.take_finalization.Goals as goal
 

@@ -4,7 +4,7 @@ use Rattle.std.proofs.lemmas.Bool.Decides.{nat_tests}
 use Rattle.std.specs.Ordering.{nat_cmp}
 use Rattle.std.specs.BTreeMap.{get}
 use Rattle.types_core.specs.Positions.{term_end}
-use Rattle.simplex_resolver.specs.History.{finalized}
+use Rattle.simplex_resolver.specs.RepairHistory.{finalized}
 use Rattle.simplex_resolver.proofs.Keeping.{nullified-low, nullified-again, nullified-first}
 use Rattle.simplex_resolver.proofs.TermStarts.{term_end-ge}
 use Rattle.simplex_resolver.proofs.held.Held.take_nullification.Goals as goal

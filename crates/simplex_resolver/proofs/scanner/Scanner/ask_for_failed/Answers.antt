@@ -1,7 +1,7 @@
 use Rattle.std.specs.Prelude.{not}
 use Rattle.std.proofs.Common.{arith, ◌≡◌, ◌<◌, ◌≤◌, ◌++◌, ◌∙◌, ap, Bool}
 use Rattle.simplex_resolver.specs.declared.effect.Effect.{Effect}
-use Rattle.simplex_resolver.specs.History.{floor, finalized, covered}
+use Rattle.simplex_resolver.specs.RepairHistory.{floor, finalized, covered}
 use Rattle.simplex_resolver.specs.Outstanding.{when}
 use Rattle.simplex_resolver.proofs.Anchors.{Found-step, Found-end}
 use Rattle.simplex_resolver.proofs.Covers.{finalized-floor}

@@ -1,5 +1,5 @@
 use Rattle.std.proofs.Common.{◌≤◌, ◌-◌, ◌^◌}
-use Rattle.simplex_resolver.specs.History.{floor}
+use Rattle.simplex_resolver.specs.RepairHistory.{floor}
 use Rattle.simplex_resolver.specs.Keeps.{AtEachScan}
 use Rattle.simplex_resolver.proofs.Anchors.{Found}
 use Rattle.simplex_resolver.proofs.scanner.Scanner.ask_for_failed.Given as goal

@@ -3,7 +3,7 @@ use Rattle.std.specs.Prelude.{true}
 use Rattle.std.proofs.lemmas.Bool.Decides.{nat_tests}
 use Rattle.types_core.specs.Positions.{next_term_start}
 use Rattle.simplex_resolver.specs.declared.effect.Effect.{Effect}
-use Rattle.simplex_resolver.specs.History.{finalized, current, covered}
+use Rattle.simplex_resolver.specs.RepairHistory.{finalized, current, covered}
 use Rattle.simplex_resolver.proofs.Anchors.{Asked-start, Asked-pass, Asked-step, Asked-end}
 use Rattle.simplex_resolver.proofs.Covers.{finalized-floor}
 use Rattle.simplex_resolver.proofs.TermStarts.{room-term, room_before, term_index-mono, next_term_start-gt}

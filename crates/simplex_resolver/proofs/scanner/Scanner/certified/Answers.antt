@@ -1,7 +1,7 @@
 use Rattle.std.proofs.Common.{sym, subst, ◌∷◌, ℕ, Bool}
 use Rattle.std.specs.Prelude.{OnOk, IfOk}
 use Rattle.messages_certificates.specs.Certificate.{any_certificate_spelling, as_notarization}
-use Rattle.simplex_resolver.specs.History.{Judged}
+use Rattle.simplex_resolver.specs.RepairHistory.{Judged}
 use Rattle.simplex_resolver.specs.Outstanding.{Gives}
 use Rattle.simplex_resolver.specs.Keeps.{Stands, AtEachScan}
 use Rattle.simplex_resolver.proofs.Choices.{on_ok-map, if_ok-map}

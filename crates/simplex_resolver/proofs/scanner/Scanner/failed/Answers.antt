@@ -1,5 +1,5 @@
 use Rattle.std.proofs.Common.{sym, ◌∙◌, refl}
-use Rattle.simplex_resolver.specs.History.{floor, current}
+use Rattle.simplex_resolver.specs.RepairHistory.{floor, current}
 use Rattle.simplex_resolver.proofs.Choices.{max_zero}
 use Rattle.simplex_resolver.proofs.scanner.Scanner.failed.Goals as goal
 

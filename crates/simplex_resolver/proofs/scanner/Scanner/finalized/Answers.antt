@@ -2,7 +2,7 @@ use Rattle.std.specs.Prelude.{max, nat_lt}
 use Rattle.std.proofs.Common.{◌≡◌, ◌∷◌, ◌∙◌, ap, refl, arith, ℕ}
 use Rattle.std.proofs.lemmas.Bool.Decides.{nat_tests}
 use Rattle.simplex_resolver.specs.declared.effect.Effect.TheVariants as effect
-use Rattle.simplex_resolver.specs.History.{Finalized, current, floor, finalized}
+use Rattle.simplex_resolver.specs.RepairHistory.{Finalized, current, floor, finalized}
 use Rattle.simplex_resolver.specs.Outstanding.{when}
 use Rattle.simplex_resolver.proofs.Anchors.{behind}
 use Rattle.simplex_resolver.proofs.Choices.{max_flip, raised_level, ord_max_is}

@@ -1,6 +1,6 @@
 use Rattle.std.proofs.Common.{◌≡◌, ◌<◌, sym, ◌∙◌, ap, arith, Bool, true}
 use Rattle.std.proofs.lemmas.Bool.Decides.{nat_tests}
-use Rattle.simplex_resolver.specs.History.{floor, live, covered}
+use Rattle.simplex_resolver.specs.RepairHistory.{floor, live, covered}
 use Rattle.simplex_resolver.proofs.Choices.{nat_lt-yes}
 use Rattle.std.specs.Prelude.{not}
 use Rattle.std.proofs.Common.{rules}

@@ -1,6 +1,6 @@
 use Rattle.std.specs.Prelude.{max, nat_lt, not, ◌&&◌}
 use Rattle.std.proofs.Common.{◌≡◌, sym, ◌∙◌, ap, refl, ℕ}
-use Rattle.simplex_resolver.specs.History.{Notarized, current, floor, finalized, has_failed}
+use Rattle.simplex_resolver.specs.RepairHistory.{Notarized, current, floor, finalized, has_failed}
 use Rattle.simplex_resolver.specs.Outstanding.{settled_notarization, when}
 use Rattle.simplex_resolver.proofs.Anchors.{behind}
 use Rattle.simplex_resolver.proofs.Choices.{max_zero, max_flip, same_level, ord_max_is}

@@ -1,7 +1,7 @@
 use Rattle.std.specs.Prelude.{max, nat_lt}
 use Rattle.std.proofs.Common.{◌≡◌, sym, ◌∙◌, ap, refl, ℕ}
 use Rattle.types_core.specs.Positions.{term_end}
-use Rattle.simplex_resolver.specs.History.{Nullified, current, floor, finalized}
+use Rattle.simplex_resolver.specs.RepairHistory.{Nullified, current, floor, finalized}
 use Rattle.simplex_resolver.specs.Outstanding.{settled_nullifications, when}
 use Rattle.simplex_resolver.proofs.Anchors.{behind}
 use Rattle.simplex_resolver.proofs.Choices.{max_zero, max_flip, same_level, ord_max_is}

@@ -1,6 +1,6 @@
 use Rattle.std.proofs.Common.{◌∷◌, ◌++◌, ◌∙◌, ap, subst, refl, ℕ, List}
 use Rattle.simplex_resolver.specs.declared.effect.Effect.{Effect}
-use Rattle.simplex_resolver.specs.History.{Replayed, floor}
+use Rattle.simplex_resolver.specs.RepairHistory.{Replayed, floor}
 use Rattle.simplex_resolver.specs.Outstanding.{ScansBehind, fetch_failed}
 use Rattle.simplex_resolver.proofs.Choices.{same_level}
 use Rattle.std.specs.Prelude.{map}

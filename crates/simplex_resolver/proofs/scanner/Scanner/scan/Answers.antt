@@ -1,5 +1,5 @@
 use Rattle.std.proofs.Common.{◌≡◌, ◌∷◌, sym, subst, ◌∙◌, ap, ℕ, Bool, true}
-use Rattle.simplex_resolver.specs.History.{floor, live}
+use Rattle.simplex_resolver.specs.RepairHistory.{floor, live}
 use Rattle.simplex_resolver.specs.Outstanding.{Scans, scan_start, scanned, start_behind}
 use Rattle.simplex_resolver.proofs.scanner.Scanner.scan.Goals as goal
 

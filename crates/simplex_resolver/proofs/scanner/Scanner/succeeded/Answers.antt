@@ -2,7 +2,7 @@ use Rattle.std.specs.Prelude.{max, nat_lt}
 use Rattle.std.proofs.Common.{◌≡◌, ◌∷◌, sym, ◌∙◌, ap, refl, arith, ℕ, true}
 use Rattle.std.proofs.lemmas.Bool.Decides.{nat_tests}
 use Rattle.simplex_resolver.specs.declared.effect.Effect.TheVariants as effect
-use Rattle.simplex_resolver.specs.History.{Judged, current, floor}
+use Rattle.simplex_resolver.specs.RepairHistory.{Judged, current, floor}
 use Rattle.simplex_resolver.specs.Outstanding.{settled_notarization, when}
 use Rattle.simplex_resolver.proofs.Anchors.{behind}
 use Rattle.simplex_resolver.proofs.Choices.{max_zero, max_flip, raised_level, ord_max_is}

@@ -1,7 +1,7 @@
 use Rattle.std.proofs.Common.{subst, ◌∷◌}
 use Rattle.std.specs.Prelude.{OnOk, IfOk}
 use Rattle.messages_certificates.specs.Certificate.{any_certificate_spelling}
-use Rattle.simplex_resolver.specs.History.{Item}
+use Rattle.simplex_resolver.specs.RepairHistory.{Item}
 use Rattle.simplex_resolver.specs.Outstanding.{Gives}
 use Rattle.simplex_resolver.specs.Keeps.{Stands, AtEachScan}
 use Rattle.simplex_resolver.proofs.Items.{notarized_item, nullified_item, finalized_item}

@@ -2,7 +2,7 @@ use Rattle.std.specs.Prelude.{nat_le}
 use Rattle.std.specs.Option.{option_map, option_or}
 use Rattle.std.proofs.Common.{◌≡◌, ◌≤◌, ◌<◌, sym, ◌∙◌, ap, arith, ℕ, Bool, Option, Some, None, if◌then◌else◌}
 use Rattle.std.proofs.lemmas.Bool.Decides.{nat_tests}
-use Rattle.simplex_resolver.specs.History.{floor}
+use Rattle.simplex_resolver.specs.RepairHistory.{floor}
 use Rattle.simplex_resolver.specs.Answers.{servable}
 use Rattle.simplex_resolver.proofs.Choices.{nat_le-yes, nat_le-no}
 use Rattle.simplex_resolver.proofs.state.State.produce.Goals as goal

@@ -1,4 +1,4 @@
-use Rattle.simplex_resolver.specs.History.{Replayed}
+use Rattle.simplex_resolver.specs.RepairHistory.{Replayed}
 use Rattle.simplex_resolver.specs.Keeps.{HasGap}
 use Rattle.simplex_resolver.proofs.Leaving.{gaps-follow}
 use Rattle.simplex_resolver.proofs.state.State.replayed.Goals as goal

@@ -1,6 +1,6 @@
 use Rattle.std.proofs.Common.{◌<◌, ◌∙◌, refl, arith}
 use Rattle.std.proofs.lemmas.Bool.Decides.{nat_tests}
-use Rattle.simplex_resolver.specs.History.{finalized}
+use Rattle.simplex_resolver.specs.RepairHistory.{finalized}
 use Rattle.simplex_resolver.proofs.Choices.{nat_lt-yes, nat_le-no}
 use Rattle.simplex_resolver.proofs.state.State.settled.Goals as goal
 

@@ -1,5 +1,0 @@
-pub mod Begun
-pub mod Closing
-pub mod Marking
-pub mod Numbers
-pub mod WritingOver

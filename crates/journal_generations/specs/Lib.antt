@@ -1,3 +1,0 @@
-pub mod Generation
-pub mod Steps
-pub mod Laws

@@ -1,4 +1,0 @@
-pub mod Answered
-pub mod Streamed
-pub mod Taking
-pub mod Texts

@@ -1,3 +1,0 @@
-pub mod Over
-pub mod Stepping
-pub mod Streaming

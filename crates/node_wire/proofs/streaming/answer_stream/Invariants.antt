@@ -1,0 +1,14 @@
+use Rattle.std.proofs.Common.{◌≡◌}
+use Rattle.node_wire.specs.Stream.{left_of}
+use Rattle.node_wire.specs.Stepper.{AnswersNone}
+use Rattle.node_wire.specs.Streaming.{spelled}
+use Rattle.node_wire.proofs.Streamed.{StreamsOn}
+use Rattle.node_wire.proofs.streaming.answer_stream.Given as goal
+
+-- the events that were taken so far were answered; nothing is written, and no step made, where no step answers
+abbrev pub invariant-loop : goal.invariant-loop
+invariant-loop g l = record {
+  so_far : StreamsOn g.T.Stepper.steps g.D.Write.fits g.D.Write.spelling (spelled {S = g.row.S.Denot} g.S.PublicKey.Write.spelling g.D.Write.spelling g.S.Signature.Write.spelling g.S.Certificate.Write.spelling)
+      l.fn.node (g.R.Read.remaining l.fn.reader) (left_of l.input (g.R.Read.remaining l.reader)) l.input.place (g.W.Write.contents l.fn.writer) (g.W.Write.contents l.writer) l.node;
+  still : AnswersNone g.T.Stepper.steps l.fn.node → (l.node ≡ l.fn.node) × (l.writer ≡ l.fn.writer);
+}

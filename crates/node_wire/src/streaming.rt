@@ -1,0 +1,58 @@
+//! What steps over events, over streams.
+
+ghost use Rattle.std.specs.Prelude.{◌≡◌};
+ghost use Rattle.node_wire.specs.Stepper.{Answer, AnswerBefore, AnswersNone};
+ghost use Rattle.node_wire.specs.Streaming.{EndsIn, spelled};
+
+use crate::input::EventInput;
+use crate::replying::answer;
+use crate::stepper::Stepper;
+use simplex_member::{Event, IoFault, Reply};
+use std::alloc::Global;
+use std::io::{Read, Write};
+use types_core::{Digest, Scheme};
+
+/// The events after which an input is given up.
+const MOST_EVENTS: u64 = 4_294_967_296;
+
+/// The size of the largest committee. A payload is read alike in each.
+const LARGEST: u32 = 65_535;
+
+/// Reads events from the reader until it ends between two, and answers each on the writer before the next is read. How the reader
+/// cuts its bytes does not matter; bytes behind the last event taken may have been read too.
+///
+/// # Errors
+///
+/// [`IoFault::Read`] where a read failed, and behind 2^32 events; [`IoFault::BadEvent`] with the place, counted from 0, of the
+/// first byte at which no event stands, behind the answers to all before it; [`IoFault::Node`] where a step failed;
+/// [`IoFault::Write`] where a write failed: then a front of the last reply was written, or nothing of it; [`IoFault::Memory`] where
+/// there is none for an event, or for the last reply's bytes: then nothing of it was written.
+pub fn answer_stream<
+    T: Stepper<Event<D>, Reply<S, D>, N>,
+    S: Scheme<D>,
+    D: Digest,
+    N,
+    R: Read,
+    W: Write,
+>(alloc: Global, node: &mut N, reader: &mut R, writer: &mut W) -> Result<(), IoFault>
+    ensures answers { EndsIn D.fits D.spelling (spelled S.PublicKey.spelling D.spelling S.Signature.spelling S.Certificate.spelling)
+        (D.reading 65535) (Answer T.steps node.old node.new) (AnswerBefore T.steps node.old node.new) result (R.remaining reader.old)
+        (W.contents writer.old) (W.contents writer.new) }
+    ensures untouched { AnswersNone T.steps node.old → writer.new ≡ writer.old }
+{
+    let mut input = EventInput::new(alloc);
+    for _ in 0..MOST_EVENTS {
+        let found = match input.next_event(alloc, reader, LARGEST) {
+            Ok(found) => found,
+            Err(fault) => return Err(fault),
+        };
+        let Some(event) = found else {
+            return Ok(());
+        };
+        match answer::<T, S, D, N, W>(alloc, node, event, writer) {
+            Ok(()) => {}
+            Err(fault) => return Err(fault),
+        }
+    }
+    Err(IoFault::Read)
+}

@@ -1,0 +1,62 @@
+//! Opening a node's record over a stream.
+
+ghost use Rattle.std.specs.Prelude.{◌≡◌, ℕ, Err, IfOk, None, OnErr, Some};
+ghost use Rattle.simplex_member.specs.declared.action.Reply.{Reply};
+ghost use Rattle.simplex_member.specs.declared.fault.IoFault.TheVariants as fault;
+ghost use Rattle.simplex_member.specs.Setup.{setup_of};
+ghost use Rattle.node_steps.specs.Keeps.{disk_of};
+ghost use Rattle.node_steps.specs.Opening.{IsOpenAndSettled, IsOpening};
+ghost use Rattle.simplex_node.specs.Running.{IsWritten};
+ghost use Rattle.node_wire.specs.Streaming.{spelled};
+
+use journal_single::Disk;
+use node_steps::Node;
+use node_wire::write_out;
+use simplex_member::{IoFault, OpenFault, Reply, Speaks};
+use std::alloc::Global;
+use std::io::Write;
+use std::rc::Rc;
+use types_core::{Digest, Scheme};
+use types_terms::Elector;
+use voter_rules::config::Config;
+
+/// Opens a member's record at a moment, in milliseconds, and writes what the opening hands out as the first reply. With the node,
+/// how that write ended.
+///
+/// # Errors
+///
+/// Those of [`Node::open`], with the disk: then nothing was written. Beside the node [`IoFault::Memory`] where there is none for the
+/// reply's bytes: then nothing was written, and [`IoFault::Write`] where a write failed: then a front of them was.
+pub fn open_io<S: Scheme<D> + Drop, L: Elector<S, D>, D: Digest, K: Disk, W: Write>(
+    alloc: Global,
+    config: Config<D>,
+    scheme: Rc<S>,
+    elector: L,
+    disk: K,
+    now: u64,
+    writer: &mut W,
+) -> Result<(Node<S, L, D, K>, Result<(), IoFault>), (OpenFault, K)>
+    requires { L.built_for elector (S.size scheme.value) }
+
+    // What was found on the disk was gone through, the node stands behind it, and what that hands out is the first reply.
+    ensures opened { IfOk result (λ r.
+        (index : ℕ) × (first : Reply S D S.PublicKey S.Signature S.Certificate) × (S.own scheme.value ≡ Some index) × (first.refused ≡ None)
+        × IsWritten (spelled S.PublicKey.spelling D.spelling S.Signature.spelling S.Certificate.spelling) first r.1 (W.contents writer.old)
+        (W.contents writer.new) × IsOpenAndSettled S.Scheme L.Elector K.Disk (⟦<S as Speaks<D>>⟧.formats (S.size scheme.value))
+        (setup_of S.Scheme L.Elector config scheme.value elector index) ⟦<S as Speaks<D>>⟧.readable disk now r.0 first.actions.items) }
+    ensures no_memory { IfOk result (λ r. r.1 ≡ Err fault.Memory → writer.new ≡ writer.old) }
+    ensures unwritten { OnErr result (writer.new ≡ writer.old) }
+
+    // Of its faults, and of a crash meanwhile, all that [`Node::open`] promises.
+    ensures opening { IsOpening S.Scheme L.Elector K.Disk (⟦<S as Speaks<D>>⟧.formats (S.size scheme.value))
+        (setup_of S.Scheme L.Elector config scheme.value elector) ⟦<S as Speaks<D>>⟧.readable config scheme.value disk now
+        (λ r. disk_of r.0) result }
+{
+    let (node, actions) = Node::open(alloc, config, scheme, elector, disk, now)?;
+    let first = Reply {
+        refused: None,
+        actions,
+    };
+    let written = write_out(alloc, &first, writer);
+    Ok((node, written))
+}
