@@ -99,20 +99,28 @@ def audit(given: argparse.Namespace) -> int:
         raise Trouble(f"{given.file} can't be read: {error.strerror}") from error
     ended = subprocess.run([path, "audit", given.count], input=data, capture_output=True)
     lines, errors = ended.stdout.decode().splitlines(), ended.stderr.decode().splitlines()
-    found = defaultdict(list)
-    for line in lines:
-        if it := re.fullmatch(r"(\S+) epoch (\d+) view (\d+) signer (\d+) .*", line):
-            found[int(it[4])].append((it[1], it[3]))
     if given.lines:
         print("\n".join(lines))
-    for member, lies in sorted(found.items()):
-        kind, view = lies[0]
-        more = f", and {len(lies) - 1} more" if len(lies) > 1 else ""
-        print(f"member {member} lied: in view {view} it {KINDS.get(kind, kind)}{more}")
+    found = stories(lines)
+    print("\n".join(found), end="\n" if found else "")
     if not found and ended.returncode == 0:
         print("nobody is named: no two votes here contradict each other")
     explain([*errors, *(it for it in lines if it.startswith("fault "))], given.file)
     return ended.returncode
+
+
+def stories(lines: list[str]) -> list[str]:
+    """What an audit's lines say, a line for each member that they name."""
+    found = defaultdict(list)
+    for line in lines:
+        if it := re.fullmatch(r"(\S+) epoch (\d+) view (\d+) signer (\d+) .*", line):
+            found[int(it[4])].append((it[1], it[3]))
+    told = []
+    for member, lies in sorted(found.items()):
+        kind, view = lies[0]
+        more = f", and {len(lies) - 1} more" if len(lies) > 1 else ""
+        told.append(f"member {member} lied: in view {view} it {KINDS.get(kind, kind)}{more}")
+    return told
 
 
 def node(given: argparse.Namespace) -> int:

@@ -48,6 +48,11 @@ def code(crate: str) -> str:
     return checksum(crate, ("src",))
 
 
+def changed(crate: str) -> bool:
+    """Whether the code is another one than when this program first looked: then nothing is known of what was made of it since."""
+    return checksum(crate, ("src",)) != code(crate)
+
+
 @functools.cache
 def whole(crate: str) -> str:
     """The checksum of what its proof rests on: code, definitions and proofs."""

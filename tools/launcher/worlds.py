@@ -3,6 +3,7 @@ import json
 import os
 import shutil
 import subprocess
+from collections.abc import Iterable
 from pathlib import Path
 
 from . import MADE, TOP
@@ -59,14 +60,19 @@ def drawn(lines: Path) -> Path | None:
 
 def told(lines: Path) -> list[str]:
     """What came of each run of the file, in words."""
-    runs: list[dict] = []
     with lines.open() as file:
-        for line in file:
-            event = json.loads(line)
-            if event["event"] == "world":
-                runs.append({"world": event, "ways": {}, "crashes": 0, "named": set(), "ended": None})
-            take(runs[-1], event)
-    return [line for run in runs for line in words_of(run)]
+        return [line for run in runs_of(file) for line in words_of(run)]
+
+
+def runs_of(lines: Iterable[str]) -> list[dict]:
+    """What came of each run, by its JSON lines."""
+    runs: list[dict] = []
+    for line in lines:
+        event = json.loads(line)
+        if event["event"] == "world":
+            runs.append({"world": event, "ways": {}, "crashes": 0, "named": set(), "ended": None})
+        take(runs[-1], event)
+    return runs
 
 
 def take(run: dict, event: dict) -> None:
