@@ -1,11 +1,14 @@
 /* For node-faults: a library to load before a program, in which calls fail. FAULT is one of `memory`, `disk`, `read` and `write`, AT the number
- * of a call of that kind, from 1 on, and MODE `once` where that call alone fails, `from` where every later one does too, or `torn` where it
- * fails behind half of what it was to write. PIECE is how many bytes a read of standard input and a write to standard output move at most.
+ * of a call of that kind, from 1 on, and MODE `once` where that call alone fails, `from` where every later one does too, `torn` where it
+ * fails behind half of what it was to write, `interrupted` where a signal comes before it did anything, `full` where from then on the disk
+ * has no more room (a write to the file moves half of its bytes, and the next one none), or `killed` where the process is killed in it,
+ * inside a write to the file behind half of its bytes. PIECE is how many bytes a read of standard input and a write to standard output move at most.
  * When the program ends, it tells in the file TOLD how many calls of that kind there were. */
 #define _GNU_SOURCE
 #include <dlfcn.h>
 #include <errno.h>
 #include <fcntl.h>
+#include <signal.h>
 #include <stdarg.h>
 #include <stdio.h>
 #include <stdlib.h>
@@ -51,13 +54,21 @@ static int fails(const char *of)
     if (strcmp(kind, of))
         return 0;
     made++;
-    return made == at || (made > at && at && !strcmp(mode, "from"));
+    return made == at || (made > at && at && (!strcmp(mode, "from") || !strcmp(mode, "full")));
 }
 
 static int failed(int why)
 {
-    errno = why;
+    if (!strcmp(mode, "killed"))
+        raise(SIGKILL);
+    errno = strcmp(mode, "interrupted") ? why : EINTR;
     return -1;
+}
+
+/* Of a full disk the calls that write nothing are as ever. */
+static int fails_without_writing(void)
+{
+    return fails("disk") && strcmp(mode, "full");
 }
 
 static size_t at_most(size_t size)
@@ -97,7 +108,13 @@ ssize_t write(int file, const void *bytes, size_t size)
 
 static ssize_t torn(int file, const void *bytes, size_t size, off_t place)
 {
-    if (!strcmp(mode, "torn"))
+    static int is_full;
+    if (!strcmp(mode, "full")) {
+        if (is_full++ || size < 2)
+            return failed(ENOSPC);
+        return NEXT(pwrite)(file, bytes, size / 2, place);
+    }
+    if (!strcmp(mode, "torn") || !strcmp(mode, "killed"))
         NEXT(pwrite)(file, bytes, size / 2, place);
     return failed(EIO);
 }
@@ -109,22 +126,22 @@ int open(const char *path, int how, ...)
     va_start(more, how);
     rights = how & O_CREAT ? (mode_t)va_arg(more, int) : 0;
     va_end(more);
-    return fails("disk") ? failed(EIO) : NEXT(open)(path, how, rights);
+    return fails_without_writing() ? failed(EIO) : NEXT(open)(path, how, rights);
 }
 
 int flock(int file, int how)
 {
-    return fails("disk") ? failed(EIO) : NEXT(flock)(file, how);
+    return fails_without_writing() ? failed(EIO) : NEXT(flock)(file, how);
 }
 
 int statx(int folder, const char *path, int how, unsigned int what, struct statx *found)
 {
-    return fails("disk") ? failed(EIO) : NEXT(statx)(folder, path, how, what, found);
+    return fails_without_writing() ? failed(EIO) : NEXT(statx)(folder, path, how, what, found);
 }
 
 ssize_t pread(int file, void *bytes, size_t size, off_t place)
 {
-    return fails("disk") ? failed(EIO) : NEXT(pread)(file, bytes, size, place);
+    return fails_without_writing() ? failed(EIO) : NEXT(pread)(file, bytes, size, place);
 }
 
 ssize_t pwrite(int file, const void *bytes, size_t size, off_t place)
@@ -134,15 +151,15 @@ ssize_t pwrite(int file, const void *bytes, size_t size, off_t place)
 
 int ftruncate(int file, off_t size)
 {
-    return fails("disk") ? failed(EIO) : NEXT(ftruncate)(file, size);
+    return fails_without_writing() ? failed(EIO) : NEXT(ftruncate)(file, size);
 }
 
 int fsync(int file)
 {
-    return fails("disk") ? failed(EIO) : NEXT(fsync)(file);
+    return fails_without_writing() ? failed(EIO) : NEXT(fsync)(file);
 }
 
 int fdatasync(int file)
 {
-    return fails("disk") ? failed(EIO) : NEXT(fdatasync)(file);
+    return fails_without_writing() ? failed(EIO) : NEXT(fdatasync)(file);
 }

@@ -3,10 +3,12 @@ from collections.abc import Iterator
 from pathlib import Path
 
 from member.codec import Reader, Unreadable, report_bytes
+from member.values import Evidence
 
 
 class ReportLog:
-    """What a node tells anew of its record when it is opened again isn't written again."""
+    """What a node tells anew isn't written again: of its record when it is opened again, and evidence each time that a liar repeats
+    itself."""
 
     def __init__(self, path: Path, signature: int, members: int) -> None:
         self.path, self.signature, self.members = path, signature, members
@@ -33,8 +35,12 @@ class ReportLog:
 
     def append(self, report: object) -> None:
         spelled = report_bytes(report)
-        if spelled not in self.found:
-            self.file.write(spelled)
+        if spelled in self.found:
+            return
+        self.file.write(spelled)
+        # Anything else a node reports once in a life.
+        if isinstance(report, Evidence):
+            self.found.add(spelled)
 
     def close(self) -> None:
         self.file.close()

@@ -10,6 +10,7 @@ import json
 from collections.abc import Callable
 from dataclasses import dataclass
 from pathlib import Path
+from time import monotonic
 
 from .committee import Committee, Unwanted
 from .links import LOOPBACK
@@ -17,9 +18,9 @@ from .links import LOOPBACK
 PAGE = Path(__file__).resolve().parent / "page.html"
 # How often a page is told what changed: faster than one sees.
 BEAT = 0.2
-# The longest wish and head of a request, in bytes; how long one may take to come, in seconds.
-LONGEST_WISH, LONGEST_HEAD, PATIENCE = 1 << 10, 1 << 14, 10
-# A page that has so much to read yet is told nothing more, and later all anew.
+# The longest wish and head of a request, in bytes; how long one may take to come, and a page to read what it was told, in seconds.
+LONGEST_WISH, LONGEST_HEAD, PATIENCE = 1 << 10, 1 << 14, 5
+# A page that has more bytes than this to read yet is told nothing more, and later all anew.
 WAITING = 1 << 18
 # What this machine is called by itself, and by no name that another may give it.
 NAMES = (LOOPBACK, "localhost")
@@ -39,13 +40,20 @@ class Page:
     """A page that is open."""
 
     def __init__(self, writer: asyncio.StreamWriter) -> None:
-        self.writer, self.is_whole = writer, False
+        self.writer, self.is_whole, self.slow_since = writer, False, None
 
     def tell(self, data: str) -> None:
         self.writer.write(f"data: {data}\n\n".encode())
 
     def is_slow(self) -> bool:
-        return self.writer.transport.get_write_buffer_size() > WAITING
+        """Whether it has much to read yet. One that doesn't read for long is sent away, and takes no farewell."""
+        if self.writer.transport.get_write_buffer_size() <= WAITING:
+            self.slow_since = None
+            return False
+        self.slow_since = self.slow_since or monotonic()
+        if monotonic() - self.slow_since > PATIENCE:
+            self.writer.transport.abort()
+        return True
 
 
 class Server:

@@ -24,13 +24,19 @@ OF_ALL = (
 )
 
 
-def setup_line(pick, leading, has_key):
+# terms: how many views, how many of them may be optimistic, and when they stall
+TERMS = (
+    (1, 0, "-"), (1, 0, 2500), (1, 2, 2500), (2, 1, 2500), (3, 0, 4000), (3, 2, 4000), (5, 0, 9000), (5, 1, 2000), (5, 2, 9000),
+    (5, 3, 5000),
+)
+
+
+def setup_line(pick, leading, has_key, terms=TERMS):
     """A `reset` line."""
     members = pick.choice((1, 2, 3, 4, 4, 4, 5, 7))
     me = pick.randrange(members) if has_key else "-"
     epoch = pick.choice((0, 0, 1, 3, MOST))
-    length, optimistic, stall = pick.choice(((1, 0, "-"), (1, 0, 2500), (1, 2, 2500), (2, 1, 2500), (3, 0, 4000), (3, 2, 4000),
-                                             (5, 0, 9000), (5, 1, 2000), (5, 2, 9000), (5, 3, 5000)))
+    length, optimistic, stall = pick.choice(terms)
     retention, budget = pick.choice((0, 1, 2, 3, 10)), pick.choice((0, 1, 2, 4, 9))
     line = f"reset voter {members} {me} {epoch} {length} {optimistic} {stall} {retention} 1000 2000 5000 {budget} 1 {leading}"
     return line.rstrip()
@@ -38,6 +44,8 @@ def setup_line(pick, leading, has_key):
 
 class Life:
     """A voter to whom things happen; the lines that say so are put behind those of before."""
+
+    TERMS = TERMS
 
     def __init__(self, pick, reset, lines, now=0):
         self.pick, self.reset, self.lines, self.now = pick, reset, lines, now
@@ -326,20 +334,92 @@ class Life:
             self.ask(lines[name])
 
 
-def script(pick, leading, has_key, length=300):
+class Ahead(Life):
+    """Views ahead get proposals that can never stand, which is seen at some moment before these views are entered; then the views on
+    the way are notarized and judged good, and the timeout is asked for."""
+
+    TERMS = tuple(it for it in TERMS if it[1])
+    STEPS = (*Life.STEPS, ("ahead", 20), ("go_on", 16))
+
+    def ahead(self):
+        view = current(self.h) + self.pick.randint(1, self.setup.optimistic + 1)
+        if self.setup.terms.is_start(view) or not self.setup.terms.has_room(view) or leaders(self.h).get(view) == self.setup.me:
+            return
+        parent = self.pick.randrange(max(view - 4, 0), view - 1)
+        self.ask(f"set_proposal {view} {self.setup.epoch} {view} {parent} {self.pick.choice((170, 187))}")
+        self.now += self.pick.choice((0, 1, 50, 300))
+        self.ask(f"try_verify {self.now}")
+        self.now += self.pick.choice((0, 1, 50, 300))
+
+    def go_on(self):
+        """The current view's proposal stands on the view before, is notarized and judged good."""
+        view = current(self.h)
+        explicit = of_voter.explicit(self.h, view - 1)
+        if explicit is None or not self.setup.terms.has_room(view):
+            return
+        made = self.proposals.setdefault(view, [])
+        proposal = Proposal(self.setup.epoch, view, view - 1, bytes([170]) * 32)
+        if proposal not in made:
+            made.insert(0, proposal)
+        certificate = f"notarization {self.signers()} {words.proposal(made[0])}"
+        if self.ask(f"add_notarization {certificate}").startswith("true"):
+            self.record.append(certificate)
+        self.verdicts.setdefault(view, True)
+        self.judge(view)
+        self.ask(f"next_timeout {self.now}")
+
+
+class Contradicted(Life):
+    """At times a view is judged once more, the other way round: the first verdict stays."""
+
+    STEPS = (*Life.STEPS, ("judge_again", 10))
+
+    def judge_again(self):
+        judged = [view for view, told in views(self.h).items() if told.verdict is not None]
+        if not judged:
+            return
+        view = self.pick.choice(judged)
+        ok = at(self.h, view).verdict if self.chance(0.3) else not at(self.h, view).verdict
+        self.ask(f"certified {self.now} {view} {int(ok)}")
+        for question in self.pick.sample(("known", "certified_proposal", "forwardable_proposal", "next_timeout", "current_view"), 2):
+            self.ask(question if question == "current_view" else f"{question} {self.now if question == 'next_timeout' else view}")
+
+
+class Turned(Life):
+    """A record's own notarizes come behind a notarization for another proposal, which the members went on with."""
+
+    def recall(self, record):
+        turned = []
+        for artifact in record:
+            kind, *rest = artifact.split(" ")
+            if kind == "notarize" and self.chance(0.6):
+                _, _, epoch, view, parent, payload = rest
+                other = self.pick.choice([it for it in ("170", "187", "204") if it != payload])
+                turned.append(f"notarization {self.signers()} {epoch} {view} {parent} {other}")
+            turned.append(artifact)
+        super().recall(turned)
+        for view in {int(it.split()[4]) for it in record if it.startswith("notarize ")}:
+            self.ask(f"known {view}")
+            self.ask(f"try_verify_from {self.now} {view}")
+
+
+MANNERS = {"": Life, "ahead": Ahead, "contradicted": Contradicted, "turned": Turned}
+
+
+def script(pick, leading, has_key, manner="", length=300):
     """The calls of a script, each with its answer."""
-    lines = []
-    reset = setup_line(pick, leading, has_key)
-    first = Life(pick, reset, lines)
+    lines, life = [], MANNERS[manner]
+    reset = setup_line(pick, leading, has_key, life.TERMS)
+    first = life(pick, reset, lines)
     start, is_floor = first.pick_start(), pick.random() < 0.5
     first.begin(start, is_floor)
     first.live(pick.randrange(length // 3, length // 2))
-    second = Life(pick, reset, lines, first.now + pick.choice((0, 5, 2500)))
+    second = life(pick, reset, lines, first.now + pick.choice((0, 5, 2500)))
     second.proposals = first.proposals
     second.begin(start, not is_floor)
     second.recall(first.record)
     second.live(length)
     second.ask_all()
     if not start.isdecimal():
-        Life(pick, reset, lines).begin("9", False)
+        life(pick, reset, lines).begin("9", False)
     return lines

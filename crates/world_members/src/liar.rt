@@ -1,7 +1,7 @@
 //! What a liar sends in place of what its node hands out, and beside it.
 
+use crate::lying::{Saying, Sayings};
 use crate::parcel::{Handed, Lie, Parcel};
-use crate::saying::{Saying, Sayings};
 use simplex_member::Channel;
 use simplex_messages::{Finalize, Notarize, Nullify, Vote};
 use std::alloc::{AllocError, Global};
