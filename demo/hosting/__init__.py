@@ -11,9 +11,10 @@ has to keep true, by the functions of these modules. Read them in this order:
     host          one member: carries out what its node hands out
     lanes         what of that a page shows
     committee     all members, and what the page's buttons do to them
-    server        the page and its WebSocket, on the loopback
-    program       which program is run, and how it is built where there is none
-    packages      Debian's packages that are wanted
+    server        the page, and what it is told, on the loopback
+    packages      Debian's packages that the test wants
+
+Which program is run `tools/launcher` finds, or builds.
 
 What is spelled as bytes is read and written by `tools/member`, the model of a member, which the trials of the program use too.
 """

@@ -12,7 +12,10 @@ from member.positions import quorum
 from node_program import setup_of
 
 from .host import Host, Place
-from .lanes import BLOCKS, KEPT, Board, Lane
+from .lanes import BLOCKS, Board, Lane
+
+# Behind so many seconds without a final view a page says so, and why.
+SLOW = 6
 
 
 class Unwanted(Exception):
@@ -29,6 +32,7 @@ class Committee:
         self.cuts: set[frozenset[int]] = set()
         self.audit_said: dict | None = None
         self.auditing, self.audits = False, 0
+        self.begun, self.still = monotonic(), ""
         ports: dict[int, int] = {}
         pairs = {frozenset(pair): secrets.token_bytes(32) for pair in combinations(range(count), 2)}
         self.places = []
@@ -100,6 +104,14 @@ class Committee:
         self.cuts.discard(frozenset((one, other)))
         self.board.tell(f"the link between {one} and {other} is mended")
 
+    def isolate(self, me: int) -> None:
+        self.cuts |= {frozenset((me, other)) for other in range(self.count) if other != me}
+        self.board.tell(f"member {me} is isolated: all its links are cut")
+
+    def rejoin(self, me: int) -> None:
+        self.cuts -= {pair for pair in self.cuts if me in pair}
+        self.board.tell(f"all links of member {me} are mended")
+
     async def audit(self) -> None:
         """`simplex audit` over the reports of all members."""
         if self.auditing:
@@ -135,25 +147,59 @@ class Committee:
 
     # ---- what the page shows
 
-    def shown(self) -> str:
-        """All that a page shows, as JSON."""
-        board, last = self.board, self.board.highest
-        first = max(1, last - KEPT + 1)
-        return json.dumps({
-            "count": self.count, "program": self.said, "quorum": quorum(self.count), "first": first, "last": last,
-            "members": [self.shown_lane(me, lane, first) for me, lane in enumerate(board.lanes)],
-            "leaders": [setup_of(0, self.count).elect(view) for view in range(first, last + 1)],
+    def standstill(self) -> str:
+        """Why nothing becomes final, or nothing where something does."""
+        needed, running = quorum(self.count), [me for me in range(self.count) if self.is_running(me)]
+        if len(running) < needed:
+            return f"{len(running)} of {self.count} members run, and a quorum is {needed}. Restart some."
+        speaking = [me for me in running if not self.is_blocked(me, running)]
+        if len(speaking) < needed:
+            return f"{len(running) - len(speaking)} of {len(running)} that run are blocked for lies; {needed} have to be heard."
+        most = max(sum(me == it or frozenset((me, it)) not in self.cuts for it in speaking) for me in speaking)
+        if most < needed:
+            return f"nobody is linked with more than {most - 1} others, and a quorum is {needed} with oneself. Mend links."
+        seconds = monotonic() - self.board.final_at
+        if seconds < SLOW:
+            return ""
+        view = self.board.highest
+        leader = setup_of(0, self.count).elect(view)
+        why = "is down" if leader not in running else "is blocked" if leader not in speaking else "may be cut off, or just late"
+        return f"nothing became final for {seconds:.0f} s. View {view} is led by member {leader}, which {why}: the others give its term up."
+
+    def is_blocked(self, me: int, running: list[int]) -> bool:
+        """Whether so many block the member that no quorum hears it."""
+        deaf = sum(me in self.board.lanes[other].blocked for other in running if other != me)
+        return len(running) - deaf < quorum(self.count)
+
+    def shown(self, whole: bool) -> str | None:
+        """All that a page shows, as JSON, or what became of it since this was last asked for, or nothing where nothing did."""
+        board, still = self.board, self.standstill()
+        if not whole and not board.changed and still == self.still:
+            return None
+        news = set().union(*(lane.marks if whole else lane.news for lane in board.lanes))
+        said = {
+            "whole": whole, "count": self.count, "program": self.said, "quorum": quorum(self.count), "last": board.highest,
+            "final": board.final, "seconds": monotonic() - self.begun, "standstill": still,
+            "members": [self.shown_lane(me, lane, whole) for me, lane in enumerate(board.lanes)],
+            "leaders": {view: setup_of(0, self.count).elect(view) for view in news},
             "cuts": sorted(sorted(pair) for pair in self.cuts),
             "chain": [self.shown_block(view) for view in sorted(board.chain)[-BLOCKS:]],
-            "disagreements": board.disagreements(), "lines": list(board.lines),
+            "disagreements": board.disagreements(), "lines": list(board.lines if whole else board.news),
             "audit": self.audit_said, "auditing": self.auditing,
-        })
+        }
+        if not whole:
+            board.changed, self.still = False, still
+            board.news.clear()
+            for lane in board.lanes:
+                lane.news.clear()
+        return json.dumps(said)
 
-    def shown_lane(self, me: int, lane: Lane, first: int) -> dict:
+    def shown_lane(self, me: int, lane: Lane, whole: bool) -> dict:
+        views = lane.marks if whole else lane.news
         return {
             "state": lane.state, "running": self.is_running(me), "view": lane.view, "final": lane.final,
             "blocked": sorted(lane.blocked),
-            "marks": {view: "".join(sorted(marks)) for view, marks in lane.marks.items() if view >= first},
+            "marks": {view: "".join(sorted(lane.marks.get(view, ()))) for view in views},
         }
 
     def shown_block(self, view: int) -> dict:

@@ -4,7 +4,7 @@ All of it is read off what members said and reported; no node is asked, since a 
 """
 from collections import deque
 from dataclasses import dataclass, field
-from time import strftime
+from time import monotonic, strftime
 
 from member.positions import Terms
 from member.values import (
@@ -13,8 +13,8 @@ from member.values import (
 
 from .host import Said
 
-# How many views a lane keeps, and how many of a page's lists are shown.
-KEPT, BLOCKS, LINES = 48, 8, 14
+# How many views a lane keeps, for pages that scroll back, and how many of a page's lists are shown.
+KEPT, BLOCKS, LINES = 2000, 8, 200
 # What may be marked at a view: it was entered, notarize was voted, the proposal was certified, nullify was voted, the view was
 # nullified, its proposal is final, somebody lied there
 ENTERED, VOTED, CERTIFIED, GAVE_UP, NULLIFIED, FINAL, BLAMED = "evcgnfb"
@@ -33,11 +33,14 @@ class Lane:
     marks: dict[int, set[str]] = field(default_factory=lambda: {1: {ENTERED}})
     own: dict[int, Proposal] = field(default_factory=dict)
     blocked: set[int] = field(default_factory=set)
+    # views whose marks changed since the pages were told
+    news: set[int] = field(default_factory=lambda: {1})
 
     def mark(self, view: int, what: str) -> None:
-        """Marks a view, and forgets those far behind."""
+        """Marks a view, unless it is one of those far below that are forgotten."""
         if view > self.view - KEPT:
             self.marks.setdefault(view, set()).add(what)
+            self.news.add(view)
 
     def enter(self, view: int) -> None:
         if view > self.view:
@@ -98,10 +101,15 @@ class Board:
         self.lanes = [Lane(terms, known) for _ in range(count)]
         self.chain: dict[int, dict[bytes, set[int]]] = {}
         self.lines: deque[str] = deque(maxlen=LINES)
+        # lines that the pages weren't told yet
+        self.news: deque[str] = deque(maxlen=LINES)
         self.changed = True
+        # the highest final view, and when it came: moments of the host's clock
+        self.final, self.final_at = 0, monotonic()
 
     def tell(self, line: str) -> None:
-        self.lines.append(f"{strftime('%H:%M:%S')} {line}")
+        for lines in (self.lines, self.news):
+            lines.append(f"{strftime('%H:%M:%S')} {line}")
         self.changed = True
 
     def watch(self, member: int, what: object) -> None:
@@ -121,6 +129,8 @@ class Board:
             case Finalized(proposal):
                 for one in lane.finalize(proposal):
                     self.chain.setdefault(one.view, {}).setdefault(one.payload, set()).add(member)
+                if proposal.view > self.final:
+                    self.final, self.final_at = proposal.view, monotonic()
                 for old in sorted(self.chain)[: -KEPT * 4]:
                     del self.chain[old]
 

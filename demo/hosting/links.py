@@ -86,9 +86,9 @@ class Links:
         self.incoming: dict[asyncio.StreamWriter, int] = {}
         self.server: asyncio.Server | None = None
 
-    async def listen(self) -> int:
-        """The port at which this member is reached."""
-        self.server = await asyncio.start_server(self.accept, LOOPBACK, 0)
+    async def listen(self, port: int = 0) -> int:
+        """The port at which this member is reached: this one, or any that is free."""
+        self.server = await asyncio.start_server(self.accept, LOOPBACK, port)
         return self.server.sockets[0].getsockname()[1]
 
     def dial(self, tasks: asyncio.TaskGroup) -> None:
