@@ -281,14 +281,21 @@ impl Links {
     // ---- listening
 
     async fn accept(self: Arc<Links>, listener: TcpListener, acceptor: TlsAcceptor) {
+        // Who floods from elsewhere takes no room from those who dial from members' addresses.
         let strangers = Arc::new(Semaphore::new(self.limits.strangers));
+        let neighbours = Arc::new(Semaphore::new(self.limits.strangers));
         loop {
             let Ok((stream, from)) = listener.accept().await else {
                 // Too many files are open: a pause, in which some are closed.
                 sleep(REDIAL.0).await;
                 continue;
             };
-            let Ok(permit) = strangers.clone().try_acquire_owned() else {
+            let room = if self.is_neighbour(from.ip()) {
+                &neighbours
+            } else {
+                &strangers
+            };
+            let Ok(permit) = room.clone().try_acquire_owned() else {
                 self.refuse("strangers", from, "too many connections that show no key");
                 continue;
             };
@@ -303,6 +310,13 @@ impl Links {
                 }
             });
         }
+    }
+
+    /// Whether a member is to be reached at this address.
+    fn is_neighbour(&self, address: IpAddr) -> bool {
+        self.places
+            .iter()
+            .any(|place| place.address.ip() == address)
     }
 
     /// The peer that dialed, by the key that it showed, and its connection; it is of this committee.

@@ -71,7 +71,7 @@ pub struct Limits {
     pub peer_asks: (f64, f64),
     /// Connections of HTTP at a time.
     pub http_connections: usize,
-    /// Connections at a time that haven't shown a member's key yet.
+    /// Connections at a time that haven't shown a member's key yet; as many more from addresses of members.
     pub strangers: usize,
 }
 

@@ -4,8 +4,9 @@ mod common;
 
 use common::{Committee, until};
 use std::io::{Read, Write};
-use std::net::{Shutdown, SocketAddr, TcpStream};
+use std::net::{Shutdown, SocketAddr, TcpListener, TcpStream};
 use std::sync::Arc;
+use std::thread;
 use std::time::Duration;
 use tokio::io::{AsyncReadExt, AsyncWriteExt};
 use tokio_rustls::client::TlsStream;
@@ -115,6 +116,51 @@ fn a_stranger_gets_nowhere() {
     drop(silent);
     let logged = committee.log(0).matches("why=\"handshake\"").count();
     assert_eq!(logged, 1, "{}", committee.log(0));
+}
+
+/// Carries one connection to this address, and gives what the dialer sent once it has hung up.
+fn tap(to: SocketAddr) -> (SocketAddr, thread::JoinHandle<Vec<u8>>) {
+    let listener = TcpListener::bind("127.0.0.1:0").unwrap();
+    let address = listener.local_addr().unwrap();
+    let tapped = thread::spawn(move || {
+        let (mut dialer, _) = listener.accept().unwrap();
+        let mut member = TcpStream::connect(to).unwrap();
+        let (mut back, mut forth) = (member.try_clone().unwrap(), dialer.try_clone().unwrap());
+        thread::spawn(move || std::io::copy(&mut back, &mut forth));
+        let (mut sent, mut piece) = (Vec::new(), [0; 4096]);
+        while let Ok(size @ 1..) = dialer.read(&mut piece) {
+            sent.extend(&piece[..size]);
+            member.write_all(&piece[..size]).unwrap();
+        }
+        let _ = member.shutdown(Shutdown::Both);
+        sent
+    });
+    (address, tapped)
+}
+
+#[test]
+fn a_handshake_that_is_played_again_lets_nobody_in() {
+    let (mut committee, keys, key) = three();
+    let address = committee.settings[0].listen;
+    let (tapped_at, tapped) = tap(address);
+    let runtime = tokio::runtime::Runtime::new().unwrap();
+    runtime.block_on(async {
+        let mut stream = dial(&keys, &key, 0, tapped_at).await.unwrap();
+        assert_eq!(greet(&mut stream, keys.hash(), 1).await.unwrap().1, 0);
+        stream.shutdown().await.unwrap();
+    });
+    drop(runtime);
+    let sent = tapped.join().unwrap();
+    assert!(sent.len() > 500, "{}", sent.len());
+    let before = refused(&committee, "handshake");
+    let mut again = TcpStream::connect(address).unwrap();
+    again.write_all(&sent).unwrap();
+    let mut answered = Vec::new();
+    let _ = again.read_to_end(&mut answered);
+    until("it is refused", || {
+        (refused(&committee, "handshake") > before).then_some(())
+    });
+    go_on(&mut committee);
 }
 
 #[test]
