@@ -1,4 +1,5 @@
 mod Calm
+mod Still
 mod Resting
 mod Living
 mod Network
