@@ -4,3 +4,5 @@ mod Resting
 mod Living
 mod Network
 mod Plain
+mod Stir
+mod Contradicted

@@ -76,16 +76,18 @@ module _ {S D P G C : Type 0} where
     abbrev Vacant : List (Item S D P G C) → Type 0
     Vacant x = past.offers x ≡ []
 
-    enter-vacant : (low now at view : ℕ) (t : ℕ → List (Item S D P G C)) → Vacant (t view) → Vacant (enter s low now at t view)
-    enter-vacant low now at view t is = go (nat_lt low at) (at == view)
-      where
-        a : Item S D P G C
-        a = past.armed (past.deadline now s.leader_timeout) (past.deadline now s.certification_timeout) (later now s.stall_timeout)
+    put-quiet : (at view : ℕ) (x : Item S D P G C) (t : ℕ → List (Item S D P G C)) → Vacant (x ∷ t view) → Vacant (t view) → Vacant (put at x t view)
+    put-quiet at view x t with_it is = either Vacant (at == view) (x ∷ t view) (t view) with_it is
 
-        go : (b c : Bool) → Vacant ((if b then (λ (v : ℕ). if at == v then a ∷ (if at == v then past.entered now ∷ t v else t v) else (if at == v then past.entered now ∷ t v else t v)) else t) view)
-        go true c = either Vacant (at == view) (a ∷ (if at == view then past.entered now ∷ t view else t view)) (if at == view then past.entered now ∷ t view else t view)
-            (either Vacant (at == view) (past.entered now ∷ t view) (t view) is is) (either Vacant (at == view) (past.entered now ∷ t view) (t view) is is)
-        go false c = is
+    enter-vacant : (low now at view : ℕ) (t : ℕ → List (Item S D P G C)) → Vacant (t view) → Vacant (enter s low now at t view)
+    enter-vacant low now at view t is = go (nat_lt low at)
+      where
+        inner : Vacant (put at (past.entered now) t view)
+        inner = put-quiet at view (past.entered now) t is is
+
+        go : (b : Bool) → Vacant ((if b then put at (past.armed (past.deadline now s.leader_timeout) (past.deadline now s.certification_timeout) (later now s.stall_timeout)) (put at (past.entered now) t) else t) view)
+        go true = put-quiet at view (past.armed (past.deadline now s.leader_timeout) (past.deadline now s.certification_timeout) (later now s.stall_timeout)) (put at (past.entered now) t) inner inner
+        go false = is
 
     put-other : (at view : ℕ) (x : Item S D P G C) (t : ℕ → List (Item S D P G C)) → at < view → Vacant (t view) → Vacant (put at x t view)
     put-other at view x t below is = go (at == view) refl
@@ -93,9 +95,6 @@ module _ {S D P G C : Type 0} where
         go : (b : Bool) → (at == view) ≡ b → Vacant (if b then x ∷ t view else t view)
         go true e = absurd (let same = eqb-true at view e in omega (arith, same, below))
         go false e = is
-
-    put-quiet : (at view : ℕ) (x : Item S D P G C) (t : ℕ → List (Item S D P G C)) → Vacant (x ∷ t view) → Vacant (t view) → Vacant (put at x t view)
-    put-quiet at view x t with_it is = either Vacant (at == view) (x ∷ t view) (t view) with_it is
 
     pub stir-vacant : (h : List (views.Point S D P G C)) → IsStir h → (view : ℕ) → last_finalized h < view → past.offers (seen s h view) ≡ []
     stir-vacant [] stir view above = refl
