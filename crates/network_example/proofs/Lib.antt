@@ -6,3 +6,4 @@ mod Network
 mod Plain
 mod Stir
 mod Contradicted
+mod PlainContradicted

@@ -1,10 +1,11 @@
 //! That networks are there, and that contradictory certificates can be reported in one.
 
-ghost use Rattle.simplex_member.specs.Packet.{Formats, formats};
 ghost use Rattle.simplex_member.specs.Laws.{IsExact};
+ghost use Rattle.simplex_member.specs.Packet.{Formats, formats};
 ghost use Rattle.network_example.specs.Contradicted.{ContradictionsAreNamed};
 ghost use Rattle.network_example.specs.Example.{NetworksAreThere};
 ghost use Rattle.network_example.specs.Plain.{PlainNetworksAreThere};
+ghost use Rattle.network_example.specs.PlainContradicted.{PlainContradictionsAreNamed};
 
 use simplex_member::packets_are_read_back;
 use simplex_network::accountability;
@@ -39,4 +40,15 @@ pub fn contradictions_are_named<S: Listing<D>, D: Digest>()
     ensures { (f : Formats S D S.PublicKey S.Signature S.Certificate) → IsExact f → ContradictionsAreNamed S.Scheme f D.cmp }
 {
     accountability::<S, D>();
+}
+
+/// So they are under the plain scheme, with packets as the messages spell them: each certificate lists the attestations
+/// of the three that are excused.
+pub fn plain_contradictions_are_named<D: Digest>()
+    ensures { PlainContradictionsAreNamed ⟦<PlainScheme as Scheme<D>>⟧ (formats D.PartialEq.eq D.spelling ⟦<PlainSignature as Write>⟧.spelling
+        ⟦<AttestationList<PlainSignature> as Write>⟧.spelling D.reading ⟦<PlainSignature as Read>⟧.reading
+        ⟦<AttestationList<PlainSignature> as Read>⟧.reading 4) D.cmp D.spelling D.fits }
+{
+    contradictions_are_named::<PlainScheme, D>();
+    packets_are_read_back::<PlainScheme, D>();
 }

@@ -3,4 +3,7 @@
 
 mod laws;
 
-pub use laws::{contradictions_are_named, networks_are_there, plain_networks_are_there};
+pub use laws::{
+    contradictions_are_named, networks_are_there, plain_contradictions_are_named,
+    plain_networks_are_there,
+};
