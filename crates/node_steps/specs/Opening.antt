@@ -1,5 +1,5 @@
 -- How a record is opened: what is wrong with the arguments, and what comes of it.
-use Rattle.std.specs.Prelude.{◌≡◌, ◌⊎◌, ◌++◌, ℕ, List, [], ◌∷◌, map, Option, Some, None}
+use Rattle.std.specs.Prelude.{◌≡◌, ◌≢◌, ◌⊎◌, ◌++◌, ℕ, List, [], ◌∷◌, map, Option, Some, None, Result, IfOk, IfErr, IfSome, OnOk, false}
 use Rattle.types_core.specs.declared.scheme.Scheme.{Ghosts}
 use Rattle.messages_certificates.specs.declared.artifact.Artifact.{Artifact}
 use Rattle.types_terms.specs.declared.elector.Elector as elector
@@ -7,16 +7,18 @@ use Rattle.voter_rules.specs.declared.config.Config.{Config}
 use Rattle.voter_rules.specs.declared.config.ConfigFault.TheVariants as fault
 use Rattle.voter_rules.specs.Configuring.{Applies}
 use Rattle.journal_single.specs.declared.disk.Disk as disk
-use Rattle.journal_single.specs.Record.{IsReopened}
-use Rattle.node_record.specs.Ledger.{AreFoundOn}
+use Rattle.journal_single.specs.Disk.{LeavesOnly, counted}
+use Rattle.journal_single.specs.Record.{IsForeign, IsReopened}
+use Rattle.node_record.specs.Ledger.{AreFoundOn, IsContradiction}
 use Rattle.simplex_member.specs.declared.action.Action.{Action}
 use Rattle.simplex_member.specs.declared.fault.OpenFault.{OpenFault}
 use Rattle.simplex_member.specs.declared.fault.OpenFault.TheVariants as open_fault
+use Rattle.simplex_member.specs.First.{IsFirst}
 use Rattle.simplex_member.specs.Member as whole
 use Rattle.simplex_member.specs.Member.{IsOpened}
 use Rattle.simplex_member.specs.Packet.{Formats}
 use Rattle.simplex_member.specs.Point.{History}
-use Rattle.simplex_member.specs.Setup.{Setup, IsInTime}
+use Rattle.simplex_member.specs.Setup.{Setup, IsInTime, owner_of}
 use Rattle.node_core.specs.GoingThrough.{Opens}
 use Rattle.node_steps.specs.declared.node.Node.{Node}
 use Rattle.node_steps.specs.Keeps.{NodeKeeps}
@@ -63,3 +65,22 @@ module _ {S L D P G C K : Type 0} (g : Ghosts S D P G C) (e : elector.Ghosts L S
     pub end : History S D P G C
     pub opens : Opens g f s now found actions end
     pub keeps : NodeKeeps g e k f s node end
+
+module _ {S L D P G C K : Type 0} (g : Ghosts S D P G C) (e : elector.Ghosts L S D P G C) (k : disk.Ghosts K) where
+  -- what an opening promises of its fault, and of a crash meanwhile, whatever it hands back beside the node: by the setup of each index,
+  -- and by what is left of the disk
+  pub record IsOpening {A : Type 0} (f : Formats S D P G C) (setup : ℕ → Setup S D C) (Readable : Artifact S D P G C → Type 0)
+      (config : Config D) (scheme : S) (on : K) (now : ℕ) (left : A → K) (answer : Result A (OpenFault × K)) : Type 0 where
+    pub told_early : IfErr answer (λ r. IfSome (early r.0) (λ x. IsFirst (open_tests g (setup 0) config now) (Some x) × (r.1 ≡ on)))
+    pub none_early : OnOk answer (IsFirst (open_tests g (setup 0) config now) None)
+    pub told_later : IfErr answer (λ r. early r.0 ≡ None → IsFirst (open_tests g (setup 0) config now) None)
+    pub foreign : IfErr answer (λ r. (place : ℕ) → r.0 ≡ open_fault.Foreign place → k.keeps → IsForeign [] Readable f.artifact (k.seen on) place)
+    pub contradiction : IfErr answer (λ r. (position index : ℕ) → g.own scheme ≡ Some index → r.0 ≡ open_fault.Contradiction position
+        → IsContradiction k f.artifact Readable (g.attests scheme) (g.certifies scheme) (owner_of (setup index)) on position)
+    pub device : IfErr answer (λ r. r.0 ≡ open_fault.Device → k.failed r.1 ≡ counted false (k.failed on))
+    pub no_device : IfErr answer (λ r. r.0 ≢ open_fault.Device → k.failed r.1 ≡ k.failed on)
+    pub no_fault : IfOk answer (λ r. k.failed (left r) ≡ k.failed on)
+    pub any_moment : IfOk answer (λ r. (index : ℕ) → g.own scheme ≡ Some index → k.keeps
+        → LeavesOnly (k.calls on) (k.calls (left r)) (MayBeLeftOpen g e k f (setup index) Readable on now))
+    pub any_moment_of_a_fault : IfErr answer (λ r. (index : ℕ) → g.own scheme ≡ Some index → k.keeps
+        → LeavesOnly (k.calls on) (k.calls r.1) (MayBeLeftOpen g e k f (setup index) Readable on now))
