@@ -531,13 +531,17 @@ module _ {S D P G C : Type 0} (g : Ghosts S D P G C) (f : Formats S D P G C) (cm
   }
 
   told : AreReported g f scheme m w (both_reports x)
-  told a here = (0, correct, ⊎_elim
-      (λ is. (last_life, (1, last-of-two, refl), (0, first-of-five, ap (λ (b : Activity S D P G C). Reports b) is)))
-      (λ later. ⊎_elim
-      (λ is. (last_life, (1, last-of-two, refl), (3, fourth-of-five, ap (λ (b : Activity S D P G C). Reports b) is)))
-      (λ none. absurd (Contains-nil a none))
-      (Contains-cases (activity.Nullification (nullification x)) [] a later))
-      (Contains-cases (activity.Finalization (finalization x)) (activity.Nullification (nullification x) ∷ []) a here))
+  told a here = (
+    0,
+    correct,
+    ⊎_elim
+        (λ is. (last_life, (1, last-of-two, refl), (0, first-of-five, ap (λ (b : Activity S D P G C). Reports b) is)))
+        (λ later. ⊎_elim
+        (λ is. (last_life, (1, last-of-two, refl), (3, fourth-of-five, ap (λ (b : Activity S D P G C). Reports b) is)))
+        (λ none. absurd (Contains-nil a none))
+        (Contains-cases (activity.Nullification (nullification x)) [] a later))
+        (Contains-cases (activity.Finalization (finalization x)) (activity.Nullification (nullification x) ∷ []) a here),
+  )
 
   pub is-named : ReportedNameEnough g f cmp → IsNamedFor g f cmp scheme x
   is-named law =

@@ -1,5 +1,5 @@
--- A committee of four of which three are excused. They finalize a view and give it up too; the fourth takes both certificates and reports them.
--- It has crashed before, right behind an opening, and lives on with another leader's time.
+-- A committee of four of which three are excused. They finalize a view and give it up too; the fourth takes both certificates and
+-- reports them. It has crashed before, right behind an opening, and lives on with another time for leaders.
 use Rattle.std.specs.Prelude.{◌≡◌, ◌≢◌, ◌<◌, ◌+◌, ℕ, false, List, [], ◌∷◌, Contains, Some, None, ⊤}
 use Rattle.std.specs.declared.cmp.Ordering.{Ordering}
 use Rattle.types_core.specs.declared.attestation.Attestation.{Attestation}
@@ -95,7 +95,10 @@ module _ {S D P G C : Type 0} (x : Forged S D C) where
   abbrev pub one_member : Members S D P G C
   one_member = record {
     setup = λ i. timed x.own x.genesis i 1000;
-    lives = λ i. record { setup = timed x.own x.genesis i 1000; course = cut_course } ∷ record { setup = timed x.own x.genesis i 1500; course = taking_course } ∷ [];
+    lives = λ i.
+        record { setup = timed x.own x.genesis i 1000; course = cut_course }
+        ∷ record { setup = timed x.own x.genesis i 1500; course = taking_course }
+        ∷ [];
   }
 
   -- all but the first are excused
@@ -127,8 +130,8 @@ module _ {S D P G C : Type 0} (g : Ghosts S D P G C) (f : Formats S D P G C) whe
     pub bytes : IsOfBytes e 3 channel.Certificates (f.packet (of_certificate c))
     pub read : f.packet_in channel.Certificates (f.packet (of_certificate c)) ≡ Some (of_certificate c)
 
-  -- the member lives by its nodes and has reported both certificates, which contradict each other; and each audit of the reports names at least
-  -- two members of the round, and not this one
+  -- the member lives by its nodes and has reported both certificates, which contradict each other; and each audit of the reports names
+  -- at least two members of the round, and not this one
   pub record IsNamedFor (cmp : D → D → Ordering) (scheme : S) (x : Forged S D C) : Type 0 where
     pub live : LiveByNodes g f scheme (one_member x) (one_of_four x)
     pub correct : IsCorrect (one_of_four {P = P} {G = G} x) 0
@@ -138,5 +141,6 @@ module _ {S D P G C : Type 0} (g : Ghosts S D P G C) (f : Formats S D P G C) whe
         → (named : NamesAtLeast 2 4 evidence second) × (Contains named.names 0 → ⊥)
 
   abbrev pub ContradictionsAreNamed : (D → D → Ordering) → Type 0
-  ContradictionsAreNamed cmp = (scheme : S) (x : Forged S D C) → AreForged scheme x → IsHandedBy x.final_packet (certificate.Finalization (finalization x))
+  ContradictionsAreNamed cmp = (scheme : S) (x : Forged S D C) → AreForged scheme x
+      → IsHandedBy x.final_packet (certificate.Finalization (finalization x))
       → IsHandedBy x.null_packet (certificate.Nullification (nullification x)) → IsNamedFor cmp scheme x

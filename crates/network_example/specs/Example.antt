@@ -90,7 +90,10 @@ module _ {S D P G C : Type 0} where
     first_life i = record { setup = set_up x.own x.genesis i; course = crashed_life x.junk (nullify_of x.signed i) }
 
     abbrev pub second_life : ℕ → Life S D P G C
-    second_life i = record { setup = set_up x.own x.genesis i; course = repeating_life (nullify_of x.signed i) (x.handed i) (nullification_of x.packed) }
+    second_life i = record {
+      setup = set_up x.own x.genesis i;
+      course = repeating_life (nullify_of x.signed i) (x.handed i) (nullification_of x.packed);
+    }
 
     -- how each member is set up, and its lives
     abbrev pub four_members : Members S D P G C
@@ -136,7 +139,8 @@ module _ {S D P G C : Type 0} (g : Ghosts S D P G C) (f : Formats S D P G C) whe
   -- each of them
   pub record AreKeys (scheme : S) (x : Parts S D G C) : Type 0 where
     pub alike : (i : ℕ) → i < 3 → IsAlike 4 (g.attests scheme) (g.size (x.own i)) (g.attests (x.own i))
-    pub one_another : (i j : ℕ) → i < 3 → j < 3 → (signer : ℕ) (s : Statement D) (a : G) → g.attests (x.own j) signer s a → g.attests (x.own i) signer s a
+    pub one_another : (i j : ℕ) → i < 3 → j < 3 → (signer : ℕ) (s : Statement D) (a : G) → g.attests (x.own j) signer s a
+        → g.attests (x.own i) signer s a
     pub attests : (i : ℕ) → i < 3 → g.attests (x.own i) i (nullify first) (x.signed i)
     pub certifies : (i : ℕ) → i < 3 → g.certifies (x.own i) (nullify first) x.packed
 
@@ -157,11 +161,15 @@ module _ {S D P G C : Type 0} (g : Ghosts S D P G C) (f : Formats S D P G C) whe
     pub faithful : AreFaithful g f scheme (four_members x) (four_world x)
     pub attest_alike : DoAttestAlike g f scheme (four_members x) (four_world x)
     pub liar : (i : ℕ) → IsCorrect (four_world {P = P} x) i → HandedOut g f scheme (four_members x) (four_world x) i (Blocks 3)
-    pub repeated : (i : ℕ) → IsCorrect (four_world {P = P} x) i → HandedOut g f scheme (four_members x) (four_world x) i (Sends None (of_vote (vote.Nullify (nullify_of x.signed i))))
+    pub repeated : (i : ℕ) → IsCorrect (four_world {P = P} x) i
+        → HandedOut g f scheme (four_members x) (four_world x) i (Sends None (of_vote (vote.Nullify (nullify_of x.signed i))))
     pub seen : IsSeen g f scheme (four_members x) (four_world x) (given_up x)
-    pub taken : (i : ℕ) → IsCorrect (four_world {P = P} x) i → Contains ((four_world {P = P} x).recorded i) (artifact.Nullification (nullification_of x.packed))
-    pub handed_on : (i : ℕ) → IsCorrect (four_world {P = P} x) i → HandedOut g f scheme (four_members x) (four_world x) i (Sends None (of_certificate (given_up x)))
-    pub came : (i : ℕ) → IsCorrect (four_world {P = P} x) i → 1 ≤ i → CameIn g f scheme (four_members x) (four_world x) i 0 (of_certificate (given_up x))
+    pub taken : (i : ℕ) → IsCorrect (four_world {P = P} x) i
+        → Contains ((four_world {P = P} x).recorded i) (artifact.Nullification (nullification_of x.packed))
+    pub handed_on : (i : ℕ) → IsCorrect (four_world {P = P} x) i
+        → HandedOut g f scheme (four_members x) (four_world x) i (Sends None (of_certificate (given_up x)))
+    pub came : (i : ℕ) → IsCorrect (four_world {P = P} x) i → 1 ≤ i
+        → CameIn g f scheme (four_members x) (four_world x) i 0 (of_certificate (given_up x))
 
   -- a network is there for each such scheme
   abbrev pub NetworksAreThere : Type 0

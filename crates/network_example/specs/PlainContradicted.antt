@@ -34,7 +34,8 @@ module _ {D : Type 0} (payload : D → List ℕ) (base : List ℕ) where
   }
 
 -- so the audit names two, where the payload can be spelled and the packets are the certificates' own bytes
-abbrev pub PlainContradictionsAreNamed : {D P : Type 0} → Ghosts Committee D P (List ℕ) (List (Attestation (List ℕ))) → Formats Committee D P (List ℕ) (List (Attestation (List ℕ)))
+abbrev pub PlainContradictionsAreNamed : {D P : Type 0} → Ghosts Committee D P (List ℕ) (List (Attestation (List ℕ)))
+    → Formats Committee D P (List ℕ) (List (Attestation (List ℕ)))
     → (D → D → Ordering) → (D → List ℕ) → (D → Type 0) → Type 0
 PlainContradictionsAreNamed {D} {P} g f cmp payload Fits = (base : List ℕ) (genesis agreed : D) (final null : Event D) → Fits agreed
     → IsOfBytes final 3 channel.Certificates (f.packet (of_certificate (certificate.Finalization (finalization (plain_forged payload base genesis agreed final null)))))

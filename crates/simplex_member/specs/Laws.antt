@@ -374,7 +374,8 @@ module _ {S D P G C : Type 0} (g : Ghosts S D P G C) (f : Formats S D P G C) whe
 
   -- a certificate that was made lists only what came in, or own votes: it is honest as they are
   abbrev pub MadeAreHonest : Type 0
-  MadeAreHonest = (scheme : S) (m : Members S D P G C) (world : World S D P G C) → LiveByNodes g f scheme m world → RecordedAreHonest scheme m world
+  MadeAreHonest = (scheme : S) (m : Members S D P G C) (world : World S D P G C) → LiveByNodes g f scheme m world
+      → RecordedAreHonest scheme m world
 
   -- one proposal a view, no finalized view nullified, none skipped
   pub record DoAgree (scheme : S) (world : World S D P G C) : Type 0 where
@@ -383,10 +384,12 @@ module _ {S D P G C : Type 0} (g : Ghosts S D P G C) (f : Formats S D P G C) whe
     pub no_finalized_view_skipped : NoFinalizedViewSkipped (g.attests scheme) g.lists world
 
   abbrev pub AgreeIfHonest : Type 0
-  AgreeIfHonest = (scheme : S) (m : Members S D P G C) (world : World S D P G C) → LiveByNodes g f scheme m world → AtMostFLie world → RecordedAreHonest scheme m world → DoAgree scheme world
+  AgreeIfHonest = (scheme : S) (m : Members S D P G C) (world : World S D P G C) → LiveByNodes g f scheme m world → AtMostFLie world
+      → RecordedAreHonest scheme m world → DoAgree scheme world
 
   abbrev pub Agree : Type 0
-  Agree = (scheme : S) (m : Members S D P G C) (world : World S D P G C) → LiveByNodes g f scheme m world → AtMostFLie world → DoAgree scheme world
+  Agree = (scheme : S) (m : Members S D P G C) (world : World S D P G C) → LiveByNodes g f scheme m world → AtMostFLie world
+      → DoAgree scheme world
 
   -- what that speaks of, beside what is recorded: each certificate that came in to a correct member and certifies by its scheme
   abbrev pub HandedCertificatesAreSound : Type 0
@@ -407,19 +410,24 @@ module _ {S D P G C : Type 0} (g : Ghosts S D P G C) (f : Formats S D P G C) whe
 
   -- and so does what may come next at a history on their way, once the record was gone through
   abbrev pub NextStandsOnGround : Type 0
-  NextStandsOnGround = (m : Members S D P G C) (i : ℕ) (left : List (Artifact S D P G C)) (life : Life S D P G C) (h : History S D P G C) (p : Point S D P G C) (x : Artifact S D P G C)
+  NextStandsOnGround = (m : Members S D P G C) (i : ℕ) (left : List (Artifact S D P G C))
+      (life : Life S D P G C) (h : History S D P G C) (p : Point S D P G C) (x : Artifact S D P G C)
       → HasLived m i left → HasReached m i life h → Allowed g f life.setup h p → is_begun h ≡ true → recorded_by p ≡ Some x
       → MayFollowOnGround (g.size (m.setup i).voter.scheme) (m.setup i).voter.length (scheduled_leader (m.setup i).voter) (m.setup i).me (entries (record_of h)) (entry x)
 
   -- finalized views lie on one chain, where all go by one schedule
   abbrev pub LieOnOneChain : Type 0
-  LieOnOneChain = (scheme : S) (m : Members S D P G C) (world : World S D P G C) (leader : ℕ → Option ℕ) → LiveByNodes g f scheme m world → AtMostFLie world
-      → ((i : ℕ) → IsCorrect world i → (view : ℕ) → scheduled_leader (m.setup i).voter view ≡ leader view) → OneChain (g.attests scheme) g.lists world
+  LieOnOneChain = (scheme : S) (m : Members S D P G C) (world : World S D P G C) (leader : ℕ → Option ℕ) → LiveByNodes g f scheme m world
+      → AtMostFLie world
+      → ((i : ℕ) → IsCorrect world i → (view : ℕ) → scheduled_leader (m.setup i).voter view ≡ leader view)
+      → OneChain (g.attests scheme) g.lists world
 
   -- each vote that comes in to a correct member by a correct one is its own and sound: it names its signer, is recorded, has its parent below
   abbrev pub CorrectVotesAreSound : Type 0
-  CorrectVotesAreSound = (scheme : S) (m : Members S D P G C) (world : World S D P G C) → LiveByNodes g f scheme m world → AreFaithful g f scheme m world
-      → (i j : ℕ) → IsCorrect world i → IsCorrect world j → (v : Vote S D P G C) → CameIn g f scheme m world i j (of_vote v) → IsOwnAndSound world j v
+  CorrectVotesAreSound = (scheme : S) (m : Members S D P G C) (world : World S D P G C) → LiveByNodes g f scheme m world
+      → AreFaithful g f scheme m world
+      → (i j : ℕ) → IsCorrect world i → IsCorrect world j → (v : Vote S D P G C) → CameIn g f scheme m world i j (of_vote v)
+      → IsOwnAndSound world j v
 
   -- a member's history: each vote that was heard came in by its signer, and what it records the member recorded
   pub record HasHeard (scheme : S) (m : Members S D P G C) (world : World S D P G C) (i : ℕ) (h : History S D P G C) : Type 0 where
@@ -428,7 +436,8 @@ module _ {S D P G C : Type 0} (g : Ghosts S D P G C) (f : Formats S D P G C) whe
 
   -- no vote that comes in to a correct member by a correct one contradicts what that heard
   abbrev pub CorrectVotesContradictNone : Type 0
-  CorrectVotesContradictNone = (scheme : S) (m : Members S D P G C) (world : World S D P G C) → LiveByNodes g f scheme m world → AreFaithful g f scheme m world
+  CorrectVotesContradictNone = (scheme : S) (m : Members S D P G C) (world : World S D P G C) → LiveByNodes g f scheme m world
+      → AreFaithful g f scheme m world
       → (i j : ℕ) → IsCorrect world i → IsCorrect world j → (s : Setup S D C) → IsOfOneMember (m.setup i) s
       → (h : History S D P G C) (points : List (Point S D P G C)) → Goes g f s [] points h → HasHeard scheme m world i h
       → (v : Vote S D P G C) → CameIn g f scheme m world i j (of_vote v)
@@ -441,10 +450,12 @@ module _ {S D P G C : Type 0} (g : Ghosts S D P G C) (f : Formats S D P G C) whe
 
   -- no construction of a correct member blocks a correct one
   abbrev pub ConstructionsBlockNone : Type 0
-  ConstructionsBlockNone = (scheme : S) (m : Members S D P G C) (world : World S D P G C) → LiveByNodes g f scheme m world → AreFaithful g f scheme m world → DoAttestAlike scheme m world
+  ConstructionsBlockNone = (scheme : S) (m : Members S D P G C) (world : World S D P G C) → LiveByNodes g f scheme m world
+      → AreFaithful g f scheme m world → DoAttestAlike scheme m world
       → (i j : ℕ) → IsCorrect world i → IsCorrect world j → (s : Setup S D C) → IsOfOneMember (m.setup i) s
       → (h : History S D P G C) (points : List (Point S D P G C)) → Goes g f s [] points h → HasHeard scheme m world i h
-      → (view : ℕ) (kind : Kind) (batch : Batch (Certificate S D P G C)) → Allowed g f s h (Constructs view kind batch) → ¬ Contains batch.invalid.items j
+      → (view : ℕ) (kind : Kind) (batch : Batch (Certificate S D P G C)) → Allowed g f s h (Constructs view kind batch)
+      → ¬ Contains batch.invalid.items j
 
   -- a member did this at a point of one of its lives
   pub record IsDoneAt (m : Members S D P G C) (i : ℕ) (d : Deed S D P G C) : Type 0 where
@@ -469,20 +480,24 @@ module _ {S D P G C : Type 0} (g : Ghosts S D P G C) (f : Formats S D P G C) whe
 
   -- what a correct member hands out it did at a point, or when it refused an event
   abbrev pub DeedsAreDone : Type 0
-  DeedsAreDone = (scheme : S) (m : Members S D P G C) (world : World S D P G C) → LiveByNodes g f scheme m world → (i : ℕ) → IsCorrect world i
+  DeedsAreDone = (scheme : S) (m : Members S D P G C) (world : World S D P G C) → LiveByNodes g f scheme m world → (i : ℕ)
+      → IsCorrect world i
       → (d : Deed S D P G C) → HandedOut g f scheme m world i d → IsDoneAt m i d ⊎ IsDoneRefusing scheme m world i d
 
   -- a history that a correct member's life led to was gone to point by point, heard what came in, and recorded what the member did
   abbrev pub ReachedAreGoneTo : Type 0
-  ReachedAreGoneTo = (scheme : S) (m : Members S D P G C) (world : World S D P G C) → LiveByNodes g f scheme m world → (i : ℕ) → IsCorrect world i
+  ReachedAreGoneTo = (scheme : S) (m : Members S D P G C) (world : World S D P G C) → LiveByNodes g f scheme m world → (i : ℕ)
+      → IsCorrect world i
       → (life : Life S D P G C) (h : History S D P G C) → HasReached m i life h
       → IsOfOneMember (m.setup i) life.setup × ((points : List (Point S D P G C)) × Goes g f life.setup [] points h) × HasHeard scheme m world i h
 
   -- a certificate that a correct member makes is sound, whether or not it comes to record it
   abbrev pub MadeAreSound : Type 0
-  MadeAreSound = (scheme : S) (m : Members S D P G C) (world : World S D P G C) → LiveByNodes g f scheme m world → (i : ℕ) → IsCorrect world i
+  MadeAreSound = (scheme : S) (m : Members S D P G C) (world : World S D P G C) → LiveByNodes g f scheme m world → (i : ℕ)
+      → IsCorrect world i
       → (life : Life S D P G C) (h : History S D P G C) → HasReached m i life h
-      → (view : ℕ) (kind : Kind) (batch : Batch (Certificate S D P G C)) → Allowed g f life.setup h (Constructs view kind batch) → (c : Certificate S D P G C) → batch.certificate ≡ Some c
+      → (view : ℕ) (kind : Kind) (batch : Batch (Certificate S D P G C)) → Allowed g f life.setup h (Constructs view kind batch)
+      → (c : Certificate S D P G C) → batch.certificate ≡ Some c
       → IsSound (g.attests scheme) g.lists world c
 
   -- a report is honest: each vote that it holds, loose, in a certificate or as evidence, is
@@ -493,17 +508,21 @@ module _ {S D P G C : Type 0} (g : Ghosts S D P G C) (f : Formats S D P G C) whe
 
   -- what correct members report is honest
   abbrev pub ReportsAreHonest : Type 0
-  ReportsAreHonest = (scheme : S) (m : Members S D P G C) (world : World S D P G C) → LiveByNodes g f scheme m world → (i : ℕ) → IsCorrect world i
+  ReportsAreHonest = (scheme : S) (m : Members S D P G C) (world : World S D P G C) → LiveByNodes g f scheme m world → (i : ℕ)
+      → IsCorrect world i
       → (a : Activity S D P G C) → HandedOut g f scheme m world i (Reports a) → IsHonestReport scheme m world a
 
   -- a certificate that a correct member reports certifies, by a scheme of the committee's size
   abbrev pub ReportedCertify : Type 0
-  ReportedCertify = (scheme : S) (m : Members S D P G C) (world : World S D P G C) → LiveByNodes g f scheme m world → g.size scheme ≡ world.size → (i : ℕ) → IsCorrect world i
-      → (a : Activity S D P G C) → HandedOut g f scheme m world i (Reports a) → (c : Certificate S D P G C) → reported_certificate a ≡ Some c → g.certifies scheme (certificate_statement c) (certified_by c)
+  ReportedCertify = (scheme : S) (m : Members S D P G C) (world : World S D P G C) → LiveByNodes g f scheme m world
+      → g.size scheme ≡ world.size → (i : ℕ) → IsCorrect world i
+      → (a : Activity S D P G C) → HandedOut g f scheme m world i (Reports a) → (c : Certificate S D P G C)
+      → reported_certificate a ≡ Some c → g.certifies scheme (certificate_statement c) (certified_by c)
 
   -- of the votes that a correct member recorded, two of which one stands in the other's way are for one statement
   abbrev pub OwnVotesAgree : Type 0
-  OwnVotesAgree = (scheme : S) (m : Members S D P G C) (world : World S D P G C) → LiveByNodes g f scheme m world → (i : ℕ) → IsCorrect world i
+  OwnVotesAgree = (scheme : S) (m : Members S D P G C) (world : World S D P G C) → LiveByNodes g f scheme m world → (i : ℕ)
+      → IsCorrect world i
       → (x y : Statement D) → HasVoted (entries (world.recorded i)) x → HasVoted (entries (world.recorded i)) y → StandsInTheWay x y → x ≡ y
 
   -- a member refused an event at a history, for which it blocked another
@@ -520,10 +539,13 @@ module _ {S D P G C : Type 0} (g : Ghosts S D P G C) (f : Formats S D P G C) whe
 
   -- by a refusal alone a correct member blocks a correct one, of a packet that holds no vote
   abbrev pub BlockedByRefusalAlone : Type 0
-  BlockedByRefusalAlone = (scheme : S) (m : Members S D P G C) (world : World S D P G C) → LiveByNodes g f scheme m world → AreFaithful g f scheme m world → DoAttestAlike scheme m world
-      → (i j : ℕ) → IsCorrect world i → IsCorrect world j → HandedOut g f scheme m world i (Blocks j) → (x : IsRefusedFor scheme m world i j) × HoldsNoVote f x.e j
+  BlockedByRefusalAlone = (scheme : S) (m : Members S D P G C) (world : World S D P G C) → LiveByNodes g f scheme m world
+      → AreFaithful g f scheme m world → DoAttestAlike scheme m world
+      → (i j : ℕ) → IsCorrect world i → IsCorrect world j → HandedOut g f scheme m world i (Blocks j)
+      → (x : IsRefusedFor scheme m world i j) × HoldsNoVote f x.e j
 
   -- no correct member blocks a correct one, neither by a refusal nor by a construction
   abbrev pub NoneIsBlamed : Type 0
-  NoneIsBlamed = (scheme : S) (m : Members S D P G C) (world : World S D P G C) → LiveByNodes g f scheme m world → AreFaithful g f scheme m world → DoAttestAlike scheme m world
+  NoneIsBlamed = (scheme : S) (m : Members S D P G C) (world : World S D P G C) → LiveByNodes g f scheme m world
+      → AreFaithful g f scheme m world → DoAttestAlike scheme m world
       → (i j : ℕ) → IsCorrect world i → IsCorrect world j → HandedOut g f scheme m world i (Blocks j) → ⊥

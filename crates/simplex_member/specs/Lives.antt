@@ -95,11 +95,12 @@ module _ {S D P G C : Type 0} (g : Ghosts S D P G C) (f : Formats S D P G C) (s 
   handed_out (Lasting now points turns cut) = all_deeds g f s [] points ++ turn_deeds (after [] points) turns
 
 module _ {S D P G C : Type 0} (g : Ghosts S D P G C) (f : Formats S D P G C) where
-  -- lives of the member that this is a setup of, one after the other: each is set up for it, and finds what the one before has left, which is
-  -- the record at its end, also where that was cut off
+  -- lives of the member that this is a setup of, one after the other: each is set up for it, and finds what the one before has left,
+  -- which is the record at its end, also where that was cut off
   abbrev pub Lives : Setup S D C → List (Artifact S D P G C) → List (Life S D P G C) → List (Artifact S D P G C) → Type 0
   Lives s found [] left = left ≡ found
-  Lives s found (life ∷ lives) left = (end : History S D P G C) × Lived g f life.setup found life.course end × Lives s (record_of end) lives left × IsOfOneMember s life.setup
+  Lives s found (life ∷ lives) left =
+      (end : History S D P G C) × Lived g f life.setup found life.course end × Lives s (record_of end) lives left × IsOfOneMember s life.setup
 
 -- members: a setup of each, of which what is fixed for good counts alone, and its lives
 pub record Members (S D P G C : Type 0) : Type 0 where
@@ -143,8 +144,10 @@ module _ {S D P G C : Type 0} (g : Ghosts S D P G C) (f : Formats S D P G C) (sc
   -- Members that live by their nodes, each on a disk that was empty at first. Of each that isn't excused, the scheme is like the
   -- committee's; its record is what its lives have left; and all that comes in is honest
   pub record LiveByNodes : Type 0 where
-    pub alike : (i : ℕ) → IsCorrect world i → IsAlike world.size (g.attests scheme) (g.size (m.setup i).voter.scheme) (g.attests (m.setup i).voter.scheme)
-    pub owner : (i : ℕ) → IsCorrect world i → owner_of (m.setup i) ≡ record { epoch = world.epoch; term_length = world.term_length; signer = i }
+    pub alike : (i : ℕ) → IsCorrect world i
+        → IsAlike world.size (g.attests scheme) (g.size (m.setup i).voter.scheme) (g.attests (m.setup i).voter.scheme)
+    pub owner : (i : ℕ) → IsCorrect world i
+        → owner_of (m.setup i) ≡ record { epoch = world.epoch; term_length = world.term_length; signer = i }
     pub me : (i : ℕ) → IsCorrect world i → (m.setup i).voter.me ≡ Some i
     pub lived : (i : ℕ) → IsCorrect world i → Lives g f (m.setup i) [] (m.lives i) (world.recorded i)
     pub honest : (i sender : ℕ) → IsCorrect world i → (x : Packet S D P G C) → CameIn i sender x → IsHonestPacket x
@@ -158,9 +161,11 @@ module _ {S D P G C : Type 0} (g : Ghosts S D P G C) (f : Formats S D P G C) (sc
   -- a packet in a correct member's name was handed out by one of its nodes; and each vote and certificate that it recorded can be read:
   -- nothing is recorded that has no spelling
   pub record AreFaithful : Type 0 where
-    pub handed : (i j : ℕ) (e : Event D) (by : Channel) (bytes : List ℕ) → IsCorrect world i → IsCorrect world j → WasHanded i e → Carries e j by bytes
+    pub handed : (i j : ℕ) (e : Event D) (by : Channel) (bytes : List ℕ) → IsCorrect world i → IsCorrect world j → WasHanded i e
+        → Carries e j by bytes
         → (d : Deed S D P G C) × HandedOut j d × HandsOutBytes by bytes d
-    pub readable : (i : ℕ) → IsCorrect world i → (x : Artifact S D P G C) → Contains (world.recorded i) x → IfSome (packet_of x) (IsReadable f)
+    pub readable : (i : ℕ) → IsCorrect world i → (x : Artifact S D P G C) → Contains (world.recorded i) x
+        → IfSome (packet_of x) (IsReadable f)
 
 -- at most as many are excused as may be faulty
 pub record AtMostFLie {S D P G C : Type 0} (world : World S D P G C) : Type 0 where

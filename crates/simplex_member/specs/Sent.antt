@@ -33,10 +33,13 @@ module _ {S D P G C : Type 0} (g : Ghosts S D P G C) (f : Formats S D P G C) whe
 
   -- each vote that a correct member sends was due at its point
   abbrev pub EachVoteSentWasDue : Type 0
-  EachVoteSentWasDue = (scheme : S) (m : Members S D P G C) (world : World S D P G C) → LiveByNodes g f scheme m world → (i : ℕ) → IsCorrect world i
+  EachVoteSentWasDue = (scheme : S) (m : Members S D P G C) (world : World S D P G C) → LiveByNodes g f scheme m world → (i : ℕ)
+      → IsCorrect world i
       → (to : Option ℕ) (v : Vote S D P G C) → HandedOut g f scheme m world i (Sends to (of_vote v)) → WasCastDue m i v
 
   -- none is due where a correct member has answered, be it a reply or an opening, nor is anything else that it does of its own
   abbrev pub NoneIsDueBehindAnswers : Type 0
-  NoneIsDueBehindAnswers = (scheme : S) (m : Members S D P G C) (world : World S D P G C) → LiveByNodes g f scheme m world → (i : ℕ) → IsCorrect world i
-      → (life : Life S D P G C) → Contains (m.lives i) life → (h : History S D P G C) → Contains (answers_of life.course) h → NoneDue g f life.setup h
+  NoneIsDueBehindAnswers = (scheme : S) (m : Members S D P G C) (world : World S D P G C) → LiveByNodes g f scheme m world → (i : ℕ)
+      → IsCorrect world i
+      → (life : Life S D P G C) → Contains (m.lives i) life → (h : History S D P G C) → Contains (answers_of life.course) h
+      → NoneDue g f life.setup h

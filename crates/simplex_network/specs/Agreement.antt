@@ -29,19 +29,26 @@ module _ {S D P G C : Type 0} (g : Ghosts S D P G C) (f : Formats S D P G C) whe
 
   -- no finalized view is nullified, nor is an earlier view of its term
   abbrev pub NoFinalizedViewIsNullified : Type 0
-  NoFinalizedViewIsNullified = (scheme : S) (m : Members S D P G C) (world : World S D P G C) → LiveByNodes g f scheme m world → AtMostFLie world
-      → (c : Finalization S D P G C) (d : Nullification S D P G C) → IsSeen g f scheme m world (certificate.Finalization c) → IsSeen g f scheme m world (certificate.Nullification d)
+  NoFinalizedViewIsNullified = (scheme : S) (m : Members S D P G C) (world : World S D P G C) → LiveByNodes g f scheme m world
+      → AtMostFLie world
+      → (c : Finalization S D P G C) (d : Nullification S D P G C) → IsSeen g f scheme m world (certificate.Finalization c)
+      → IsSeen g f scheme m world (certificate.Nullification d)
       → InCoveringRange world.term_length c.proposal.round.view d.round.view → ⊥
 
   -- no notarized proposal skips a finalized view: none stands above it with a parent below it
   abbrev pub NoFinalizedViewIsSkipped : Type 0
-  NoFinalizedViewIsSkipped = (scheme : S) (m : Members S D P G C) (world : World S D P G C) → LiveByNodes g f scheme m world → AtMostFLie world
-      → (c : Finalization S D P G C) (d : Notarization S D P G C) → IsSeen g f scheme m world (certificate.Finalization c) → IsSeen g f scheme m world (certificate.Notarization d)
+  NoFinalizedViewIsSkipped = (scheme : S) (m : Members S D P G C) (world : World S D P G C) → LiveByNodes g f scheme m world
+      → AtMostFLie world
+      → (c : Finalization S D P G C) (d : Notarization S D P G C) → IsSeen g f scheme m world (certificate.Finalization c)
+      → IsSeen g f scheme m world (certificate.Notarization d)
       → d.proposal.parent < c.proposal.round.view → c.proposal.round.view < d.proposal.round.view → ⊥
 
   -- by one elector, finalized views lie on one chain: from each finalized proposal the parents lead down to each that is finalized of a view
   -- no higher
   abbrev pub FinalizedViewsLieOnOneChain : Type 0
-  FinalizedViewsLieOnOneChain = (scheme : S) (m : Members S D P G C) (world : World S D P G C) → LiveByNodes g f scheme m world → AtMostFLie world → HaveOneElector g f scheme m world
-      → (c d : Finalization S D P G C) → IsSeen g f scheme m world (certificate.Finalization c) → IsSeen g f scheme m world (certificate.Finalization d)
-      → d.proposal.round.view ≤ c.proposal.round.view → (path : List (Proposal D)) × LeadDown (g.attests scheme) g.lists world c.proposal path d.proposal
+  FinalizedViewsLieOnOneChain = (scheme : S) (m : Members S D P G C) (world : World S D P G C) → LiveByNodes g f scheme m world
+      → AtMostFLie world → HaveOneElector g f scheme m world
+      → (c d : Finalization S D P G C) → IsSeen g f scheme m world (certificate.Finalization c)
+      → IsSeen g f scheme m world (certificate.Finalization d)
+      → d.proposal.round.view ≤ c.proposal.round.view
+      → (path : List (Proposal D)) × LeadDown (g.attests scheme) g.lists world c.proposal path d.proposal

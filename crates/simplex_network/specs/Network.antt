@@ -1,6 +1,7 @@
--- A network: a committee of which some may do anything, and what each of the others was handed, did, and recorded. What is asked of one is said
--- where it is needed: that the others live by their nodes (`LiveByNodes`), which holds of what comes in alone that no verifying vote in the name
--- of one of them is on what that member recorded no vote for; that no more are excused than may be faulty (`AtMostFLie`); and one elector.
+-- A network: a committee of which some may do anything, and what each of the others was handed, did, and recorded. What is asked of one
+-- is said where it is needed: that the others live by their nodes (`LiveByNodes`), of which what comes in has to meet one thing alone, that
+-- no verifying vote in the name of one of them is on what that member recorded no vote for; that no more are excused than may be faulty
+-- (`AtMostFLie`); and that they have one elector (`HaveOneElector`).
 use Rattle.std.specs.Prelude.{◌≡◌, ◌⊎◌, ℕ, Option, Some}
 use Rattle.types_core.specs.declared.scheme.Scheme.{Ghosts}
 use Rattle.messages_certificates.specs.declared.certificate.Certificate.{Certificate}

@@ -8,9 +8,7 @@ ghost use Rattle.simplex_network.specs.Accountability.{JoinedAreAudited, Reporte
 ghost use Rattle.simplex_network.specs.Agreement.{FinalizedViewsLieOnOneChain, NoFinalizedViewIsNullified, NoFinalizedViewIsSkipped, NoViewHasTwoProposals};
 
 use crate::laws::{accountability, agreement};
-use simplex_member::{
-    Speaks, none_stays_unsent, packets_are_read_back, sent_votes_were_due,
-};
+use simplex_member::{Speaks, none_stays_unsent, packets_are_read_back, sent_votes_were_due};
 use simplex_messages::Activity;
 use types_core::{Digest, Listing, Read, Write};
 
