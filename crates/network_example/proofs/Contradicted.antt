@@ -1,10 +1,10 @@
 -- The example of contradictory certificates: the member's lives, and what it reported.
-use Rattle.std.proofs.Common.{◌≡◌, ◌≢◌, ◌⊎◌, inl, inr, ⊎_elim, ℕ, ◌<◌, ◌≤◌, ◌+◌, ◌^◌, ◌==◌, Bool, true, false, List, [], ◌∷◌, ◌++◌, Option, Some, None, refl, sym, ◌∙◌, ap, subst, arith}
-use Rattle.std.specs.Prelude.{All, Contains, if◌then◌else◌, nat_lt, unwrap_or}
+use Rattle.std.proofs.Common.{◌≡◌, ◌⊎◌, inl, inr, ⊎_elim, ℕ, ◌<◌, ◌≤◌, ◌+◌, ◌^◌, ◌==◌, Bool, true, false, List, [], ◌∷◌, ◌++◌, Option, Some, None, refl, sym, ◌∙◌, ap, subst, arith}
+use Rattle.std.specs.Prelude.{All, Contains, if◌then◌else◌, nat_lt, unwrap_or, ⊤}
 use Rattle.std.specs.declared.cmp.Ordering.{Ordering}
 use Rattle.std.proofs.lemmas.Bool.{both_ways, cases_lt, eqb-true}
 use Rattle.std.proofs.lemmas.List.Elements.{All-cons, All-contains, All-nil}
-use Rattle.types_quorum.specs.Committee.{faults, quorum}
+use Rattle.types_quorum.specs.Committee.{quorum}
 use Rattle.types_quorum.specs.Counting.{Contains-cases, Contains-nil}
 use Rattle.types_core.specs.declared.scheme.Scheme.{Ghosts}
 use Rattle.types_core.specs.Subject.{Statement, notarize, nullify, finalize}
@@ -18,7 +18,7 @@ use Rattle.simplex_record.specs.Record as recorded
 use Rattle.simplex_record.specs.Record.{Entry}
 use Rattle.simplex_record.specs.Rules.{AreAlike}
 use Rattle.simplex_record.specs.World.{World, IsCorrect, IsHonest}
-use Rattle.simplex_rules.specs.Audit.{IsVerdict}
+use Rattle.simplex_rules.specs.Accountability.{IsContradicted}
 use Rattle.voter_history.specs.declared.timeout_reason.TimeoutReason.{TimeoutReason}
 use Rattle.voter_history.specs.Held.{Offer, held}
 use Rattle.voter_history.specs.History.{last_finalized}
@@ -33,12 +33,10 @@ use Rattle.simplex_member.specs.declared.event.Channel.{Channel}
 use Rattle.simplex_member.specs.declared.event.Channel.TheVariants as channel
 use Rattle.simplex_member.specs.declared.event.Event.{Event}
 use Rattle.simplex_member.specs.declared.event.Event.TheVariants as event
-use Rattle.simplex_member.specs.declared.refusal.Refusal.TheVariants as refusal
 use Rattle.simplex_member.specs.Asked.{build_at}
 use Rattle.simplex_member.specs.Deeds.{Reports}
 use Rattle.simplex_member.specs.First.{IsFirst}
 use Rattle.simplex_member.specs.Layers.{current_of, floor_of, latest, repair_of, voter_of, votes_of, votes_setup}
-use Rattle.simplex_member.specs.Laws.{IsExact}
 use Rattle.simplex_member.specs.Lives.{Holds, IsHonestPacket, Life, Lived, LiveByNodes, Lives, Members, events_of}
 use Rattle.simplex_member.specs.Member.{Goes, IsLooked, IsPacketPoint, IsPointOf, NoneDue}
 use Rattle.simplex_member.specs.Packet.{Formats, Packet, of_certificate}
@@ -545,7 +543,7 @@ module _ {S D P G C : Type 0} (g : Ghosts S D P G C) (f : Formats S D P G C) (cm
 
   pub is-named : ReportedNameEnough g f cmp → IsNamedFor g f cmp scheme x
   is-named law =
-      let both = inr (inr (record {
+      let both : IsContradicted {S = S} {D = D} {P = P} {G = G} {C = C} (λ y c. ⊤) (both_reports x) second = inr (inr (record {
         first = nullification x;
         second = finalization x;
         first_is_held = (1, last-of-two, refl);

@@ -1,5 +1,5 @@
 -- A voter's history to which nothing but certificates came, none of them a notarization: what its views see, and whom it knows as leaders.
-use Rattle.std.proofs.Common.{◌≡◌, ◌⊎◌, inl, inr, ℕ, zero, suc, ◌+◌, ◌≤◌, ◌<◌, ◌-◌, ◌==◌, Bool, true, false, List, [], ◌∷◌, Option, Some, None, refl, sym, ap, subst, arith}
+use Rattle.std.proofs.Common.{◌≡◌, ◌⊎◌, inl, inr, ℕ, zero, suc, ◌+◌, ◌<◌, ◌-◌, ◌==◌, Bool, true, false, List, [], ◌∷◌, Option, Some, None, refl, sym, ap, subst, arith}
 use Rattle.std.specs.Prelude.{if◌then◌else◌, max, nat_lt, ⊤}
 use Rattle.std.specs.Option.{option_or}
 use Rattle.std.proofs.lemmas.Bool.{both_ways, eqb-true}
@@ -9,7 +9,7 @@ use Rattle.voter_history.specs.Past as past
 use Rattle.voter_history.specs.Past.{Item}
 use Rattle.voter_history.specs.Pasts.{put}
 use Rattle.voter_history.specs.History as views
-use Rattle.voter_history.specs.History.{started, nullified, finalized, sent, pruned, current, enter, last_finalized, later, min_active, seen, sent_item}
+use Rattle.voter_history.specs.History.{started, nullified, finalized, sent, pruned, current, enter, last_finalized, later, min_active, seen}
 use Rattle.voter_history.specs.Leaders.{extend, handoff_leader, inherits, leader, named, named_early}
 use Rattle.types_terms.specs.declared.kind.Kind.TheVariants as kind
 

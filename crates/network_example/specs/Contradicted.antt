@@ -1,6 +1,6 @@
 -- A committee of four of which three are excused. They finalize a view and give it up too; the fourth takes both certificates and
 -- reports them. It has crashed before, right behind an opening, and lives on with another time for leaders.
-use Rattle.std.specs.Prelude.{◌≡◌, ◌≢◌, ◌<◌, ◌+◌, ℕ, false, List, [], ◌∷◌, Contains, Some, None, ⊤}
+use Rattle.std.specs.Prelude.{◌≡◌, ◌≢◌, ℕ, false, List, [], ◌∷◌, Contains, Some, None, ⊤}
 use Rattle.std.specs.declared.cmp.Ordering.{Ordering}
 use Rattle.types_core.specs.declared.attestation.Attestation.{Attestation}
 use Rattle.types_core.specs.declared.position.Round.{Round}
@@ -22,7 +22,7 @@ use Rattle.simplex_record.specs.World.{World, IsAlike, IsCorrect}
 use Rattle.simplex_member.specs.declared.event.Channel.TheVariants as channel
 use Rattle.simplex_member.specs.declared.event.Event.{Event}
 use Rattle.simplex_member.specs.declared.event.Event.TheVariants as event
-use Rattle.simplex_member.specs.Lives.{Course, Life, Broken, Lasting, LiveByNodes, Members, Went}
+use Rattle.simplex_member.specs.Lives.{Course, Broken, Lasting, LiveByNodes, Members, Went}
 use Rattle.simplex_member.specs.Packet.{Formats, of_certificate}
 use Rattle.simplex_member.specs.Point.{Opened, Began, Came, Told, Leads}
 use Rattle.simplex_member.specs.Setup.{Setup}
