@@ -408,8 +408,8 @@ module _ {S D P G C : Type 0} (g : Ghosts S D P G C) (f : Formats S D P G C) (s 
     backed-too : (x : Statement D) (c : C) → g.certifies t.voter.scheme x c → IsQuorum (g.size t.voter.scheme) (λ i a. g.attests t.voter.scheme i x a) (g.lists c)
     backed-too x c = subst (λ (own : S). g.certifies own x c → IsQuorum (g.size own) (λ i a. g.attests own i x a) (g.lists c)) (sym same.scheme) (backed x c)
 
-    alone-on : (r : List (Artifact S D P G C)) → Alone g f s r → Alone g f t r
-    alone-on r is = ground-by g t s (same-turned g s t same) (λ n views leader i. StandsAlone views leader i (entries r)) is
+    alone-there : (r : List (Artifact S D P G C)) → Alone g f s r → Alone g f t r
+    alone-there r is = ground-by g t s (same-turned g s t same) (λ n views leader i. StandsAlone views leader i (entries r)) is
 
     alone-back : (r : List (Artifact S D P G C)) → Alone g f t r → Alone g f s r
     alone-back r is = ground-by g s t same (λ n views leader i. StandsAlone views leader i (entries r)) is
@@ -417,12 +417,12 @@ module _ {S D P G C : Type 0} (g : Ghosts S D P G C) (f : Formats S D P G C) (s 
     leaves-alone : (found : List (Artifact S D P G C)) (life : Course S D P G C) (end : History S D P G C) → Lived g f t found life end → Alone g f s found → Alone g f s (record_of end)
     leaves-alone found life end lived alone = alone-back (record_of end)
         (life-alone g f t law notarize_law verdict stays laws mine-too one-too (same.me ∙ first) backed-too found life end lived
-        (life-own g f t law notarize_law verdict stays laws mine-too one-too (same.me ∙ first) backed-too found life end lived) (alone-on found alone)).alone
+        (life-own g f t law notarize_law verdict stays laws mine-too one-too (same.me ∙ first) backed-too found life end lived) (alone-there found alone)).alone
 
     part-of : (found : List (Artifact S D P G C)) (life : Course S D P G C) (end : History S D P G C) → Lived g f t found life end → Alone g f s found
         → (before behind : List (Point S D P G C)) → points_of life ≡ before ++ behind → is_begun (after [] before) ≡ true → IsAlone g f t (after [] before)
     part-of found life end lived alone before behind split begun =
-        life-part g f t law notarize_law verdict stays laws mine-too one-too (same.me ∙ first) backed-too found life end lived (alone-on found alone) before behind split begun
+        life-part g f t law notarize_law verdict stays laws mine-too one-too (same.me ∙ first) backed-too found life end lived (alone-there found alone) before behind split begun
 
     stands-next : (h : History S D P G C) → IsAlone g f t h → (p : Point S D P G C) → Allowed g f t h p
         → IfSome (recorded_by p) (λ x. MayFollowOnGround 1 s.voter.length (scheduled_leader s.voter) s.me (entries (record_of h)) (entry x))
