@@ -43,7 +43,7 @@ returns g c = record {
       (λ more.
       let t = life.setup in
       let own = (lived-among g.S.Scheme f s [] (m.lives i) left life lived.lives at.among).own in
-      let other : g.S.Scheme.size t.voter.scheme ≢ 1 = λ one. apart (sym more ∙ same-number size 1 (sym (ap (λ (k : _). g.S.Scheme.size k) own.scheme) ∙ one)) in
+      let other : g.S.Scheme.size t.voter.scheme ≢ 1 = λ one. apart (sym more ∙ same-number size 1 (sym (ap g.S.Scheme.size own.scheme) ∙ one)) in
       let by : t.voter.me ≡ Some t.me = own.voter_me ∙ (lived.me ∙ ap (λ (n : ℕ). Some n) (sym own.me)) in
       ground-by g.S.Scheme s t own (λ n views leader k. MayFollowOnGround n views leader k (entries (record_of h)) (entry x))
       (if-some (Stands g.S.Scheme f t c.what_is_known_is_recorded.ensures c.what_is_due_stands_on_ground.ensures.verdict other c.what_is_due_stands_on_ground.ensures.notarize (c.rounds_obey.ensures f exact) by h) (recorded_by p) x
