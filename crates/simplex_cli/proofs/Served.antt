@@ -34,24 +34,24 @@ is_broken_off why (inr is) = inr (ap broken_off is)
 module _ {S L D P G C K : Type 0} (g : Ghosts S D P G C) (e : elector.Ghosts L S D P G C) (k : disk.Ghosts K) (f : Formats S D P G C) (s : Setup S D C)
     (F : D → Type 0) (p : D → List ℕ) (w : Reply S D P G C → List ℕ) (q : List ℕ → Result (D × List ℕ) CodecError) where
   -- by what is said of the node that was left
-  pub served : {A : Type 0} (h : History S D P G C) (node : Node S L D K P G C) (r : Result A IoFault) (given text more : Option (List ℕ))
-      → EndsIn F p w q (RunsTo g e k f s h node) (RunFails g e k f s h node) r given text more → EndsIn F p w q (Answers g f s h) (AnswersBefore g f s h) r given text more
-  served h node r given text more =
-      ends_as F p w q (RunsTo g e k f s h node) (RunFails g e k f s h node) (Answers g f s h) (AnswersBefore g f s h)
+  pub served : {A : Type 0} (h : History S D P G C) (node : Node S L D K P G C) (ReadFailed : Type 0) (r : Result A IoFault) (given text more : Option (List ℕ))
+      → EndsIn F p w q (RunsTo g e k f s h node) (RunFails g e k f s h node) ReadFailed r given text more → EndsIn F p w q (Answers g f s h) (AnswersBefore g f s h) ReadFailed r given text more
+  served h node ReadFailed r given text more =
+      ends_as F p w q (RunsTo g e k f s h node) (RunFails g e k f s h node) ReadFailed (Answers g f s h) (AnswersBefore g f s h)
       (λ events replies runs. (runs.end, runs.run)) (λ events replies event why fails. (fails.runs.end, fails.runs.run)) r given text more
 
   -- behind the opening of a record, whose first reply was written
-  pub served_over : (Readable : Artifact S D P G C → Type 0) (on : K) (now : ℕ) (node : Node S L D K P G C) (first : Reply S D P G C) (r : Result ⊤ Ending) (given text mid more : Option (List ℕ))
+  pub served_over : (Readable : Artifact S D P G C → Type 0) (on : K) (now : ℕ) (node : Node S L D K P G C) (first : Reply S D P G C) (ReadFailed : Type 0) (r : Result ⊤ Ending) (given text mid more : Option (List ℕ))
       → first.refused ≡ None → IsOpenAndSettled g e k f s Readable on now node first.actions.items → Appends text mid (w first)
-      → ((h : History S D P G C) → NodeKeeps g e k f s node h → (ended : Result ⊤ IoFault) × (r ≡ ended_of ended) × EndsIn F p w q (Answers g f s h) (AnswersBefore g f s h) ended given mid more)
-      → (ended : Result ⊤ IoFault) × (r ≡ ended_of ended) × ServesOver g k f s F p w q Readable on now ended given text more
-  served_over Readable on now node first r given text mid more taken settled whole serves =
+      → ((h : History S D P G C) → NodeKeeps g e k f s node h → (ended : Result ⊤ IoFault) × (r ≡ ended_of ended) × EndsIn F p w q (Answers g f s h) (AnswersBefore g f s h) ReadFailed ended given mid more)
+      → (ended : Result ⊤ IoFault) × (r ≡ ended_of ended) × ServesOver g k f s F p w q Readable on now ReadFailed ended given text more
+  served_over Readable on now node first ReadFailed r given text mid more taken settled whole serves =
       let this = serves settled.end settled.keeps in
       (this.0, this.1, record { found = settled.found; are_found = settled.are_found; first = first; taken = taken; end = settled.end; opens = settled.opens; serves = inl (mid, whole, this.2) })
 
   -- of which only a front was
-  pub served_not : (Readable : Artifact S D P G C → Type 0) (on : K) (now : ℕ) (node : Node S L D K P G C) (first : Reply S D P G C) (why : IoFault) (given text more : Option (List ℕ))
+  pub served_not : (Readable : Artifact S D P G C → Type 0) (on : K) (now : ℕ) (node : Node S L D K P G C) (first : Reply S D P G C) (ReadFailed : Type 0) (why : IoFault) (given text more : Option (List ℕ))
       → first.refused ≡ None → IsOpenAndSettled g e k f s Readable on now node first.actions.items → (why ≡ fault.Memory) ⊎ (why ≡ fault.Write) → AppendsFront text more (w first)
-      → ServesOver g k f s F p w q Readable on now (broken_off why) given text more
-  served_not Readable on now node first why given text more taken settled faults front =
+      → ServesOver g k f s F p w q Readable on now ReadFailed (broken_off why) given text more
+  served_not Readable on now node first ReadFailed why given text more taken settled faults front =
       record { found = settled.found; are_found = settled.are_found; first = first; taken = taken; end = settled.end; opens = settled.opens; serves = inr (is_broken_off why faults, front) }

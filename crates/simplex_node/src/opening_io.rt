@@ -18,12 +18,11 @@ ghost use Rattle.node_wire.specs.Streaming.{spelled};
 use journal_single::Disk;
 use messages_certificates::Artifact;
 use node_steps::Node;
-use node_wire::write_out;
+use node_wire::{Sink, write_out};
 use simplex_member::{IoFault, OpenFault, Reply, Speaks};
 use std::alloc::Global;
-use std::io::Write;
 use std::rc::Rc;
-use types_core::{Digest, Scheme, Write as Spells};
+use types_core::{Digest, Scheme, Write};
 use types_terms::Elector;
 use voter_rules::config::Config;
 
@@ -33,8 +32,8 @@ use voter_rules::config::Config;
 /// # Errors
 ///
 /// Those of [`Node::open`], with the disk: then nothing was written. Beside the node [`IoFault::Memory`] where there is none for the
-/// reply's bytes: then nothing was written, and [`IoFault::Write`] where a write failed: then a front of them was.
-pub fn open_io<S: Scheme<D> + Drop, L: Elector<S, D>, D: Digest, K: Disk, W: Write>(
+/// reply's bytes: then nothing was written, and [`IoFault::Write`] where a write or the flush failed: then a front of them was.
+pub fn open_io<S: Scheme<D> + Drop, L: Elector<S, D>, D: Digest, K: Disk, W: Sink>(
     alloc: Global,
     config: Config<D>,
     scheme: Rc<S>,
@@ -54,6 +53,11 @@ pub fn open_io<S: Scheme<D> + Drop, L: Elector<S, D>, D: Digest, K: Disk, W: Wri
     ensures no_memory { IfOk result (λ r. r.1 ≡ Err fault.Memory → writer.new ≡ writer.old) }
     ensures unwritten { OnErr result (writer.new ≡ writer.old) }
 
+    // Writing failed exactly where that is told, and what was written is flushed.
+    ensures write_failed { IfOk result (λ r. r.1 ≡ Err fault.Write → W.failed writer.new ≡ counted false (W.failed writer.old)) }
+    ensures write { IfOk result (λ r. r.1 ≢ Err fault.Write → W.failed writer.new ≡ W.failed writer.old) }
+    ensures flushed { IfOk result (λ r. OnOk r.1 (W.is_flushed writer.new)) }
+
     // What is wrong with the arguments is told first, the first that applies, and the disk was not touched.
     ensures early { IfErr result (λ r.
         IfSome (early r.0)
@@ -67,7 +71,7 @@ pub fn open_io<S: Scheme<D> + Drop, L: Elector<S, D>, D: Digest, K: Disk, W: Wri
         (place : ℕ)
         → r.0 ≡ open_fault.Foreign place
         → K.keeps
-        → IsForeign [] ⟦<S as Speaks<D>>⟧.readable ⟦<Artifact<S, D> as Spells>⟧.spelling (K.seen disk) place) }
+        → IsForeign [] ⟦<S as Speaks<D>>⟧.readable ⟦<Artifact<S, D> as Write>⟧.spelling (K.seen disk) place) }
     ensures contradiction { IfErr result (λ r.
         (position index : ℕ)
         → S.own scheme.value ≡ Some index
