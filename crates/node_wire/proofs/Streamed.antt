@@ -178,6 +178,7 @@ module _ {S D P G C N : Type 0} (steps : N → Event D → Result (Reply S D P G
       pub ends_unread : (A : Type 0) (old new : N) (given left : Option (List ℕ)) (state : InputState) (text more : Option (List ℕ)) (why : IoFault) (Now Failed : Type 0) → (Now → Failed) → state.taken < 2 ^ 32
           → StreamsOn old given left state text more new → IsFault state.place (IsGivenUp F p state left Now) (IfSome left (HasNone q)) why
           → EndsIn F p w {A = A} q (Answer steps old new) (AnswerBefore steps old new) Failed (Err why) given text more
+      unfolding ends_front
       ends_unread A old new given left state text more fault.Read Now Failed turn few so_far is = ends_given_up old new given left state text more Now Failed turn so_far is
       ends_unread A old new given left state text more fault.Write Now Failed turn few so_far is = absurd is
       ends_unread A old new given left state text more (fault.BadEvent at) Now Failed turn few so_far is = record {
@@ -189,7 +190,7 @@ module _ {S D P G C N : Type 0} (steps : N → Event D → Result (Reply S D P G
         written = so_far.written;
       }
       ends_unread A old new given left state text more (fault.Node x) Now Failed turn few so_far is = absurd is
-      ends_unread A old new given left state text more fault.Memory Now Failed turn few so_far is = inl (ends_front old new given left state text more so_far)
+      ends_unread A old new given left state text more fault.Memory Now Failed turn few so_far is = inl (ends_front old new given left state text more so_far, subst (λ (n : ℕ). n < 2 ^ 32) (sym so_far.count) few)
 
       -- what came of the event that was taken last, where its reply was not written whole
       pub ends_unanswered : (A B Failed : Type 0) (old mid new : N) (given left rest : Option (List ℕ)) (state after : InputState) (text now more : Option (List ℕ)) (event : Event D) (why : IoFault)

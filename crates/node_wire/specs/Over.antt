@@ -29,7 +29,7 @@ module _ {S D P G C : Type 0} (F : D → Type 0) (p : D → List ℕ) (w : Reply
     ends_by (Err fault.Write) given text more all last ends = all ends.events (ends.replies ++ ends.reply ∷ []) ends.answered (λ why is. absurd cc)
     ends_by (Err (fault.BadEvent place)) given text more all last ends = all ends.events ends.replies ends.answered (λ why is. absurd cc)
     ends_by (Err (fault.Node why)) given text more all last ends = last ends.events ends.replies ends.event why refl ends.failed
-    ends_by (Err fault.Memory) given text more all last (inl ends) = all ends.events ends.replies ends.answered (λ why is. absurd cc)
+    ends_by (Err fault.Memory) given text more all last (inl (ends, few)) = all ends.events ends.replies ends.answered (λ why is. absurd cc)
     ends_by (Err fault.Memory) given text more all last (inr (ends, none)) = all ends.events (ends.replies ++ ends.reply ∷ []) ends.answered (λ why is. absurd cc)
 
     -- the events that were stepped over stand at the input's front, and have Q where that follows from what holds of them
@@ -42,7 +42,7 @@ module _ {S D P G C : Type 0} (F : D → Type 0) (p : D → List ℕ) (w : Reply
     ends_over Q (Err fault.Write) given text more all last ends = (ends.events, ends.read, all ends.events (ends.replies ++ ends.reply ∷ []) ends.answered)
     ends_over Q (Err (fault.BadEvent place)) given text more all last ends = (ends.events, all_in_front given ends.events (Some place) ends.read, all ends.events ends.replies ends.answered)
     ends_over Q (Err (fault.Node why)) given text more all last ends = (ends.events ++ ends.event ∷ [], ends.read, last ends.events ends.replies ends.event why ends.failed)
-    ends_over Q (Err fault.Memory) given text more all last (inl ends) = (ends.events, ends.read, all ends.events ends.replies ends.answered)
+    ends_over Q (Err fault.Memory) given text more all last (inl (ends, few)) = (ends.events, ends.read, all ends.events ends.replies ends.answered)
     ends_over Q (Err fault.Memory) given text more all last (inr (ends, none)) = (ends.events, ends.read, all ends.events (ends.replies ++ ends.reply ∷ []) ends.answered)
 
     module _ (Other : List (Event D) → List (Reply S D P G C) → Type 0) (Differs : List (Event D) → List (Reply S D P G C) → Event D → NodeFault → Type 0) (all : (events : List (Event D)) → (replies : List (Reply S D P G C)) → Answered events replies → Other events replies)
@@ -73,13 +73,13 @@ module _ {S D P G C : Type 0} (F : D → Type 0) (p : D → List ℕ) (w : Reply
 
       -- and where the last step failed
       pub ends_as : {A : Type 0} (r : Result A IoFault) (given text more : Option (List ℕ)) → EndsIn F p w q Answered Failed ReadFailed r given text more → EndsIn F p w q Other Differs ReadFailed r given text more
-      unfolding other_broken other_given_up
+      unfolding other_broken other_front other_given_up
       ends_as (Ok x) given text more ends = other_all given None text more ends
       ends_as (Err fault.Read) given text more ends = other_given_up given text more ends
       ends_as (Err fault.Write) given text more ends = other_broken given text more ends
       ends_as (Err (fault.BadEvent place)) given text more ends = other_all given (Some place) text more ends
       ends_as (Err (fault.Node why)) given text more ends = record { events = ends.events; event = ends.event; read = ends.read; replies = ends.replies; failed = last ends.events ends.replies ends.event why ends.failed; written = ends.written }
-      ends_as (Err fault.Memory) given text more (inl ends) = inl (other_front given text more ends)
+      ends_as (Err fault.Memory) given text more (inl (ends, few)) = inl (other_front given text more ends, few)
       ends_as (Err fault.Memory) given text more (inr (ends, none)) = inr (other_broken given text more ends, none)
 
     -- by what follows of a read that failed

@@ -97,4 +97,6 @@ module _ {S D P G C : Type 0} (F : D → Type 0) (p : D → List ℕ) (w : Reply
   EndsIn q Answered Failed ReadFailed (Err fault.Write) given text more = BreaksOff Answered given text more
   EndsIn q Answered Failed ReadFailed (Err (fault.BadEvent place)) given text more = AnswersAll Answered q given (Some place) text more
   EndsIn q Answered Failed ReadFailed (Err (fault.Node why)) given text more = Fails Failed why given text more
-  EndsIn q Answered Failed ReadFailed (Err fault.Memory) given text more = AnswersFront Answered given text more ⊎ ((broken : BreaksOff Answered given text more) × (broken.front ≡ []))
+  EndsIn q Answered Failed ReadFailed (Err fault.Memory) given text more =
+      ((ends : AnswersFront Answered given text more) × (length ends.events < 2 ^ 32))
+      ⊎ ((broken : BreaksOff Answered given text more) × (broken.front ≡ []))
