@@ -1,6 +1,6 @@
 //! Readers and writers of the standard library, with their faults counted.
 
-ghost use Rattle.std.specs.Prelude.{◌≡◌, Some, true};
+ghost use Rattle.std.specs.Prelude.{◌≡◌, Some, false, true};
 ghost use Rattle.journal_single.specs.Disk.{counted};
 
 use crate::streams::{Sink, Source, StreamFault};
