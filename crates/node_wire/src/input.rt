@@ -1,6 +1,6 @@
 //! The events of an input, one by one.
 
-ghost use Rattle.std.specs.Prelude.{◌≡◌, ◌≢◌, ◌↔◌, ◌⊎◌, ◌<◌, ◌≤◌, ◌^◌, [], ◌++◌, drop, length, false, Err, Some, IfErr, IfNone, IfOk, IfSome, IsTrue, OnErr, OnOk};
+ghost use Rattle.std.specs.Prelude.{◌≡◌, ◌≢◌, ◌↔◌, ◌⊎◌, ◌<◌, ◌≤◌, ◌^◌, [], ◌++◌, drop, length, false, true, Err, Some, IfErr, IfNone, IfOk, IfSome, IsTrue, OnErr, OnOk};
 ghost use Rattle.std.specs.Io.KnownBytes.{IsAtEnd, Keeps};
 ghost use Rattle.journal_single.specs.Disk.{counted};
 ghost use Rattle.types_codec.specs.declared.codec.CodecError.TheVariants.{End, Memory as NoMemory};
@@ -74,7 +74,7 @@ impl EventInput {
 
     /// Whether as many events were taken as may be.
     pub(crate) fn is_spent(&self) -> bool
-        ensures spent { IsTrue result → self.now.taken ≡ 2 ^ 32 }
+        ensures spent { result ≡ true → self.now.taken ≡ 2 ^ 32 }
         ensures unspent { result ≡ false → self.now.taken < 2 ^ 32 }
     {
         self.taken >= MOST_EVENTS

@@ -39,7 +39,7 @@ pub returns-in-Err-clause-answers : goal.returns-in-Err-clause-answers
 returns-in-Err-clause-answers g c =
     ends_unread g.T.Stepper.steps g.D.Write.fits g.D.Write.spelling (spelled g.S.PublicKey.Write.spelling g.D.Write.spelling g.S.Signature.Write.spelling g.S.Certificate.Write.spelling) (g.D.Read.reading 65535) ℕ
     c.args.node.now c.loop-input.node (g.R.Source.remaining c.args.reader.now) (left_of c.loop-input.input (g.R.Source.remaining c.loop-input.reader)) c.loop-input.input (g.W.Sink.contents c.args.writer.now) (g.W.Sink.contents c.loop-input.writer) c.in-Err.fault _ _
-    (λ is. is ∙ ap (counted false) c.loop-input.invariant.read) (c.is_spent.ensures.unspent refl) c.loop-input.invariant.so_far c.in-Err.ensures.fault
+    (λ is. is ∙ ap (counted false) c.loop-input.invariant.read) (c.is_spent.ensures.unspent (cc)) c.loop-input.invariant.so_far c.in-Err.ensures.fault
 
 pub returns-in-Err-answer-clause-answers : goal.returns-in-Err-answer-clause-answers
 returns-in-Err-answer-clause-answers g c =
@@ -51,12 +51,12 @@ returns-in-Err-answer-clause-answers g c =
 pub returns-in_default-clause-answers : goal.returns-in_default-clause-answers
 returns-in_default-clause-answers g c =
     ends_all g.T.Stepper.steps g.D.Write.fits g.D.Write.spelling (spelled g.S.PublicKey.Write.spelling g.D.Write.spelling g.S.Signature.Write.spelling g.S.Certificate.Write.spelling) (g.D.Read.reading 65535)
-    c.args.node.now c.loop-input.node (g.R.Source.remaining c.args.reader.now) (left_of c.loop-input.input (g.R.Source.remaining c.loop-input.reader)) c.loop-input.input (g.W.Sink.contents c.args.writer.now) (g.W.Sink.contents c.loop-input.writer) (c.is_spent.ensures.unspent refl) c.loop-input.invariant.so_far (rw c.in_default.is at c.in-Ok.ensures.end)
+    c.args.node.now c.loop-input.node (g.R.Source.remaining c.args.reader.now) (left_of c.loop-input.input (g.R.Source.remaining c.loop-input.reader)) c.loop-input.input (g.W.Sink.contents c.args.writer.now) (g.W.Sink.contents c.loop-input.writer) (c.is_spent.ensures.unspent (cc)) c.loop-input.invariant.so_far (rw c.in_default.is at c.in-Ok.ensures.end)
 
 pub returns-clause-answers : goal.returns-clause-answers
 returns-clause-answers g c =
     ends_given_up g.T.Stepper.steps g.D.Write.fits g.D.Write.spelling (spelled g.S.PublicKey.Write.spelling g.D.Write.spelling g.S.Signature.Write.spelling g.S.Certificate.Write.spelling)
-    c.args.node.now c.loop-input.node (g.R.Source.remaining c.args.reader.now) (left_of c.loop-input.input (g.R.Source.remaining c.loop-input.reader)) c.loop-input.input (g.W.Sink.contents c.args.writer.now) (g.W.Sink.contents c.loop-input.writer) ⊥ _ (λ no. absurd no) c.loop-input.invariant.so_far (inl (c.is_spent.ensures.spent tt))
+    c.args.node.now c.loop-input.node (g.R.Source.remaining c.args.reader.now) (left_of c.loop-input.input (g.R.Source.remaining c.loop-input.reader)) c.loop-input.input (g.W.Sink.contents c.args.writer.now) (g.W.Sink.contents c.loop-input.writer) ⊥ _ (λ no. absurd no) c.loop-input.invariant.so_far (inl (c.is_spent.ensures.spent (cc)))
 
 pub returns-in-Err-answer-clause-untouched : goal.returns-in-Err-answer-clause-untouched
 returns-in-Err-answer-clause-untouched g c = λ none.
