@@ -136,9 +136,11 @@ impl Streams {
         let status = tell(say.alloc, ended, &mut faults);
         say.number(u64::from(status))?;
         say.gap()?;
-        say.number(input.into_inner().left() as u64)?;
+        let input = input.into_inner();
+        let output = output.into_inner();
+        say.number(input.left() as u64)?;
         say.gap()?;
-        say.bytes(output.into_inner().taken())?;
+        say.bytes(output.taken())?;
         say.gap()?;
         say_text(faults.taken(), say)?;
         Ok(disk)
