@@ -406,7 +406,7 @@ module _ {S L D P G C K : Type 0} (g : Ghosts S D P G C) (e : elector.Ghosts L S
   pub behind_look : (node : Core S L D K P G C) (voter : State S L D P G C) (h : History S D P G C) → QuietStays g f.same → CoreKeeps g e k f s node h → voting.Keeps g e s.voter voter (voter_of s (Looks ∷ h))
       → KeepsTables (finalized_of s h) node.tables (Looks ∷ h) → CoreKeeps g e k f s (record node { voter = voter }) (Looks ∷ h)
   behind_look node voter h quiet keeps looks tables =
-      stands_behind g e k f s node voter node.tables h Looks quiet (λ view. (refl, λ r. refl)) refl keeps.begun refl refl keeps (record { order = keeps.begun; due = tt; fits = tt }) looks tables
+      stands_behind g e k f s node voter node.tables h Looks quiet (λ view. (refl, λ r. refl)) refl keeps.begun refl refl keeps (record { order = keeps.begun; due = tt; fits = tt; readable = tt }) looks tables
 
   -- behind the recorded nullify that is said once more too
   pub behind_repeat : (node : Core S L D K P G C) (voter : State S L D P G C) (h : History S D P G C) (v : Nullify S D P G C) (best : Option (Certificate S D P G C)) (view : ℕ) → QuietStays g f.same
@@ -477,6 +477,7 @@ module _ {S D P G C : Type 0} (g : Ghosts S D P G C) (f : Formats S D P G C) (s 
             best_is = best_is;
           };
           fits = tt;
+          readable = tt;
         },
         here,
       )

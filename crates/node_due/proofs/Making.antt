@@ -193,7 +193,7 @@ module _ {S L D P G C K : Type 0} (g : Ghosts S D P G C) (e : elector.Ghosts L S
     pub forwards : (p : Proposal D) → accepting.Does g f.same s h acceptance view (due.Forwards p) → VotesAreAhead g e k f s (record node { acceptance = acceptance }) h (Forwards view p) × Allowed g f s h (Forwards view p)
     forwards p does = (
       record { acceptance = node.acceptance; keeps = keeps; ahead = does.2 },
-      record { order = keeps.begun; due = (does.0, does.1); fits = tt },
+      record { order = keeps.begun; due = (does.0, does.1); fits = tt; readable = tt },
     )
 
     -- a construction of them was made, of a kind

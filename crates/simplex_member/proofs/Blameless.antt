@@ -1,6 +1,6 @@
 -- No correct member blocks a correct one.
 use Rattle.std.proofs.Common.{◌≡◌, ⊎_elim, ℕ, Bool, true, false, List, [], ◌∷◌, ◌++◌, Option, Some, refl, sym, ◌∙◌, ap, subst}
-use Rattle.std.specs.Prelude.{Contains, if◌then◌else◌, ⊤}
+use Rattle.std.specs.Prelude.{Contains, if◌then◌else◌, ⊤, IfSome}
 use Rattle.std.proofs.lemmas.Option.{none-some}
 use Rattle.std.proofs.lemmas.List.Elements.{Contains-append_cases}
 use Rattle.types_quorum.specs.Counting.{Contains-nil}
@@ -28,7 +28,7 @@ use Rattle.simplex_member.specs.Deeds.{Deed, Sends, Serves, Blocks, Reports}
 use Rattle.simplex_member.specs.First.{IsFirst}
 use Rattle.simplex_member.specs.Laws.{AreReadBack, DoAttestAlike, HoldsNoVote, IsRefusedFor, RecordLaws, RoundLaws}
 use Rattle.simplex_member.specs.Lives.{AreFaithful, AreMembers, Carries, HandedOut, HandsOutBytes, Members}
-use Rattle.simplex_member.specs.Packet.{Formats, IsReadable, Packet, of_vote, of_certificate, of_ask, packet_channel}
+use Rattle.simplex_member.specs.Packet.{Formats, IsReadable, Packet, of_ask, of_certificate, of_vote, packet_channel, packet_of}
 use Rattle.simplex_member.specs.Point.{Point, History}
 use Rattle.simplex_member.specs.Recorded.{record_of, recorded_by}
 use Rattle.simplex_member.specs.Refusals.{blocks_sender, evidence_deeds, packet_tests, refusal_report, refused_deeds, sender_tests, tests}
@@ -45,6 +45,7 @@ use Rattle.simplex_member.proofs.Serving.{served-spelled}
 use Rattle.simplex_member.proofs.Spared.{evidence-spares, report-spares, sender-alone, spares}
 use Rattle.simplex_member.proofs.Walk.{refused-alone}
 use Rattle.simplex_member.proofs.Walking.{deed-done, reached-goes, reached-heard}
+use Rattle.simplex_member.proofs.Rereading.{left-readable}
 
 module _ {S D P G C : Type 0} where
   -- a deed hands out bytes
@@ -136,9 +137,13 @@ module _ {S D P G C : Type 0} (g : Ghosts S D P G C) (f : Formats S D P G C) (sc
 
       -- a certificate that it recorded can be read
       certificate-readable : (c : Certificate S D P G C) → Contains (world.recorded j) (certificate_artifact c) → IsReadable f (of_certificate c)
-      certificate-readable (certificate.Notarization c) here = faithful.readable j cj (artifact.Notarization c) here
-      certificate-readable (certificate.Nullification c) here = faithful.readable j cj (artifact.Nullification c) here
-      certificate-readable (certificate.Finalization c) here = faithful.readable j cj (artifact.Finalization c) here
+      certificate-readable c here = certificate-read c (back.recorded (certificate_artifact c)
+          (left-readable g f (m.setup j) (m.lives j) (world.recorded j) (w.lived j cj) (certificate_artifact c) here))
+        where
+          certificate-read : (d : Certificate S D P G C) → IfSome (packet_of (certificate_artifact d)) (IsReadable f) → IsReadable f (of_certificate d)
+          certificate-read (certificate.Notarization d) read = read
+          certificate-read (certificate.Nullification d) read = read
+          certificate-read (certificate.Finalization d) read = read
 
       -- and so can an ask that it sends
       ask-readable : (to : Option ℕ) (view : ℕ) → HandedOut g f scheme m world j (Sends to (of_ask view)) → IsReadable f (of_ask view)
@@ -153,7 +158,7 @@ module _ {S D P G C : Type 0} (g : Ghosts S D P G C) (f : Formats S D P G C) (sc
 
       -- so can all that it sends
       sent-readable : (to : Option ℕ) (x : Packet S D P G C) → HandedOut g f scheme m world j (Sends to x) → IsReadable f x
-      sent-readable to (of_vote v) out = vote-readable g f scheme m world faithful j cj v (own-sound g f scheme m world grows w j cj to v out).recorded
+      sent-readable to (of_vote v) out = vote-readable g f scheme m world back w j cj v (own-sound g f scheme m world grows w j cj to v out).recorded
       sent-readable to (of_certificate c) out = certificate-readable c (sent-recorded to c out)
       sent-readable to (of_ask view) out = ask-readable to view out
 

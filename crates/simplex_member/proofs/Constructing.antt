@@ -27,7 +27,7 @@ use Rattle.batcher_verifier.specs.Votes.{is_kind, vote_kind, vote_statement}
 use Rattle.simplex_member.specs.Allowed.{Allowed, AreAllowed, MayRecord}
 use Rattle.simplex_member.specs.Laws.{RecordLaws, RoundLaws}
 use Rattle.simplex_member.specs.Layers.{all_votes, floor_of, is_begun, passes_over, stage, votes_of, votes_setup}
-use Rattle.simplex_member.specs.Packet.{Formats}
+use Rattle.simplex_member.specs.Packet.{Formats, IsRecordable}
 use Rattle.simplex_member.specs.Point.{Point, Constructs, Heard, History}
 use Rattle.simplex_member.specs.Recorded.{record_of}
 use Rattle.simplex_member.specs.Setup.{Setup}
@@ -215,5 +215,9 @@ module _ {S D P G C : Type 0} (g : Ghosts S D P G C) (f : Formats S D P G C) (s 
     made-fits None e = tt
     made-fits (Some c) e = may c e
 
-    pub made-allowed : is_begun h ≡ true → Allowed g f s h (Constructs view kind batch)
-    made-allowed begun = record { order = begun; due = (stage-is, next, is); fits = made-fits batch.certificate refl }
+    made-readable : (o : Option (Certificate S D P G C)) → IfSome o (λ c. IsRecordable f (certificate_artifact c)) → IfSome (option_map certificate_artifact o) (IsRecordable f)
+    made-readable None read = tt
+    made-readable (Some c) read = read
+
+    pub made-allowed : is_begun h ≡ true → IfSome batch.certificate (λ c. IsRecordable f (certificate_artifact c)) → Allowed g f s h (Constructs view kind batch)
+    made-allowed begun read = record { order = begun; due = (stage-is, next, is); fits = made-fits batch.certificate refl; readable = made-readable batch.certificate read }

@@ -50,3 +50,4 @@ mod Nullified
 mod Coming
 mod Completing
 mod Constructing
+mod Rereading

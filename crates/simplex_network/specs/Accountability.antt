@@ -1,19 +1,18 @@
 -- Who is ever blamed, however many members are excused: statements.
-use Rattle.std.specs.Prelude.{◌<◌, ◌+◌, ℕ, List, Contains, ◌≡◌, Option, None, IfSome, Result, ⊤}
+use Rattle.std.specs.Prelude.{◌<◌, ◌+◌, ℕ, List, Contains, ◌≡◌, Option, None, Result, ⊤}
 use Rattle.std.specs.List.{flat_map}
 use Rattle.std.specs.declared.cmp.Ordering.{Ordering}
 use Rattle.types_codec.specs.declared.codec.CodecError.{CodecError}
 use Rattle.types_core.specs.declared.position.Round.{Round}
 use Rattle.types_core.specs.declared.scheme.Scheme.{Ghosts}
 use Rattle.types_quorum.specs.Committee.{faults}
-use Rattle.messages_certificates.specs.declared.artifact.Artifact.{Artifact}
 use Rattle.simplex_messages.specs.declared.activity.Activity.{Activity}
 use Rattle.simplex_rules.specs.Accountability.{IsContradicted, NamesAtLeast}
 use Rattle.simplex_rules.specs.Audit.{Accusation, IsAccused, IsAudit, IsVerdict}
 use Rattle.simplex_record.specs.World.{World, IsCorrect}
 use Rattle.simplex_member.specs.Deeds.{Reports}
 use Rattle.simplex_member.specs.Lives.{AreMembers, HandedOut, Members}
-use Rattle.simplex_member.specs.Packet.{Formats, IsReadable, packet_of}
+use Rattle.simplex_member.specs.Packet.{Formats}
 
 module _ {S D P G C : Type 0} (g : Ghosts S D P G C) (f : Formats S D P G C) where
   -- each of these reports was handed out by a member that isn't excused
@@ -42,13 +41,8 @@ module _ {S D P G C : Type 0} (g : Ghosts S D P G C) (f : Formats S D P G C) whe
       → (round : Round) → IsContradicted (λ x c. ⊤) reports round
       → (named : NamesAtLeast (faults world.size + 1) world.size evidence round) × ((i : ℕ) → Contains named.names i → IsCorrect world i → ⊥)
 
-  -- each vote and certificate that one of these members recorded can be read: nothing is recorded that has no spelling
-  abbrev pub RecordsCanBeRead : World S D P G C → Type 0
-  RecordsCanBeRead world = (i : ℕ) → IsCorrect world i → (x : Artifact S D P G C) → Contains (world.recorded i) x → IfSome (packet_of x) (IsReadable f)
-
-  -- where that is so, their reports, one behind the other as members spell them, are read to their end: an audit of the bytes is one of
-  -- just these reports
+  -- their reports, one behind the other as members spell them, are read to their end: an audit of the bytes is one of just these reports
   abbrev pub JoinedAreAudited : (D → D → Ordering) → S → (Activity S D P G C → Type 0) → (Activity S D P G C → List ℕ) → (List ℕ → Result (Activity S D P G C × List ℕ) CodecError) → Type 0
-  JoinedAreAudited cmp scheme Fits spelling reading = (m : Members S D P G C) (world : World S D P G C) → AreMembers g f scheme m world → RecordsCanBeRead world
+  JoinedAreAudited cmp scheme Fits spelling reading = (m : Members S D P G C) (world : World S D P G C) → AreMembers g f scheme m world
       → (reports evidence : List (Activity S D P G C)) (fault : Option ℕ) → AreReported scheme m world reports
       → IsAudit g.lists (g.attests scheme) cmp Fits spelling reading (flat_map f.report reports) evidence fault → (fault ≡ None) × IsVerdict g.lists (g.attests scheme) cmp reports evidence

@@ -16,7 +16,7 @@ returns g c = record {
   none_blocked = λ f exact back. c.none_is_blamed.ensures f exact back;
   none_named = λ f exact scheme m world w reports evidence told verdict x by correct.
       none-named g.S.Scheme f scheme m world w (c.reports_are_honest.ensures f exact) (c.own_votes_agree.ensures f) reports told g.D.Ord.cmp evidence verdict x by correct;
-  read_to_the_end = λ scheme small m world w records reports evidence fault told audit.
+  read_to_the_end = λ scheme small m world w reports evidence fault told audit.
       let n = g.S.Scheme.size scheme in
       let f : Formats _ _ _ _ _ = formats g.D.PartialEq.eq g.D.Write.spelling g.S.Signature.Write.spelling g.S.Certificate.Write.spelling g.D.Read.reading g.S.Signature.Read.reading g.S.Certificate.Read.reading n in
       let read = c.joined_reports_are_read.ensures n reports audit.reports fault small
@@ -25,7 +25,9 @@ returns g c = record {
       report-fits g.D.PartialEq.eq g.D.Write.spelling g.S.Signature.Write.spelling g.S.Certificate.Write.spelling g.D.Read.reading g.S.Signature.Read.reading g.S.Certificate.Read.reading n
       g.D.Write.fits g.S.Signature.Write.fits g.S.Certificate.Write.fits (g.S.Certificate.Read.within n)
       (bounded-IsCodec (g.met.D.Read.one_spelling n small) (g.met.D.Digest.unbounded n)) (bounded-IsCodec (g.met.S.Signature.Read.one_spelling n small) (g.met.S.Signature.Signature.unbounded n)) (g.met.S.Certificate.Read.one_spelling n small)
-      _ (report-read g.S.Scheme f scheme m world w (c.packets_are_read_back.ensures.read_back n small) records (c.deeds_are_done.ensures f) (c.histories_of_lives_are_gone_to.ensures f)
+      _ (report-read g.S.Scheme f scheme m world w (c.packets_are_read_back.ensures.read_back n small)
+      (λ i correct x here. (c.packets_are_read_back.ensures.read_back n small).recorded x (c.never_foreign.ensures.readable f (m.setup i) (m.lives i) (world.recorded i) (w.lived i correct) x here))
+      (c.deeds_are_done.ensures f) (c.histories_of_lives_are_gone_to.ensures f)
       (c.deeds_are_of_their_points.ensures f) (c.accepted_votes_are_known.ensures f) by.0 by.1 _ by.2))
       audit.read in
       (read.1, subst (λ (rs : List (Activity _ _ _ _ _)). IsVerdict g.S.Scheme.lists (g.S.Scheme.attests scheme) g.D.Ord.cmp rs evidence) read.0 audit.verdict);
