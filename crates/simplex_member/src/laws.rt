@@ -2,9 +2,10 @@
 
 ghost use Rattle.std.specs.Prelude.{◌≡◌, ◌<◌, ◌≤◌, ◌^◌, ℕ};
 ghost use Rattle.types_codec.specs.Codec.{Readable};
+ghost use Rattle.messages_certificates.specs.declared.artifact.Artifact.{Artifact};
 ghost use Rattle.messages_certificates.specs.Artifact.{artifact_fits, artifact_spelling, artifact_within};
 ghost use Rattle.simplex_member.specs.Laws.{AcceptedAreKnown, Agree, AgreeIfHonest, AreReadBack, AwaitedIsJudgeable, AwaitedMayBeRecorded, BlockedByRefusalAlone, CanBeSent, ConstructionsBlockNone, CorrectVotesAreSound, CorrectVotesContradictNone, DeedsAreDone, DeedsAreOfPoints, DueFinalizeMayBeRecorded, DueIsBound, DueMayBeRecorded, DueNullifyMayBeRecorded, EarlyIsInTime, EmptyIsOpened, FinalizeAlike, HandedCertificatesAreSound, IsExact, KnownNullifiesAreRecorded, LeftStandsOnGround, LieOnOneChain, LivesLeaveLawful, LivesLeaveReadable, MadeAreHonest, MadeAreSound, MadeIsAllowed, MadeListVotes, NeverContradicts, NeverForeign, NextStandsOnGround, NoQuorumIsLost, NoneIsBlamed, OneIsRead, OwnVotesAgree, ProposalsLieInTheirViews, ReachedAreGoneTo, RecordLaws, RecordsGrow, RecordsStandOnGround, RecordsStayLawful, ReportedCertify, ReportsAreHonest, RequestsAreTracked, RoundLaws, RunsAreStretches, StepsOfSeveralRaiseLittle, StepsRaiseLittle, ViewsNeverFall, VotersAreOrderly, VotersTellTheRecord, VotesAreLawful, VotesAreRecorded, VotesWereDue};
-ghost use Rattle.simplex_member.specs.Packet.{Formats, formats};
+ghost use Rattle.simplex_member.specs.Packet.{Formats, IsRecordable, formats};
 ghost use Rattle.simplex_member.specs.Setup.{Setup};
 
 use batcher_verifier::{
@@ -378,8 +379,8 @@ pub fn none_is_blamed<S: Listing<D>, D: Digest>()
 }
 
 /// Packets as the messages spell them: payloads that are compared as one are one; and in a committee of each size that
-/// 32 bits can tell, what can be read is read back from its own bytes, and each vote and certificate of a record that
-/// can be written, and is within the committee's bound, can be read as a packet.
+/// 32 bits can tell, what can be read is read back from its own bytes, and each artifact that can be written, and is within
+/// the committee's bound, can be recorded; each vote and certificate of these can be read as a packet.
 pub fn packets_are_read_back<S: Scheme<D>, D: Digest>()
     ensures exact { (n : ℕ)
         → IsExact (formats {S = S} {P = S.PublicKey} D.PartialEq.eq D.spelling S.Signature.spelling S.Certificate.spelling D.reading
@@ -393,4 +394,10 @@ pub fn packets_are_read_back<S: Scheme<D>, D: Digest>()
         → CanBeSent (Readable (artifact_fits D.fits S.Signature.fits S.Certificate.fits) (artifact_within (S.Certificate.within n)))
         (formats {S = S} {P = S.PublicKey} D.PartialEq.eq D.spelling S.Signature.spelling S.Certificate.spelling D.reading
         S.Signature.reading S.Certificate.reading n) }
+    ensures recordable { (n : ℕ)
+        → n < 2 ^ 32
+        → (x : Artifact S D S.PublicKey S.Signature S.Certificate)
+        → Readable (artifact_fits D.fits S.Signature.fits S.Certificate.fits) (artifact_within (S.Certificate.within n)) x
+        → IsRecordable (formats {S = S} {P = S.PublicKey} D.PartialEq.eq D.spelling S.Signature.spelling S.Certificate.spelling D.reading
+        S.Signature.reading S.Certificate.reading n) x }
 {}
