@@ -1,0 +1,4 @@
+pub mod Building
+pub mod Checking
+pub mod Faults
+pub mod Program

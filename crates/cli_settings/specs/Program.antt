@@ -1,0 +1,29 @@
+-- How the program `simplex node` is set up.
+use Rattle.std.specs.Prelude.{ℕ, List, true}
+use Rattle.std.specs.List.{replicate}
+use Rattle.voter_rules.specs.declared.config.SkipBudget.TheVariants as budget
+use Rattle.voter_rules.specs.declared.config.SkipPolicy.TheVariants as skip
+use Rattle.voter_rules.specs.declared.config.ForwardPolicy.TheVariants as forward
+use Rattle.cli_settings.specs.declared.setting.Conduct.{Conduct}
+use Rattle.cli_settings.specs.declared.setting.Turns.{Turns}
+
+-- terms of four views, given up after ten seconds without progress, with two optimistic views
+abbrev pub program_turns : Turns
+program_turns = record { length = 4; stall_timeout = 10000; optimistic_views = 2 }
+
+-- a second for a proposal, two for a verdict, five until a vote is sent again; ten views are kept; a leader that was silent for
+-- eight seconds is passed over, as often as there are members; nothing is forwarded, and each vote is kept
+abbrev pub program_conduct : Conduct
+program_conduct = record {
+  leader_timeout = 1000;
+  certification_timeout = 2000;
+  timeout_retry = 5000;
+  view_retention = 10;
+  skip = skip.Enabled 8000 budget.Participants;
+  forward = forward.Disabled;
+  track_historical_votes = true;
+}
+
+-- the payload that view 0 stands for
+abbrev pub zeros : List ℕ
+zeros = replicate 32 0
