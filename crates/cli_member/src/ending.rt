@@ -16,11 +16,7 @@ pub enum MemberEnding {
 
 /// Tells how a member's program ended: answers the status, 0 for a whole input, and writes the line of what ended it before its
 /// input to `faults`.
-pub fn tell_member<F: Write>(
-    alloc: Global,
-    ended: Result<(), MemberEnding>,
-    faults: &mut F,
-) -> u8 {
+pub fn tell_member<F: Write>(alloc: Global, ended: Result<(), MemberEnding>, faults: &mut F) -> u8 {
     match ended {
         Ok(()) => tell(alloc, Ok(()), faults),
         Err(MemberEnding::Node(why)) => tell(alloc, Err(why), faults),

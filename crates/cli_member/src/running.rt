@@ -34,7 +34,10 @@ pub fn drive_member<K: Disk, R: Read, W: Write>(
     match begins_as_record(&mut disk) {
         Ok(true) => run_on(alloc, settings, disk, input, output),
         Ok(false) => (Err(MemberEnding::NoRecord), disk),
-        Err(_) => (Err(MemberEnding::Node(Ending::Open(OpenFault::Device))), disk),
+        Err(_) => (
+            Err(MemberEnding::Node(Ending::Open(OpenFault::Device))),
+            disk,
+        ),
     }
 }
 

@@ -59,12 +59,7 @@ fn push_sign(text: &mut String, sign: char) -> Result<(), AllocError> {
 }
 
 /// Ends the text with the line of bytes in hexadecimal digits.
-fn push_digits(
-    alloc: Global,
-    text: &mut String,
-    key: Key,
-    bytes: &[u8],
-) -> Result<(), AllocError> {
+fn push_digits(alloc: Global, text: &mut String, key: Key, bytes: &[u8]) -> Result<(), AllocError> {
     let digits = hex::encode(alloc, bytes)?;
     push_words(text, key, &digits)
 }
@@ -95,7 +90,11 @@ fn push_committee(
 /// Ends the text with what may differ.
 fn push_conduct(text: &mut String, conduct: &Conduct) -> Result<(), AllocError> {
     push_number(text, Key::LeaderTimeout, conduct.leader_timeout)?;
-    push_number(text, Key::CertificationTimeout, conduct.certification_timeout)?;
+    push_number(
+        text,
+        Key::CertificationTimeout,
+        conduct.certification_timeout,
+    )?;
     push_number(text, Key::RetryTimeout, conduct.timeout_retry)?;
     push_number(text, Key::Retention, conduct.view_retention.get())?;
     push_skip(text, conduct.skip)?;

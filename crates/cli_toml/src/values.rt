@@ -89,11 +89,7 @@ pub(crate) fn bytes_of(alloc: Global, text: &str) -> Result<Vec<u8>, FileFault> 
 }
 
 /// The bytes that the text under a key spells in hexadecimal digits, if there is one.
-pub(crate) fn digits(
-    alloc: Global,
-    table: &Table,
-    key: Key,
-) -> Result<Option<Vec<u8>>, FileFault> {
+pub(crate) fn digits(alloc: Global, table: &Table, key: Key) -> Result<Option<Vec<u8>>, FileFault> {
     match text(table, key) {
         Ok(Some(text)) => match hex::decode(alloc, text) {
             Ok(bytes) => Ok(Some(bytes)),

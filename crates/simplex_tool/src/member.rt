@@ -43,12 +43,7 @@ pub(crate) fn answer_member(rt: &HostRuntime, call: MemberCall<'_>) -> u8 {
 /// Tells what the file at this path says.
 fn tell_file(rt: &HostRuntime, path: &str) -> u8 {
     match File::open(rt, path) {
-        Ok(mut file) => tell_settings(
-            rt.alloc(),
-            &mut file,
-            &mut rt.stdout(),
-            &mut rt.stderr(),
-        ),
+        Ok(mut file) => tell_settings(rt.alloc(), &mut file, &mut rt.stdout(), &mut rt.stderr()),
         Err(error) => unopened(rt, &error),
     }
 }
