@@ -1,5 +1,11 @@
 //! A file of settings that is read, and told.
 
+ghost use Rattle.std.specs.Prelude.{◌≡◌, ◌≤◌, ◌⊎◌, Some, IfErr, IfOk, IfSome, OnOk, length};
+ghost use Rattle.cli_settings.specs.Checking.{IsGood};
+ghost use Rattle.cli_toml.specs.Saying.{Says};
+ghost use Rattle.toml.specs.Data.{Members};
+ghost use Rattle.toml.specs.Parse.{parse_document};
+
 use cli_audit::{InputError, Trouble, report};
 use cli_toml::{FileFault, MemberFile, fault_text, read_member, settings_text};
 use std::alloc::Global;
@@ -17,7 +23,10 @@ const PIECE: usize = 4_096;
 const MOST_READS: u64 = 131_072;
 
 /// The bytes that the reader has left, or nothing where they are more than those of a file of settings.
-fn read_text<R: Read>(alloc: Global, reader: &mut R) -> Result<Option<Vec<u8>>, InputError> {
+fn read_text<R: Read>(alloc: Global, reader: &mut R) -> Result<Option<Vec<u8>>, InputError>
+    ensures whole { IfOk result (λ found. IfSome found (λ all. IfSome (R.remaining reader.old) (λ bytes. all.items ≡ bytes))) }
+    ensures short { IfOk result (λ found. IfSome found (λ all. length all.items ≤ FILE_MOST)) }
+{
     let mut all = Vec::new(alloc);
     let mut piece = [0; PIECE];
     for _ in 0..MOST_READS {
@@ -42,7 +51,13 @@ pub fn read_file<R: Read, F: Write>(
     alloc: Global,
     input: &mut R,
     faults: &mut F,
-) -> Result<MemberFile, u8> {
+) -> Result<MemberFile, u8>
+    ensures said { IfOk result (λ file.
+        IfSome (R.remaining input.old) (λ bytes. (t : Members) × (parse_document bytes ≡ Some t) × Says t file)) }
+    ensures good { IfOk result (λ file. IsGood file.settings) }
+    ensures statuses { IfErr result (λ status. (status ≡ 1) ⊎ (status ≡ 3)) }
+    ensures silent { OnOk result (faults.new ≡ faults.old) }
+{
     match read_text(alloc, input) {
         Ok(Some(text)) => read_bytes(alloc, &text, faults),
         Ok(None) => {
@@ -55,7 +70,12 @@ pub fn read_file<R: Read, F: Write>(
 }
 
 /// The same of its bytes.
-fn read_bytes<F: Write>(alloc: Global, text: &[u8], faults: &mut F) -> Result<MemberFile, u8> {
+fn read_bytes<F: Write>(alloc: Global, text: &[u8], faults: &mut F) -> Result<MemberFile, u8>
+    ensures said { IfOk result (λ file. (t : Members) × (parse_document text.now ≡ Some t) × Says t file) }
+    ensures good { IfOk result (λ file. IsGood file.settings) }
+    ensures statuses { IfErr result (λ status. (status ≡ 1) ⊎ (status ≡ 3)) }
+    ensures silent { OnOk result (faults.new ≡ faults.old) }
+{
     match read_member(alloc, text) {
         Ok(file) => Ok(file),
         Err(FileFault::Memory) => Err(report(Err(Trouble::Memory), faults)),
@@ -64,7 +84,9 @@ fn read_bytes<F: Write>(alloc: Global, text: &[u8], faults: &mut F) -> Result<Me
 }
 
 /// Tells what is wrong with a file of this text, and answers the status.
-fn tell_fault<F: Write>(alloc: Global, text: &[u8], fault: &FileFault, faults: &mut F) -> u8 {
+fn tell_fault<F: Write>(alloc: Global, text: &[u8], fault: &FileFault, faults: &mut F) -> u8
+    ensures { (result ≡ 1) ⊎ (result ≡ 3) }
+{
     match fault_text(alloc, text, fault) {
         Ok(line) => {
             let _ = write_whole(faults, line.as_bytes());
@@ -81,7 +103,11 @@ pub fn tell_settings<R: Read, W: Write, F: Write>(
     input: &mut R,
     output: &mut W,
     faults: &mut F,
-) -> u8 {
+) -> u8
+    ensures statuses { (result ≡ 0) ⊎ ((result ≡ 1) ⊎ (result ≡ 3)) }
+    ensures silent { result ≡ 0 → faults.new ≡ faults.old }
+    ensures unwritten { result ≡ 3 → output.new ≡ output.old }
+{
     match read_file(alloc, input, faults) {
         Ok(file) => write_settings(alloc, &file, output, faults),
         Err(status) => status,
@@ -94,7 +120,10 @@ fn write_settings<W: Write, F: Write>(
     file: &MemberFile,
     output: &mut W,
     faults: &mut F,
-) -> u8 {
+) -> u8
+    ensures statuses { (result ≡ 0) ⊎ (result ≡ 1) }
+    ensures silent { result ≡ 0 → faults.new ≡ faults.old }
+{
     match settings_text(alloc, file) {
         Ok(text) => match write_whole(output, text.as_bytes()) {
             Ok(()) => 0,

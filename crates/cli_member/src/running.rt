@@ -1,5 +1,15 @@
 //! A member over a disk and streams, set up by its settings.
 
+ghost use Rattle.std.specs.Prelude.{◌≡◌, ◌≢◌, ◌⊎◌, ◌↔◌, Err, IfOk, IsTrue, OnOk};
+ghost use Rattle.cli_settings.specs.Checking.{IsGood};
+ghost use Rattle.cli_member.specs.Running.{BeginsAsRecord, member_line, member_status};
+ghost use Rattle.cli_member.specs.declared.ending.MemberEnding.{MemberEnding};
+ghost use Rattle.cli_member.specs.declared.ending.MemberEnding.TheVariants.{NoRecord, Node};
+ghost use Rattle.simplex_cli.specs.declared.ending.Ending.TheVariants.{Open};
+ghost use Rattle.simplex_cli.specs.Ending.{memory_line};
+ghost use Rattle.simplex_member.specs.declared.fault.OpenFault.TheVariants.{Device};
+ghost use Rattle.types_codec.specs.Front.{AppendsFront};
+
 use crate::ending::{MemberEnding, tell_member};
 use cli_settings::Settings;
 use journal_single::{Disk, DiskFault};
@@ -12,7 +22,11 @@ use std::io::{Read, Write};
 const LAST_GATE: u8 = 1;
 
 /// Whether a record can begin as what the disk holds does: it is empty, or begins with a gate. Nothing is changed.
-pub fn begins_as_record<K: Disk>(disk: &mut K) -> Result<bool, DiskFault> {
+pub fn begins_as_record<K: Disk>(disk: &mut K) -> Result<bool, DiskFault>
+    ensures answer { IfOk result (λ begins. K.keeps → (IsTrue begins ↔ BeginsAsRecord (K.seen disk.old))) }
+    ensures seen { OnOk result (K.keeps → K.seen disk.new ≡ K.seen disk.old) }
+    ensures calls { K.keeps → K.calls disk.new ≡ K.calls disk.old }
+{
     if disk.len()? == 0 {
         return Ok(true);
     }
@@ -29,7 +43,18 @@ pub fn drive_member<K: Disk, R: Read, W: Write>(
     disk: K,
     input: &mut R,
     output: &mut W,
-) -> (Result<(), MemberEnding>, K) {
+) -> (Result<(), MemberEnding>, K)
+    requires { IsGood settings.now }
+    ensures refused { K.keeps
+        → ¬ BeginsAsRecord (K.seen disk)
+        → (result.0 ≡ Err NoRecord) ⊎ (result.0 ≡ Err (Node (Open Device))) }
+
+    // What can be no record stays as it is, and nothing is read or written.
+    ensures left { result.0 ≡ Err NoRecord → K.keeps → (K.seen result.1 ≡ K.seen disk) × (K.calls result.1 ≡ K.calls disk) }
+    ensures only_then { result.0 ≡ Err NoRecord → K.keeps → ¬ BeginsAsRecord (K.seen disk) }
+    ensures unread { result.0 ≡ Err NoRecord → input.new ≡ input.old }
+    ensures unwritten { result.0 ≡ Err NoRecord → output.new ≡ output.old }
+{
     let mut disk = disk;
     match begins_as_record(&mut disk) {
         Ok(true) => run_on(alloc, settings, disk, input, output),
@@ -48,7 +73,10 @@ fn run_on<K: Disk, R: Read, W: Write>(
     disk: K,
     input: &mut R,
     output: &mut W,
-) -> (Result<(), MemberEnding>, K) {
+) -> (Result<(), MemberEnding>, K)
+    requires { IsGood settings.now }
+    ensures { result.0 ≢ Err NoRecord }
+{
     let Ok(scheme) = settings.scheme(alloc) else {
         return (Err(MemberEnding::Node(Ending::Memory)), disk);
     };
@@ -80,7 +108,14 @@ pub fn member_over<K: Disk, R: Read, W: Write, F: Write>(
     input: &mut R,
     output: &mut W,
     faults: &mut F,
-) -> u8 {
+) -> u8
+    requires { IsGood settings.now }
+    ensures statuses { (result ≡ 0) ⊎ ((result ≡ 1) ⊎ (result ≡ 3)) }
+    ensures silent { result ≡ 0 → faults.new ≡ faults.old }
+    ensures told { result ≢ 0
+        → (why : MemberEnding) × (result ≡ member_status why) × (AppendsFront (F.contents faults.old) (F.contents faults.new)
+        (member_line why) ⊎ AppendsFront (F.contents faults.old) (F.contents faults.new) memory_line) }
+{
     let (ended, disk) = drive_member(alloc, settings, disk, input, output);
     drop(disk);
     tell_member(alloc, ended, faults)

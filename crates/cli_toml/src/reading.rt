@@ -1,5 +1,14 @@
 //! A file of settings that is read.
 
+ghost use Rattle.std.specs.Prelude.{◌≡◌, Some, IfOk, codes, option_map, string_bytes};
+ghost use Rattle.cli_settings.specs.Checking.{IsGood};
+ghost use Rattle.cli_toml.specs.Saying.{Gives, Says, SaysCommittee, SaysConduct, SaysSkip, SaysTurns, forward_word, under, whole};
+ghost use Rattle.cli_toml.specs.declared.key.Key.TheVariants as key;
+ghost use Rattle.toml.specs.Data.{Members, string};
+ghost use Rattle.toml.specs.Parse.{parse_document};
+ghost use Rattle.toml.specs.View.{table_view};
+ghost use Rattle.voter_rules.specs.declared.config.ForwardPolicy.TheVariants.{Disabled};
+
 use crate::fault::FileFault;
 use crate::finding::line_at;
 use crate::key::Key;
@@ -26,7 +35,10 @@ pub struct MemberFile {
 ///
 /// [`FileFault::Memory`] where memory ran out, else the first that applies of: it is no TOML, a key is unknown, a value is
 /// missing or unfit, and the settings' own fault.
-pub fn read_member(alloc: Global, text: &[u8]) -> Result<MemberFile, FileFault> {
+pub fn read_member(alloc: Global, text: &[u8]) -> Result<MemberFile, FileFault>
+    ensures said { IfOk result (λ file. (t : Members) × (parse_document text.now ≡ Some t) × Says t file) }
+    ensures good { IfOk result (λ file. IsGood file.settings) }
+{
     match toml::table_from_slice(alloc, text) {
         Ok(table) => member_in(alloc, &table),
         Err(error) => Err(no_toml(text, error)),
@@ -42,7 +54,10 @@ fn no_toml(text: &[u8], error: toml::de::Error) -> FileFault {
 }
 
 /// What the table says.
-fn member_in(alloc: Global, table: &Table) -> Result<MemberFile, FileFault> {
+fn member_in(alloc: Global, table: &Table) -> Result<MemberFile, FileFault>
+    ensures said { IfOk result (Says (table_view table.now)) }
+    ensures good { IfOk result (λ file. IsGood file.settings) }
+{
     all_known(alloc, table)?;
     let settings = settings_in(alloc, table)?;
     if let Err(fault) = settings.check() {
@@ -63,7 +78,9 @@ fn all_known(alloc: Global, table: &Table) -> Result<(), FileFault> {
 }
 
 /// The path of the record that the table names, if it names one.
-fn record_in(alloc: Global, table: &Table) -> Result<Option<String>, FileFault> {
+fn record_in(alloc: Global, table: &Table) -> Result<Option<String>, FileFault>
+    ensures { IfOk result (λ path. under key.Record (table_view table.now) ≡ option_map (λ p. string (string_bytes p)) path) }
+{
     match text(table, Key::Record) {
         Ok(Some(path)) => Ok(Some(String::from_str(alloc, path)?)),
         Ok(None) => Ok(None),
@@ -72,7 +89,11 @@ fn record_in(alloc: Global, table: &Table) -> Result<Option<String>, FileFault> 
 }
 
 /// The settings of the table.
-fn settings_in(alloc: Global, table: &Table) -> Result<Settings, FileFault> {
+fn settings_in(alloc: Global, table: &Table) -> Result<Settings, FileFault>
+    ensures committee { IfOk result (λ s. SaysCommittee (table_view table.now) s.committee) }
+    ensures member { IfOk result (λ s. under key.Member (table_view table.now) ≡ Some (whole s.member)) }
+    ensures conduct { IfOk result (λ s. SaysConduct (table_view table.now) s.conduct) }
+{
     let member = count(table, Key::Member)?;
     let conduct = conduct_in(table)?;
     let committee = committee_in(alloc, table)?;
@@ -84,7 +105,9 @@ fn settings_in(alloc: Global, table: &Table) -> Result<Settings, FileFault> {
 }
 
 /// What must be alike at all members.
-fn committee_in(alloc: Global, table: &Table) -> Result<Committee, FileFault> {
+fn committee_in(alloc: Global, table: &Table) -> Result<Committee, FileFault>
+    ensures { IfOk result (SaysCommittee (table_view table.now)) }
+{
     let epoch = Epoch::new(number_or(table, Key::Epoch, 0)?);
     let genesis = Sha256Digest::new(digest(table, Key::Genesis)?);
     let members = count(table, Key::Members)?;
@@ -102,7 +125,9 @@ fn committee_in(alloc: Global, table: &Table) -> Result<Committee, FileFault> {
 }
 
 /// The base of the namespaces.
-fn base_in(alloc: Global, table: &Table) -> Result<Vec<u8>, FileFault> {
+fn base_in(alloc: Global, table: &Table) -> Result<Vec<u8>, FileFault>
+    ensures { IfOk result (λ base. Gives string (codes "simplex") (under key.Base (table_view table.now)) base.items) }
+{
     match text(table, Key::Base) {
         Ok(Some(base)) => bytes_of(alloc, base),
         Ok(None) => bytes_of(alloc, "simplex"),
@@ -111,7 +136,9 @@ fn base_in(alloc: Global, table: &Table) -> Result<Vec<u8>, FileFault> {
 }
 
 /// How long members lead.
-fn turns_in(table: &Table) -> Result<Turns, FileFault> {
+fn turns_in(table: &Table) -> Result<Turns, FileFault>
+    ensures { IfOk result (SaysTurns (table_view table.now)) }
+{
     let usual = Turns::of_program();
     Ok(Turns {
         length: count_or(table, Key::TermLength, usual.length)?,
@@ -121,7 +148,9 @@ fn turns_in(table: &Table) -> Result<Turns, FileFault> {
 }
 
 /// What may differ.
-fn conduct_in(table: &Table) -> Result<Conduct, FileFault> {
+fn conduct_in(table: &Table) -> Result<Conduct, FileFault>
+    ensures { IfOk result (SaysConduct (table_view table.now)) }
+{
     let usual = Conduct::of_program();
     let retention = usual.view_retention.get();
     Ok(Conduct {
@@ -144,7 +173,9 @@ fn conduct_in(table: &Table) -> Result<Conduct, FileFault> {
 }
 
 /// Whether a view may be given up before its deadlines.
-fn skip_in(table: &Table) -> Result<SkipPolicy, FileFault> {
+fn skip_in(table: &Table) -> Result<SkipPolicy, FileFault>
+    ensures { IfOk result (SaysSkip (table_view table.now)) }
+{
     let enabled = truth_or(table, Key::Skips, true)?;
     let timeout = number_or(table, Key::SkipTimeout, 8_000)?;
     let budget = match number(table, Key::SkipBudget)? {
@@ -159,7 +190,9 @@ fn skip_in(table: &Table) -> Result<SkipPolicy, FileFault> {
 }
 
 /// To whom payloads are forwarded.
-fn forward_in(table: &Table) -> Result<ForwardPolicy, FileFault> {
+fn forward_in(table: &Table) -> Result<ForwardPolicy, FileFault>
+    ensures { IfOk result (Gives (λ policy. string (forward_word policy)) Disabled (under key.Forwarding (table_view table.now))) }
+{
     match text(table, Key::Forwarding) {
         Ok(Some("disabled")) => Ok(ForwardPolicy::Disabled),
         Ok(Some("silent-voters")) => Ok(ForwardPolicy::SilentVoters),

@@ -1,20 +1,42 @@
 //! What stands under a key.
 
+ghost use Rattle.std.specs.Prelude.{◌≡◌, ◌⊎◌, ◌≤◌, ◌^◌, ℕ, List, Some, None, Ok, IfErr, IfNone, IfOk, IfSome, IsNone, OnErr, option_map};
+ghost use Rattle.cli_settings.specs.Program.{zeros};
+ghost use Rattle.cli_toml.specs.Saying.{Gives, MayBeText, MayBeTruth, MayBeWhole, under, whole};
+ghost use Rattle.cli_toml.specs.declared.fault.FileFault.TheVariants.{Memory, Missing, Unfit};
+ghost use Rattle.hex.specs.Hex.{decode_of, decode_sized};
+ghost use Rattle.toml.specs.Data.{boolean, string};
+ghost use Rattle.toml.specs.View.{table_view, view};
+
 use crate::fault::FileFault;
 use crate::key::Key;
 use hex::FromHex;
 use std::alloc::Global;
 use toml::{Table, Value};
 
+/// What stands under a key.
+fn at<'a>(table: &'a Table, key: Key) -> Option<&'a Value>
+    ensures { option_map (λ v. view v.now) result ≡ under key (table_view table.now) }
+{
+    table.get(key.name())
+}
+
 /// The number that a value is, if it is one from 0 to 2^63-1.
-fn number_in(value: &Value) -> Option<u64> {
+fn number_in(value: &Value) -> Option<u64>
+    ensures number { IfSome result (λ n. view value.now ≡ whole n) }
+    ensures none { IsNone result → (n : ℕ) → ¬ (view value.now ≡ whole n) }
+{
     let number = value.as_integer()?;
     u64::try_from(number).ok()
 }
 
 /// The number under a key, if there is one.
-pub(crate) fn number(table: &Table, key: Key) -> Result<Option<u64>, FileFault> {
-    match table.get(key.name()) {
+pub(crate) fn number(table: &Table, key: Key) -> Result<Option<u64>, FileFault>
+    ensures number { IfOk result (λ n. under key (table_view table.now) ≡ option_map whole n) }
+    ensures unfit { OnErr result (¬ MayBeWhole (under key (table_view table.now))) }
+    ensures named { IfErr result (λ fault. fault ≡ Unfit key) }
+{
+    match at(table, key) {
         None => Ok(None),
         Some(value) => match number_in(value) {
             Some(number) => Ok(Some(number)),
@@ -24,7 +46,11 @@ pub(crate) fn number(table: &Table, key: Key) -> Result<Option<u64>, FileFault> 
 }
 
 /// The number under a key, or this one where the key isn't there.
-pub(crate) fn number_or(table: &Table, key: Key, default: u64) -> Result<u64, FileFault> {
+pub(crate) fn number_or(table: &Table, key: Key, default: u64) -> Result<u64, FileFault>
+    ensures number { IfOk result (Gives whole default (under key (table_view table.now))) }
+    ensures unfit { OnErr result (¬ MayBeWhole (under key (table_view table.now))) }
+    ensures named { IfErr result (λ fault. fault ≡ Unfit key) }
+{
     match number(table, key) {
         Ok(Some(number)) => Ok(number),
         Ok(None) => Ok(default),
@@ -33,7 +59,11 @@ pub(crate) fn number_or(table: &Table, key: Key, default: u64) -> Result<u64, Fi
 }
 
 /// The number of 32 bits.
-fn narrow(number: u64, key: Key) -> Result<u32, FileFault> {
+fn narrow(number: u64, key: Key) -> Result<u32, FileFault>
+    ensures same { IfOk result (λ n. n ≡ number) }
+    ensures wide { OnErr result (2 ^ 32 ≤ number) }
+    ensures named { IfErr result (λ fault. fault ≡ Unfit key) }
+{
     match u32::try_from(number) {
         Ok(number) => Ok(number),
         Err(_) => Err(FileFault::Unfit(key)),
@@ -41,7 +71,10 @@ fn narrow(number: u64, key: Key) -> Result<u32, FileFault> {
 }
 
 /// The number of 32 bits under a key, or this one where the key isn't there.
-pub(crate) fn count_or(table: &Table, key: Key, default: u32) -> Result<u32, FileFault> {
+pub(crate) fn count_or(table: &Table, key: Key, default: u32) -> Result<u32, FileFault>
+    ensures number { IfOk result (Gives whole default (under key (table_view table.now))) }
+    ensures named { IfErr result (λ fault. fault ≡ Unfit key) }
+{
     match number(table, key) {
         Ok(Some(number)) => narrow(number, key),
         Ok(None) => Ok(default),
@@ -50,7 +83,11 @@ pub(crate) fn count_or(table: &Table, key: Key, default: u32) -> Result<u32, Fil
 }
 
 /// The number of 32 bits under a key that has to be there.
-pub(crate) fn count(table: &Table, key: Key) -> Result<u32, FileFault> {
+pub(crate) fn count(table: &Table, key: Key) -> Result<u32, FileFault>
+    ensures number { IfOk result (λ n. under key (table_view table.now) ≡ Some (whole n)) }
+    ensures missing { IfErr result (λ fault. fault ≡ Missing key → under key (table_view table.now) ≡ None) }
+    ensures named { IfErr result (λ fault. (fault ≡ Missing key) ⊎ (fault ≡ Unfit key)) }
+{
     match number(table, key) {
         Ok(Some(number)) => narrow(number, key),
         Ok(None) => Err(FileFault::Missing(key)),
@@ -59,8 +96,12 @@ pub(crate) fn count(table: &Table, key: Key) -> Result<u32, FileFault> {
 }
 
 /// The truth value under a key, or this one where the key isn't there.
-pub(crate) fn truth_or(table: &Table, key: Key, default: bool) -> Result<bool, FileFault> {
-    match table.get(key.name()) {
+pub(crate) fn truth_or(table: &Table, key: Key, default: bool) -> Result<bool, FileFault>
+    ensures truth { IfOk result (Gives boolean default (under key (table_view table.now))) }
+    ensures unfit { OnErr result (¬ MayBeTruth (under key (table_view table.now))) }
+    ensures named { IfErr result (λ fault. fault ≡ Unfit key) }
+{
+    match at(table, key) {
         None => Ok(default),
         Some(value) => match value.as_bool() {
             Some(truth) => Ok(truth),
@@ -70,8 +111,12 @@ pub(crate) fn truth_or(table: &Table, key: Key, default: bool) -> Result<bool, F
 }
 
 /// The text under a key, if there is one.
-pub(crate) fn text<'a>(table: &'a Table, key: Key) -> Result<Option<&'a str>, FileFault> {
-    match table.get(key.name()) {
+pub(crate) fn text<'a>(table: &'a Table, key: Key) -> Result<Option<&'a str>, FileFault>
+    ensures text { IfOk result (λ s. under key (table_view table.now) ≡ option_map (λ s. string s.now) s) }
+    ensures unfit { OnErr result (¬ MayBeText (under key (table_view table.now))) }
+    ensures named { IfErr result (λ fault. fault ≡ Unfit key) }
+{
+    match at(table, key) {
         None => Ok(None),
         Some(value) => match value.as_str() {
             Some(text) => Ok(Some(text)),
@@ -81,7 +126,10 @@ pub(crate) fn text<'a>(table: &'a Table, key: Key) -> Result<Option<&'a str>, Fi
 }
 
 /// The bytes of a text.
-pub(crate) fn bytes_of(alloc: Global, text: &str) -> Result<Vec<u8>, FileFault> {
+pub(crate) fn bytes_of(alloc: Global, text: &str) -> Result<Vec<u8>, FileFault>
+    ensures bytes { IfOk result (λ bytes. bytes.items ≡ text.now) }
+    ensures memory { IfErr result (λ fault. fault ≡ Memory) }
+{
     match Vec::from_slice(alloc, text.as_bytes()) {
         Ok(bytes) => Ok(bytes),
         Err(_) => Err(FileFault::Memory),
@@ -102,7 +150,12 @@ pub(crate) fn digits(alloc: Global, table: &Table, key: Key) -> Result<Option<Ve
 }
 
 /// The 32 bytes that the text under a key spells in hexadecimal digits, or zeros where the key isn't there.
-pub(crate) fn digest(table: &Table, key: Key) -> Result<[u8; 32], FileFault> {
+pub(crate) fn digest(table: &Table, key: Key) -> Result<[u8; 32], FileFault>
+    ensures bytes { IfOk result (λ bytes.
+        ((digits : List ℕ) × (under key (table_view table.now) ≡ Some (string digits)) × (decode_sized digits 32 ≡ Ok bytes)) ⊎
+        ((under key (table_view table.now) ≡ None) × (bytes ≡ zeros))) }
+    ensures named { IfErr result (λ fault. fault ≡ Unfit key) }
+{
     match text(table, key) {
         Ok(Some(text)) => match <[u8; 32] as FromHex>::from_hex(text) {
             Ok(bytes) => Ok(bytes),

@@ -1,5 +1,7 @@
 //! A member by its file of settings: the files that it names are opened.
 
+ghost use Rattle.cli_settings.specs.Checking.{IsGood};
+
 use cli_audit::{Trouble, report};
 use cli_member::{MemberCall, member_over, read_file, tell_settings};
 use cli_settings::Settings;
@@ -61,7 +63,9 @@ fn run_file(rt: &HostRuntime, path: &str) -> u8 {
 }
 
 /// Runs the member of this file over the record that it names.
-fn run_member(rt: &HostRuntime, file: &MemberFile) -> u8 {
+fn run_member(rt: &HostRuntime, file: &MemberFile) -> u8
+    requires { IsGood file.now.settings }
+{
     match &file.record {
         Some(path) => run_over(rt, &file.settings, path),
         None => {
@@ -72,7 +76,9 @@ fn run_member(rt: &HostRuntime, file: &MemberFile) -> u8 {
 }
 
 /// Runs the member with these settings over the record in the file at this path.
-fn run_over(rt: &HostRuntime, settings: &Settings, path: &str) -> u8 {
+fn run_over(rt: &HostRuntime, settings: &Settings, path: &str) -> u8
+    requires { IsGood settings.now }
+{
     match FileDisk::open(rt, path) {
         Ok(disk) => member_over(
             rt.alloc(),
