@@ -65,7 +65,7 @@ pub extern "C" fn voumlis_proved_node_open_with(
     ensures unnamed { (result ≡ 0) ⊎ (result ≡ 9) → found.new.named ≡ 0 }
     ensures statuses { result ≤ 11 }
 {
-    if node.live != 0 {
+    if node.live > 0 {
         return Status::Argument.number();
     }
     let settings = settings_of(alloc, numbers, base, seed);
