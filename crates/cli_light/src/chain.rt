@@ -2,7 +2,6 @@
 
 ghost use Rattle.std.specs.Prelude.{◌<◌, All, IfOk};
 ghost use Rattle.cli_light.specs.Certifying.{IsFinal};
-
 ghost use Rattle.cli_settings.specs.Checking.{HasMembers};
 
 use crate::certifying::{Certified, PlainCertificate, Uncertified, hold, said_by};
@@ -27,7 +26,7 @@ fn next(
     above: u64,
 ) -> Result<Proposal<Sha256Digest>, Option<Uncertified>>
     requires { HasMembers committee.now }
-    ensures final { IfOk result (IsFinal committee.now) }
+    ensures finalizes { IfOk result (IsFinal committee.now) }
     ensures above { IfOk result (λ p. above < p.round.view) }
 {
     let certificate = match PlainCertificate::read_cfg(alloc, rest, committee.members) {
@@ -54,7 +53,7 @@ pub fn finalized_in(
     bytes: &[u8],
 ) -> Result<Vec<Proposal<Sha256Digest>>, Broken>
     requires { HasMembers committee.now }
-    ensures final { IfOk result (λ found. All (IsFinal committee.now) found.items) }
+    ensures finalizes { IfOk result (λ found. All (IsFinal committee.now) found.items) }
 {
     let mut found: Vec<Proposal<Sha256Digest>> = Vec::new(alloc);
     let mut rest = bytes;

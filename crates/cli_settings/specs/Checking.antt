@@ -44,9 +44,8 @@ module _ (s : Settings) where
   IsGoodBeside = (f : SettingsFault) → 8 < fault_number f → ¬ Applies f
 
 -- the terms can be set
-pub record HasTurns (t : Turns) : Type 0 where
-  pub some_views : 0 < t.length
-  pub ends : t.stall_timeout ≡ 0 → IsRotating t
+abbrev pub HasTurns : Turns → Type 0
+HasTurns t = 0 < t.length
 
 -- the committee can be set up
 pub record HasMembers (c : Committee) : Type 0 where

@@ -1,6 +1,5 @@
 -- How the program `simplex node` is set up.
-use Rattle.std.specs.Prelude.{ℕ, List, true}
-use Rattle.std.specs.List.{replicate}
+use Rattle.std.specs.Prelude.{ℕ, List, replicate, true}
 use Rattle.voter_rules.specs.declared.config.SkipBudget.TheVariants as budget
 use Rattle.voter_rules.specs.declared.config.SkipPolicy.TheVariants as skip
 use Rattle.voter_rules.specs.declared.config.ForwardPolicy.TheVariants as forward

@@ -11,18 +11,22 @@ pub(crate) fn line_at(text: &[u8], place: usize) -> usize {
     line
 }
 
-/// Whether the line gives this key a value.
+/// What can stand in front of a key: blanks, and what quotes it or makes it a table.
+fn is_in_front(sign: char) -> bool {
+    matches!(sign, ' ' | '\t' | '"' | '\'' | '[')
+}
+
+/// Whether what stands behind a name ends it as a key.
+fn ends_key(behind: &str) -> bool {
+    let behind = behind.trim_start_matches(['"', '\'']);
+    behind.trim_start().starts_with(['=', '.', ']'])
+}
+
+/// Whether the line begins with this key.
 fn gives(line: &str, name: &str) -> bool {
-    let line = line.trim_start();
-    let rest = match line.strip_prefix('"') {
-        Some(quoted) => quoted,
-        None => line,
-    };
-    match rest.strip_prefix(name) {
-        Some(behind) => {
-            let behind = behind.trim_start_matches('"');
-            behind.trim_start().starts_with('=')
-        }
+    let line = line.trim_start_matches(is_in_front);
+    match line.strip_prefix(name) {
+        Some(behind) => ends_key(behind),
         None => false,
     }
 }
