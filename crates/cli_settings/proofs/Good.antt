@@ -9,7 +9,7 @@ use Rattle.cli_settings.specs.declared.fault.SettingsFault.TheVariants as fault
 use Rattle.cli_settings.specs.declared.setting.Committee.{Committee}
 use Rattle.cli_settings.specs.declared.setting.Settings.{Settings}
 use Rattle.cli_settings.specs.Building.{config_of, seed_of}
-use Rattle.cli_settings.specs.Checking.{Applies, HasLongSeed, HasMembers, IsGood, IsGoodBeside}
+use Rattle.cli_settings.specs.Checking.{Applies, HasLongSeed, IsGood, IsGoodBeside}
 
 -- what isn't above a bound is at most that
 at_most : (m n : ℕ) → ¬ (m < n) → n ≤ m

@@ -15,7 +15,7 @@ use std::alloc::Global;
 use toml::{Table, Value};
 
 /// What stands under a key.
-fn at<'a>(table: &'a Table, key: Key) -> Option<&'a Value>
+fn value_at<'a>(table: &'a Table, key: Key) -> Option<&'a Value>
     ensures { option_map (λ v. view v.now) result ≡ under key (table_view table.now) }
 {
     table.get(key.name())
@@ -36,7 +36,7 @@ pub(crate) fn number(table: &Table, key: Key) -> Result<Option<u64>, FileFault>
     ensures unfit { OnErr result (¬ MayBeWhole (under key (table_view table.now))) }
     ensures named { IfErr result (λ fault. fault ≡ Unfit key) }
 {
-    match at(table, key) {
+    match value_at(table, key) {
         None => Ok(None),
         Some(value) => match number_in(value) {
             Some(number) => Ok(Some(number)),
@@ -101,7 +101,7 @@ pub(crate) fn truth_or(table: &Table, key: Key, default: bool) -> Result<bool, F
     ensures unfit { OnErr result (¬ MayBeTruth (under key (table_view table.now))) }
     ensures named { IfErr result (λ fault. fault ≡ Unfit key) }
 {
-    match at(table, key) {
+    match value_at(table, key) {
         None => Ok(default),
         Some(value) => match value.as_bool() {
             Some(truth) => Ok(truth),
@@ -116,7 +116,7 @@ pub(crate) fn text<'a>(table: &'a Table, key: Key) -> Result<Option<&'a str>, Fi
     ensures unfit { OnErr result (¬ MayBeText (under key (table_view table.now))) }
     ensures named { IfErr result (λ fault. fault ≡ Unfit key) }
 {
-    match at(table, key) {
+    match value_at(table, key) {
         None => Ok(None),
         Some(value) => match value.as_str() {
             Some(text) => Ok(Some(text)),
