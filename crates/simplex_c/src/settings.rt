@@ -1,7 +1,12 @@
 //! How a member is set up, as C says it.
 
-ghost use Rattle.std.specs.Prelude.{◌≡◌, ◌≢◌, IfOk, IsNone, OnOk};
-ghost use Rattle.cli_settings.specs.Checking.{IsGood};
+ghost use Rattle.std.specs.Prelude.{◌≡◌, ◌≢◌, ◌⊎◌, IfErr, IfOk, IfSome, IsNone, true};
+ghost use Rattle.cli_settings.specs.Building.{seed_of};
+ghost use Rattle.cli_settings.specs.Checking.{IsFirst, IsGood};
+ghost use Rattle.cli_settings.specs.Program.{program_conduct, program_turns};
+ghost use Rattle.simplex_c.specs.Settings.{IsUnfit, SaysCommittee, SaysConduct, SaysSeed, SaysSettings, SaysSkip, forward_number, truth_number};
+ghost use Rattle.simplex_c.specs.declared.settings.Unfit.TheVariants.{Fault, Memory, Number};
+ghost use Rattle.voter_rules.specs.declared.config.ForwardPolicy.{ForwardPolicy};
 
 use cli_settings::{Committee, Conduct, Settings, SettingsFault, Turns};
 use std::alloc::{AllocError, Global};
@@ -68,7 +73,10 @@ pub(crate) enum Unfit {
 }
 
 /// Whether a view may be given up before its deadlines.
-fn skip_of(numbers: &SettingsNumbers) -> Option<SkipPolicy> {
+fn skip_of(numbers: &SettingsNumbers) -> Option<SkipPolicy>
+    ensures some { IfSome result (SaysSkip numbers.now) }
+    ensures none { IsNone result → 2 < numbers.now.skips }
+{
     let timeout = numbers.skip_timeout;
     match numbers.skips {
         0 => Some(SkipPolicy::Disabled),
@@ -85,7 +93,10 @@ fn skip_of(numbers: &SettingsNumbers) -> Option<SkipPolicy> {
 }
 
 /// To whom payloads are forwarded.
-fn forward_of(numbers: &SettingsNumbers) -> Option<ForwardPolicy> {
+fn forward_of(numbers: &SettingsNumbers) -> Option<ForwardPolicy>
+    ensures some { IfSome result (λ policy. numbers.now.forwarding ≡ forward_number policy) }
+    ensures none { IsNone result → 2 < numbers.now.forwarding }
+{
     match numbers.forwarding {
         0 => Some(ForwardPolicy::Disabled),
         1 => Some(ForwardPolicy::SilentVoters),
@@ -95,7 +106,10 @@ fn forward_of(numbers: &SettingsNumbers) -> Option<ForwardPolicy> {
 }
 
 /// A truth value.
-fn truth_of(number: u32) -> Option<bool> {
+fn truth_of(number: u32) -> Option<bool>
+    ensures some { IfSome result (λ truth. number ≡ truth_number truth) }
+    ensures none { IsNone result → 1 < number }
+{
     match number {
         0 => Some(false),
         1 => Some(true),
@@ -104,7 +118,11 @@ fn truth_of(number: u32) -> Option<bool> {
 }
 
 /// What may differ from member to member.
-fn conduct_of(numbers: &SettingsNumbers) -> Option<Conduct> {
+fn conduct_of(numbers: &SettingsNumbers) -> Option<Conduct>
+    ensures some { IfSome result (SaysConduct numbers.now) }
+    ensures none { IsNone result
+        → (2 < numbers.now.skips) ⊎ ((2 < numbers.now.forwarding) ⊎ (1 < numbers.now.historical_votes)) }
+{
     let skip = skip_of(numbers)?;
     let forward = forward_of(numbers)?;
     let track_historical_votes = truth_of(numbers.historical_votes)?;
@@ -120,7 +138,10 @@ fn conduct_of(numbers: &SettingsNumbers) -> Option<Conduct> {
 }
 
 /// The seed, where there is one. Refused only where memory is.
-fn seed_of(alloc: Global, shuffled: bool, seed: &[u8]) -> Result<Option<Vec<u8>>, AllocError> {
+fn seed_in(alloc: Global, shuffled: bool, seed: &[u8]) -> Result<Option<Vec<u8>>, AllocError>
+    ensures some { IfOk result (λ found. IfSome found (λ bytes. (shuffled ≡ true) × (bytes.items ≡ seed.now))) }
+    ensures none { IfOk result (λ found. IsNone found → shuffled ≢ true) }
+{
     if shuffled {
         Ok(Some(Vec::from_slice(alloc, seed)?))
     } else {
@@ -135,9 +156,12 @@ fn committee_of(
     shuffled: bool,
     base: &[u8],
     seed: &[u8],
-) -> Result<Committee, AllocError> {
+) -> Result<Committee, AllocError>
+    requires { numbers.now.shuffled ≡ truth_number shuffled }
+    ensures { IfOk result (SaysCommittee numbers.now base.now seed.now) }
+{
     let base = Vec::from_slice(alloc, base)?;
-    let seed = seed_of(alloc, shuffled, seed)?;
+    let seed = seed_in(alloc, shuffled, seed)?;
     Ok(Committee {
         epoch: Epoch::new(numbers.epoch),
         genesis: Sha256Digest::new(numbers.genesis),
@@ -160,6 +184,8 @@ pub(crate) fn settings_of(
     seed: &[u8],
 ) -> Result<Settings, Unfit>
     ensures good { IfOk result IsGood }
+    ensures said { IfOk result (SaysSettings numbers.now base.now seed.now) }
+    ensures unfit { IfErr result (IsUnfit numbers.now base.now seed.now) }
 {
     if numbers.version != VERSION {
         return Err(Unfit::Number);
@@ -184,6 +210,7 @@ pub(crate) fn settings_of(
 fn checked(settings: Settings) -> Result<Settings, Unfit>
     ensures good { IfOk result IsGood }
     ensures same { IfOk result (λ s. s ≡ settings) }
+    ensures fault { IfErr result (λ why. (fault : _) × (why ≡ Fault fault) × IsFirst settings fault) }
 {
     match settings.check() {
         Ok(()) => Ok(settings),
@@ -192,11 +219,14 @@ fn checked(settings: Settings) -> Result<Settings, Unfit>
 }
 
 /// The settings of the program's member of this index, of so many. Refused only where memory is.
-pub(crate) fn program_settings(
-    alloc: Global,
-    members: u16,
-    member: u16,
-) -> Result<Settings, Unfit> {
+pub(crate) fn program_settings(alloc: Global, members: u16, member: u16) -> Result<Settings, Unfit>
+    requires { member < members }
+    ensures good { IfOk result IsGood }
+    ensures members { IfOk result (λ s. s.committee.members ≡ members) }
+    ensures member { IfOk result (λ s. s.member ≡ member) }
+    ensures conduct { IfOk result (λ s. s.conduct ≡ program_conduct) }
+    ensures turns { IfOk result (λ s. s.committee.turns ≡ program_turns) }
+{
     let Ok(committee) = Committee::of_program(alloc, u32::from(members)) else {
         return Err(Unfit::Memory);
     };
