@@ -8,7 +8,7 @@ mod reading;
 mod telling;
 mod values;
 
-pub use fault::FileFault;
+pub use fault::{FileFault, ValueFault};
 pub use finding::line_of_key;
 pub use key::Key;
 pub use reading::{MemberFile, read_member};

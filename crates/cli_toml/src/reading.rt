@@ -9,7 +9,7 @@ ghost use Rattle.toml.specs.Parse.{parse_document};
 ghost use Rattle.toml.specs.View.{table_view};
 ghost use Rattle.voter_rules.specs.declared.config.ForwardPolicy.TheVariants.{Disabled};
 
-use crate::fault::FileFault;
+use crate::fault::{FileFault, ValueFault};
 use crate::finding::line_at;
 use crate::key::Key;
 use crate::values::{bytes_of, count, count_or, digest, digits, number, number_or, text, truth_or};
@@ -59,12 +59,12 @@ fn member_in(alloc: Global, table: &Table) -> Result<MemberFile, FileFault>
     ensures good { IfOk result (λ file. IsGood file.settings) }
 {
     all_known(alloc, table)?;
-    let settings = settings_in(alloc, table)?;
-    if let Err(fault) = settings.check() {
-        return Err(FileFault::Settings(fault));
-    }
     let record = record_in(alloc, table)?;
-    Ok(MemberFile { settings, record })
+    let settings = settings_in(alloc, table)?;
+    match settings.check() {
+        Ok(()) => Ok(MemberFile { settings, record }),
+        Err(fault) => Err(FileFault::Settings(fault)),
+    }
 }
 
 /// Refuses a table with a key that is unknown.
@@ -78,7 +78,7 @@ fn all_known(alloc: Global, table: &Table) -> Result<(), FileFault> {
 }
 
 /// The path of the record that the table names, if it names one.
-fn record_in(alloc: Global, table: &Table) -> Result<Option<String>, FileFault>
+fn record_in(alloc: Global, table: &Table) -> Result<Option<String>, ValueFault>
     ensures { IfOk result (λ path. under key.Record (table_view table.now) ≡ option_map (λ p. string (string_bytes p)) path) }
 {
     match text(table, Key::Record) {
@@ -89,7 +89,7 @@ fn record_in(alloc: Global, table: &Table) -> Result<Option<String>, FileFault>
 }
 
 /// The settings of the table.
-fn settings_in(alloc: Global, table: &Table) -> Result<Settings, FileFault>
+fn settings_in(alloc: Global, table: &Table) -> Result<Settings, ValueFault>
     ensures committee { IfOk result (λ s. SaysCommittee (table_view table.now) s.committee) }
     ensures member { IfOk result (λ s. under key.Member (table_view table.now) ≡ Some (whole s.member)) }
     ensures conduct { IfOk result (λ s. SaysConduct (table_view table.now) s.conduct) }
@@ -105,7 +105,7 @@ fn settings_in(alloc: Global, table: &Table) -> Result<Settings, FileFault>
 }
 
 /// What must be alike at all members.
-fn committee_in(alloc: Global, table: &Table) -> Result<Committee, FileFault>
+fn committee_in(alloc: Global, table: &Table) -> Result<Committee, ValueFault>
     ensures { IfOk result (SaysCommittee (table_view table.now)) }
 {
     let epoch = Epoch::new(number_or(table, Key::Epoch, 0)?);
@@ -125,7 +125,7 @@ fn committee_in(alloc: Global, table: &Table) -> Result<Committee, FileFault>
 }
 
 /// The base of the namespaces.
-fn base_in(alloc: Global, table: &Table) -> Result<Vec<u8>, FileFault>
+fn base_in(alloc: Global, table: &Table) -> Result<Vec<u8>, ValueFault>
     ensures { IfOk result (λ base. Gives string (codes "simplex") (under key.Base (table_view table.now)) base.items) }
 {
     match text(table, Key::Base) {
@@ -136,7 +136,7 @@ fn base_in(alloc: Global, table: &Table) -> Result<Vec<u8>, FileFault>
 }
 
 /// How long members lead.
-fn turns_in(table: &Table) -> Result<Turns, FileFault>
+fn turns_in(table: &Table) -> Result<Turns, ValueFault>
     ensures { IfOk result (SaysTurns (table_view table.now)) }
 {
     let usual = Turns::of_program();
@@ -148,7 +148,7 @@ fn turns_in(table: &Table) -> Result<Turns, FileFault>
 }
 
 /// What may differ.
-fn conduct_in(table: &Table) -> Result<Conduct, FileFault>
+fn conduct_in(table: &Table) -> Result<Conduct, ValueFault>
     ensures { IfOk result (SaysConduct (table_view table.now)) }
 {
     let usual = Conduct::of_program();
@@ -173,7 +173,7 @@ fn conduct_in(table: &Table) -> Result<Conduct, FileFault>
 }
 
 /// Whether a view may be given up before its deadlines.
-fn skip_in(table: &Table) -> Result<SkipPolicy, FileFault>
+fn skip_in(table: &Table) -> Result<SkipPolicy, ValueFault>
     ensures { IfOk result (SaysSkip (table_view table.now)) }
 {
     let enabled = truth_or(table, Key::Skips, true)?;
@@ -190,14 +190,14 @@ fn skip_in(table: &Table) -> Result<SkipPolicy, FileFault>
 }
 
 /// To whom payloads are forwarded.
-fn forward_in(table: &Table) -> Result<ForwardPolicy, FileFault>
+fn forward_in(table: &Table) -> Result<ForwardPolicy, ValueFault>
     ensures { IfOk result (Gives (λ policy. string (forward_word policy)) Disabled (under key.Forwarding (table_view table.now))) }
 {
     match text(table, Key::Forwarding) {
         Ok(Some("disabled")) => Ok(ForwardPolicy::Disabled),
         Ok(Some("silent-voters")) => Ok(ForwardPolicy::SilentVoters),
         Ok(Some("silent-leader")) => Ok(ForwardPolicy::SilentLeader),
-        Ok(Some(_)) => Err(FileFault::Unfit(Key::Forwarding)),
+        Ok(Some(_)) => Err(ValueFault::Unfit(Key::Forwarding)),
         Ok(None) => Ok(ForwardPolicy::Disabled),
         Err(fault) => Err(fault),
     }

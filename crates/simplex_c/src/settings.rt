@@ -4,6 +4,7 @@ ghost use Rattle.std.specs.Prelude.{◌≡◌, ◌≢◌, ◌⊎◌, IfErr, IfOk
 ghost use Rattle.cli_settings.specs.Building.{seed_of};
 ghost use Rattle.cli_settings.specs.Checking.{IsFirst, IsGood};
 ghost use Rattle.cli_settings.specs.Program.{program_conduct, program_turns};
+ghost use Rattle.cli_settings.specs.declared.fault.SettingsFault.{SettingsFault};
 ghost use Rattle.simplex_c.specs.Settings.{IsUnfit, SaysCommittee, SaysConduct, SaysSeed, SaysSettings, SaysSkip, forward_number, truth_number};
 ghost use Rattle.simplex_c.specs.declared.settings.Unfit.TheVariants.{Fault, Memory, Number};
 ghost use Rattle.voter_rules.specs.declared.config.ForwardPolicy.{ForwardPolicy};
@@ -210,7 +211,7 @@ pub(crate) fn settings_of(
 fn checked(settings: Settings) -> Result<Settings, Unfit>
     ensures good { IfOk result IsGood }
     ensures same { IfOk result (λ s. s ≡ settings) }
-    ensures fault { IfErr result (λ why. (fault : _) × (why ≡ Fault fault) × IsFirst settings fault) }
+    ensures fault { IfErr result (λ why. (fault : SettingsFault) × (why ≡ Fault fault) × IsFirst settings fault) }
 {
     match settings.check() {
         Ok(()) => Ok(settings),
