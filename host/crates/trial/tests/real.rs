@@ -13,11 +13,12 @@ fn simplex() -> PathBuf {
         return named.into();
     }
     let top = Path::new(env!("CARGO_MANIFEST_DIR")).join("../../..");
-    ["crates/simplex/out/simplex", "demo/out/simplex-unproved"]
-        .iter()
-        .map(|path| top.join(path))
-        .find(|path| path.exists())
-        .expect("there is no program simplex: host/program builds one")
+    let proved = top.join("crates/simplex/out/simplex");
+    assert!(
+        proved.exists(),
+        "name a program simplex in VOUMLIS_PROGRAM: host/program builds one, and prints its path"
+    );
+    proved
 }
 
 #[tokio::test(flavor = "multi_thread")]
