@@ -52,11 +52,15 @@ pub fn open_io<S: Scheme<D> + Drop, L: Elector<S, D>, D: Digest, K: Disk, W: Wri
         (setup_of S.Scheme L.Elector config scheme.value elector) ⟦<S as Speaks<D>>⟧.readable config scheme.value disk now
         (λ r. disk_of r.0) result }
 {
-    let (node, actions) = Node::open(alloc, config, scheme, elector, disk, now)?;
-    let first = Reply {
-        refused: None,
-        actions,
-    };
-    let written = write_out(alloc, &first, writer);
-    Ok((node, written))
+    match Node::open(alloc, config, scheme, elector, disk, now) {
+        Ok((node, actions)) => {
+            let first = Reply {
+                refused: None,
+                actions,
+            };
+            let written = write_out(alloc, &first, writer);
+            Ok((node, written))
+        }
+        Err(refused) => Err(refused),
+    }
 }
