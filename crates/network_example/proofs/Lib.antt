@@ -1,5 +1,9 @@
 mod Calm
+mod Still
 mod Resting
 mod Living
 mod Network
 mod Plain
+mod Stir
+mod Contradicted
+mod PlainContradicted

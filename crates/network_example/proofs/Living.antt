@@ -26,7 +26,7 @@ use Rattle.simplex_member.specs.Member.{Goes, IsPacketPoint, IsPointOf}
 use Rattle.simplex_member.specs.Packet.{Formats, Packet, of_certificate}
 use Rattle.simplex_member.specs.Point.{Point, AreActs, Opened, Found, Began, Came, Told, Leads, Looks, Votes, Repeats, History, is_act}
 use Rattle.simplex_member.specs.Refusals.{packet_tests, refused_deeds, sender_tests, tests}
-use Rattle.simplex_member.specs.Setup.{Setup, IsInTime, owner_of}
+use Rattle.simplex_member.specs.Setup.{Setup, IsInTime, IsOfOneMember, owner_of}
 use Rattle.network_example.specs.Example.{IsJunk, IsPacketOf, crashed_life, first, nullification_of, nullify_of, repeating_life, sender_to, set_up}
 use Rattle.network_example.proofs.Resting.{none-due, opened_first, opened_again, has_repeated, has_taken, quiet-first, quiet-again, quiet-repeated, quiet-taken}
 
@@ -289,5 +289,9 @@ module _ {S D P G C : Type 0} (g : Ghosts S D P G C) (f : Formats S D P G C) (ow
       refl,
     )
 
-    pub both-lived : (junk : Event D) → IsJunk g f junk → Lives g f s [] (crashed_life junk (nullify_of signed i) ∷ repeating_life (nullify_of signed i) handed given ∷ []) (artifact.Nullify (nullify_of signed i) ∷ artifact.Nullification given ∷ [])
-    both-lived junk is = (h2, lived-first junk is, (h5, lived-second, refl))
+    same : IsOfOneMember s s
+    same = record { scheme = refl; me = refl; voter_me = refl; epoch = refl; length = refl; genesis = refl; mode = refl; elect = λ view certificate. refl }
+
+    pub both-lived : (junk : Event D) → IsJunk g f junk → Lives g f s [] (record { setup = s; course = crashed_life junk (nullify_of signed i) } ∷ record { setup = s; course = repeating_life (nullify_of signed i) handed given } ∷ [])
+        (artifact.Nullify (nullify_of signed i) ∷ artifact.Nullification given ∷ [])
+    both-lived junk is = (h2, lived-first junk is, (h5, lived-second, refl, same), same)

@@ -16,7 +16,7 @@ use Rattle.simplex_member.specs.declared.event.Event.TheVariants as event
 use Rattle.simplex_member.specs.Deeds.{Deed, Sends}
 use Rattle.simplex_member.specs.Lives.{Carries, HandedOut, HandsOutBytes, Holds, IsHonestPacket, Life, Members, events_of}
 use Rattle.simplex_member.specs.Packet.{Formats, IsReadable, Packet, of_certificate, packet_of}
-use Rattle.network_example.specs.Example.{AreKeys, ArePackets, IsExample, IsJunk, IsPacketOf, Parts, crashed_life, four_members, four_world, given_up, nullification_of, nullify_of, repeating_life, sender_to}
+use Rattle.network_example.specs.Example.{AreKeys, ArePackets, IsExample, IsJunk, IsPacketOf, Parts, first_life, four_members, four_world, given_up, nullification_of, nullify_of, second_life, sender_to}
 use Rattle.network_example.proofs.Living.{blocked, both-lived}
 use Rattle.network_example.proofs.Resting.{opened_first}
 
@@ -63,16 +63,16 @@ module _ {S D P G C : Type 0} (g : Ghosts S D P G C) (f : Formats S D P G C) (sc
   -- what holds of each event that a member was handed
   module _ (Fine : Event D → Type 0) (junk_fine : Fine x.junk) (moments_fine : (now : ℕ) → Fine (event.Moment now)) (handed_fine : (i : ℕ) → Fine (x.handed i)) where
     abbrev FineLife : Life S D P G C → Type 0
-    FineLife life = All Fine (events_of life)
+    FineLife life = All Fine (events_of life.course)
 
     all-fine : (i : ℕ) → All FineLife (m.lives i)
-    all-fine i = All-cons FineLife (crashed_life x.junk (nullify_of x.signed i)) (repeating_life (nullify_of x.signed i) (x.handed i) (nullification_of x.packed) ∷ [])
+    all-fine i = All-cons FineLife (first_life x i) (second_life x i ∷ [])
         (All-cons Fine x.junk (event.Moment 1000 ∷ []) junk_fine (All-cons Fine (event.Moment 1000) [] (moments_fine 1000) (All-nil Fine)))
-        (All-cons FineLife (repeating_life (nullify_of x.signed i) (x.handed i) (nullification_of x.packed)) []
+        (All-cons FineLife (second_life x i) []
         (All-cons Fine (event.Moment 3000) (x.handed i ∷ []) (moments_fine 3000) (All-cons Fine (x.handed i) [] (handed_fine i) (All-nil Fine))) (All-nil FineLife))
 
-    each-fine : (i : ℕ) (life : Life S D P G C) → Contains (m.lives i) life → (e : Event D) → Contains (events_of life) e → Fine e
-    each-fine i life among e here = All-contains Fine (events_of life) e (All-contains FineLife (m.lives i) life (all-fine i) among) here
+    each-fine : (i : ℕ) (life : Life S D P G C) → Contains (m.lives i) life → (e : Event D) → Contains (events_of life.course) e → Fine e
+    each-fine i life among e here = All-contains Fine (events_of life.course) e (All-contains FineLife (m.lives i) life (all-fine i) among) here
 
   -- ---- what came in is honest
 
@@ -106,7 +106,7 @@ module _ {S D P G C : Type 0} (g : Ghosts S D P G C) (f : Formats S D P G C) (sc
   -- ---- what each hands out
 
   hands-on : (i : ℕ) → HandedOut g f scheme m w i (Sends None (of_certificate certificate_of))
-  hands-on i = (repeating_life (nullify_of x.signed i) (x.handed i) (nullification_of x.packed), (1, last-of-two, refl), (3, last-of-four, refl))
+  hands-on i = (second_life x i, (1, last-of-two, refl), (3, last-of-four, refl))
 
   -- ---- packets in the names of correct members are theirs
 
@@ -142,22 +142,17 @@ module _ {S D P G C : Type 0} (g : Ghosts S D P G C) (f : Formats S D P G C) (sc
 
   pub is-example : IsExample g f scheme x
   is-example = record {
-    network = record {
-      lives = record {
-        some = one-of-four;
-        few = few-enough;
-        members = record {
-          alike = λ i correct. keys.alike i (below i correct);
-          owner = λ i correct. refl;
-          me = λ i correct. refl;
-          lived = λ i correct. both-lived g f x.own x.genesis x.signed i (below i correct) (keys.alike i (below i correct)).size_is (keys.attests i (below i correct)) x.packed (keys.certifies i (below i correct))
-              (x.handed i) (packets.handed i) packets.read x.junk packets.junk;
-          honest = λ i sender correct y came.
-              each-fine HoldsHonest (junk-honest x.junk packets.junk) moment-honest (λ k. handed-honest (x.handed k) (sender_to k) (packets.handed k)) i came.1.0 came.1.1 came.0 came.1.2 sender y came.2;
-        };
-      };
-      elector = record { leader = λ view. Some 3; one = λ i correct view. refl };
+    live = record {
+      alike = λ i correct. keys.alike i (below i correct);
+      owner = λ i correct. refl;
+      me = λ i correct. refl;
+      lived = λ i correct. both-lived g f x.own x.genesis x.signed i (below i correct) (keys.alike i (below i correct)).size_is (keys.attests i (below i correct)) x.packed (keys.certifies i (below i correct))
+          (x.handed i) (packets.handed i) packets.read x.junk packets.junk;
+      honest = λ i sender correct y came.
+          each-fine HoldsHonest (junk-honest x.junk packets.junk) moment-honest (λ k. handed-honest (x.handed k) (sender_to k) (packets.handed k)) i came.1.0 came.1.1 came.0 came.1.2 sender y came.2;
     };
+    few = record { some = one-of-four; few = few-enough };
+    elector = record { leader = λ view. Some 3; one = λ i correct view. refl };
     faithful = record {
       handed = λ i j e by bytes ci cj handed carries.
           each-fine IsOwn (junk-own x.junk packets.junk) moment-own (λ k. handed-own (x.handed k) (sender_to k) (packets.handed k)) i handed.0 handed.1 e handed.2 j by bytes cj carries;
@@ -165,24 +160,24 @@ module _ {S D P G C : Type 0} (g : Ghosts S D P G C) (f : Formats S D P G C) (sc
     };
     attest_alike = λ i j ci cj signer s a attests. keys.one_another i j (below i ci) (below j cj) signer s a attests;
     liar = λ i correct. (
-      crashed_life x.junk (nullify_of x.signed i),
+      first_life x i,
       (0, first-of-two, refl),
       blocked g f x.own x.genesis x.signed i (below i correct) (keys.alike i (below i correct)).size_is (keys.attests i (below i correct)) x.packed (keys.certifies i (below i correct))
           (opened_first g f x.own x.genesis i x.signed (keys.alike i (below i correct)).size_is) x.junk packets.junk,
     );
-    repeated = λ i correct. (repeating_life (nullify_of x.signed i) (x.handed i) (nullification_of x.packed), (1, last-of-two, refl), (1, second-of-four, refl));
-    there = inl (record {
+    repeated = λ i correct. (second_life x i, (1, last-of-two, refl), (1, second-of-four, refl));
+    seen = inl (record {
       member = 0;
       correct = (one-of-four, λ here. ⊎_elim (λ is. omega (arith, is)) (λ none. let l : none.0 < 0 = none.1 in omega (arith, l)) (Contains-cases 3 [] 0 here));
       sender = sender_to 0;
-      came = (x.handed 0, (repeating_life (nullify_of x.signed 0) (x.handed 0) (nullification_of x.packed), (1, last-of-two, refl), (1, last-of-two, refl)), handed-holds (x.handed 0) (sender_to 0) (packets.handed 0));
+      came = (x.handed 0, (second_life x 0, (1, last-of-two, refl), (1, last-of-two, refl)), handed-holds (x.handed 0) (sender_to 0) (packets.handed 0));
       verifies = keys.certifies 0 (omega arith);
     });
     taken = λ i correct. (1, last-of-two, refl);
     handed_on = λ i correct. hands-on i;
     came = λ i correct some. (
       x.handed i,
-      (repeating_life (nullify_of x.signed i) (x.handed i) (nullification_of x.packed), (1, last-of-two, refl), (1, last-of-two, refl)),
+      (second_life x i, (1, last-of-two, refl), (1, last-of-two, refl)),
       subst (λ (sender : ℕ). Holds g f scheme m w (x.handed i) sender (of_certificate certificate_of)) (from-first i some) (handed-holds (x.handed i) (sender_to i) (packets.handed i)),
     );
   }

@@ -1,43 +1,36 @@
 -- Histories of the example at whose ends nothing is due.
 use Rattle.std.proofs.Common.{◌≡◌, ◌⊎◌, inl, inr, ⊎_elim, ℕ, ◌<◌, ◌≤◌, Bool, true, false, List, [], ◌∷◌, Option, Some, None, refl, sym, ◌∙◌, ap, subst, arith}
-use Rattle.std.specs.Prelude.{not, if◌then◌else◌, is_some, option_map, unwrap_or, find, nat_lt, ◌==◌, ◌&&◌}
+use Rattle.std.specs.Prelude.{not, if◌then◌else◌, is_some, unwrap_or, find, nat_lt, ◌==◌, ◌&&◌}
 use Rattle.std.proofs.lemmas.Bool.{both_ways, cases_lt, eqb-true}
 use Rattle.types_quorum.specs.Committee.{quorum}
 use Rattle.types_core.specs.declared.position.Round.{Round}
-use Rattle.types_core.specs.declared.proposal.Proposal.{Proposal}
 use Rattle.types_core.specs.declared.scheme.Scheme.{Ghosts}
 use Rattle.messages_certificates.specs.declared.artifact.Artifact.TheVariants as artifact
 use Rattle.messages_certificates.specs.declared.certificate.Certificate.{Certificate}
 use Rattle.messages_certificates.specs.declared.certificate.Certificate.TheVariants as certificate
 use Rattle.messages_certificates.specs.declared.nullification.Nullification.{Nullification}
 use Rattle.messages_certificates.specs.declared.nullify.Nullify.{Nullify}
-use Rattle.messages_certificates.specs.ProposalCertificate.{Notarization}
 use Rattle.simplex_messages.specs.declared.vote.Vote.{Vote}
 use Rattle.simplex_messages.specs.declared.vote.Vote.TheVariants as vote
 use Rattle.voter_history.specs.declared.timeout_reason.TimeoutReason.{TimeoutReason}
-use Rattle.voter_history.specs.declared.timeout_reason.TimeoutReason.TheVariants as reason
-use Rattle.voter_history.specs.Held.{Offer, held}
+use Rattle.voter_history.specs.Held.{IsConfirmed, Offer, held}
 use Rattle.voter_history.specs.History.{seen}
 use Rattle.voter_history.specs.Leaders.{leader}
-use Rattle.voter_rules.specs.Ancestry.{held_at}
 use Rattle.voter_rules.specs.GivingUp.{NullifyIsDue}
-use Rattle.voter_laws.specs.Missing.{IsMissing}
 use Rattle.batcher_verifier.specs.History as votes
-use Rattle.batcher_verifier.specs.History.{Cast, Certified, Led, forwardable, has_forwarded, is_another, leader_of, next_kind, selected}
+use Rattle.batcher_verifier.specs.History.{Cast, Certified, Led, has_forwarded, is_another, leader_of, next_kind, selected}
 use Rattle.simplex_batcher.specs.Queries.{has_nullify}
-use Rattle.simplex_resolver.specs.declared.ask.Kind as repair
-use Rattle.simplex_resolver.specs.declared.ask.Kind.TheVariants as repair_kind
 use Rattle.simplex_resolver.specs.RepairHistory.{Item, Replayed}
 use Rattle.simplex_resolver.specs.Outstanding.{IsOutstanding}
-use Rattle.simplex_member.specs.Allowed.{HasReason}
 use Rattle.simplex_member.specs.Asked.{build_at}
-use Rattle.simplex_member.specs.Layers.{floor_of, known_of, latest, repair_of, voter_of, votes_of, votes_setup}
+use Rattle.simplex_member.specs.Layers.{floor_of, latest, repair_of, voter_of, votes_of, votes_setup}
 use Rattle.simplex_member.specs.Member.{IsLooked, NoneDue}
 use Rattle.simplex_member.specs.Packet.{Formats}
 use Rattle.simplex_member.specs.Point.{Opened, Found, Began, Came, Told, Leads, Looks, Repeats, History}
-use Rattle.simplex_member.specs.Setup.{Setup, member_of}
+use Rattle.simplex_member.specs.Setup.{Setup}
 use Rattle.network_example.specs.Example.{nullification_of, nullify_of, set_up}
 use Rattle.network_example.proofs.Calm.{IsCalm, IsPlain, calm-leads, calm-seen}
+use Rattle.network_example.proofs.Still.{IsStill, none-due as still}
 
 none-some : {X : Type 0} (x : X) → None ≡ Some x → ⊥
 none-some x e = cc e
@@ -132,64 +125,30 @@ module _ {S D P G C : Type 0} (g : Ghosts S D P G C) (f : Formats S D P G C) (ow
       go x = ⊎_elim (λ below. let l : view < 0 = below.0 in omega (arith, l)) (λ failed. both_ways false refl failed) x.due
 
   module _ (small : i < 3) (h : History S D P G C) (q : IsQuiet h) where
-    unheld : (view : ℕ) (p : Proposal D) → held_at (member_of s) (known_of s h) view ≡ Some p → ⊥
-    unheld view p e = none-some p (sym (ap (λ (o : List (Offer D)). held o) (q.plain view).offers) ∙ e)
-
-    unnotarized : (view : ℕ) (p : Proposal D) → (known_of s h).notarized view ≡ Some p → ⊥
-    unnotarized view p e =
-        none-some p (sym (ap (λ (o : Option (Notarization S D P G C)). option_map (λ (c : Notarization S D P G C). c.proposal) o) (q.plain view).notarization) ∙ e)
-
-    unbuilt : (view : ℕ) → (known_of s h).leader view ≡ Some i → ⊥
-    unbuilt view e = ⊎_elim
-        (λ none. none-some i (sym none ∙ e))
-        (λ three. omega (arith, ap (λ (o : Option ℕ). unwrap_or o 0) (sym three.0 ∙ e), small))
-        (q.led view)
-
-    nothing-missing : (view u : ℕ) (kind : repair.Kind) → IsMissing (member_of s) (known_of s h) view kind u → ⊥
-    nothing-missing view u repair_kind.Nullification missing = unheld view missing.0 missing.1.waits.held
-    nothing-missing view u repair_kind.Notarization missing = unheld view missing.0 missing.1.waits.held
-
-    no-leader : (view index : ℕ) → leader_of (votes_of s h view) ≡ None → (known_of s h).leader view ≡ Some index → ⊥
-    no-leader view index none is = ⊎_elim
-        (λ nobody. none-some index (sym nobody ∙ is))
-        (λ three. none-some 3 (sym none ∙ three.1))
-        (q.led view)
-
-    no-reason : (view : ℕ) (why : TimeoutReason) → HasReason g f s h view why → ⊥
-    no-reason view reason.LeaderNullify there = there.another (q.mine view there.index there.gave_up)
-    no-reason view reason.Inactivity there = none-some there.1.time there.1.within
-    no-reason view reason.InvalidProposal there = unheld view there.0 there.1.waits.held
-    no-reason view why there = there
+    is-still : IsStill g f s h
+    is-still = record {
+      unconfirmed = λ view is. subst (λ (o : List (Offer D)). IsConfirmed o) (q.plain view).offers is;
+      unheld = λ view from. ap (λ (o : List (Offer D)). held o) (q.plain view).offers;
+      unnotarized = λ view. (q.plain view).notarization;
+      others = λ view index is same. ⊎_elim
+          (λ none. none-some index (sym none ∙ is))
+          (λ three. omega (arith, ap (λ (o : Option ℕ). unwrap_or o 0) (sym three.0 ∙ is), same, small))
+          (q.led view);
+      led = λ view index is none. ⊎_elim
+          (λ nobody. none-some index (sym nobody ∙ is))
+          (λ three. none-some 3 (sym none ∙ three.1))
+          (q.led view);
+      unforwarded = λ view. stays-none (not (has_forwarded (votes_of s h view)) && is_another (leader_of (votes_of s h view)) i) (selected (votes_of s h view)) (q.unselected view);
+      unready = q.unready;
+      mine = q.mine;
+      waits = q.waits;
+      looked = q.looked;
+      unasked = q.unasked;
+      settled = q.settled;
+    }
 
     pub none-due : NoneDue g f s h
-    none-due = record {
-      votes = record {
-        no_notarize = λ view due. both_ways (is_some (held ((known_of s h).offers view)))
-            (ap (λ (o : List (Offer D)). is_some (held o)) (q.plain view).offers) due.verified.0;
-        no_nullify = q.waits;
-        no_finalize = λ view due. both_ways (is_some ((known_of s h).notarized view))
-            (ap (λ (o : Option (Notarization S D P G C)). is_some (option_map (λ (c : Notarization S D P G C). c.proposal) o)) (q.plain view).notarization) due.notarized;
-        looked = q.looked;
-      };
-      requests = record {
-        no_build = λ left view parent payload due. unbuilt view due.leads.known;
-        no_verify = λ left view p payload due. unheld view p due.waits.held;
-        no_certify = λ p due. unnotarized p.round.view p due.opens.notarized;
-        no_return = λ number handoff context is given. none-some (handoff, context) (sym (q.unasked number) ∙ is);
-        none_behind = λ number handoff context is behind. none-some (handoff, context) (sym (q.unasked number) ∙ is);
-      };
-      asks = record {
-        no_ask = λ view ask due. ⊎_elim (λ back. q.settled view back.1) (λ wanted. unnotarized wanted.1.0 wanted.1.1.waits.proposal wanted.1.1.waits.opens.notarized) due.sought;
-        none_put_off = λ view required due. unnotarized view due.waits.proposal due.waits.opens.notarized;
-        none_missing = λ left view u kind missing. nothing-missing view u kind missing;
-      };
-      constructions = record {
-        no_construction = λ view up. q.unready view;
-        no_leader = λ view index up none is. no-leader view index none is;
-        no_forward = λ view up. stays-none (not (has_forwarded (votes_of s h view)) && is_another (leader_of (votes_of s h view)) i) (selected (votes_of s h view)) (q.unselected view);
-      };
-      no_reason = λ view why due. no-reason view why due.there;
-    }
+    none-due = still g f s refl refl h is-still
 
   module _ (signed : ℕ → G) (size : g.size (own i) ≡ 4) where
     -- the opening of an empty record; that of one with the nullify; and how that is repeated

@@ -20,11 +20,11 @@ use Rattle.simplex_member.specs.declared.event.Event.TheVariants as event
 use Rattle.simplex_member.specs.declared.refusal.Refusal.TheVariants as refusal
 use Rattle.simplex_member.specs.Deeds.{Sends, Blocks}
 use Rattle.simplex_member.specs.Laws.{DoAttestAlike}
-use Rattle.simplex_member.specs.Lives.{AreFaithful, CameIn, HandedOut, Life, Lasting, Members, Refuses, Went}
+use Rattle.simplex_member.specs.Lives.{AreFaithful, AtMostFLie, CameIn, Course, HandedOut, Life, Lasting, LiveByNodes, Members, Refuses, Went}
 use Rattle.simplex_member.specs.Packet.{Formats, IsReadable, of_certificate, of_vote}
 use Rattle.simplex_member.specs.Point.{Opened, Found, Began, Came, Told, Leads, Looks, Votes, Repeats}
 use Rattle.simplex_member.specs.Setup.{Setup}
-use Rattle.simplex_network.specs.Network.{IsNetwork, IsThere}
+use Rattle.simplex_network.specs.Network.{HaveOneElector, IsSeen}
 
 -- the round that is given up
 abbrev pub first : Round
@@ -76,20 +76,30 @@ module _ {S D P G C : Type 0} where
   nullification_of packed = record { round = first; certificate = packed }
 
   -- its first life: what the liar sends is refused; then the leader's second is over, and it crashes once its nullify is recorded
-  abbrev pub crashed_life : Event D → Nullify S D P G C → Life S D P G C
+  abbrev pub crashed_life : Event D → Nullify S D P G C → Course S D P G C
   crashed_life junk v = Lasting 0 (Opened 0 ∷ Began ∷ Leads 1 3 ∷ []) (Refuses junk refusal.NotDecoded ∷ []) (Some (event.Moment 1000, Told 1000 ∷ Votes (vote.Nullify v) ∷ []))
 
   -- its second: it finds the nullify, and repeats it when that is due; then it takes the certificate, and enters the next view
-  abbrev pub repeating_life : Nullify S D P G C → Event D → Nullification S D P G C → Life S D P G C
+  abbrev pub repeating_life : Nullify S D P G C → Event D → Nullification S D P G C → Course S D P G C
   repeating_life v handed c = Lasting 2000 (Opened 2000 ∷ Found (artifact.Nullify v) false ∷ Began ∷ Leads 1 3 ∷ Looks ∷ [])
       (Went (event.Moment 3000) (Told 3000 ∷ Repeats v None ∷ Looks ∷ []) ∷ Went handed (Came (certificate.Nullification c) ∷ Leads 2 3 ∷ []) ∷ []) None
 
   module _ (x : Parts S D G C) where
+    -- its two lives
+    abbrev pub first_life : ℕ → Life S D P G C
+    first_life i = record { setup = set_up x.own x.genesis i; course = crashed_life x.junk (nullify_of x.signed i) }
+
+    abbrev pub second_life : ℕ → Life S D P G C
+    second_life i = record {
+      setup = set_up x.own x.genesis i;
+      course = repeating_life (nullify_of x.signed i) (x.handed i) (nullification_of x.packed);
+    }
+
     -- how each member is set up, and its lives
     abbrev pub four_members : Members S D P G C
     four_members = record {
       setup = set_up x.own x.genesis;
-      lives = λ i. crashed_life x.junk (nullify_of x.signed i) ∷ repeating_life (nullify_of x.signed i) (x.handed i) (nullification_of x.packed) ∷ [];
+      lives = λ i. first_life i ∷ second_life i ∷ [];
     }
 
     -- what each of them has recorded; the fourth is excused
@@ -129,7 +139,8 @@ module _ {S D P G C : Type 0} (g : Ghosts S D P G C) (f : Formats S D P G C) whe
   -- each of them
   pub record AreKeys (scheme : S) (x : Parts S D G C) : Type 0 where
     pub alike : (i : ℕ) → i < 3 → IsAlike 4 (g.attests scheme) (g.size (x.own i)) (g.attests (x.own i))
-    pub one_another : (i j : ℕ) → i < 3 → j < 3 → (signer : ℕ) (s : Statement D) (a : G) → g.attests (x.own j) signer s a → g.attests (x.own i) signer s a
+    pub one_another : (i j : ℕ) → i < 3 → j < 3 → (signer : ℕ) (s : Statement D) (a : G) → g.attests (x.own j) signer s a
+        → g.attests (x.own i) signer s a
     pub attests : (i : ℕ) → i < 3 → g.attests (x.own i) i (nullify first) (x.signed i)
     pub certifies : (i : ℕ) → i < 3 → g.certifies (x.own i) (nullify first) x.packed
 
@@ -144,15 +155,21 @@ module _ {S D P G C : Type 0} (g : Ghosts S D P G C) (f : Formats S D P G C) whe
   -- member hands out its recorded nullify in its second life, takes the certificate, and hands that on; each but the first is handed it by
   -- the first, which is correct
   pub record IsExample (scheme : S) (x : Parts S D G C) : Type 0 where
-    pub network : IsNetwork g f scheme (four_members x) (four_world x)
+    pub live : LiveByNodes g f scheme (four_members x) (four_world x)
+    pub few : AtMostFLie (four_world {P = P} x)
+    pub elector : HaveOneElector g f scheme (four_members x) (four_world x)
     pub faithful : AreFaithful g f scheme (four_members x) (four_world x)
     pub attest_alike : DoAttestAlike g f scheme (four_members x) (four_world x)
     pub liar : (i : ℕ) → IsCorrect (four_world {P = P} x) i → HandedOut g f scheme (four_members x) (four_world x) i (Blocks 3)
-    pub repeated : (i : ℕ) → IsCorrect (four_world {P = P} x) i → HandedOut g f scheme (four_members x) (four_world x) i (Sends None (of_vote (vote.Nullify (nullify_of x.signed i))))
-    pub there : IsThere g f scheme (four_members x) (four_world x) (given_up x)
-    pub taken : (i : ℕ) → IsCorrect (four_world {P = P} x) i → Contains ((four_world {P = P} x).recorded i) (artifact.Nullification (nullification_of x.packed))
-    pub handed_on : (i : ℕ) → IsCorrect (four_world {P = P} x) i → HandedOut g f scheme (four_members x) (four_world x) i (Sends None (of_certificate (given_up x)))
-    pub came : (i : ℕ) → IsCorrect (four_world {P = P} x) i → 1 ≤ i → CameIn g f scheme (four_members x) (four_world x) i 0 (of_certificate (given_up x))
+    pub repeated : (i : ℕ) → IsCorrect (four_world {P = P} x) i
+        → HandedOut g f scheme (four_members x) (four_world x) i (Sends None (of_vote (vote.Nullify (nullify_of x.signed i))))
+    pub seen : IsSeen g f scheme (four_members x) (four_world x) (given_up x)
+    pub taken : (i : ℕ) → IsCorrect (four_world {P = P} x) i
+        → Contains ((four_world {P = P} x).recorded i) (artifact.Nullification (nullification_of x.packed))
+    pub handed_on : (i : ℕ) → IsCorrect (four_world {P = P} x) i
+        → HandedOut g f scheme (four_members x) (four_world x) i (Sends None (of_certificate (given_up x)))
+    pub came : (i : ℕ) → IsCorrect (four_world {P = P} x) i → 1 ≤ i
+        → CameIn g f scheme (four_members x) (four_world x) i 0 (of_certificate (given_up x))
 
   -- a network is there for each such scheme
   abbrev pub NetworksAreThere : Type 0

@@ -1,2 +1,4 @@
 pub mod Example
 pub mod Plain
+pub mod Contradicted
+pub mod PlainContradicted

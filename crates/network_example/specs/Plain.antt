@@ -30,7 +30,9 @@ module _ {D : Type 0} (payload : D → List ℕ) (base : List ℕ) where
   }
 
 -- a network is there, where the liar sends no bytes for a vote, and the certificate is handed over in its own bytes
-abbrev pub PlainNetworksAreThere : {D P : Type 0} → Ghosts Committee D P (List ℕ) (List (Attestation (List ℕ))) → Formats Committee D P (List ℕ) (List (Attestation (List ℕ))) → (D → List ℕ) → Type 0
-PlainNetworksAreThere {D} {P} g f payload = (base : List ℕ) (genesis : D) (junk : Event D) (handed : ℕ → Event D) → IsOfBytes junk 3 channel.Votes []
+abbrev pub PlainNetworksAreThere : {D P : Type 0} → Ghosts Committee D P (List ℕ) (List (Attestation (List ℕ)))
+    → Formats Committee D P (List ℕ) (List (Attestation (List ℕ))) → (D → List ℕ) → Type 0
+PlainNetworksAreThere {D} {P} g f payload = (base : List ℕ) (genesis : D) (junk : Event D) (handed : ℕ → Event D)
+    → IsOfBytes junk 3 channel.Votes []
     → ((i : ℕ) → IsOfBytes (handed i) (sender_to i) channel.Certificates (f.packet (of_certificate (given_up (plain_parts payload base genesis junk handed)))))
     → IsExample g f (member_of_four base 0) (plain_parts payload base genesis junk handed)

@@ -1,12 +1,16 @@
-//! That networks are there.
+//! That networks are there, and that contradictory certificates can be reported in one.
 
+ghost use Rattle.simplex_member.specs.Laws.{IsExact};
 ghost use Rattle.simplex_member.specs.Packet.{Formats, formats};
+ghost use Rattle.network_example.specs.Contradicted.{ContradictionsAreNamed};
 ghost use Rattle.network_example.specs.Example.{NetworksAreThere};
 ghost use Rattle.network_example.specs.Plain.{PlainNetworksAreThere};
+ghost use Rattle.network_example.specs.PlainContradicted.{PlainContradictionsAreNamed};
 
 use simplex_member::packets_are_read_back;
+use simplex_network::accountability;
 use simplex_types::{AttestationList, PlainScheme, PlainSignature};
-use types_core::{Digest, Read, Scheme, Write};
+use types_core::{Digest, Listing, Read, Scheme, Write};
 
 /// A network of four members: three of them each open, refuse what the fourth sends, a liar, and block it; crash
 /// once their nullify of view 1 is recorded, and before it is sent; open again, find it, and repeat it. Then the first
@@ -25,5 +29,26 @@ pub fn plain_networks_are_there<D: Digest>()
         ⟦<AttestationList<PlainSignature> as Read>⟧.reading 4) D.spelling }
 {
     networks_are_there::<PlainScheme, D>();
+    packets_are_read_back::<PlainScheme, D>();
+}
+
+/// Three of four members are excused; their certificates finalize view 2 and give it up. The fourth crashes right behind
+/// its first opening; in its second life, where a leader has 1,500 in place of 1,000, nothing is due at 1,200; then it
+/// takes both certificates and reports them. Each audit of these reports names at least two members of the view, and not
+/// this one.
+pub fn contradictions_are_named<S: Listing<D>, D: Digest>()
+    ensures { (f : Formats S D S.PublicKey S.Signature S.Certificate) → IsExact f → ContradictionsAreNamed S.Scheme f D.cmp }
+{
+    accountability::<S, D>();
+}
+
+/// So they are under the plain scheme, with packets as the messages spell them: each certificate lists the attestations
+/// of the three that are excused.
+pub fn plain_contradictions_are_named<D: Digest>()
+    ensures { PlainContradictionsAreNamed ⟦<PlainScheme as Scheme<D>>⟧ (formats D.PartialEq.eq D.spelling ⟦<PlainSignature as Write>⟧.spelling
+        ⟦<AttestationList<PlainSignature> as Write>⟧.spelling D.reading ⟦<PlainSignature as Read>⟧.reading
+        ⟦<AttestationList<PlainSignature> as Read>⟧.reading 4) D.cmp D.spelling D.fits }
+{
+    contradictions_are_named::<PlainScheme, D>();
     packets_are_read_back::<PlainScheme, D>();
 }

@@ -1,6 +1,9 @@
-//! An example of a network, which shows that what is asked of one can be met.
+//! Examples of networks, which show that what is asked of one can be met, and that what is told of contradictions can come about.
 #![tactic(auto)]
 
 mod laws;
 
-pub use laws::{networks_are_there, plain_networks_are_there};
+pub use laws::{
+    contradictions_are_named, networks_are_there, plain_contradictions_are_named,
+    plain_networks_are_there,
+};

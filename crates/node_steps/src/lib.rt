@@ -7,5 +7,5 @@ mod opening;
 mod stepping;
 
 pub use node::Node;
-pub use simplex_network::{accountability, agreement};
+pub use simplex_network::{accountability, agreement, headline};
 pub use simplex_record::{Owner, first_refused};

@@ -33,13 +33,13 @@ use Rattle.simplex_member.specs.Allowed.{Allowed, AreAllowed, MayRecord}
 use Rattle.simplex_member.specs.First.{IsFirst}
 use Rattle.simplex_member.specs.Layers.{is_begun, known_of}
 use Rattle.simplex_member.specs.Laws.{RoundLaws}
-use Rattle.simplex_member.specs.Lives.{Life, Broken, Lasting, Turn, Refuses, Went, IsCut, Lived, Lives, Turns, points_of, turn_points}
+use Rattle.simplex_member.specs.Lives.{Course, Life, Broken, Lasting, Turn, Refuses, Went, IsCut, Lived, Lives, Turns, points_of, turn_points}
 use Rattle.simplex_member.specs.Member.{AreFound, AreOpening, AreStep, Goes, IsPointOf, after}
 use Rattle.simplex_member.specs.Packet.{Formats, Packet}
 use Rattle.simplex_member.specs.Point.{Point, Opened, Found, Began, Heard, Came, Judged, Constructs, AsksCertify, Votes, History}
 use Rattle.simplex_member.specs.Recorded.{put_behind, record_of, recorded_by}
 use Rattle.simplex_member.specs.Refusals.{packet_tests, sender_tests, tests}
-use Rattle.simplex_member.specs.Setup.{Setup, member_of}
+use Rattle.simplex_member.specs.Setup.{IsOfOneMember, Setup, member_of}
 use Rattle.simplex_member.proofs.Ballots.{made-lists}
 use Rattle.simplex_member.proofs.Binding.{due-bound}
 use Rattle.simplex_member.proofs.Blame.{after-goes}
@@ -51,7 +51,8 @@ use Rattle.simplex_member.proofs.Listed.{vote-entry}
 use Rattle.simplex_member.proofs.Lists.{Contains-map}
 use Rattle.simplex_member.proofs.Recordable.{matches}
 use Rattle.simplex_member.proofs.Telling.{apart}
-use Rattle.simplex_member.proofs.Walking.{cut_points, each-first, goes-part, life-goes}
+use Rattle.simplex_member.proofs.Sameness.{ground-by, same-turned}
+use Rattle.simplex_member.proofs.Walking.{cut_points, each-first, goes-part, life-goes, lived-among}
 
 same-first : {X : Type 0} (x y : X) (xs ys : List X) → x ∷ xs ≡ y ∷ ys → x ≡ y
 same-first {X} x y xs ys is = ap first is
@@ -326,7 +327,7 @@ module _ {S D P G C : Type 0} (g : Ghosts S D P G C) (f : Formats S D P G C) (s 
         let none = subst (λ (l : List (Point S D P G C)). Each IsNoneOfOthers l) whole own in
         read-alone (Opened now ∷ []) found o.read (o.acts ++ more) end o.are gone.1 none.1 (gone.0, tt) alone
 
-    life-alone : (found : List (Artifact S D P G C)) (life : Life S D P G C) (end : History S D P G C) → Lived g f s found life end → Each IsNoneOfOthers (points_of life) → Alone found → IsAlone end
+    life-alone : (found : List (Artifact S D P G C)) (life : Course S D P G C) (end : History S D P G C) → Lived g f s found life end → Each IsNoneOfOthers (points_of life) → Alone found → IsAlone end
     life-alone found (Broken now points) end lived own alone = walk-alone now found points [] points end lived.0 (sym (append-nil points)) lived.1 own alone
     life-alone found (Lasting now points turns cut) end lived own alone =
         walk-alone now found points (turn_points turns ++ cut_points cut) (points ++ turn_points turns ++ cut_points cut) end lived.2 (append_assoc points (turn_points turns) (cut_points cut)) (life-goes g f s found (Lasting now points turns cut) end lived) own alone
@@ -362,14 +363,10 @@ module _ {S D P G C : Type 0} (g : Ghosts S D P G C) (f : Formats S D P G C) (s 
     opening-own : (now : ℕ) (found : List (Artifact S D P G C)) (points : List (Point S D P G C)) → AreOpening g f s now found points → Each IsNoneOfOthers points
     opening-own now found points o = opening-each g f s IsNoneOfOthers quiet-none now found points o (λ x taken there. tt)
 
-    life-own : (found : List (Artifact S D P G C)) (life : Life S D P G C) (end : History S D P G C) → Lived g f s found life end → Each IsNoneOfOthers (points_of life)
+    life-own : (found : List (Artifact S D P G C)) (life : Course S D P G C) (end : History S D P G C) → Lived g f s found life end → Each IsNoneOfOthers (points_of life)
     life-own found (Broken now points) end lived = opening-own now found points lived.0
     life-own found (Lasting now points turns cut) end lived = each-append IsNoneOfOthers (points ++ turn_points turns) (cut_points cut)
         (each-append IsNoneOfOthers points (turn_points turns) (opening-own now found points lived.2) (turns-own lived.0 turns lived.1 lived.4)) (cut-own lived.1 cut end lived.5)
-
-    pub lives-alone : (found : List (Artifact S D P G C)) (lives : List (Life S D P G C)) (left : List (Artifact S D P G C)) → Lives g f s found lives left → Alone found → Alone left
-    lives-alone found [] left is alone = subst (λ (r : List (Artifact S D P G C)). Alone r) (sym is) alone
-    lives-alone found (life ∷ lives) left all alone = lives-alone (record_of all.0) lives left all.2 (life-alone found life all.0 all.1 (life-own found life all.0 all.1) alone).alone
 
     -- ---- on the way
 
@@ -384,29 +381,71 @@ module _ {S D P G C : Type 0} (g : Ghosts S D P G C) (f : Formats S D P G C) (s 
         let none = subst (λ (l : List (Point S D P G C)). Each IsNoneOfOthers l) part.1 own in
         read-alone (Opened now ∷ []) found o.read part.0 h o.are gone.1 none.1 (gone.0, tt) alone
 
-    life-part : (found : List (Artifact S D P G C)) (life : Life S D P G C) (end : History S D P G C) → Lived g f s found life end → Alone found
+    life-part : (found : List (Artifact S D P G C)) (life : Course S D P G C) (end : History S D P G C) → Lived g f s found life end → Alone found
         → (before behind : List (Point S D P G C)) → points_of life ≡ before ++ behind → is_begun (after [] before) ≡ true → IsAlone (after [] before)
     life-part found life end lived alone before behind split begun =
         let goes = goes-part g f s [] end before behind (subst (λ (l : List (Point S D P G C)). Goes g f s [] l end) split (life-goes g f s found life end lived)) in
         let own = each-first IsNoneOfOthers before behind (subst (λ (l : List (Point S D P G C)). Each IsNoneOfOthers l) split (life-own found life end lived)) in
         go life lived split goes own
       where
-        go : (l : Life S D P G C) → Lived g f s found l end → points_of l ≡ before ++ behind → Goes g f s [] before (after [] before) → Each IsNoneOfOthers before → IsAlone (after [] before)
+        go : (l : Course S D P G C) → Lived g f s found l end → points_of l ≡ before ++ behind → Goes g f s [] before (after [] before) → Each IsNoneOfOthers before → IsAlone (after [] before)
         go (Broken now points) is same goes own = part-alone now found points [] before behind (after [] before) is.0 (append-nil points ∙ same) goes begun own alone
         go (Lasting now points turns cut) is same goes own = part-alone now found points (turn_points turns ++ cut_points cut) before behind (after [] before) is.2 (sym (append_assoc points (turn_points turns) (cut_points cut)) ∙ same) goes begun own alone
 
-    lives-part : (found : List (Artifact S D P G C)) (lives : List (Life S D P G C)) (left : List (Artifact S D P G C)) → Lives g f s found lives left → Alone found → (life : Life S D P G C) → Contains lives life
-        → (before behind : List (Point S D P G C)) → points_of life ≡ before ++ behind → is_begun (after [] before) ≡ true → IsAlone (after [] before)
-    lives-part found [] left all alone life here before behind split begun = absurd (omega (arith, here.1))
-    lives-part found (x ∷ lives) left all alone life here before behind split begun = ⊎_elim
-        (λ is. life-part found x all.0 all.1 alone before behind (ap points_of is ∙ split) begun)
-        (λ later. lives-part (record_of all.0) lives left all.2 (life-alone found x all.0 all.1 (life-own found x all.0 all.1) alone).alone life later before behind split begun)
-        (Contains-cases x lives life here)
+-- ---- lives, each by a setup of its own
 
-    -- what may come next stands on ground
-    pub next-stands : (left : List (Artifact S D P G C)) (lives : List (Life S D P G C)) → Lives g f s [] lives left → (life : Life S D P G C) → Contains lives life
-        → (before behind : List (Point S D P G C)) → points_of life ≡ before ++ behind → (h : History S D P G C) → h ≡ after [] before → is_begun h ≡ true
-        → (p : Point S D P G C) → Allowed g f s h p → IfSome (recorded_by p) (λ x. MayFollowOnGround 1 s.voter.length (scheduled_leader s.voter) s.me (entries (record_of h)) (entry x))
-    next-stands left lives all life here before behind split h is begun p a =
-        let alone = subst IsAlone (sym is) (lives-part [] lives left all (nothing-alone s.voter.length (scheduled_leader s.voter) s.me) life here before behind split (subst (λ (k : History S D P G C). is_begun k ≡ true) is begun)) in
-        allowed-stands h alone p a
+module _ {S D P G C : Type 0} (g : Ghosts S D P G C) (f : Formats S D P G C) (s : Setup S D C)
+    (law : EachHistoryMatches S D P G C) (notarize_law : DueNotarizeIsOnGroundOrNext D) (verdict : DueVerdictOfOneIsOnGround D) (stays : GroundStays D) (laws : RoundLaws g f.same)
+    (mine : s.voter.me ≡ Some s.me) (one : g.size s.voter.scheme ≡ 1) (first : s.me ≡ 0)
+    (backed : (x : Statement D) (c : C) → g.certifies s.voter.scheme x c → IsQuorum (g.size s.voter.scheme) (λ i a. g.attests s.voter.scheme i x a) (g.lists c)) where
+  module _ (t : Setup S D C) (same : IsOfOneMember s t) where
+    mine-too : t.voter.me ≡ Some t.me
+    mine-too = same.voter_me ∙ (mine ∙ ap (λ (n : ℕ). Some n) (sym same.me))
+
+    one-too : g.size t.voter.scheme ≡ 1
+    one-too = ap (λ (own : S). g.size own) same.scheme ∙ one
+
+    backed-too : (x : Statement D) (c : C) → g.certifies t.voter.scheme x c → IsQuorum (g.size t.voter.scheme) (λ i a. g.attests t.voter.scheme i x a) (g.lists c)
+    backed-too x c = subst (λ (own : S). g.certifies own x c → IsQuorum (g.size own) (λ i a. g.attests own i x a) (g.lists c)) (sym same.scheme) (backed x c)
+
+    alone-there : (r : List (Artifact S D P G C)) → Alone g f s r → Alone g f t r
+    alone-there r is = ground-by g t s (same-turned g s t same) (λ n views leader i. StandsAlone views leader i (entries r)) is
+
+    alone-back : (r : List (Artifact S D P G C)) → Alone g f t r → Alone g f s r
+    alone-back r is = ground-by g s t same (λ n views leader i. StandsAlone views leader i (entries r)) is
+
+    leaves-alone : (found : List (Artifact S D P G C)) (life : Course S D P G C) (end : History S D P G C) → Lived g f t found life end → Alone g f s found → Alone g f s (record_of end)
+    leaves-alone found life end lived alone = alone-back (record_of end)
+        (life-alone g f t law notarize_law verdict stays laws mine-too one-too (same.me ∙ first) backed-too found life end lived
+        (life-own g f t law notarize_law verdict stays laws mine-too one-too (same.me ∙ first) backed-too found life end lived) (alone-there found alone)).alone
+
+    part-of : (found : List (Artifact S D P G C)) (life : Course S D P G C) (end : History S D P G C) → Lived g f t found life end → Alone g f s found
+        → (before behind : List (Point S D P G C)) → points_of life ≡ before ++ behind → is_begun (after [] before) ≡ true → IsAlone g f t (after [] before)
+    part-of found life end lived alone before behind split begun =
+        life-part g f t law notarize_law verdict stays laws mine-too one-too (same.me ∙ first) backed-too found life end lived (alone-there found alone) before behind split begun
+
+    stands-next : (h : History S D P G C) → IsAlone g f t h → (p : Point S D P G C) → Allowed g f t h p
+        → IfSome (recorded_by p) (λ x. MayFollowOnGround 1 s.voter.length (scheduled_leader s.voter) s.me (entries (record_of h)) (entry x))
+    stands-next h alone p a = ground-by g s t same (λ n views leader i. IfSome (recorded_by p) (λ x. MayFollowOnGround 1 views leader i (entries (record_of h)) (entry x)))
+        (allowed-stands g f t law notarize_law verdict stays laws mine-too one-too (same.me ∙ first) backed-too h alone p a)
+
+  pub lives-alone : (found : List (Artifact S D P G C)) (lives : List (Life S D P G C)) (left : List (Artifact S D P G C)) → Lives g f s found lives left → Alone g f s found → Alone g f s left
+  lives-alone found [] left is alone = subst (λ (r : List (Artifact S D P G C)). Alone g f s r) (sym is) alone
+  lives-alone found (life ∷ lives) left all alone = lives-alone (record_of all.0) lives left all.2 (leaves-alone life.setup all.3 found life.course all.0 all.1 alone)
+
+  lives-part : (found : List (Artifact S D P G C)) (lives : List (Life S D P G C)) (left : List (Artifact S D P G C)) → Lives g f s found lives left → Alone g f s found → (life : Life S D P G C) → Contains lives life
+      → (before behind : List (Point S D P G C)) → points_of life.course ≡ before ++ behind → is_begun (after [] before) ≡ true → IsAlone g f life.setup (after [] before)
+  lives-part found [] left all alone life here before behind split begun = absurd (omega (arith, here.1))
+  lives-part found (x ∷ lives) left all alone life here before behind split begun = ⊎_elim
+      (λ is. subst (λ (l : Life S D P G C). IsAlone g f l.setup (after [] before)) is
+      (part-of x.setup all.3 found x.course all.0 all.1 alone before behind (ap (λ (l : Life S D P G C). points_of l.course) is ∙ split) begun))
+      (λ later. lives-part (record_of all.0) lives left all.2 (leaves-alone x.setup all.3 found x.course all.0 all.1 alone) life later before behind split begun)
+      (Contains-cases x lives life here)
+
+  -- what may come next stands on ground
+  pub next-stands : (left : List (Artifact S D P G C)) (lives : List (Life S D P G C)) → Lives g f s [] lives left → (life : Life S D P G C) → Contains lives life
+      → (before behind : List (Point S D P G C)) → points_of life.course ≡ before ++ behind → (h : History S D P G C) → h ≡ after [] before → is_begun h ≡ true
+      → (p : Point S D P G C) → Allowed g f life.setup h p → IfSome (recorded_by p) (λ x. MayFollowOnGround 1 s.voter.length (scheduled_leader s.voter) s.me (entries (record_of h)) (entry x))
+  next-stands left lives all life here before behind split h is begun p a =
+      let alone = subst (IsAlone g f life.setup) (sym is) (lives-part [] lives left all (nothing-alone s.voter.length (scheduled_leader s.voter) s.me) life here before behind split (subst (λ (k : History S D P G C). is_begun k ≡ true) is begun)) in
+      stands-next life.setup (lived-among g f s [] lives left life all here).own h alone p a

@@ -26,7 +26,7 @@ use Rattle.simplex_member.specs.declared.refusal.Refusal.{Refusal}
 use Rattle.simplex_member.specs.declared.refusal.Refusal.TheVariants as refusal
 use Rattle.simplex_member.specs.Deeds.{Deed, Sends, Serves, Blocks, Reports, all_deeds}
 use Rattle.simplex_member.specs.Laws.{AreReadBack, IsOwnAndSound, RecordLaws}
-use Rattle.simplex_member.specs.Lives.{Life, Broken, Lasting, Turn, Refuses, Went, AreFaithful, AreMembers, CameIn, HandedOut, HandsOutBytes, Holds, Lived, Lives, Members, Turns, WasHanded, handed_out, turn_deeds}
+use Rattle.simplex_member.specs.Lives.{Course, Life, Broken, Lasting, Turn, Refuses, Went, AreFaithful, CameIn, HandedOut, HandsOutBytes, Holds, LiveByNodes, Lived, Lives, Members, Turns, WasHanded, handed_out, turn_deeds}
 use Rattle.simplex_member.specs.Member.{Goes, after}
 use Rattle.simplex_member.specs.Packet.{Formats, IsReadable, Packet, of_ask, of_certificate, of_vote}
 use Rattle.simplex_member.specs.Point.{Point, History}
@@ -71,7 +71,7 @@ module _ {S D P G C : Type 0} (g : Ghosts S D P G C) (f : Formats S D P G C) (s 
   evidence-none h sender (Some (of_vote v)) = lacks-map vote_in Reports _ (λ a. refl)
   evidence-none h sender o = lacks-nil vote_in
 
-  refused-none : (h : History S D P G C) (e : Event D) (r : Refusal) → Lacks vote_in (refused_deeds g f s h e r)
+  pub refused-none : (h : History S D P G C) (e : Event D) (r : Refusal) → Lacks vote_in (refused_deeds g f s h e r)
   refused-none h (event.Packet sender by bytes) r = lacks-append vote_in (if blocks_sender r then Blocks sender ∷ [] else []) (refusal_report g f s r (evidence_deeds g f s h sender (f.packet_in by bytes.items)))
       (lacks-if vote_in (blocks_sender r) (Blocks sender ∷ []) (lacks-one vote_in (Blocks sender) refl)) (report-none r _ (evidence-none h sender (f.packet_in by bytes.items)))
   refused-none h e r = lacks-nil vote_in
@@ -87,21 +87,12 @@ module _ {S D P G C : Type 0} (g : Ghosts S D P G C) (f : Formats S D P G C) (s 
       (λ later. turns-sent t.0 turns end to v t.3 (subst (λ (m : History S D P G C). Contains (turn_deeds g f s m turns) (Sends to (of_vote v))) (after-goes h points t.0 t.2.goes) later))
       (Contains-append_cases (all_deeds g f s h points) (turn_deeds g f s (after h points) turns) (Sends to (of_vote v)) sent)
 
-  life-sent : (found : List (Artifact S D P G C)) (life : Life S D P G C) (end : History S D P G C) (to : Option ℕ) (v : Vote S D P G C) → Lived g f s found life end → Contains (handed_out g f s life) (Sends to (of_vote v)) → Contains (record_of end) (vote_artifact v)
+  life-sent : (found : List (Artifact S D P G C)) (life : Course S D P G C) (end : History S D P G C) (to : Option ℕ) (v : Vote S D P G C) → Lived g f s found life end → Contains (handed_out g f s life) (Sends to (of_vote v)) → Contains (record_of end) (vote_artifact v)
   life-sent found (Broken now points) end to v lived sent = absurd (omega (arith, sent.1))
   life-sent found (Lasting now points turns cut) end to v lived sent = cut-keeps g f s lived.1 cut end lived.5 (vote_artifact v) (⊎_elim
       (λ here. turns-keep g f s lived.0 turns lived.1 lived.4 (vote_artifact v) (sent-recorded g f s [] lived.0 points to v lived.3.goes here))
       (λ later. turns-sent lived.0 turns lived.1 to v lived.4 (subst (λ (m : History S D P G C). Contains (turn_deeds g f s m turns) (Sends to (of_vote v))) (after-goes [] points lived.0 lived.3.goes) later))
       (Contains-append_cases (all_deeds g f s [] points) (turn_deeds g f s (after [] points) turns) (Sends to (of_vote v)) sent))
-
-  -- what lives handed out is recorded at their end
-  lives-sent : (found : List (Artifact S D P G C)) (lives : List (Life S D P G C)) (left : List (Artifact S D P G C)) (life : Life S D P G C) (to : Option ℕ) (v : Vote S D P G C) → Lives g f s found lives left
-      → Contains lives life → Contains (handed_out g f s life) (Sends to (of_vote v)) → Contains left (vote_artifact v)
-  lives-sent found [] left life to v all here sent = absurd (omega (arith, here.1))
-  lives-sent found (x ∷ lives) left life to v all here sent = ⊎_elim
-      (λ is. lives-keep g f s (record_of all.0) lives left all.2 (vote_artifact v) (life-sent found x all.0 to v all.1 (subst (λ (l : Life S D P G C). Contains (handed_out g f s l) (Sends to (of_vote v))) (sym is) sent)))
-      (λ later. lives-sent (record_of all.0) lives left life to v all.2 later sent)
-      (Contains-cases x lives life here)
 
   -- of a lawful record: what stands in it was allowed there
   pub placed : (r : List (Artifact S D P G C)) → Lawful g f s r → (x : Artifact S D P G C) → Contains r x → (before : List (Artifact S D P G C)) × (behind : List (Artifact S D P G C)) × (r ≡ before ++ x ∷ behind) × Fits (g.attests s.voter.scheme) (g.certifies s.voter.scheme) (owner_of s) before x
@@ -126,9 +117,20 @@ module _ {S D P G C : Type 0} (g : Ghosts S D P G C) (f : Formats S D P G C) (s 
       let may = subst (λ (e : Entry D). MayFollow s.voter.length (entries first.before) e) taken.2 fits.follows in
       may.parent_below
 
+module _ {S D P G C : Type 0} (g : Ghosts S D P G C) (f : Formats S D P G C) (s : Setup S D C) where
+  -- what lives handed out is recorded at their end
+  lives-sent : (found : List (Artifact S D P G C)) (lives : List (Life S D P G C)) (left : List (Artifact S D P G C)) (life : Life S D P G C) (to : Option ℕ) (v : Vote S D P G C) → Lives g f s found lives left
+      → Contains lives life → Contains (handed_out g f life.setup life.course) (Sends to (of_vote v)) → Contains left (vote_artifact v)
+  lives-sent found [] left life to v all here sent = absurd (omega (arith, here.1))
+  lives-sent found (x ∷ lives) left life to v all here sent = ⊎_elim
+      (λ is. lives-keep g f s (record_of all.0) lives left all.2 (vote_artifact v)
+      (life-sent g f x.setup found x.course all.0 to v all.1 (subst (λ (l : Life S D P G C). Contains (handed_out g f l.setup l.course) (Sends to (of_vote v))) (sym is) sent)))
+      (λ later. lives-sent (record_of all.0) lives left life to v all.2 later sent)
+      (Contains-cases x lives life here)
+
 module _ {S D P G C : Type 0} (g : Ghosts S D P G C) (f : Formats S D P G C) (scheme : S) (m : Members S D P G C) (world : World S D P G C) where
   -- a vote that a correct member handed out is its own, recorded, with its parent below
-  pub own-sound : RecordLaws g → AreMembers g f scheme m world → (j : ℕ) → IsCorrect world j → (to : Option ℕ) (v : Vote S D P G C) → HandedOut g f scheme m world j (Sends to (of_vote v)) → IsOwnAndSound world j v
+  pub own-sound : RecordLaws g → LiveByNodes g f scheme m world → (j : ℕ) → IsCorrect world j → (to : Option ℕ) (v : Vote S D P G C) → HandedOut g f scheme m world j (Sends to (of_vote v)) → IsOwnAndSound world j v
   own-sound grows w j correct to v sent =
       let lived = w.lived j correct in
       let here = lives-sent g f (m.setup j) [] (m.lives j) (world.recorded j) sent.0 to v lived sent.1 sent.2 in
@@ -147,7 +149,7 @@ module _ {S D P G C : Type 0} (g : Ghosts S D P G C) (f : Formats S D P G C) (sc
   vote-readable faithful j correct (vote.Finalize v) here = faithful.readable j correct (artifact.Finalize v) here
 
   -- so is each vote that came in to a correct member by a packet of it
-  pub came-sound : RecordLaws g → AreReadBack f → AreMembers g f scheme m world → AreFaithful g f scheme m world → (i j : ℕ) → IsCorrect world i → IsCorrect world j → (v : Vote S D P G C) → CameIn g f scheme m world i j (of_vote v) → IsOwnAndSound world j v
+  pub came-sound : RecordLaws g → AreReadBack f → LiveByNodes g f scheme m world → AreFaithful g f scheme m world → (i j : ℕ) → IsCorrect world i → IsCorrect world j → (v : Vote S D P G C) → CameIn g f scheme m world i j (of_vote v) → IsOwnAndSound world j v
   came-sound grows back w faithful i j ci cj v came = go came.0 came.1 came.2
     where
       by-deed : (by : Channel) (bytes : List ℕ) → f.packet_in by bytes ≡ Some (of_vote v) → (d : Deed S D P G C) → HandedOut g f scheme m world j d → HandsOutBytes g f scheme m world by bytes d → IsOwnAndSound world j v

@@ -27,11 +27,12 @@ use Rattle.simplex_member.specs.Allowed.{Allowed}
 use Rattle.simplex_member.specs.Deeds.{Deed, Sends, Serves, Blocks, Reports}
 use Rattle.simplex_member.specs.First.{IsFirst}
 use Rattle.simplex_member.specs.Laws.{AreReadBack, DoAttestAlike, HoldsNoVote, IsRefusedFor, RecordLaws, RoundLaws}
-use Rattle.simplex_member.specs.Lives.{AreFaithful, AreMembers, Carries, HandedOut, HandsOutBytes, Members}
+use Rattle.simplex_member.specs.Lives.{AreFaithful, Carries, HandedOut, HandsOutBytes, LiveByNodes, Members}
 use Rattle.simplex_member.specs.Packet.{Formats, IsReadable, Packet, of_vote, of_certificate, of_ask, packet_channel}
 use Rattle.simplex_member.specs.Point.{Point, History}
 use Rattle.simplex_member.specs.Recorded.{record_of, recorded_by}
 use Rattle.simplex_member.specs.Refusals.{blocks_sender, evidence_deeds, packet_tests, refusal_report, refused_deeds, sender_tests, tests}
+use Rattle.simplex_member.specs.Setup.{IsOfOneMember, Setup}
 use Rattle.simplex_member.proofs.Allowing.{begun-allowed}
 use Rattle.simplex_member.proofs.Asking.{AreSmall, asked-low}
 use Rattle.simplex_member.proofs.Blame.{own-sound, splits, vote-readable}
@@ -58,23 +59,23 @@ module _ {S D P G C : Type 0} where
   sender-none false sender d out here = Contains-nil d here
 
 module _ {S D P G C : Type 0} (g : Ghosts S D P G C) (f : Formats S D P G C) (scheme : S) (m : Members S D P G C) (world : World S D P G C) where
-  evidence-none : (i : ℕ) (h : History S D P G C) (sender : ℕ) (o : Option (Packet S D P G C)) (d : Deed S D P G C) → goes_out d ≡ true → Contains (evidence_deeds g f (m.setup i) h sender o) d → ⊥
-  evidence-none i h sender (Some (of_vote v)) d out here = let of = Contains-mapped Reports _ d here in absurd (cc (ap goes_out of.2, out))
-  evidence-none i h sender o d out here = Contains-nil d here
+  evidence-none : (s : Setup S D C) (h : History S D P G C) (sender : ℕ) (o : Option (Packet S D P G C)) (d : Deed S D P G C) → goes_out d ≡ true → Contains (evidence_deeds g f s h sender o) d → ⊥
+  evidence-none s h sender (Some (of_vote v)) d out here = let of = Contains-mapped Reports _ d here in absurd (cc (ap goes_out of.2, out))
+  evidence-none s h sender o d out here = Contains-nil d here
 
-  report-none : (i : ℕ) (r : Refusal) (deeds : List (Deed S D P G C)) (d : Deed S D P G C) → (Contains deeds d → ⊥) → Contains (refusal_report g f (m.setup i) r deeds) d → ⊥
-  report-none i refusal.Contradiction deeds d none here = none here
-  report-none i r deeds d none here = Contains-nil d here
+  report-none : (s : Setup S D C) (r : Refusal) (deeds : List (Deed S D P G C)) (d : Deed S D P G C) → (Contains deeds d → ⊥) → Contains (refusal_report g f s r deeds) d → ⊥
+  report-none s refusal.Contradiction deeds d none here = none here
+  report-none s r deeds d none here = Contains-nil d here
 
   -- a refusal hands out no bytes
-  refused-none : (i : ℕ) (h : History S D P G C) (e : Event D) (r : Refusal) (d : Deed S D P G C) → goes_out d ≡ true → Contains (refused_deeds g f (m.setup i) h e r) d → ⊥
-  refused-none i h (event.Packet sender by bytes) r d out here = ⊎_elim
+  refused-none : (s : Setup S D C) (h : History S D P G C) (e : Event D) (r : Refusal) (d : Deed S D P G C) → goes_out d ≡ true → Contains (refused_deeds g f s h e r) d → ⊥
+  refused-none s h (event.Packet sender by bytes) r d out here = ⊎_elim
       (λ block. sender-none (blocks_sender r) sender d out block)
-      (λ report. report-none i r (evidence_deeds g f (m.setup i) h sender (f.packet_in by bytes.items)) d (evidence-none i h sender (f.packet_in by bytes.items) d out) report)
-      (Contains-append_cases (if blocks_sender r then Blocks sender ∷ [] else []) (refusal_report g f (m.setup i) r (evidence_deeds g f (m.setup i) h sender (f.packet_in by bytes.items))) d here)
-  refused-none i h e r d out here = Contains-nil d here
+      (λ report. report-none s r (evidence_deeds g f s h sender (f.packet_in by bytes.items)) d (evidence-none s h sender (f.packet_in by bytes.items) d out) report)
+      (Contains-append_cases (if blocks_sender r then Blocks sender ∷ [] else []) (refusal_report g f s r (evidence_deeds g f s h sender (f.packet_in by bytes.items))) d here)
+  refused-none s h e r d out here = Contains-nil d here
 
-  module _ (grows : RecordLaws g) (w : AreMembers g f scheme m world) (j : ℕ) (cj : IsCorrect world j) where
+  module _ (grows : RecordLaws g) (w : LiveByNodes g f scheme m world) (j : ℕ) (cj : IsCorrect world j) where
     lawful : Lawful g f (m.setup j) (world.recorded j)
     lawful = all-lives-lawful g f (m.setup j) grows (m.lives j) (world.recorded j) (w.lived j cj)
 
@@ -93,12 +94,12 @@ module _ {S D P G C : Type 0} (g : Ghosts S D P G C) (f : Formats S D P G C) (sc
     sent-recorded : (to : Option ℕ) (c : Certificate S D P G C) → HandedOut g f scheme m world j (Sends to (of_certificate c)) → Contains (world.recorded j) (certificate_artifact c)
     sent-recorded to c out = ⊎_elim
         (λ at. ⊎_elim
-        (λ records. (reached-heard g f scheme m world j w cj (at.p ∷ at.h) at.next).recorded (certificate_artifact c) (put-here (record_of at.h) (recorded_by at.p) (certificate_artifact c) records))
+        (λ records. (reached-heard g f scheme m world j w cj at.life (at.p ∷ at.h) at.next).recorded (certificate_artifact c) (put-here (record_of at.h) (recorded_by at.p) (certificate_artifact c) records))
         (λ repeats.
-        let due = (subst (λ (p : Point S D P G C). Allowed g f (m.setup j) at.h p) repeats.1 at.allowed).due in
-        (reached-heard g f scheme m world j w cj at.h at.reached).recorded (certificate_artifact c) (best-recorded (m.setup j) at.h c (sym due.best_is)))
-        (deeds-are g f (m.setup j) at.h at.p (Sends to (of_certificate c)) at.done))
-        (λ at. absurd (refused-none j at.h at.e at.r (Sends to (of_certificate c)) refl at.done))
+        let due = (subst (λ (p : Point S D P G C). Allowed g f at.life.setup at.h p) repeats.1 at.allowed).due in
+        (reached-heard g f scheme m world j w cj at.life at.h at.reached).recorded (certificate_artifact c) (best-recorded at.life.setup at.h c (sym due.best_is)))
+        (deeds-are g f at.life.setup at.h at.p (Sends to (of_certificate c)) at.done))
+        (λ at. absurd (refused-none at.life.setup at.h at.e at.r (Sends to (of_certificate c)) refl at.done))
         (deed-done g f scheme m world j w cj (Sends to (of_certificate c)) out)
 
     -- what it serves is the spelling of one that it recorded
@@ -110,11 +111,11 @@ module _ {S D P G C : Type 0} (g : Ghosts S D P G C) (f : Formats S D P G C) (sc
     served-recorded : WhatIsProducedCame → (member : ℕ) (bytes : List ℕ) → HandedOut g f scheme m world j (Serves member bytes) → IsServed bytes
     served-recorded law member bytes out = ⊎_elim
         (λ at.
-        let of = deeds-are g f (m.setup j) at.h at.p (Serves member bytes) at.done in
-        let all = begun-allowed g f (m.setup j) at.reached.before at.h (reached-goes g f scheme m world j w cj at.h at.reached) in
-        let spelled = served-spelled g f (m.setup j) law at.h all (m.setup j).voter.length of.0 bytes of.2 in
-        record { c = spelled.c; recorded = (reached-heard g f scheme m world j w cj at.h at.reached).recorded (certificate_artifact spelled.c) spelled.recorded; are = spelled.are })
-        (λ at. absurd (refused-none j at.h at.e at.r (Serves member bytes) refl at.done))
+        let of = deeds-are g f at.life.setup at.h at.p (Serves member bytes) at.done in
+        let all = begun-allowed g f at.life.setup at.reached.before at.h (reached-goes g f scheme m world j w cj at.life at.h at.reached) in
+        let spelled = served-spelled g f at.life.setup law at.h all at.life.setup.voter.length of.0 bytes of.2 in
+        record { c = spelled.c; recorded = (reached-heard g f scheme m world j w cj at.life at.h at.reached).recorded (certificate_artifact spelled.c) spelled.recorded; are = spelled.are })
+        (λ at. absurd (refused-none at.life.setup at.h at.e at.r (Serves member bytes) refl at.done))
         (deed-done g f scheme m world j w cj (Serves member bytes) out)
 
     module _ (known : EachHistoryMatches S D P G C) (law : WhatIsProducedCame) (back : AreReadBack f) (faithful : AreFaithful g f scheme m world) where
@@ -144,11 +145,11 @@ module _ {S D P G C : Type 0} (g : Ghosts S D P G C) (f : Formats S D P G C) (sc
       ask-readable : (to : Option ℕ) (view : ℕ) → HandedOut g f scheme m world j (Sends to (of_ask view)) → IsReadable f (of_ask view)
       ask-readable to view out = ⊎_elim
           (λ at.
-          let of = deeds-are g f (m.setup j) at.h at.p (Sends to (of_ask view)) at.done in
-          let all = begun-allowed g f (m.setup j) at.reached.before at.h (reached-goes g f scheme m world j w cj at.h at.reached) in
-          let small : AreSmall (record_of at.h) = λ c here. back.views c (certificate-readable c ((reached-heard g f scheme m world j w cj at.h at.reached).recorded (certificate_artifact c) here)) in
-          back.asks view (asked-low g f (m.setup j) grows known at.h all small view of.0 to (subst (λ (p : Point S D P G C). Allowed g f (m.setup j) at.h p) of.1 at.allowed)))
-          (λ at. absurd (refused-none j at.h at.e at.r (Sends to (of_ask view)) refl at.done))
+          let of = deeds-are g f at.life.setup at.h at.p (Sends to (of_ask view)) at.done in
+          let all = begun-allowed g f at.life.setup at.reached.before at.h (reached-goes g f scheme m world j w cj at.life at.h at.reached) in
+          let small : AreSmall (record_of at.h) = λ c here. back.views c (certificate-readable c ((reached-heard g f scheme m world j w cj at.life at.h at.reached).recorded (certificate_artifact c) here)) in
+          back.asks view (asked-low g f at.life.setup grows known at.h all small view of.0 to (subst (λ (p : Point S D P G C). Allowed g f at.life.setup at.h p) of.1 at.allowed)))
+          (λ at. absurd (refused-none at.life.setup at.h at.e at.r (Sends to (of_ask view)) refl at.done))
           (deed-done g f scheme m world j w cj (Sends to (of_ask view)) out)
 
       -- so can all that it sends
@@ -177,7 +178,7 @@ module _ {S D P G C : Type 0} (g : Ghosts S D P G C) (f : Formats S D P G C) (sc
           }
       handed-read by bytes d out is = absurd is
 
-  module _ (grows : RecordLaws g) (laws : RoundLaws g f.same) (known : EachHistoryMatches S D P G C) (law : WhatIsProducedCame) (back : AreReadBack f) (w : AreMembers g f scheme m world) (faithful : AreFaithful g f scheme m world) (alike : DoAttestAlike g f scheme m world)
+  module _ (grows : RecordLaws g) (laws : RoundLaws g f.same) (known : EachHistoryMatches S D P G C) (law : WhatIsProducedCame) (back : AreReadBack f) (w : LiveByNodes g f scheme m world) (faithful : AreFaithful g f scheme m world) (alike : DoAttestAlike g f scheme m world)
       (backed : (own : S) (x : Statement D) (c : C) → g.certifies own x c → IsQuorum (g.size own) (λ k a. g.attests own k x a) (g.lists c))
       (sufficient : (own : S) (x : Statement D) (c : C) → IsQuorum (g.size own) (λ k a. g.attests own k x a) (g.lists c) → g.certifies own x c)
       (i j : ℕ) (ci : IsCorrect world i) (cj : IsCorrect world j) where
@@ -190,10 +191,10 @@ module _ {S D P G C : Type 0} (g : Ghosts S D P G C) (f : Formats S D P G C) (sc
         sufficient (m.setup i).voter.scheme x c (record { distinct = p.distinct; members = p.members; enough = p.enough; attesting = λ k d l. alike i j ci cj _ x _ (p.attesting k d l) })
 
     -- no test that blocks applies to it
-    none-first : (h : History S D P G C) (x : Packet S D P G C) → IsFine grows w j cj known law back faithful x → ((v : Vote S D P G C) → x ≡ of_vote v → ⊥) → (r : Refusal)
-        → IsFirst (sender_tests g f (m.setup i) j ++ packet_tests g f (m.setup i) h j (Some x)) (Some r) → blocks_sender r ≡ true → ⊥
-    none-first h (of_vote v) fine unvoted r first blocks = unvoted v refl
-    none-first h (of_certificate c) fine unvoted r first blocks =
+    none-first : (s : Setup S D C) → IsOfOneMember (m.setup i) s → (h : History S D P G C) (x : Packet S D P G C) → IsFine grows w j cj known law back faithful x → ((v : Vote S D P G C) → x ≡ of_vote v → ⊥) → (r : Refusal)
+        → IsFirst (sender_tests g f s j ++ packet_tests g f s h j (Some x)) (Some r) → blocks_sender r ≡ true → ⊥
+    none-first s same h (of_vote v) fine unvoted r first blocks = unvoted v refl
+    none-first s same h (of_certificate c) fine unvoted r first blocks =
         ⊎_elim (λ t. spares r refusal.UnknownSender t.1 refl blocks) (λ n.
         ⊎_elim (λ t. spares r refusal.OwnName t.1 refl blocks) (λ n.
         ⊎_elim (λ t. spares r refusal.WrongEpoch t.1 refl blocks) (λ n.
@@ -202,8 +203,8 @@ module _ {S D P G C : Type 0} (g : Ghosts S D P G C) (f : Formats S D P G C) (sc
         ⊎_elim (λ t. spares r refusal.NoRoom t.1 refl blocks) (λ n.
         ⊎_elim (λ t. t.0 (parent-below grows w j cj c fine)) (λ n.
         ⊎_elim (λ t. spares r refusal.Repeated t.1 refl blocks) (λ n.
-        ⊎_elim (λ t. t.0 (certifies-alike (certificate_statement c) (certified_by c) (own-certifies grows w j cj c fine))) (λ n. none-some r (sym n.1)) n.1) n.1) n.1) n.1) n.1) n.1) n.1) n.1) first
-    none-first h (of_ask view) fine unvoted r first blocks =
+        ⊎_elim (λ t. t.0 (subst (λ (own : S). g.certifies own (certificate_statement c) (certified_by c)) (sym same.scheme) (certifies-alike (certificate_statement c) (certified_by c) (own-certifies grows w j cj c fine)))) (λ n. none-some r (sym n.1)) n.1) n.1) n.1) n.1) n.1) n.1) n.1) n.1) first
+    none-first s same h (of_ask view) fine unvoted r first blocks =
         ⊎_elim (λ t. spares r refusal.UnknownSender t.1 refl blocks) (λ n.
         ⊎_elim (λ t. spares r refusal.OwnName t.1 refl blocks) (λ n.
         ⊎_elim (λ t. spares r refusal.ViewZero t.1 refl blocks) (λ n. none-some r (sym n.1)) n.1) n.1) first
@@ -212,16 +213,17 @@ module _ {S D P G C : Type 0} (g : Ghosts S D P G C) (f : Formats S D P G C) (sc
     none-refused (event.Packet sender by bytes) is same holds =
         let o = f.packet_in by bytes.items in
         let h = is.h in
-        let first : IsFirst (sender_tests g f (m.setup i) sender ++ packet_tests g f (m.setup i) h sender o) (Some is.r) = subst (λ (x : Event D). IsFirst (tests g f (m.setup i) h x) (Some is.r)) same is.first in
-        let blocks : Contains (refused_deeds g f (m.setup i) h (event.Packet sender by bytes) is.r) (Blocks j) = subst (λ (x : Event D). Contains (refused_deeds g f (m.setup i) h x is.r) (Blocks j)) same is.blocks in
+        let s = is.setup in
+        let first : IsFirst (sender_tests g f s sender ++ packet_tests g f s h sender o) (Some is.r) = subst (λ (x : Event D). IsFirst (tests g f s h x) (Some is.r)) same is.first in
+        let blocks : Contains (refused_deeds g f s h (event.Packet sender by bytes) is.r) (Blocks j) = subst (λ (x : Event D). Contains (refused_deeds g f s h x is.r) (Blocks j)) same is.blocks in
         let who = ⊎_elim (λ block. sender-alone {S = S} {D = D} {P = P} {G = G} {C = C} (blocks_sender is.r) sender j block)
-        (λ report. absurd (report-spares g f (m.setup i) is.r (evidence_deeds g f (m.setup i) h sender o) j (evidence-spares g f (m.setup i) h sender o j) report))
-        (Contains-append_cases (if blocks_sender is.r then Blocks sender ∷ [] else []) (refusal_report g f (m.setup i) is.r (evidence_deeds g f (m.setup i) h sender o)) (Blocks j) blocks) in
+        (λ report. absurd (report-spares g f s is.r (evidence_deeds g f s h sender o) j (evidence-spares g f s h sender o j) report))
+        (Contains-append_cases (if blocks_sender is.r then Blocks sender ∷ [] else []) (refusal_report g f s is.r (evidence_deeds g f s h sender o)) (Blocks j) blocks) in
         let by_deed = faithful.handed i j is.e by bytes.items ci cj is.handed (subst (λ (x : Event D). Carries g f scheme m world x j by bytes.items) (sym same) (holds.0, refl, refl)) in
         let of = handed-read grows w j cj known law back faithful by bytes.items by_deed.0 by_deed.1 by_deed.2 in
-        none-first h of.x of.fine (λ v e. holds.1 v (of.is ∙ ap (λ (x : Packet S D P G C). Some x) e)) is.r
-        (subst (λ (x : Option (Packet S D P G C)). IsFirst (sender_tests g f (m.setup i) j ++ packet_tests g f (m.setup i) h j x) (Some is.r)) of.is
-        (subst (λ (k : ℕ). IsFirst (sender_tests g f (m.setup i) k ++ packet_tests g f (m.setup i) h k o) (Some is.r)) holds.0 first)) who.0
+        none-first s is.own h of.x of.fine (λ v e. holds.1 v (of.is ∙ ap (λ (x : Packet S D P G C). Some x) e)) is.r
+        (subst (λ (x : Option (Packet S D P G C)). IsFirst (sender_tests g f s j ++ packet_tests g f s h j x) (Some is.r)) of.is
+        (subst (λ (k : ℕ). IsFirst (sender_tests g f s k ++ packet_tests g f s h k o) (Some is.r)) holds.0 first)) who.0
     none-refused e is same holds = absurd holds
 
     pub none-blamed : HandedOut g f scheme m world i (Blocks j) → ⊥

@@ -34,7 +34,7 @@ use Rattle.simplex_member.specs.declared.refusal.Refusal.TheVariants as refusal
 use Rattle.simplex_member.specs.Deeds.{Deed, Blocks, Reports}
 use Rattle.simplex_member.specs.Laws.{RecordLaws, reported_certificate}
 use Rattle.simplex_member.specs.Layers.{votes_of, votes_setup}
-use Rattle.simplex_member.specs.Lives.{AreMembers, HandedOut, Members}
+use Rattle.simplex_member.specs.Lives.{HandedOut, LiveByNodes, Members}
 use Rattle.simplex_member.specs.Packet.{Formats, Packet, of_vote}
 use Rattle.simplex_member.specs.Point.{History}
 use Rattle.simplex_member.specs.Recorded.{notarization_in, record_of, recorded_by, reported}
@@ -116,7 +116,7 @@ module _ {S D P G C : Type 0} (g : Ghosts S D P G C) (f : Formats S D P G C) (s 
       (Contains-append_cases (if blocks_sender r then Blocks sender ∷ [] else []) (refusal_report g f s r (evidence_deeds g f s h sender (f.packet_in by bytes.items))) (Reports a) here)
   refused-is h e r a here = absurd (Contains-nil (Reports a) here)
 
-module _ {S D P G C : Type 0} (g : Ghosts S D P G C) (f : Formats S D P G C) (scheme : S) (m : Members S D P G C) (world : World S D P G C) (grows : RecordLaws g) (w : AreMembers g f scheme m world) (size : g.size scheme ≡ world.size)
+module _ {S D P G C : Type 0} (g : Ghosts S D P G C) (f : Formats S D P G C) (scheme : S) (m : Members S D P G C) (world : World S D P G C) (grows : RecordLaws g) (w : LiveByNodes g f scheme m world) (size : g.size scheme ≡ world.size)
     (backed : (own : S) (x : Statement D) (c : C) → g.certifies own x c → IsQuorum (g.size own) (λ k a. g.attests own k x a) (g.lists c))
     (sufficient : (own : S) (x : Statement D) (c : C) → IsQuorum (g.size own) (λ k a. g.attests own k x a) (g.lists c) → g.certifies own x c) (i : ℕ) (correct : IsCorrect world i) where
   -- a certificate that a correct member reports it recorded
@@ -124,13 +124,13 @@ module _ {S D P G C : Type 0} (g : Ghosts S D P G C) (f : Formats S D P G C) (sc
   reported-recorded a out c is = ⊎_elim
       (λ at. ⊎_elim
       (λ of. ⊎_elim
-      (λ same. (reached-heard g f scheme m world i w correct (at.p ∷ at.h) at.next).recorded (certificate_artifact c)
+      (λ same. (reached-heard g f scheme m world i w correct at.life (at.p ∷ at.h) at.next).recorded (certificate_artifact c)
       (put-here (record_of at.h) (recorded_by at.p) (certificate_artifact c) (of.1 ∙ ap (λ (x : Artifact S D P G C). Some x) same)))
-      (λ before. (reached-heard g f scheme m world i w correct at.h at.reached).recorded (certificate_artifact c) before)
+      (λ before. (reached-heard g f scheme m world i w correct at.life at.h at.reached).recorded (certificate_artifact c) before)
       (held-certificate (record_of at.h) of.0 a c of.2 is))
       (λ heard. absurd (none-some c (sym (vote-none heard.0) ∙ (ap reported_certificate (sym heard.2) ∙ is))))
-      (deeds-are g f (m.setup i) at.h at.p (Reports a) at.done))
-      (λ at. absurd (none-some c (sym (refused-is g f (m.setup i) at.h at.e at.r a at.done) ∙ is)))
+      (deeds-are g f at.life.setup at.h at.p (Reports a) at.done))
+      (λ at. absurd (none-some c (sym (refused-is g f at.life.setup at.h at.e at.r a at.done) ∙ is)))
       (deed-done g f scheme m world i w correct (Reports a) out)
 
   -- so it certifies by the committee's scheme too

@@ -14,13 +14,14 @@ use Rattle.simplex_member.specs.declared.event.Event.{Event}
 use Rattle.simplex_member.specs.Allowed.{AreAllowed}
 use Rattle.simplex_member.specs.Layers.{is_begun}
 use Rattle.simplex_member.specs.Laws.{HasLived, RoundLaws}
-use Rattle.simplex_member.specs.Lives.{Life, Broken, Lasting, Turn, Refuses, Went, AreMembers, IsCut, Lived, Lives, Members, Turns}
+use Rattle.simplex_member.specs.Lives.{Course, Life, Broken, Lasting, Turn, Refuses, Went, IsCut, LiveByNodes, Lived, Lives, Members, Turns}
 use Rattle.simplex_member.specs.Member.{AreFound, AreOpening, Goes}
 use Rattle.simplex_member.specs.Packet.{Formats}
 use Rattle.simplex_member.specs.Point.{Point, Opened, Found, Began, History}
 use Rattle.simplex_member.specs.Recorded.{put_behind, record_of, recorded_by}
-use Rattle.simplex_member.specs.Setup.{Setup}
+use Rattle.simplex_member.specs.Setup.{IsOfOneMember, Setup}
 use Rattle.simplex_member.proofs.Grounding.{stands}
+use Rattle.simplex_member.proofs.Sameness.{ground-by, same-turned}
 
 -- a record that stands on ground does so with one more entry that follows on ground
 abbrev pub GroundGrows : Type 0 → Type 0
@@ -84,17 +85,28 @@ module _ {S D P G C : Type 0} (g : Ghosts S D P G C) (f : Formats S D P G C) (s 
     cut-ground h None end is ground = subst IsGrounded (sym is) ground
     cut-ground h (Some c) end is ground = goes-ground h c.1 end is.1 ground
 
-    life-ground : (found : List (Artifact S D P G C)) (life : Life S D P G C) (end : History S D P G C) → Lived g f s found life end → Ground found → IsGrounded end
+    life-ground : (found : List (Artifact S D P G C)) (life : Course S D P G C) (end : History S D P G C) → Lived g f s found life end → Ground found → IsGrounded end
     life-ground found (Broken now points) end lived is = opening-ground now found points end lived.0 lived.1 is
     life-ground found (Lasting now points turns cut) end lived is =
         cut-ground lived.1 cut end lived.5 (turns-ground lived.0 turns lived.1 lived.4 (opening-ground now found points lived.0 lived.2 lived.3.goes is))
 
-    pub lives-ground : (found : List (Artifact S D P G C)) (lives : List (Life S D P G C)) (left : List (Artifact S D P G C)) → Lives g f s found lives left → Ground found → Ground left
-    lives-ground found [] left is ground = subst Ground (sym is) ground
-    lives-ground found (life ∷ lives) left all ground = lives-ground (record_of all.0) lives left all.2 (life-ground found life all.0 all.1 ground).ground
+module _ {S D P G C : Type 0} (g : Ghosts S D P G C) (f : Formats S D P G C) (s : Setup S D C)
+    (law : EachHistoryMatches S D P G C) (verdict : DueVerdictIsOnGround D) (notarize_law : DueNotarizeIsOnGround D) (grows : GroundGrows D) (more : g.size s.voter.scheme ≢ 1) (laws : RoundLaws g f.same) (mine : s.voter.me ≡ Some s.me) where
+  -- a life by another setup of the member
+  life-leaves : (t : Setup S D C) → IsOfOneMember s t → (found : List (Artifact S D P G C)) (life : Course S D P G C) (end : History S D P G C) → Lived g f t found life end → Ground g f s found → Ground g f s (record_of end)
+  life-leaves t same found life end lived is =
+      let others : g.size t.voter.scheme ≢ 1 = λ one. more (sym (ap g.size same.scheme) ∙ one) in
+      let by : t.voter.me ≡ Some t.me = same.voter_me ∙ (mine ∙ ap (λ (n : ℕ). Some n) (sym same.me)) in
+      let found_on = ground-by g t s (same-turned g s t same) (λ n views leader i. StandsOnGround n views leader i (entries found)) is in
+      ground-by g s t same (λ n views leader i. StandsOnGround n views leader i (entries (record_of end)))
+      (life-ground g f t law verdict notarize_law grows others laws by found life end lived found_on).ground
+
+  pub lives-ground : (found : List (Artifact S D P G C)) (lives : List (Life S D P G C)) (left : List (Artifact S D P G C)) → Lives g f s found lives left → Ground g f s found → Ground g f s left
+  lives-ground found [] left is ground = subst (Ground g f s) (sym is) ground
+  lives-ground found (life ∷ lives) left all ground = lives-ground (record_of all.0) lives left all.2 (life-leaves life.setup all.3 found life.course all.0 all.1 ground)
 
 module _ {S D P G C : Type 0} (g : Ghosts S D P G C) (f : Formats S D P G C) (scheme : S) (m : Members S D P G C) (world : World S D P G C) (leader : ℕ → Option ℕ)
-    (schedule : (i : ℕ) → IsCorrect world i → (view : ℕ) → scheduled_leader (m.setup i).voter view ≡ leader view) (w : AreMembers g f scheme m world) (i : ℕ) (correct : IsCorrect world i) where
+    (schedule : (i : ℕ) → IsCorrect world i → (view : ℕ) → scheduled_leader (m.setup i).voter view ≡ leader view) (w : LiveByNodes g f scheme m world) (i : ℕ) (correct : IsCorrect world i) where
   mine : (m.setup i).me ≡ i
   mine = ap (λ (o : Owner). o.signer) (w.owner i correct)
 

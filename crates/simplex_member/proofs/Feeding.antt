@@ -67,7 +67,7 @@ module _ {S D P G C : Type 0} (g : Ghosts S D P G C) (f : Formats S D P G C) (s 
   opening-each now found points o all = subst (λ (l : List (Point S D P G C)). Each Q l) (sym o.split)
       (quiet (Opened now) refl, each-append Q o.read (Began ∷ o.acts) (found-each found o.read o.are all) (quiet Began refl, acts-each o.acts o.own))
 
-module _ {S D P G C : Type 0} (g : Ghosts S D P G C) (f : Formats S D P G C) (scheme : S) (m : Members S D P G C) (world : World S D P G C) (i : ℕ)
+module _ {S D P G C : Type 0} (g : Ghosts S D P G C) (f : Formats S D P G C) (scheme : S) (m : Members S D P G C) (world : World S D P G C) (i : ℕ) (s : Setup S D C)
     (Q : Point S D P G C → Type 0) (quiet : (p : Point S D P G C) → takes_in p ≡ false → Q p) where
   module _ (came : (sender : ℕ) (x : Packet S D P G C) → CameIn g f scheme m world i sender x → (p : Point S D P G C) → IsPacketPoint sender (Some x) p → Q p) where
     -- a step over an event that was handed in
@@ -75,7 +75,7 @@ module _ {S D P G C : Type 0} (g : Ghosts S D P G C) (f : Formats S D P G C) (sc
     packet-each sender None held p is = absurd is
     packet-each sender (Some x) held p is = came sender x (held x refl) p is
 
-    first-each : (e : Event D) → WasHanded g f scheme m world i e → (p : Point S D P G C) → IsPointOf g f (m.setup i) e p → Q p
+    first-each : (e : Event D) → WasHanded g f scheme m world i e → (p : Point S D P G C) → IsPointOf g f s e p → Q p
     first-each (event.Packet sender by bytes) handed p is = packet-each sender (f.packet_in by bytes.items) (λ x held. (event.Packet sender by bytes, handed, (refl, held))) p is
     first-each (event.Built number payload) handed (Built n handoff context d took) is = quiet (Built n handoff context d took) refl
     first-each (event.Built number payload) handed p is = absurd is
@@ -86,5 +86,5 @@ module _ {S D P G C : Type 0} (g : Ghosts S D P G C) (f : Formats S D P G C) (sc
     first-each (event.Moment now) handed (Told t) is = quiet (Told t) refl
     first-each (event.Moment now) handed p is = absurd is
 
-    pub step-each : (h : History S D P G C) (e : Event D) (points : List (Point S D P G C)) → WasHanded g f scheme m world i e → AreStep g f (m.setup i) h e points → Each Q points
-    step-each h e points handed step = subst (λ (l : List (Point S D P G C)). Each Q l) (sym step.split) (first-each e handed step.first step.of_it, acts-each g f (m.setup i) Q quiet step.acts step.own)
+    pub step-each : (h : History S D P G C) (e : Event D) (points : List (Point S D P G C)) → WasHanded g f scheme m world i e → AreStep g f s h e points → Each Q points
+    step-each h e points handed step = subst (λ (l : List (Point S D P G C)). Each Q l) (sym step.split) (first-each e handed step.first step.of_it, acts-each g f s Q quiet step.acts step.own)

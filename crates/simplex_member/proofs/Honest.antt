@@ -16,21 +16,22 @@ use Rattle.simplex_messages.specs.declared.vote.Vote.TheVariants as vote
 use Rattle.messages_certificates.specs.Artifact.{certificate_artifact}
 use Rattle.simplex_messages.specs.VoteParts.{vote_artifact}
 use Rattle.messages_certificates.specs.Certificate.{certificate_statement, certified_by}
-use Rattle.simplex_record.specs.declared.owner.Owner.{Owner}
 use Rattle.simplex_record.specs.Record.{Entry, entry, entries, HasVoted}
 use Rattle.simplex_record.specs.World.{World, IsCorrect, IsHonest}
 use Rattle.batcher_verifier.specs.Votes.{vote_attestation, vote_statement}
 use Rattle.simplex_member.specs.declared.event.Event.{Event}
 use Rattle.simplex_member.specs.Allowed.{Allowed, AreAllowed}
 use Rattle.simplex_member.specs.Laws.{IsKnownVote, IsOfVote, RecordedAreHonest, RoundLaws}
-use Rattle.simplex_member.specs.Lives.{Life, Broken, Lasting, Turn, Refuses, Went, IsCut, IsHonestVote, AreMembers, CameIn, Lived, Lives, Members, Turns, WasHanded, events_of, turn_events}
+use Rattle.simplex_member.specs.Lives.{Course, Life, Broken, Lasting, Turn, Refuses, Went, IsCut, IsHonestVote, LiveByNodes, CameIn, Lived, Lives, Members, Turns, WasHanded, events_of, turn_events}
 use Rattle.simplex_member.specs.Member.{AreOpening, AreStep, Goes, IsPacketPoint}
 use Rattle.simplex_member.specs.Packet.{Formats, Packet, of_vote, of_certificate, of_ask}
 use Rattle.simplex_member.specs.Point.{Point, Found, Heard, Came, Wanted, Judged, Constructs, Votes, History}
 use Rattle.simplex_member.specs.Recorded.{record_of, recorded_by}
+use Rattle.simplex_member.specs.Setup.{Setup}
 use Rattle.simplex_member.proofs.Feeding.{Each, each-there, goes-each, opening-each, step-each, takes_in}
 use Rattle.simplex_member.proofs.Keeping.{life-allowed, lives-keep}
 use Rattle.simplex_member.proofs.Ballots.{made-lists}
+use Rattle.simplex_member.proofs.Sameness.{mine-of}
 use Rattle.simplex_member.proofs.Telling.{apart}
 use Rattle.simplex_member.proofs.Listed.{vote-entry}
 use Rattle.simplex_member.proofs.Lists.{Contains-map, put-before, put-cases, some-is}
@@ -100,12 +101,12 @@ module _ {S D P G C : Type 0} (g : Ghosts S D P G C) (f : Formats S D P G C) (sc
       own (vote.Nullify w) it = it
       own (vote.Finalize w) it = it
 
-  module _ (laws : RoundLaws g f.same) (i : ℕ) (mine : (m.setup i).me ≡ i) where
+  module _ (laws : RoundLaws g f.same) (i : ℕ) (s : Setup S D C) (mine : s.me ≡ i) where
     abbrev IsPart : List (Artifact S D P G C) → List (Artifact S D P G C) → Type 0
     IsPart r all = (x : Artifact S D P G C) → Contains r x → Contains all x
 
     -- a known vote is honest: it was heard, or it is recorded
-    known-honest : (h : History S D P G C) → AreFed h → IsPart (record_of h) (world.recorded i) → (v : Vote S D P G C) → IsKnownVote g f (m.setup i) h v → IsHonestVote g f scheme m world v
+    known-honest : (h : History S D P G C) → AreFed h → IsPart (record_of h) (world.recorded i) → (v : Vote S D P G C) → IsKnownVote g f s h v → IsHonestVote g f scheme m world v
     known-honest h fed part v known = ⊎_elim
         (λ heard. each-there IsFed h fed (Heard v) heard)
         (λ own. λ correct attests.
@@ -115,13 +116,13 @@ module _ {S D P G C : Type 0} (g : Ghosts S D P G C) (f : Formats S D P G C) (sc
 
     -- a certificate that lists known votes is honest
     made-honest : (h : History S D P G C) → AreFed h → IsPart (record_of h) (world.recorded i) → (c : Certificate S D P G C)
-        → ((a : Attestation G) → Contains (g.lists (certified_by c)) a → IsOfVote g f (m.setup i) h (certificate_statement c) a) → Honest c
+        → ((a : Attestation G) → Contains (g.lists (certified_by c)) a → IsOfVote g f s h (certificate_statement c) a) → Honest c
     made-honest h fed part c each = λ a here correct attests.
         let v = each a here in
         by-vote v.vote (certificate_statement c) a v.attestation_is v.states (known-honest h fed part v.vote v.known) correct attests
 
     -- what a point records is honest
-    here-honest : (p : Point S D P G C) (h : History S D P G C) → Allowed g f (m.setup i) h p → AreAllowed g f (m.setup i) h → IsFed p → AreFed h → IsPart (record_of h) (world.recorded i)
+    here-honest : (p : Point S D P G C) (h : History S D P G C) → Allowed g f s h p → AreAllowed g f s h → IsFed p → AreFed h → IsPart (record_of h) (world.recorded i)
         → (x : Artifact S D P G C) (c : Certificate S D P G C) → recorded_by p ≡ Some x → as_certificate x ≡ Some c → Honest c
     here-honest (Found y taken) h a all it fed part x c here is = it c (ap as_certificate (some-is y x here) ∙ is)
     here-honest (Came d) h a all it fed part x c here is =
@@ -130,11 +131,11 @@ module _ {S D P G C : Type 0} (g : Ghosts S D P G C) (f : Formats S D P G C) (sc
     here-honest (Constructs view kind batch) h a all it fed part x c here is =
         let made = is-made batch.certificate x here in
         subst (λ (e : Certificate S D P G C). Honest e) (some-is made.made c (sym (as-is made.made) ∙ (ap as_certificate made.stands ∙ is)))
-        (made-honest h fed part made.made (λ b there. made-lists g f (m.setup i) laws h all view kind batch a made.made made.is b there))
+        (made-honest h fed part made.made (λ b there. made-lists g f s laws h all view kind batch a made.made made.is b there))
     here-honest (Votes w) h a all it fed part x c here is = absurd (none-some c (sym (vote-none w) ∙ (ap as_certificate (some-is (vote_artifact w) x here) ∙ is)))
     here-honest p h a all it fed part x c here is = absurd (none-some x here)
 
-    record-honest : (h : History S D P G C) → AreAllowed g f (m.setup i) h → AreFed h → IsPart (record_of h) (world.recorded i) → HonestAll (record_of h)
+    record-honest : (h : History S D P G C) → AreAllowed g f s h → AreFed h → IsPart (record_of h) (world.recorded i) → HonestAll (record_of h)
     record-honest [] all fed part x c here is = absurd (omega (arith, here.1))
     record-honest (p ∷ h) all fed part x c here is =
         let less : IsPart (record_of h) (world.recorded i) = λ y there. part y (put-before (record_of h) (recorded_by p) y there) in
@@ -145,7 +146,7 @@ module _ {S D P G C : Type 0} (g : Ghosts S D P G C) (f : Formats S D P G C) (sc
 
     -- ---- what a life takes in is honest
 
-    module _ (w : AreMembers g f scheme m world) (correct : IsCorrect world i) where
+    module _ (w : LiveByNodes g f scheme m world) (correct : IsCorrect world i) where
       came-fed : (sender : ℕ) (x : Packet S D P G C) → CameIn g f scheme m world i sender x → (p : Point S D P G C) → IsPacketPoint sender (Some x) p → IsFed p
       came-fed sender (of_vote v) came (Heard u) is = subst (λ (x : Vote S D P G C). IsHonestVote g f scheme m world x) is.0 (w.honest i sender correct (of_vote v) came)
       came-fed sender (of_certificate c) came (Came d) is = subst (λ (x : Certificate S D P G C). Honest x) is (w.honest i sender correct (of_certificate c) came)
@@ -154,28 +155,28 @@ module _ {S D P G C : Type 0} (g : Ghosts S D P G C) (f : Formats S D P G C) (sc
       came-fed sender (of_certificate c) came p is = absurd is
       came-fed sender (of_ask view) came p is = absurd is
 
-      step-fed : (h : History S D P G C) (e : Event D) (points : List (Point S D P G C)) → WasHanded g f scheme m world i e → AreStep g f (m.setup i) h e points → AreFed points
-      step-fed h e points handed step = step-each g f scheme m world i IsFed quiet-fed came-fed h e points handed step
+      step-fed : (h : History S D P G C) (e : Event D) (points : List (Point S D P G C)) → WasHanded g f scheme m world i e → AreStep g f s h e points → AreFed points
+      step-fed h e points handed step = step-each g f scheme m world i s IsFed quiet-fed came-fed h e points handed step
 
-      opening-fed : (now : ℕ) (found : List (Artifact S D P G C)) (points : List (Point S D P G C)) → AreOpening g f (m.setup i) now found points → HonestAll found → AreFed points
-      opening-fed now found points o honest = opening-each g f (m.setup i) IsFed quiet-fed now found points o (λ x taken there. λ c is. honest x c there is)
+      opening-fed : (now : ℕ) (found : List (Artifact S D P G C)) (points : List (Point S D P G C)) → AreOpening g f s now found points → HonestAll found → AreFed points
+      opening-fed now found points o honest = opening-each g f s IsFed quiet-fed now found points o (λ x taken there. λ c is. honest x c there is)
 
-      goes-fed : (h : History S D P G C) (points : List (Point S D P G C)) (end : History S D P G C) → Goes g f (m.setup i) h points end → AreFed points → AreFed h → AreFed end
-      goes-fed h points end goes fed before = goes-each IsFed g f (m.setup i) h points end goes fed before
+      goes-fed : (h : History S D P G C) (points : List (Point S D P G C)) (end : History S D P G C) → Goes g f s h points end → AreFed points → AreFed h → AreFed end
+      goes-fed h points end goes fed before = goes-each IsFed g f s h points end goes fed before
 
-      turns-fed : (h : History S D P G C) (turns : List (Turn S D P G C)) (end : History S D P G C) → Turns g f (m.setup i) h turns end
+      turns-fed : (h : History S D P G C) (turns : List (Turn S D P G C)) (end : History S D P G C) → Turns g f s h turns end
           → ((e : Event D) → Contains (turn_events turns) e → WasHanded g f scheme m world i e) → AreFed h → AreFed end
       turns-fed h [] end is handed fed = subst (λ (e : History S D P G C). AreFed e) (sym is) fed
       turns-fed h (Refuses e r ∷ turns) end t handed fed = turns-fed h turns end t.1 (λ x there. handed x (Contains-rest e (turn_events turns) x there)) fed
       turns-fed h (Went e points ∷ turns) end t handed fed = turns-fed t.0 turns end t.3 (λ x there. handed x (Contains-rest e (turn_events turns) x there))
           (goes-fed h points t.0 t.2.goes (step-fed h e points (handed e (Contains-head e (turn_events turns))) t.1) fed)
 
-      cut-fed : (h : History S D P G C) (cut : Option (Event D × List (Point S D P G C))) (end : History S D P G C) → IsCut g f (m.setup i) h cut end
+      cut-fed : (h : History S D P G C) (cut : Option (Event D × List (Point S D P G C))) (end : History S D P G C) → IsCut g f s h cut end
           → ((e : Event D) → Contains (option_to_list (option_map (λ (c : Event D × List (Point S D P G C)). c.0) cut)) e → WasHanded g f scheme m world i e) → AreFed h → AreFed end
       cut-fed h None end is handed fed = subst (λ (e : History S D P G C). AreFed e) (sym is) fed
       cut-fed h (Some c) end is handed fed = goes-fed h c.1 end is.1 (step-fed h c.0 c.1 (handed c.0 (Contains-head c.0 [])) is.0) fed
 
-      life-fed : (found : List (Artifact S D P G C)) (life : Life S D P G C) (end : History S D P G C) → Lived g f (m.setup i) found life end → HonestAll found
+      life-fed : (found : List (Artifact S D P G C)) (life : Course S D P G C) (end : History S D P G C) → Lived g f s found life end → HonestAll found
           → ((e : Event D) → Contains (events_of life) e → WasHanded g f scheme m world i e) → AreFed end
       life-fed found (Broken now points) end lived honest handed = goes-fed [] points end lived.1 (opening-fed now found points lived.0 honest) tt
       life-fed found (Lasting now points turns cut) end lived honest handed =
@@ -184,18 +185,21 @@ module _ {S D P G C : Type 0} (g : Ghosts S D P G C) (f : Formats S D P G C) (sc
           (turns-fed lived.0 turns lived.1 lived.4 (λ e there. handed e (Contains-append_left (turn_events turns) cuts e there))
           (goes-fed [] points lived.0 lived.3.goes (opening-fed now found points lived.2 honest) tt))
 
-      -- lives, one after the other, leave honest certificates
-      lives-honest : (found : List (Artifact S D P G C)) (lives : List (Life S D P G C)) (left : List (Artifact S D P G C)) → Lives g f (m.setup i) found lives left → HonestAll found
-          → ((life : Life S D P G C) → Contains lives life → Contains (m.lives i) life) → IsPart left (world.recorded i) → HonestAll left
-      lives-honest found [] left is honest among part = subst (λ (r : List (Artifact S D P G C)). HonestAll r) (sym is) honest
-      lives-honest found (life ∷ lives) left all honest among part =
-          let fed = life-fed found life all.0 all.1 honest (λ e there. (life, among life (Contains-head life lives), there)) in
-          let allowed = life-allowed g f (m.setup i) found life all.0 all.1 in
-          lives-honest (record_of all.0) lives left all.2
-          (record-honest all.0 allowed fed (λ x there. part x (lives-keep g f (m.setup i) (record_of all.0) lives left all.2 x there)))
-          (λ l there. among l (Contains-rest life lives l there)) part
+  module _ (laws : RoundLaws g f.same) (i : ℕ) (w : LiveByNodes g f scheme m world) (correct : IsCorrect world i) where
+    -- lives, one after the other, leave honest certificates
+    lives-honest : (found : List (Artifact S D P G C)) (lives : List (Life S D P G C)) (left : List (Artifact S D P G C)) → Lives g f (m.setup i) found lives left → HonestAll found
+        → ((life : Life S D P G C) → Contains lives life → Contains (m.lives i) life) → ((x : Artifact S D P G C) → Contains left x → Contains (world.recorded i) x) → HonestAll left
+    lives-honest found [] left is honest among part = subst (λ (r : List (Artifact S D P G C)). HonestAll r) (sym is) honest
+    lives-honest found (life ∷ lives) left all honest among part =
+        let s = life.setup in
+        let mine = mine-of g f scheme m world w i correct s all.3 in
+        let fed = life-fed laws i s mine w correct found life.course all.0 all.1 honest (λ e there. (life, among life (Contains-head life lives), there)) in
+        let allowed = life-allowed g f s found life.course all.0 all.1 in
+        lives-honest (record_of all.0) lives left all.2
+        (record-honest laws i s mine all.0 allowed fed (λ x there. part x (lives-keep g f (m.setup i) (record_of all.0) lives left all.2 x there)))
+        (λ l there. among l (Contains-rest life lives l there)) part
 
-  pub recorded-honest : RoundLaws g f.same → AreMembers g f scheme m world → RecordedAreHonest g f scheme m world
+  pub recorded-honest : RoundLaws g f.same → LiveByNodes g f scheme m world → RecordedAreHonest g f scheme m world
   recorded-honest laws w i correct c here =
-      lives-honest laws i (ap (λ (o : Owner). o.signer) (w.owner i correct)) w correct [] (m.lives i) (world.recorded i) (w.lived i correct)
+      lives-honest laws i w correct [] (m.lives i) (world.recorded i) (w.lived i correct)
       (λ x d there is. absurd (omega (arith, there.1))) (λ life there. there) (λ x there. there) (certificate_artifact c) c here (as-is c)

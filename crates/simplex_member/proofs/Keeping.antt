@@ -7,7 +7,7 @@ use Rattle.types_core.specs.declared.scheme.Scheme.{Ghosts}
 use Rattle.messages_certificates.specs.declared.artifact.Artifact.{Artifact}
 use Rattle.simplex_member.specs.Allowed.{AreAllowed}
 use Rattle.simplex_member.specs.declared.event.Event.{Event}
-use Rattle.simplex_member.specs.Lives.{Life, Broken, Lasting, Turn, Refuses, Went, IsCut, Lived, Lives, Turns}
+use Rattle.simplex_member.specs.Lives.{Course, Life, Broken, Lasting, Turn, Refuses, Went, IsCut, Lived, Lives, Turns}
 use Rattle.simplex_member.specs.Member.{AreFound, AreOpening, Goes}
 use Rattle.simplex_member.specs.Packet.{Formats}
 use Rattle.simplex_member.specs.Point.{Point, Opened, Found, Began, History}
@@ -29,7 +29,7 @@ module _ {S D P G C : Type 0} (g : Ghosts S D P G C) (f : Formats S D P G C) (s 
   cut-allowed h None end is all = subst (λ (e : History S D P G C). AreAllowed g f s e) (sym is) all
   cut-allowed h (Some c) end is all = goes-allowed g f s h c.1 end is.1 all
 
-  pub life-allowed : (found : List (Artifact S D P G C)) (life : Life S D P G C) (end : History S D P G C) → Lived g f s found life end → AreAllowed g f s end
+  pub life-allowed : (found : List (Artifact S D P G C)) (life : Course S D P G C) (end : History S D P G C) → Lived g f s found life end → AreAllowed g f s end
   life-allowed found (Broken now points) end lived = begun-allowed g f s points end lived.1
   life-allowed found (Lasting now points turns cut) end lived =
       cut-allowed lived.1 cut end lived.5 (turns-allowed lived.0 turns lived.1 lived.4 (begun-allowed g f s points lived.0 lived.3.goes))
@@ -73,11 +73,12 @@ module _ {S D P G C : Type 0} (g : Ghosts S D P G C) (f : Formats S D P G C) (s 
   cut-keeps h None end is x here = subst (λ (e : History S D P G C). Contains (record_of e) x) (sym is) here
   cut-keeps h (Some c) end is x here = grown h c.1 end is.1 x here
 
-  life-keeps : (found : List (Artifact S D P G C)) (life : Life S D P G C) (end : History S D P G C) → Lived g f s found life end → (x : Artifact S D P G C) → Contains found x → Contains (record_of end) x
+  life-keeps : (found : List (Artifact S D P G C)) (life : Course S D P G C) (end : History S D P G C) → Lived g f s found life end → (x : Artifact S D P G C) → Contains found x → Contains (record_of end) x
   life-keeps found (Broken now points) end lived x here = opening-keeps now found points end lived.0 lived.1 x here
   life-keeps found (Lasting now points turns cut) end lived x here =
       cut-keeps lived.1 cut end lived.5 x (turns-keep lived.0 turns lived.1 lived.4 x (opening-keeps now found points lived.0 lived.2 lived.3.goes x here))
 
+module _ {S D P G C : Type 0} (g : Ghosts S D P G C) (f : Formats S D P G C) (s : Setup S D C) where
   pub lives-keep : (found : List (Artifact S D P G C)) (lives : List (Life S D P G C)) (left : List (Artifact S D P G C)) → Lives g f s found lives left → (x : Artifact S D P G C) → Contains found x → Contains left x
   lives-keep found [] left is x here = subst (λ (r : List (Artifact S D P G C)). Contains r x) (sym is) here
-  lives-keep found (life ∷ lives) left all x here = lives-keep (record_of all.0) lives left all.2 x (life-keeps found life all.0 all.1 x here)
+  lives-keep found (life ∷ lives) left all x here = lives-keep (record_of all.0) lives left all.2 x (life-keeps g f life.setup found life.course all.0 all.1 x here)

@@ -5,6 +5,7 @@ mod Going
 mod Handing
 mod Sending
 mod Rising
+mod Sameness
 mod Living
 mod Allowing
 mod Orderly
@@ -30,6 +31,7 @@ mod Walk
 mod Spared
 mod Raising
 mod Walking
+mod Unsent
 mod Doing
 mod Alone
 mod Making

@@ -16,7 +16,6 @@ use Rattle.simplex_messages.specs.VoteParts.{vote_round, vote_signer}
 use Rattle.batcher_admission.specs.Evidence.{AreForTwo}
 use Rattle.batcher_admission.specs.Blocking.{Offends}
 use Rattle.simplex_batcher.specs.Admission.{IsBlocked}
-use Rattle.simplex_record.specs.declared.owner.Owner.{Owner}
 use Rattle.simplex_record.specs.Lawful.{Fits}
 use Rattle.simplex_record.specs.Record.{Entry, entry, entries}
 use Rattle.types_terms.specs.declared.kind.Kind.{Kind}
@@ -28,16 +27,17 @@ use Rattle.batcher_verifier.specs.History.{accepted, is_kept_in_full, recorded}
 use Rattle.simplex_member.specs.Allowed.{Allowed, AreAllowed}
 use Rattle.simplex_member.specs.Laws.{AreReadBack, DoAttestAlike, HasHeard, IsKnownVote, IsOwnAndSound, RecordLaws, RoundLaws}
 use Rattle.simplex_member.specs.Layers.{all_votes, floor_of, stage, votes_of, votes_setup}
-use Rattle.simplex_member.specs.Lives.{AreFaithful, AreMembers, CameIn, Members}
+use Rattle.simplex_member.specs.Lives.{AreFaithful, CameIn, LiveByNodes, Members}
 use Rattle.simplex_member.specs.Packet.{Formats, of_vote}
 use Rattle.simplex_member.specs.Point.{Constructs, History}
-use Rattle.simplex_member.specs.Setup.{Setup, owner_of}
+use Rattle.simplex_member.specs.Setup.{IsOfOneMember, Setup, owner_of}
 use Rattle.simplex_member.proofs.Ballots.{none-in-way, some-from, votes-lawful, way-signer}
 use Rattle.simplex_member.proofs.Blame.{came-sound, splits}
 use Rattle.simplex_member.proofs.Going.{Lawful}
 use Rattle.simplex_member.proofs.Listed.{accepted-known, kept-only, signer-of, vote-entry}
 use Rattle.simplex_member.proofs.Living.{all-lives-lawful}
 use Rattle.simplex_member.proofs.Lists.{Contains-map, some-is}
+use Rattle.simplex_member.proofs.Sameness.{mine-of}
 
 -- what is found stands there, and passes
 pub find-there : {X : Type 0} (p : X → Bool) (xs : List X) (x : X) → find p xs ≡ Some x → Contains xs x × (p x ≡ true)
@@ -132,12 +132,12 @@ module _ {S D P G C : Type 0} (g : Ghosts S D P G C) (f : Formats S D P G C) (s 
 
 module _ {S D P G C : Type 0} (g : Ghosts S D P G C) (f : Formats S D P G C) (scheme : S) (m : Members S D P G C) (world : World S D P G C) where
   -- no vote of a correct member contradicts what a correct one heard
-  pub none-contradicts : RecordLaws g → AreReadBack f → AreMembers g f scheme m world → AreFaithful g f scheme m world → (i j : ℕ) → IsCorrect world i → IsCorrect world j → (h : History S D P G C) → AreAllowed g f (m.setup i) h
-      → HasHeard g f scheme m world i h → (v : Vote S D P G C) → CameIn g f scheme m world i j (of_vote v)
-      → IsBlocked (votes_setup (m.setup i) g h (vote_round v).view) (votes_of (m.setup i) h (vote_round v).view) j v → ⊥
-  none-contradicts grows back w faithful i j ci cj h all heard v came blocked = ⊎_elim
+  pub none-contradicts : RecordLaws g → AreReadBack f → LiveByNodes g f scheme m world → AreFaithful g f scheme m world → (i j : ℕ) → IsCorrect world i → IsCorrect world j
+      → (s : Setup S D C) → IsOfOneMember (m.setup i) s → (h : History S D P G C) → AreAllowed g f s h → HasHeard g f scheme m world i h → (v : Vote S D P G C) → CameIn g f scheme m world i j (of_vote v)
+      → IsBlocked (votes_setup s g h (vote_round v).view) (votes_of s h (vote_round v).view) j v → ⊥
+  none-contradicts grows back w faithful i j ci cj s own_setup h all heard v came blocked = ⊎_elim
       (λ named. named (sym sound.signer))
-      (λ offends. go (recorded (votes_of (m.setup i) h (vote_round v).view) v) refl offends.2)
+      (λ offends. go (recorded (votes_of s h (vote_round v).view) v) refl offends.2)
       blocked
     where
       sound : IsOwnAndSound world j v
@@ -146,13 +146,13 @@ module _ {S D P G C : Type 0} (g : Ghosts S D P G C) (f : Formats S D P G C) (sc
       lawful : Lawful g f (m.setup j) (world.recorded j)
       lawful = all-lives-lawful g f (m.setup j) grows (m.lives j) (world.recorded j) (w.lived j cj)
 
-      mine : (m.setup i).me ≡ i
-      mine = ap (λ (o : Owner). o.signer) (w.owner i ci)
+      mine : s.me ≡ i
+      mine = mine-of g f scheme m world w i ci s own_setup
 
-      same-vote : (u : Vote S D P G C) → recorded (votes_of (m.setup i) h (vote_round v).view) v ≡ Some u → u ≡ v
+      same-vote : (u : Vote S D P G C) → recorded (votes_of s h (vote_round v).view) v ≡ Some u → u ≡ v
       same-vote u e =
-          let found = find-there (is_in_way v) (accepted (votes_of (m.setup i) h (vote_round v).view)) u e in
-          let from = accepted-known g f (m.setup i) h all (vote_round v).view u (kept-only (nat_lt (vote_round v).view (floor_of (m.setup i) h)) (all_votes (vote_round v).view h) u found.0) in
+          let found = find-there (is_in_way v) (accepted (votes_of s h (vote_round v).view)) u e in
+          let from = accepted-known g f s h all (vote_round v).view u (kept-only (nat_lt (vote_round v).view (floor_of s h)) (all_votes (vote_round v).view h) u found.0) in
           let signer : vote_signer u ≡ j = way-signer v u found.1 ∙ sound.signer in
           let stands : Contains (world.recorded j) (vote_artifact u) = ⊎_elim
           (λ there. (came-sound g f scheme m world grows back w faithful i j ci cj u (subst (λ (k : ℕ). CameIn g f scheme m world i k (of_vote u)) signer (heard.came u there))).recorded)
@@ -160,11 +160,11 @@ module _ {S D P G C : Type 0} (g : Ghosts S D P G C) (f : Formats S D P G C) (sc
           from.known in
           one-a-way g f (m.setup j) (world.recorded j) lawful v u sound.recorded stands (ap (λ (r : Round). r.view) from.ours) found.1
 
-      go : (o : Option (Vote S D P G C)) → recorded (votes_of (m.setup i) h (vote_round v).view) v ≡ o
-          → MatchOption o ⊥ (λ u. Offends (is_kept_in_full (votes_setup (m.setup i) g h (vote_round v).view) (vote_kind u) (votes_of (m.setup i) h (vote_round v).view)) u v) → ⊥
+      go : (o : Option (Vote S D P G C)) → recorded (votes_of s h (vote_round v).view) v ≡ o
+          → MatchOption o ⊥ (λ u. Offends (is_kept_in_full (votes_setup s g h (vote_round v).view) (vote_kind u) (votes_of s h (vote_round v).view)) u v) → ⊥
       go None e off = off
-      go (Some u) e off = none-offends (is_kept_in_full (votes_setup (m.setup i) g h (vote_round v).view) (vote_kind u) (votes_of (m.setup i) h (vote_round v).view)) v
-          (subst (λ (x : Vote S D P G C). Offends (is_kept_in_full (votes_setup (m.setup i) g h (vote_round v).view) (vote_kind u) (votes_of (m.setup i) h (vote_round v).view)) x v) (same-vote u e) off)
+      go (Some u) e off = none-offends (is_kept_in_full (votes_setup s g h (vote_round v).view) (vote_kind u) (votes_of s h (vote_round v).view)) v
+          (subst (λ (x : Vote S D P G C). Offends (is_kept_in_full (votes_setup s g h (vote_round v).view) (vote_kind u) (votes_of s h (vote_round v).view)) x v) (same-vote u e) off)
 
 module _ {S D P G C : Type 0} (g : Ghosts S D P G C) (f : Formats S D P G C) (scheme : S) (m : Members S D P G C) (world : World S D P G C) where
   fits-attests : (s : Setup S D C) (before : List (Artifact S D P G C)) (v : Vote S D P G C) → Fits (g.attests s.voter.scheme) (g.certifies s.voter.scheme) (owner_of s) before (vote_artifact v)
@@ -174,7 +174,7 @@ module _ {S D P G C : Type 0} (g : Ghosts S D P G C) (f : Formats S D P G C) (sc
   fits-attests s before (vote.Finalize v) fits = fits.verifies.verifies
 
   -- what a correct member recorded attests by its scheme
-  recorded-attests : RecordLaws g → AreMembers g f scheme m world → (j : ℕ) → IsCorrect world j → (v : Vote S D P G C) → Contains (world.recorded j) (vote_artifact v)
+  recorded-attests : RecordLaws g → LiveByNodes g f scheme m world → (j : ℕ) → IsCorrect world j → (v : Vote S D P G C) → Contains (world.recorded j) (vote_artifact v)
       → g.attests (m.setup j).voter.scheme (vote_attestation v).signer (vote_statement v) (vote_attestation v).signature
   recorded-attests grows w j correct v here =
       let lawful = all-lives-lawful g f (m.setup j) grows (m.lives j) (world.recorded j) (w.lived j correct) in
@@ -182,20 +182,23 @@ module _ {S D P G C : Type 0} (g : Ghosts S D P G C) (f : Formats S D P G C) (sc
       fits-attests (m.setup j) at.before v (lawful at.before at.behind (vote_artifact v) at.is)
 
   -- a construction blocks no correct member, where what attests by one's scheme does by the other's
-  pub none-invalid : RecordLaws g → RoundLaws g f.same → AreReadBack f → AreMembers g f scheme m world → AreFaithful g f scheme m world → DoAttestAlike g f scheme m world → (i j : ℕ) → IsCorrect world i → IsCorrect world j
-      → (h : History S D P G C) → AreAllowed g f (m.setup i) h → HasHeard g f scheme m world i h → (view : ℕ) (kind : Kind) (batch : Batch (Certificate S D P G C))
-      → Allowed g f (m.setup i) h (Constructs view kind batch) → Contains batch.invalid.items j → ⊥
-  none-invalid grows laws back w faithful alike i j ci cj h all heard view kind batch allowed here =
-      let r = votes_of (m.setup i) h view in
-      let sound = votes-lawful g f (m.setup i) laws h all view (some-from g f (m.setup i) (stage (m.setup i) h view) false allowed.due.0) in
-      let bad = All-contains (HasFailed g.attests (votes_setup (m.setup i) g h view) kind r) batch.invalid.items j (laws.failed (votes_setup (m.setup i) g h view) r kind batch sound allowed.due.2) here in
-      let from = accepted-known g f (m.setup i) h all view bad.vote (kept-only (nat_lt view (floor_of (m.setup i) h)) (all_votes view h) bad.vote bad.accepted_is) in
-      bad.fails (subst (λ (n : ℕ). g.attests (m.setup i).voter.scheme n (vote_statement bad.vote) (vote_attestation bad.vote).signature) (signer-of bad.vote) (attests-here bad.vote from.known bad.signer_is))
+  pub none-invalid : RecordLaws g → RoundLaws g f.same → AreReadBack f → LiveByNodes g f scheme m world → AreFaithful g f scheme m world → DoAttestAlike g f scheme m world → (i j : ℕ) → IsCorrect world i → IsCorrect world j
+      → (s : Setup S D C) → IsOfOneMember (m.setup i) s → (h : History S D P G C) → AreAllowed g f s h → HasHeard g f scheme m world i h → (view : ℕ) (kind : Kind) (batch : Batch (Certificate S D P G C))
+      → Allowed g f s h (Constructs view kind batch) → Contains batch.invalid.items j → ⊥
+  none-invalid grows laws back w faithful alike i j ci cj s own_setup h all heard view kind batch allowed here =
+      let r = votes_of s h view in
+      let sound = votes-lawful g f s laws h all view (some-from g f s (stage s h view) false allowed.due.0) in
+      let bad = All-contains (HasFailed g.attests (votes_setup s g h view) kind r) batch.invalid.items j (laws.failed (votes_setup s g h view) r kind batch sound allowed.due.2) here in
+      let from = accepted-known g f s h all view bad.vote (kept-only (nat_lt view (floor_of s h)) (all_votes view h) bad.vote bad.accepted_is) in
+      bad.fails (subst (λ (n : ℕ). g.attests s.voter.scheme n (vote_statement bad.vote) (vote_attestation bad.vote).signature) (signer-of bad.vote) (attests-here bad.vote from.known bad.signer_is))
     where
-      attests-here : (v : Vote S D P G C) → IsKnownVote g f (m.setup i) h v → vote_signer v ≡ j → g.attests (m.setup i).voter.scheme (vote_attestation v).signer (vote_statement v) (vote_attestation v).signature
+      by-own : (v : Vote S D P G C) → g.attests (m.setup i).voter.scheme (vote_attestation v).signer (vote_statement v) (vote_attestation v).signature → g.attests s.voter.scheme (vote_attestation v).signer (vote_statement v) (vote_attestation v).signature
+      by-own v attests = subst (λ (own : S). g.attests own (vote_attestation v).signer (vote_statement v) (vote_attestation v).signature) (sym own_setup.scheme) attests
+
+      attests-here : (v : Vote S D P G C) → IsKnownVote g f s h v → vote_signer v ≡ j → g.attests s.voter.scheme (vote_attestation v).signer (vote_statement v) (vote_attestation v).signature
       attests-here v known signer = ⊎_elim
           (λ there.
           let sound = came-sound g f scheme m world grows back w faithful i j ci cj v (subst (λ (k : ℕ). CameIn g f scheme m world i k (of_vote v)) signer (heard.came v there)) in
-          alike i j ci cj (vote_attestation v).signer (vote_statement v) (vote_attestation v).signature (recorded-attests grows w j cj v sound.recorded))
-          (λ own. recorded-attests grows w i ci v (heard.recorded (vote_artifact v) own.1))
+          by-own v (alike i j ci cj (vote_attestation v).signer (vote_statement v) (vote_attestation v).signature (recorded-attests grows w j cj v sound.recorded)))
+          (λ own. by-own v (recorded-attests grows w i ci v (heard.recorded (vote_artifact v) own.1)))
           known

@@ -40,7 +40,7 @@ use Rattle.simplex_member.specs.declared.refusal.Refusal.TheVariants as refusal
 use Rattle.simplex_member.specs.Deeds.{Deed, Blocks, Reports}
 use Rattle.simplex_member.specs.Laws.{HasReached, IsDoneAt, IsHonestReport, RecordLaws, RoundLaws}
 use Rattle.simplex_member.specs.Layers.{all_votes, floor_of, votes_of, votes_setup}
-use Rattle.simplex_member.specs.Lives.{AreMembers, CameIn, HandedOut, IsHonestVote, Members, WasHanded}
+use Rattle.simplex_member.specs.Lives.{CameIn, HandedOut, IsHonestVote, Life, LiveByNodes, Members, WasHanded}
 use Rattle.simplex_member.specs.Packet.{Formats, Packet, of_vote}
 use Rattle.simplex_member.specs.Point.{Point, Heard, History}
 use Rattle.simplex_member.specs.Recorded.{notarization_in, record_of, recorded_by, reported}
@@ -55,7 +55,7 @@ use Rattle.simplex_member.proofs.Lists.{Contains-map, Contains-mapped, put-here,
 use Rattle.simplex_member.proofs.Living.{all-lives-lawful}
 use Rattle.simplex_member.proofs.Making.{known-honest}
 use Rattle.simplex_member.proofs.Peace.{Before, find-there, ordered}
-use Rattle.simplex_member.proofs.Walking.{deed-done, reached-goes, reached-heard}
+use Rattle.simplex_member.proofs.Walking.{deed-done, reached-goes, reached-heard, reached-own}
 
 pub one : {X : Type 0} (x y : X) → Contains (x ∷ []) y → x ≡ y
 one x y here = ⊎_elim (λ is. is) (λ later. absurd (Contains-nil y later)) (Contains-cases x [] y here)
@@ -200,7 +200,7 @@ module _ {S D P G C : Type 0} (g : Ghosts S D P G C) (f : Formats S D P G C) (sc
   against-report true None full v a each honest is = absurd (none-some a is)
   against-report false o full v a each honest is = absurd (none-some a is)
 
-  module _ (grows : RecordLaws g) (w : AreMembers g f scheme m world) (i : ℕ) (correct : IsCorrect world i) where
+  module _ (grows : RecordLaws g) (w : LiveByNodes g f scheme m world) (i : ℕ) (correct : IsCorrect world i) where
     lawful : Lawful g f (m.setup i) (world.recorded i)
     lawful = all-lives-lawful g f (m.setup i) grows (m.lives i) (world.recorded i) (w.lived i correct)
 
@@ -233,7 +233,7 @@ module _ {S D P G C : Type 0} (g : Ghosts S D P G C) (f : Formats S D P G C) (sc
         apart)
         (ordered (world.recorded i) x.0 y.0 x.1 y.1)
 
-  module _ (grows : RecordLaws g) (laws : RoundLaws g f.same) (w : AreMembers g f scheme m world) (i : ℕ) (correct : IsCorrect world i) where
+  module _ (grows : RecordLaws g) (laws : RoundLaws g f.same) (w : LiveByNodes g f scheme m world) (i : ℕ) (correct : IsCorrect world i) where
     taken-honest : (c : Certificate S D P G C) → Contains (world.recorded i) (certificate_artifact c) → IsHonest (g.attests scheme) g.lists world c
     taken-honest c here = recorded-honest g f scheme m world laws w i correct c here
 
@@ -258,58 +258,58 @@ module _ {S D P G C : Type 0} (g : Ghosts S D P G C) (f : Formats S D P G C) (sc
 
     point-report : (a : Activity S D P G C) → IsDoneAt g f m i (Reports a) → Report a
     point-report a at = ⊎_elim
-        (λ of. recorded-report (record_of at.h) of.0 (λ y there. (reached-heard g f scheme m world i w correct at.h at.reached).recorded y there)
-        ((reached-heard g f scheme m world i w correct (at.p ∷ at.h) at.next).recorded of.0 (put-here (record_of at.h) (recorded_by at.p) of.0 of.1)) a of.2)
+        (λ of. recorded-report (record_of at.h) of.0 (λ y there. (reached-heard g f scheme m world i w correct at.life at.h at.reached).recorded y there)
+        ((reached-heard g f scheme m world i w correct at.life (at.p ∷ at.h) at.next).recorded of.0 (put-here (record_of at.h) (recorded_by at.p) of.0 of.1)) a of.2)
         (λ of. subst Report (sym of.2) (vote-report of.0 (w.honest i (vote_signer of.0) correct (of_vote of.0)
-        ((reached-heard g f scheme m world i w correct (at.p ∷ at.h) at.next).came of.0 (subst (λ (p : Point S D P G C). Contains (p ∷ at.h) (Heard of.0)) (sym of.1) (Contains-head (Heard of.0) at.h))))))
-        (deeds-are g f (m.setup i) at.h at.p (Reports a) at.done)
+        ((reached-heard g f scheme m world i w correct at.life (at.p ∷ at.h) at.next).came of.0 (subst (λ (p : Point S D P G C). Contains (p ∷ at.h) (Heard of.0)) (sym of.1) (Contains-head (Heard of.0) at.h))))))
+        (deeds-are g f at.life.setup at.h at.p (Reports a) at.done)
 
     -- ---- evidence at a refusal
 
-    evidence-there : (h : History S D P G C) → HasReached m i h → (sender : ℕ) (o : Option (Packet S D P G C)) → ((x : Packet S D P G C) → o ≡ Some x → CameIn g f scheme m world i sender x)
-        → (a : Activity S D P G C) → Contains (evidence_deeds g f (m.setup i) h sender o) (Reports a) → Report a
-    evidence-there h reached sender (Some (of_vote v)) came a here =
-        let s = votes_setup (m.setup i) g h (vote_round v).view in
-        let r = votes_of (m.setup i) h (vote_round v).view in
+    evidence-there : (life : Life S D P G C) (h : History S D P G C) → HasReached m i life h → (sender : ℕ) (o : Option (Packet S D P G C)) → ((x : Packet S D P G C) → o ≡ Some x → CameIn g f scheme m world i sender x)
+        → (a : Activity S D P G C) → Contains (evidence_deeds g f life.setup h sender o) (Reports a) → Report a
+    evidence-there life h reached sender (Some (of_vote v)) came a here =
+        let s = votes_setup life.setup g h (vote_round v).view in
+        let r = votes_of life.setup h (vote_round v).view in
         let of = Contains-mapped Reports (option_to_list (report_of f.same s r sender v)) (Reports a) here in
         let honest = w.honest i sender correct (of_vote v) (came (of_vote v) refl) in
         subst Report (some-is of.0 a (ap report_in of.2)) (go of.0 (takes s r sender v) honest (option-there (report_of f.same s r sender v) of.0 of.1))
       where
-        known : (u : Vote S D P G C) → recorded (votes_of (m.setup i) h (vote_round v).view) v ≡ Some u → IsTrueOf u
+        known : (u : Vote S D P G C) → recorded (votes_of life.setup h (vote_round v).view) v ≡ Some u → IsTrueOf u
         known u is =
-            let found = find-there (is_in_way v) (accepted (votes_of (m.setup i) h (vote_round v).view)) u is in
-            let all = begun-allowed g f (m.setup i) reached.before h (reached-goes g f scheme m world i w correct h reached) in
-            let from = accepted-known g f (m.setup i) h all (vote_round v).view u (kept-only (nat_lt (vote_round v).view (floor_of (m.setup i) h)) (all_votes (vote_round v).view h) u found.0) in
-            known-honest g f scheme m world w i correct h (reached-heard g f scheme m world i w correct h reached) u from.known
+            let found = find-there (is_in_way v) (accepted (votes_of life.setup h (vote_round v).view)) u is in
+            let all = begun-allowed g f life.setup reached.before h (reached-goes g f scheme m world i w correct life h reached) in
+            let from = accepted-known g f life.setup h all (vote_round v).view u (kept-only (nat_lt (vote_round v).view (floor_of life.setup h)) (all_votes (vote_round v).view h) u found.0) in
+            known-honest g f scheme m world w i correct life.setup (reached-own g f scheme m world i w correct life h reached) h (reached-heard g f scheme m world i w correct life h reached) u from.known
 
         go : (b : Activity S D P G C) (t : Bool) → IsTrueOf v
-            → (if t then Some (as_report v) else (if (sender == vote_signer v) && nat_lt sender (votes_setup (m.setup i) g h (vote_round v).view).members
-            then option_and_then (λ u. if is_kept_in_full (votes_setup (m.setup i) g h (vote_round v).view) (vote_kind u) (votes_of (m.setup i) h (vote_round v).view) then evidence f.same u v else None) (recorded (votes_of (m.setup i) h (vote_round v).view) v)
+            → (if t then Some (as_report v) else (if (sender == vote_signer v) && nat_lt sender (votes_setup life.setup g h (vote_round v).view).members
+            then option_and_then (λ u. if is_kept_in_full (votes_setup life.setup g h (vote_round v).view) (vote_kind u) (votes_of life.setup h (vote_round v).view) then evidence f.same u v else None) (recorded (votes_of life.setup h (vote_round v).view) v)
             else None)) ≡ Some b → Report b
         go b true honest is = subst Report (some-is (as_report v) b is) (vote-report v honest)
-        go b false honest is = against-report ((sender == vote_signer v) && nat_lt sender (votes_setup (m.setup i) g h (vote_round v).view).members) (recorded (votes_of (m.setup i) h (vote_round v).view) v)
-            (λ u. is_kept_in_full (votes_setup (m.setup i) g h (vote_round v).view) (vote_kind u) (votes_of (m.setup i) h (vote_round v).view)) v b known honest is
-    evidence-there h reached sender o came a here = absurd (Contains-nil (Reports a) here)
+        go b false honest is = against-report ((sender == vote_signer v) && nat_lt sender (votes_setup life.setup g h (vote_round v).view).members) (recorded (votes_of life.setup h (vote_round v).view) v)
+            (λ u. is_kept_in_full (votes_setup life.setup g h (vote_round v).view) (vote_kind u) (votes_of life.setup h (vote_round v).view)) v b known honest is
+    evidence-there life h reached sender o came a here = absurd (Contains-nil (Reports a) here)
 
     sender-none : (b : Bool) (sender : ℕ) (a : Activity S D P G C) → Contains {X = Deed S D P G C} (if b then Blocks sender ∷ [] else []) (Reports a) → ⊥
     sender-none true sender a here = none-some a (ap report_in (one (Blocks sender) (Reports a) here))
     sender-none false sender a here = Contains-nil (Reports a) here
 
-    refusal-there : (r : Refusal) (deeds : List (Deed S D P G C)) (a : Activity S D P G C) → Contains (refusal_report g f (m.setup i) r deeds) (Reports a) → Contains deeds (Reports a)
-    refusal-there refusal.Contradiction deeds a here = here
-    refusal-there r deeds a here = absurd (Contains-nil (Reports a) here)
+    refusal-there : (life : Life S D P G C) (r : Refusal) (deeds : List (Deed S D P G C)) (a : Activity S D P G C) → Contains (refusal_report g f life.setup r deeds) (Reports a) → Contains deeds (Reports a)
+    refusal-there life refusal.Contradiction deeds a here = here
+    refusal-there life r deeds a here = absurd (Contains-nil (Reports a) here)
 
-    refused-report : (h : History S D P G C) → HasReached m i h → (e : Event D) → WasHanded g f scheme m world i e → (r : Refusal) (a : Activity S D P G C) → Contains (refused_deeds g f (m.setup i) h e r) (Reports a) → Report a
-    refused-report h reached (event.Packet sender by bytes) handed r a here = ⊎_elim
+    refused-report : (life : Life S D P G C) (h : History S D P G C) → HasReached m i life h → (e : Event D) → WasHanded g f scheme m world i e → (r : Refusal) (a : Activity S D P G C) → Contains (refused_deeds g f life.setup h e r) (Reports a) → Report a
+    refused-report life h reached (event.Packet sender by bytes) handed r a here = ⊎_elim
         (λ block. absurd (sender-none (blocks_sender r) sender a block))
-        (λ report. evidence-there h reached sender (f.packet_in by bytes.items) (λ x is. (event.Packet sender by bytes, handed, (refl, is))) a
-        (refusal-there r (evidence_deeds g f (m.setup i) h sender (f.packet_in by bytes.items)) a report))
-        (Contains-append_cases (if blocks_sender r then Blocks sender ∷ [] else []) (refusal_report g f (m.setup i) r (evidence_deeds g f (m.setup i) h sender (f.packet_in by bytes.items))) (Reports a) here)
-    refused-report h reached e handed r a here = absurd (Contains-nil (Reports a) here)
+        (λ report. evidence-there life h reached sender (f.packet_in by bytes.items) (λ x is. (event.Packet sender by bytes, handed, (refl, is))) a
+        (refusal-there life r (evidence_deeds g f life.setup h sender (f.packet_in by bytes.items)) a report))
+        (Contains-append_cases (if blocks_sender r then Blocks sender ∷ [] else []) (refusal_report g f life.setup r (evidence_deeds g f life.setup h sender (f.packet_in by bytes.items))) (Reports a) here)
+    refused-report life h reached e handed r a here = absurd (Contains-nil (Reports a) here)
 
     -- what a correct member reports is honest
     pub report-honest : (a : Activity S D P G C) → HandedOut g f scheme m world i (Reports a) → Report a
     report-honest a out = ⊎_elim
         (λ at. point-report a at)
-        (λ at. refused-report at.h at.reached at.e at.handed at.r a at.done)
+        (λ at. refused-report at.life at.h at.reached at.e at.handed at.r a at.done)
         (deed-done g f scheme m world i w correct (Reports a) out)

@@ -9,7 +9,7 @@ use Rattle.simplex_messages.specs.declared.vote.Vote.{Vote}
 use Rattle.simplex_messages.specs.declared.vote.Vote.TheVariants as vote
 use Rattle.simplex_messages.specs.VoteParts.{vote_artifact}
 use Rattle.simplex_member.specs.Allowed.{Allowed, VoteIsDue}
-use Rattle.simplex_member.specs.Laws.{SendIsDue, WasDue}
+use Rattle.simplex_member.specs.Laws.{IsCastDue, WasDue}
 use Rattle.simplex_member.specs.Deeds.{Deed, Sends, Blocks, all_deeds, deeds_of}
 use Rattle.simplex_member.specs.Member.{Goes}
 use Rattle.simplex_member.specs.Packet.{Formats, of_vote}
@@ -47,7 +47,7 @@ module _ {S D P G C : Type 0} where
 
 module _ {S D P G C : Type 0} (g : Ghosts S D P G C) (f : Formats S D P G C) (s : Setup S D C) where
   -- what a point sends of a vote is the own vote that it made, or the recorded nullify
-  abbrev IsSent : Point S D P G C → Vote S D P G C → Type 0
+  abbrev pub IsSent : Point S D P G C → Vote S D P G C → Type 0
   IsSent (Votes w) v = w ≡ v
   IsSent (Repeats w best) v = vote.Nullify w ≡ v
   IsSent p v = ⊥
@@ -58,7 +58,7 @@ module _ {S D P G C : Type 0} (g : Ghosts S D P G C) (f : Formats S D P G C) (s 
   first-sent (Repeats w best) to v sent = only-sent v (vote.Nullify w) to sent
   first-sent p to v sent = absurd (omega (arith, sent.1))
 
-  is-sent : (h : History S D P G C) (p : Point S D P G C) (to : Option ℕ) (v : Vote S D P G C) → Contains (deeds_of g f s h p) (Sends to (of_vote v)) → IsSent p v
+  pub is-sent : (h : History S D P G C) (p : Point S D P G C) (to : Option ℕ) (v : Vote S D P G C) → Contains (deeds_of g f s h p) (Sends to (of_vote v)) → IsSent p v
   is-sent h p to v sent = first-sent p to v (among-first vote_in votes-alone g f s h p (Sends to (of_vote v)) v refl sent)
 
   -- it is recorded with the point, and was due then
@@ -67,9 +67,9 @@ module _ {S D P G C : Type 0} (g : Ghosts S D P G C) (f : Formats S D P G C) (s 
   sent-here h (Repeats w best) v a is = subst (λ (u : Vote S D P G C). Contains (record_of h) (vote_artifact u)) is a.due.recorded
   sent-here h p v a is = absurd is
 
-  due-here : (h : History S D P G C) (p : Point S D P G C) (v : Vote S D P G C) → Allowed g f s h p → IsSent p v → SendIsDue g f s h v
-  due-here h (Votes w) v a is = inl (subst (λ (u : Vote S D P G C). VoteIsDue g f s h u) is a.due)
-  due-here h (Repeats w best) v a is = inr (w, best, sym is, a.due)
+  pub due-here : (h : History S D P G C) (p : Point S D P G C) (v : Vote S D P G C) → Allowed g f s h p → IsSent p v → IsCastDue g f s h p v
+  due-here h (Votes w) v a is = inl (ap (λ (u : Vote S D P G C). Votes u) is, subst (λ (u : Vote S D P G C). VoteIsDue g f s h u) is a.due)
+  due-here h (Repeats w best) v a is = inr (w, best, refl, sym is, a.due)
   due-here h p v a is = absurd is
 
   -- what is recorded stays so

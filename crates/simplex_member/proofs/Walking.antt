@@ -12,13 +12,13 @@ use Rattle.simplex_member.specs.Allowed.{Allowed}
 use Rattle.simplex_member.specs.Deeds.{Deed, all_deeds, deeds_of}
 use Rattle.simplex_member.specs.First.{IsFirst}
 use Rattle.simplex_member.specs.Laws.{HasHeard, HasReached, IsDoneAt, IsDoneRefusing}
-use Rattle.simplex_member.specs.Lives.{Life, Broken, Lasting, Turn, Refuses, Went, AreMembers, HandedOut, IsCut, Lived, Lives, Members, Turns, WasHanded, events_of, handed_out, points_of, turn_deeds, turn_events, turn_points}
+use Rattle.simplex_member.specs.Lives.{Course, Life, Broken, Lasting, Turn, Refuses, Went, HandedOut, IsCut, LiveByNodes, Lived, Lives, Members, Turns, WasHanded, events_of, handed_out, points_of, turn_deeds, turn_events, turn_points}
 use Rattle.simplex_member.specs.Member.{Goes, after}
 use Rattle.simplex_member.specs.Packet.{Formats}
 use Rattle.simplex_member.specs.Point.{Point, Heard, History}
 use Rattle.simplex_member.specs.Recorded.{record_of}
 use Rattle.simplex_member.specs.Refusals.{refused_deeds, tests}
-use Rattle.simplex_member.specs.Setup.{Setup}
+use Rattle.simplex_member.specs.Setup.{IsOfOneMember, Setup}
 use Rattle.simplex_member.proofs.Blame.{after-goes}
 use Rattle.simplex_member.proofs.Feeding.{Each, each-append, each-there, goes-each, step-each}
 use Rattle.simplex_member.proofs.Going.{goes-then}
@@ -51,7 +51,7 @@ module _ {S D P G C : Type 0} (g : Ghosts S D P G C) (f : Formats S D P G C) (s 
   cut-goes h None end is = is
   cut-goes h (Some c) end is = is.1
 
-  pub life-goes : (found : List (Artifact S D P G C)) (life : Life S D P G C) (end : History S D P G C) → Lived g f s found life end → Goes g f s [] (points_of life) end
+  pub life-goes : (found : List (Artifact S D P G C)) (life : Course S D P G C) (end : History S D P G C) → Lived g f s found life end → Goes g f s [] (points_of life) end
   life-goes found (Broken now points) end lived = lived.1
   life-goes found (Lasting now points turns cut) end lived =
       goes-then g f s [] (points ++ turn_points turns) lived.1 (cut_points cut) end
@@ -65,25 +65,6 @@ module _ {S D P G C : Type 0} (g : Ghosts S D P G C) (f : Formats S D P G C) (s 
   pub goes-rest : (h end : History S D P G C) (xs ys : List (Point S D P G C)) → Goes g f s h (xs ++ ys) end → Goes g f s (after h xs) ys end
   goes-rest h end [] ys goes = goes
   goes-rest h end (p ∷ xs) ys goes = goes-rest (p ∷ h) end xs ys goes.1
-
-  -- a life among those that left this: what it found, where it ended, of which all was left
-  pub record IsLived (left : List (Artifact S D P G C)) (life : Life S D P G C) : Type 0 where
-    pub found : List (Artifact S D P G C)
-    pub end : History S D P G C
-    pub lived : Lived g f s found life end
-    pub kept : (x : Artifact S D P G C) → Contains (record_of end) x → Contains left x
-
-  pub lived-among : (found : List (Artifact S D P G C)) (lives : List (Life S D P G C)) (left : List (Artifact S D P G C)) (life : Life S D P G C) → Lives g f s found lives left → Contains lives life → IsLived left life
-  lived-among found [] left life all here = absurd (omega (arith, here.1))
-  lived-among found (x ∷ lives) left life all here = ⊎_elim
-      (λ is. record {
-        found = found;
-        end = all.0;
-        lived = subst (λ (l : Life S D P G C). Lived g f s found l all.0) is all.1;
-        kept = λ y there. lives-keep g f s (record_of all.0) lives left all.2 y there;
-      })
-      (λ later. lived-among (record_of all.0) lives left life all.2 later)
-      (Contains-cases x lives life here)
 
   -- ---- where a deed was done
 
@@ -211,7 +192,7 @@ module _ {S D P G C : Type 0} (g : Ghosts S D P G C) (f : Formats S D P G C) (s 
       (turn-done (after h points) turns end d (subst (λ (k : History S D P G C). Turns g f s k turns end) (sym (after-goes g f s h points t.0 t.2.goes)) t.3) later))
       (Contains-append_cases (all_deeds g f s h points) (turn_deeds g f s (after h points) turns) d here)
 
-  pub life-done : (found : List (Artifact S D P G C)) (life : Life S D P G C) (end : History S D P G C) (d : Deed S D P G C) → Lived g f s found life end → Contains (handed_out g f s life) d → IsDone [] (points_of life) (events_of life) d
+  pub life-done : (found : List (Artifact S D P G C)) (life : Course S D P G C) (end : History S D P G C) (d : Deed S D P G C) → Lived g f s found life end → Contains (handed_out g f s life) d → IsDone [] (points_of life) (events_of life) d
   life-done found (Broken now points) end d lived here = absurd (omega (arith, here.1))
   life-done found (Lasting now points turns cut) end d lived here =
       let cuts : List (Event D) = option_to_list (option_map (λ (c : Event D × List (Point S D P G C)). c.0) cut) in
@@ -223,86 +204,120 @@ module _ {S D P G C : Type 0} (g : Ghosts S D P G C) (f : Formats S D P G C) (s 
       (turn-done (after [] points) turns lived.1 d (subst (λ (k : History S D P G C). Turns g f s k turns lived.1) (sym (after-goes g f s [] points lived.0 lived.3.goes)) lived.4) later))
       (Contains-append_cases (all_deeds g f s [] points) (turn_deeds g f s (after [] points) turns) d here)
 
+module _ {S D P G C : Type 0} (g : Ghosts S D P G C) (f : Formats S D P G C) (s : Setup S D C) where
+  -- a life among those that left this: what it found, where it ended, of which all was left; and its setup is the member's
+  pub record IsLived (left : List (Artifact S D P G C)) (life : Life S D P G C) : Type 0 where
+    pub found : List (Artifact S D P G C)
+    pub end : History S D P G C
+    pub lived : Lived g f life.setup found life.course end
+    pub kept : (x : Artifact S D P G C) → Contains (record_of end) x → Contains left x
+    pub own : IsOfOneMember s life.setup
+
+  pub lived-among : (found : List (Artifact S D P G C)) (lives : List (Life S D P G C)) (left : List (Artifact S D P G C)) (life : Life S D P G C) → Lives g f s found lives left → Contains lives life → IsLived left life
+  lived-among found [] left life all here = absurd (omega (arith, here.1))
+  lived-among found (x ∷ lives) left life all here = ⊎_elim
+      (λ is. record {
+        found = found;
+        end = all.0;
+        lived = subst (λ (l : Life S D P G C). Lived g f l.setup found l.course all.0) is all.1;
+        kept = λ y there. lives-keep g f s (record_of all.0) lives left all.2 y there;
+        own = subst (λ (l : Life S D P G C). IsOfOneMember s l.setup) is all.3;
+      })
+      (λ later. lived-among (record_of all.0) lives left life all.2 later)
+      (Contains-cases x lives life here)
+
 module _ {S D P G C : Type 0} (g : Ghosts S D P G C) (f : Formats S D P G C) (m : Members S D P G C) (i : ℕ) where
   -- points lead to a history on the way
-  pub among-goes : (left : List (Artifact S D P G C)) → Lives g f (m.setup i) [] (m.lives i) left → (h : History S D P G C) → (at : HasReached m i h) → Goes g f (m.setup i) [] at.before h
-  among-goes left lives h at =
-      let lived = lived-among g f (m.setup i) [] (m.lives i) left at.life lives at.among in
-      let goes = subst (λ (l : List (Point S D P G C)). Goes g f (m.setup i) [] l lived.end) at.split (life-goes g f (m.setup i) lived.found at.life lived.end lived.lived) in
-      subst (λ (k : History S D P G C). Goes g f (m.setup i) [] at.before k) (sym at.is) (goes-part g f (m.setup i) [] lived.end at.before at.behind goes)
+  pub among-goes : (left : List (Artifact S D P G C)) → Lives g f (m.setup i) [] (m.lives i) left → (life : Life S D P G C) (h : History S D P G C) → (at : HasReached m i life h) → Goes g f life.setup [] at.before h
+  among-goes left lives life h at =
+      let lived = lived-among g f (m.setup i) [] (m.lives i) left life lives at.among in
+      let goes = subst (λ (l : List (Point S D P G C)). Goes g f life.setup [] l lived.end) at.split (life-goes g f life.setup lived.found life.course lived.end lived.lived) in
+      subst (λ (k : History S D P G C). Goes g f life.setup [] at.before k) (sym at.is) (goes-part g f life.setup [] lived.end at.before at.behind goes)
 
-module _ {S D P G C : Type 0} (g : Ghosts S D P G C) (f : Formats S D P G C) (scheme : S) (m : Members S D P G C) (world : World S D P G C) (i : ℕ) where
+module _ {S D P G C : Type 0} (g : Ghosts S D P G C) (f : Formats S D P G C) (scheme : S) (m : Members S D P G C) (world : World S D P G C) (i : ℕ) (s : Setup S D C) where
   -- ---- what came in on the way
 
-  turns-taken : (h : History S D P G C) (turns : List (Turn S D P G C)) (end : History S D P G C) → Turns g f (m.setup i) h turns end → ((e : Event D) → Contains (turn_events turns) e → WasHanded g f scheme m world i e)
-      → AreTaken g f scheme m world i (turn_points turns)
+  turns-taken : (h : History S D P G C) (turns : List (Turn S D P G C)) (end : History S D P G C) → Turns g f s h turns end → ((e : Event D) → Contains (turn_events turns) e → WasHanded g f scheme m world i e)
+      → AreTaken g f scheme m world i s (turn_points turns)
   turns-taken h [] end is handed = tt
   turns-taken h (Refuses e r ∷ turns) end t handed = turns-taken h turns end t.1 (λ x there. handed x (Contains-rest e (turn_events turns) x there))
-  turns-taken h (Went e points ∷ turns) end t handed = each-append (IsTaken g f scheme m world i) points (turn_points turns)
-      (step-each g f scheme m world i (IsTaken g f scheme m world i) (quiet-taken g f scheme m world i) (came-taken g f scheme m world i) h e points (handed e (Contains-head e (turn_events turns))) t.1)
+  turns-taken h (Went e points ∷ turns) end t handed = each-append (IsTaken g f scheme m world i s) points (turn_points turns)
+      (step-each g f scheme m world i s (IsTaken g f scheme m world i s) (quiet-taken g f scheme m world i s) (came-taken g f scheme m world i s) h e points (handed e (Contains-head e (turn_events turns))) t.1)
       (turns-taken t.0 turns end t.3 (λ x there. handed x (Contains-rest e (turn_events turns) x there)))
 
-  cut-taken : (h : History S D P G C) (cut : Option (Event D × List (Point S D P G C))) (end : History S D P G C) → IsCut g f (m.setup i) h cut end
-      → ((e : Event D) → Contains (option_to_list (option_map (λ (c : Event D × List (Point S D P G C)). c.0) cut)) e → WasHanded g f scheme m world i e) → AreTaken g f scheme m world i (cut_points cut)
+  cut-taken : (h : History S D P G C) (cut : Option (Event D × List (Point S D P G C))) (end : History S D P G C) → IsCut g f s h cut end
+      → ((e : Event D) → Contains (option_to_list (option_map (λ (c : Event D × List (Point S D P G C)). c.0) cut)) e → WasHanded g f scheme m world i e) → AreTaken g f scheme m world i s (cut_points cut)
   cut-taken h None end is handed = tt
-  cut-taken h (Some c) end is handed = step-each g f scheme m world i (IsTaken g f scheme m world i) (quiet-taken g f scheme m world i) (came-taken g f scheme m world i) h c.0 c.1 (handed c.0 (Contains-head c.0 [])) is.0
+  cut-taken h (Some c) end is handed = step-each g f scheme m world i s (IsTaken g f scheme m world i s) (quiet-taken g f scheme m world i s) (came-taken g f scheme m world i s) h c.0 c.1 (handed c.0 (Contains-head c.0 [])) is.0
 
-  life-taken : (found : List (Artifact S D P G C)) (life : Life S D P G C) (end : History S D P G C) → Lived g f (m.setup i) found life end → ((e : Event D) → Contains (events_of life) e → WasHanded g f scheme m world i e)
-      → AreTaken g f scheme m world i (points_of life)
-  life-taken found (Broken now points) end lived handed = opening-taken g f scheme m world i now found points lived.0
+  life-taken : (found : List (Artifact S D P G C)) (life : Course S D P G C) (end : History S D P G C) → Lived g f s found life end → ((e : Event D) → Contains (events_of life) e → WasHanded g f scheme m world i e)
+      → AreTaken g f scheme m world i s (points_of life)
+  life-taken found (Broken now points) end lived handed = opening-taken g f scheme m world i s now found points lived.0
   life-taken found (Lasting now points turns cut) end lived handed =
       let cuts : List (Event D) = option_to_list (option_map (λ (c : Event D × List (Point S D P G C)). c.0) cut) in
-      each-append (IsTaken g f scheme m world i) (points ++ turn_points turns) (cut_points cut)
-      (each-append (IsTaken g f scheme m world i) points (turn_points turns) (opening-taken g f scheme m world i now found points lived.2)
+      each-append (IsTaken g f scheme m world i s) (points ++ turn_points turns) (cut_points cut)
+      (each-append (IsTaken g f scheme m world i s) points (turn_points turns) (opening-taken g f scheme m world i s now found points lived.2)
       (turns-taken lived.0 turns lived.1 lived.4 (λ e there. handed e (Contains-append_left (turn_events turns) cuts e there))))
       (cut-taken lived.1 cut end lived.5 (λ e there. handed e (Contains-append_right (turn_events turns) cuts e there)))
 
-  -- a history on the way: points lead to it, what it heard came in, what it recorded is recorded
-  pub reached-goes : AreMembers g f scheme m world → IsCorrect world i → (h : History S D P G C) → (at : HasReached m i h) → Goes g f (m.setup i) [] at.before h
-  reached-goes w correct h at = among-goes g f m i (world.recorded i) (w.lived i correct) h at
+module _ {S D P G C : Type 0} (g : Ghosts S D P G C) (f : Formats S D P G C) (scheme : S) (m : Members S D P G C) (world : World S D P G C) (i : ℕ) where
+  -- a life of a correct member
+  pub of-correct : LiveByNodes g f scheme m world → IsCorrect world i → (life : Life S D P G C) → Contains (m.lives i) life → IsLived g f (m.setup i) (world.recorded i) life
+  of-correct w correct life among = lived-among g f (m.setup i) [] (m.lives i) (world.recorded i) life (w.lived i correct) among
 
-  pub reached-heard : AreMembers g f scheme m world → IsCorrect world i → (h : History S D P G C) → HasReached m i h → HasHeard g f scheme m world i h
-  reached-heard w correct h at =
-      let lived = lived-among g f (m.setup i) [] (m.lives i) (world.recorded i) at.life (w.lived i correct) at.among in
-      let goes = subst (λ (l : List (Point S D P G C)). Goes g f (m.setup i) [] l lived.end) at.split (life-goes g f (m.setup i) lived.found at.life lived.end lived.lived) in
-      let taken = subst (λ (l : List (Point S D P G C)). AreTaken g f scheme m world i l) at.split (life-taken lived.found at.life lived.end lived.lived (λ e there. (at.life, at.among, there))) in
-      let here = goes-each (IsTaken g f scheme m world i) g f (m.setup i) [] at.before h (reached-goes w correct h at) (each-first (IsTaken g f scheme m world i) at.before at.behind taken) tt in
+  -- a history on the way: points lead to it, what it heard came in, what it recorded is recorded
+  pub reached-goes : LiveByNodes g f scheme m world → IsCorrect world i → (life : Life S D P G C) (h : History S D P G C) → (at : HasReached m i life h) → Goes g f life.setup [] at.before h
+  reached-goes w correct life h at = among-goes g f m i (world.recorded i) (w.lived i correct) life h at
+
+  pub reached-own : LiveByNodes g f scheme m world → IsCorrect world i → (life : Life S D P G C) (h : History S D P G C) → HasReached m i life h → IsOfOneMember (m.setup i) life.setup
+  reached-own w correct life h at = (of-correct w correct life at.among).own
+
+  pub reached-heard : LiveByNodes g f scheme m world → IsCorrect world i → (life : Life S D P G C) (h : History S D P G C) → HasReached m i life h → HasHeard g f scheme m world i h
+  reached-heard w correct life h at =
+      let s = life.setup in
+      let lived = of-correct w correct life at.among in
+      let goes = subst (λ (l : List (Point S D P G C)). Goes g f s [] l lived.end) at.split (life-goes g f s lived.found life.course lived.end lived.lived) in
+      let taken = subst (λ (l : List (Point S D P G C)). AreTaken g f scheme m world i s l) at.split (life-taken g f scheme m world i s lived.found life.course lived.end lived.lived (λ e there. (life, at.among, there))) in
+      let here = goes-each (IsTaken g f scheme m world i s) g f s [] at.before h (reached-goes w correct life h at) (each-first (IsTaken g f scheme m world i s) at.before at.behind taken) tt in
       record {
-        came = λ v there. each-there (IsTaken g f scheme m world i) h here (Heard v) there;
-        recorded = λ x there. lived.kept x (grown g f (m.setup i) (after [] at.before) at.behind lived.end (goes-rest g f (m.setup i) [] lived.end at.before at.behind goes) x
+        came = λ v there. each-there (IsTaken g f scheme m world i s) h here (Heard v) there;
+        recorded = λ x there. lived.kept x (grown g f s (after [] at.before) at.behind lived.end (goes-rest g f s [] lived.end at.before at.behind goes) x
             (subst (λ (k : History S D P G C). Contains (record_of k) x) at.is there));
       }
 
   -- what a correct member handed out it did at a point of one of its lives, or when it refused an event
-  pub deed-done : AreMembers g f scheme m world → IsCorrect world i → (d : Deed S D P G C) → HandedOut g f scheme m world i d → IsDoneAt g f m i d ⊎ IsDoneRefusing g f scheme m world i d
+  pub deed-done : LiveByNodes g f scheme m world → IsCorrect world i → (d : Deed S D P G C) → HandedOut g f scheme m world i d → IsDoneAt g f m i d ⊎ IsDoneRefusing g f scheme m world i d
   deed-done w correct d out =
-      let lived = lived-among g f (m.setup i) [] (m.lives i) (world.recorded i) out.0 (w.lived i correct) out.1 in
+      let life = out.0 in
+      let s = life.setup in
+      let lived = of-correct w correct life out.1 in
       ⊎_elim
       (λ at.
-      let goes = subst (λ (l : List (Point S D P G C)). Goes g f (m.setup i) [] l lived.end) at.split (life-goes g f (m.setup i) lived.found out.0 lived.end lived.lived) in
-      let rest = goes-rest g f (m.setup i) [] lived.end at.before (at.p ∷ at.behind) goes in
+      let goes = subst (λ (l : List (Point S D P G C)). Goes g f s [] l lived.end) at.split (life-goes g f s lived.found life.course lived.end lived.lived) in
+      let rest = goes-rest g f s [] lived.end at.before (at.p ∷ at.behind) goes in
       inl (record {
+        life = life;
         h = at.at;
         p = at.p;
-        reached = record { life = out.0; among = out.1; before = at.before; behind = at.p ∷ at.behind; split = at.split; is = at.is };
+        reached = record { among = out.1; before = at.before; behind = at.p ∷ at.behind; split = at.split; is = at.is };
         next = record {
-          life = out.0;
           among = out.1;
           before = at.before ++ at.p ∷ [];
           behind = at.behind;
           split = at.split ∙ sym (append_assoc at.before (at.p ∷ []) at.behind);
           is = ap (λ (k : History S D P G C). at.p ∷ k) at.is ∙ sym (after-append [] at.before (at.p ∷ []));
         };
-        allowed = subst (λ (k : History S D P G C). Allowed g f (m.setup i) k at.p) (sym at.is) rest.0;
+        allowed = subst (λ (k : History S D P G C). Allowed g f s k at.p) (sym at.is) rest.0;
         done = at.done;
       }))
       (λ at. inr (record {
+        life = life;
         h = at.at;
-        reached = record { life = out.0; among = out.1; before = at.before; behind = at.behind; split = at.split; is = at.is };
+        reached = record { among = out.1; before = at.before; behind = at.behind; split = at.split; is = at.is };
         e = at.e;
-        handed = (out.0, out.1, at.among);
+        handed = (life, out.1, at.among);
         r = at.r;
         first = at.first;
         done = at.done;
       }))
-      (life-done g f (m.setup i) lived.found out.0 lived.end d lived.lived out.2)
+      (life-done g f s lived.found life.course lived.end d lived.lived out.2)

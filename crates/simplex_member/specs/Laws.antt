@@ -64,12 +64,12 @@ use Rattle.simplex_resolver.specs.Answers.{produced}
 use Rattle.simplex_resolver.specs.RepairHistory as repair
 use Rattle.simplex_member.specs.Deeds.{Deed, Sends, Serves, Blocks, Reports, all_deeds, deeds_of}
 use Rattle.simplex_member.specs.Layers.{current_of, finalized_of, floor_of, is_begun, known_of, repair_of, stage, voter_of, votes_of, votes_setup}
-use Rattle.simplex_member.specs.Lives.{Life, Lives, Members, AreMembers, IsWorldOfLives, AreFaithful, HandedOut, CameIn, IsHonestVote, WasHanded, points_of}
+use Rattle.simplex_member.specs.Lives.{Life, Lives, Members, LiveByNodes, AtMostFLie, AreFaithful, HandedOut, CameIn, IsHonestVote, WasHanded, points_of}
 use Rattle.simplex_member.specs.Member.{AreOpening, Goes, NoneDue, Run, AreStep, ReadsAs, after}
 use Rattle.simplex_member.specs.Packet.{Formats, IsReadable, Packet, of_vote, of_certificate, of_ask, packet_channel, packet_of}
-use Rattle.simplex_member.specs.Point.{Point, Opened, Began, Constructs, Heard, Wanted, Asks, Repeats, History}
+use Rattle.simplex_member.specs.Point.{Point, Opened, Began, Constructs, Heard, Wanted, Asks, Repeats, Votes, History}
 use Rattle.simplex_member.specs.Recorded.{notarization_in, record_of, recorded_by, reported}
-use Rattle.simplex_member.specs.Setup.{Setup, DeadlinesLieAhead, GoesByMembers, IsInTime, owner_of, member_of}
+use Rattle.simplex_member.specs.Setup.{Setup, DeadlinesLieAhead, GoesByMembers, IsInTime, IsOfOneMember, owner_of, member_of}
 
 -- payloads that are compared as one are one
 abbrev pub IsExact : {S D P G C : Type 0} → Formats S D P G C → Type 0
@@ -129,11 +129,12 @@ module _ {S D P G C : Type 0} (g : Ghosts S D P G C) (f : Formats S D P G C) (s 
   VotesAreRecorded = (h end : History S D P G C) (points : List (Point S D P G C)) (to : Option ℕ) (v : Vote S D P G C) → Goes g f s h points end
       → Contains (all_deeds g f s h points) (Sends to (of_vote v)) → Contains (record_of end) (vote_artifact v)
 
-  -- a vote was due: it is made now, or the recorded nullify is due once more
-  abbrev pub SendIsDue : History S D P G C → Vote S D P G C → Type 0
-  SendIsDue h v = VoteIsDue g f s h v ⊎ ((w : Nullify S D P G C) × (best : Option (Certificate S D P G C)) × (v ≡ vote.Nullify w) × RepeatIsDue g f s h w best)
+  -- a point casts this vote, which is due; or this vote is the recorded nullify, which is due once more, and the point repeats it
+  abbrev pub IsCastDue : History S D P G C → Point S D P G C → Vote S D P G C → Type 0
+  IsCastDue h p v = ((p ≡ Votes v) × VoteIsDue g f s h v)
+      ⊎ ((w : Nullify S D P G C) × (best : Option (Certificate S D P G C)) × (p ≡ Repeats w best) × (v ≡ vote.Nullify w) × RepeatIsDue g f s h w best)
 
-  -- at one of these points it was
+  -- one of these points cast or repeated it, and it was due there
   pub record WasDue (h : History S D P G C) (points : List (Point S D P G C)) (v : Vote S D P G C) : Type 0 where
     pub before : List (Point S D P G C)
     pub p : Point S D P G C
@@ -141,7 +142,7 @@ module _ {S D P G C : Type 0} (g : Ghosts S D P G C) (f : Formats S D P G C) (s 
     pub split : points ≡ before ++ p ∷ behind
     pub at : History S D P G C
     pub reached : Goes g f s h before at
-    pub due : SendIsDue at v
+    pub due : IsCastDue at p v
 
   -- each vote that is handed out was due at the point at which it was made
   abbrev pub VotesWereDue : Type 0
@@ -358,13 +359,12 @@ pub record IsOwnAndSound {S D P G C : Type 0} (world : World S D P G C) (j : ℕ
   pub signer : vote_signer v ≡ j
   pub parent_below : HasParentBelow (vote_statement v)
 
--- a life of a member's led to this history on its way
-pub record HasReached {S D P G C : Type 0} (m : Members S D P G C) (i : ℕ) (h : History S D P G C) : Type 0 where
-  pub life : Life S D P G C
+-- this life of a member's led to this history on its way
+pub record HasReached {S D P G C : Type 0} (m : Members S D P G C) (i : ℕ) (life : Life S D P G C) (h : History S D P G C) : Type 0 where
   pub among : Contains (m.lives i) life
   pub before : List (Point S D P G C)
   pub behind : List (Point S D P G C)
-  pub split : points_of life ≡ before ++ behind
+  pub split : points_of life.course ≡ before ++ behind
   pub is : h ≡ after [] before
 
 module _ {S D P G C : Type 0} (g : Ghosts S D P G C) (f : Formats S D P G C) where
@@ -374,7 +374,8 @@ module _ {S D P G C : Type 0} (g : Ghosts S D P G C) (f : Formats S D P G C) whe
 
   -- a certificate that was made lists only what came in, or own votes: it is honest as they are
   abbrev pub MadeAreHonest : Type 0
-  MadeAreHonest = (scheme : S) (m : Members S D P G C) (world : World S D P G C) → AreMembers g f scheme m world → RecordedAreHonest scheme m world
+  MadeAreHonest = (scheme : S) (m : Members S D P G C) (world : World S D P G C) → LiveByNodes g f scheme m world
+      → RecordedAreHonest scheme m world
 
   -- one proposal a view, no finalized view nullified, none skipped
   pub record DoAgree (scheme : S) (world : World S D P G C) : Type 0 where
@@ -383,14 +384,16 @@ module _ {S D P G C : Type 0} (g : Ghosts S D P G C) (f : Formats S D P G C) whe
     pub no_finalized_view_skipped : NoFinalizedViewSkipped (g.attests scheme) g.lists world
 
   abbrev pub AgreeIfHonest : Type 0
-  AgreeIfHonest = (scheme : S) (m : Members S D P G C) (world : World S D P G C) → IsWorldOfLives g f scheme m world → RecordedAreHonest scheme m world → DoAgree scheme world
+  AgreeIfHonest = (scheme : S) (m : Members S D P G C) (world : World S D P G C) → LiveByNodes g f scheme m world → AtMostFLie world
+      → RecordedAreHonest scheme m world → DoAgree scheme world
 
   abbrev pub Agree : Type 0
-  Agree = (scheme : S) (m : Members S D P G C) (world : World S D P G C) → IsWorldOfLives g f scheme m world → DoAgree scheme world
+  Agree = (scheme : S) (m : Members S D P G C) (world : World S D P G C) → LiveByNodes g f scheme m world → AtMostFLie world
+      → DoAgree scheme world
 
   -- what that speaks of, beside what is recorded: each certificate that came in to a correct member and certifies by its scheme
   abbrev pub HandedCertificatesAreSound : Type 0
-  HandedCertificatesAreSound = (scheme : S) (m : Members S D P G C) (world : World S D P G C) → IsWorldOfLives g f scheme m world
+  HandedCertificatesAreSound = (scheme : S) (m : Members S D P G C) (world : World S D P G C) → LiveByNodes g f scheme m world
       → (i sender : ℕ) → IsCorrect world i → (c : Certificate S D P G C) → CameIn g f scheme m world i sender (of_certificate c)
       → g.certifies (m.setup i).voter.scheme (certificate_statement c) (certified_by c) → IsSound (g.attests scheme) g.lists world c
 
@@ -407,19 +410,24 @@ module _ {S D P G C : Type 0} (g : Ghosts S D P G C) (f : Formats S D P G C) whe
 
   -- and so does what may come next at a history on their way, once the record was gone through
   abbrev pub NextStandsOnGround : Type 0
-  NextStandsOnGround = (m : Members S D P G C) (i : ℕ) (left : List (Artifact S D P G C)) (h : History S D P G C) (p : Point S D P G C) (x : Artifact S D P G C) → HasLived m i left → HasReached m i h
-      → Allowed g f (m.setup i) h p → is_begun h ≡ true → recorded_by p ≡ Some x
+  NextStandsOnGround = (m : Members S D P G C) (i : ℕ) (left : List (Artifact S D P G C))
+      (life : Life S D P G C) (h : History S D P G C) (p : Point S D P G C) (x : Artifact S D P G C)
+      → HasLived m i left → HasReached m i life h → Allowed g f life.setup h p → is_begun h ≡ true → recorded_by p ≡ Some x
       → MayFollowOnGround (g.size (m.setup i).voter.scheme) (m.setup i).voter.length (scheduled_leader (m.setup i).voter) (m.setup i).me (entries (record_of h)) (entry x)
 
   -- finalized views lie on one chain, where all go by one schedule
   abbrev pub LieOnOneChain : Type 0
-  LieOnOneChain = (scheme : S) (m : Members S D P G C) (world : World S D P G C) (leader : ℕ → Option ℕ) → IsWorldOfLives g f scheme m world
-      → ((i : ℕ) → IsCorrect world i → (view : ℕ) → scheduled_leader (m.setup i).voter view ≡ leader view) → OneChain (g.attests scheme) g.lists world
+  LieOnOneChain = (scheme : S) (m : Members S D P G C) (world : World S D P G C) (leader : ℕ → Option ℕ) → LiveByNodes g f scheme m world
+      → AtMostFLie world
+      → ((i : ℕ) → IsCorrect world i → (view : ℕ) → scheduled_leader (m.setup i).voter view ≡ leader view)
+      → OneChain (g.attests scheme) g.lists world
 
   -- each vote that comes in to a correct member by a correct one is its own and sound: it names its signer, is recorded, has its parent below
   abbrev pub CorrectVotesAreSound : Type 0
-  CorrectVotesAreSound = (scheme : S) (m : Members S D P G C) (world : World S D P G C) → AreMembers g f scheme m world → AreFaithful g f scheme m world
-      → (i j : ℕ) → IsCorrect world i → IsCorrect world j → (v : Vote S D P G C) → CameIn g f scheme m world i j (of_vote v) → IsOwnAndSound world j v
+  CorrectVotesAreSound = (scheme : S) (m : Members S D P G C) (world : World S D P G C) → LiveByNodes g f scheme m world
+      → AreFaithful g f scheme m world
+      → (i j : ℕ) → IsCorrect world i → IsCorrect world j → (v : Vote S D P G C) → CameIn g f scheme m world i j (of_vote v)
+      → IsOwnAndSound world j v
 
   -- a member's history: each vote that was heard came in by its signer, and what it records the member recorded
   pub record HasHeard (scheme : S) (m : Members S D P G C) (world : World S D P G C) (i : ℕ) (h : History S D P G C) : Type 0 where
@@ -428,10 +436,12 @@ module _ {S D P G C : Type 0} (g : Ghosts S D P G C) (f : Formats S D P G C) whe
 
   -- no vote that comes in to a correct member by a correct one contradicts what that heard
   abbrev pub CorrectVotesContradictNone : Type 0
-  CorrectVotesContradictNone = (scheme : S) (m : Members S D P G C) (world : World S D P G C) → AreMembers g f scheme m world → AreFaithful g f scheme m world
-      → (i j : ℕ) → IsCorrect world i → IsCorrect world j → (h : History S D P G C) (points : List (Point S D P G C)) → Goes g f (m.setup i) [] points h → HasHeard scheme m world i h
+  CorrectVotesContradictNone = (scheme : S) (m : Members S D P G C) (world : World S D P G C) → LiveByNodes g f scheme m world
+      → AreFaithful g f scheme m world
+      → (i j : ℕ) → IsCorrect world i → IsCorrect world j → (s : Setup S D C) → IsOfOneMember (m.setup i) s
+      → (h : History S D P G C) (points : List (Point S D P G C)) → Goes g f s [] points h → HasHeard scheme m world i h
       → (v : Vote S D P G C) → CameIn g f scheme m world i j (of_vote v)
-      → ¬ IsBlocked (votes_setup (m.setup i) g h (vote_round v).view) (votes_of (m.setup i) h (vote_round v).view) j v
+      → ¬ IsBlocked (votes_setup s g h (vote_round v).view) (votes_of s h (vote_round v).view) j v
 
   -- what attests by one correct member's scheme does by the other's
   abbrev pub DoAttestAlike : S → Members S D P G C → World S D P G C → Type 0
@@ -440,43 +450,54 @@ module _ {S D P G C : Type 0} (g : Ghosts S D P G C) (f : Formats S D P G C) whe
 
   -- no construction of a correct member blocks a correct one
   abbrev pub ConstructionsBlockNone : Type 0
-  ConstructionsBlockNone = (scheme : S) (m : Members S D P G C) (world : World S D P G C) → AreMembers g f scheme m world → AreFaithful g f scheme m world → DoAttestAlike scheme m world
-      → (i j : ℕ) → IsCorrect world i → IsCorrect world j → (h : History S D P G C) (points : List (Point S D P G C)) → Goes g f (m.setup i) [] points h → HasHeard scheme m world i h
-      → (view : ℕ) (kind : Kind) (batch : Batch (Certificate S D P G C)) → Allowed g f (m.setup i) h (Constructs view kind batch) → ¬ Contains batch.invalid.items j
+  ConstructionsBlockNone = (scheme : S) (m : Members S D P G C) (world : World S D P G C) → LiveByNodes g f scheme m world
+      → AreFaithful g f scheme m world → DoAttestAlike scheme m world
+      → (i j : ℕ) → IsCorrect world i → IsCorrect world j → (s : Setup S D C) → IsOfOneMember (m.setup i) s
+      → (h : History S D P G C) (points : List (Point S D P G C)) → Goes g f s [] points h → HasHeard scheme m world i h
+      → (view : ℕ) (kind : Kind) (batch : Batch (Certificate S D P G C)) → Allowed g f s h (Constructs view kind batch)
+      → ¬ Contains batch.invalid.items j
 
   -- a member did this at a point of one of its lives
   pub record IsDoneAt (m : Members S D P G C) (i : ℕ) (d : Deed S D P G C) : Type 0 where
+    pub life : Life S D P G C
     pub h : History S D P G C
     pub p : Point S D P G C
-    pub reached : HasReached m i h
-    pub next : HasReached m i (p ∷ h)
-    pub allowed : Allowed g f (m.setup i) h p
-    pub done : Contains (deeds_of g f (m.setup i) h p) d
+    pub reached : HasReached m i life h
+    pub next : HasReached m i life (p ∷ h)
+    pub allowed : Allowed g f life.setup h p
+    pub done : Contains (deeds_of g f life.setup h p) d
 
   -- or it did this when it refused an event that it was handed
   pub record IsDoneRefusing (scheme : S) (m : Members S D P G C) (world : World S D P G C) (i : ℕ) (d : Deed S D P G C) : Type 0 where
+    pub life : Life S D P G C
     pub h : History S D P G C
-    pub reached : HasReached m i h
+    pub reached : HasReached m i life h
     pub e : Event D
     pub handed : WasHanded g f scheme m world i e
     pub r : Refusal
-    pub first : IsFirst (tests g f (m.setup i) h e) (Some r)
-    pub done : Contains (refused_deeds g f (m.setup i) h e r) d
+    pub first : IsFirst (tests g f life.setup h e) (Some r)
+    pub done : Contains (refused_deeds g f life.setup h e r) d
 
   -- what a correct member hands out it did at a point, or when it refused an event
   abbrev pub DeedsAreDone : Type 0
-  DeedsAreDone = (scheme : S) (m : Members S D P G C) (world : World S D P G C) → AreMembers g f scheme m world → (i : ℕ) → IsCorrect world i
+  DeedsAreDone = (scheme : S) (m : Members S D P G C) (world : World S D P G C) → LiveByNodes g f scheme m world → (i : ℕ)
+      → IsCorrect world i
       → (d : Deed S D P G C) → HandedOut g f scheme m world i d → IsDoneAt m i d ⊎ IsDoneRefusing scheme m world i d
 
   -- a history that a correct member's life led to was gone to point by point, heard what came in, and recorded what the member did
   abbrev pub ReachedAreGoneTo : Type 0
-  ReachedAreGoneTo = (scheme : S) (m : Members S D P G C) (world : World S D P G C) → AreMembers g f scheme m world → (i : ℕ) → IsCorrect world i
-      → (h : History S D P G C) → HasReached m i h → ((points : List (Point S D P G C)) × Goes g f (m.setup i) [] points h) × HasHeard scheme m world i h
+  ReachedAreGoneTo = (scheme : S) (m : Members S D P G C) (world : World S D P G C) → LiveByNodes g f scheme m world → (i : ℕ)
+      → IsCorrect world i
+      → (life : Life S D P G C) (h : History S D P G C) → HasReached m i life h
+      → IsOfOneMember (m.setup i) life.setup × ((points : List (Point S D P G C)) × Goes g f life.setup [] points h) × HasHeard scheme m world i h
 
   -- a certificate that a correct member makes is sound, whether or not it comes to record it
   abbrev pub MadeAreSound : Type 0
-  MadeAreSound = (scheme : S) (m : Members S D P G C) (world : World S D P G C) → AreMembers g f scheme m world → (i : ℕ) → IsCorrect world i → (h : History S D P G C) → HasReached m i h
-      → (view : ℕ) (kind : Kind) (batch : Batch (Certificate S D P G C)) → Allowed g f (m.setup i) h (Constructs view kind batch) → (c : Certificate S D P G C) → batch.certificate ≡ Some c
+  MadeAreSound = (scheme : S) (m : Members S D P G C) (world : World S D P G C) → LiveByNodes g f scheme m world → (i : ℕ)
+      → IsCorrect world i
+      → (life : Life S D P G C) (h : History S D P G C) → HasReached m i life h
+      → (view : ℕ) (kind : Kind) (batch : Batch (Certificate S D P G C)) → Allowed g f life.setup h (Constructs view kind batch)
+      → (c : Certificate S D P G C) → batch.certificate ≡ Some c
       → IsSound (g.attests scheme) g.lists world c
 
   -- a report is honest: each vote that it holds, loose, in a certificate or as evidence, is
@@ -487,35 +508,44 @@ module _ {S D P G C : Type 0} (g : Ghosts S D P G C) (f : Formats S D P G C) whe
 
   -- what correct members report is honest
   abbrev pub ReportsAreHonest : Type 0
-  ReportsAreHonest = (scheme : S) (m : Members S D P G C) (world : World S D P G C) → AreMembers g f scheme m world → (i : ℕ) → IsCorrect world i
+  ReportsAreHonest = (scheme : S) (m : Members S D P G C) (world : World S D P G C) → LiveByNodes g f scheme m world → (i : ℕ)
+      → IsCorrect world i
       → (a : Activity S D P G C) → HandedOut g f scheme m world i (Reports a) → IsHonestReport scheme m world a
 
   -- a certificate that a correct member reports certifies, by a scheme of the committee's size
   abbrev pub ReportedCertify : Type 0
-  ReportedCertify = (scheme : S) (m : Members S D P G C) (world : World S D P G C) → AreMembers g f scheme m world → g.size scheme ≡ world.size → (i : ℕ) → IsCorrect world i
-      → (a : Activity S D P G C) → HandedOut g f scheme m world i (Reports a) → (c : Certificate S D P G C) → reported_certificate a ≡ Some c → g.certifies scheme (certificate_statement c) (certified_by c)
+  ReportedCertify = (scheme : S) (m : Members S D P G C) (world : World S D P G C) → LiveByNodes g f scheme m world
+      → g.size scheme ≡ world.size → (i : ℕ) → IsCorrect world i
+      → (a : Activity S D P G C) → HandedOut g f scheme m world i (Reports a) → (c : Certificate S D P G C)
+      → reported_certificate a ≡ Some c → g.certifies scheme (certificate_statement c) (certified_by c)
 
   -- of the votes that a correct member recorded, two of which one stands in the other's way are for one statement
   abbrev pub OwnVotesAgree : Type 0
-  OwnVotesAgree = (scheme : S) (m : Members S D P G C) (world : World S D P G C) → AreMembers g f scheme m world → (i : ℕ) → IsCorrect world i
+  OwnVotesAgree = (scheme : S) (m : Members S D P G C) (world : World S D P G C) → LiveByNodes g f scheme m world → (i : ℕ)
+      → IsCorrect world i
       → (x y : Statement D) → HasVoted (entries (world.recorded i)) x → HasVoted (entries (world.recorded i)) y → StandsInTheWay x y → x ≡ y
 
   -- a member refused an event at a history, for which it blocked another
   pub record IsRefusedFor (scheme : S) (m : Members S D P G C) (world : World S D P G C) (i j : ℕ) : Type 0 where
+    pub setup : Setup S D C
+    pub own : IsOfOneMember (m.setup i) setup
     pub e : Event D
     pub handed : WasHanded g f scheme m world i e
     pub h : History S D P G C
     pub heard : HasHeard scheme m world i h
     pub r : Refusal
-    pub first : IsFirst (tests g f (m.setup i) h e) (Some r)
-    pub blocks : Contains (refused_deeds g f (m.setup i) h e r) (Blocks j)
+    pub first : IsFirst (tests g f setup h e) (Some r)
+    pub blocks : Contains (refused_deeds g f setup h e r) (Blocks j)
 
   -- by a refusal alone a correct member blocks a correct one, of a packet that holds no vote
   abbrev pub BlockedByRefusalAlone : Type 0
-  BlockedByRefusalAlone = (scheme : S) (m : Members S D P G C) (world : World S D P G C) → AreMembers g f scheme m world → AreFaithful g f scheme m world → DoAttestAlike scheme m world
-      → (i j : ℕ) → IsCorrect world i → IsCorrect world j → HandedOut g f scheme m world i (Blocks j) → (x : IsRefusedFor scheme m world i j) × HoldsNoVote f x.e j
+  BlockedByRefusalAlone = (scheme : S) (m : Members S D P G C) (world : World S D P G C) → LiveByNodes g f scheme m world
+      → AreFaithful g f scheme m world → DoAttestAlike scheme m world
+      → (i j : ℕ) → IsCorrect world i → IsCorrect world j → HandedOut g f scheme m world i (Blocks j)
+      → (x : IsRefusedFor scheme m world i j) × HoldsNoVote f x.e j
 
   -- no correct member blocks a correct one, neither by a refusal nor by a construction
   abbrev pub NoneIsBlamed : Type 0
-  NoneIsBlamed = (scheme : S) (m : Members S D P G C) (world : World S D P G C) → AreMembers g f scheme m world → AreFaithful g f scheme m world → DoAttestAlike scheme m world
+  NoneIsBlamed = (scheme : S) (m : Members S D P G C) (world : World S D P G C) → LiveByNodes g f scheme m world
+      → AreFaithful g f scheme m world → DoAttestAlike scheme m world
       → (i j : ℕ) → IsCorrect world i → IsCorrect world j → HandedOut g f scheme m world i (Blocks j) → ⊥

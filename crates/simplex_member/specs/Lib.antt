@@ -12,3 +12,4 @@ pub mod Member
 pub mod Lives
 pub mod Spelled
 pub mod Laws
+pub mod Sent

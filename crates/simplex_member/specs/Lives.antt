@@ -1,4 +1,5 @@
--- A member's life: openings one after another, each with the events that came, until a crash or a fault. And worlds of such members.
+-- A member's lives: openings one after another, each by a setup of its own and with the events that came, until a crash or a fault. And
+-- members that live so, beside others that may do anything.
 use Rattle.std.specs.Prelude.{◌≡◌, ◌<◌, ◌≤◌, ◌++◌, ℕ, List, [], ◌∷◌, length, Contains, Option, Some, None, IfSome, option_map, option_to_list, unwrap_or, ⊤}
 use Rattle.types_core.specs.declared.scheme.Scheme.{Ghosts}
 use Rattle.types_quorum.specs.Committee.{faults}
@@ -20,7 +21,7 @@ use Rattle.simplex_member.specs.Packet.{Formats, IsReadable, Packet, of_vote, of
 use Rattle.simplex_member.specs.Point.{Point, History}
 use Rattle.simplex_member.specs.Recorded.{record_of}
 use Rattle.simplex_member.specs.Refusals.{tests, refused_deeds}
-use Rattle.simplex_member.specs.Setup.{Setup, owner_of}
+use Rattle.simplex_member.specs.Setup.{IsOfOneMember, Setup, owner_of}
 
 -- an event that was refused, or taken, with what it led to
 pub data Turn (S D P G C : Type 0) : Type 0 where
@@ -29,9 +30,14 @@ pub data Turn (S D P G C : Type 0) : Type 0 where
 
 -- one opening at a moment and what came of it: how it went through the record, then what it did. It was cut off; or it rested, and turns followed,
 -- of which the last may have been cut off behind an event
-pub data Life (S D P G C : Type 0) : Type 0 where
-  Broken : ℕ → List (Point S D P G C) → Life S D P G C
-  Lasting : ℕ → List (Point S D P G C) → List (Turn S D P G C) → Option (Event D × List (Point S D P G C)) → Life S D P G C
+pub data Course (S D P G C : Type 0) : Type 0 where
+  Broken : ℕ → List (Point S D P G C) → Course S D P G C
+  Lasting : ℕ → List (Point S D P G C) → List (Turn S D P G C) → Option (Event D × List (Point S D P G C)) → Course S D P G C
+
+-- a life: how its node was set up, and its course
+pub record Life (S D P G C : Type 0) : Type 0 where
+  pub setup : Setup S D C
+  pub course : Course S D P G C
 
 module _ {S D P G C : Type 0} where
   -- the event of a turn
@@ -46,7 +52,7 @@ module _ {S D P G C : Type 0} where
   turn_points (Went e points ∷ turns) = points ++ turn_points turns
 
   -- all points of a life
-  abbrev pub points_of : Life S D P G C → List (Point S D P G C)
+  abbrev pub points_of : Course S D P G C → List (Point S D P G C)
   points_of (Broken now points) = points
   points_of (Lasting now points turns cut) = points ++ turn_points turns ++ unwrap_or (option_map (λ c. c.1) cut) []
 
@@ -55,7 +61,7 @@ module _ {S D P G C : Type 0} where
   turn_events (t ∷ turns) = event_of t ∷ turn_events turns
 
   -- all events that were handed in
-  abbrev pub events_of : Life S D P G C → List (Event D)
+  abbrev pub events_of : Course S D P G C → List (Event D)
   events_of (Broken now points) = []
   events_of (Lasting now points turns cut) = turn_events turns ++ option_to_list (option_map (λ c. c.0) cut)
 
@@ -72,15 +78,10 @@ module _ {S D P G C : Type 0} (g : Ghosts S D P G C) (f : Formats S D P G C) (s 
   IsCut h (Some c) end = AreStep g f s h c.0 c.1 × Goes g f s h c.1 end
 
   -- a life that found these leads here
-  abbrev pub Lived : List (Artifact S D P G C) → Life S D P G C → History S D P G C → Type 0
+  abbrev pub Lived : List (Artifact S D P G C) → Course S D P G C → History S D P G C → Type 0
   Lived found (Broken now points) end = AreOpening g f s now found points × Goes g f s [] points end
   Lived found (Lasting now points turns cut) end = (mid : History S D P G C) × (last : History S D P G C)
       × AreOpening g f s now found points × Rests g f s [] points mid × Turns mid turns last × IsCut last cut end
-
-  -- lives, one after the other: each finds what the one before has left, which is the record at its end, also where that was cut off
-  abbrev pub Lives : List (Artifact S D P G C) → List (Life S D P G C) → List (Artifact S D P G C) → Type 0
-  Lives found [] left = left ≡ found
-  Lives found (life ∷ lives) left = (end : History S D P G C) × Lived found life end × Lives (record_of end) lives left
 
   -- what turns handed out
   abbrev pub turn_deeds : History S D P G C → List (Turn S D P G C) → List (Deed S D P G C)
@@ -89,11 +90,19 @@ module _ {S D P G C : Type 0} (g : Ghosts S D P G C) (f : Formats S D P G C) (s 
   turn_deeds h (Went e points ∷ turns) = all_deeds g f s h points ++ turn_deeds (after h points) turns
 
   -- what a life handed out: nothing of what was cut off
-  abbrev pub handed_out : Life S D P G C → List (Deed S D P G C)
+  abbrev pub handed_out : Course S D P G C → List (Deed S D P G C)
   handed_out (Broken now points) = []
   handed_out (Lasting now points turns cut) = all_deeds g f s [] points ++ turn_deeds (after [] points) turns
 
--- members: how each is set up, and its lives
+module _ {S D P G C : Type 0} (g : Ghosts S D P G C) (f : Formats S D P G C) where
+  -- lives of the member that this is a setup of, one after the other: each is set up for it, and finds what the one before has left,
+  -- which is the record at its end, also where that was cut off
+  abbrev pub Lives : Setup S D C → List (Artifact S D P G C) → List (Life S D P G C) → List (Artifact S D P G C) → Type 0
+  Lives s found [] left = left ≡ found
+  Lives s found (life ∷ lives) left =
+      (end : History S D P G C) × Lived g f life.setup found life.course end × Lives s (record_of end) lives left × IsOfOneMember s life.setup
+
+-- members: a setup of each, of which what is fixed for good counts alone, and its lives
 pub record Members (S D P G C : Type 0) : Type 0 where
   pub setup : ℕ → Setup S D C
   pub lives : ℕ → List (Life S D P G C)
@@ -101,7 +110,7 @@ pub record Members (S D P G C : Type 0) : Type 0 where
 module _ {S D P G C : Type 0} (g : Ghosts S D P G C) (f : Formats S D P G C) (scheme : S) (m : Members S D P G C) (world : World S D P G C) where
   -- an event was handed to a member
   abbrev pub WasHanded : ℕ → Event D → Type 0
-  WasHanded i e = (life : Life S D P G C) × Contains (m.lives i) life × Contains (events_of life) e
+  WasHanded i e = (life : Life S D P G C) × Contains (m.lives i) life × Contains (events_of life.course) e
 
   -- an event is a packet of this sender that holds this
   abbrev pub Holds : Event D → ℕ → Packet S D P G C → Type 0
@@ -119,7 +128,7 @@ module _ {S D P G C : Type 0} (g : Ghosts S D P G C) (f : Formats S D P G C) (sc
 
   -- a member handed this out
   abbrev pub HandedOut : ℕ → Deed S D P G C → Type 0
-  HandedOut i d = (life : Life S D P G C) × Contains (m.lives i) life × Contains (handed_out g f (m.setup i) life) d
+  HandedOut i d = (life : Life S D P G C) × Contains (m.lives i) life × Contains (handed_out g f life.setup life.course) d
 
   -- a vote in a correct member's name that verifies is on a statement for which that member recorded a vote
   abbrev pub IsHonestVote : Vote S D P G C → Type 0
@@ -134,18 +143,14 @@ module _ {S D P G C : Type 0} (g : Ghosts S D P G C) (f : Formats S D P G C) (sc
 
   -- Members that live by their nodes, each on a disk that was empty at first. Of each that isn't excused, the scheme is like the
   -- committee's; its record is what its lives have left; and all that comes in is honest
-  pub record AreMembers : Type 0 where
-    pub alike : (i : ℕ) → IsCorrect world i → IsAlike world.size (g.attests scheme) (g.size (m.setup i).voter.scheme) (g.attests (m.setup i).voter.scheme)
-    pub owner : (i : ℕ) → IsCorrect world i → owner_of (m.setup i) ≡ record { epoch = world.epoch; term_length = world.term_length; signer = i }
+  pub record LiveByNodes : Type 0 where
+    pub alike : (i : ℕ) → IsCorrect world i
+        → IsAlike world.size (g.attests scheme) (g.size (m.setup i).voter.scheme) (g.attests (m.setup i).voter.scheme)
+    pub owner : (i : ℕ) → IsCorrect world i
+        → owner_of (m.setup i) ≡ record { epoch = world.epoch; term_length = world.term_length; signer = i }
     pub me : (i : ℕ) → IsCorrect world i → (m.setup i).voter.me ≡ Some i
     pub lived : (i : ℕ) → IsCorrect world i → Lives g f (m.setup i) [] (m.lives i) (world.recorded i)
     pub honest : (i sender : ℕ) → IsCorrect world i → (x : Packet S D P G C) → CameIn i sender x → IsHonestPacket x
-
-  -- a world of them: at most as many are excused as may be faulty
-  pub record IsWorldOfLives : Type 0 where
-    pub some : 0 < world.size
-    pub few : length world.excused ≤ faults world.size
-    pub members : AreMembers
 
   -- a deed hands out these bytes by this channel
   abbrev pub HandsOutBytes : Channel → List ℕ → Deed S D P G C → Type 0
@@ -156,6 +161,13 @@ module _ {S D P G C : Type 0} (g : Ghosts S D P G C) (f : Formats S D P G C) (sc
   -- a packet in a correct member's name was handed out by one of its nodes; and each vote and certificate that it recorded can be read:
   -- nothing is recorded that has no spelling
   pub record AreFaithful : Type 0 where
-    pub handed : (i j : ℕ) (e : Event D) (by : Channel) (bytes : List ℕ) → IsCorrect world i → IsCorrect world j → WasHanded i e → Carries e j by bytes
+    pub handed : (i j : ℕ) (e : Event D) (by : Channel) (bytes : List ℕ) → IsCorrect world i → IsCorrect world j → WasHanded i e
+        → Carries e j by bytes
         → (d : Deed S D P G C) × HandedOut j d × HandsOutBytes by bytes d
-    pub readable : (i : ℕ) → IsCorrect world i → (x : Artifact S D P G C) → Contains (world.recorded i) x → IfSome (packet_of x) (IsReadable f)
+    pub readable : (i : ℕ) → IsCorrect world i → (x : Artifact S D P G C) → Contains (world.recorded i) x
+        → IfSome (packet_of x) (IsReadable f)
+
+-- at most as many are excused as may be faulty
+pub record AtMostFLie {S D P G C : Type 0} (world : World S D P G C) : Type 0 where
+  pub some : 0 < world.size
+  pub few : length world.excused ≤ faults world.size

@@ -49,6 +49,18 @@ module _ {S D C : Type 0} where
   abbrev pub IsInTime : Setup S D C → ℕ → Type 0
   IsInTime s now = now + longest_timeout s < 2 ^ 64
 
+-- Two setups of one member: its scheme, by which the members are known, its index, its epoch, the length of terms, the payload at the start
+-- and whom the elector names are fixed for good. All else may differ from one of its nodes to the next
+pub record IsOfOneMember {S D C : Type 0} (s other : Setup S D C) : Type 0 where
+  pub scheme : other.voter.scheme ≡ s.voter.scheme
+  pub me : other.me ≡ s.me
+  pub voter_me : other.voter.me ≡ s.voter.me
+  pub epoch : other.voter.epoch ≡ s.voter.epoch
+  pub length : other.voter.length ≡ s.voter.length
+  pub genesis : other.genesis ≡ s.genesis
+  pub mode : other.voter.mode ≡ s.voter.mode
+  pub elect : (view : ℕ) (certificate : Option C) → other.voter.elect view certificate ≡ s.voter.elect view certificate
+
 -- Each deadline lies ahead of the moment from which it counts, as a configuration has it that is checked, and terms that are stable
 pub record DeadlinesLieAhead {S D C : Type 0} (s : Setup S D C) : Type 0 where
   pub leader : 0 < s.voter.leader_timeout

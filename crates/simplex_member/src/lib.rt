@@ -7,6 +7,7 @@ mod event;
 mod fault;
 mod laws;
 mod refusal;
+mod sent;
 mod speaks;
 
 pub use action::{Action, Reply};
@@ -27,4 +28,5 @@ pub use laws::{
     votes_are_lawful, votes_are_recorded, what_is_made_may_be_recorded,
 };
 pub use refusal::Refusal;
+pub use sent::{none_stays_unsent, sent_votes_were_due};
 pub use speaks::Speaks;

@@ -24,7 +24,7 @@ use Rattle.simplex_rules.specs.Audit.{Accusation, IsAccused, IsLeast, IsVerdict,
 use Rattle.simplex_record.specs.Record.{entries, HasVoted}
 use Rattle.simplex_record.specs.World.{World, IsCorrect}
 use Rattle.simplex_member.specs.Laws.{IsHonestReport, OwnVotesAgree, ReportedCertify, ReportsAreHonest, reported_certificate}
-use Rattle.simplex_member.specs.Lives.{AreMembers, IsHonestVote, Members}
+use Rattle.simplex_member.specs.Lives.{LiveByNodes, IsHonestVote, Members}
 use Rattle.simplex_member.specs.Packet.{Formats}
 use Rattle.simplex_network.specs.Accountability.{AreReported}
 
@@ -64,7 +64,7 @@ finalized-is {D} p q is = ap inside is
 apart : {D : Type 0} (r : Round) (p : Proposal D) → nullify r ≡ finalize p → ⊥
 apart r p is = cc is
 
-module _ {S D P G C : Type 0} (g : Ghosts S D P G C) (f : Formats S D P G C) (scheme : S) (m : Members S D P G C) (world : World S D P G C) (w : AreMembers g f scheme m world)
+module _ {S D P G C : Type 0} (g : Ghosts S D P G C) (f : Formats S D P G C) (scheme : S) (m : Members S D P G C) (world : World S D P G C) (w : LiveByNodes g f scheme m world)
     (honest : ReportsAreHonest g f) (agree : OwnVotesAgree g f) (reports : List (Activity S D P G C)) (told : AreReported g f scheme m world reports) where
   -- of a report of these
   report : (a : Activity S D P G C) → Contains reports a → IsHonestReport g f scheme m world a

@@ -31,7 +31,7 @@ use Rattle.simplex_member.specs.declared.refusal.Refusal.TheVariants as refusal
 use Rattle.simplex_member.specs.Deeds.{Deed, Blocks, Reports}
 use Rattle.simplex_member.specs.Laws.{AcceptedAreKnown, AreReadBack, DeedsAreDone, DeedsAreOfPoints, HasReached, IsDoneAt, IsKnownVote, ReachedAreGoneTo}
 use Rattle.simplex_member.specs.Layers.{votes_of, votes_setup}
-use Rattle.simplex_member.specs.Lives.{AreMembers, CameIn, HandedOut, Holds, Members, WasHanded}
+use Rattle.simplex_member.specs.Lives.{CameIn, HandedOut, Holds, Life, LiveByNodes, Members, WasHanded}
 use Rattle.simplex_member.specs.Packet.{Formats, IsReadable, Packet, of_certificate, of_vote, packet_of}
 use Rattle.simplex_member.specs.Point.{Point, Heard, History}
 use Rattle.simplex_member.specs.Recorded.{notarization_in, put_behind, record_of, recorded_by, reported}
@@ -159,7 +159,7 @@ module _ {S D P G C : Type 0} (f : Formats S D P G C) where
   recorded-read before (artifact.Certification round true) each read a here = certification-read (notarization_in before round.view) (notarization-read before round.view each) a here
   recorded-read before (artifact.Certification round false) each read a here = absurd (Contains-nil a here)
 
-module _ {S D P G C : Type 0} (g : Ghosts S D P G C) (f : Formats S D P G C) (scheme : S) (m : Members S D P G C) (world : World S D P G C) (w : AreMembers g f scheme m world)
+module _ {S D P G C : Type 0} (g : Ghosts S D P G C) (f : Formats S D P G C) (scheme : S) (m : Members S D P G C) (world : World S D P G C) (w : LiveByNodes g f scheme m world)
     (back : AreReadBack f) (records : RecordsCanBeRead g f world) (done : DeedsAreDone g f) (gone : ReachedAreGoneTo g f)
     (points : (s : Setup S D C) → DeedsAreOfPoints g f s) (known : (s : Setup S D C) → AcceptedAreKnown g f s) where
   -- what came in was read
@@ -178,71 +178,71 @@ module _ {S D P G C : Type 0} (g : Ghosts S D P G C) (f : Formats S D P G C) (sc
     own-read (vote.Finalize v) here = records i correct (artifact.Finalize v) here
 
     -- a vote that a history heard, or has recorded
-    known-read : (h : History S D P G C) → HasReached m i h → (v : Vote S D P G C) → IsKnownVote g f (m.setup i) h v → IsReadableVote f v
-    known-read h reached v is =
-        let heard = (gone scheme m world w i correct h reached).1 in
+    known-read : (life : Life S D P G C) (h : History S D P G C) → HasReached m i life h → (v : Vote S D P G C) → IsKnownVote g f life.setup h v → IsReadableVote f v
+    known-read life h reached v is =
+        let heard = (gone scheme m world w i correct life h reached).2 in
         ⊎_elim (λ there. came-read i (vote_signer v) (of_vote v) (heard.came v there)) (λ own. own-read v (heard.recorded (vote_artifact v) own.1)) is
 
     -- the accepted vote that stands in a vote's way
-    in-way-read : (h : History S D P G C) → HasReached m i h → (view : ℕ) (v : Vote S D P G C) → IfSome (recorded (votes_of (m.setup i) h view) v) (IsReadableVote f)
-    in-way-read h reached view v =
-        let goes = (gone scheme m world w i correct h reached).0 in
-        of-found (IsReadableVote f) (is_in_way v) (accepted (votes_of (m.setup i) h view)) (λ u here. known-read h reached u (known (m.setup i) h goes.0 view u goes.1 here))
+    in-way-read : (life : Life S D P G C) (h : History S D P G C) → HasReached m i life h → (view : ℕ) (v : Vote S D P G C) → IfSome (recorded (votes_of life.setup h view) v) (IsReadableVote f)
+    in-way-read life h reached view v =
+        let goes = (gone scheme m world w i correct life h reached).1 in
+        of-found (IsReadableVote f) (is_in_way v) (accepted (votes_of life.setup h view)) (λ u here. known-read life h reached u (known life.setup h goes.0 view u goes.1 here))
 
     -- what is reported at a point
     point-read : (a : Activity S D P G C) → IsDoneAt g f m i (Reports a) → HoldsReadable f a
     point-read a at = ⊎_elim
         (λ of.
-        let before = (gone scheme m world w i correct at.h at.reached).1 in
-        let behind = (gone scheme m world w i correct (at.p ∷ at.h) at.next).1 in
+        let before = (gone scheme m world w i correct at.life at.h at.reached).2 in
+        let behind = (gone scheme m world w i correct at.life (at.p ∷ at.h) at.next).2 in
         recorded-read f (record_of at.h) of.0 (λ y there. records i correct y (before.recorded y there))
         (records i correct of.0 (behind.recorded of.0 (recorded-there at.p at.h of.0 of.1))) a of.2)
         (λ of.
-        let behind = (gone scheme m world w i correct (at.p ∷ at.h) at.next).1 in
+        let behind = (gone scheme m world w i correct at.life (at.p ∷ at.h) at.next).2 in
         let heard : Contains (at.p ∷ at.h) (Heard of.0) = subst (λ (p : Point S D P G C). Contains (p ∷ at.h) (Heard of.0)) (sym of.1) (Contains-head (Heard of.0) at.h) in
         subst (HoldsReadable f) (sym of.2) (of-vote f of.0 (came-read i (vote_signer of.0) (of_vote of.0) (behind.came of.0 heard))))
-        (points (m.setup i) at.h at.p (Reports a) at.done)
+        (points at.life.setup at.h at.p (Reports a) at.done)
 
     -- the evidence at a refusal
-    evidence-read : (h : History S D P G C) → HasReached m i h → (sender : ℕ) (o : Option (Packet S D P G C)) → IfSome o (IsReadable f)
-        → (a : Activity S D P G C) → Contains (evidence_deeds g f (m.setup i) h sender o) (Reports a) → HoldsReadable f a
-    evidence-read h reached sender (Some (of_vote v)) read a here =
-        go (takes (votes_setup (m.setup i) g h (vote_round v).view) (votes_of (m.setup i) h (vote_round v).view) sender v)
-        (reported-is (report_of f.same (votes_setup (m.setup i) g h (vote_round v).view) (votes_of (m.setup i) h (vote_round v).view) sender v) a here)
+    evidence-read : (life : Life S D P G C) (h : History S D P G C) → HasReached m i life h → (sender : ℕ) (o : Option (Packet S D P G C)) → IfSome o (IsReadable f)
+        → (a : Activity S D P G C) → Contains (evidence_deeds g f life.setup h sender o) (Reports a) → HoldsReadable f a
+    evidence-read life h reached sender (Some (of_vote v)) read a here =
+        go (takes (votes_setup life.setup g h (vote_round v).view) (votes_of life.setup h (vote_round v).view) sender v)
+        (reported-is (report_of f.same (votes_setup life.setup g h (vote_round v).view) (votes_of life.setup h (vote_round v).view) sender v) a here)
       where
-        go : (t : Bool) → (if t then Some (as_report v) else evidence_against f.same (votes_setup (m.setup i) g h (vote_round v).view).members (recorded (votes_of (m.setup i) h (vote_round v).view) v)
-            (λ u. is_kept_in_full (votes_setup (m.setup i) g h (vote_round v).view) (vote_kind u) (votes_of (m.setup i) h (vote_round v).view)) sender v) ≡ Some a → HoldsReadable f a
+        go : (t : Bool) → (if t then Some (as_report v) else evidence_against f.same (votes_setup life.setup g h (vote_round v).view).members (recorded (votes_of life.setup h (vote_round v).view) v)
+            (λ u. is_kept_in_full (votes_setup life.setup g h (vote_round v).view) (vote_kind u) (votes_of life.setup h (vote_round v).view)) sender v) ≡ Some a → HoldsReadable f a
         go true is = subst (HoldsReadable f) (some-is (as_report v) a is) (of-vote f v read)
-        go false is = of-against f (votes_setup (m.setup i) g h (vote_round v).view).members (recorded (votes_of (m.setup i) h (vote_round v).view) v)
-            (λ u. is_kept_in_full (votes_setup (m.setup i) g h (vote_round v).view) (vote_kind u) (votes_of (m.setup i) h (vote_round v).view)) sender v a
-            (in-way-read h reached (vote_round v).view v) read is
-    evidence-read h reached sender o read a here = absurd (Contains-nil (Reports a) here)
+        go false is = of-against f (votes_setup life.setup g h (vote_round v).view).members (recorded (votes_of life.setup h (vote_round v).view) v)
+            (λ u. is_kept_in_full (votes_setup life.setup g h (vote_round v).view) (vote_kind u) (votes_of life.setup h (vote_round v).view)) sender v a
+            (in-way-read life h reached (vote_round v).view v) read is
+    evidence-read life h reached sender o read a here = absurd (Contains-nil (Reports a) here)
 
     no-block : (b : Bool) (sender : ℕ) (a : Activity S D P G C) → Contains {X = Deed S D P G C} (if b then Blocks sender ∷ [] else []) (Reports a) → ⊥
     no-block true sender a here = none-some a (ap told (alone (Blocks sender) (Reports a) here))
     no-block false sender a here = Contains-nil (Reports a) here
 
-    beside-block : (r : Refusal) (deeds : List (Deed S D P G C)) (a : Activity S D P G C) → Contains (refusal_report g f (m.setup i) r deeds) (Reports a) → Contains deeds (Reports a)
-    beside-block refusal.Contradiction deeds a here = here
-    beside-block r deeds a here = absurd (Contains-nil (Reports a) here)
+    beside-block : (life : Life S D P G C) (r : Refusal) (deeds : List (Deed S D P G C)) (a : Activity S D P G C) → Contains (refusal_report g f life.setup r deeds) (Reports a) → Contains deeds (Reports a)
+    beside-block life refusal.Contradiction deeds a here = here
+    beside-block life r deeds a here = absurd (Contains-nil (Reports a) here)
 
     packet-read : (sender : ℕ) (o : Option (Packet S D P G C)) → ((x : Packet S D P G C) → o ≡ Some x → CameIn g f scheme m world i sender x) → IfSome o (IsReadable f)
     packet-read sender None came = tt
     packet-read sender (Some x) came = came-read i sender x (came x refl)
 
-    refused-read : (h : History S D P G C) → HasReached m i h → (e : Event D) → WasHanded g f scheme m world i e → (r : Refusal) (a : Activity S D P G C) → Contains (refused_deeds g f (m.setup i) h e r) (Reports a) → HoldsReadable f a
-    refused-read h reached (event.Packet sender by bytes) handed r a here =
+    refused-read : (life : Life S D P G C) (h : History S D P G C) → HasReached m i life h → (e : Event D) → WasHanded g f scheme m world i e → (r : Refusal) (a : Activity S D P G C) → Contains (refused_deeds g f life.setup h e r) (Reports a) → HoldsReadable f a
+    refused-read life h reached (event.Packet sender by bytes) handed r a here =
         let o = f.packet_in by bytes.items in
-        let deeds = evidence_deeds g f (m.setup i) h sender o in
+        let deeds = evidence_deeds g f life.setup h sender o in
         ⊎_elim
         (λ block. absurd (no-block (blocks_sender r) sender a block))
-        (λ report. evidence-read h reached sender o (packet-read sender o (λ x is. (event.Packet sender by bytes, handed, (refl, is)))) a (beside-block r deeds a report))
-        (Contains-append_cases (if blocks_sender r then Blocks sender ∷ [] else []) (refusal_report g f (m.setup i) r deeds) (Reports a) here)
-    refused-read h reached e handed r a here = absurd (Contains-nil (Reports a) here)
+        (λ report. evidence-read life h reached sender o (packet-read sender o (λ x is. (event.Packet sender by bytes, handed, (refl, is)))) a (beside-block life r deeds a report))
+        (Contains-append_cases (if blocks_sender r then Blocks sender ∷ [] else []) (refusal_report g f life.setup r deeds) (Reports a) here)
+    refused-read life h reached e handed r a here = absurd (Contains-nil (Reports a) here)
 
     -- what a correct member reports holds what can be read
     pub report-read : (a : Activity S D P G C) → HandedOut g f scheme m world i (Reports a) → HoldsReadable f a
     report-read a out = ⊎_elim
         (λ at. point-read a at)
-        (λ at. refused-read at.h at.reached at.e at.handed at.r a at.done)
+        (λ at. refused-read at.life at.h at.reached at.e at.handed at.r a at.done)
         (done scheme m world w i correct (Reports a) out)

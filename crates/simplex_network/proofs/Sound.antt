@@ -7,14 +7,14 @@ use Rattle.messages_certificates.specs.declared.certificate.Certificate.{Certifi
 use Rattle.messages_certificates.specs.Certificate.{certificate_statement, certified_by}
 use Rattle.simplex_record.specs.World.{World, IsCorrect, IsHonest, IsSound}
 use Rattle.simplex_member.specs.Laws.{MadeAreSound}
-use Rattle.simplex_member.specs.Lives.{AreMembers, Members}
+use Rattle.simplex_member.specs.Lives.{LiveByNodes, Members}
 use Rattle.simplex_member.specs.Packet.{Formats, of_certificate}
 use Rattle.simplex_network.specs.Agreement.{AllAreSound}
 
 module _ {S D P G C : Type 0} (g : Ghosts S D P G C) (f : Formats S D P G C)
     (backed : (own : S) (x : Statement D) (c : C) → g.certifies own x c → IsQuorum (g.size own) (λ i a. g.attests own i x a) (g.lists c)) where
   -- a certificate that verifies by a correct member's scheme, and is honest
-  honest-sound : (scheme : S) (m : Members S D P G C) (world : World S D P G C) → AreMembers g f scheme m world → (i : ℕ) → IsCorrect world i → (c : Certificate S D P G C)
+  honest-sound : (scheme : S) (m : Members S D P G C) (world : World S D P G C) → LiveByNodes g f scheme m world → (i : ℕ) → IsCorrect world i → (c : Certificate S D P G C)
       → IsHonest (g.attests scheme) g.lists world c → g.certifies (m.setup i).voter.scheme (certificate_statement c) (certified_by c) → IsSound (g.attests scheme) g.lists world c
   honest-sound scheme m world w i correct c honest verifies =
       let alike = w.alike i correct in
@@ -29,7 +29,7 @@ module _ {S D P G C : Type 0} (g : Ghosts S D P G C) (f : Formats S D P G C)
   all-sound made scheme m world w c there = ⊎_elim
       (λ came. honest-sound scheme m world w came.member came.correct c (w.honest came.member came.sender came.correct (of_certificate c) came.came) came.verifies)
       (λ others. ⊎_elim
-      (λ by. made scheme m world w by.member by.correct by.h by.reached by.view by.kind by.batch by.allowed c by.made)
+      (λ by. made scheme m world w by.member by.correct by.life by.h by.reached by.view by.kind by.batch by.allowed c by.made)
       (λ else_. honest-sound scheme m world w else_.member else_.correct c else_.honest else_.verifies)
       others)
       there

@@ -12,43 +12,53 @@ use Rattle.simplex_rules.specs.Accountability.{IsContradicted, NamesAtLeast}
 use Rattle.simplex_rules.specs.Audit.{Accusation, IsAccused, IsAudit, IsVerdict}
 use Rattle.simplex_record.specs.World.{World, IsCorrect}
 use Rattle.simplex_member.specs.Deeds.{Reports}
-use Rattle.simplex_member.specs.Lives.{AreMembers, HandedOut, Members}
+use Rattle.simplex_member.specs.Lives.{HandedOut, LiveByNodes, Members}
 use Rattle.simplex_member.specs.Packet.{Formats, IsReadable, packet_of}
 
 module _ {S D P G C : Type 0} (g : Ghosts S D P G C) (f : Formats S D P G C) where
   -- each of these reports was handed out by a member that isn't excused
   abbrev pub AreReported : S → Members S D P G C → World S D P G C → List (Activity S D P G C) → Type 0
-  AreReported scheme m world reports = (a : Activity S D P G C) → Contains reports a → (i : ℕ) × IsCorrect world i × HandedOut g f scheme m world i (Reports a)
+  AreReported scheme m world reports = (a : Activity S D P G C) → Contains reports a
+      → (i : ℕ) × IsCorrect world i × HandedOut g f scheme m world i (Reports a)
 
   -- an audit over reports of such members names none of them
   abbrev pub NoneIsNamed : (D → D → Ordering) → Type 0
-  NoneIsNamed cmp = (scheme : S) (m : Members S D P G C) (world : World S D P G C) → AreMembers g f scheme m world
-      → (reports evidence : List (Activity S D P G C)) → AreReported scheme m world reports → IsVerdict g.lists (g.attests scheme) cmp reports evidence
+  NoneIsNamed cmp = (scheme : S) (m : Members S D P G C) (world : World S D P G C) → LiveByNodes g f scheme m world
+      → (reports evidence : List (Activity S D P G C)) → AreReported scheme m world reports
+      → IsVerdict g.lists (g.attests scheme) cmp reports evidence
       → (x : Accusation) → IsAccused evidence x → IsCorrect world x.signer → ⊥
 
   -- where certificates among their reports contradict each other on a round, it names at least one member more of that round than may be
   -- faulty, and none of them is one of these
   abbrev pub ContradictionsNameEnough : (D → D → Ordering) → Type 0
-  ContradictionsNameEnough cmp = (scheme : S) (m : Members S D P G C) (world : World S D P G C) → AreMembers g f scheme m world → 0 < g.size scheme
-      → (reports evidence : List (Activity S D P G C)) → AreReported scheme m world reports → IsVerdict g.lists (g.attests scheme) cmp reports evidence
+  ContradictionsNameEnough cmp = (scheme : S) (m : Members S D P G C) (world : World S D P G C) → LiveByNodes g f scheme m world
+      → 0 < g.size scheme
+      → (reports evidence : List (Activity S D P G C)) → AreReported scheme m world reports
+      → IsVerdict g.lists (g.attests scheme) cmp reports evidence
       → (round : Round) → IsContradicted (g.certifies scheme) reports round
       → (named : NamesAtLeast (faults (g.size scheme) + 1) (g.size scheme) evidence round) × ((i : ℕ) → Contains named.names i → IsCorrect world i → ⊥)
 
   -- so it is of all certificates among their reports, where the audit is by a scheme of the committee's size: members report none that doesn't
   -- verify by such a one
   abbrev pub ReportedNameEnough : (D → D → Ordering) → Type 0
-  ReportedNameEnough cmp = (scheme : S) (m : Members S D P G C) (world : World S D P G C) → AreMembers g f scheme m world → g.size scheme ≡ world.size
-      → (reports evidence : List (Activity S D P G C)) → AreReported scheme m world reports → IsVerdict g.lists (g.attests scheme) cmp reports evidence
+  ReportedNameEnough cmp = (scheme : S) (m : Members S D P G C) (world : World S D P G C) → LiveByNodes g f scheme m world
+      → g.size scheme ≡ world.size
+      → (reports evidence : List (Activity S D P G C)) → AreReported scheme m world reports
+      → IsVerdict g.lists (g.attests scheme) cmp reports evidence
       → (round : Round) → IsContradicted (λ x c. ⊤) reports round
       → (named : NamesAtLeast (faults world.size + 1) world.size evidence round) × ((i : ℕ) → Contains named.names i → IsCorrect world i → ⊥)
 
   -- each vote and certificate that one of these members recorded can be read: nothing is recorded that has no spelling
   abbrev pub RecordsCanBeRead : World S D P G C → Type 0
-  RecordsCanBeRead world = (i : ℕ) → IsCorrect world i → (x : Artifact S D P G C) → Contains (world.recorded i) x → IfSome (packet_of x) (IsReadable f)
+  RecordsCanBeRead world = (i : ℕ) → IsCorrect world i → (x : Artifact S D P G C) → Contains (world.recorded i) x
+      → IfSome (packet_of x) (IsReadable f)
 
   -- where that is so, their reports, one behind the other as members spell them, are read to their end: an audit of the bytes is one of
   -- just these reports
-  abbrev pub JoinedAreAudited : (D → D → Ordering) → S → (Activity S D P G C → Type 0) → (Activity S D P G C → List ℕ) → (List ℕ → Result (Activity S D P G C × List ℕ) CodecError) → Type 0
-  JoinedAreAudited cmp scheme Fits spelling reading = (m : Members S D P G C) (world : World S D P G C) → AreMembers g f scheme m world → RecordsCanBeRead world
+  abbrev pub JoinedAreAudited : (D → D → Ordering) → S → (Activity S D P G C → Type 0) → (Activity S D P G C → List ℕ)
+      → (List ℕ → Result (Activity S D P G C × List ℕ) CodecError) → Type 0
+  JoinedAreAudited cmp scheme Fits spelling reading = (m : Members S D P G C) (world : World S D P G C) → LiveByNodes g f scheme m world
+      → RecordsCanBeRead world
       → (reports evidence : List (Activity S D P G C)) (fault : Option ℕ) → AreReported scheme m world reports
-      → IsAudit g.lists (g.attests scheme) cmp Fits spelling reading (flat_map f.report reports) evidence fault → (fault ≡ None) × IsVerdict g.lists (g.attests scheme) cmp reports evidence
+      → IsAudit g.lists (g.attests scheme) cmp Fits spelling reading (flat_map f.report reports) evidence fault
+      → (fault ≡ None) × IsVerdict g.lists (g.attests scheme) cmp reports evidence

@@ -1,4 +1,7 @@
--- A network: a committee of which some may do anything, and what each of the others was handed, did, and recorded.
+-- A network: a committee of which some may do anything, and what each of the others was handed, did, and recorded. What is asked of one
+-- is said where it is needed: that the others live by their nodes (`LiveByNodes`), of which what comes in has to meet one thing alone, that
+-- no verifying vote in the name of one of them is on what that member recorded no vote for; that no more are excused than may be faulty
+-- (`AtMostFLie`); and that they have one elector (`HaveOneElector`).
 use Rattle.std.specs.Prelude.{◌≡◌, ◌⊎◌, ℕ, Option, Some}
 use Rattle.types_core.specs.declared.scheme.Scheme.{Ghosts}
 use Rattle.messages_certificates.specs.declared.certificate.Certificate.{Certificate}
@@ -9,22 +12,16 @@ use Rattle.types_terms.specs.declared.kind.Kind.{Kind}
 use Rattle.batcher_verifier.specs.declared.batch.Batch.{Batch}
 use Rattle.simplex_member.specs.Allowed.{Allowed}
 use Rattle.simplex_member.specs.Laws.{HasReached}
-use Rattle.simplex_member.specs.Lives.{CameIn, IsWorldOfLives, Members}
+use Rattle.simplex_member.specs.Lives.{CameIn, Life, Members}
 use Rattle.simplex_member.specs.Packet.{Formats, of_certificate}
 use Rattle.simplex_member.specs.Point.{Constructs, History}
 
 module _ {S D P G C : Type 0} (g : Ghosts S D P G C) (f : Formats S D P G C) (scheme : S) (m : Members S D P G C) (world : World S D P G C) where
-  -- the members that aren't excused have one elector: each view has at most one leader by schedule, the same for all of them
+  -- the members that aren't excused have one elector: each view has at most one leader by schedule, the same for all of them. It serves the
+  -- chain alone
   pub record HaveOneElector : Type 0 where
     pub leader : ℕ → Option ℕ
     pub one : (i : ℕ) → IsCorrect world i → (view : ℕ) → scheduled_leader (m.setup i).voter view ≡ leader view
-
-  -- A network: no more members are excused than may be faulty, and the others live by their nodes, each on a disk that was empty at first,
-  -- by one elector. What comes in to them is any bytes whatever, in any order and any number of times, but no verifying vote in the name of
-  -- one of them is on what that member recorded no vote for. The elector serves the chain alone
-  pub record IsNetwork : Type 0 where
-    pub lives : IsWorldOfLives g f scheme m world
-    pub elector : HaveOneElector
 
   -- a certificate verifies by a member's scheme
   abbrev pub Verifies : ℕ → Certificate S D P G C → Type 0
@@ -42,12 +39,13 @@ module _ {S D P G C : Type 0} (g : Ghosts S D P G C) (f : Formats S D P G C) (sc
   pub record WasMade (c : Certificate S D P G C) : Type 0 where
     pub member : ℕ
     pub correct : IsCorrect world member
+    pub life : Life S D P G C
     pub h : History S D P G C
-    pub reached : HasReached m member h
+    pub reached : HasReached m member life h
     pub view : ℕ
     pub kind : Kind
     pub batch : Batch (Certificate S D P G C)
-    pub allowed : Allowed g f (m.setup member) h (Constructs view kind batch)
+    pub allowed : Allowed g f life.setup h (Constructs view kind batch)
     pub made : batch.certificate ≡ Some c
 
   -- it stands wherever else, as in bytes that were handed to a node that had failed, verifies by the scheme of one of these members, and no
@@ -58,6 +56,6 @@ module _ {S D P G C : Type 0} (g : Ghosts S D P G C) (f : Formats S D P G C) (sc
     pub honest : IsHonest (g.attests scheme) g.lists world c
     pub verifies : Verifies member c
 
-  -- a verifying certificate is there: in bytes that a member was handed, or made by one, or honest elsewhere
-  abbrev pub IsThere : Certificate S D P G C → Type 0
-  IsThere c = WasHandedIn c ⊎ (WasMade c ⊎ StandsElsewhere c)
+  -- a verifying certificate is seen: in bytes that a member was handed, or made by one, or honest elsewhere
+  abbrev pub IsSeen : Certificate S D P G C → Type 0
+  IsSeen c = WasHandedIn c ⊎ (WasMade c ⊎ StandsElsewhere c)

@@ -18,10 +18,11 @@ use simplex_rules::{a_contradicted_round_names_enough, joined_reports_are_read};
 use types_core::{Digest, Listing, Read, Write};
 
 /// The law of agreement. In a committee of any size, with terms of any length, let no more members be excused from
-/// all rules than may be faulty. Let each other member run one node after another, through any number of openings,
-/// events, losses and crashes inside any write, on a disk that was empty at first; let all of them have schemes of
-/// the committee's size, each its own, by which nothing attests that does not by the committee's; and let no
-/// verifying vote that they are handed in a member's name be on what that member recorded no vote for. Then over all
+/// all rules than may be faulty. Let each other member run one node after another, each with settings of its own,
+/// through any number of openings, events, losses and crashes inside any write, on a disk that was empty at first;
+/// let all of them have schemes of the committee's size, each its own, by which nothing attests that does not by the
+/// committee's; and let no verifying vote that they are handed in a member's name be on what that member recorded no
+/// vote for. Then over all
 /// verifying certificates in bytes that they were handed, or that they made, and over all that a member's scheme
 /// verifies wherever they stand, whose verifying votes are as those: no view is certified for two proposals, no
 /// finalized view is nullified, and no notarized proposal skips a finalized view; and where all of them have one

@@ -2,5 +2,7 @@
 #![tactic(auto)]
 
 mod laws;
+mod sentences;
 
 pub use laws::{accountability, agreement};
+pub use sentences::headline;

@@ -1,4 +1,4 @@
-use Rattle.std.proofs.Common.{◌≢◌, ⊎_elim, ℕ, ◌==◌, [], subst, sym, ◌∙◌, arith}
+use Rattle.std.proofs.Common.{◌≡◌, ◌≢◌, ⊎_elim, ℕ, ◌==◌, [], Some, ap, subst, sym, ◌∙◌, arith}
 use Rattle.std.proofs.lemmas.Bool.{cases_Bool, eqb-true}
 use Rattle.simplex_record.specs.Chain.{MayFollowOnGround, StandsOnGround}
 use Rattle.simplex_record.specs.Record.{entries, entry}
@@ -10,7 +10,8 @@ use Rattle.simplex_member.proofs.Chaining.{lives-ground}
 use Rattle.simplex_member.proofs.Grounding.{Stands, stands}
 use Rattle.simplex_member.proofs.Lists.{if-some, same-number}
 use Rattle.simplex_member.proofs.Telling.{apart}
-use Rattle.simplex_member.proofs.Walking.{among-goes}
+use Rattle.simplex_member.proofs.Sameness.{ground-by}
+use Rattle.simplex_member.proofs.Walking.{among-goes, lived-among}
 use Rattle.simplex_member.proofs.laws.lives_stand_on_ground.Goals as goal
 
 pub returns : goal.returns
@@ -29,7 +30,7 @@ returns g c = record {
       (λ n views by member before e is may. c.records_stand_on_ground.ensures.further n views by member before e is may) (λ one. apart (sym more ∙ same-number size 1 one)) (c.rounds_obey.ensures f exact) lived.me [] (m.lives i) left lived.lives
       (c.records_stand_on_ground.ensures.first size s.voter.length (scheduled_leader s.voter) s.me))
       (cases_Bool (size == 1));
-  next = λ f exact m i left h p x lived at a begun is.
+  next = λ f exact m i left life h p x lived at a begun is.
       let s = m.setup i in
       let size : ℕ = g.S.Scheme.size s.voter.scheme in
       ⊎_elim
@@ -38,11 +39,15 @@ returns g c = record {
       subst (λ (n : ℕ). MayFollowOnGround n s.voter.length (scheduled_leader s.voter) s.me (entries (record_of h)) (entry x)) (sym one)
       (if-some (λ y. MayFollowOnGround 1 s.voter.length (scheduled_leader s.voter) s.me (entries (record_of h)) (entry y)) (recorded_by p) x
       (next-stands g.S.Scheme f s c.what_is_known_is_recorded.ensures c.a_lone_member_stands_on_ground.ensures.notarize c.a_lone_member_stands_on_ground.ensures.verdict c.a_lone_member_stands_on_ground.ensures.stays (c.rounds_obey.ensures f exact) lived.me one (omega (arith, lived.member, one))
-      (λ y certificate certifies. g.met.S.Listing.backed s.voter.scheme y certificate certifies) left (m.lives i) lived.lives at.life at.among at.before at.behind at.split h at.is begun p a) is))
+      (λ y certificate certifies. g.met.S.Listing.backed s.voter.scheme y certificate certifies) left (m.lives i) lived.lives life at.among at.before at.behind at.split h at.is begun p a) is))
       (λ more.
-      let other : size ≢ 1 = λ one. apart (sym more ∙ same-number size 1 one) in
-      if-some (Stands g.S.Scheme f s c.what_is_known_is_recorded.ensures c.what_is_due_stands_on_ground.ensures.verdict other c.what_is_due_stands_on_ground.ensures.notarize (c.rounds_obey.ensures f exact) lived.me h) (recorded_by p) x
-      (stands g.S.Scheme f s c.what_is_known_is_recorded.ensures c.what_is_due_stands_on_ground.ensures.verdict other c.what_is_due_stands_on_ground.ensures.notarize (c.rounds_obey.ensures f exact) lived.me h
-      (begun-allowed g.S.Scheme f s at.before h (among-goes g.S.Scheme f m i left lived.lives h at)) p a begun) is)
+      let t = life.setup in
+      let own = (lived-among g.S.Scheme f s [] (m.lives i) left life lived.lives at.among).own in
+      let other : g.S.Scheme.size t.voter.scheme ≢ 1 = λ one. apart (sym more ∙ same-number size 1 (sym (ap g.S.Scheme.size own.scheme) ∙ one)) in
+      let by : t.voter.me ≡ Some t.me = own.voter_me ∙ (lived.me ∙ ap (λ (n : ℕ). Some n) (sym own.me)) in
+      ground-by g.S.Scheme s t own (λ n views leader k. MayFollowOnGround n views leader k (entries (record_of h)) (entry x))
+      (if-some (Stands g.S.Scheme f t c.what_is_known_is_recorded.ensures c.what_is_due_stands_on_ground.ensures.verdict other c.what_is_due_stands_on_ground.ensures.notarize (c.rounds_obey.ensures f exact) by h) (recorded_by p) x
+      (stands g.S.Scheme f t c.what_is_known_is_recorded.ensures c.what_is_due_stands_on_ground.ensures.verdict other c.what_is_due_stands_on_ground.ensures.notarize (c.rounds_obey.ensures f exact) by h
+      (begun-allowed g.S.Scheme f t at.before h (among-goes g.S.Scheme f m i left lived.lives life h at)) p a begun) is))
       (cases_Bool (size == 1));
 }
