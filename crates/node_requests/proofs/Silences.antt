@@ -102,7 +102,7 @@ module _ {S L D P G C : Type 0} (g : Ghosts S D P G C) (e : elector.Ghosts L S D
       → IsSilent g f s h (latest h) → MayLatch s.voter (voter_of s h) view reason.Inactivity → voting.Keeps g e s.voter voter (latched now view reason.Inactivity ∷ voter_of s h)
       → KeepsTables (finalized_of s h) tables h → WasAsked g e f s voter tables h actions actions
   silence_counts voter tables h now view actions begun at is silent counts voter_is tables_are =
-      one_asked g e f s voter tables h (Latches view reason.Inactivity) actions actions refl (record { order = begun; due = ((is, silent), counts); fits = tt })
+      one_asked g e f s voter tables h (Latches view reason.Inactivity) actions actions refl (record { order = begun; due = ((is, silent), counts); fits = tt; readable = tt })
       (subst (λ (t : ℕ). voting.Keeps g e s.voter voter (latched t view reason.Inactivity ∷ voter_of s h)) at voter_is) tables_are (nothing_more f actions)
 
 module _ {S D P G C : Type 0} (g : Ghosts S D P G C) (f : Formats S D P G C) (s : Setup S D C) (h : History S D P G C) (t moment : ℕ) where
