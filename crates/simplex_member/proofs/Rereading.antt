@@ -1,6 +1,6 @@
 -- What lives leave can be read again.
 use Rattle.std.proofs.Common.{◌≡◌, ⊎_elim, ℕ, Bool, true, false, List, [], ◌∷◌, ◌++◌, Option, Some, None, refl, sym, ap, subst}
-use Rattle.std.specs.Prelude.{All, Contains, IfSome}
+use Rattle.std.specs.Prelude.{Contains, IfSome}
 use Rattle.std.proofs.lemmas.Bool.{both_ways}
 use Rattle.std.proofs.lemmas.List.Elements.{All-contains, Contains-append_cases}
 use Rattle.types_quorum.specs.Counting.{Contains-cases, Contains-head, Contains-nil, Contains-rest}
@@ -47,18 +47,14 @@ module _ {S D P G C : Type 0} (R : Artifact S D P G C → Type 0) where
       inside : Point S D P G C → Artifact S D P G C
       inside (Found a t) = a
       inside p = z
-  among-found [] (p ∷ points) are each = absurd are
-  among-found (y ∷ xs) [] are each = absurd are
+  among-found xs points are each x taken here = absurd are
 
   -- an act finds nothing
   none-acts : (points : List (Point S D P G C)) → AreActs points → EachFound points
-  none-acts points acts x taken here = absurd (both_ways false (sym (All-contains (λ p. is_act p ≡ true) points (Found x taken) acts here)) refl)
+  none-acts points acts x taken here = absurd (both_ways false refl (All-contains (λ (p : Point S D P G C). is_act p ≡ true) points (Found x taken) acts here))
 
   either : (one more : List (Point S D P G C)) → EachFound one → EachFound more → EachFound (one ++ more)
-  either one more first then x taken here = ⊎_elim (λ at. first x taken at) (λ at. then x taken at) (Contains-append_cases one more (Found x taken) here)
-
-  none-other : (p : Point S D P G C) → ((x : Artifact S D P G C) (taken : Bool) → ¬ (p ≡ Found x taken)) → EachFound (p ∷ [])
-  none-other p other x taken here = ⊎_elim (λ is. absurd (other x taken is)) (λ later. absurd (Contains-nil (Found x taken) later)) (Contains-cases p [] (Found x taken) here)
+  either one more first second x taken here = ⊎_elim (λ at. first x taken at) (λ at. second x taken at) (Contains-append_cases one more (Found x taken) here)
 
   one-then : (p : Point S D P G C) (points : List (Point S D P G C)) → ((x : Artifact S D P G C) (taken : Bool) → ¬ (p ≡ Found x taken)) → EachFound points → EachFound (p ∷ points)
   one-then p points other each x taken here = ⊎_elim (λ is. absurd (other x taken is)) (λ later. each x taken later) (Contains-cases p points (Found x taken) here)
@@ -70,7 +66,7 @@ is_found p = false
 
 module _ {S D P G C : Type 0} where
   not-found : (p : Point S D P G C) → is_found p ≡ false → (x : Artifact S D P G C) (taken : Bool) → ¬ (p ≡ Found x taken)
-  not-found p is x taken same = both_ways false is (ap is_found same)
+  not-found p is x taken same = both_ways (is_found p) is (ap is_found same)
 
 module _ {S D P G C : Type 0} (g : Ghosts S D P G C) (f : Formats S D P G C) (s : Setup S D C) where
   abbrev CanBeRead : List (Artifact S D P G C) → Type 0
