@@ -1,14 +1,16 @@
 -- What lives leave: one more behind those before it, and what a crash inside it leaves.
 use Rattle.std.proofs.Common.{◌≡◌, ◌⊎◌, ⊎_elim, inl, inr, ℕ, List, [], ◌∷◌, ◌++◌, Option, Some, None, refl, sym, ap, ◌∙◌, subst, append_assoc, map}
-use Rattle.std.specs.Prelude.{All, MatchOption}
+use Rattle.std.specs.Prelude.{All, Contains, MatchOption}
 use Rattle.std.proofs.lemmas.List.{append-nil}
-use Rattle.std.proofs.lemmas.List.Elements.{All-head}
+use Rattle.std.proofs.lemmas.List.Elements.{All-cons, All-contains, All-nil, Contains-append_right}
+use Rattle.std.proofs.lemmas.Option.{same_Some}
+use Rattle.types_quorum.specs.Counting.{Contains-head}
 use Rattle.types_core.specs.declared.scheme.Scheme.{Ghosts}
 use Rattle.messages_certificates.specs.declared.artifact.Artifact.{Artifact}
 use Rattle.types_terms.specs.declared.elector.Elector as elector
 use Rattle.journal_single.specs.declared.disk.Disk as disk
 use Rattle.journal_single.specs.Disk.{Call, LeavesOnly, MayLeave}
-use Rattle.journal_single.specs.Moments.{and_then, at_last, weaker}
+use Rattle.journal_single.specs.Moments.{and_then, at_last, started, weaker}
 use Rattle.journal_single.specs.Record.{IsReopened, Reads}
 use Rattle.simplex_member.specs.declared.action.Action.{Action}
 use Rattle.simplex_member.specs.declared.action.Reply.{Reply}
@@ -166,3 +168,50 @@ module _ {S L D P G C : Type 0} (g : Ghosts S D P G C) (e : elector.Ghosts L S D
       → ((image : List ℕ) → Q image → R image) → LeavesOnly old new R
   leaves-on {old} {mid} {new} {P} {Q} R first here (inl same) there = subst (λ (l : List Call). LeavesOnly old l R) (sym same) (weaker R first here)
   leaves-on {old} {mid} {new} {P} {Q} R first here (inr second) there = and_then (weaker R first here) (weaker R second there)
+
+-- what is so of one index is so of another that is the same
+pub same-index : {P : ℕ → Type 0} {own : Option ℕ} {index : ℕ} → ((i : ℕ) × (own ≡ Some i) × P i) → own ≡ Some index → P index
+same-index {P} {own} {index} is same = subst P (same_Some is.0 index (sym is.1 ∙ same)) is.2
+
+module _ {S L D P G C K : Type 0} (g : Ghosts S D P G C) (e : elector.Ghosts L S D P G C) (k : disk.Ghosts K) (scheme : S) (index : ℕ) (f : Formats S D P G C) (s : Setup S D C) (before : List (Opening L D)) (on : K) where
+  -- the lives behind the openings before the rest are over, and have left this disk
+  pub record LivesOn (all rest : List (Opening L D)) (now : K) : Type 0 where
+    pub over : List (Opening L D)
+    pub split : all ≡ over ++ rest
+    pub leaves : LeavesOnly (k.calls on) (k.calls now) (IsLeftByLives g e scheme index f s (before ++ over))
+
+  -- none is over at first
+  pub none-over : (all rest : List (Opening L D)) → rest ≡ all → MayLeaveOnly (k.calls on) (IsLeftByLives g e scheme index f s before) → LivesOn all rest on
+  none-over all rest items start = record {
+    over = [];
+    split = sym items;
+    leaves = started (k.calls on) (IsLeftByLives g e scheme index f s (before ++ [])) (λ image left. left-skip g e scheme index f s before [] image (start image left));
+  }
+
+  -- one more is over
+  pub one-over : (all left rest : List (Opening L D)) (o : Opening L D) (now new : K) → left ≡ o ∷ rest → AreOfOneMember g e scheme index s (before ++ all)
+      → ((earlier : List (Opening L D)) → AreOfOneMember g e scheme index s (o ∷ []) → MayLeaveOnly (k.calls now) (IsLeftByLives g e scheme index f s earlier)
+      → LeavesOnly (k.calls now) (k.calls new) (IsLeftByLives g e scheme index f s (earlier ++ o ∷ [])))
+      → LivesOn all left now → LivesOn all rest new
+  one-over all left rest o now new left_is members life so_far = record {
+    over = so_far.over ++ o ∷ [];
+    split = so_far.split ∙ ap (λ (l : List (Opening L D)). so_far.over ++ l) left_is ∙ sym (append_assoc so_far.over (o ∷ []) rest);
+    leaves = subst (λ (l : List (Opening L D)). LeavesOnly (k.calls on) (k.calls new) (IsLeftByLives g e scheme index f s l)) (append_assoc before so_far.over (o ∷ []))
+        (and_then
+        (weaker (IsLeftByLives g e scheme index f s ((before ++ so_far.over) ++ o ∷ [])) so_far.leaves (λ image is. left-skip g e scheme index f s (before ++ so_far.over) (o ∷ []) image is))
+        (life (before ++ so_far.over) one (at_last so_far.leaves)));
+  }
+    where
+      IsMember : Opening L D → Type 0
+      IsMember p = IsOfOneMember s (setup_by g e scheme index p)
+
+      one : AreOfOneMember g e scheme index s (o ∷ [])
+      one = All-cons IsMember o [] (All-contains IsMember (before ++ all) o members
+          (Contains-append_right before all o (subst (λ (l : List (Opening L D)). Contains l o) (sym so_far.split)
+          (Contains-append_right so_far.over left o (subst (λ (l : List (Opening L D)). Contains l o) (sym left_is) (Contains-head o rest)))))) (All-nil IsMember)
+
+  -- all are over where none is left
+  pub all-over : (all rest : List (Opening L D)) (now : K) → rest ≡ [] → LivesOn all rest now → LeavesOnly (k.calls on) (k.calls now) (IsLeftByLives g e scheme index f s (before ++ all))
+  all-over all rest now none so_far =
+      let whole : all ≡ so_far.over = so_far.split ∙ ap (λ (l : List (Opening L D)). so_far.over ++ l) none ∙ append-nil so_far.over in
+      subst (λ (l : List (Opening L D)). LeavesOnly (k.calls on) (k.calls now) (IsLeftByLives g e scheme index f s (before ++ l))) (sym whole) so_far.leaves
