@@ -12,7 +12,7 @@ from concurrent.futures import ThreadPoolExecutor, as_completed
 from pathlib import Path
 
 from . import MADE, sources
-from .building import CRATES, catch
+from .building import CRATES, catch, status
 from .children import child, folder, say
 from .progress import Progress
 from .trouble import Trouble
@@ -98,7 +98,7 @@ def trouble_of(name: str, room: Path, over: threading.Event) -> str | None:
 
     words = tuple((crate / "args").read_text().splitlines()) if (crate / "args").exists() else ()
     try:
-        program = catch(name, words, input_of(name), own, starts, look)
+        program = catch(name, words, input_of(name), own, lambda it: starts(it, look), look)
         found = compare(program, words, crate, own, look)
     except Trouble as trouble:
         return str(trouble)
@@ -114,12 +114,10 @@ def wanted_of(crate: Path) -> bytes:
     return file.read_bytes() if file.exists() else b""
 
 
-def starts(program: Path) -> bool:
+def starts(program: Path, look) -> bool:
     """Whether the file is whole: it can be run, and no signal ends it."""
-    try:
-        return subprocess.run([program], stdin=subprocess.DEVNULL, capture_output=True, timeout=60).returncode >= 0
-    except (OSError, subprocess.TimeoutExpired):
-        return False
+    ended = status([program], look)
+    return ended is not None and ended >= 0
 
 
 def compare(program: Path, words: tuple[str, ...], crate: Path, own: Path, look) -> str | None:
