@@ -66,7 +66,7 @@ pub fn sealers() -> Vec<Sealer> {
 
 /// Waits until this gives something.
 pub fn until<T>(what: &str, mut look: impl FnMut() -> Option<T>) -> T {
-    let end = Instant::now() + Duration::from_secs(30);
+    let end = Instant::now() + Duration::from_secs(120);
     loop {
         if let Some(found) = look() {
             return found;
