@@ -2,7 +2,7 @@
 
 mod common;
 
-use common::{Remembered, key, sealers, until};
+use common::{Remembered, key, patience, sealers, until};
 use std::path::Path;
 use std::sync::mpsc::Receiver;
 use std::sync::{Arc, Mutex};
@@ -318,7 +318,7 @@ fn a_record_is_opened_again_and_no_answer_reaches_another_life() {
     let network = Remembered::default();
     let short = Duration::from_millis(200);
     let member = Running::new(folder.path(), short, network, |_, _| reply(Vec::new()));
-    let lives = || match member.requests.recv_timeout(Duration::from_secs(100)) {
+    let lives = || match member.requests.recv_timeout(patience()) {
         Ok(Request::Opened(life)) => life,
         other => panic!("{other:?}"),
     };
@@ -373,7 +373,7 @@ fn a_record_that_another_has_is_tried_until_it_is_free_or_the_host_stops() {
     let network = Remembered::default();
     // Three waits, of which each is twice as long as the one before.
     let member = Running::behind(3, folder.path(), LONG, network, |_, _| reply(Vec::new()));
-    match member.requests.recv_timeout(Duration::from_secs(60)) {
+    match member.requests.recv_timeout(patience()) {
         Ok(Request::Opened(1)) => {}
         other => panic!("{other:?}"),
     }
