@@ -121,6 +121,7 @@ impl Drop for Up {
         // Those that are gone already are what is wanted.
         let _ = Command::new("kill")
             .arg(self.script.id().to_string())
+            .stderr(Stdio::null())
             .status();
         let _ = self.script.wait();
         for member in &mut self.again {
@@ -154,25 +155,20 @@ fn ask(address: SocketAddr, head: &str, body: &str) -> Option<String> {
     head.contains(" 200 ").then(|| body.to_owned())
 }
 
-/// Puts a value, again where it isn't known whether it was.
-fn put(address: SocketAddr, key: &str, value: &str) {
+/// Puts a value, again where it isn't known whether it was, and gives the view of its block.
+fn put(address: SocketAddr, key: &str, value: &str) -> u64 {
     let head = format!("PUT /keys/{key}");
-    until(&head, || ask(address, &head, value));
+    let told = until(&head, || ask(address, &head, value));
+    let told: serde_json::Value = serde_json::from_str(&told).unwrap();
+    told["view"].as_u64().unwrap()
 }
 
-/// What a key has, behind all that was acknowledged.
-fn get(address: SocketAddr, key: &str) -> String {
-    let head = format!("GET /keys/{key}");
-    until(&head, || ask(address, &head, ""))
-}
-
-/// Whether a member has all that was written: it reads the last by the log, and so has what was before in its state.
-fn all_there(address: SocketAddr, written: &[(String, String)]) {
-    let (last, value) = written.last().expect("something was written");
-    assert_eq!(get(address, last), *value, "{last} at {address}");
+/// Whether a member has all that was written, once it has reached this view.
+fn all_there(address: SocketAddr, written: &[(String, String)], view: u64) {
     for (key, value) in written {
-        let read = ask(address, &format!("GET /keys/{key}?local"), "");
-        assert_eq!(read.as_ref(), Some(value), "{key} at {address}");
+        let head = format!("GET /keys/{key}?local&after={view}&within=60000");
+        let read = until(&head, || ask(address, &head, ""));
+        assert_eq!(read, *value, "{key} at {address}");
     }
 }
 
@@ -181,8 +177,11 @@ fn the_store_that_is_printed_answers_and_no_member_that_is_killed_loses_or_stops
     let mut up = Up::start();
     assert_eq!(up.members.len(), 4);
     put(up.example, "begun", "one");
-    assert_eq!(get(up.members[0].1, "begun"), "one");
-    let mut written = vec![("begun".to_owned(), "one".to_owned())];
+    let read = until("a read by the log", || {
+        ask(up.members[0].1, "GET /keys/begun", "")
+    });
+    assert_eq!(read, "one");
+    let mut written = vec![("begun".to_owned(), read)];
     for victim in 0..4 {
         let others: Vec<SocketAddr> = (0..4)
             .filter(|member| *member != victim)
@@ -194,11 +193,11 @@ fn the_store_that_is_printed_answers_and_no_member_that_is_killed_loses_or_stops
         up.kill(victim);
         written.push(last);
         let without = (format!("without-{victim}"), "goes on".to_owned());
-        put(others[0], &without.0, &without.1);
+        let view = put(others[0], &without.0, &without.1);
         written.push(without);
-        all_there(others[1], &written);
+        all_there(others[1], &written, view);
         up.start_again(victim);
-        all_there(up.members[victim].1, &written);
+        all_there(up.members[victim].1, &written, view);
     }
     // Of its own members none is left: it ends by itself.
     until("host/up ends", || up.script.try_wait().unwrap());
