@@ -208,6 +208,11 @@ pub trait Application: Send {
         let _ = (from, message);
     }
 
+    /// Whether it can't be asked any more, since the host stops and it is out of reach: then nothing that it answered is kept.
+    fn is_lost(&self) -> bool {
+        false
+    }
+
     /// Whether there is something to propose. Where there isn't, the host waits a while (a setting) for a [`Wake`] before it has a block
     /// built, so that an idle committee doesn't pass views as fast as it can. `build` is called in the end either way.
     fn has_work(&self) -> bool {

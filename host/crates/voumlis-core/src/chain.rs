@@ -12,7 +12,7 @@ use crate::metrics::{Metrics, Status};
 use crate::network::{Letter, Network};
 use crate::snapshots::{Joining, Next, Snapshot, SnapshotFile};
 use crate::wire::{self, Event, Payload, Plan, Proposal};
-use anyhow::{Context as _, Result};
+use anyhow::{Context as _, Result, ensure};
 use application::{Application, Block, BlockId, Context, Gossip, LONGEST_MESSAGE, Wake};
 use std::collections::HashMap;
 use std::path::Path;
@@ -125,6 +125,9 @@ pub struct Surroundings {
     /// What is told.
     pub status: Arc<Status>,
 }
+
+/// What is said where a member stops whose application is out of reach.
+const LOST: &str = "stopped while the application was asked: it is told again behind a restart";
 
 /// How often what waits is looked at where nothing comes.
 const BEAT: Duration = Duration::from_millis(20);
@@ -451,6 +454,7 @@ impl Chain {
 
     fn apply(&mut self, block: &Block) -> Result<()> {
         self.application.finalized(block);
+        ensure!(!self.application.is_lost(), LOST);
         self.applied = block.id;
         self.around.status.change(|state| state.applied = block.id);
         self.around.metrics.applied.set(block.id.view as i64);
@@ -469,6 +473,7 @@ impl Chain {
             at: self.applied,
             bytes: self.application.snapshot(),
         };
+        ensure!(!self.application.is_lost(), LOST);
         self.keep_snapshot(snapshot)
     }
 

@@ -8,7 +8,7 @@ use crate::chain::{ChainHandle, Request};
 use crate::envelope::{Opened, Sealer};
 use crate::frame::Frame;
 use crate::inbox::{Inbox, Input};
-use crate::member::{Member, Open};
+use crate::member::{Member, NotYet, Open};
 use crate::metrics::{Metrics, Status};
 use crate::network::{Current, Letter, Network};
 use crate::reports::{ReportLog, SignedReport};
@@ -121,8 +121,9 @@ impl Life {
     }
 }
 
-/// How long a record's lock is waited for: the node of a process that was killed may just be ending.
-const LOCK_PATIENCE: Duration = Duration::from_secs(5);
+/// How long is waited before a record is tried again whose lock another has: the node of a process that was killed may just be ending.
+/// The first wait, and the longest.
+const LOCKED: (Duration, Duration) = (Duration::from_millis(100), Duration::from_secs(5));
 
 impl Engine {
     /// Runs until it is to stop: opens the record, and opens it again where no view was entered for long.
@@ -134,12 +135,16 @@ impl Engine {
         let mut patience = self.settings.reopen_after;
         for number in 1.. {
             let entered = self.status.get().view;
-            let mut life = self.begin(number)?;
-            let ended = self.live(&mut life, patience)?;
-            life.node.close()?;
-            match ended {
-                Ended::Stopped => return Ok(()),
+            let Some(mut life) = self.begin(number)? else {
+                return Ok(());
+            };
+            match self.live(&mut life, patience)? {
+                Ended::Stopped => return life.node.close(),
                 Ended::Stuck => {
+                    // The record has all that it handed out, however it ended.
+                    if let Err(told) = life.node.close() {
+                        warn!(told = %format!("{told:#}"), "the node didn't end well");
+                    }
                     let helped = self.status.get().view > entered;
                     patience = if helped {
                         self.settings.reopen_after
@@ -153,16 +158,28 @@ impl Engine {
         Ok(())
     }
 
-    fn begin(&mut self, number: u64) -> Result<Life> {
-        let until = Instant::now() + LOCK_PATIENCE;
-        let (node, first) = loop {
+    /// Opens the record, again and again while that may help. `None` where this is to stop.
+    fn open_record(&mut self) -> Result<Option<(Box<dyn Member>, Reply)>> {
+        let mut wait = LOCKED.0;
+        loop {
             match (self.open)() {
-                Ok(opened) => break opened,
-                Err(_) if Instant::now() < until => {
-                    std::thread::sleep(Duration::from_millis(200));
+                Ok(opened) => return Ok(Some(opened)),
+                Err(told) if told.is::<NotYet>() => {
+                    warn!(%told, ?wait, "the record isn't opened yet");
+                    if self.inbox.stops_within(wait) {
+                        return Ok(None);
+                    }
+                    wait = (wait * 2).min(LOCKED.1);
                 }
-                Err(error) => return Err(error.context("the record isn't opened")),
+                Err(told) => return Err(told.context("the record isn't opened")),
             }
+        }
+    }
+
+    /// A new life, or `None` where this is to stop before there is one.
+    fn begin(&mut self, number: u64) -> Result<Option<Life>> {
+        let Some((node, first)) = self.open_record()? else {
+            return Ok(None);
         };
         self.metrics.openings.inc();
         self.status.change(|state| {
@@ -182,7 +199,7 @@ impl Engine {
         self.reports.remember()?;
         self.carry_out(&mut life, first)?;
         self.reports.forget();
-        Ok(life)
+        Ok(Some(life))
     }
 
     fn live(&mut self, life: &mut Life, patience: Duration) -> Result<Ended> {

@@ -5,7 +5,7 @@ use crate::envelope::Opened;
 use crate::wire::Event;
 use std::collections::VecDeque;
 use std::sync::{Condvar, Mutex};
-use std::time::Instant;
+use std::time::{Duration, Instant};
 
 /// What comes next.
 #[derive(Debug)]
@@ -97,6 +97,16 @@ impl Inbox {
     /// Has whoever takes end.
     pub fn stop(&self) {
         self.with(|waiting| waiting.stop = true);
+    }
+
+    /// Waits so long, or until it is to end, and answers whether it is.
+    pub fn stops_within(&self, time: Duration) -> bool {
+        let waiting = self.waiting.lock().expect("no thread failed with it");
+        let waited = self
+            .filled
+            .wait_timeout_while(waiting, time, |waiting| !waiting.stop);
+        let (waiting, _) = waited.expect("no thread failed with it");
+        waiting.stop
     }
 
     /// How many packets wait.

@@ -2,6 +2,7 @@
 
 use crate::wire::{Event, Reply};
 use anyhow::Result;
+use std::fmt;
 
 mod child;
 #[cfg(feature = "library")]
@@ -27,6 +28,18 @@ pub trait Member {
     /// Where it ended otherwise.
     fn close(self: Box<Self>) -> Result<()>;
 }
+
+/// Why a record isn't opened now, where it may be later: another process has it, and may be ending, or memory ran out.
+#[derive(Debug)]
+pub struct NotYet(pub String);
+
+impl fmt::Display for NotYet {
+    fn fmt(&self, f: &mut fmt::Formatter<'_>) -> fmt::Result {
+        f.write_str(&self.0)
+    }
+}
+
+impl std::error::Error for NotYet {}
 
 /// Opens the record, and answers the node and what is due at once.
 pub type Open = dyn FnMut() -> Result<(Box<dyn Member>, Reply)> + Send;

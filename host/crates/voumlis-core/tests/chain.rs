@@ -3,7 +3,7 @@
 mod common;
 
 use application::{Application, Block, BlockId, Context, RestoreError};
-use common::{Remembered, sealers, until};
+use common::{Remembered, patience, sealers, until};
 use std::path::Path;
 use std::sync::{Arc, Mutex};
 use std::thread::{self, JoinHandle};
@@ -57,24 +57,31 @@ struct Member {
     inbox: Arc<Inbox>,
     network: Arc<Remembered>,
     told: Told,
+    metrics: Arc<Metrics>,
     thread: JoinHandle<()>,
 }
 
 impl Member {
     fn open(folder: &Path) -> Member {
+        Member::waiting(folder, patience())
+    }
+
+    /// The same, that waits so long for blocks before it answers nothing.
+    fn waiting(folder: &Path, patience: Duration) -> Member {
         let (handle, requests) = ChainHandle::new();
         let network = Arc::new(Remembered::default());
         let inbox = Arc::new(Inbox::new(4));
+        let metrics = Arc::new(Metrics::new().unwrap());
         let around = Surroundings {
             committee: sealers()[0].committee.clone(),
             me: 0,
             inbox: inbox.clone(),
             network: network.clone(),
-            metrics: Arc::new(Metrics::new().unwrap()),
+            metrics: metrics.clone(),
             status: Arc::new(Status::default()),
         };
         let settings = ChainSettings {
-            patience: Duration::from_millis(300),
+            patience,
             snapshot_views: 4,
             ..ChainSettings::default()
         };
@@ -91,8 +98,14 @@ impl Member {
             inbox,
             network,
             told,
+            metrics,
             thread,
         }
+    }
+
+    /// How often blocks were made to survive a crash.
+    fn syncs(&self) -> u64 {
+        self.metrics.syncs.with_label_values(&["blocks"]).get()
     }
 
     fn ask(&self, request: Request) {
@@ -100,7 +113,7 @@ impl Member {
     }
 
     fn answer(&self) -> Event {
-        let end = Instant::now() + Duration::from_secs(30);
+        let end = Instant::now() + patience();
         match self.inbox.take(Some(end), 1).pop() {
             Some(Input::Answer(1, event)) => event,
             other => panic!("no answer, but {other:?}"),
@@ -119,6 +132,9 @@ impl Member {
         self.thread.join().unwrap();
     }
 }
+
+/// Shorter than tests wait.
+const SHORT: Duration = Duration::from_millis(300);
 
 /// A chain of blocks whose contents are good behind the blocks up to `carried_out`.
 fn blocks(count: u64) -> Vec<Block> {
@@ -188,7 +204,7 @@ fn a_check_waits_for_blocks_that_are_asked_for_by_hash() {
 #[test]
 fn no_answer_is_given_where_blocks_do_not_come_and_no_to_what_is_not_as_it_was_said() {
     let folder = tempfile::tempdir().unwrap();
-    let member = Member::open(folder.path());
+    let member = Member::waiting(folder.path(), SHORT);
     let chain = blocks(2);
     member.ask(verify(1, &chain[0]));
     let answer = None;
@@ -217,7 +233,7 @@ fn no_answer_is_given_where_blocks_do_not_come_and_no_to_what_is_not_as_it_was_s
 #[test]
 fn a_verdict_waits_for_the_block_however_long_it_takes() {
     let folder = tempfile::tempdir().unwrap();
-    let member = Member::open(folder.path());
+    let member = Member::waiting(folder.path(), SHORT);
     let chain = blocks(1);
     member.ask(Request::Certify(proposal(&chain[0])));
     thread::sleep(Duration::from_millis(400));
@@ -294,6 +310,7 @@ fn a_block_is_on_the_disk_before_it_is_voted_for() {
     let file = std::fs::read(folder.path().join("blocks")).unwrap();
     let bytes = Block::bytes(1, chain[0].parent, &chain[0].contents);
     assert!(file.windows(bytes.len()).any(|part| part == bytes));
+    assert_eq!(member.syncs(), 1);
     // Its own as well.
     member.ask(Request::Build(
         2,
@@ -305,5 +322,6 @@ fn a_block_is_on_the_disk_before_it_is_voted_for() {
     let file = std::fs::read(folder.path().join("blocks")).unwrap();
     let payload = payload.unwrap();
     assert!(file.windows(32).any(|part| part == payload));
+    assert_eq!(member.syncs(), 2);
     member.close();
 }

@@ -2,7 +2,7 @@
 
 mod common;
 
-use common::{Remembered, key, sealers, until};
+use common::{Remembered, key, patience, sealers, until};
 use std::path::Path;
 use std::sync::mpsc::Receiver;
 use std::sync::{Arc, Mutex};
@@ -14,7 +14,7 @@ use voumlis_core::engine::{Engine, EngineSettings};
 use voumlis_core::envelope::{Opened, Sealer};
 use voumlis_core::frame::Frame;
 use voumlis_core::inbox::Inbox;
-use voumlis_core::member::{Member, Open};
+use voumlis_core::member::{Member, NotYet, Open};
 use voumlis_core::metrics::{Metrics, Status};
 use voumlis_core::network::Current;
 use voumlis_core::plain::{BASE, attestation};
@@ -71,6 +71,17 @@ impl Running {
         network: Remembered,
         say: impl Fn(u64, &Event) -> Reply + Send + Sync + 'static,
     ) -> Running {
+        Running::behind(0, folder, reopen_after, network, say)
+    }
+
+    /// The same, with a record that another has for so many tries.
+    fn behind(
+        held: u32,
+        folder: &Path,
+        reopen_after: Duration,
+        network: Remembered,
+        say: impl Fn(u64, &Event) -> Reply + Send + Sync + 'static,
+    ) -> Running {
         let sealer = sealers().remove(0);
         let (inbox, network) = (Arc::new(Inbox::new(4)), Arc::new(network));
         let (chain, requests) = ChainHandle::new();
@@ -80,7 +91,7 @@ impl Running {
         let events = Events::default();
         let engine = Engine {
             sealer: sealer.clone(),
-            open: opening(events.clone(), Arc::new(say)),
+            open: opening(events.clone(), Arc::new(say), held),
             inbox: inbox.clone(),
             chain,
             network: network.clone(),
@@ -125,9 +136,14 @@ impl Running {
     }
 }
 
-fn opening(events: Events, say: Say) -> Box<Open> {
+/// How a record is opened that another has at first, for so many tries.
+fn opening(events: Events, say: Say, mut held: u32) -> Box<Open> {
     let mut life = 0;
     Box::new(move || {
+        if held > 0 {
+            held -= 1;
+            return Err(NotYet("error: device".to_owned()).into());
+        }
         life += 1;
         let node = Scripted {
             life,
@@ -302,7 +318,7 @@ fn a_record_is_opened_again_and_no_answer_reaches_another_life() {
     let network = Remembered::default();
     let short = Duration::from_millis(200);
     let member = Running::new(folder.path(), short, network, |_, _| reply(Vec::new()));
-    let lives = || match member.requests.recv_timeout(Duration::from_secs(30)) {
+    let lives = || match member.requests.recv_timeout(patience()) {
         Ok(Request::Opened(life)) => life,
         other => panic!("{other:?}"),
     };
@@ -349,4 +365,30 @@ fn reports_are_kept_with_signatures_and_what_is_told_anew_is_not_written_again()
     let (reports, size) = read_all(&stored);
     assert_eq!((reports.len(), size), (1, stored.len()));
     assert_eq!(reports[0].signatures, signed);
+}
+
+#[test]
+fn a_record_that_another_has_is_tried_until_it_is_free_or_the_host_stops() {
+    let folder = tempfile::tempdir().unwrap();
+    let network = Remembered::default();
+    // Three waits, of which each is twice as long as the one before.
+    let member = Running::behind(3, folder.path(), LONG, network, |_, _| reply(Vec::new()));
+    match member.requests.recv_timeout(patience()) {
+        Ok(Request::Opened(1)) => {}
+        other => panic!("{other:?}"),
+    }
+    member.stop();
+
+    let folder = tempfile::tempdir().unwrap();
+    let network = Remembered::default();
+    let member = Running::behind(u32::MAX, folder.path(), LONG, network, |_, _| {
+        reply(Vec::new())
+    });
+    assert!(
+        member
+            .requests
+            .recv_timeout(Duration::from_millis(300))
+            .is_err()
+    );
+    member.stop();
 }

@@ -46,6 +46,9 @@ enum Command {
         /// Have the node as the library in the process.
         #[arg(long)]
         library: bool,
+        /// Have applications in other processes: that of member 0 answers at this port of the same address, and so on.
+        #[arg(long)]
+        applications: Option<u16>,
     },
     /// Run the member of a folder until SIGTERM or SIGINT.
     Run {
@@ -112,8 +115,14 @@ fn carry_out(
             port,
             program,
             library,
+            applications,
         } => {
-            let ports = Ports { host, first: port };
+            let first = port;
+            let ports = Ports {
+                host,
+                first,
+                applications,
+            };
             init(&folder, members, &ports, &program, library)?;
         }
         Command::Run { folder } => member::run(&folder, make)?,
@@ -143,11 +152,23 @@ fn keygen(file: &Path) -> Result<()> {
 struct Ports {
     host: IpAddr,
     first: u16,
+    applications: Option<u16>,
 }
 
 impl Ports {
     fn at(&self, place: u32) -> Result<SocketAddr> {
-        let port = u32::from(self.first) + place;
+        self.behind(self.first, place)
+    }
+
+    /// Where the application of this member answers, if it is one in another process.
+    fn application(&self, member: u32) -> Result<Option<SocketAddr>> {
+        self.applications
+            .map(|first| self.behind(first, member))
+            .transpose()
+    }
+
+    fn behind(&self, first: u16, place: u32) -> Result<SocketAddr> {
+        let port = u32::from(first) + place;
         let port = u16::try_from(port).context("there are no such ports")?;
         Ok(SocketAddr::new(self.host, port))
     }
@@ -180,6 +201,7 @@ fn init(folder: &Path, members: u16, ports: &Ports, program: &Path, library: boo
             http: ports.at(u32::from(members) + member as u32)?,
             program: program.clone(),
             library,
+            application: ports.application(member as u32)?,
             limits: Limits::default(),
             times: Times::default(),
             members: places.clone(),

@@ -39,8 +39,6 @@ use voumlis_core::metrics::Metrics;
 use voumlis_core::network::{Current, Letter, Network};
 use voumlis_core::wire::Channel;
 
-/// How long a connection may take until both sides have shown their keys and said their first words.
-const GREETING: Duration = Duration::from_secs(5);
 /// How often a dialer without anything to send gives a sign of life.
 const SIGN_OF_LIFE: Duration = Duration::from_secs(3);
 /// How long either side waits for the other before it lets the connection go.
@@ -59,6 +57,8 @@ pub struct Links {
     sealer: Sealer,
     places: Vec<Place>,
     limits: Limits,
+    /// How long a connection may take until both sides have shown their keys and said their first words.
+    greeting: Duration,
     outgoing: HashMap<u32, Outgoing>,
     current: Arc<Current>,
     inbox: Arc<Inbox>,
@@ -88,6 +88,8 @@ pub struct LinkParts {
     pub places: Vec<Place>,
     /// What is bounded.
     pub limits: Limits,
+    /// How long a connection may take until both sides have shown their keys and said their first words.
+    pub greeting: Duration,
     /// What a peer that was away has to hear.
     pub current: Arc<Current>,
     /// Where packets go.
@@ -113,6 +115,7 @@ impl Links {
             sealer: parts.sealer,
             places: parts.places,
             limits: parts.limits,
+            greeting: parts.greeting,
             current: parts.current,
             inbox: parts.inbox,
             chain: parts.chain,
@@ -196,7 +199,7 @@ impl Links {
                     debug!(peer, %told, "a peer isn't reached");
                 }
             }
-            if begun.elapsed() > GREETING {
+            if begun.elapsed() > self.greeting {
                 pause = REDIAL.0;
             }
             sleep(pause).await;
@@ -224,7 +227,7 @@ impl Links {
         known: &mut Option<u64>,
     ) -> Result<()> {
         let address = self.places[peer as usize].address;
-        let stream = timeout(GREETING, async {
+        let stream = timeout(self.greeting, async {
             let stream = TcpStream::connect(address).await?;
             stream.set_nodelay(true)?;
             connector.connect(tls::any_name(), stream).await
@@ -234,7 +237,7 @@ impl Links {
         writer.write_all(self.sealer.committee.hash()).await?;
         writer.write_u64(self.run).await?;
         writer.flush().await?;
-        let welcome = timeout(GREETING, async {
+        let welcome = timeout(self.greeting, async {
             Ok::<_, std::io::Error>((reader.read_u64().await?, reader.read_u64().await?))
         });
         let (run, last) = welcome.await.context("no welcome")??;
@@ -301,7 +304,7 @@ impl Links {
             };
             let (links, acceptor) = (self.clone(), acceptor.clone());
             tokio::spawn(async move {
-                let greeted = timeout(GREETING, links.greet(stream, &acceptor)).await;
+                let greeted = timeout(links.greeting, links.greet(stream, &acceptor)).await;
                 drop(permit);
                 match greeted {
                     Ok(Ok((peer, stream))) => links.hear_from(peer, from, stream).await,

@@ -37,6 +37,8 @@ pub struct Service {
     pub routes: Option<Arc<dyn Routes>>,
     /// For trials alone; `None` else.
     pub wrap: Option<Wrap>,
+    /// Called when the member is to stop: an application that waits for something doesn't wait any more.
+    pub at_stop: Option<Box<dyn FnOnce() + Send>>,
 }
 
 impl Service {
@@ -46,6 +48,7 @@ impl Service {
             application: Box::new(application),
             routes: None,
             wrap: None,
+            at_stop: None,
         }
     }
 
@@ -175,6 +178,7 @@ async fn work(folder: &Path, settings: Settings, service: Service) -> Result<()>
         sealer: sealer.clone(),
         places: settings.members.clone(),
         limits: settings.limits.clone(),
+        greeting: Duration::from_millis(settings.times.greeting),
         current: current.clone(),
         inbox: inbox.clone(),
         chain: chain.clone(),
@@ -195,7 +199,9 @@ async fn work(folder: &Path, settings: Settings, service: Service) -> Result<()>
         status: status.clone(),
     };
     let application = service.application;
-    let blocks = Chain::open(folder, settings.chain(), around, application, &chain)?;
+    // It may wait for an application in another process.
+    let open = || Chain::open(folder, settings.chain(), around, application, &chain);
+    let blocks = tokio::task::block_in_place(open)?;
     let engine = Engine {
         open: opening(&settings, folder, me, committee.size())?,
         sealer,
@@ -240,6 +246,9 @@ async fn work(folder: &Path, settings: Settings, service: Service) -> Result<()>
         _ = ended.recv() => {}
     }
     inbox.stop();
+    if let Some(call) = service.at_stop {
+        call();
+    }
     let threads = tokio::task::spawn_blocking(move || {
         // The loop ends first: it asks the application's thread until then.
         let engine = joined(engine_thread);

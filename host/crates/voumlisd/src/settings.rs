@@ -45,6 +45,9 @@ pub struct Settings {
     /// Whether the node is the static library in this process; for this the host is built with the feature `library`.
     #[serde(default)]
     pub library: bool,
+    /// Where the application answers, if it is one in another process: see `remote`.
+    #[serde(default, skip_serializing_if = "Option::is_none")]
+    pub application: Option<SocketAddr>,
     /// What is bounded.
     #[serde(default)]
     pub limits: Limits,
@@ -100,6 +103,8 @@ pub struct Times {
     pub patience: u64,
     /// The record is opened again where no view was entered for so long.
     pub reopen_after: u64,
+    /// How long a connection may take until its key is shown and it has said of which committee it is.
+    pub greeting: u64,
 }
 
 impl Default for Times {
@@ -110,6 +115,7 @@ impl Default for Times {
             idle: milliseconds(chain.idle),
             patience: milliseconds(chain.patience),
             reopen_after: milliseconds(EngineSettings::default().reopen_after),
+            greeting: 5_000,
         }
     }
 }

@@ -2,12 +2,12 @@
 
 mod common;
 
-use common::{Committee, until};
+use common::{Committee, patience, until};
 use std::io::{Read, Write};
 use std::net::{Shutdown, SocketAddr, TcpListener, TcpStream};
 use std::sync::Arc;
 use std::thread;
-use std::time::Duration;
+use std::time::{Duration, Instant};
 use tokio::io::{AsyncReadExt, AsyncWriteExt};
 use tokio_rustls::client::TlsStream;
 use voumlis_core::committee::{Committee as Keys, SecretKey};
@@ -52,7 +52,7 @@ async fn send(stream: &mut TlsStream<tokio::net::TcpStream>, number: u64, frame:
 async fn is_ended(stream: &mut TlsStream<tokio::net::TcpStream>) -> bool {
     let mut rest = Vec::new();
     let read = stream.read_to_end(&mut rest);
-    let ended = tokio::time::timeout(Duration::from_secs(30), read).await;
+    let ended = tokio::time::timeout(patience(), read).await;
     ended.is_ok()
 }
 
@@ -283,16 +283,17 @@ fn a_peer_that_asks_much_waits_and_a_slow_reader_holds_up_nobody() {
             }
             Ok::<_, std::io::Error>(writer)
         });
-        let mut taken = 0;
-        let end = tokio::time::Instant::now() + Duration::from_secs(3);
-        while let Ok(Ok(number)) = tokio::time::timeout_at(end, reader.read_u64()).await {
-            taken = number;
+        // For three seconds, or until the machine has found time for twenty.
+        let (mut taken, begun) = (0, Instant::now());
+        while taken < 20 || begun.elapsed() < Duration::from_secs(3) {
+            let acknowledged = tokio::time::timeout(patience(), reader.read_u64());
+            taken = acknowledged.await.expect("asks are taken").unwrap();
         }
-        taken
+        (taken, begun.elapsed())
     });
-    let may = most.0 + most.1 * 4.0;
-    assert!(taken as f64 <= may, "{taken} asks were taken in 3 seconds");
-    assert!(taken >= 20, "{taken} asks were taken");
+    let (taken, passed) = taken;
+    let may = most.0 + most.1 * (passed.as_secs_f64() + 1.0);
+    assert!(taken as f64 <= may, "{taken} asks were taken in {passed:?}");
     go_on(&mut committee);
     drop(slow);
 }

@@ -103,3 +103,26 @@ fn a_record_is_opened_again_where_no_view_is_entered_for_long() {
     committee.start(2);
     committee.reach(&[0, 1, 2], 4);
 }
+
+#[cfg(not(feature = "library"))]
+#[test]
+#[ignore = "the node as a library isn't tried: the feature `library` wants the archive that `rt lib` proves and builds"]
+fn members_with_the_node_as_a_library_agree_with_one_that_has_a_child() {}
+
+#[cfg(feature = "library")]
+#[test]
+fn members_with_the_node_as_a_library_agree_with_one_that_has_a_child() {
+    let mut committee = Committee::new(4, |settings| {
+        // Member 0 has the program as a child.
+        settings.library = settings.listen != settings.members[0].address;
+    });
+    committee.start_all();
+    committee.reach(&[0, 1, 2, 3], 8);
+    assert_eq!(committee.nodes(1), 0);
+    committee.kill(2);
+    let there = committee.highest();
+    committee.reach(&[0, 1, 3], there + 6);
+    committee.start(2);
+    let there = committee.highest();
+    committee.reach(&[2], there + 4);
+}

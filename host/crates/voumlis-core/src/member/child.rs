@@ -1,4 +1,4 @@
-use super::Member;
+use super::{Member, NotYet};
 use crate::wire::{Event, Reply, Trouble};
 use anyhow::{Context, Result, anyhow, bail};
 use std::io::{Read, Write};
@@ -6,6 +6,7 @@ use std::path::Path;
 use std::process::{ChildStdin, ChildStdout, Command, Stdio};
 use std::thread;
 use std::time::{Duration, Instant};
+use tracing::warn;
 
 /// The program `simplex node` as a child process: one event on its input, one reply on its output.
 pub struct Child {
@@ -14,17 +15,29 @@ pub struct Child {
     output: ChildStdout,
     /// What was read and is no whole reply yet.
     ahead: Vec<u8>,
+    /// How long it may take to end once its input has, before it is killed.
+    patience: Duration,
 }
 
-/// How long a child may take to end once its input has.
-const PATIENCE: Duration = Duration::from_secs(5);
+/// How long a child may take to end once its input has. It ends between two events, so more than that is a machine that stands, or a
+/// process that was stopped.
+const PATIENCE: Duration = Duration::from_secs(60);
+
+/// When it is first told that a child takes long to end; then each time twice as late.
+const FIRST_TOLD: Duration = Duration::from_secs(1);
+
+/// How often is looked whether it has ended.
+const LOOK: Duration = Duration::from_millis(5);
+
+/// What the program says where its record can't be locked, or memory ran out: both may pass.
+const PASSING: [&str; 2] = ["error: device", "error: memory"];
 
 impl Child {
     /// Starts the program over this record, as `member` of `members`.
     ///
     /// # Errors
     ///
-    /// Where it can't be started, or doesn't open the record: another process may have it.
+    /// Where it can't be started, or doesn't open the record: [`NotYet`] where that may pass, as while another process has it.
     pub fn open(
         program: &Path,
         record: &Path,
@@ -47,9 +60,19 @@ impl Child {
             input,
             output,
             ahead: Vec::new(),
+            patience: PATIENCE,
         };
-        let first = child.reply()?;
-        Ok((child, first))
+        match child.reply() {
+            Ok(first) => Ok((child, first)),
+            Err(told) if may_pass(&told) => Err(NotYet(format!("{told:#}")).into()),
+            Err(told) => Err(told),
+        }
+    }
+
+    /// The same, killed where it hasn't ended so long after its input.
+    pub fn with_patience(mut self, patience: Duration) -> Child {
+        self.patience = patience;
+        self
     }
 
     /// The process's number.
@@ -102,18 +125,39 @@ impl Member for Child {
         }
     }
 
+    /// A machine that is busy may take its time. A child that doesn't end is killed: for its record that is a crash as any other.
     fn close(mut self: Box<Self>) -> Result<()> {
         drop(self.input.take());
-        let until = Instant::now() + PATIENCE;
-        while Instant::now() < until {
+        let begun = Instant::now();
+        let mut telling = FIRST_TOLD;
+        loop {
             match self.process.try_wait()? {
                 Some(status) if status.success() => return Ok(()),
                 Some(_) => return Err(self.last_words()),
-                None => thread::sleep(Duration::from_millis(5)),
+                None => thread::sleep(LOOK),
+            }
+            let waited = begun.elapsed();
+            if waited >= self.patience {
+                warn!(
+                    ?waited,
+                    "the node didn't end when its input did, and is killed"
+                );
+                self.process.kill()?;
+                self.process.wait()?;
+                return Ok(());
+            }
+            if waited >= telling {
+                telling *= 2;
+                warn!(?waited, "the node hasn't ended yet");
             }
         }
-        bail!("the node didn't end when its input did, and was killed")
     }
+}
+
+/// Whether a record that wasn't opened may be opened later.
+fn may_pass(told: &anyhow::Error) -> bool {
+    let told = format!("{told:#}");
+    PASSING.iter().any(|words| told.contains(words))
 }
 
 impl Drop for Child {

@@ -1,6 +1,7 @@
-use super::Member;
+use super::{Member, NotYet};
 use crate::wire::{Action, Channel, Context, Event, Plan, Proposal, Reply, Round};
 use anyhow::{Result, bail};
+use std::io::ErrorKind;
 use std::path::Path;
 use voumlis::{Ending, Node, wire};
 
@@ -12,9 +13,15 @@ impl Library {
     ///
     /// # Errors
     ///
-    /// Where it isn't opened: another node may have it.
+    /// Where it isn't opened: [`NotYet`] where another node has it.
     pub fn open(record: &Path, member: u16, members: u16) -> Result<(Library, Reply)> {
-        let (node, first) = Node::open(record, member, members)?;
+        let (node, first) = match Node::open(record, member, members) {
+            Ok(opened) => opened,
+            Err(told) if told.kind() == ErrorKind::WouldBlock => {
+                return Err(NotYet("another node has it".to_owned()).into());
+            }
+            Err(told) => return Err(told.into()),
+        };
         let actions = first.actions.into_iter().map(action).collect();
         let refused = first.refused;
         Ok((Library(node), Reply { refused, actions }))

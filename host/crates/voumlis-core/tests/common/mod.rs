@@ -64,9 +64,16 @@ pub fn sealers() -> Vec<Sealer> {
         .collect()
 }
 
+/// How long anything may take on a busy machine. `VOUMLIS_PATIENCE` says another number of seconds, for runs in which a test is to fail.
+pub fn patience() -> Duration {
+    let named = std::env::var("VOUMLIS_PATIENCE").ok();
+    let seconds = named.map_or(120, |text| text.parse().expect("a number of seconds"));
+    Duration::from_secs(seconds)
+}
+
 /// Waits until this gives something.
 pub fn until<T>(what: &str, mut look: impl FnMut() -> Option<T>) -> T {
-    let end = Instant::now() + Duration::from_secs(30);
+    let end = Instant::now() + patience();
     loop {
         if let Some(found) = look() {
             return found;

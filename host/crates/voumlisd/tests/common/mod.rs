@@ -13,8 +13,13 @@ use std::time::{Duration, Instant};
 use tempfile::TempDir;
 use voumlisd::Settings;
 
-/// How long anything may take: a program that isn't proved is slow, and the machine may be busy.
-pub const PATIENCE: Duration = Duration::from_secs(120);
+/// How long anything may take: a program that isn't proved is slow, and the machine may be busy. `VOUMLIS_PATIENCE` says another number
+/// of seconds, for runs in which a test is to fail.
+pub fn patience() -> Duration {
+    let named = std::env::var("VOUMLIS_PATIENCE").ok();
+    let seconds = named.map_or(180, |text| text.parse().expect("a number of seconds"));
+    Duration::from_secs(seconds)
+}
 
 /// The program `simplex`.
 ///
@@ -36,7 +41,7 @@ pub fn program() -> PathBuf {
 
 /// Waits until this gives something.
 pub fn until<T>(what: &str, mut look: impl FnMut() -> Option<T>) -> T {
-    let end = Instant::now() + PATIENCE;
+    let end = Instant::now() + patience();
     loop {
         if let Some(found) = look() {
             return found;
@@ -47,7 +52,7 @@ pub fn until<T>(what: &str, mut look: impl FnMut() -> Option<T>) -> T {
 }
 
 /// Addresses of the loopback that nobody listens at. All are held until the last is found, so that they differ.
-fn free_addresses(count: usize) -> Vec<SocketAddr> {
+pub fn free_addresses(count: usize) -> Vec<SocketAddr> {
     let listeners: Vec<TcpListener> = (0..count)
         .map(|_| TcpListener::bind("127.0.0.1:0").unwrap())
         .collect();
@@ -93,6 +98,8 @@ impl Committee {
             settings.listen = addresses[member];
             settings.http = addresses[members + member];
             settings.times.idle = 20;
+            // On a busy machine a handshake takes its time.
+            settings.times.greeting = 60_000;
             change(&mut settings);
             settings.write(&own).unwrap();
             committee.settings.push(settings);
@@ -143,7 +150,7 @@ impl Committee {
 
     pub fn get(&self, member: usize, path: &str) -> Option<String> {
         let mut stream = TcpStream::connect(self.settings[member].http).ok()?;
-        stream.set_read_timeout(Some(PATIENCE)).ok()?;
+        stream.set_read_timeout(Some(patience())).ok()?;
         write!(
             stream,
             "GET {path} HTTP/1.1\r\nHost: member\r\nConnection: close\r\n\r\n"
