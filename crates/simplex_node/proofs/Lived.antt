@@ -88,7 +88,7 @@ module _ {S L D P G C : Type 0} (g : Ghosts S D P G C) (e : elector.Ghosts L S D
     module _ (before : List (Opening L D)) (o : Opening L D) (one : IsOfOneMember s (setup_by g e scheme index o)) where
       -- one life more
       pub left-more : (seen image : List ℕ) (is : IsLeftByLives g e scheme index f s before seen) (course : Course S D P G C) (end : History S D P G C)
-          → IsLifeOf g e scheme index o (record { setup = setup_by g e scheme index o; course = course }) → Lived g f (setup_by g e scheme index o) is.left course end → ReadsAs f image end
+          → IsLifeOf g e scheme index o (record { setup = setup_by g e scheme index o; course = course }) → Lived g f (setup_by g e scheme index o) is.left course end → ReadsAs g f s image end
           → IsLeftByLives g e scheme index f s (before ++ o ∷ []) image
       left-more seen image is course end life lived reads = record {
         lives = is.lives ++ (record { setup = setup_by g e scheme index o; course = course }) ∷ [];
@@ -122,10 +122,10 @@ module _ {S L D P G C : Type 0} (g : Ghosts S D P G C) (e : elector.Ghosts L S D
               lived = was.lived;
               reads = subst (λ (bodies : List (List ℕ)). Reads image bodies) (one_record reopened.before reopened.bodies (map f.artifact was.left) reopened.reads_before was.reads) reopened.reads;
             })
-        left-open image (inr (found, are, points, end, opening, goes, reads)) = left-more (k.seen on) image at-start (Broken o.now points) end
+        left-open image (inr (found, are, opened)) = left-more (k.seen on) image at-start (Broken o.now opened.0) opened.1
             (record { setup = refl; now = refl; left = o.events.items; events = refl })
-            (subst (λ (xs : List (Artifact S D P G C)). Lived g f (setup_by g e scheme index o) xs (Broken o.now points) end) (found-left found are) (opening, goes))
-            reads
+            (subst (λ (xs : List (Artifact S D P G C)). Lived g f (setup_by g e scheme index o) xs (Broken o.now opened.0) opened.1) (found-left found are) (opened.2, opened.3))
+            opened.4
 
         -- and inside a step over one of the events
         pub left-passed : (found : List (Artifact S D P G C)) (actions : List (Action S D P G C)) (mid : History S D P G C) → AreFoundOn k f.artifact Readable on found
