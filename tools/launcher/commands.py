@@ -91,12 +91,12 @@ KINDS = {
 
 
 def audit(given: argparse.Namespace) -> int:
-    path, known = program("simplex", given.program)
-    say(f"simplex: {known}")
     try:
         data = sys.stdin.buffer.read() if given.file == "-" else Path(given.file).read_bytes()
     except OSError as error:
         raise Trouble(f"{given.file} can't be read: {error.strerror}") from error
+    path, known = program("simplex", given.program)
+    say(f"simplex: {known}")
     ended = subprocess.run([path, "audit", given.count], input=data, capture_output=True)
     lines, errors = ended.stdout.decode().splitlines(), ended.stderr.decode().splitlines()
     if given.lines:

@@ -3,8 +3,8 @@
     dist/x86_64-linux/      as the proofs' build made them; git has these
     dist/unproved/          as `rt try` made them; git has none of it
 
-A manifest has the sums of the files, the kit, the commit, and for each file the checksums of the sources that it was made from. So
-whoever runs one knows whether it fits the tree.
+A manifest has the sums of the files, the kit, the commit, and for each file the checksums of the sources that it was made from, and
+whether rt had noted beside it that it came of a proved build. So whoever runs one knows whether it fits the tree.
 """
 import hashlib
 import json
@@ -61,7 +61,10 @@ def lay(folder: Path, made: dict[str, tuple[Path, str]], proved: bool) -> None:
         place.chmod(0o644 if name == ARCHIVE else 0o755)
         os.replace(place, folder / name)
         size = (folder / name).stat().st_size
-        files[name] = {"sha256": sum_of(folder / name), "bytes": size, "code": sources.code(crate), "sources": sources.whole(crate)}
+        files[name] = {
+            "sha256": sum_of(folder / name), "bytes": size, "code": sources.code(crate), "sources": sources.whole(crate),
+            "noted": bool(note_of(source)),
+        }
     manifest = {"proved": proved, "kit": sources.kit(), "commit": sources.commit(), "files": files}
     (folder / MANIFEST).write_text(json.dumps(manifest, indent=1) + "\n")
 
@@ -98,7 +101,7 @@ def arguments(name: str) -> list[str]:
 
 
 def left(crate: str, name: str, words: list[str], as_is: bool) -> Path:
-    """What rt left of a crate, behind this call of it, whose lines are passed on."""
+    """What rt left of a crate, after this call of it."""
     file = CRATES / crate / "out" / name
     if not as_is:
         sources.kit()
@@ -107,7 +110,19 @@ def left(crate: str, name: str, words: list[str], as_is: bool) -> Path:
         raise Trouble(f"there is no {file.relative_to(TOP)}: {' '.join(words[:2])} in crates/{crate} makes it")
     if not is_newer(file, crate):
         raise Trouble(f"{file.relative_to(TOP)} is older than its sources: {' '.join(words[:2])} in crates/{crate} makes it anew")
+    noted = note_of(file)
+    if noted and not noted.endswith(sum_of(file)):
+        raise Trouble(f"{file.relative_to(TOP)} isn't what rt proved there: {' '.join(words[:2])} in crates/{crate} makes it anew")
+    if as_is and not noted:
+        say(f"{file.relative_to(TOP)}: taken as it lies there; rt left no note of a proved build beside it")
     return file
+
+
+def note_of(file: Path) -> str:
+    """What rt noted beside a program whose build it proved, which ends with the program's sum. It notes nothing where it was told by which
+    compiler to build, as the gate does, nor beside an archive."""
+    stamp = file.with_name(f"{file.name}.stamp")
+    return stamp.read_text() if stamp.exists() else ""
 
 
 def is_newer(file: Path, crate: str) -> bool:
