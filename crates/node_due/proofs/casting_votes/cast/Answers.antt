@@ -1,4 +1,4 @@
-use Rattle.std.proofs.Common.{◌<◌, ◌∙◌, ℕ, sym, ap, subst, Some, refl}
+use Rattle.std.proofs.Common.{arith, ◌<◌, ◌∙◌, ℕ, sym, ap, subst, Some, refl}
 use Rattle.std.specs.Prelude.{◌^◌}
 use Rattle.messages_certificates.specs.declared.artifact.Artifact.{Artifact}
 use Rattle.simplex_record.specs.Record.{entries, entry}
@@ -22,28 +22,28 @@ returns-in_default-clause-any_moment g c = λ s h ahead may keeps.
 pub returns-in-Err-clause-any_moment : goal.returns-in-Err-clause-any_moment
 returns-in-Err-clause-any_moment g c = λ s h ahead may keeps.
     let f = formats {S = g.row.S.Denot} {P = g.row.S-PublicKey.Denot} g.D.PartialEq.eq g.D.Write.spelling g.S.Signature.Write.spelling g.S.Certificate.Write.spelling g.D.Read.reading g.S.Signature.Read.reading g.S.Certificate.Read.reading (g.S.Scheme.size s.voter.scheme) in
-    let small : g.S.Scheme.size s.voter.scheme < 2 ^ 32 = subst (λ (n : ℕ). n < 2 ^ 32) (c.participants-members.ensures.value ∙ ap g.S.Scheme.size (c.deref.ensures ∙ ahead.keeps.set_up.scheme_is)) RANGE in
+    let small : g.S.Scheme.size s.voter.scheme < 2 ^ 32 = subst (λ (n : ℕ). n < 2 ^ 32) (c.participants-members.ensures.value ∙ ap g.S.Scheme.size (c.deref.ensures ∙ ahead.keeps.set_up.scheme_is)) (omega (arith, c.participants-members.type_inv)) in
     let may_now = may (vote_recordable f _ _ (c.packets_are_read_back.ensures.recordable (g.S.Scheme.size s.voter.scheme) small) c.in-Ok.artifact c.args.vote c.in-Ok.ensures.copy c.record.ensures.readable) in
     left_by g.S.Scheme f s h (Votes c.args.vote) c.in-Ok.artifact _ _ (ap Some (sym c.in-Ok.ensures.copy)) may_now (c.record.ensures.any_moment (owner_of s) (record_of h) ahead.keeps.ledger keeps)
 
 pub returns-in-Ok-hand_vote_out-clause-any_moment : goal.returns-in-Ok-hand_vote_out-clause-any_moment
 returns-in-Ok-hand_vote_out-clause-any_moment g c = λ s h ahead may keeps.
     let f = formats {S = g.row.S.Denot} {P = g.row.S-PublicKey.Denot} g.D.PartialEq.eq g.D.Write.spelling g.S.Signature.Write.spelling g.S.Certificate.Write.spelling g.D.Read.reading g.S.Signature.Read.reading g.S.Certificate.Read.reading (g.S.Scheme.size s.voter.scheme) in
-    let small : g.S.Scheme.size s.voter.scheme < 2 ^ 32 = subst (λ (n : ℕ). n < 2 ^ 32) (c.participants-members.ensures.value ∙ ap g.S.Scheme.size (c.deref.ensures ∙ ahead.keeps.set_up.scheme_is)) RANGE in
+    let small : g.S.Scheme.size s.voter.scheme < 2 ^ 32 = subst (λ (n : ℕ). n < 2 ^ 32) (c.participants-members.ensures.value ∙ ap g.S.Scheme.size (c.deref.ensures ∙ ahead.keeps.set_up.scheme_is)) (omega (arith, c.participants-members.type_inv)) in
     let may_now = may (vote_recordable f _ _ (c.packets_are_read_back.ensures.recordable (g.S.Scheme.size s.voter.scheme) small) c.in-Ok.artifact c.args.vote c.in-Ok.ensures.copy c.record.ensures.readable) in
     left_by g.S.Scheme f s h (Votes c.args.vote) c.in-Ok.artifact _ _ (ap Some (sym c.in-Ok.ensures.copy)) may_now (c.record.ensures.any_moment (owner_of s) (record_of h) ahead.keeps.ledger keeps)
 
 pub returns-in-Err-hand_vote_out-clause-any_moment : goal.returns-in-Err-hand_vote_out-clause-any_moment
 returns-in-Err-hand_vote_out-clause-any_moment g c = λ s h ahead may keeps.
     let f = formats {S = g.row.S.Denot} {P = g.row.S-PublicKey.Denot} g.D.PartialEq.eq g.D.Write.spelling g.S.Signature.Write.spelling g.S.Certificate.Write.spelling g.D.Read.reading g.S.Signature.Read.reading g.S.Certificate.Read.reading (g.S.Scheme.size s.voter.scheme) in
-    let small : g.S.Scheme.size s.voter.scheme < 2 ^ 32 = subst (λ (n : ℕ). n < 2 ^ 32) (c.participants-members.ensures.value ∙ ap g.S.Scheme.size (c.deref.ensures ∙ ahead.keeps.set_up.scheme_is)) RANGE in
+    let small : g.S.Scheme.size s.voter.scheme < 2 ^ 32 = subst (λ (n : ℕ). n < 2 ^ 32) (c.participants-members.ensures.value ∙ ap g.S.Scheme.size (c.deref.ensures ∙ ahead.keeps.set_up.scheme_is)) (omega (arith, c.participants-members.type_inv)) in
     let may_now = may (vote_recordable f _ _ (c.packets_are_read_back.ensures.recordable (g.S.Scheme.size s.voter.scheme) small) c.in-Ok.artifact c.args.vote c.in-Ok.ensures.copy c.record.ensures.readable) in
     left_by g.S.Scheme f s h (Votes c.args.vote) c.in-Ok.artifact _ _ (ap Some (sym c.in-Ok.ensures.copy)) may_now (c.record.ensures.any_moment (owner_of s) (record_of h) ahead.keeps.ledger keeps)
 
 pub returns-in-Err-tell_own_vote-clause-any_moment : goal.returns-in-Err-tell_own_vote-clause-any_moment
 returns-in-Err-tell_own_vote-clause-any_moment g c = λ s h ahead may keeps.
     let f = formats {S = g.row.S.Denot} {P = g.row.S-PublicKey.Denot} g.D.PartialEq.eq g.D.Write.spelling g.S.Signature.Write.spelling g.S.Certificate.Write.spelling g.D.Read.reading g.S.Signature.Read.reading g.S.Certificate.Read.reading (g.S.Scheme.size s.voter.scheme) in
-    let small : g.S.Scheme.size s.voter.scheme < 2 ^ 32 = subst (λ (n : ℕ). n < 2 ^ 32) (c.participants-members.ensures.value ∙ ap g.S.Scheme.size (c.deref.ensures ∙ ahead.keeps.set_up.scheme_is)) RANGE in
+    let small : g.S.Scheme.size s.voter.scheme < 2 ^ 32 = subst (λ (n : ℕ). n < 2 ^ 32) (c.participants-members.ensures.value ∙ ap g.S.Scheme.size (c.deref.ensures ∙ ahead.keeps.set_up.scheme_is)) (omega (arith, c.participants-members.type_inv)) in
     let may_now = may (vote_recordable f _ _ (c.packets_are_read_back.ensures.recordable (g.S.Scheme.size s.voter.scheme) small) c.in-Ok.artifact c.args.vote c.in-Ok.ensures.copy c.record.ensures.readable) in
     left_by g.S.Scheme f s h (Votes c.args.vote) c.in-Ok.artifact _ _ (ap Some (sym c.in-Ok.ensures.copy)) may_now (c.record.ensures.any_moment (owner_of s) (record_of h) ahead.keeps.ledger keeps)
 
@@ -52,7 +52,7 @@ returns-in-Ok-hand_vote_out-clause-taken g c = λ s h ahead may opens.
     let f = formats {S = g.row.S.Denot} {P = g.row.S-PublicKey.Denot} g.D.PartialEq.eq g.D.Write.spelling g.S.Signature.Write.spelling g.S.Certificate.Write.spelling g.D.Read.reading g.S.Signature.Read.reading g.S.Certificate.Read.reading (g.S.Scheme.size s.voter.scheme) in
     let v = c.args.vote in
     let k = ahead.keeps in
-    let small : g.S.Scheme.size s.voter.scheme < 2 ^ 32 = subst (λ (n : ℕ). n < 2 ^ 32) (c.participants-members.ensures.value ∙ ap g.S.Scheme.size (c.deref.ensures ∙ ahead.keeps.set_up.scheme_is)) RANGE in
+    let small : g.S.Scheme.size s.voter.scheme < 2 ^ 32 = subst (λ (n : ℕ). n < 2 ^ 32) (c.participants-members.ensures.value ∙ ap g.S.Scheme.size (c.deref.ensures ∙ ahead.keeps.set_up.scheme_is)) (omega (arith, c.participants-members.type_inv)) in
     let may_now = may (vote_recordable f _ _ (c.packets_are_read_back.ensures.recordable (g.S.Scheme.size s.voter.scheme) small) c.in-Ok.artifact c.args.vote c.in-Ok.ensures.copy c.record.ensures.readable) in
     let follows = subst (λ (a : Artifact g.row.S.Denot g.row.D.Denot g.row.S-PublicKey.Denot g.row.S-Signature.Denot g.row.S-Certificate.Denot). MayFollow s.voter.length (entries (record_of h)) (entry a)) (sym c.in-Ok.ensures.copy) may_now.fits.follows in
     let recorded = c.in-Ok-record.ensures.keeps (owner_of s) (record_of h) k.ledger follows in

@@ -1,4 +1,4 @@
-use Rattle.std.proofs.Common.{◌<◌, ◌∙◌, ℕ, refl, sym, ap, subst}
+use Rattle.std.proofs.Common.{arith, ◌<◌, ◌∙◌, ℕ, refl, sym, ap, subst}
 use Rattle.std.specs.Prelude.{◌^◌}
 use Rattle.std.proofs.lemmas.Result.{on_ok_weaker}
 use Rattle.journal_single.specs.Disk.{LeavesOnly}
@@ -33,7 +33,7 @@ returns-in-Ok-Some-default-Made-clause-tried g c = λ s h k.
     let f = formats {S = g.row.S.Denot} {P = g.row.S-PublicKey.Denot} g.D.PartialEq.eq g.D.Write.spelling g.S.Signature.Write.spelling g.S.Certificate.Write.spelling g.D.Read.reading g.S.Signature.Read.reading g.S.Certificate.Read.reading (g.S.Scheme.size s.voter.scheme) in
     let does = rw (c.in-Ok-Some-default-Made.field-0-is, c.in-Ok-Some-default-Made.field-0-0-1-is) at c.in-Ok-Some-default-Made.ensures.done in
     let some : 0 < g.S.Scheme.size s.voter.scheme = subst (λ x. 0 < g.S.Scheme.size x) (c.deref.ensures ∙ k.set_up.scheme_is) c.participants-members.ensures.some in
-    let small : g.S.Scheme.size s.voter.scheme < 2 ^ 32 = subst (λ (n : ℕ). n < 2 ^ 32) (c.participants-members.ensures.value ∙ ap g.S.Scheme.size (c.deref.ensures ∙ k.set_up.scheme_is)) RANGE in
+    let small : g.S.Scheme.size s.voter.scheme < 2 ^ 32 = subst (λ (n : ℕ). n < 2 ^ 32) (c.participants-members.ensures.value ∙ ap g.S.Scheme.size (c.deref.ensures ∙ k.set_up.scheme_is)) (omega (arith, c.participants-members.type_inv)) in
     let readable = rw (c.in-Ok-Some-default-Made.field-0-is, c.in-Ok-Some-default-Made.field-0-0-1-is) at c.in-Ok-Some-default-Made.ensures.readable in
     let made = constructs g.S.Scheme g.L.Elector g.K.Disk f s c.args.core.now c.next_due.new.self h k c.in-Ok-Some-default-Made.field-0-0-0 c.in-Ok-Some-default-Made.batch (λ x y. g.met.D.Digest.equal_is_same x y) (λ exact. c.what_is_made_may_be_recorded.ensures f s exact) some (does s h k.votes) in
     let may : MayCome g.S.Scheme f s (artifact_fits g.D.Write.fits g.S.Signature.Write.fits g.S.Certificate.Write.fits) h (Constructs c.in-Ok-Some-default-Made.field-0-0-0 made.0 c.in-Ok-Some-default-Made.batch) = λ spelled.
