@@ -1,12 +1,10 @@
 -- The example is a network.
 use Rattle.std.proofs.Common.{◌≡◌, inl, ⊎_elim, ℕ, ◌<◌, ◌≤◌, ◌==◌, Bool, true, false, List, [], ◌∷◌, Some, None, refl, sym, ◌∙◌, subst, arith}
-use Rattle.std.specs.Prelude.{All, Contains, IfSome, if◌then◌else◌}
+use Rattle.std.specs.Prelude.{All, Contains, if◌then◌else◌}
 use Rattle.std.proofs.lemmas.Bool.{cases_lt}
 use Rattle.std.proofs.lemmas.List.Elements.{All-cons, All-contains, All-nil}
 use Rattle.types_quorum.specs.Counting.{Contains-cases}
 use Rattle.types_core.specs.declared.scheme.Scheme.{Ghosts}
-use Rattle.messages_certificates.specs.declared.artifact.Artifact.{Artifact}
-use Rattle.messages_certificates.specs.declared.artifact.Artifact.TheVariants as artifact
 use Rattle.messages_certificates.specs.declared.certificate.Certificate.{Certificate}
 use Rattle.simplex_record.specs.World.{World, IsCorrect, IsHonest}
 use Rattle.simplex_member.specs.declared.event.Channel.{Channel}
@@ -15,8 +13,8 @@ use Rattle.simplex_member.specs.declared.event.Event.{Event}
 use Rattle.simplex_member.specs.declared.event.Event.TheVariants as event
 use Rattle.simplex_member.specs.Deeds.{Deed, Sends}
 use Rattle.simplex_member.specs.Lives.{Carries, HandedOut, HandsOutBytes, Holds, IsHonestPacket, Life, Members, events_of}
-use Rattle.simplex_member.specs.Packet.{Formats, IsReadable, Packet, of_certificate, packet_of}
-use Rattle.network_example.specs.Example.{AreKeys, ArePackets, IsExample, IsJunk, IsPacketOf, Parts, first_life, four_members, four_world, given_up, nullification_of, nullify_of, second_life, sender_to}
+use Rattle.simplex_member.specs.Packet.{Formats, Packet, of_certificate}
+use Rattle.network_example.specs.Example.{AreKeys, ArePackets, IsExample, IsJunk, IsPacketOf, Parts, first_life, four_members, four_world, given_up, second_life, sender_to}
 use Rattle.network_example.proofs.Living.{blocked, both-lived}
 use Rattle.network_example.proofs.Resting.{opened_first}
 

@@ -1,5 +1,5 @@
 -- The node while one of its layers is a point ahead of the others.
-use Rattle.std.specs.Prelude.{◌∷◌}
+use Rattle.std.specs.Prelude.{◌∷◌, IfSome}
 use Rattle.types_core.specs.declared.scheme.Scheme.{Ghosts}
 use Rattle.types_terms.specs.declared.elector.Elector as elector
 use Rattle.journal_single.specs.declared.disk.Disk as disk
