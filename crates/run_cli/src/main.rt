@@ -11,6 +11,11 @@
 //! | `tool WORD ..` | the same of the program of tools; the input is the file that the words name, too |
 //! | `write COUNT` | what `write_audit` answers, then `LEFT OUTPUT` |
 //! | `serve INDEX COUNT` | `STATUS LEFT OUTPUT FAULTS` of a node's program over the disk; the output in digits |
+//! | `lines LINE ..` | how many bytes the input has with these lines behind it |
+//! | `settings` | `STATUS LEFT OUTPUT FAULTS` of what the input says as a file of settings |
+//! | `file` | `STATUS FAULTS` of reading the input as a file of settings; then the input has no bytes |
+//! | `member` | `STATUS LEFT OUTPUT FAULTS` of the program of that file's member over the disk; the output in digits |
+//! | `ask WORD ..` | `member PATH`, `settings PATH`, or `-` |
 //! | `disk BYTES`, `fuse CALLS`, `fail_at CALLS` | `ok`: such a disk; behind so many calls all or one of it fail |
 //! | `bytes` | what the disk holds |
 //! | `report OUTCOME`, `unread KIND` | `STATUS FAULTS` of `report`, and of `words_unread` after such an error |
@@ -31,10 +36,12 @@
 
 mod commands;
 mod fakes;
+mod member;
 mod serving_node;
 mod streams;
 mod texts;
 
+use crate::member::Filed;
 use crate::serving_node::Medium;
 use crate::streams::Streams;
 use std::alloc::Global;
@@ -47,6 +54,7 @@ use test_words::{Layer, Say, Trouble, Words, play};
 struct Cli {
     streams: Streams,
     medium: Medium,
+    filed: Filed,
 }
 
 impl Layer for Cli {
@@ -54,12 +62,16 @@ impl Layer for Cli {
         words.end()?;
         self.streams = Streams::new(alloc);
         self.medium = Medium::new(alloc);
+        self.filed = Filed::none();
         Ok(())
     }
 
     fn call(&mut self, name: &str, words: &mut Words<'_>, say: &mut Say) -> Result<(), Trouble> {
         match name {
             "append" => self.streams.append(words, say),
+            "lines" => self.streams.lines(words, say),
+            "file" => self.filed.read(&mut self.streams, words, say),
+            "member" => self.medium.member(&self.filed, &self.streams, words, say),
             "reader" => self.streams.set_reader(words, say),
             "output" => self.streams.set_output(words, say),
             "faults" => self.streams.set_faults(words, say),
@@ -77,6 +89,7 @@ fn ask(streams: &Streams, name: &str, words: &mut Words<'_>, say: &mut Say) -> R
         "run" => streams.run(words, say),
         "tool" => streams.tool(words, say),
         "write" => streams.write(words, say),
+        "settings" => member::settings(streams, words, say),
         "report" => streams.report(words, say),
         "unread" => streams.unread(words, say),
         _ => ask_words(name, words, say),
@@ -91,6 +104,7 @@ fn ask_words(name: &str, words: &mut Words<'_>, say: &mut Say) -> Result<(), Tro
         "usage" => commands::usage(words, say),
         "line" => commands::line(words, say),
         "size" => commands::size(words, say),
+        "ask" => member::ask(words, say),
         _ => Err(Trouble::Unreadable),
     }
 }
@@ -100,6 +114,7 @@ fn main(rt: HostRuntime) -> ExitCode {
     let mut cli = Cli {
         streams: Streams::new(alloc),
         medium: Medium::new(alloc),
+        filed: Filed::none(),
     };
     ExitCode::from(play(alloc, &mut cli, rt.reader(), &mut io::writer(&rt)))
 }

@@ -4,6 +4,7 @@ ghost use Rattle.std.specs.Prelude.{◌<◌};
 
 use crate::commands;
 use crate::fakes::{FakeReader, FakeWriter, Manner, kind_of};
+use crate::member::say_run;
 use crate::texts::say_text;
 use cli_audit::{audit_over, report, run_words, words_unread, write_audit};
 use cli_tool::{misused, parse_call, run_request};
@@ -77,9 +78,34 @@ impl Streams {
         say.ok()
     }
 
+    /// `lines WORD ..`: a line of the input for each word.
+    pub(crate) fn lines(&mut self, words: &mut Words<'_>, say: &mut Say) -> Result<(), Trouble> {
+        let spoken = commands::spoken(words, say.alloc)?;
+        for line in &spoken {
+            self.input.extend_from_slice(line.as_bytes())?;
+            self.input.push(b'\n')?;
+        }
+        say.number(self.input.len() as u64)
+    }
+
+    /// Lets the input have no bytes.
+    pub(crate) fn empty(&mut self, alloc: Global) {
+        self.input = Vec::new(alloc);
+    }
+
     /// The reader of a call.
-    fn read(&self) -> FakeReader<'_> {
+    pub(crate) fn read(&self) -> FakeReader<'_> {
         FakeReader::new(&self.input, self.reader)
+    }
+
+    /// How the output of a call behaves.
+    pub(crate) fn output(&self) -> Manner {
+        self.output
+    }
+
+    /// How the stream of faults of a call behaves.
+    pub(crate) fn faults(&self) -> Manner {
+        self.faults
     }
 
     /// `audit COUNT`.
@@ -133,13 +159,7 @@ impl Streams {
         let mut faults = FakeWriter::new(say.alloc, self.faults);
         let (ended, disk) = drive(say.alloc, disk, index, count, &mut input, &mut output);
         let status = tell(say.alloc, ended, &mut faults);
-        say.number(u64::from(status))?;
-        say.gap()?;
-        say.number(input.left() as u64)?;
-        say.gap()?;
-        say.bytes(output.taken())?;
-        say.gap()?;
-        say_text(faults.taken(), say)?;
+        say_run(status, &input, &output, &faults, say)?;
         Ok(disk)
     }
 
@@ -179,7 +199,7 @@ impl Streams {
 }
 
 /// `STATUS LEFT OUTPUT FAULTS`.
-fn say_all(
+pub(crate) fn say_all(
     status: u8,
     input: &FakeReader<'_>,
     output: &FakeWriter,

@@ -1,8 +1,12 @@
-//! `simplex_tool`: hands the program's words, its streams and the file that they name to the library.
+//! `simplex_tool`: hands the program's words, its streams and the files that they name to the libraries.
 #![tactic(auto)]
 
 ghost use Rattle.cli_tool.specs.Command.{IsAsked};
 
+mod member;
+
+use crate::member::answer_member;
+use cli_member::parse_member;
 use cli_tool::{Call, Request, misused, parse_call, run_request, unopened, words_unread};
 use std::fs::File;
 use std::process::ExitCode;
@@ -36,8 +40,8 @@ fn answer_of_input(rt: &HostRuntime, call: Call<'_>) -> u8
     run_request(rt.alloc(), call, &mut input, &mut output, &mut faults)
 }
 
-/// Answers the call of these words.
-fn answer(rt: &HostRuntime, words: &[String]) -> u8 {
+/// Answers the call of these words about messages and records.
+fn answer_call(rt: &HostRuntime, words: &[String]) -> u8 {
     let Some(call) = parse_call(words) else {
         return misused(&mut rt.stderr());
     };
@@ -45,6 +49,14 @@ fn answer(rt: &HostRuntime, words: &[String]) -> u8 {
         Request::Record { path } => answer_of_file(rt, call, path),
         Request::Check { path, .. } => answer_of_file(rt, call, path),
         _ => answer_of_input(rt, call),
+    }
+}
+
+/// Answers the call of these words.
+fn answer(rt: &HostRuntime, words: &[String]) -> u8 {
+    match parse_member(words) {
+        Some(call) => answer_member(rt, call),
+        None => answer_call(rt, words),
     }
 }
 

@@ -1,0 +1,18 @@
+use Rattle.std.proofs.Common.{◌≡◌, ℕ, List, ◌∷◌, inl, inr, refl, subst, sym, arith, string_bytes}
+use Rattle.std.proofs.lemmas.Grind.{common_steps}
+use Rattle.toml.specs.View.{members_view}
+use Rattle.toml.proofs.Views.{Entry}
+use Rattle.cli_toml.specs.Keys.{IsKey}
+use Rattle.cli_toml.specs.Refusing.{AreKnown, HasName}
+use Rattle.cli_toml.proofs.Telling.{unknown_in}
+use Rattle.cli_toml.proofs.reading.all_known.Goals as goal
+
+pub loop-name-preserved : goal.loop-name-preserved
+loop-name-preserved c =
+    let e : Entry = (c.in-Some.name.now, c.in-Some.field-1.now) in
+    let iter : c.loop-name.name-iterator ≡ e ∷ c.next.new.self = grind (arith, common_steps) in
+    let is_key : IsKey (string_bytes e.0) = grind (arith, common_steps) in
+    record {
+      known = λ rest. c.loop-name.invariant.known (subst (λ (es : List Entry). AreKnown (members_view es)) (sym iter) (is_key, rest));
+      named = λ name has. c.loop-name.invariant.named name (subst (λ (es : List Entry). HasName name (members_view es)) (sym iter) (inr has));
+    }

@@ -1,0 +1,111 @@
+//! A member by a file of settings.
+
+use crate::commands;
+use crate::fakes::{FakeReader, FakeWriter};
+use crate::streams::{Streams, say_all};
+use crate::texts::say_text;
+use cli_member::{MemberCall, drive_member, parse_member, read_file, tell_member, tell_settings};
+use cli_toml::MemberFile;
+use journal_single::MemoryDisk;
+use test_words::{Say, Trouble, Words};
+
+/// The file of settings that was read last, if it was one.
+#[derive(Drop)]
+pub(crate) struct Filed {
+    file: Option<MemberFile>,
+}
+
+impl Filed {
+    /// No file.
+    pub(crate) fn none() -> Self {
+        Filed { file: None }
+    }
+
+    /// `file`.
+    pub(crate) fn read(
+        &mut self,
+        streams: &mut Streams,
+        words: &mut Words<'_>,
+        say: &mut Say,
+    ) -> Result<(), Trouble> {
+        words.end()?;
+        let mut faults = FakeWriter::new(say.alloc, streams.faults());
+        let status = match read_file(say.alloc, &mut streams.read(), &mut faults) {
+            Ok(file) => {
+                self.file = Some(file);
+                0
+            }
+            Err(status) => status,
+        };
+        streams.empty(say.alloc);
+        say.number(u64::from(status))?;
+        say.gap()?;
+        say_text(faults.taken(), say)
+    }
+
+    /// The program of the member of this file over a disk, which it hands back.
+    pub(crate) fn drive(
+        &self,
+        streams: &Streams,
+        disk: MemoryDisk,
+        say: &mut Say,
+    ) -> Result<MemoryDisk, Trouble> {
+        let Some(file) = &self.file else {
+            return Err(Trouble::Condition);
+        };
+        let mut input = streams.read();
+        let mut output = FakeWriter::new(say.alloc, streams.output());
+        let mut faults = FakeWriter::new(say.alloc, streams.faults());
+        let (ended, disk) = drive_member(say.alloc, &file.settings, disk, &mut input, &mut output);
+        let status = tell_member(say.alloc, ended, &mut faults);
+        say_run(status, &input, &output, &faults, say)?;
+        Ok(disk)
+    }
+}
+
+/// `STATUS LEFT OUTPUT FAULTS`, the output in digits.
+pub(crate) fn say_run(
+    status: u8,
+    input: &FakeReader<'_>,
+    output: &FakeWriter,
+    faults: &FakeWriter,
+    say: &mut Say,
+) -> Result<(), Trouble> {
+    say.number(u64::from(status))?;
+    say.gap()?;
+    say.number(input.left() as u64)?;
+    say.gap()?;
+    say.bytes(output.taken())?;
+    say.gap()?;
+    say_text(faults.taken(), say)
+}
+
+/// `settings`.
+pub(crate) fn settings(
+    streams: &Streams,
+    words: &mut Words<'_>,
+    say: &mut Say,
+) -> Result<(), Trouble> {
+    words.end()?;
+    let mut input = streams.read();
+    let mut output = FakeWriter::new(say.alloc, streams.output());
+    let mut faults = FakeWriter::new(say.alloc, streams.faults());
+    let status = tell_settings(say.alloc, &mut input, &mut output, &mut faults);
+    say_all(status, &input, &output, &faults, say)
+}
+
+/// `ask WORD ..`.
+pub(crate) fn ask(words: &mut Words<'_>, say: &mut Say) -> Result<(), Trouble> {
+    let spoken = commands::spoken(words, say.alloc)?;
+    match parse_member(&spoken) {
+        Some(MemberCall::Run { path }) => {
+            say.text("member ")?;
+            say_text(path.as_bytes(), say)
+        }
+        Some(MemberCall::Tell { path }) => {
+            say.text("settings ")?;
+            say_text(path.as_bytes(), say)
+        }
+        None => say.none(),
+    }
+}
