@@ -64,7 +64,7 @@ impl Filed {
 }
 
 /// `STATUS LEFT OUTPUT FAULTS`, the output in digits.
-pub(crate) fn say_run(
+fn say_run(
     status: u8,
     input: &FakeReader<'_>,
     output: &FakeWriter,

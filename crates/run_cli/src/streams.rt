@@ -4,7 +4,6 @@ ghost use Rattle.std.specs.Prelude.{◌<◌};
 
 use crate::commands;
 use crate::fakes::{FakeReader, FakeWriter, Manner, kind_of};
-use crate::member::say_run;
 use crate::texts::say_text;
 use cli_audit::{audit_over, report, run_words, words_unread, write_audit};
 use cli_tool::{misused, parse_call, run_request};
@@ -159,7 +158,13 @@ impl Streams {
         let mut faults = FakeWriter::new(say.alloc, self.faults);
         let (ended, disk) = drive(say.alloc, disk, index, count, &mut input, &mut output);
         let status = tell(say.alloc, ended, &mut faults);
-        say_run(status, &input, &output, &faults, say)?;
+        say.number(u64::from(status))?;
+        say.gap()?;
+        say.number(input.left() as u64)?;
+        say.gap()?;
+        say.bytes(output.taken())?;
+        say.gap()?;
+        say_text(faults.taken(), say)?;
         Ok(disk)
     }
 
