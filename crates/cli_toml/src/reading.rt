@@ -83,7 +83,7 @@ fn all_known(alloc: Global, table: &Table) -> Result<(), FileFault>
     ensures known { OnOk result (AreKnown (table_view table.now)) }
     ensures fault { IfErr result (IsTableFault (table_view table.now)) }
 {
-    for (name, _) in table.iter() {
+    for (name, _value) in table.iter() {
         known(alloc, name)?;
     }
     Ok(())

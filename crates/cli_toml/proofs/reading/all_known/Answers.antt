@@ -9,7 +9,7 @@ use Rattle.cli_toml.proofs.reading.all_known.Goals as goal
 
 pub loop-name-preserved : goal.loop-name-preserved
 loop-name-preserved c =
-    let e : Entry = (c.in-Some.name.now, c.in-Some.field-1.now) in
+    let e : Entry = (c.in-Some.name.now, c.in-Some._value.now) in
     let iter : c.loop-name.name-iterator ≡ e ∷ c.next.new.self = grind (arith, common_steps) in
     let is_key : IsKey (string_bytes e.0) = grind (arith, common_steps) in
     record {
