@@ -5,6 +5,7 @@ ghost use Rattle.std.specs.Prelude.{◌<◌};
 
 use simplex_cli::{Command, Trouble, node_over, parse_words, report, run_words, words_unread};
 use simplex_journal::FileDisk;
+use simplex_node::{CountedReader, CountedWriter};
 use std::fs::File;
 use std::process::ExitCode;
 use std::{env, io};
@@ -46,8 +47,8 @@ fn run_node(rt: &HostRuntime, path: &str, index: u16, count: u16) -> u8
         Ok(disk) => disk,
         Err(error) => return unopened(rt, &error),
     };
-    let mut input = rt.stdin();
-    let mut output = rt.stdout();
+    let mut input = CountedReader::new(rt.stdin());
+    let mut output = CountedWriter::new(rt.stdout());
     let mut faults = rt.stderr();
     node_over(
         rt.alloc(),
