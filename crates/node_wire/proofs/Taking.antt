@@ -8,6 +8,7 @@ use Rattle.types_codec.specs.declared.codec.CodecError.{CodecError}
 use Rattle.types_codec.specs.declared.codec.CodecError.TheVariants.{End}
 use Rattle.simplex_member.specs.declared.fault.IoFault.{IoFault}
 use Rattle.simplex_member.specs.declared.fault.IoFault.TheVariants as fault
+use Rattle.simplex_member.specs.declared.event.Event.{Event}
 use Rattle.node_wire.specs.Event.{EventValue, IsEvent, event_at, event_spelling, event_value}
 use Rattle.node_wire.specs.Stream.{EndsTooFar, HasNone, InputState, IsBarred, IsFault, IsTaken, left_of}
 
@@ -22,16 +23,16 @@ taken_over {D} {F} {p} e old mid new a r place taken kept t = record {
 }
 
 -- so it is of one that ends too far
-far_rest : {D : Type 0} {p : D → List ℕ} (e : EventValue D) (old mid : InputState) (a r rest : Option (List ℕ)) → Keeps (left_of old a) (left_of mid r)
+far_rest : {D : Type 0} (p : D → List ℕ) (e : EventValue D) (old mid : InputState) (a r rest : Option (List ℕ)) → Keeps (left_of old a) (left_of mid r)
     → Consumes (Some mid.held) rest (event_spelling p e) → (more : Option (List ℕ)) × Consumes (left_of old a) more (event_spelling p e)
-far_rest e old mid a r None kept there = absurd there
-far_rest {D} {p} e old mid a r (Some held) kept there =
+far_rest p e old mid a r None kept there = absurd there
+far_rest p e old mid a r (Some held) kept there =
     (prepend_known held r, (prepend_known-read (left_of old a) r mid.held held (event_spelling p e) ⊥ kept there (λ x. absurd x)).0)
 
 pub far_over : {D : Type 0} {F : D → Type 0} {p : D → List ℕ} (old mid : InputState) (a r : Option (List ℕ)) → mid.place ≡ old.place → Keeps (left_of old a) (left_of mid r)
     → EndsTooFar F p mid.place (Some mid.held) → EndsTooFar F p old.place (left_of old a)
 far_over {D} {F} {p} old mid a r place kept far =
-    let left = far_rest {D} {p} (event_value far.event) old mid a r far.rest kept far.there in
+    let left = far_rest p (event_value far.event) old mid a r far.rest kept far.there in
     record {
       event = far.event;
       fits = far.fits;

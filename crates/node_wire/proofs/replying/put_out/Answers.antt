@@ -7,14 +7,13 @@ pub loop-rest-preserved : goal.loop-rest-preserved
 loop-rest-preserved g c =
     let ((front, split, appended), same) = c.loop-rest.invariant in
     let count = c.in_ok-count.count in
-    let rest = c.loop-rest.rest.now in
-    (
+    let rest = c.loop-rest.rest.now in (
       (
         front ++ take count rest,
         split
-        ∙ ap (λ t. front ++ t) (sym (take-append-drop count rest))
-        ∙ sym (append_assoc front (take count rest) (drop count rest))
-        ∙ ap (λ t. (front ++ take count rest) ++ t) (sym (take_rest rest count)),
+            ∙ ap (λ t. front ++ t) (sym (take-append-drop count rest))
+            ∙ sym (append_assoc front (take count rest) (drop count rest))
+            ∙ ap (λ t. (front ++ take count rest) ++ t) (sym (take_rest rest count)),
         Appends-trans _ _ _ _ _ appended c.in_ok-count.ensures.bytes,
       ),
       c.in_ok-count.ensures.cause ∙ same,
