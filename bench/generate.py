@@ -12,6 +12,10 @@ The shapes:
   forged    the votes of `views`, of which none verifies
   twice     the members' notarizes of two proposals in each view
   falling   all members' notarizes in one round, each for a lesser proposal than the one before
+  descending
+            one signer's notarizes of two proposals in each view, the last view first
+  crossed   of each round a nullification and a finalization by the whole committee, which has half as many members as there
+            are votes, and 65,535 at most
   stored    the two votes of the repository's stored run; their output goes to OUT_stdout
 
 Beside the shape's votes each has evidence, or certificates that contradict each other.
@@ -55,8 +59,17 @@ MEMBERS = {
     "forged": 100,
     "twice": 100,
     "falling": 100,
+    "descending": 100,
+    "crossed": 65535,
     "stored": 4,
 }
+
+
+def members_of(shape, votes):
+    """The same for so many votes: that of `crossed` grows with them, so that each size has whole certificates."""
+    return max(4, min(votes // 2, MEMBERS[shape])) if shape == "crossed" else MEMBERS[shape]
+
+
 # The shapes that are measured.
 MEASURED = [shape for shape in MEMBERS if shape != "stored"]
 
@@ -201,6 +214,22 @@ def falling(source, signers):
             yield loose("notarize", spell_vote("notarize", index, proposal))
 
 
+def descending(source, signers):
+    """One signer's votes for two proposals in each view, from a view of three bytes down."""
+    index = len(signers) // 2
+    for view in range(2**21 - 1, 0, -1):
+        for proposal in (source.proposal(view), source.proposal(view)):
+            yield loose("notarize", spell_vote("notarize", index, proposal))
+
+
+def crossed(source, signers):
+    """All give each view up, and finalize it."""
+    for view in itertools.count(1):
+        for kind, subject in (("nullification", spell_round(EPOCH, view)), ("finalization", source.proposal(view))):
+            listed = b"".join(attest(VOTE_OF[kind], index, subject) for index in signers)
+            yield len(signers), TAGS[kind] + subject + varint(len(signers)) + listed
+
+
 def given_up(source, round_, proposal, signers):
     """Each signer's vote to give the round up, and evidence that some finalized the proposal."""
     for index in signers:
@@ -244,7 +273,7 @@ def certificates(source, members):
             yield source.certificate("nullification", members, round_)
 
 
-HOSTILE = {"forged": forged, "twice": twice, "falling": falling}
+HOSTILE = {"forged": forged, "twice": twice, "falling": falling, "descending": descending, "crossed": crossed}
 
 
 def taken(reports, votes):
@@ -258,7 +287,7 @@ def taken(reports, votes):
 
 def generate(shape, votes, seed):
     source = Source(seed)
-    members = MEMBERS[shape]
+    members = members_of(shape, votes)
     if shape == "round":
         reports = one_round(source, range(members))
     elif shape == "signer":

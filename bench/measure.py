@@ -15,7 +15,7 @@ import time
 from pathlib import Path
 from typing import NamedTuple
 
-from generate import MEASURED, MEMBERS
+from generate import MEASURED, members_of
 
 SIZES = [10**4, 10**5, 10**6]
 QUICK_SIZES = SIZES[:2]
@@ -157,7 +157,7 @@ def print_instructions(programs, path):
     print("|---|---:|---:|---:|---:|---:|")
     for shape in MEASURED:
         generate(shape, COUNTED_VOTES, path)
-        answers, counts = zip(*(program.instructions(MEMBERS[shape], path) for program in programs))
+        answers, counts = zip(*(program.instructions(members_of(shape, COUNTED_VOTES), path) for program in programs))
         compare(answers)
         baseline, lazy, simplex = counts
         cells = " | ".join(f"{count:.1f}" for count in counts)
@@ -178,7 +178,7 @@ def main():
             print(f"measuring {shape}, {votes} votes", file=sys.stderr)
             generate(shape, votes, path)
             try:
-                costs[shape, votes] = measure(programs, MEMBERS[shape], path, given.runs)
+                costs[shape, votes] = measure(programs, members_of(shape, votes), path, given.runs)
             except Disagreement as error:
                 sys.exit(f"disagreement on {shape}, {votes} votes: {error}")
     print(f"Least wall time of {given.runs} runs:\n")

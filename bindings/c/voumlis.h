@@ -17,7 +17,8 @@
  *
  * WHAT IS KEPT. A node, from its opening to its closing, in the memory of the heap: else nothing. No function holds a pointer
  * that it was passed after it returns, and none has state beside a node: any number of threads may call at once, each with
- * nodes of its own. Other memory that a call takes it gives back before it returns.
+ * nodes of its own. Other memory that a call takes it gives back before it returns. A thread that calls has 192 KiB of stack
+ * at least: with less the process ends by a signal.
  *
  * WHAT IS TRUSTED. That these declarations fit the library's (nothing compares them), the tests of this file, and what a
  * caller owes. */
