@@ -50,8 +50,10 @@ enum Request {
     Text,
     /// The same, with lines as JSON.
     Json,
-    /// A line on the program.
-    Line(&'static str),
+    /// What the program does, in a line.
+    Help,
+    /// Its version, in a line.
+    Version,
 }
 
 /// What the words behind the program's name ask for: the first that has a meaning.
@@ -60,8 +62,8 @@ fn asked(rt: &HostRuntime) -> io::Result<Request> {
     for word in &words {
         match word.as_str() {
             "--json" => return Ok(Request::Json),
-            "--help" => return Ok(Request::Line(HELP)),
-            "--version" => return Ok(Request::Line(VERSION)),
+            "--help" => return Ok(Request::Help),
+            "--version" => return Ok(Request::Version),
             _ => {}
         }
     }
@@ -85,7 +87,8 @@ fn tell(rt: &HostRuntime, line: &str) -> u8 {
 
 fn main(rt: HostRuntime) -> ExitCode {
     let status = match asked(&rt) {
-        Ok(Request::Line(line)) => tell(&rt, line),
+        Ok(Request::Help) => tell(&rt, HELP),
+        Ok(Request::Version) => tell(&rt, VERSION),
         Ok(Request::Json) => run(&rt, true),
         _ => run(&rt, false),
     };
