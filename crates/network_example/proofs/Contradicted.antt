@@ -9,6 +9,7 @@ use Rattle.types_quorum.specs.Counting.{Contains-cases, Contains-nil}
 use Rattle.types_core.specs.declared.scheme.Scheme.{Ghosts}
 use Rattle.types_core.specs.Subject.{Statement, notarize, nullify, finalize}
 use Rattle.messages_certificates.specs.declared.artifact.Artifact.TheVariants as artifact
+use Rattle.messages_certificates.specs.Artifact.{certificate_artifact}
 use Rattle.messages_certificates.specs.declared.certificate.Certificate.{Certificate}
 use Rattle.messages_certificates.specs.declared.certificate.Certificate.TheVariants as certificate
 use Rattle.simplex_messages.specs.declared.activity.Activity.{Activity}
@@ -39,7 +40,7 @@ use Rattle.simplex_member.specs.First.{IsFirst}
 use Rattle.simplex_member.specs.Layers.{current_of, floor_of, latest, repair_of, voter_of, votes_of, votes_setup}
 use Rattle.simplex_member.specs.Lives.{Holds, IsHonestPacket, Life, Lived, LiveByNodes, Lives, Members, events_of}
 use Rattle.simplex_member.specs.Member.{Goes, IsLooked, IsPacketPoint, IsPointOf, NoneDue}
-use Rattle.simplex_member.specs.Packet.{Formats, Packet, of_certificate}
+use Rattle.simplex_member.specs.Packet.{Formats, IsRecordable, Packet, of_certificate}
 use Rattle.simplex_member.specs.Point.{AreActs, Point, Opened, Began, Came, Told, Leads, History, is_act}
 use Rattle.simplex_member.specs.Refusals.{packet_tests, sender_tests, tests}
 use Rattle.simplex_member.specs.Setup.{IsInTime, IsOfOneMember, Setup, owner_of}
@@ -319,30 +320,30 @@ module _ {S D P G C : Type 0} (g : Ghosts S D P G C) (f : Formats S D P G C) (x 
 
   goes-cut : Goes g f before [] (Opened 0 ∷ Began ∷ []) (Began ∷ Opened 0 ∷ [])
   goes-cut = (
-    record { order = refl; due = in-time 0 (omega arith); fits = tt },
-    (record { order = (some-points (Opened 0) [], refl); due = tt; fits = tt }, refl),
+    record { order = refl; due = in-time 0 (omega arith); fits = tt; readable = tt },
+    (record { order = (some-points (Opened 0) [], refl); due = tt; fits = tt; readable = tt }, refl),
   )
 
   goes-first : Goes g f s [] (Opened 0 ∷ Began ∷ Leads 1 3 ∷ []) h1
   goes-first = (
-    record { order = refl; due = in-time 0 (omega arith); fits = tt },
+    record { order = refl; due = in-time 0 (omega arith); fits = tt; readable = tt },
     (
-      record { order = (some-points (Opened 0) [], refl); due = tt; fits = tt },
-      (record { order = refl; due = (refl, refl, refl); fits = tt }, refl),
+      record { order = (some-points (Opened 0) [], refl); due = tt; fits = tt; readable = tt },
+      (record { order = refl; due = (refl, refl, refl); fits = tt; readable = tt }, refl),
     ),
   )
 
   goes-second : Goes g f s h1 (Told 1200 ∷ []) h2
-  goes-second = (record { order = refl; due = (le-up-to 1200, in-time 1200 (omega arith)); fits = tt }, refl)
+  goes-second = (record { order = refl; due = (le-up-to 1200, in-time 1200 (omega arith)); fits = tt; readable = tt }, refl)
 
-  goes-third : Goes g f s h2 (Came z ∷ Leads 3 3 ∷ []) h3
-  goes-third = (
-    record { order = refl; due = (from-one, le-up-to 2); fits = may-finalize },
-    (record { order = refl; due = (refl, refl, refl); fits = tt }, refl),
+  goes-third : IsRecordable f (certificate_artifact z) → Goes g f s h2 (Came z ∷ Leads 3 3 ∷ []) h3
+  goes-third kept = (
+    record { order = refl; due = (from-one, le-up-to 2); fits = may-finalize; readable = kept },
+    (record { order = refl; due = (refl, refl, refl); fits = tt; readable = tt }, refl),
   )
 
-  goes-fourth : Goes g f s h3 (Came n ∷ []) h4
-  goes-fourth = (record { order = refl; due = (from-one, le-up-to 2); fits = may-nullify }, refl)
+  goes-fourth : IsRecordable f (certificate_artifact n) → Goes g f s h3 (Came n ∷ []) h4
+  goes-fourth kept = (record { order = refl; due = (from-one, le-up-to 2); fits = may-nullify; readable = kept }, refl)
 
   -- ---- what is taken
 
@@ -436,11 +437,11 @@ module _ {S D P G C : Type 0} (g : Ghosts S D P G C) (f : Formats S D P G C) (x 
         (
           h3,
           record { passes = (passes-packet h2 z rest-third x.final_packet final).0; first = Came z; acts = Leads 3 3 ∷ []; split = refl; of_it = (passes-packet h2 z rest-third x.final_packet final).1; own = one-act (Leads 3 3) refl },
-          record { goes = goes-third; none_due = none-third },
+          record { goes = goes-third final.kept; none_due = none-third },
           (
             h4,
             record { passes = (passes-packet h3 n rest-fourth x.null_packet null).0; first = Came n; acts = []; split = refl; of_it = (passes-packet h3 n rest-fourth x.null_packet null).1; own = no-acts },
-            record { goes = goes-fourth; none_due = none-fourth },
+            record { goes = goes-fourth null.kept; none_due = none-fourth },
             refl,
           ),
         ),

@@ -23,7 +23,7 @@ use Rattle.simplex_member.specs.Deeds.{Deed, Blocks}
 use Rattle.simplex_member.specs.First.{IsFirst}
 use Rattle.simplex_member.specs.Lives.{Lived, Lives}
 use Rattle.simplex_member.specs.Member.{Goes, IsPacketPoint, IsPointOf}
-use Rattle.simplex_member.specs.Packet.{Formats, Packet, of_certificate}
+use Rattle.simplex_member.specs.Packet.{Formats, IsRecordable, Packet, of_certificate}
 use Rattle.simplex_member.specs.Point.{Point, AreActs, Opened, Found, Began, Came, Told, Leads, Looks, Votes, Repeats, History, is_act}
 use Rattle.simplex_member.specs.Refusals.{packet_tests, refused_deeds, sender_tests, tests}
 use Rattle.simplex_member.specs.Setup.{Setup, IsInTime, IsOfOneMember, owner_of}
@@ -55,7 +55,8 @@ module _ {S D P G C : Type 0} where
   two-acts : (p q : Point S D P G C) → is_act p ≡ true → is_act q ≡ true → AreActs (p ∷ q ∷ [])
   two-acts p q is also = All-cons (λ (r : Point S D P G C). is_act r ≡ true) p (q ∷ []) is (one-act q also)
 
-module _ {S D P G C : Type 0} (g : Ghosts S D P G C) (f : Formats S D P G C) (own : ℕ → S) (genesis : D) (signed : ℕ → G) (i : ℕ) (small : i < 3) (size : g.size (own i) ≡ 4) (attests : g.attests (own i) i (nullify first) (signed i)) (packed : C) (certifies : g.certifies (own i) (nullify first) packed) where
+module _ {S D P G C : Type 0} (g : Ghosts S D P G C) (f : Formats S D P G C) (own : ℕ → S) (genesis : D) (signed : ℕ → G) (i : ℕ) (small : i < 3) (size : g.size (own i) ≡ 4) (attests : g.attests (own i) i (nullify first) (signed i)) (packed : C) (certifies : g.certifies (own i) (nullify first) packed)
+    (kept : IsRecordable f (artifact.Nullify (nullify_of signed i))) (kept_too : IsRecordable f (artifact.Nullification (nullification_of packed))) where
   abbrev s : Setup S D C
   s = set_up own genesis i
 
@@ -118,16 +119,16 @@ module _ {S D P G C : Type 0} (g : Ghosts S D P G C) (f : Formats S D P G C) (ow
 
   goes-first : Goes g f s [] (Opened 0 ∷ Began ∷ Leads 1 3 ∷ []) h1
   goes-first = (
-    record { order = refl; due = in-time 0 (omega arith); fits = tt },
+    record { order = refl; due = in-time 0 (omega arith); fits = tt; readable = tt },
     (
-      record { order = (some-points (Opened 0) [], refl); due = tt; fits = tt },
-      (record { order = refl; due = (refl, refl, refl); fits = tt }, refl),
+      record { order = (some-points (Opened 0) [], refl); due = tt; fits = tt; readable = tt },
+      (record { order = refl; due = (refl, refl, refl); fits = tt; readable = tt }, refl),
     ),
   )
 
   goes-cut : Goes g f s h1 (Told 1000 ∷ Votes (vote.Nullify (nullify_of signed i)) ∷ []) h2
   goes-cut = (
-    record { order = refl; due = (le-up-to 1000, in-time 1000 (omega arith)); fits = tt },
+    record { order = refl; due = (le-up-to 1000, in-time 1000 (omega arith)); fits = tt; readable = tt },
     (
       record {
         order = refl;
@@ -143,6 +144,7 @@ module _ {S D P G C : Type 0} (g : Ghosts S D P G C) (f : Formats S D P G C) (ow
           refl,
         );
         fits = may-stand;
+        readable = kept;
       },
       refl,
     ),
@@ -150,14 +152,14 @@ module _ {S D P G C : Type 0} (g : Ghosts S D P G C) (f : Formats S D P G C) (ow
 
   goes-again : Goes g f s [] (Opened 2000 ∷ Found (artifact.Nullify (nullify_of signed i)) false ∷ Began ∷ Leads 1 3 ∷ Looks ∷ []) h3
   goes-again = (
-    record { order = refl; due = in-time 2000 (omega arith); fits = tt },
+    record { order = refl; due = in-time 2000 (omega arith); fits = tt; readable = tt },
     (
-      record { order = (some-points (Opened 2000) [], refl); due = tt; fits = may-stand },
+      record { order = (some-points (Opened 2000) [], refl); due = tt; fits = may-stand; readable = tt },
       (
-        record { order = (some-points (Found (artifact.Nullify (nullify_of signed i)) false) (Opened 2000 ∷ []), refl); due = tt; fits = tt },
+        record { order = (some-points (Found (artifact.Nullify (nullify_of signed i)) false) (Opened 2000 ∷ []), refl); due = tt; fits = tt; readable = tt },
         (
-          record { order = refl; due = (refl, refl, refl); fits = tt },
-          (record { order = refl; due = tt; fits = tt }, refl),
+          record { order = refl; due = (refl, refl, refl); fits = tt; readable = tt },
+          (record { order = refl; due = tt; fits = tt; readable = tt }, refl),
         ),
       ),
     ),
@@ -165,7 +167,7 @@ module _ {S D P G C : Type 0} (g : Ghosts S D P G C) (f : Formats S D P G C) (ow
 
   goes-repeated : Goes g f s h3 (Told 3000 ∷ Repeats (nullify_of signed i) None ∷ Looks ∷ []) h4
   goes-repeated = (
-    record { order = refl; due = (later-than, in-time 3000 (omega arith)); fits = tt },
+    record { order = refl; due = (later-than, in-time 3000 (omega arith)); fits = tt; readable = tt },
     (
       record {
         order = refl;
@@ -185,15 +187,16 @@ module _ {S D P G C : Type 0} (g : Ghosts S D P G C) (f : Formats S D P G C) (ow
           best_is = refl;
         };
         fits = tt;
+        readable = tt;
       },
-      (record { order = refl; due = tt; fits = tt }, refl),
+      (record { order = refl; due = tt; fits = tt; readable = tt }, refl),
     ),
   )
 
   goes-taken : Goes g f s h4 (Came (certificate.Nullification given) ∷ Leads 2 3 ∷ []) h5
   goes-taken = (
-    record { order = refl; due = (at-last 1, le-up-to 1); fits = may-follow },
-    (record { order = refl; due = (refl, refl, refl); fits = tt }, refl),
+    record { order = refl; due = (at-last 1, le-up-to 1); fits = may-follow; readable = kept_too },
+    (record { order = refl; due = (refl, refl, refl); fits = tt; readable = tt }, refl),
   )
 
   passes-cut : IsFirst (tests g f s h1 (event.Moment 1000)) None

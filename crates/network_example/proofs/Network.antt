@@ -124,15 +124,6 @@ module _ {S D P G C : Type 0} (g : Ghosts S D P G C) (f : Formats S D P G C) (sc
   handed-own (event.Packet sent_by by_channel given_bytes) from is j by bytes correct carries = (Sends None (of_certificate certificate_of), hands-on j, (sym carries.1 ∙ is.1, sym carries.2 ∙ is.2))
   handed-own e from is j by bytes correct carries = absurd is
 
-  readable : (i : ℕ) → i < 3 → (y : Artifact S D P G C) → Contains (w.recorded i) y → IfSome (packet_of y) (IsReadable f)
-  readable i small y here = ⊎_elim
-      (λ is. subst (λ (z : Artifact S D P G C). IfSome (packet_of z) (IsReadable f)) is (packets.readable i small))
-      (λ later. ⊎_elim
-      (λ is. subst (λ (z : Artifact S D P G C). IfSome (packet_of z) (IsReadable f)) is (f.packet (of_certificate certificate_of), packets.read))
-      (λ none. let l : none.0 < 0 = none.1 in absurd (omega (arith, l)))
-      (Contains-cases (artifact.Nullification (nullification_of x.packed)) [] y later))
-      (Contains-cases (artifact.Nullify (nullify_of x.signed i)) (artifact.Nullification (nullification_of x.packed) ∷ []) y here)
-
   from-first : (i : ℕ) → 1 ≤ i → sender_to i ≡ 0
   from-first i some = go (i == 0) refl
     where
@@ -146,7 +137,7 @@ module _ {S D P G C : Type 0} (g : Ghosts S D P G C) (f : Formats S D P G C) (sc
       alike = λ i correct. keys.alike i (below i correct);
       owner = λ i correct. refl;
       me = λ i correct. refl;
-      lived = λ i correct. both-lived g f x.own x.genesis x.signed i (below i correct) (keys.alike i (below i correct)).size_is (keys.attests i (below i correct)) x.packed (keys.certifies i (below i correct))
+      lived = λ i correct. both-lived g f x.own x.genesis x.signed i (below i correct) (keys.alike i (below i correct)).size_is (keys.attests i (below i correct)) x.packed (keys.certifies i (below i correct)) (packets.recordable i (below i correct)) packets.certificate_recordable
           (x.handed i) (packets.handed i) packets.read x.junk packets.junk;
       honest = λ i sender correct y came.
           each-fine HoldsHonest (junk-honest x.junk packets.junk) moment-honest (λ k. handed-honest (x.handed k) (sender_to k) (packets.handed k)) i came.1.0 came.1.1 came.0 came.1.2 sender y came.2;
@@ -156,13 +147,12 @@ module _ {S D P G C : Type 0} (g : Ghosts S D P G C) (f : Formats S D P G C) (sc
     faithful = record {
       handed = λ i j e by bytes ci cj handed carries.
           each-fine IsOwn (junk-own x.junk packets.junk) moment-own (λ k. handed-own (x.handed k) (sender_to k) (packets.handed k)) i handed.0 handed.1 e handed.2 j by bytes cj carries;
-      readable = λ i correct y here. readable i (below i correct) y here;
     };
     attest_alike = λ i j ci cj signer s a attests. keys.one_another i j (below i ci) (below j cj) signer s a attests;
     liar = λ i correct. (
       first_life x i,
       (0, first-of-two, refl),
-      blocked g f x.own x.genesis x.signed i (below i correct) (keys.alike i (below i correct)).size_is (keys.attests i (below i correct)) x.packed (keys.certifies i (below i correct))
+      blocked g f x.own x.genesis x.signed i (below i correct) (keys.alike i (below i correct)).size_is (keys.attests i (below i correct)) x.packed (keys.certifies i (below i correct)) (packets.recordable i (below i correct)) packets.certificate_recordable
           (opened_first g f x.own x.genesis i x.signed (keys.alike i (below i correct)).size_is) x.junk packets.junk,
     );
     repeated = λ i correct. (second_life x i, (1, last-of-two, refl), (1, second-of-four, refl));

@@ -12,6 +12,7 @@ use Rattle.simplex_types.specs.AttestationList.{list_fits, list_within}
 use Rattle.simplex_types.specs.Plain.{Attests, Committee, hashed}
 use Rattle.types_core.specs.Quorum.{IsQuorum, IsQuorum-from_ascending}
 use Rattle.types_core.specs.Subject.{nullify}
+use Rattle.messages_certificates.specs.declared.artifact.Artifact.{Artifact}
 use Rattle.messages_certificates.specs.declared.artifact.Artifact.TheVariants as artifact
 use Rattle.messages_certificates.specs.Artifact.{artifact_fits, artifact_within}
 use Rattle.messages_certificates.specs.Nullification.{nullification_fits}
@@ -79,12 +80,14 @@ pub plain-network : {D P : Type 0} (g : Ghosts Committee D P (List ℕ) (List (A
     → NetworksAreThere g f
     → ((base : List ℕ) (genesis : D) (junk : Event D) (handed : ℕ → Event D) → AreKeys g f (member_of_four base 0) (plain_parts payload base genesis junk handed))
     → f.packet_in channel.Votes [] ≡ None → AreReadBack f → CanBeSent (Readable (artifact_fits Q IsSignature (list_fits IsSignature)) (artifact_within (list_within 4))) f
+    → ((x : Artifact Committee D P (List ℕ) (List (Attestation (List ℕ)))) → Readable (artifact_fits Q IsSignature (list_fits IsSignature)) (artifact_within (list_within 4)) x → IsRecordable f x)
     → PlainNetworksAreThere g f payload
-plain-network g f payload Q law keys unread back sent base genesis junk handed none these =
+plain-network g f payload Q law keys unread back sent kept base genesis junk handed none these =
     let x = plain_parts payload base genesis junk handed in
     law (member_of_four base 0) x (keys base genesis junk handed) (record {
       junk = junk-unread g f unread junk none;
       handed = these;
       read = back.again (of_certificate (given_up x)) (sent (artifact.Nullification (nullification_of x.packed)) (certificate-fits payload base _ _ Q));
-      readable = λ i small. sent (artifact.Nullify (nullify_of x.signed i)) (nullify-fits payload base _ _ Q i small);
+      recordable = λ i small. kept (artifact.Nullify (nullify_of x.signed i)) (nullify-fits payload base _ _ Q i small);
+      certificate_recordable = kept (artifact.Nullification (nullification_of x.packed)) (certificate-fits payload base _ _ Q);
     })

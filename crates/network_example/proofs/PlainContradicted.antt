@@ -12,6 +12,7 @@ use Rattle.types_core.specs.Quorum.{IsQuorum, IsQuorum-from_ascending}
 use Rattle.types_core.specs.Subject.{Statement, nullify}
 use Rattle.simplex_types.specs.AttestationList.{list_fits, list_within}
 use Rattle.simplex_types.specs.Plain.{Attests, Committee, hashed}
+use Rattle.messages_certificates.specs.declared.artifact.Artifact.{Artifact}
 use Rattle.messages_certificates.specs.declared.artifact.Artifact.TheVariants as artifact
 use Rattle.messages_certificates.specs.declared.certificate.Certificate.TheVariants as certificate
 use Rattle.messages_certificates.specs.Artifact.{artifact_fits, artifact_within}
@@ -19,7 +20,7 @@ use Rattle.messages_certificates.specs.Nullification.{nullification_fits}
 use Rattle.messages_certificates.specs.ProposalCertificate.{certificate_fits}
 use Rattle.simplex_member.specs.declared.event.Event.{Event}
 use Rattle.simplex_member.specs.Laws.{AreReadBack, CanBeSent}
-use Rattle.simplex_member.specs.Packet.{Formats, of_certificate}
+use Rattle.simplex_member.specs.Packet.{Formats, IsRecordable, of_certificate}
 use Rattle.network_example.specs.Contradicted.{AreForged, ContradictionsAreNamed, Forged, finalization, nullification, second}
 use Rattle.network_example.specs.Plain.{member_of_four}
 use Rattle.network_example.specs.PlainContradicted.{PlainContradictionsAreNamed, by_three, plain_forged, stated_by}
@@ -72,15 +73,18 @@ module _ {D P : Type 0} (g : Ghosts Committee D P (List ℕ) (List (Attestation 
   pub plain-named : (cmp : D → D → Ordering) → ContradictionsAreNamed g f cmp
       → ((base : List ℕ) (genesis agreed : D) (final null : Event D) → AreForged g f (member_of_four base 0) (plain_forged payload base genesis agreed final null))
       → AreReadBack f → CanBeSent (Readable (artifact_fits Q IsSignature (list_fits IsSignature)) (artifact_within (list_within 4))) f
+      → ((y : Artifact Committee D P (List ℕ) (List (Attestation (List ℕ)))) → Readable (artifact_fits Q IsSignature (list_fits IsSignature)) (artifact_within (list_within 4)) y → IsRecordable f y)
       → PlainContradictionsAreNamed g f cmp payload Q
-  plain-named cmp law keys back sent base genesis agreed final null payload_fits final_is null_is =
+  plain-named cmp law keys back sent kept base genesis agreed final null payload_fits final_is null_is =
       let x = plain_forged payload base genesis agreed final null in
       law (member_of_four base 0) x (keys base genesis agreed final null)
       (record {
         bytes = final_is;
         read = back.again (of_certificate (certificate.Finalization (finalization x))) (sent (artifact.Finalization (finalization x)) (finalized-fits x payload_fits (packed-fits payload base _) (packed-within payload base _)));
+        kept = kept (artifact.Finalization (finalization x)) (finalized-fits x payload_fits (packed-fits payload base _) (packed-within payload base _));
       })
       (record {
         bytes = null_is;
         read = back.again (of_certificate (certificate.Nullification (nullification x))) (sent (artifact.Nullification (nullification x)) (nullified-fits x (packed-fits payload base (nullify second)) (packed-within payload base (nullify second))));
+        kept = kept (artifact.Nullification (nullification x)) (nullified-fits x (packed-fits payload base (nullify second)) (packed-within payload base (nullify second)));
       })

@@ -11,6 +11,7 @@ use Rattle.messages_certificates.specs.declared.artifact.Artifact.TheVariants as
 use Rattle.messages_certificates.specs.declared.certificate.Certificate.{Certificate}
 use Rattle.messages_certificates.specs.declared.certificate.Certificate.TheVariants as certificate
 use Rattle.messages_certificates.specs.declared.nullification.Nullification.{Nullification}
+use Rattle.messages_certificates.specs.Artifact.{certificate_artifact}
 use Rattle.messages_certificates.specs.ProposalCertificate.{Finalization}
 use Rattle.simplex_messages.specs.declared.activity.Activity.{Activity}
 use Rattle.simplex_messages.specs.declared.activity.Activity.TheVariants as activity
@@ -23,7 +24,7 @@ use Rattle.simplex_member.specs.declared.event.Channel.TheVariants as channel
 use Rattle.simplex_member.specs.declared.event.Event.{Event}
 use Rattle.simplex_member.specs.declared.event.Event.TheVariants as event
 use Rattle.simplex_member.specs.Lives.{Course, Broken, Lasting, LiveByNodes, Members, Went}
-use Rattle.simplex_member.specs.Packet.{Formats, of_certificate}
+use Rattle.simplex_member.specs.Packet.{Formats, IsRecordable, of_certificate}
 use Rattle.simplex_member.specs.Point.{Opened, Began, Came, Told, Leads}
 use Rattle.simplex_member.specs.Setup.{Setup}
 use Rattle.simplex_network.specs.Accountability.{AreReported}
@@ -125,10 +126,11 @@ module _ {S D P G C : Type 0} (g : Ghosts S D P G C) (f : Formats S D P G C) whe
     pub by_others : (a : Attestation G) → Contains (g.lists x.given_up) a → a.signer ≢ 0
     pub by_others_too : (a : Attestation G) → Contains (g.lists x.agreed) a → a.signer ≢ 0
 
-  -- a packet of the last member is this certificate, and reads back
+  -- a packet of the last member is this certificate, and reads back; and the certificate can be recorded
   pub record IsHandedBy (e : Event D) (c : Certificate S D P G C) : Type 0 where
     pub bytes : IsOfBytes e 3 channel.Certificates (f.packet (of_certificate c))
     pub read : f.packet_in channel.Certificates (f.packet (of_certificate c)) ≡ Some (of_certificate c)
+    pub kept : IsRecordable f (certificate_artifact c)
 
   -- the member lives by its nodes and has reported both certificates, which contradict each other; and each audit of the reports names
   -- at least two members of the round, and not this one

@@ -21,7 +21,7 @@ use Rattle.simplex_member.specs.declared.refusal.Refusal.TheVariants as refusal
 use Rattle.simplex_member.specs.Deeds.{Sends, Blocks}
 use Rattle.simplex_member.specs.Laws.{DoAttestAlike}
 use Rattle.simplex_member.specs.Lives.{AreFaithful, AtMostFLie, CameIn, Course, HandedOut, Life, Lasting, LiveByNodes, Members, Refuses, Went}
-use Rattle.simplex_member.specs.Packet.{Formats, IsReadable, of_certificate, of_vote}
+use Rattle.simplex_member.specs.Packet.{Formats, IsRecordable, of_certificate, of_vote}
 use Rattle.simplex_member.specs.Point.{Opened, Found, Began, Came, Told, Leads, Looks, Votes, Repeats}
 use Rattle.simplex_member.specs.Setup.{Setup}
 use Rattle.simplex_network.specs.Network.{HaveOneElector, IsSeen}
@@ -144,12 +144,13 @@ module _ {S D P G C : Type 0} (g : Ghosts S D P G C) (f : Formats S D P G C) whe
     pub attests : (i : ℕ) → i < 3 → g.attests (x.own i) i (nullify first) (x.signed i)
     pub certifies : (i : ℕ) → i < 3 → g.certifies (x.own i) (nullify first) x.packed
 
-  -- the packets: the liar's can't be read, the certificate's can, and so can each nullify
+  -- the packets: the liar's can't be read, the certificate's can; it and each nullify can be recorded
   pub record ArePackets (x : Parts S D G C) : Type 0 where
     pub junk : IsJunk x.junk
     pub handed : (i : ℕ) → IsPacketOf (x.handed i) (sender_to i) (given_up x)
     pub read : f.packet_in channel.Certificates (f.packet (of_certificate (given_up x))) ≡ Some (of_certificate (given_up x))
-    pub readable : (i : ℕ) → i < 3 → IsReadable f (of_vote (vote.Nullify (nullify_of x.signed i)))
+    pub recordable : (i : ℕ) → i < 3 → IsRecordable f (artifact.Nullify (nullify_of x.signed i))
+    pub certificate_recordable : IsRecordable f (artifact.Nullification (nullification_of x.packed))
 
   -- it is a network, of members by whom the premises of accountability are met too; the liar is blocked for what it sends; each correct
   -- member hands out its recorded nullify in its second life, takes the certificate, and hands that on; each but the first is handed it by

@@ -77,7 +77,7 @@ module _ {S D P G C : Type 0} (g : Ghosts S D P G C) (f : Formats S D P G C) (s 
 
   -- the end of the record may come at any time, as far as this is asked
   pub began-allowed : (now : ℕ) (h : History S D P G C) → IsReading now h → Allowed g f s h Began
-  began-allowed now h is = record { order = (reading-some now h is, reading-unbegun now h is); due = tt; fits = tt }
+  began-allowed now h is = record { order = (reading-some now h is, reading-unbegun now h is); due = tt; fits = tt; readable = tt }
 
   -- behind its end that is an opening
   pub opens-behind : (now : ℕ) (h : History S D P G C) (found : List (Artifact S D P G C)) (actions : List (Action S D P G C)) → IsReading now h → AreAllowed g f s h → record_of h ≡ found

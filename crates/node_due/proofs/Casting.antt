@@ -10,6 +10,8 @@ use Rattle.types_core.specs.declared.position.Round.{Round}
 use Rattle.types_core.specs.declared.scheme.Scheme.{Ghosts}
 use Rattle.types_core.specs.Positions.{HasRoom}
 use Rattle.types_core.specs.Subject.{Statement, finalize, notarize, nullify, statement_round}
+use Rattle.types_codec.specs.Codec.{Readable}
+use Rattle.messages_certificates.specs.Artifact.{artifact_within}
 use Rattle.messages_certificates.specs.declared.artifact.Artifact.{Artifact}
 use Rattle.messages_certificates.specs.declared.artifact.Artifact.TheVariants as artifact
 use Rattle.messages_certificates.specs.declared.certificate.Certificate.{Certificate}
@@ -56,7 +58,7 @@ use Rattle.simplex_member.specs.Deeds.{Deed, Reports, Sends, all_deeds, deeds_of
 use Rattle.simplex_member.specs.Laws.{DueMayBeRecorded, KnownNullifiesAreRecorded, RecordsStayLawful}
 use Rattle.simplex_member.specs.Layers.{casts, current_of, finalized_of, floor_of, is_begun, known_of, latest, voter_of}
 use Rattle.simplex_member.specs.Member.{Goes, IsLooked}
-use Rattle.simplex_member.specs.Packet.{Formats, of_vote}
+use Rattle.simplex_member.specs.Packet.{Formats, IsRecordable, of_vote}
 use Rattle.simplex_member.specs.Point.{AreActs, History, Looks, Point, Repeats, Votes, is_act}
 use Rattle.simplex_member.specs.Recorded.{record_of, reported}
 use Rattle.simplex_member.specs.Setup.{Setup, member_of, owner_of}
@@ -66,7 +68,7 @@ use Rattle.node_requests.specs.declared.acted.Acted.TheVariants as came
 use Rattle.node_requests.specs.Asking.{AskerKeeps, BringsOn, is_none}
 use Rattle.node_core.specs.declared.node_state.Core.{Core}
 use Rattle.node_due.specs.Acting.{ComesTo, HasActed, IsLeftByActs, WasTried}
-use Rattle.node_due.specs.Ahead.{VoterIsAhead}
+use Rattle.node_due.specs.Ahead.{MayCome, VoterIsAhead}
 use Rattle.node_core.specs.Keeps.{CoreKeeps, disk_of}
 use Rattle.node_due.specs.NoneDue.{NoNullifyToCast}
 use Rattle.node_core.specs.Telling.{TellsOfDisk}
@@ -282,6 +284,17 @@ split_nothing : {A : Type 0} (before after : List A) (x : A) → ◌≡◌ {A = 
 split_nothing [] after x is = cc is
 split_nothing (y ∷ before) after x is = cc is
 
+vote_within : {S D P G C : Type 0} (W : C → Type 0) (v : Vote S D P G C) → artifact_within W (vote_artifact v)
+unfolding artifact_within
+vote_within W (vote.Notarize v) = tt
+vote_within W (vote.Nullify v) = tt
+vote_within W (vote.Finalize v) = tt
+
+-- a vote that has a spelling can be recorded
+pub vote_recordable : {S D P G C : Type 0} (f : Formats S D P G C) (Spelled : Artifact S D P G C → Type 0) (W : C → Type 0) → ((x : Artifact S D P G C) → Readable Spelled (artifact_within W) x → IsRecordable f x)
+    → (x : Artifact S D P G C) (v : Vote S D P G C) → x ≡ vote_artifact v → Spelled x → IsRecordable f (vote_artifact v)
+vote_recordable f Spelled W law x v is spelled = law (vote_artifact v) (subst Spelled is spelled, vote_within W v)
+
 module _ {S D P G C : Type 0} (g : Ghosts S D P G C) (f : Formats S D P G C) (s : Setup S D C) where
   goes_on : (h mid : History S D P G C) (points : List (Point S D P G C)) (p : Point S D P G C) → Goes g f s h points mid → Allowed g f s mid p → Goes g f s h (points ++ p ∷ []) (p ∷ mid)
   goes_on h mid [] p is may = (subst (λ (x : History S D P G C). Allowed g f s x p) is may, ap (λ (x : History S D P G C). p ∷ x) is)
@@ -307,16 +320,17 @@ module _ {S D P G C : Type 0} (g : Ghosts S D P G C) (f : Formats S D P G C) (s 
 
     -- an own vote that is due and may be recorded may come next
     vote_allowed : (v : Vote S D P G C) → VoteIsDue g f s h v → MayFollow s.voter.length (entries (record_of h)) (entry (vote_artifact v)) → IsOwnVote (g.attests s.voter.scheme) (owner_of s) (vote_statement v) (vote_attestation v)
-        → Allowed g f s h (Votes v)
-    vote_allowed v due follows own = record {
+        → MayCome g f s (IsRecordable f) h (Votes v)
+    vote_allowed v due follows own = λ readable. record {
       order = begun;
       due = due;
       fits = record { verifies = vote_verifies (g.attests s.voter.scheme) (g.certifies s.voter.scheme) (owner_of s) v own; follows = follows };
+      readable = readable;
     }
 
     -- a notarize
     pub notarize_allowed : (v : Notarize S D P G C) (view : ℕ) → AreAllowed g f s h → DueMayBeRecorded g f s → NotarizeIsDue (member_of s) (known_of s h) view → held_at (member_of s) (known_of s h) view ≡ Some v.proposal
-        → IsOwn g s.voter notarize v → v.proposal.round ≡ record { epoch = s.voter.epoch; view = view } → Allowed g f s h (Votes (vote.Notarize v))
+        → IsOwn g s.voter notarize v → v.proposal.round ≡ record { epoch = s.voter.epoch; view = view } → MayCome g f s (IsRecordable f) h (Votes (vote.Notarize v))
     notarize_allowed v view all recordable due held own round =
         let gone = gone_to h all in
         let at : view ≡ v.proposal.round.view = sym (ap (λ (r : Round). r.view) round) in
@@ -325,7 +339,7 @@ module _ {S D P G C : Type 0} (g : Ghosts S D P G C) (f : Formats S D P G C) (s 
 
     -- a finalize
     pub finalize_allowed : (v : Finalize S D P G C) (view : ℕ) → AreAllowed g f s h → DueMayBeRecorded g f s → FinalizeIsDue (member_of s) (known_of s h) view → held_at (member_of s) (known_of s h) view ≡ Some v.proposal
-        → IsOwn g s.voter finalize v → v.proposal.round ≡ record { epoch = s.voter.epoch; view = view } → Allowed g f s h (Votes (vote.Finalize v))
+        → IsOwn g s.voter finalize v → v.proposal.round ≡ record { epoch = s.voter.epoch; view = view } → MayCome g f s (IsRecordable f) h (Votes (vote.Finalize v))
     finalize_allowed v view all recordable due held own round =
         let gone = gone_to h all in
         let at : view ≡ v.proposal.round.view = sym (ap (λ (r : Round). r.view) round) in
@@ -334,7 +348,7 @@ module _ {S D P G C : Type 0} (g : Ghosts S D P G C) (f : Formats S D P G C) (s 
 
     -- a nullify of the current view, which was not given up before
     pub nullify_allowed : (v : Nullify S D P G C) (view : ℕ) → AreAllowed g f s h → DueMayBeRecorded g f s → view ≡ current_of s h → NullifyIsDue s.voter (voter_of s h) (latest h)
-        → past.has_nullified (seen s.voter (voter_of s h) view) ≡ false → IsOwnNullify g s.voter view v → Allowed g f s h (Votes (vote.Nullify v))
+        → past.has_nullified (seen s.voter (voter_of s h) view) ≡ false → IsOwnNullify g s.voter view v → MayCome g f s (IsRecordable f) h (Votes (vote.Nullify v))
     nullify_allowed v view all recordable at due first own =
         let gone = gone_to h all in
         let its : view ≡ v.round.view = sym (ap (λ (r : Round). r.view) own.round) in
@@ -406,7 +420,7 @@ module _ {S L D P G C K : Type 0} (g : Ghosts S D P G C) (e : elector.Ghosts L S
   pub behind_look : (node : Core S L D K P G C) (voter : State S L D P G C) (h : History S D P G C) → QuietStays g f.same → CoreKeeps g e k f s node h → voting.Keeps g e s.voter voter (voter_of s (Looks ∷ h))
       → KeepsTables (finalized_of s h) node.tables (Looks ∷ h) → CoreKeeps g e k f s (record node { voter = voter }) (Looks ∷ h)
   behind_look node voter h quiet keeps looks tables =
-      stands_behind g e k f s node voter node.tables h Looks quiet (λ view. (refl, λ r. refl)) refl keeps.begun refl refl keeps (record { order = keeps.begun; due = tt; fits = tt }) looks tables
+      stands_behind g e k f s node voter node.tables h Looks quiet (λ view. (refl, λ r. refl)) refl keeps.begun refl refl keeps (record { order = keeps.begun; due = tt; fits = tt; readable = tt }) looks tables
 
   -- behind the recorded nullify that is said once more too
   pub behind_repeat : (node : Core S L D K P G C) (voter : State S L D P G C) (h : History S D P G C) (v : Nullify S D P G C) (best : Option (Certificate S D P G C)) (view : ℕ) → QuietStays g f.same
@@ -477,6 +491,7 @@ module _ {S D P G C : Type 0} (g : Ghosts S D P G C) (f : Formats S D P G C) (s 
             best_is = best_is;
           };
           fits = tt;
+          readable = tt;
         },
         here,
       )

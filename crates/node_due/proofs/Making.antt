@@ -8,9 +8,11 @@ use Rattle.types_core.specs.Positions.{HasRoom}
 use Rattle.types_terms.specs.declared.elector.Elector as elector
 use Rattle.types_terms.specs.declared.kind.Kind.{Kind}
 use Rattle.messages_certificates.specs.declared.artifact.Artifact.{Artifact}
+use Rattle.types_codec.specs.Codec.{Readable}
 use Rattle.messages_certificates.specs.declared.certificate.Certificate.{Certificate}
-use Rattle.messages_certificates.specs.Artifact.{certificate_artifact}
-use Rattle.messages_certificates.specs.Certificate.{certificate_round, certificate_statement}
+use Rattle.messages_certificates.specs.declared.certificate.Certificate.TheVariants as certificate
+use Rattle.messages_certificates.specs.Artifact.{artifact_within, certificate_artifact}
+use Rattle.messages_certificates.specs.Certificate.{certificate_round, certificate_statement, certified_by}
 use Rattle.simplex_record.specs.Record.{entries, entry}
 use Rattle.simplex_record.specs.Rules.{MayFollow}
 use Rattle.voter_history.specs.History as views
@@ -18,7 +20,7 @@ use Rattle.voter_history.specs.History.{forwarded, last_finalized}
 use Rattle.simplex_state.specs.declared.state.State.{State}
 use Rattle.simplex_state.specs.State as voting
 use Rattle.batcher_verifier.specs.declared.batch.Batch.{Batch}
-use Rattle.batcher_verifier.specs.ConstructionResult.{IsBatch}
+use Rattle.batcher_verifier.specs.ConstructionResult.{IsBatch, IsReadable}
 use Rattle.batcher_verifier.specs.History.{next_kind}
 use Rattle.node_votes.specs.declared.acceptance.Acceptance.{Acceptance}
 use Rattle.node_votes.specs.declared.due.Due.TheVariants as due
@@ -40,9 +42,9 @@ use Rattle.simplex_member.specs.Allowed.{Allowed, MayRecord}
 use Rattle.simplex_member.specs.Deeds.{Blocks, certificate_deeds, deeds_of}
 use Rattle.simplex_member.specs.Laws.{IsExact, MadeIsAllowed}
 use Rattle.simplex_member.specs.Layers.{finalized_of, latest, may_enter, repair_of, takes_certificate, voter_of, votes_of, votes_setup}
-use Rattle.simplex_member.specs.Packet.{Formats}
+use Rattle.simplex_member.specs.Packet.{Formats, IsRecordable}
 use Rattle.simplex_member.specs.Point.{History, Point, Constructs, Forwards, is_act}
-use Rattle.simplex_member.specs.Recorded.{record_of}
+use Rattle.simplex_member.specs.Recorded.{added_by, record_of}
 use Rattle.simplex_member.specs.Refusals.{HasNoneLike}
 use Rattle.simplex_member.specs.Setup.{Setup, owner_of}
 use Rattle.node_core.specs.Learning.{IsUnknown, first_of}
@@ -52,7 +54,7 @@ use Rattle.node_requests.specs.declared.acted.Acted.{Acted}
 use Rattle.node_requests.specs.declared.acted.Acted.TheVariants as came
 use Rattle.node_core.specs.declared.node_state.Core.{Core}
 use Rattle.node_due.specs.Acting.{ComesTo, IsLeftByActs, WasTried}
-use Rattle.node_due.specs.Ahead.{VotesAreAhead, VotesGoAhead}
+use Rattle.node_due.specs.Ahead.{MayCome, VotesAreAhead, VotesGoAhead}
 use Rattle.node_core.specs.Keeps.{CoreKeeps, disk_of}
 use Rattle.node_due.specs.NoneDue.{NoConstructionToMake}
 use Rattle.node_core.specs.Taking.{IsLeftBy, IsTaken}
@@ -84,6 +86,17 @@ module _ {S D P G C : Type 0} (g : Ghosts S D P G C) (f : Formats S D P G C) (s 
       let recorded : option_map certificate_artifact batch.certificate ≡ Some artifact = ap (λ (o : Option (Certificate S D P G C)). option_map certificate_artifact o) is ∙ ap Some (sym copy) in
       left_by g f s h (Constructs view kind batch) artifact old new recorded may leaves
 
+  -- what has a spelling is what the construction adds
+  pub adds_spelled : (view : ℕ) (kind : Kind) (batch : Batch (Certificate S D P G C)) (x : Certificate S D P G C) (artifact : Artifact S D P G C) (Spelled : Artifact S D P G C → Type 0) → batch.certificate ≡ Some x → artifact ≡ certificate_artifact x
+      → Spelled artifact → IfSome (added_by (Constructs view kind batch)) Spelled
+  adds_spelled view kind batch x artifact Spelled is copy spelled =
+      let adds : option_map certificate_artifact batch.certificate ≡ Some artifact = ap (λ (o : Option (Certificate S D P G C)). option_map certificate_artifact o) is ∙ ap Some (sym copy) in
+      subst (λ (o : Option (Artifact S D P G C)). IfSome o Spelled) (sym adds) spelled
+
+  -- one that made no certificate adds nothing
+  pub adds_nothing : (view : ℕ) (kind : Kind) (batch : Batch (Certificate S D P G C)) (Spelled : Artifact S D P G C → Type 0) → batch.certificate ≡ None → IfSome (added_by (Constructs view kind batch)) Spelled
+  adds_nothing view kind batch Spelled none = subst (λ (o : Option (Certificate S D P G C)). IfSome (option_map certificate_artifact o) Spelled) (sym none) tt
+
   module _ (view : ℕ) (kind : Kind) (batch : Batch (Certificate S D P G C)) (invalid : List ℕ) (before mid : List (Action S D P G C)) (are : invalid ≡ batch.invalid.items) (blocks : HandsOut f before mid (map Blocks invalid)) where
     blocked : HandsOut f before mid (map Blocks batch.invalid.items)
     blocked = subst (λ (members : List ℕ). HandsOut f before mid (map Blocks members)) are blocks
@@ -99,6 +112,18 @@ module _ {S D P G C : Type 0} (g : Ghosts S D P G C) (f : Formats S D P G C) (s 
     unmade_handed none =
         of_made (λ b. HandsOut f before mid (map Blocks b.invalid.items) → HandsOut f before mid (deeds_of g f s h (Constructs view kind b))) batch None none
         (λ first. hands_as f before mid _ _ (append-nil (map Blocks batch.invalid.items)) first) blocked
+
+made_within : {S D P G C : Type 0} (W : C → Type 0) (c : Certificate S D P G C) → W (certified_by c) → artifact_within W (certificate_artifact c)
+unfolding artifact_within
+made_within W (certificate.Notarization c) within = within
+made_within W (certificate.Nullification c) within = within
+made_within W (certificate.Finalization c) within = within
+
+-- a certificate that was made, where it has a spelling, can be recorded
+pub made_recordable : {S D P G C : Type 0} (f : Formats S D P G C) (Spelled : Artifact S D P G C → Type 0) (within : ℕ → C → Type 0) (n : ℕ) → ((x : Artifact S D P G C) → Readable Spelled (artifact_within (within n)) x → IsRecordable f x)
+    → (made : Option (Certificate S D P G C)) → IfSome made (IsReadable within n) → IfSome (option_map certificate_artifact made) Spelled → IfSome (option_map certificate_artifact made) (IsRecordable f)
+made_recordable f Spelled within n law None read spelled = tt
+made_recordable f Spelled within n law (Some c) read spelled = law (certificate_artifact c) (spelled, made_within (within n) c read.0)
 
 module _ {S L D P G C K : Type 0} (g : Ghosts S D P G C) (e : elector.Ghosts L S D P G C) (k : disk.Ghosts K) (f : Formats S D P G C) (s : Setup S D C) where
   module _ (h : History S D P G C) (x : Certificate S D P G C) where
@@ -194,12 +219,12 @@ module _ {S L D P G C K : Type 0} (g : Ghosts S D P G C) (e : elector.Ghosts L S
     pub forwards : (p : Proposal D) → accepting.Does g f.same s h acceptance view (due.Forwards p) → VotesAreAhead g e k f s (record node { acceptance = acceptance }) h (Forwards view p) × Allowed g f s h (Forwards view p)
     forwards p does = (
       record { acceptance = node.acceptance; keeps = keeps; ahead = does.2 },
-      record { order = keeps.begun; due = (does.0, does.1); fits = tt },
+      record { order = keeps.begun; due = (does.0, does.1); fits = tt; readable = tt },
     )
 
     -- a construction of them was made, of a kind
     pub constructs : (batch : Batch (Certificate S D P G C)) → IsExact f → (IsExact f → MadeIsAllowed g f s) → 0 < g.size s.voter.scheme → accepting.Does g f.same s h acceptance view (due.Made batch)
-        → (kind : Kind) × VotesGoAhead g e k f s (record node { acceptance = acceptance }) h (Constructs view kind batch) × Allowed g f s h (Constructs view kind batch)
+        → (kind : Kind) × VotesGoAhead g e k f s (record node { acceptance = acceptance }) h (Constructs view kind batch) × MayCome g f s (IsRecordable f) h (Constructs view kind batch)
     constructs batch exact law some does =
         let made = some_of (next_kind f.same (votes_setup s g h view) (votes_of s h view))
         (λ (kind : Kind). IsBatch g f.same (votes_setup s g h view) kind (votes_of s h view) batch × accepting.KeepsAhead g f.same s acceptance h (Constructs view kind batch)) does.1 in (
@@ -216,15 +241,15 @@ module _ {S L D P G C K : Type 0} (g : Ghosts S D P G C) (e : elector.Ghosts L S
       left
 
   -- one point that is due was taken
-  pub tried_one : (p : Point S D P G C) (before after : List (Action S D P G C)) (answer : Result Acted NodeFault) → is_act p ≡ true → BringsOn g f s h p → Allowed g f s h p → IfOk answer (λ done. done ≡ came.Did) → OnOk answer (IsTaken g e k f s new h p before after)
+  pub tried_one : (p : Point S D P G C) (before after : List (Action S D P G C)) (answer : Result Acted NodeFault) → is_act p ≡ true → BringsOn g f s h p → IfOk answer (λ done. done ≡ came.Did) → OnOk answer (IsTaken g e k f s new h p before after)
       → (k.keeps → LeavesOnly (k.calls (disk_of old)) (k.calls (disk_of new)) (IsLeftBy g f s h p)) → WasTried g e k f s is_kind Done old new h before after answer
-  tried_one p before after (Ok done) act brings may did taken leaves = record {
+  tried_one p before after (Ok done) act brings did taken leaves = record {
     ok = subst (λ (a : Acted). ComesTo g e k f s is_kind Done new h before after a) (sym did) (record {
       points = p ∷ [];
       end = p ∷ h;
       acted = record {
         own = All-cons (λ (q : Point S D P G C). is_act q ≡ true) p [] act (All-nil (λ (q : Point S D P G C). is_act q ≡ true));
-        goes = (may, refl);
+        goes = (taken.keeps.allowed.0, refl);
         keeps = taken.keeps;
         acts = hands_as f before after _ _ (append-nil (deeds_of g f s h p)) taken.acts;
       };
@@ -232,7 +257,7 @@ module _ {S L D P G C K : Type 0} (g : Ghosts S D P G C) (e : elector.Ghosts L S
     });
     any_moment = λ it. weaker (IsLeftByActs g f s h) (leaves it) (λ image left. left_by_act p image act left);
   }
-  tried_one p before after (Err why) act brings may did taken leaves = record { ok = tt; any_moment = λ it. weaker (IsLeftByActs g f s h) (leaves it) (λ image left. left_by_act p image act left) }
+  tried_one p before after (Err why) act brings did taken leaves = record { ok = tt; any_moment = λ it. weaker (IsLeftByActs g f s h) (leaves it) (λ image left. left_by_act p image act left) }
 
   -- nothing was left to be done
   pub tried_none : (actions : List (Action S D P G C)) → Done h → CoreKeeps g e k f s new h → (k.keeps → LeavesOnly (k.calls (disk_of old)) (k.calls (disk_of new)) (λ image. Reads image (map f.artifact (record_of h))))

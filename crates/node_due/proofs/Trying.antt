@@ -222,7 +222,7 @@ module _ {S L D P G C K : Type 0} {g : Ghosts S D P G C} {e : elector.Ghosts L S
     end = Latches followed.0 reason.LeaderNullify ∷ h;
     asked = record {
       are_asks = All-cons (λ (p : Point S D P G C). is_ask p ≡ true) (Latches followed.0 reason.LeaderNullify) [] refl (All-nil (λ (p : Point S D P G C). is_ask p ≡ true));
-      goes = (record { order = kept.begun; due = (followed.1.0.there, followed.1.0.counts); fits = tt }, refl);
+      goes = (record { order = kept.begun; due = (followed.1.0.there, followed.1.0.counts); fits = tt; readable = tt }, refl);
       voter_is = followed.1.1;
       tables_are = kept.tables;
       acts = nothing_more f actions;
@@ -271,7 +271,7 @@ module _ {S L D P G C K : Type 0} {g : Ghosts S D P G C} {e : elector.Ghosts L S
   }
     where
       may : Allowed g f s h (Leads named.0 named.1)
-      may = record { order = kept.begun; due = (named.2.there, named.2.waits, named.2.known); fits = tt }
+      may = record { order = kept.begun; due = (named.2.there, named.2.waits, named.2.known); fits = tt; readable = tt }
   leads votes actions came.Nothing none = record {
     points = [];
     end = h;
@@ -295,7 +295,7 @@ module _ {S L D P G C K : Type 0} {g : Ghosts S D P G C} {e : elector.Ghosts L S
         (λ told.
         let acted = has_acted voter node.tables (Looks ∷ []) (Looks ∷ h) before before quiet (record {
           are_asks = All-cons (λ (p : Point S D P G C). is_ask p ≡ true) Looks [] refl (All-nil (λ (p : Point S D P G C). is_ask p ≡ true));
-          goes = (record { order = kept.begun; due = tt; fits = tt }, refl);
+          goes = (record { order = kept.begun; due = tt; fits = tt; readable = tt }, refl);
           voter_is = told.0;
           tables_are = kept.tables;
           acts = nothing_more f before;

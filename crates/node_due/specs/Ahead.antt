@@ -7,9 +7,12 @@ use Rattle.simplex_state.specs.declared.state.State.{State}
 use Rattle.simplex_state.specs.State as voting
 use Rattle.node_votes.specs.declared.acceptance.Acceptance.{Acceptance}
 use Rattle.node_votes.specs.KeepsVotes as accepting
+use Rattle.messages_certificates.specs.declared.artifact.Artifact.{Artifact}
+use Rattle.simplex_member.specs.Allowed.{Allowed}
 use Rattle.simplex_member.specs.Layers.{voter_of}
 use Rattle.simplex_member.specs.Packet.{Formats}
 use Rattle.simplex_member.specs.Point.{Point, History}
+use Rattle.simplex_member.specs.Recorded.{added_by}
 use Rattle.simplex_member.specs.Setup.{Setup}
 use Rattle.node_core.specs.declared.node_state.Core.{Core}
 use Rattle.node_core.specs.Keeps.{CoreKeeps}
@@ -32,3 +35,8 @@ module _ {S L D P G C K : Type 0} (g : Ghosts S D P G C) (e : elector.Ghosts L S
     pub acceptance : Acceptance S D P G C
     pub keeps : CoreKeeps g e k f s (record node { acceptance = acceptance }) h
     pub ahead : accepting.KeepsAhead g f.same s node.acceptance h p
+
+module _ {S D P G C : Type 0} (g : Ghosts S D P G C) (f : Formats S D P G C) (s : Setup S D C) where
+  -- a point may come next, where what it adds to the record is such
+  abbrev pub MayCome : (Artifact S D P G C → Type 0) → History S D P G C → Point S D P G C → Type 0
+  MayCome Fits h p = IfSome (added_by p) Fits → Allowed g f s h p

@@ -9,13 +9,13 @@ ghost use Rattle.node_requests.specs.Asking.{is_look, is_none};
 ghost use Rattle.node_requests.specs.declared.acted.Acted.TheVariants as came;
 ghost use Rattle.voter_history.specs.History.{seen};
 ghost use Rattle.voter_history.specs.Past as past;
-ghost use Rattle.simplex_member.specs.Allowed.{Allowed};
 ghost use Rattle.simplex_member.specs.Member.{IsLooked};
 ghost use Rattle.simplex_member.specs.Layers.{current_of, latest, voter_of};
+ghost use Rattle.simplex_member.specs.Packet.{IsRecordable};
 ghost use Rattle.simplex_member.specs.Point.{History, Votes};
 ghost use Rattle.simplex_member.specs.Setup.{Setup};
 ghost use Rattle.node_due.specs.Acting.{WasTried};
-ghost use Rattle.node_due.specs.Ahead.{VoterIsAhead};
+ghost use Rattle.node_due.specs.Ahead.{MayCome, VoterIsAhead};
 ghost use Rattle.node_core.specs.Keeps.{AtOwn, disk_of};
 ghost use Rattle.node_due.specs.NoneDue.{NoFinalizeToCast, NoNotarizeToCast, NoNullifyToCast};
 ghost use Rattle.node_core.specs.Telling.{TellsOfDisk};
@@ -33,7 +33,8 @@ use node_requests::{Acted, is_given_up};
 use node_votes::silent_points_leave_votes;
 use simplex_member::{
     Action, NodeFault, Speaks, due_may_be_recorded, known_nullifies_are_recorded,
-    proposals_lie_in_their_views, records_stay_lawful, voters_are_orderly, voters_tell_the_record,
+    packets_are_read_back, proposals_lie_in_their_views, records_stay_lawful, voters_are_orderly,
+    voters_tell_the_record,
 };
 use simplex_messages::Vote;
 use types_core::{Digest, Scheme, View};
@@ -199,18 +200,21 @@ fn cast<S: Scheme<D> + Drop, L: Elector<S, D>, D: Digest, K: Disk>(
     ensures did { IfOk result (λ done. done ≡ came.Did) }
     ensures taken { OnOk result ((s : Setup S D S.Certificate) (h : History S D S.PublicKey S.Signature S.Certificate)
         → let f = (⟦<S as Speaks<D>>⟧.formats (S.size s.voter.scheme)) in VoterIsAhead S.Scheme L.Elector K.Disk f s core.old h (Votes vote)
-        → Allowed S.Scheme f s h (Votes vote)
+        → MayCome S.Scheme f s (IsRecordable f) h (Votes vote)
         → IsOpenTo s h (vote_round vote)
         → IsTaken S.Scheme L.Elector K.Disk f s core.new h (Votes vote) out.old.items out.new.items) }
     ensures any_moment { (s : Setup S D S.Certificate) (h : History S D S.PublicKey S.Signature S.Certificate)
         → let f = (⟦<S as Speaks<D>>⟧.formats (S.size s.voter.scheme)) in VoterIsAhead S.Scheme L.Elector K.Disk f s core.old h (Votes vote)
-        → Allowed S.Scheme f s h (Votes vote)
+        → MayCome S.Scheme f s (IsRecordable f) h (Votes vote)
         → K.keeps
         → LeavesOnly (K.calls (disk_of core.old)) (K.calls (disk_of core.new)) (IsLeftBy S.Scheme f s h (Votes vote)) }
     ensures faults { TellsOfDisk K.Disk (disk_of core.old) (disk_of core.new) result }
 {
     a_ledger_at_rest_leaves_its_record::<S, D, K>();
     quiet_points_leave_the_tables::<S, D>();
+    packets_are_read_back::<S, D>();
+    // The proof takes from the number how far it goes.
+    let _members = core.settings.scheme.participants();
     let alloc = core.settings.alloc;
     let Ok((bytes, artifact)) = spelled_vote(alloc, &vote) else {
         return Err(NodeFault::Memory);

@@ -1,6 +1,7 @@
 //! What is due of the votes of all views: they learn who leads, their proposals go to the voter, certificates are made.
 
 ghost use Rattle.std.specs.Prelude.{◌≡◌, ◌∷◌, ℕ, List, Some, IfErr, IfOk, OnOk};
+ghost use Rattle.messages_certificates.specs.Artifact.{artifact_fits};
 ghost use Rattle.messages_certificates.specs.declared.certificate.Certificate.{Certificate};
 ghost use Rattle.types_terms.specs.declared.kind.Kind.{Kind};
 ghost use Rattle.batcher_verifier.specs.declared.batch.Batch.{Batch};
@@ -15,7 +16,7 @@ ghost use Rattle.simplex_member.specs.Deeds.{certificate_deeds};
 ghost use Rattle.simplex_member.specs.Point.{History, Constructs, Forwards};
 ghost use Rattle.simplex_member.specs.Setup.{Setup};
 ghost use Rattle.node_due.specs.Acting.{WasTried};
-ghost use Rattle.node_due.specs.Ahead.{VotesAreAhead, VotesGoAhead};
+ghost use Rattle.node_due.specs.Ahead.{MayCome, VotesAreAhead, VotesGoAhead};
 ghost use Rattle.node_core.specs.Keeps.{AtOwn, CoreKeeps, disk_of};
 ghost use Rattle.node_requests.specs.Leading.{NoLeaderToName};
 ghost use Rattle.node_due.specs.NoneDue.{NoConstructionToMake};
@@ -31,7 +32,9 @@ use node_record::a_ledger_at_rest_leaves_its_record;
 use node_requests::{Acted, name_leader};
 use node_votes::Due;
 use simplex_batcher::Batch;
-use simplex_member::{Action, NodeFault, Speaks, what_is_made_may_be_recorded};
+use simplex_member::{
+    Action, NodeFault, Speaks, packets_are_read_back, what_is_made_may_be_recorded,
+};
 use types_core::{Digest, Proposal, Scheme, View};
 use types_terms::Elector;
 
@@ -68,7 +71,8 @@ pub(crate) fn try_votes_of_views<S: Scheme<D> + Drop, L: Elector<S, D>, D: Diges
 {
     a_ledger_at_rest_leaves_its_record::<S, D, K>();
     what_is_made_may_be_recorded::<S, D>();
-    // The proof takes from the number that there are members.
+    packets_are_read_back::<S, D>();
+    // The proof takes from the number that there are members, and how far it goes.
     let _members = core.settings.scheme.participants();
     match core.acceptance.next_due() {
         Ok(Some((view, Due::Forwards(proposal)))) => take_proposal(core, view, &proposal),
@@ -110,12 +114,12 @@ fn take_batch<S: Scheme<D> + Drop, L: Elector<S, D>, D: Digest, K: Disk>(
         (kind : Kind)
         → let f = (⟦<S as Speaks<D>>⟧.formats (S.size s.voter.scheme)) in VotesGoAhead S.Scheme L.Elector K.Disk f s core.old h
         (Constructs view kind batch)
-        → Allowed S.Scheme f s h (Constructs view kind batch)
+        → MayCome S.Scheme f s (artifact_fits D.fits S.Signature.fits S.Certificate.fits) h (Constructs view kind batch)
         → IsTaken S.Scheme L.Elector K.Disk f s core.new h (Constructs view kind batch) out.old.items out.new.items) }
     ensures any_moment { (s : Setup S D S.Certificate) (h : History S D S.PublicKey S.Signature S.Certificate) (view : ℕ) (kind : Kind)
         → let f = (⟦<S as Speaks<D>>⟧.formats (S.size s.voter.scheme)) in VotesGoAhead S.Scheme L.Elector K.Disk f s core.old h
         (Constructs view kind batch)
-        → Allowed S.Scheme f s h (Constructs view kind batch)
+        → MayCome S.Scheme f s (artifact_fits D.fits S.Signature.fits S.Certificate.fits) h (Constructs view kind batch)
         → K.keeps
         → LeavesOnly (K.calls (disk_of core.old)) (K.calls (disk_of core.new)) (IsLeftBy S.Scheme f s h (Constructs view kind batch)) }
     ensures faults { TellsOfDisk K.Disk (disk_of core.old) (disk_of core.new) result }
@@ -153,21 +157,21 @@ fn take_made<S: Scheme<D> + Drop, L: Elector<S, D>, D: Digest, K: Disk>(
         (kind : Kind) (batch : Batch (Certificate S D S.PublicKey S.Signature S.Certificate))
         → let f = (⟦<S as Speaks<D>>⟧.formats (S.size s.voter.scheme)) in VotesGoAhead S.Scheme L.Elector K.Disk f s core.old h
         (Constructs view kind batch)
-        → Allowed S.Scheme f s h (Constructs view kind batch)
+        → MayCome S.Scheme f s (artifact_fits D.fits S.Signature.fits S.Certificate.fits) h (Constructs view kind batch)
         → batch.certificate ≡ Some certificate
         → CoreKeeps S.Scheme L.Elector K.Disk f s core.new (Constructs view kind batch ∷ h)) }
     ensures acts { OnOk result ((s : Setup S D S.Certificate) (h : History S D S.PublicKey S.Signature S.Certificate) (view : ℕ)
         (kind : Kind) (batch : Batch (Certificate S D S.PublicKey S.Signature S.Certificate))
         → let f = (⟦<S as Speaks<D>>⟧.formats (S.size s.voter.scheme)) in VotesGoAhead S.Scheme L.Elector K.Disk f s core.old h
         (Constructs view kind batch)
-        → Allowed S.Scheme f s h (Constructs view kind batch)
+        → MayCome S.Scheme f s (artifact_fits D.fits S.Signature.fits S.Certificate.fits) h (Constructs view kind batch)
         → batch.certificate ≡ Some certificate
         → HandsOut f out.old.items out.new.items (certificate_deeds S.Scheme f s h (Constructs view kind batch) certificate)) }
     ensures any_moment { (s : Setup S D S.Certificate) (h : History S D S.PublicKey S.Signature S.Certificate) (view : ℕ) (kind : Kind)
         (batch : Batch (Certificate S D S.PublicKey S.Signature S.Certificate))
         → let f = (⟦<S as Speaks<D>>⟧.formats (S.size s.voter.scheme)) in VotesGoAhead S.Scheme L.Elector K.Disk f s core.old h
         (Constructs view kind batch)
-        → Allowed S.Scheme f s h (Constructs view kind batch)
+        → MayCome S.Scheme f s (artifact_fits D.fits S.Signature.fits S.Certificate.fits) h (Constructs view kind batch)
         → batch.certificate ≡ Some certificate
         → K.keeps
         → LeavesOnly (K.calls (disk_of core.old)) (K.calls (disk_of core.new)) (IsLeftBy S.Scheme f s h (Constructs view kind batch)) }
@@ -194,14 +198,14 @@ fn learn_made<S: Scheme<D> + Drop, L: Elector<S, D>, D: Digest, K: Disk>(
         (kind : Kind) (batch : Batch (Certificate S D S.PublicKey S.Signature S.Certificate))
         → let f = (⟦<S as Speaks<D>>⟧.formats (S.size s.voter.scheme)) in VotesGoAhead S.Scheme L.Elector K.Disk f s core.old h
         (Constructs view kind batch)
-        → Allowed S.Scheme f s h (Constructs view kind batch)
+        → MayCome S.Scheme f s (artifact_fits D.fits S.Signature.fits S.Certificate.fits) h (Constructs view kind batch)
         → batch.certificate ≡ Some certificate.now
         → CoreKeeps S.Scheme L.Elector K.Disk f s core.new (Constructs view kind batch ∷ h)) }
     ensures any_moment { (s : Setup S D S.Certificate) (h : History S D S.PublicKey S.Signature S.Certificate) (view : ℕ) (kind : Kind)
         (batch : Batch (Certificate S D S.PublicKey S.Signature S.Certificate))
         → let f = (⟦<S as Speaks<D>>⟧.formats (S.size s.voter.scheme)) in VotesGoAhead S.Scheme L.Elector K.Disk f s core.old h
         (Constructs view kind batch)
-        → Allowed S.Scheme f s h (Constructs view kind batch)
+        → MayCome S.Scheme f s (artifact_fits D.fits S.Signature.fits S.Certificate.fits) h (Constructs view kind batch)
         → batch.certificate ≡ Some certificate.now
         → K.keeps
         → LeavesOnly (K.calls (disk_of core.old)) (K.calls (disk_of core.new)) (IsLeftBy S.Scheme f s h (Constructs view kind batch)) }

@@ -1,7 +1,7 @@
 //! The one place where the record grows.
 
 ghost use Rattle.std.specs.Prelude.{◌≡◌, ◌≢◌, ◌++◌, ◌∷◌, [], List, map, false, IfErr, OnOk, IsErrOf};
-ghost use Rattle.messages_certificates.specs.Artifact.{artifact_spelling};
+ghost use Rattle.messages_certificates.specs.Artifact.{artifact_fits, artifact_spelling};
 ghost use Rattle.messages_certificates.specs.declared.artifact.Artifact.{Artifact};
 ghost use Rattle.simplex_record.specs.declared.owner.Owner.{Owner};
 ghost use Rattle.simplex_record.specs.Record.{entry, entries};
@@ -16,10 +16,13 @@ use journal_single::{BOUND, Disk};
 use messages_certificates::Artifact;
 use node_record::{Ledger, a_ledger_at_rest_leaves_its_record};
 use simplex_member::NodeFault;
-use types_core::{Digest, Scheme};
+use types_core::{Digest, EncodeSize, Scheme};
 
-/// Records an artifact that may stand behind the record. That it can be read again is tested, since the disk wants to know it: each is
-/// that may be recorded.
+/// The most bytes of an artifact that a disk takes.
+const LONGEST: usize = u32::MAX as usize;
+
+/// Records an artifact that may stand behind the record. That it is not too long, and can be read again, is tested, since the disk wants
+/// to know it: each can be read again that may be recorded.
 ///
 /// # Errors
 ///
@@ -48,8 +51,14 @@ pub fn record<S: Scheme<D>, D: Digest, K: Disk>(
     ensures no_device { IfErr result (λ why. why ≢ step_fault.Device → K.failed (disk_of ledger.new) ≡ K.failed (disk_of ledger.old)) }
     ensures no_fault { OnOk result (K.failed (disk_of ledger.new) ≡ K.failed (disk_of ledger.old)) }
     ensures not_failed { ¬ IsErrOf result NodeFault.Failed }
+
+    // It has a spelling, whatever is answered.
+    ensures readable { artifact_fits D.fits S.Signature.fits S.Certificate.fits artifact }
 {
     a_ledger_at_rest_leaves_its_record::<S, D, K>();
+    if artifact.encode_size() > LONGEST {
+        return Err(NodeFault::Memory);
+    }
     if !artifact.is_within(BOUND) {
         return Err(NodeFault::Memory);
     }

@@ -103,6 +103,7 @@ module _ {S L D P G C K : Type 0} {g : Ghosts S D P G C} {e : elector.Ghosts L S
             free = subst (λ (i : ℕ). takes (votes_setup s g h (vote_round v).view) (votes_of s h (vote_round v).view) i v ≡ true) (sym may.signer) does;
           };
           fits = tt;
+          readable = tt;
         },
         kept.allowed,
       );

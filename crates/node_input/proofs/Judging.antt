@@ -1,11 +1,13 @@
 -- What a verdict brings: to the repair, and as a report.
 use Rattle.std.proofs.Common.{◌≡◌, ◌∙◌, ◌∷◌, ◌++◌, [], ℕ, Bool, true, false, List, Option, Some, refl, sym, ap, subst}
 use Rattle.std.specs.Prelude.{if◌then◌else◌, map, option_map, option_to_list, unwrap_or}
+use Rattle.types_codec.specs.Codec.{Readable}
 use Rattle.types_core.specs.declared.position.Round.{Round}
 use Rattle.types_core.specs.declared.scheme.Scheme.{Ghosts}
 use Rattle.types_terms.specs.declared.elector.Elector as elector
 use Rattle.messages_certificates.specs.declared.artifact.Artifact.{Artifact}
 use Rattle.messages_certificates.specs.declared.artifact.Artifact.TheVariants as artifact
+use Rattle.messages_certificates.specs.Artifact.{artifact_within}
 use Rattle.messages_certificates.specs.Certificate.{as_notarization}
 use Rattle.messages_certificates.specs.ProposalCertificate.{Notarization}
 use Rattle.simplex_messages.specs.declared.activity.Activity.TheVariants as activity
@@ -29,7 +31,7 @@ use Rattle.simplex_member.specs.Asked.{IsAwaited}
 use Rattle.simplex_member.specs.Deeds.{Reports, report_deeds}
 use Rattle.simplex_member.specs.Laws.{IsJudgeable}
 use Rattle.simplex_member.specs.Layers.{finalized_of, is_begun, notarization_bytes, repair_of, voter_of}
-use Rattle.simplex_member.specs.Packet.{Formats}
+use Rattle.simplex_member.specs.Packet.{Formats, IsRecordable}
 use Rattle.simplex_member.specs.Point.{History, Judged}
 use Rattle.simplex_member.specs.Recorded.{notarization_in, record_of}
 use Rattle.simplex_member.specs.Setup.{Setup, owner_of}
@@ -39,8 +41,14 @@ use Rattle.node_input.specs.Verdicts.{RecordIsAhead}
 
 module _ {S D P G C : Type 0} (g : Ghosts S D P G C) (f : Formats S D P G C) (s : Setup S D C) (h : History S D P G C) (r : Round) where
   -- one that is awaited may be taken
-  pub verdict_allowed : (ok : Bool) → is_begun h ≡ true → IsAwaited s h r.view → IsJudgeable g f s h r → Allowed g f s h (Judged r ok)
-  verdict_allowed ok begun awaited judgeable = record { order = begun; due = awaited; fits = record { verifies = tt; follows = judgeable.follows } }
+  pub verdict_allowed : (ok : Bool) → is_begun h ≡ true → IsAwaited s h r.view → IsJudgeable g f s h r → IsRecordable f (artifact.Certification r ok) → Allowed g f s h (Judged r ok)
+  verdict_allowed ok begun awaited judgeable readable = record { order = begun; due = awaited; fits = record { verifies = tt; follows = judgeable.follows }; readable = readable }
+
+  -- one that has a spelling can be recorded
+  pub verdict_recordable : (Spelled : Artifact S D P G C → Type 0) (W : C → Type 0) → ((x : Artifact S D P G C) → Readable Spelled (artifact_within W) x → IsRecordable f x)
+      → (own : Round) (ok : Bool) → own ≡ r → Spelled (artifact.Certification own ok) → IsRecordable f (artifact.Certification r ok)
+  unfolding artifact_within
+  verdict_recordable Spelled W law own ok is spelled = subst (λ (x : Round). IsRecordable f (artifact.Certification x ok)) is (law (artifact.Certification own ok) (spelled, tt))
 
   module _ (c : Notarization S D P G C) where
     -- it comes to the repair with the recorded notarization's bytes

@@ -3,6 +3,7 @@
 ghost use Rattle.std.specs.Prelude.{◌≡◌, IfOk, OnErr, Some, false, ◌<◌, ◌^◌};
 ghost use Rattle.simplex_member.specs.declared.refusal.Refusal.{Refusal};
 ghost use Rattle.simplex_member.specs.First.{IsFirst};
+ghost use Rattle.simplex_member.specs.Packet.{IsReadable};
 ghost use Rattle.simplex_member.specs.Refusals.{needs_nothing, packet_tests};
 ghost use Rattle.node_input.specs.Deciding.{IsDecided};
 ghost use Rattle.node_core.specs.Keeps.{AtAll, AtOwn};
@@ -14,7 +15,7 @@ use journal_single::Disk;
 use messages_certificates::Certificate;
 use node_core::Core;
 use node_inbox::{Message, message_in};
-use simplex_member::{Channel, Refusal, Speaks};
+use simplex_member::{Channel, Refusal, Speaks, packets_are_read_back};
 use simplex_messages::Vote;
 use std::alloc::AllocError;
 use types_core::{Digest, Participant, Scheme, View};
@@ -48,6 +49,7 @@ pub(crate) fn decide<S: Scheme<D> + Drop, L: Elector<S, D>, D: Digest, K: Disk>(
     ensures memory { OnErr result (AtOwn S.Scheme L.Elector K.Disk ⟦<S as Speaks<D>>⟧.formats core.now
         (λ f s h. (r : Refusal) → IsFirst (bytes_tests S.Scheme f s h sender channel bytes.now) (Some r) → needs_nothing r ≡ false)) }
 {
+    packets_are_read_back::<S, D>();
     if let Some(refusal) = sender_refusal(core, sender) {
         return Ok(Decided::Refused(refusal));
     }
@@ -59,7 +61,7 @@ pub(crate) fn decide<S: Scheme<D> + Drop, L: Elector<S, D>, D: Digest, K: Disk>(
     }
 }
 
-/// What is done with a message of another member.
+/// What is done with a message of another member that was read.
 fn decide_message<S: Scheme<D> + Drop, L: Elector<S, D>, D: Digest, K: Disk>(
     core: &Core<S, L, D, K>,
     sender: Participant,
@@ -67,8 +69,11 @@ fn decide_message<S: Scheme<D> + Drop, L: Elector<S, D>, D: Digest, K: Disk>(
 ) -> Decided<S, D>
     ensures { AtOwn S.Scheme L.Elector K.Disk ⟦<S as Speaks<D>>⟧.formats core.now (λ f s h.
         IsAnother S.Scheme f s sender
+        → S.size s.voter.scheme < 2 ^ 32
+        → IsReadable f (as_packet message)
         → IsDecided S.Scheme f s h sender (Some (as_packet message)) (packet_tests S.Scheme f s h sender (Some (as_packet message))) result) }
 {
+    packets_are_read_back::<S, D>();
     match message {
         Message::Vote(vote) => match vote_refusal(core, sender, &vote) {
             Some(refusal) => Decided::Refused(refusal),

@@ -2,11 +2,13 @@
 //! last two reasons for which a vote is not.
 
 ghost use Rattle.std.specs.Prelude.{◌≤◌, Bool, IfNone, ◌<◌, ◌^◌};
+ghost use Rattle.messages_certificates.specs.Artifact.{certificate_artifact};
 ghost use Rattle.simplex_member.specs.declared.event.Event.TheVariants as event;
 ghost use Rattle.simplex_member.specs.Allowed.{Allowed};
 ghost use Rattle.simplex_member.specs.Asked.{IsAwaited};
 ghost use Rattle.simplex_member.specs.First.{IsFirst};
 ghost use Rattle.simplex_member.specs.Layers.{latest};
+ghost use Rattle.simplex_member.specs.Packet.{IsRecordable};
 ghost use Rattle.simplex_member.specs.Point.{Came};
 ghost use Rattle.simplex_member.specs.Refusals.{certificate_tests, sender_tests, tests};
 ghost use Rattle.simplex_member.specs.Setup.{IsInTime};
@@ -71,7 +73,7 @@ pub(crate) fn vote_refusal<S: Scheme<D> + Drop, L: Elector<S, D>, D: Digest, K: 
     None
 }
 
-/// The first reason for which a certificate is not taken.
+/// The first reason for which a certificate is not taken. One that was read can be recorded.
 pub(crate) fn certificate_refusal<S: Scheme<D> + Drop, L: Elector<S, D>, D: Digest, K: Disk>(
     core: &Core<S, L, D, K>,
     certificate: &Certificate<S, D>,
@@ -79,7 +81,8 @@ pub(crate) fn certificate_refusal<S: Scheme<D> + Drop, L: Elector<S, D>, D: Dige
     ensures first { AtOwn S.Scheme L.Elector K.Disk ⟦<S as Speaks<D>>⟧.formats core.now
         (λ f s h. IsFirst (certificate_tests S.Scheme f s h certificate.now) result) }
     ensures may { IfNone result
-        (AtOwn S.Scheme L.Elector K.Disk ⟦<S as Speaks<D>>⟧.formats core.now (λ f s h. Allowed S.Scheme f s h (Came certificate.now))) }
+        (AtOwn S.Scheme L.Elector K.Disk ⟦<S as Speaks<D>>⟧.formats core.now (λ f s h.
+        IsRecordable f (certificate_artifact certificate.now) → Allowed S.Scheme f s h (Came certificate.now))) }
 {
     let view = certificate.view();
     if certificate.epoch() != core.settings.owner.epoch {

@@ -2,6 +2,7 @@
 
 ghost use Rattle.std.specs.Prelude.{◌≡◌, ◌≢◌, false, IfErr, OnOk, IsErrOf};
 ghost use Rattle.journal_single.specs.Disk.{LeavesOnly, counted};
+ghost use Rattle.simplex_member.specs.Allowed.{Allowed};
 ghost use Rattle.simplex_member.specs.Asked.{IsAwaited};
 ghost use Rattle.simplex_member.specs.declared.fault.NodeFault.{NodeFault};
 ghost use Rattle.simplex_member.specs.declared.fault.NodeFault.TheVariants as step_fault;
@@ -18,7 +19,9 @@ use node_inbox::record;
 use node_outbox::report_verdict;
 use node_record::quiet_points_leave_the_tables;
 use node_votes::silent_points_leave_votes;
-use simplex_member::{Action, NodeFault, Speaks, awaited_verdicts_may_be_taken};
+use simplex_member::{
+    Action, NodeFault, Speaks, awaited_verdicts_may_be_taken, packets_are_read_back,
+};
 use types_core::{Digest, Round, Scheme, View};
 use types_terms::Elector;
 
@@ -53,6 +56,9 @@ pub(crate) fn take_verdict<S: Scheme<D> + Drop, L: Elector<S, D>, D: Digest, K: 
     ensures not_failed { ¬ IsErrOf result NodeFault.Failed }
 {
     awaited_verdicts_may_be_taken::<S, D>();
+    packets_are_read_back::<S, D>();
+    // The proof takes from the number how far it goes.
+    let _members = core.settings.scheme.participants();
     let round = Round::new(core.settings.owner.epoch, view);
     match record(&mut core.ledger, Artifact::Certification(round, ok)) {
         Ok(()) => learn_verdict(core, view, ok, out),
@@ -71,6 +77,7 @@ fn learn_verdict<S: Scheme<D> + Drop, L: Elector<S, D>, D: Digest, K: Disk>(
         → RecordIsAhead S.Scheme L.Elector K.Disk (⟦<S as Speaks<D>>⟧.formats (S.size s.voter.scheme)) s core.old h
         (Judged (record { epoch = s.voter.epoch; view = view }) ok)
         → IsAwaited s h view
+        → Allowed S.Scheme (⟦<S as Speaks<D>>⟧.formats (S.size s.voter.scheme)) s h (Judged (record { epoch = s.voter.epoch; view = view }) ok)
         → IsTaken S.Scheme L.Elector K.Disk (⟦<S as Speaks<D>>⟧.formats (S.size s.voter.scheme)) s core.new h
         (Judged (record { epoch = s.voter.epoch; view = view }) ok) out.old.items out.new.items) }
     ensures disk { disk_of core.new ≡ disk_of core.old }

@@ -73,6 +73,7 @@ module _ {S D P G C : Type 0} (g : Ghosts S D P G C) (f : Formats S D P G C) (s 
     order = begun;
     due = record { left = left; next = refl; due = first.due; names = names; handoff_is = (λ yes. early.0 (is.0 yes), λ so. is.1 (early.1 so)) };
     fits = tt;
+    readable = tt;
   }
 
   -- a build has one of the numbers that are left for it
@@ -203,9 +204,9 @@ module _ {S L D P G C : Type 0} (g : Ghosts S D P G C) (e : elector.Ghosts L S D
       → build_at h n ≡ Some (handoff, context) → IsKeptOrFalls g e f s new h handoff context true
       → ((view : ℕ) → KeepsTables (finalized_of s h) tables (GivesBack n view ∷ h)) → KeepsTables (finalized_of s h) tables (LeavesBehind n ∷ h) → WasAsked g e f s new tables h actions actions
   build_fell new tables h n handoff context actions begun there falls given_back left_behind = ⊎_elim
-      (λ behind. one_asked g e f s new tables h (LeavesBehind n) actions actions refl tt (record { order = begun; due = (handoff, context, there, behind.0); fits = tt }) behind.1 left_behind (nothing_more f actions))
+      (λ behind. one_asked g e f s new tables h (LeavesBehind n) actions actions refl tt (record { order = begun; due = (handoff, context, there, behind.0); fits = tt; readable = tt }) behind.1 left_behind (nothing_more f actions))
       (λ back.
-      one_asked g e f s new tables h (GivesBack n context.round.view) actions actions refl tt (record { order = begun; due = (handoff, context, there, refl, back.0); fits = tt }) back.1
+      one_asked g e f s new tables h (GivesBack n context.round.view) actions actions refl tt (record { order = begun; due = (handoff, context, there, refl, back.0); fits = tt; readable = tt }) back.1
       (given_back context.round.view) (nothing_more f actions))
       falls
 

@@ -224,7 +224,7 @@ room_here views view length cur same at room = subst (λ (n : ℕ). HasRoom n cu
 
 -- a look is allowed
 pub look_allowed : {S D P G C : Type 0} (g : Ghosts S D P G C) (f : Formats S D P G C) (s : Setup S D C) (h : History S D P G C) → is_begun h ≡ true → AreAllowed g f s h → AreAllowed g f s (Looks ∷ h)
-look_allowed g f s h begun all = (record { order = begun; due = tt; fits = tt }, all)
+look_allowed g f s h begun all = (record { order = begun; due = tt; fits = tt; readable = tt }, all)
 
 either_way : (b : Bool) → (b ≡ true) ⊎ (b ≡ false)
 either_way true = inl refl

@@ -119,7 +119,7 @@ module _ {S D P G C : Type 0} (g : Ghosts S D P G C) (f : Formats S D P G C) (s 
       → is_begun at ≡ true → HasFetched g f s tables h points at before mid → IsSought g f s at asked.view asked.ask asked.to → Fetches f s more at asked mid after sent
       → HasSought more h at points asked.view asked.ask asked.to before mid after sent
   seeks tables more h at points asked before mid after true begun k sought came =
-      let may : Allowed g f s at (Asks asked.view asked.ask asked.to) = record { order = begun; due = record { sought = sought; first = came.0 }; fits = tt } in
+      let may : Allowed g f s at (Asks asked.view asked.ask asked.to) = record { order = begun; due = record { sought = sought; first = came.0 }; fits = tt; readable = tt } in
       record {
         points = points ++ Asks asked.view asked.ask asked.to ∷ [];
         end = Asks asked.view asked.ask asked.to ∷ at;

@@ -241,7 +241,7 @@ module _ {S D P G C : Type 0} (g : Ghosts S D P G C) (f : Formats S D P G C) (s 
   puts_off (view ∷ waiting) h begun pairs ready =
       let x : Point S D P G C = PutsOff view in
       let here : IsReadyToWait h view = ready view (Contains-head view waiting) in
-      let may : Allowed g f s h x = record { order = begun; due = record { required = here.0; due = here.1; asked = here.2 }; fits = tt } in
+      let may : Allowed g f s h x = record { order = begun; due = record { required = here.0; due = here.1; asked = here.2 }; fits = tt; readable = tt } in
       let rest : HasPutOff waiting (x ∷ h) = puts_off waiting (x ∷ h) begun (pairs_rest (λ (u w : ℕ). u < w) view waiting pairs)
       (λ u there. still_ready h view u (pairs_first (λ (a b : ℕ). a < b) view waiting u pairs there) (ready u (Contains-rest view waiting u there))) in
       record {
@@ -435,7 +435,7 @@ module _ {S L D P G C : Type 0} (g : Ghosts S D P G C) (e : elector.Ghosts L S D
       let x : Point S D P G C = AsksCertify p in
       let token : Token = record { 0 = p.round.view } in
       let due : CertifyIsDue (member_of s) (known_of s k.end) p.round.view p = All-head Due p left k.due.due in
-      let may : Allowed g f s k.end x = record { order = k.begun; due = due; fits = tt } in
+      let may : Allowed g f s k.end x = record { order = k.begun; due = due; fits = tt; readable = tt } in
       let keeps : voting.Keeps g e s.voter more (certify_asked p.round.view token ∷ voter_of s k.end) = ⊎_elim
       (λ added. added.1)
       (λ untracked. absurd (untracked.0 (notarized_tracked s.voter (voter_of s k.end) p.round.view p due.opens.notarized)))

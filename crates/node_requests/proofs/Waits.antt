@@ -126,7 +126,7 @@ module _ {S D P G C : Type 0} (g : Ghosts S D P G C) (f : Formats S D P G C) (s 
   gives_up h voted k view p bad =
       let x : Point S D P G C = Latches view reason.InvalidProposal in
       let here : IsInvalid (member_of s) (known_of s k.end) view p = subst (λ (v : List (views.Point S D P G C)). IsInvalid (member_of s) (known s.voter v) view p) (sym k.voter_is) bad in
-      let may : Allowed g f s k.end x = record { order = k.begun; due = ((p, here), invalid_counts s.voter (voter_of s k.end) view p here); fits = tt } in
+      let may : Allowed g f s k.end x = record { order = k.begun; due = ((p, here), invalid_counts s.voter (voter_of s k.end) view p here); fits = tt; readable = tt } in
       record {
         points = k.points ++ x ∷ [];
         end = x ∷ k.end;
@@ -276,6 +276,7 @@ module _ {S L D P G C : Type 0} (g : Ghosts S D P G C) (e : elector.Ghosts L S D
         order = k.begun;
         due = record { left = number_behind g f s h look.end k left; next = refl; due = asks.due; parent = asks.parent; epoch = asks.epoch; leader = asks.leader };
         fits = tt;
+        readable = tt;
       } in
       asked_behind voter more h look.end k (x ∷ []) (x ∷ k.end) before after (record {
         are_asks = All-cons (λ (q : Point S D P G C). is_ask q ≡ true) x [] refl (All-nil (λ (q : Point S D P G C). is_ask q ≡ true));
@@ -313,11 +314,12 @@ module _ {S L D P G C : Type 0} (g : Ghosts S D P G C) (e : elector.Ghosts L S D
       resolves at voted k index asks leads true came =
           let a : Point S D P G C = Asks view (ancestry what) (Some index) in
           let r : Point S D P G C = Resolves proposal what view in
-          let ask : Allowed g f s k.end a = record { order = k.begun; due = record { sought = (what, proposal, refl, asks.missing, leads); first = came.0 }; fits = tt } in
+          let ask : Allowed g f s k.end a = record { order = k.begun; due = record { sought = (what, proposal, refl, asks.missing, leads); first = came.0 }; fits = tt; readable = tt } in
           let may : Allowed g f s (a ∷ k.end) r = record {
             order = k.begun;
             due = record { missing = asks.missing; index = index; leads = leads; asked = inr (Contains-head (record { view = view; ask = ancestry what; to = Some index }) (asks_of k.end)) };
             fits = tt;
+            readable = tt;
           } in
           asked_behind voter more h voted k (a ∷ r ∷ []) (r ∷ a ∷ k.end) before after (record {
             are_asks = All-cons (λ (q : Point S D P G C). is_ask q ≡ true) a (r ∷ []) refl (All-cons (λ (q : Point S D P G C). is_ask q ≡ true) r [] refl (All-nil (λ (q : Point S D P G C). is_ask q ≡ true)));
@@ -328,7 +330,7 @@ module _ {S L D P G C : Type 0} (g : Ghosts S D P G C) (e : elector.Ghosts L S D
           }) (inl tt)
       resolves at voted k index asks leads false came =
           let r : Point S D P G C = Resolves proposal what view in
-          let may : Allowed g f s k.end r = record { order = k.begun; due = record { missing = asks.missing; index = index; leads = leads; asked = came.0 }; fits = tt } in
+          let may : Allowed g f s k.end r = record { order = k.begun; due = record { missing = asks.missing; index = index; leads = leads; asked = came.0 }; fits = tt; readable = tt } in
           asked_behind voter more h voted k (r ∷ []) (r ∷ k.end) before after (record {
             are_asks = All-cons (λ (q : Point S D P G C). is_ask q ≡ true) r [] refl (All-nil (λ (q : Point S D P G C). is_ask q ≡ true));
             goes = (may, refl);
@@ -421,4 +423,4 @@ module _ {S L D P G C : Type 0} (g : Ghosts S D P G C) (e : elector.Ghosts L S D
       → WasAsked g e f s new tables h actions actions
   gave_up new repair voter tables h view actions k came =
       one_asked g e f s new tables h (Latches view reason.InvalidProposal) actions actions refl came.0
-      (record { order = k.begun; due = (came.0.there, came.0.counts); fits = tt }) came.1 k.tables_are (nothing_more f actions)
+      (record { order = k.begun; due = (came.0.there, came.0.counts); fits = tt; readable = tt }) came.1 k.tables_are (nothing_more f actions)

@@ -1,5 +1,5 @@
 -- What is kept of the votes of all views.
-use Rattle.std.specs.Prelude.{◌≡◌, ◌≢◌, ◌↔◌, ◌≤◌, ◌<◌, ◌==◌, ◌&&◌, nat_lt, not, ℕ, Bool, true, false, [], ◌∷◌, Option, Some, None, IfSome, IsSome, IsTrue, MatchOption, if◌then◌else◌, is_none, unwrap_or}
+use Rattle.std.specs.Prelude.{◌≡◌, ◌≢◌, ◌↔◌, ◌≤◌, ◌<◌, ◌==◌, ◌&&◌, nat_lt, not, ℕ, Bool, true, false, [], ◌∷◌, Option, Some, None, IfSome, IsSome, IsTrue, MatchOption, if◌then◌else◌, is_none, unwrap_or, ⊤}
 use Rattle.std.specs.BTreeSet.{contains}
 use Rattle.std.specs.Option.{option_or}
 use Rattle.std.specs.Ordering.{nat_cmp}
@@ -12,7 +12,7 @@ use Rattle.simplex_messages.specs.declared.activity.Activity.{Activity}
 use Rattle.simplex_messages.specs.VoteParts.{vote_round, vote_signer}
 use Rattle.batcher_admission.specs.declared.admission.Admission.{Admission}
 use Rattle.batcher_admission.specs.Evidence.{as_report}
-use Rattle.batcher_verifier.specs.ConstructionResult.{IsBatch, after}
+use Rattle.batcher_verifier.specs.ConstructionResult.{IsBatch, IsReadable, after}
 use Rattle.batcher_verifier.specs.History.{Event, Taken, Cast, Forwarded, History, Setup, forwardable, leader_of, next_kind, recorded, takes}
 use Rattle.batcher_verifier.specs.Votes.{vote_attestation, vote_statement}
 use Rattle.simplex_batcher.specs.Admission.{IsBlocked, contradicts, report_of}
@@ -68,6 +68,11 @@ module _ {S D P G C : Type 0} where
     pub unled : contains nat_cmp new.unled view ≡ contains nat_cmp old.unled view
 
 module _ {S D P G C : Type 0} where
+  -- where a certificate was made, it can be read in a committee of so many
+  abbrev pub CanBeRead : (ℕ → C → Type 0) → ℕ → Option (Due S D P G C) → Type 0
+  CanBeRead within members (Some (due.Made batch)) = IfSome batch.certificate (IsReadable within members)
+  CanBeRead within members due = ⊤
+
   -- of each view from this one on whose votes came up they know who leads
   abbrev pub AreLedFrom : (ℕ → Option Bool) → (ℕ → History S D P G C) → ℕ → Type 0
   AreLedFrom up happened from = (view : ℕ) → from ≤ view → IsSome (up view) → leader_of (happened view) ≢ None

@@ -16,7 +16,7 @@ ghost use Rattle.simplex_member.specs.Layers.{current_of, floor_of, may_enter, s
 ghost use Rattle.simplex_member.specs.Point.{Point, History, Came, Found, Heard, Leads, Votes};
 ghost use Rattle.simplex_member.specs.Setup.{Setup};
 ghost use Rattle.batcher_verifier.specs.History as votes;
-ghost use Rattle.node_votes.specs.Standing.{AreLedFrom, IsFirstUnled, happened_from, up_from};
+ghost use Rattle.node_votes.specs.Standing.{AreLedFrom, CanBeRead, IsFirstUnled, happened_from, up_from};
 ghost use Rattle.node_votes.specs.KeepsVotes.{AtEach, Does, IsAt, IsNewVote, IsOpenTo, IsSetUp, IsShut, Keeps, KeepsAhead, NoneIsDue};
 
 use crate::due::Due;
@@ -271,6 +271,9 @@ impl<S: Scheme<D> + Drop, D: Digest> Acceptance<S, D> {
     pub fn next_due(&mut self) -> Result<Option<(View, Due<S, D>)>, AllocError>
         ensures done { IfOk result
             (λ due. IfSome due (λ x. AtEach S.Scheme D.PartialEq.eq self.old (λ s h. Does S.Scheme D.PartialEq.eq s h self.new x.0 x.1))) }
+        ensures readable { IfOk result (λ due.
+            IfSome due (λ x.
+            AtEach S.Scheme D.PartialEq.eq self.old (λ s h. CanBeRead S.Certificate.within (S.size s.voter.scheme) (Some x.1)))) }
         ensures none { IfOk result (λ due.
             is_none due ≡ true
             → AtEach S.Scheme D.PartialEq.eq self.old

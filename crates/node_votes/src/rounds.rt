@@ -13,7 +13,7 @@ ghost use Rattle.simplex_batcher.specs.Queries.{has_nullify, is_missing_voter};
 ghost use Rattle.simplex_batcher.specs.Admission.{AgreesWithOwn, IsCastFault};
 ghost use Rattle.simplex_batcher.specs.Rounds.{RoundKeeps};
 ghost use Rattle.simplex_batcher.specs.Rounds as one;
-ghost use Rattle.node_votes.specs.Standing.{AreAlike, AreAtRest, AreLedFrom, AtEach, Common, IsAdmitted, IsFirstUnled, IsCast, IsDone, IsRoundDone, Stand, come_up, common_of, happened_from, is_passed, put, set_at, setup_at, setup_now, up_from};
+ghost use Rattle.node_votes.specs.Standing.{AreAlike, AreAtRest, AreLedFrom, AtEach, CanBeRead, Common, IsAdmitted, IsFirstUnled, IsCast, IsDone, IsRoundDone, Stand, come_up, common_of, happened_from, is_passed, put, set_at, setup_at, setup_now, up_from};
 
 use crate::due::Due;
 use simplex_batcher::{Admission, BatcherFault, Round};
@@ -369,6 +369,8 @@ impl<S: Scheme<D> + Drop, D: Digest> Rounds<S, D> {
         ensures done { IfOk result (λ due.
             AtEach S.Scheme D.PartialEq.eq self.old
             (λ s up happened. contains nat_cmp self.old.touched view ≡ true → IsDone S.Scheme D.PartialEq.eq s up happened self.new view due)) }
+        ensures readable { IfOk result (λ due.
+            AtEach S.Scheme D.PartialEq.eq self.old (λ s up happened. CanBeRead S.Certificate.within (S.size s.scheme) due)) }
         ensures rests { IfOk result (λ due.
             is_none due ≡ true → contains nat_cmp self.old.touched view ≡ true → btree_set_len self.new.touched < btree_set_len self.old.touched) }
         ensures err { OnErr result (AtEach S.Scheme D.PartialEq.eq self.old (λ s up happened. Stand S.Scheme D.PartialEq.eq s self.new up happened)) }
@@ -394,6 +396,9 @@ impl<S: Scheme<D> + Drop, D: Digest> Rounds<S, D> {
         ensures done { IfOk result (λ due.
             IfSome due (λ x.
             AtEach S.Scheme D.PartialEq.eq self.old (λ s up happened. IsDone S.Scheme D.PartialEq.eq s up happened self.new x.0 (Some x.1)))) }
+        ensures readable { IfOk result (λ due.
+            IfSome due (λ x.
+            AtEach S.Scheme D.PartialEq.eq self.old (λ s up happened. CanBeRead S.Certificate.within (S.size s.scheme) (Some x.1)))) }
         ensures none { IfOk result (λ due.
             is_none due ≡ true
             → AtEach S.Scheme D.PartialEq.eq self.old
@@ -482,6 +487,8 @@ fn due_of<S: Scheme<D>, D: Digest>(
 ) -> Result<Option<Due<S, D>>, AllocError>
     ensures done { IfOk result
         (λ due. one.AtEach D.PartialEq.eq S.Scheme S.batchable round.old (λ s h. IsRoundDone S.Scheme D.PartialEq.eq s h me round.new due)) }
+    ensures readable { IfOk result
+        (λ due. one.AtEach D.PartialEq.eq S.Scheme S.batchable round.old (λ s h. CanBeRead S.Certificate.within s.members due)) }
     ensures err { OnErr result
         (one.AtEach D.PartialEq.eq S.Scheme S.batchable round.old (λ s h. RoundKeeps D.PartialEq.eq S.Scheme S.batchable s round.new h)) }
 {

@@ -1,6 +1,6 @@
 -- A vote in a correct member's name is one that it recorded.
 use Rattle.std.proofs.Common.{◌≡◌, ⊎_elim, ℕ, Bool, true, false, List, [], ◌∷◌, ◌++◌, Option, Some, refl, sym, ◌∙◌, ap, subst, arith, append_assoc}
-use Rattle.std.specs.Prelude.{Contains, if◌then◌else◌}
+use Rattle.std.specs.Prelude.{Contains, if◌then◌else◌, IfSome}
 use Rattle.std.proofs.lemmas.List.Elements.{Contains-append_cases}
 use Rattle.types_quorum.specs.Counting.{Contains-cases}
 use Rattle.types_core.specs.declared.scheme.Scheme.{Ghosts}
@@ -28,7 +28,7 @@ use Rattle.simplex_member.specs.Deeds.{Deed, Sends, Serves, Blocks, Reports, all
 use Rattle.simplex_member.specs.Laws.{AreReadBack, IsOwnAndSound, RecordLaws}
 use Rattle.simplex_member.specs.Lives.{Course, Life, Broken, Lasting, Turn, Refuses, Went, AreFaithful, CameIn, HandedOut, HandsOutBytes, Holds, LiveByNodes, Lived, Lives, Members, Turns, WasHanded, handed_out, turn_deeds}
 use Rattle.simplex_member.specs.Member.{Goes, after}
-use Rattle.simplex_member.specs.Packet.{Formats, IsReadable, Packet, of_ask, of_certificate, of_vote}
+use Rattle.simplex_member.specs.Packet.{Formats, IsReadable, Packet, of_ask, of_certificate, of_vote, packet_of}
 use Rattle.simplex_member.specs.Point.{Point, History}
 use Rattle.simplex_member.specs.Recorded.{record_of}
 use Rattle.simplex_member.specs.Refusals.{blocks_sender, evidence_deeds, refused_deeds, refusal_report}
@@ -39,6 +39,7 @@ use Rattle.simplex_member.proofs.Lists.{Contains-mapped, Lacks, lacks-absurd, la
 use Rattle.simplex_member.proofs.Living.{all-lives-lawful}
 use Rattle.simplex_member.proofs.Sending.{sent-recorded, vote_in}
 use Rattle.simplex_member.proofs.Telling.{apart}
+use Rattle.simplex_member.proofs.Rereading.{left-readable}
 
 -- where something stands in a list, the list splits
 pub record Splits {X : Type 0} (xs : List X) (x : X) : Type 0 where
@@ -143,10 +144,13 @@ module _ {S D P G C : Type 0} (g : Ghosts S D P G C) (f : Formats S D P G C) (sc
       }
 
   -- a vote that it recorded can be read
-  pub vote-readable : AreFaithful g f scheme m world → (j : ℕ) → IsCorrect world j → (v : Vote S D P G C) → Contains (world.recorded j) (vote_artifact v) → IsReadable f (of_vote v)
-  vote-readable faithful j correct (vote.Notarize v) here = faithful.readable j correct (artifact.Notarize v) here
-  vote-readable faithful j correct (vote.Nullify v) here = faithful.readable j correct (artifact.Nullify v) here
-  vote-readable faithful j correct (vote.Finalize v) here = faithful.readable j correct (artifact.Finalize v) here
+  pub vote-readable : AreReadBack f → LiveByNodes g f scheme m world → (j : ℕ) → IsCorrect world j → (v : Vote S D P G C) → Contains (world.recorded j) (vote_artifact v) → IsReadable f (of_vote v)
+  vote-readable back w j correct v here = vote-read v (back.recorded (vote_artifact v) (left-readable g f (m.setup j) (m.lives j) (world.recorded j) (w.lived j correct) (vote_artifact v) here))
+    where
+      vote-read : (u : Vote S D P G C) → IfSome (packet_of (vote_artifact u)) (IsReadable f) → IsReadable f (of_vote u)
+      vote-read (vote.Notarize u) read = read
+      vote-read (vote.Nullify u) read = read
+      vote-read (vote.Finalize u) read = read
 
   -- so is each vote that came in to a correct member by a packet of it
   pub came-sound : RecordLaws g → AreReadBack f → LiveByNodes g f scheme m world → AreFaithful g f scheme m world → (i j : ℕ) → IsCorrect world i → IsCorrect world j → (v : Vote S D P G C) → CameIn g f scheme m world i j (of_vote v) → IsOwnAndSound world j v
@@ -156,7 +160,7 @@ module _ {S D P G C : Type 0} (g : Ghosts S D P G C) (f : Formats S D P G C) (sc
       by-deed by bytes read (Sends to (of_vote u)) sent is =
           let sound = own-sound grows w j cj to u sent in
           let read_so : f.packet_in channel.Votes (f.packet (of_vote u)) ≡ Some (of_vote v) = subst (λ (b : List ℕ). f.packet_in channel.Votes b ≡ Some (of_vote v)) is.1 (subst (λ (c : Channel). f.packet_in c bytes ≡ Some (of_vote v)) is.0 read) in
-          let one : of_vote v ≡ of_vote u = some-is (of_vote v) (of_vote u) (sym read_so ∙ back.again (of_vote u) (vote-readable faithful j cj u sound.recorded)) in
+          let one : of_vote v ≡ of_vote u = some-is (of_vote v) (of_vote u) (sym read_so ∙ back.again (of_vote u) (vote-readable back w j cj u sound.recorded)) in
           own-sound grows w j cj to v (subst (λ (y : Packet S D P G C). HandedOut g f scheme m world j (Sends to y)) (sym one) sent)
       by-deed by bytes read (Sends to (of_certificate c)) sent is = absurd (apart (sym (ap is_votes (back.by_channel by bytes (of_vote v) read ∙ is.0))))
       by-deed by bytes read (Sends to (of_ask view)) sent is = absurd (apart (sym (ap is_votes (back.by_channel by bytes (of_vote v) read ∙ is.0))))

@@ -1,6 +1,6 @@
 -- No correct member blocks a correct one.
 use Rattle.std.proofs.Common.{◌≡◌, ⊎_elim, ℕ, Bool, true, false, List, [], ◌∷◌, ◌++◌, Option, Some, refl, sym, ◌∙◌, ap, subst}
-use Rattle.std.specs.Prelude.{Contains, if◌then◌else◌, ⊤}
+use Rattle.std.specs.Prelude.{Contains, if◌then◌else◌, ⊤, IfSome}
 use Rattle.std.proofs.lemmas.Option.{none-some}
 use Rattle.std.proofs.lemmas.List.Elements.{Contains-append_cases}
 use Rattle.types_quorum.specs.Counting.{Contains-nil}
@@ -26,9 +26,9 @@ use Rattle.simplex_member.specs.declared.refusal.Refusal.TheVariants as refusal
 use Rattle.simplex_member.specs.Allowed.{Allowed}
 use Rattle.simplex_member.specs.Deeds.{Deed, Sends, Serves, Blocks, Reports}
 use Rattle.simplex_member.specs.First.{IsFirst}
-use Rattle.simplex_member.specs.Laws.{AreReadBack, DoAttestAlike, HoldsNoVote, IsRefusedFor, RecordLaws, RoundLaws}
+use Rattle.simplex_member.specs.Laws.{AreReadBack, DoAttestAlike, HoldsNoVote, IsRefusedFor, ReadsAsPacket, RecordLaws, RoundLaws}
 use Rattle.simplex_member.specs.Lives.{AreFaithful, Carries, HandedOut, HandsOutBytes, LiveByNodes, Members}
-use Rattle.simplex_member.specs.Packet.{Formats, IsReadable, Packet, of_vote, of_certificate, of_ask, packet_channel}
+use Rattle.simplex_member.specs.Packet.{Formats, IsReadable, Packet, of_ask, of_certificate, of_vote, packet_channel, packet_of}
 use Rattle.simplex_member.specs.Point.{Point, History}
 use Rattle.simplex_member.specs.Recorded.{record_of, recorded_by}
 use Rattle.simplex_member.specs.Refusals.{blocks_sender, evidence_deeds, packet_tests, refusal_report, refused_deeds, sender_tests, tests}
@@ -46,6 +46,7 @@ use Rattle.simplex_member.proofs.Serving.{served-spelled}
 use Rattle.simplex_member.proofs.Spared.{evidence-spares, report-spares, sender-alone, spares}
 use Rattle.simplex_member.proofs.Walk.{refused-alone}
 use Rattle.simplex_member.proofs.Walking.{deed-done, reached-goes, reached-heard}
+use Rattle.simplex_member.proofs.Rereading.{left-readable}
 
 module _ {S D P G C : Type 0} where
   -- a deed hands out bytes
@@ -118,7 +119,7 @@ module _ {S D P G C : Type 0} (g : Ghosts S D P G C) (f : Formats S D P G C) (sc
         (λ at. absurd (refused-none at.life.setup at.h at.e at.r (Serves member bytes) refl at.done))
         (deed-done g f scheme m world j w cj (Serves member bytes) out)
 
-    module _ (known : EachHistoryMatches S D P G C) (law : WhatIsProducedCame) (back : AreReadBack f) (faithful : AreFaithful g f scheme m world) where
+    module _ (known : EachHistoryMatches S D P G C) (law : WhatIsProducedCame) (back : AreReadBack f) where
       -- a packet, of which a certificate is recorded by the sender
       abbrev IsFine : Packet S D P G C → Type 0
       IsFine (of_vote v) = ⊤
@@ -137,9 +138,13 @@ module _ {S D P G C : Type 0} (g : Ghosts S D P G C) (f : Formats S D P G C) (sc
 
       -- a certificate that it recorded can be read
       certificate-readable : (c : Certificate S D P G C) → Contains (world.recorded j) (certificate_artifact c) → IsReadable f (of_certificate c)
-      certificate-readable (certificate.Notarization c) here = faithful.readable j cj (artifact.Notarization c) here
-      certificate-readable (certificate.Nullification c) here = faithful.readable j cj (artifact.Nullification c) here
-      certificate-readable (certificate.Finalization c) here = faithful.readable j cj (artifact.Finalization c) here
+      certificate-readable c here = certificate-read c (back.recorded (certificate_artifact c)
+          (left-readable g f (m.setup j) (m.lives j) (world.recorded j) (w.lived j cj) (certificate_artifact c) here))
+        where
+          certificate-read : (d : Certificate S D P G C) → IfSome (packet_of (certificate_artifact d)) (IsReadable f) → IsReadable f (of_certificate d)
+          certificate-read (certificate.Notarization d) read = read
+          certificate-read (certificate.Nullification d) read = read
+          certificate-read (certificate.Finalization d) read = read
 
       -- and so can an ask that it sends
       ask-readable : (to : Option ℕ) (view : ℕ) → HandedOut g f scheme m world j (Sends to (of_ask view)) → IsReadable f (of_ask view)
@@ -154,9 +159,21 @@ module _ {S D P G C : Type 0} (g : Ghosts S D P G C) (f : Formats S D P G C) (sc
 
       -- so can all that it sends
       sent-readable : (to : Option ℕ) (x : Packet S D P G C) → HandedOut g f scheme m world j (Sends to x) → IsReadable f x
-      sent-readable to (of_vote v) out = vote-readable g f scheme m world faithful j cj v (own-sound g f scheme m world grows w j cj to v out).recorded
+      sent-readable to (of_vote v) out = vote-readable g f scheme m world back w j cj v (own-sound g f scheme m world grows w j cj to v out).recorded
       sent-readable to (of_certificate c) out = certificate-readable c (sent-recorded to c out)
       sent-readable to (of_ask view) out = ask-readable to view out
+
+      served-read : (bytes : List ℕ) → IsServed bytes → (c : Certificate S D P G C) × (f.packet_in channel.Certificates bytes ≡ Some (of_certificate c))
+      served-read bytes of = (
+        of.c,
+        ap (f.packet_in channel.Certificates) (of.are ∙ back.certificates of.c) ∙ back.again (of_certificate of.c) (certificate-readable of.c of.recorded),
+      )
+
+      -- all that it hands out is in the grammar
+      pub in-grammar : (d : Deed S D P G C) → HandedOut g f scheme m world j d → ReadsAsPacket g f d
+      in-grammar (Sends to x) out = back.again x (sent-readable to x out)
+      in-grammar (Serves member bytes) out = served-read bytes (served-recorded law member bytes out)
+      in-grammar d out = tt
 
       at-channel : (by at : Channel) (bytes own : List ℕ) (x : Packet S D P G C) → by ≡ at → bytes ≡ own → f.packet_in at own ≡ Some x → f.packet_in by bytes ≡ Some x
       at-channel by at bytes own x e b read =
@@ -220,7 +237,7 @@ module _ {S D P G C : Type 0} (g : Ghosts S D P G C) (f : Formats S D P G C) (sc
         (λ report. absurd (report-spares g f s is.r (evidence_deeds g f s h sender o) j (evidence-spares g f s h sender o j) report))
         (Contains-append_cases (if blocks_sender is.r then Blocks sender ∷ [] else []) (refusal_report g f s is.r (evidence_deeds g f s h sender o)) (Blocks j) blocks) in
         let by_deed = faithful.handed i j is.e by bytes.items ci cj is.handed (subst (λ (x : Event D). Carries g f scheme m world x j by bytes.items) (sym same) (holds.0, refl, refl)) in
-        let of = handed-read grows w j cj known law back faithful by bytes.items by_deed.0 by_deed.1 by_deed.2 in
+        let of = handed-read grows w j cj known law back by bytes.items by_deed.0 by_deed.1 by_deed.2 in
         none-first s is.own h of.x of.fine (λ v e. holds.1 v (of.is ∙ ap (λ (x : Packet S D P G C). Some x) e)) is.r
         (subst (λ (x : Option (Packet S D P G C)). IsFirst (sender_tests g f s j ++ packet_tests g f s h j x) (Some is.r)) of.is
         (subst (λ (k : ℕ). IsFirst (sender_tests g f s k ++ packet_tests g f s h k o) (Some is.r)) holds.0 first)) who.0

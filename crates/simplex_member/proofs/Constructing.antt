@@ -27,9 +27,9 @@ use Rattle.batcher_verifier.specs.Votes.{is_kind, vote_kind, vote_statement}
 use Rattle.simplex_member.specs.Allowed.{Allowed, AreAllowed, MayRecord}
 use Rattle.simplex_member.specs.Laws.{RecordLaws, RoundLaws}
 use Rattle.simplex_member.specs.Layers.{all_votes, floor_of, is_begun, passes_over, stage, votes_of, votes_setup}
-use Rattle.simplex_member.specs.Packet.{Formats}
+use Rattle.simplex_member.specs.Packet.{Formats, IsRecordable}
 use Rattle.simplex_member.specs.Point.{Point, Constructs, Heard, History}
-use Rattle.simplex_member.specs.Recorded.{record_of}
+use Rattle.simplex_member.specs.Recorded.{added_by, record_of}
 use Rattle.simplex_member.specs.Setup.{Setup}
 use Rattle.simplex_member.proofs.Ballots.{kept-all, stage-kept, votes-lawful}
 use Rattle.simplex_member.proofs.Blame.{parent-below}
@@ -215,5 +215,5 @@ module _ {S D P G C : Type 0} (g : Ghosts S D P G C) (f : Formats S D P G C) (s 
     made-fits None e = tt
     made-fits (Some c) e = may c e
 
-    pub made-allowed : is_begun h ≡ true → Allowed g f s h (Constructs view kind batch)
-    made-allowed begun = record { order = begun; due = (stage-is, next, is); fits = made-fits batch.certificate refl }
+    pub made-allowed : is_begun h ≡ true → IfSome (added_by (Constructs view kind batch)) (IsRecordable f) → Allowed g f s h (Constructs view kind batch)
+    made-allowed begun readable = record { order = begun; due = (stage-is, next, is); fits = made-fits batch.certificate refl; readable = readable }

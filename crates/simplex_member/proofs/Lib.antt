@@ -52,3 +52,4 @@ mod Nullified
 mod Coming
 mod Completing
 mod Constructing
+mod Rereading

@@ -18,8 +18,8 @@ module _ {S D P G C : Type 0} (g : Ghosts S D P G C) (f : Formats S D P G C) (s 
   -- an empty record is gone through at once
   pub empty-goes : (now : ℕ) → IsInTime s now → Goes g f s [] (Opened now ∷ Began ∷ []) (Began ∷ Opened now ∷ [])
   empty-goes now early = (
-    record { order = refl; due = early; fits = tt },
-    (record { order = (cons-some (Opened now) [], refl); due = tt; fits = tt }, refl),
+    record { order = refl; due = early; fits = tt; readable = tt },
+    (record { order = (cons-some (Opened now) [], refl); due = tt; fits = tt; readable = tt }, refl),
   )
 
   pub empty-opening : (now : ℕ) → AreOpening g f s now [] (Opened now ∷ Began ∷ [])

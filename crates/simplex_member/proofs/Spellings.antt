@@ -1,15 +1,17 @@
 -- Packets that can be read are read back from their own bytes.
 use Rattle.std.proofs.Common.{◌≡◌, ℕ, ◌<◌, Bool, List, [], ◌∷◌, Some, Result, Ok, Err, refl, sym, ◌∙◌, ap, subst, arith}
-use Rattle.std.specs.Prelude.{◌-◌, ◌^◌, option_map}
+use Rattle.std.specs.Prelude.{All, Contains, ◌-◌, ◌^◌, option_map}
 use Rattle.std.proofs.lemmas.List.{append-nil}
+use Rattle.std.proofs.lemmas.List.Elements.{All-contains_itself, All-weaker}
 use Rattle.std.proofs.lemmas.Option.{none-some}
 use Rattle.types_codec.specs.declared.codec.CodecError.{CodecError}
 use Rattle.types_codec.specs.Codec.{IsCodec, Readable}
 use Rattle.types_codec.specs.Varint.{varint, varint_at, varint-IsCodec}
+use Rattle.messages_certificates.specs.declared.artifact.Artifact.{Artifact}
 use Rattle.messages_certificates.specs.declared.artifact.Artifact.TheVariants as artifact
 use Rattle.messages_certificates.specs.declared.certificate.Certificate.{Certificate}
 use Rattle.messages_certificates.specs.declared.certificate.Certificate.TheVariants as certificate
-use Rattle.messages_certificates.specs.Artifact.{artifact_fits, artifact_within}
+use Rattle.messages_certificates.specs.Artifact.{artifact-IsCodec, artifact_at, artifact_fits, artifact_spelling, artifact_within, certificate_artifact}
 use Rattle.messages_certificates.specs.Certificate.{any_certificate_at, any_certificate_fits, any_certificate_spelling, any_certificate_within, any_certificate-IsCodec, certificate_round}
 use Rattle.messages_certificates.specs.Nullification.{nullification_fits}
 use Rattle.messages_certificates.specs.ProposalCertificate.{certificate_fits}
@@ -19,7 +21,7 @@ use Rattle.simplex_messages.specs.Vote.{any_vote_at, any_vote_fits, any_vote_spe
 use Rattle.simplex_member.specs.declared.event.Channel.{Channel}
 use Rattle.simplex_member.specs.declared.event.Channel.TheVariants as channel
 use Rattle.simplex_member.specs.Laws.{AreReadBack, CanBeSent}
-use Rattle.simplex_member.specs.Packet.{Formats, IsReadable, Packet, formats, of_ask, of_certificate, of_vote, packet_channel, whole}
+use Rattle.simplex_member.specs.Packet.{Formats, IsReadable, IsRecordable, Packet, formats, of_ask, of_certificate, of_vote, packet_channel, whole}
 use Rattle.simplex_member.proofs.Entering.{mapped}
 use Rattle.simplex_member.proofs.Lists.{some-is}
 
@@ -33,6 +35,10 @@ read-again : {A : Type 0} {Fits : A → Type 0} {spelling : A → List ℕ} {rea
 read-again {A} {Fits} {spelling} {reading} codec bytes x is =
     let took = codec.takes bytes x [] (whole-is (reading bytes) x is) in
     ap whole (subst (λ (l : List ℕ). reading l ≡ Ok (x, [])) (append-nil (spelling x)) (codec.again x [] took.1))
+
+-- what can be read at all is read of its own spelling
+read-whole : {A : Type 0} {Fits : A → Type 0} {spelling : A → List ℕ} {reading : List ℕ → Result (A × List ℕ) CodecError} → IsCodec Fits spelling reading → (x : A) → Fits x → whole (reading (spelling x)) ≡ Some x
+read-whole {A} {Fits} {spelling} {reading} codec x fits = ap whole (subst (λ (l : List ℕ). reading l ≡ Ok (x, [])) (append-nil (spelling x)) (codec.again x [] fits))
 
 -- under another form
 mapped-again : {A B : Type 0} {Fits : A → Type 0} {spelling : A → List ℕ} {reading : List ℕ → Result (A × List ℕ) CodecError} (made : A → B) → IsCodec Fits spelling reading → ((x y : A) → made x ≡ made y → x ≡ y)
@@ -110,9 +116,6 @@ module _ {S D P G C : Type 0} where
     asks : (view : ℕ) → view < 2 ^ 64 → IsReadable These (of_ask view)
     asks view small = (varint view, spelled-so {reading = varint_at (2 ^ 64 - 1)} of_ask (varint-IsCodec (2 ^ 64 - 1)) view (omega (arith, small)))
 
-    pub read-back : AreReadBack These
-    read-back = record { by_channel = by-channel; again = read-so; certificates = λ c. refl; views = views; asks = asks }
-
     vote-sent : (v : Vote S D P G C) → any_vote_fits Q F v → IsReadable These (of_vote v)
     vote-sent v fits = (any_vote_spelling p q v, spelled-so {reading = any_vote_at (p_at n) (q_at n)} of_vote (any_vote-IsCodec payloads signatures) v fits)
 
@@ -129,3 +132,52 @@ module _ {S D P G C : Type 0} where
     can-be-sent (artifact.Nullification c) fits = certificate-sent (certificate.Nullification c) fits
     can-be-sent (artifact.Finalize v) fits = vote-sent (vote.Finalize v) fits.0
     can-be-sent (artifact.Finalization c) fits = certificate-sent (certificate.Finalization c) fits
+
+    -- what can be recorded can be read under the bound of the packets
+    recorded-fits : (x : Artifact S D P G C) → IsRecordable These x → Readable (artifact_fits Q F R) (artifact_within W) x
+    recorded-fits x readable =
+        ((artifact-IsCodec payloads signatures certificates).takes readable.0 x [] (whole-is (artifact_at (p_at n) (q_at n) (r_at n) readable.0) x readable.1)).1
+
+    -- and what can be read so can be recorded
+    pub recordable : (x : Artifact S D P G C) → Readable (artifact_fits Q F R) (artifact_within W) x → IsRecordable These x
+    recordable x fits = (artifact_spelling p q r x, read-whole (artifact-IsCodec payloads signatures certificates) x fits)
+
+    certificate-kept : (c : Certificate S D P G C) → Readable (any_certificate_fits Q R) (any_certificate_within W) c → Readable (artifact_fits Q F R) (artifact_within W) (certificate_artifact c)
+    unfolding artifact_fits artifact_within any_certificate_fits any_certificate_within
+    certificate-kept (certificate.Notarization c) fits = fits
+    certificate-kept (certificate.Nullification c) fits = fits
+    certificate-kept (certificate.Finalization c) fits = fits
+
+    taken : (c : Certificate S D P G C) → IsReadable These (of_certificate c) → IsRecordable These (certificate_artifact c)
+    taken c readable =
+        recordable (certificate_artifact c)
+        (certificate-kept c (read-fits {reading = any_certificate_at (p_at n) (r_at n)} of_certificate (any_certificate-IsCodec payloads certificates) certificate-is readable.0 c readable.1))
+
+    pub read-back : AreReadBack These
+    read-back = record {
+      by_channel = by-channel;
+      again = read-so;
+      certificates = λ c. refl;
+      views = views;
+      asks = asks;
+      recorded = λ x readable. can-be-sent x (recorded-fits x readable);
+      taken = taken;
+    }
+
+    within-more : (V : C → Type 0) → ((c : C) → W c → V c) → (y : Artifact S D P G C) → artifact_within W y → artifact_within V y
+    unfolding artifact_within
+    within-more V more (artifact.Notarize v) within = within
+    within-more V more (artifact.Notarization c) within = more c.certificate within
+    within-more V more (artifact.Certification round ok) within = within
+    within-more V more (artifact.Nullify v) within = within
+    within-more V more (artifact.Nullification c) within = more c.certificate within
+    within-more V more (artifact.Finalize v) within = within
+    within-more V more (artifact.Finalization c) within = more c.certificate within
+
+    -- the disk takes for an artifact what can be recorded, where it reads under no smaller bound
+    recorded-on-disk : (V : C → Type 0) → ((c : C) → W c → V c) → (x : Artifact S D P G C) → IsRecordable These x → Readable (artifact_fits Q F R) (artifact_within V) x
+    recorded-on-disk V more x readable = let fits = recorded-fits x readable in (fits.0, within-more V more x fits.1)
+
+    -- so it is of all artifacts of a list
+    pub all-on-disk : (V : C → Type 0) → ((c : C) → W c → V c) → (xs : List (Artifact S D P G C)) → ((x : Artifact S D P G C) → Contains xs x → IsRecordable These x) → All (Readable (artifact_fits Q F R) (artifact_within V)) xs
+    all-on-disk V more xs each = All-weaker (Contains xs) (Readable (artifact_fits Q F R) (artifact_within V)) (λ x here. recorded-on-disk V more x (each x here)) xs (All-contains_itself xs)

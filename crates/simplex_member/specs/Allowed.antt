@@ -40,9 +40,9 @@ use Rattle.simplex_resolver.specs.declared.ask.Kind.TheVariants as repair_kind
 use Rattle.simplex_resolver.specs.Outstanding.{IsOutstanding}
 use Rattle.simplex_member.specs.Asked.{HasNumber, IsAnswered, IsAwaited, ancestry, backfill, build_at, check_at, last_heard, next_number}
 use Rattle.simplex_member.specs.Layers.{current_of, finalized_of, is_begun, known_of, latest, reason_of, repair_of, stage, voter_of, votes_of, votes_setup}
-use Rattle.simplex_member.specs.Packet.{Formats}
+use Rattle.simplex_member.specs.Packet.{Formats, IsRecordable}
 use Rattle.simplex_member.specs.Point.{Outcome, Counts, Falls, Passes, Point, Opened, Found, Began, Told, Heard, Came, Wanted, Built, Checked, Judged, Leads, Forwards, Constructs, Latches, Looks, AsksBuild, AsksVerify, AsksCertify, GivesBack, LeavesBehind, PutsOff, Asks, Resolves, Votes, Repeats, History}
-use Rattle.simplex_member.specs.Recorded.{record_of, recorded_by}
+use Rattle.simplex_member.specs.Recorded.{added_by, record_of, recorded_by}
 use Rattle.simplex_member.specs.Refusals.{AdmitsVote}
 use Rattle.simplex_member.specs.Setup.{Setup, IsInTime, owner_of, member_of}
 
@@ -225,12 +225,13 @@ module _ {S D P G C : Type 0} (g : Ghosts S D P G C) (f : Formats S D P G C) (s 
   abbrev pub MayRecord : History S D P G C → Artifact S D P G C → Type 0
   MayRecord h x = Fits (g.attests s.voter.scheme) (g.certifies s.voter.scheme) (owner_of s) (record_of h) x
 
-  -- what may come next: in order, due, and what it records may stand behind the record. Of a vote that is due the rules on records ask
-  -- nothing more (`due_may_be_recorded`): there the last is about who signed, and that it attests
+  -- what may come next: in order, due, what it records may stand behind the record, and what it adds to that can be read again. Of a vote that is due the rules on records ask
+  -- nothing more (`due_may_be_recorded`): there the third is about who signed, and that it attests
   pub record Allowed (h : History S D P G C) (p : Point S D P G C) : Type 0 where
     pub order : IsInOrder h p
     pub due : IsDue h p
     pub fits : IfSome (recorded_by p) (MayRecord h)
+    pub readable : IfSome (added_by p) (IsRecordable f)
 
   -- each point was allowed behind those before it
   abbrev pub AreAllowed : History S D P G C → Type 0

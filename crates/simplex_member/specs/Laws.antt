@@ -48,9 +48,10 @@ use Rattle.voter_rules.specs.GivingUp.{IsTracked}
 use Rattle.voter_laws.specs.Matching as voter
 use Rattle.voter_laws.specs.Matching.{IsOrderly, IsBound, round_of}
 use Rattle.voter_laws.specs.Placing.{AreOfTheirViews}
-use Rattle.journal_single.specs.Record.{Reads}
+use Rattle.journal_single.specs.Record.{IsForeign, Reads}
 use Rattle.simplex_member.specs.declared.action.Reply.{Reply}
 use Rattle.simplex_member.specs.declared.event.Channel.{Channel}
+use Rattle.simplex_member.specs.declared.event.Channel.TheVariants as channel
 use Rattle.simplex_member.specs.declared.event.Event.{Event}
 use Rattle.simplex_member.specs.declared.event.Event.TheVariants as event
 use Rattle.simplex_member.specs.Allowed.{Allowed, AreAllowed, RepeatIsDue, VoteIsDue}
@@ -66,9 +67,9 @@ use Rattle.simplex_member.specs.Deeds.{Deed, Sends, Serves, Blocks, Reports, all
 use Rattle.simplex_member.specs.Layers.{current_of, finalized_of, floor_of, is_begun, known_of, repair_of, stage, voter_of, votes_of, votes_setup}
 use Rattle.simplex_member.specs.Lives.{Life, Lives, Members, LiveByNodes, AtMostFLie, AreFaithful, HandedOut, CameIn, IsHonestVote, WasHanded, points_of}
 use Rattle.simplex_member.specs.Member.{AreOpening, Goes, NoneDue, Run, AreStep, ReadsAs, after}
-use Rattle.simplex_member.specs.Packet.{Formats, IsReadable, Packet, of_vote, of_certificate, of_ask, packet_channel, packet_of}
+use Rattle.simplex_member.specs.Packet.{Formats, IsReadable, IsRecordable, Packet, of_vote, of_certificate, of_ask, packet_channel, packet_of}
 use Rattle.simplex_member.specs.Point.{Point, Opened, Began, Constructs, Heard, Wanted, Asks, Repeats, Votes, History}
-use Rattle.simplex_member.specs.Recorded.{notarization_in, record_of, recorded_by, reported}
+use Rattle.simplex_member.specs.Recorded.{added_by, notarization_in, record_of, recorded_by, reported}
 use Rattle.simplex_member.specs.Setup.{Setup, DeadlinesLieAhead, GoesByMembers, IsInTime, IsOfOneMember, owner_of, member_of}
 
 -- payloads that are compared as one are one
@@ -224,11 +225,11 @@ module _ {S D P G C : Type 0} (g : Ghosts S D P G C) (f : Formats S D P G C) (s 
   MadeListVotes = (h : History S D P G C) (points : List (Point S D P G C)) (view : ℕ) (kind : Kind) (batch : Batch (Certificate S D P G C)) (c : Certificate S D P G C) → Goes g f s [] points h
       → Allowed g f s h (Constructs view kind batch) → batch.certificate ≡ Some c → (a : Attestation G) → Contains (g.lists (certified_by c)) a → IsOfVote h (certificate_statement c) a
 
-  -- what a construction gives that is due may be taken, its certificate recorded: nothing more is asked of it than that
+  -- what a construction gives that is due may be taken, its certificate recorded where it can be read again: nothing more is asked of it
   abbrev pub MadeIsAllowed : Type 0
   MadeIsAllowed = (h : History S D P G C) (view : ℕ) (kind : Kind) (batch : Batch (Certificate S D P G C)) → 0 < g.size s.voter.scheme → AreAllowed g f s h → is_begun h ≡ true
       → IsSome (stage s h view) → votes.next_kind f.same (votes_setup s g h view) (votes_of s h view) ≡ Some kind → IsBatch g f.same (votes_setup s g h view) kind (votes_of s h view) batch
-      → Allowed g f s h (Constructs view kind batch)
+      → IfSome (added_by (Constructs view kind batch)) (IsRecordable f) → Allowed g f s h (Constructs view kind batch)
 
   -- ---- how the layers' words meet, of a history that points led to
 
@@ -321,6 +322,21 @@ module _ {S D P G C : Type 0} (g : Ghosts S D P G C) (f : Formats S D P G C) (s 
   LivesLeaveLawful = (lives : List (Life S D P G C)) (left : List (Artifact S D P G C)) → Lives g f s [] lives left
       → IsLawful (g.attests s.voter.scheme) (g.certifies s.voter.scheme) (owner_of s) left
 
+  -- and each artifact of it can be read again
+  abbrev pub LivesLeaveReadable : Type 0
+  LivesLeaveReadable = (lives : List (Life S D P G C)) (left : List (Artifact S D P G C)) → Lives g f s [] lives left
+      → (x : Artifact S D P G C) → Contains left x → IsRecordable f x
+
+  -- so a disk that reads as what lives left holds no foreign entry, by what the disk takes for an artifact
+  abbrev pub NeverForeign : (Artifact S D P G C → Type 0) → Type 0
+  NeverForeign Fits = (lives : List (Life S D P G C)) (left : List (Artifact S D P G C)) (image : List ℕ) (place : ℕ) → Lives g f s [] lives left
+      → Reads image (map f.artifact left) → ¬ IsForeign [] Fits f.artifact image place
+
+  -- and it reads as no other artifacts: what an opening finds is what was left
+  abbrev pub LeftIsFound : (Artifact S D P G C → Type 0) → Type 0
+  LeftIsFound Fits = (lives : List (Life S D P G C)) (left found : List (Artifact S D P G C)) (image : List ℕ) → Lives g f s [] lives left
+      → Reads image (map f.artifact left) → All Fits found → Reads image (map f.artifact found) → found ≡ left
+
   abbrev pub NeverContradicts : Type 0
   NeverContradicts = (lives : List (Life S D P G C)) (left : List (Artifact S D P G C)) (position : ℕ) → Lives g f s [] lives left
       → ¬ IsRefusedAt (g.attests s.voter.scheme) (g.certifies s.voter.scheme) (owner_of s) left position
@@ -336,13 +352,16 @@ reported_certificate a = None
 -- ---- of worlds
 
 -- what bytes are read as goes by their channel; what can be read is read back from its own bytes; a certificate that is served is
--- spelled as one that is sent; a certificate that can be read is of a view of 64 bits, and each ask for such a view can be read
+-- spelled as one that is sent; a certificate that can be read is of a view of 64 bits, and each ask for such a view can be read; a vote and a
+-- certificate that can be recorded can be read as a packet, and a certificate that can be read can be recorded
 pub record AreReadBack {S D P G C : Type 0} (f : Formats S D P G C) : Type 0 where
   pub by_channel : (by : Channel) (bytes : List ℕ) (x : Packet S D P G C) → f.packet_in by bytes ≡ Some x → packet_channel x ≡ by
   pub again : (x : Packet S D P G C) → IsReadable f x → f.packet_in (packet_channel x) (f.packet x) ≡ Some x
   pub certificates : (c : Certificate S D P G C) → f.certificate c ≡ f.packet (of_certificate c)
   pub views : (c : Certificate S D P G C) → IsReadable f (of_certificate c) → (certificate_round c).view < 2 ^ 64
   pub asks : (view : ℕ) → view < 2 ^ 64 → IsReadable f (of_ask view)
+  pub recorded : (x : Artifact S D P G C) → IsRecordable f x → IfSome (packet_of x) (IsReadable f)
+  pub taken : (c : Certificate S D P G C) → IsReadable f (of_certificate c) → IsRecordable f (certificate_artifact c)
 
 -- an artifact of these can be read as the packet that it is sent as
 abbrev pub CanBeSent : {S D P G C : Type 0} → (Artifact S D P G C → Type 0) → Formats S D P G C → Type 0
@@ -543,6 +562,17 @@ module _ {S D P G C : Type 0} (g : Ghosts S D P G C) (f : Formats S D P G C) whe
       → AreFaithful g f scheme m world → DoAttestAlike scheme m world
       → (i j : ℕ) → IsCorrect world i → IsCorrect world j → HandedOut g f scheme m world i (Blocks j)
       → (x : IsRefusedFor scheme m world i j) × HoldsNoVote f x.e j
+
+  -- the bytes of a packet that is sent read as that packet, and those that are served as a certificate
+  abbrev pub ReadsAsPacket : Deed S D P G C → Type 0
+  ReadsAsPacket (Sends to x) = f.packet_in (packet_channel x) (f.packet x) ≡ Some x
+  ReadsAsPacket (Serves member bytes) = (c : Certificate S D P G C) × (f.packet_in channel.Certificates bytes ≡ Some (of_certificate c))
+  ReadsAsPacket d = ⊤
+
+  -- so it is of all that a correct member hands out
+  abbrev pub PacketsAreInGrammar : Type 0
+  PacketsAreInGrammar = (scheme : S) (m : Members S D P G C) (world : World S D P G C) → LiveByNodes g f scheme m world → (i : ℕ)
+      → IsCorrect world i → (d : Deed S D P G C) → HandedOut g f scheme m world i d → ReadsAsPacket d
 
   -- no correct member blocks a correct one, neither by a refusal nor by a construction
   abbrev pub NoneIsBlamed : Type 0

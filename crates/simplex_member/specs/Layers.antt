@@ -137,10 +137,6 @@ module _ {S D P G C : Type 0} where
     voter_of [] = []
     voter_of (p ∷ h) = voter_points (latest (p ∷ h)) (last_finalized (voter_of h)) p ++ voter_of h
 
-    -- the voter is a point ahead: it made this point, and nothing else has yet. So it is while what it made is written to the record
-    abbrev pub voter_ahead : History S D P G C → Point S D P G C → List (views.Point S D P G C)
-    voter_ahead h p = voter_points (latest (p ∷ h)) (last_finalized (voter_of h)) p ++ voter_of h
-
     -- what the node knows of its views, and how far it is
     abbrev pub known_of : History S D P G C → Known D
     known_of h = known s.voter (voter_of h)

@@ -10,6 +10,5 @@ pub mod Refusals
 pub mod Allowed
 pub mod Member
 pub mod Lives
-pub mod Spelled
 pub mod Laws
 pub mod Sent

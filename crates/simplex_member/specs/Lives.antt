@@ -17,7 +17,7 @@ use Rattle.simplex_member.specs.declared.refusal.Refusal.{Refusal}
 use Rattle.simplex_member.specs.Deeds.{Deed, Sends, Serves, all_deeds}
 use Rattle.simplex_member.specs.First.{IsFirst}
 use Rattle.simplex_member.specs.Member.{AreOpening, AreStep, Goes, Rests, after}
-use Rattle.simplex_member.specs.Packet.{Formats, IsReadable, Packet, of_vote, of_certificate, of_ask, packet_channel, packet_of}
+use Rattle.simplex_member.specs.Packet.{Formats, Packet, of_vote, of_certificate, of_ask, packet_channel}
 use Rattle.simplex_member.specs.Point.{Point, History}
 use Rattle.simplex_member.specs.Recorded.{record_of}
 use Rattle.simplex_member.specs.Refusals.{tests, refused_deeds}
@@ -158,14 +158,11 @@ module _ {S D P G C : Type 0} (g : Ghosts S D P G C) (f : Formats S D P G C) (sc
   HandsOutBytes by bytes (Serves member served) = (by ≡ channel.Certificates) × (bytes ≡ served)
   HandsOutBytes by bytes d = ⊥
 
-  -- a packet in a correct member's name was handed out by one of its nodes; and each vote and certificate that it recorded can be read:
-  -- nothing is recorded that has no spelling
+  -- a packet in a correct member's name was handed out by one of its nodes
   pub record AreFaithful : Type 0 where
     pub handed : (i j : ℕ) (e : Event D) (by : Channel) (bytes : List ℕ) → IsCorrect world i → IsCorrect world j → WasHanded i e
         → Carries e j by bytes
         → (d : Deed S D P G C) × HandedOut j d × HandsOutBytes by bytes d
-    pub readable : (i : ℕ) → IsCorrect world i → (x : Artifact S D P G C) → Contains (world.recorded i) x
-        → IfSome (packet_of x) (IsReadable f)
 
 -- at most as many are excused as may be faulty
 pub record AtMostFLie {S D P G C : Type 0} (world : World S D P G C) : Type 0 where

@@ -9,8 +9,8 @@ use Rattle.messages_certificates.specs.declared.certificate.Certificate.{Certifi
 use Rattle.messages_certificates.specs.declared.certificate.Certificate.TheVariants as certificate
 use Rattle.simplex_messages.specs.declared.vote.Vote.{Vote}
 use Rattle.simplex_messages.specs.declared.vote.Vote.TheVariants as vote
-use Rattle.simplex_messages.specs.Activity.{activity_spelling}
-use Rattle.messages_certificates.specs.Artifact.{artifact_spelling}
+use Rattle.simplex_messages.specs.Activity.{activity_at, activity_spelling}
+use Rattle.messages_certificates.specs.Artifact.{artifact_at, artifact_spelling}
 use Rattle.messages_certificates.specs.Certificate.{any_certificate_spelling, any_certificate_at}
 use Rattle.simplex_messages.specs.Vote.{any_vote_spelling, any_vote_at}
 use Rattle.simplex_member.specs.declared.event.Channel.{Channel}
@@ -36,6 +36,8 @@ pub record Formats (S D P G C : Type 0) : Type 0 where
   pub report : Activity S D P G C → List ℕ
   pub packet : Packet S D P G C → List ℕ
   pub packet_in : Channel → List ℕ → Option (Packet S D P G C)
+  pub artifact_in : List ℕ → Option (Artifact S D P G C)
+  pub report_in : List ℕ → Option (Activity S D P G C)
 
 module _ {S D P G C : Type 0} where
   -- the channel that a packet goes by
@@ -47,6 +49,10 @@ module _ {S D P G C : Type 0} where
   -- a packet can be read: some bytes are exactly it
   abbrev pub IsReadable : Formats S D P G C → Packet S D P G C → Type 0
   IsReadable f x = (bytes : List ℕ) × (f.packet_in (packet_channel x) bytes ≡ Some x)
+
+  -- an artifact can be recorded, and read again in a committee of this size: some bytes are exactly it
+  abbrev pub IsRecordable : Formats S D P G C → Artifact S D P G C → Type 0
+  IsRecordable f x = (bytes : List ℕ) × (f.artifact_in bytes ≡ Some x)
 
   -- the packet that an artifact is sent as, if it is a vote or a certificate: no verdict is sent
   abbrev pub packet_of : Artifact S D P G C → Option (Packet S D P G C)
@@ -83,4 +89,6 @@ module _ {S D P G C : Type 0} where
     report = activity_spelling p q r;
     packet = packet_spelling p q r;
     packet_in = packet_at (p_at n) (q_at n) (r_at n);
+    artifact_in = λ bytes. whole (artifact_at (p_at n) (q_at n) (r_at n) bytes);
+    report_in = λ bytes. whole (activity_at same (p_at n) (q_at n) (r_at n) bytes);
   }

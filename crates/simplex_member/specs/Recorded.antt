@@ -47,6 +47,11 @@ module _ {S D P G C : Type 0} where
   recorded_by (Votes v) = Some (vote_artifact v)
   recorded_by p = None
 
+  -- what it adds to what an opening found, if anything
+  abbrev pub added_by : Point S D P G C → Option (Artifact S D P G C)
+  added_by (Found x taken) = None
+  added_by p = recorded_by p
+
   -- the record: the oldest first
   abbrev pub record_of : History S D P G C → List (Artifact S D P G C)
   record_of [] = []

@@ -1,10 +1,11 @@
 //! What follows from the member model.
 
-ghost use Rattle.std.specs.Prelude.{◌≡◌, ◌<◌, ◌^◌, ℕ};
+ghost use Rattle.std.specs.Prelude.{◌≡◌, ◌<◌, ◌≤◌, ◌^◌, ℕ};
 ghost use Rattle.types_codec.specs.Codec.{Readable};
+ghost use Rattle.messages_certificates.specs.declared.artifact.Artifact.{Artifact};
 ghost use Rattle.messages_certificates.specs.Artifact.{artifact_fits, artifact_spelling, artifact_within};
-ghost use Rattle.simplex_member.specs.Laws.{AcceptedAreKnown, Agree, AgreeIfHonest, AreReadBack, AwaitedIsJudgeable, AwaitedMayBeRecorded, BlockedByRefusalAlone, CanBeSent, ConstructionsBlockNone, CorrectVotesAreSound, CorrectVotesContradictNone, DeedsAreDone, DeedsAreOfPoints, DueFinalizeMayBeRecorded, DueIsBound, DueMayBeRecorded, DueNullifyMayBeRecorded, EarlyIsInTime, EmptyIsOpened, FinalizeAlike, HandedCertificatesAreSound, IsExact, KnownNullifiesAreRecorded, LeftStandsOnGround, LieOnOneChain, LivesLeaveLawful, MadeAreHonest, MadeAreSound, MadeIsAllowed, MadeListVotes, NeverContradicts, NextStandsOnGround, NoQuorumIsLost, NoneIsBlamed, OneIsRead, OwnVotesAgree, ProposalsLieInTheirViews, ReachedAreGoneTo, RecordLaws, RecordsGrow, RecordsStandOnGround, RecordsStayLawful, ReportedCertify, ReportsAreHonest, RequestsAreTracked, RoundLaws, RunsAreStretches, StepsOfSeveralRaiseLittle, StepsRaiseLittle, ViewsNeverFall, VotersAreOrderly, VotersTellTheRecord, VotesAreLawful, VotesAreRecorded, VotesWereDue};
-ghost use Rattle.simplex_member.specs.Packet.{Formats, formats};
+ghost use Rattle.simplex_member.specs.Laws.{AcceptedAreKnown, Agree, AgreeIfHonest, AreReadBack, AwaitedIsJudgeable, AwaitedMayBeRecorded, BlockedByRefusalAlone, CanBeSent, ConstructionsBlockNone, CorrectVotesAreSound, CorrectVotesContradictNone, DeedsAreDone, DeedsAreOfPoints, DueFinalizeMayBeRecorded, DueIsBound, DueMayBeRecorded, DueNullifyMayBeRecorded, EarlyIsInTime, EmptyIsOpened, FinalizeAlike, HandedCertificatesAreSound, IsExact, KnownNullifiesAreRecorded, LeftIsFound, LeftStandsOnGround, LieOnOneChain, LivesLeaveLawful, LivesLeaveReadable, MadeAreHonest, MadeAreSound, MadeIsAllowed, MadeListVotes, NeverContradicts, NeverForeign, NextStandsOnGround, NoQuorumIsLost, NoneIsBlamed, OneIsRead, OwnVotesAgree, PacketsAreInGrammar, ProposalsLieInTheirViews, ReachedAreGoneTo, RecordLaws, RecordsGrow, RecordsStandOnGround, RecordsStayLawful, ReportedCertify, ReportsAreHonest, RequestsAreTracked, RoundLaws, RunsAreStretches, StepsOfSeveralRaiseLittle, StepsRaiseLittle, ViewsNeverFall, VotersAreOrderly, VotersTellTheRecord, VotesAreLawful, VotesAreRecorded, VotesWereDue};
+ghost use Rattle.simplex_member.specs.Packet.{Formats, IsRecordable, formats};
 ghost use Rattle.simplex_member.specs.Setup.{Setup};
 
 use batcher_verifier::{
@@ -72,6 +73,26 @@ pub fn never_contradicts<S: Scheme<D>, D: Digest>()
     ensures { (f : Formats S D S.PublicKey S.Signature S.Certificate) (s : Setup S D S.Certificate) → NeverContradicts S.Scheme f s }
 {
     records_obey::<S, D>();
+}
+
+/// What a member's lives leave can be read again in its committee. So an opening of it is never answered that an entry is
+/// foreign, and finds just that: what the disk takes for an artifact is read under the bound of the largest committee.
+pub fn never_foreign<S: Scheme<D>, D: Digest>()
+    ensures readable { (f : Formats S D S.PublicKey S.Signature S.Certificate) (s : Setup S D S.Certificate) → LivesLeaveReadable S.Scheme f s }
+    ensures never { (n : ℕ)
+        → n ≤ 65535
+        → (s : Setup S D S.Certificate)
+        → NeverForeign S.Scheme (formats D.PartialEq.eq D.spelling S.Signature.spelling S.Certificate.spelling D.reading S.Signature.reading
+        S.Certificate.reading n) s (Readable (artifact_fits D.fits S.Signature.fits S.Certificate.fits)
+        (artifact_within (S.Certificate.within 65535))) }
+    ensures found { (n : ℕ)
+        → n ≤ 65535
+        → (s : Setup S D S.Certificate)
+        → LeftIsFound S.Scheme (formats D.PartialEq.eq D.spelling S.Signature.spelling S.Certificate.spelling D.reading S.Signature.reading
+        S.Certificate.reading n) s (Readable (artifact_fits D.fits S.Signature.fits S.Certificate.fits)
+        (artifact_within (S.Certificate.within 65535))) }
+{
+    a_disk_reads_as_one_record::<Artifact<S, D>>();
 }
 
 /// An empty record is opened at any moment that lies early enough.
@@ -365,9 +386,19 @@ pub fn none_is_blamed<S: Listing<D>, D: Digest>()
     what_is_produced_came();
 }
 
+/// The bytes of each packet that a correct member hands out are in the grammar: they read as that packet, and those that it
+/// serves as a certificate.
+pub fn packets_are_in_grammar<S: Scheme<D>, D: Digest>()
+    ensures { (f : Formats S D S.PublicKey S.Signature S.Certificate) → AreReadBack f → PacketsAreInGrammar S.Scheme f }
+{
+    records_obey::<S, D>();
+    what_is_known_is_recorded::<S, D>();
+    what_is_produced_came();
+}
+
 /// Packets as the messages spell them: payloads that are compared as one are one; and in a committee of each size that
-/// 32 bits can tell, what can be read is read back from its own bytes, and each vote and certificate of a record that
-/// can be written, and is within the committee's bound, can be read as a packet.
+/// 32 bits can tell, what can be read is read back from its own bytes, and each artifact that can be written, and is within
+/// the committee's bound, can be recorded; each vote and certificate of these can be read as a packet.
 pub fn packets_are_read_back<S: Scheme<D>, D: Digest>()
     ensures exact { (n : ℕ)
         → IsExact (formats {S = S} {P = S.PublicKey} D.PartialEq.eq D.spelling S.Signature.spelling S.Certificate.spelling D.reading
@@ -381,4 +412,10 @@ pub fn packets_are_read_back<S: Scheme<D>, D: Digest>()
         → CanBeSent (Readable (artifact_fits D.fits S.Signature.fits S.Certificate.fits) (artifact_within (S.Certificate.within n)))
         (formats {S = S} {P = S.PublicKey} D.PartialEq.eq D.spelling S.Signature.spelling S.Certificate.spelling D.reading
         S.Signature.reading S.Certificate.reading n) }
+    ensures recordable { (n : ℕ)
+        → n < 2 ^ 32
+        → (x : Artifact S D S.PublicKey S.Signature S.Certificate)
+        → Readable (artifact_fits D.fits S.Signature.fits S.Certificate.fits) (artifact_within (S.Certificate.within n)) x
+        → IsRecordable (formats {S = S} {P = S.PublicKey} D.PartialEq.eq D.spelling S.Signature.spelling S.Certificate.spelling D.reading
+        S.Signature.reading S.Certificate.reading n) x }
 {}

@@ -37,7 +37,6 @@ use Rattle.simplex_member.specs.Point.{Point, Heard, History}
 use Rattle.simplex_member.specs.Recorded.{notarization_in, put_behind, record_of, recorded_by, reported}
 use Rattle.simplex_member.specs.Refusals.{blocks_sender, evidence_deeds, refusal_report, refused_deeds}
 use Rattle.simplex_member.specs.Setup.{Setup}
-use Rattle.simplex_network.specs.Accountability.{RecordsCanBeRead}
 
 some-is : {X : Type 0} (x y : X) → Some x ≡ Some y → x ≡ y
 some-is {X} x y e = ap (λ (o : Option X). unwrap_or o x) e
@@ -160,7 +159,7 @@ module _ {S D P G C : Type 0} (f : Formats S D P G C) where
   recorded-read before (artifact.Certification round false) each read a here = absurd (Contains-nil a here)
 
 module _ {S D P G C : Type 0} (g : Ghosts S D P G C) (f : Formats S D P G C) (scheme : S) (m : Members S D P G C) (world : World S D P G C) (w : LiveByNodes g f scheme m world)
-    (back : AreReadBack f) (records : RecordsCanBeRead g f world) (done : DeedsAreDone g f) (gone : ReachedAreGoneTo g f)
+    (back : AreReadBack f) (records : (i : ℕ) → IsCorrect world i → (x : Artifact S D P G C) → Contains (world.recorded i) x → IfSome (packet_of x) (IsReadable f)) (done : DeedsAreDone g f) (gone : ReachedAreGoneTo g f)
     (points : (s : Setup S D C) → DeedsAreOfPoints g f s) (known : (s : Setup S D C) → AcceptedAreKnown g f s) where
   -- what came in was read
   came-read : (i sender : ℕ) (x : Packet S D P G C) → CameIn g f scheme m world i sender x → IsReadable f x

@@ -1,9 +1,11 @@
 -- A report that holds what can be read can be spelled, and is within the bound of those who read it.
 use Rattle.std.proofs.Common.{◌≡◌, ℕ, Bool, List, [], ◌∷◌, Option, Some, Result, Ok, Err, refl, sym, ◌∙◌, ap, subst}
 use Rattle.std.specs.Prelude.{option_map, unwrap_or}
+use Rattle.std.proofs.lemmas.List.{append-nil}
 use Rattle.std.proofs.lemmas.Option.{none-some}
 use Rattle.types_codec.specs.declared.codec.CodecError.{CodecError}
 use Rattle.types_codec.specs.Codec.{IsCodec, Readable}
+use Rattle.types_core.specs.declared.scheme.Scheme.{Ghosts}
 use Rattle.messages_certificates.specs.declared.certificate.Certificate.{Certificate}
 use Rattle.messages_certificates.specs.declared.certificate.Certificate.TheVariants as certificate
 use Rattle.messages_certificates.specs.Certificate.{any_certificate_at, any_certificate_fits, any_certificate_within, any_certificate-IsCodec}
@@ -11,11 +13,14 @@ use Rattle.simplex_messages.specs.declared.activity.Activity.{Activity}
 use Rattle.simplex_messages.specs.declared.activity.Activity.TheVariants as activity
 use Rattle.simplex_messages.specs.declared.vote.Vote.{Vote}
 use Rattle.simplex_messages.specs.declared.vote.Vote.TheVariants as vote
-use Rattle.simplex_messages.specs.Activity.{activity_fits, activity_within}
+use Rattle.simplex_messages.specs.Activity.{activity-IsCodec, activity_at, activity_fits, activity_spelling, activity_within}
 use Rattle.simplex_messages.specs.ConflictingVotes.{conflicting_fits}
 use Rattle.simplex_messages.specs.NullifyFinalize.{beside_fits}
 use Rattle.simplex_messages.specs.Vote.{any_vote_at, any_vote_fits, any_vote-IsCodec}
+use Rattle.simplex_member.specs.Deeds.{Deed, Reports}
+use Rattle.simplex_member.specs.Laws.{ReadsAsPacket}
 use Rattle.simplex_member.specs.Packet.{Formats, IsReadable, Packet, formats, of_certificate, of_vote, whole}
+use Rattle.simplex_network.specs.Accountability.{IsInGrammar}
 use Rattle.simplex_network.proofs.Readable.{HoldsReadable}
 
 -- what exactly these bytes were read as, under another form, is of what can be read
@@ -62,3 +67,15 @@ module _ {S D P G C : Type 0} (same : D → D → Bool) (p : D → List ℕ) (q 
   report-fits (activity.ConflictingNotarize x) read = (((vote-fits (vote.Notarize x.0) read.0, vote-fits (vote.Notarize x.1) read.1), read.2), tt)
   report-fits (activity.ConflictingFinalize x) read = (((vote-fits (vote.Finalize x.0) read.0, vote-fits (vote.Finalize x.1) read.1), read.2), tt)
   report-fits (activity.NullifyFinalize x) read = (((vote-fits (vote.Nullify x.0) read.0, vote-fits (vote.Finalize x.1) read.1), read.2), tt)
+
+  -- so it is read of its own bytes
+  pub report-again : (a : Activity S D P G C) → HoldsReadable These a → These.report_in (These.report a) ≡ Some a
+  report-again a read =
+      ap whole (subst (λ (l : List ℕ). activity_at same (p_at n) (q_at n) (r_at n) l ≡ Ok (a, [])) (append-nil (activity_spelling p q r a))
+      ((activity-IsCodec same payloads signatures certificates).again a [] (report-fits a read)))
+
+-- a deed is in the grammar: it hands out a packet that is, or a report
+pub of-deed : {S D P G C : Type 0} (g : Ghosts S D P G C) (f : Formats S D P G C) (d : Deed S D P G C) → ReadsAsPacket g f d
+    → ((a : Activity S D P G C) → d ≡ Reports a → f.report_in (f.report a) ≡ Some a) → IsInGrammar g f d
+of-deed g f (Reports a) packet report = report a refl
+of-deed g f d packet report = packet

@@ -1,19 +1,19 @@
 -- Who is ever blamed, however many members are excused: statements.
-use Rattle.std.specs.Prelude.{◌<◌, ◌+◌, ℕ, List, Contains, ◌≡◌, Option, None, IfSome, Result, ⊤}
+use Rattle.std.specs.Prelude.{◌<◌, ◌+◌, ℕ, List, Contains, ◌≡◌, Option, Some, None, Result, ⊤}
 use Rattle.std.specs.List.{flat_map}
 use Rattle.std.specs.declared.cmp.Ordering.{Ordering}
 use Rattle.types_codec.specs.declared.codec.CodecError.{CodecError}
 use Rattle.types_core.specs.declared.position.Round.{Round}
 use Rattle.types_core.specs.declared.scheme.Scheme.{Ghosts}
 use Rattle.types_quorum.specs.Committee.{faults}
-use Rattle.messages_certificates.specs.declared.artifact.Artifact.{Artifact}
 use Rattle.simplex_messages.specs.declared.activity.Activity.{Activity}
 use Rattle.simplex_rules.specs.Accountability.{IsContradicted, NamesAtLeast}
 use Rattle.simplex_rules.specs.Audit.{Accusation, IsAccused, IsAudit, IsVerdict}
 use Rattle.simplex_record.specs.World.{World, IsCorrect}
-use Rattle.simplex_member.specs.Deeds.{Reports}
+use Rattle.simplex_member.specs.Deeds.{Deed, Reports}
+use Rattle.simplex_member.specs.Laws.{ReadsAsPacket}
 use Rattle.simplex_member.specs.Lives.{HandedOut, LiveByNodes, Members}
-use Rattle.simplex_member.specs.Packet.{Formats, IsReadable, packet_of}
+use Rattle.simplex_member.specs.Packet.{Formats}
 
 module _ {S D P G C : Type 0} (g : Ghosts S D P G C) (f : Formats S D P G C) where
   -- each of these reports was handed out by a member that isn't excused
@@ -48,17 +48,21 @@ module _ {S D P G C : Type 0} (g : Ghosts S D P G C) (f : Formats S D P G C) whe
       → (round : Round) → IsContradicted (λ x c. ⊤) reports round
       → (named : NamesAtLeast (faults world.size + 1) world.size evidence round) × ((i : ℕ) → Contains named.names i → IsCorrect world i → ⊥)
 
-  -- each vote and certificate that one of these members recorded can be read: nothing is recorded that has no spelling
-  abbrev pub RecordsCanBeRead : World S D P G C → Type 0
-  RecordsCanBeRead world = (i : ℕ) → IsCorrect world i → (x : Artifact S D P G C) → Contains (world.recorded i) x
-      → IfSome (packet_of x) (IsReadable f)
-
-  -- where that is so, their reports, one behind the other as members spell them, are read to their end: an audit of the bytes is one of
-  -- just these reports
+  -- their reports, one behind the other as members spell them, are read to their end: an audit of the bytes is one of just these reports
   abbrev pub JoinedAreAudited : (D → D → Ordering) → S → (Activity S D P G C → Type 0) → (Activity S D P G C → List ℕ)
       → (List ℕ → Result (Activity S D P G C × List ℕ) CodecError) → Type 0
   JoinedAreAudited cmp scheme Fits spelling reading = (m : Members S D P G C) (world : World S D P G C) → LiveByNodes g f scheme m world
-      → RecordsCanBeRead world
       → (reports evidence : List (Activity S D P G C)) (fault : Option ℕ) → AreReported scheme m world reports
       → IsAudit g.lists (g.attests scheme) cmp Fits spelling reading (flat_map f.report reports) evidence fault
       → (fault ≡ None) × IsVerdict g.lists (g.attests scheme) cmp reports evidence
+
+  -- what is handed out is in the grammar: the bytes of a packet read as that packet, those that are served as a certificate, and those of a
+  -- report as that report
+  abbrev pub IsInGrammar : Deed S D P G C → Type 0
+  IsInGrammar (Reports a) = f.report_in (f.report a) ≡ Some a
+  IsInGrammar d = ReadsAsPacket g f d
+
+  -- so is all that these members hand out
+  abbrev pub AllIsInGrammar : Type 0
+  AllIsInGrammar = (scheme : S) (m : Members S D P G C) (world : World S D P G C) → LiveByNodes g f scheme m world → (i : ℕ)
+      → IsCorrect world i → (d : Deed S D P G C) → HandedOut g f scheme m world i d → IsInGrammar d

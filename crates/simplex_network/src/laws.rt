@@ -1,17 +1,18 @@
 //! What correct members agree on, and whom nobody ever blames.
 
-ghost use Rattle.std.specs.Prelude.{◌<◌, ◌^◌};
+ghost use Rattle.std.specs.Prelude.{◌<◌, ◌^◌, ℕ};
 ghost use Rattle.types_codec.specs.Codec.{Readable};
 ghost use Rattle.simplex_member.specs.Laws.{AreReadBack, IsExact, NoneIsBlamed};
 ghost use Rattle.simplex_member.specs.Packet.{Formats};
-ghost use Rattle.simplex_network.specs.Accountability.{ContradictionsNameEnough, JoinedAreAudited, NoneIsNamed, ReportedNameEnough};
+ghost use Rattle.simplex_network.specs.Accountability.{AllIsInGrammar, ContradictionsNameEnough, JoinedAreAudited, NoneIsNamed, ReportedNameEnough};
 ghost use Rattle.simplex_network.specs.Agreement.{AllAreSound, FinalizedViewsLieOnOneChain, NoFinalizedViewIsNullified, NoFinalizedViewIsSkipped, NoViewHasTwoProposals};
 
 use simplex_member::{
     Speaks, accepted_votes_are_known, agreement_of_lives, deeds_are_done,
     deeds_are_of_their_points, finalized_views_lie_on_one_chain, histories_of_lives_are_gone_to,
-    made_certificates_are_sound, none_is_blamed, own_votes_agree, packets_are_read_back,
-    reported_certificates_certify, reports_are_honest,
+    made_certificates_are_sound, never_foreign, none_is_blamed, own_votes_agree,
+    packets_are_in_grammar, packets_are_read_back, reported_certificates_certify,
+    reports_are_honest,
 };
 use simplex_messages::Activity;
 use simplex_rules::{a_contradicted_round_names_enough, joined_reports_are_read};
@@ -46,12 +47,11 @@ pub fn agreement<S: Listing<D>, D: Digest>()
 /// The law of accountability, however many members are excused. Of each member that isn't, let all be as for
 /// agreement, but for the elector; and a scheme may sign one statement differently each time. Then none of these
 /// members blocks another, neither by a refusal nor by a construction, where each packet in the name of one of them
-/// was handed out by it, the votes and certificates that it recorded can be read, and what attests by one's scheme does
-/// by another's. Over reports that such members handed out an audit names none of them; and where certificates among
-/// these contradict each other on a round, it names at least one member more of that round than may be faulty: where
-/// they verify by the audit's scheme, and so always where that is of the committee's size. Joined as members spell them,
-/// these reports are read to their end, where the votes and certificates that they recorded can be read: what is
-/// reported is built of these and of packets that were read.
+/// was handed out by it, and what attests by one's scheme does by another's. Over reports that such members handed out an
+/// audit names none of them; and where certificates among these contradict each other on a round, it names at least one
+/// member more of that round than may be faulty: where they verify by the audit's scheme, and so always where that is of
+/// the committee's size. Packets as members spell them, and reports, are in the grammar: what is sent and reported is built
+/// of what was recorded, which can be read again, and of packets that were read. So joined reports are read to their end.
 pub fn accountability<S: Listing<D>, D: Digest>()
     ensures none_blocked { (f : Formats S D S.PublicKey S.Signature S.Certificate) → IsExact f → AreReadBack f → NoneIsBlamed S.Scheme f }
     ensures none_named { (f : Formats S D S.PublicKey S.Signature S.Certificate) → IsExact f → NoneIsNamed S.Scheme f D.cmp }
@@ -60,6 +60,7 @@ pub fn accountability<S: Listing<D>, D: Digest>()
         → JoinedAreAudited S.Scheme (⟦<S as Speaks<D>>⟧.formats (S.size scheme)) D.cmp scheme
         (Readable ⟦<Activity<S, D> as Write>⟧.fits (⟦<Activity<S, D> as Read>⟧.within (S.size scheme))) ⟦<Activity<S, D> as Write>⟧.spelling
         (⟦<Activity<S, D> as Read>⟧.reading (S.size scheme)) }
+    ensures in_grammar { (n : ℕ) → n < 2 ^ 32 → AllIsInGrammar S.Scheme (⟦<S as Speaks<D>>⟧.formats n) }
     ensures enough_named { (f : Formats S D S.PublicKey S.Signature S.Certificate) → IsExact f → ContradictionsNameEnough S.Scheme f D.cmp }
     ensures reported_enough { (f : Formats S D S.PublicKey S.Signature S.Certificate) → IsExact f → ReportedNameEnough S.Scheme f D.cmp }
 {
@@ -68,6 +69,8 @@ pub fn accountability<S: Listing<D>, D: Digest>()
     own_votes_agree::<S, D>();
     joined_reports_are_read::<S, D>();
     packets_are_read_back::<S, D>();
+    packets_are_in_grammar::<S, D>();
+    never_foreign::<S, D>();
     deeds_are_done::<S, D>();
     deeds_are_of_their_points::<S, D>();
     histories_of_lives_are_gone_to::<S, D>();

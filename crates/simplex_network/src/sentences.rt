@@ -4,7 +4,7 @@ ghost use Rattle.std.specs.Prelude.{◌<◌, ◌^◌, ℕ};
 ghost use Rattle.types_codec.specs.Codec.{Readable};
 ghost use Rattle.simplex_member.specs.Laws.{NoneIsBlamed};
 ghost use Rattle.simplex_member.specs.Sent.{EachVoteSentWasDue, NoneIsDueBehindAnswers};
-ghost use Rattle.simplex_network.specs.Accountability.{JoinedAreAudited, ReportedNameEnough};
+ghost use Rattle.simplex_network.specs.Accountability.{AllIsInGrammar, JoinedAreAudited, ReportedNameEnough};
 ghost use Rattle.simplex_network.specs.Agreement.{FinalizedViewsLieOnOneChain, NoFinalizedViewIsNullified, NoFinalizedViewIsSkipped, NoViewHasTwoProposals};
 
 use crate::laws::{accountability, agreement};
@@ -22,11 +22,11 @@ use types_core::{Digest, Listing, Read, Write};
 /// However many are excused: every vote that a correct member sends was due at the point that sends it, and none is due
 /// where it has answered an event or an opening; no correct member blocks another; and where certificates among what
 /// correct members reported contradict each other on a round, the audit of the reports names at least one member of that
-/// round more than may be faulty, and none of these is correct. Joined, the reports are read to their end.
+/// round more than may be faulty, and none of these is correct. All packets and reports that correct members hand out are
+/// in the grammar, and joined reports are read to their end.
 ///
 /// What each asks of members stands in its sentence. So that none is blocked, packets in a correct member's name have to
-/// come from its nodes, and what attests by one's scheme has to by another's; so that reports are read to their end, what
-/// is recorded has to be readable.
+/// come from its nodes, and what attests by one's scheme has to by another's.
 pub fn headline<S: Listing<D>, D: Digest>()
     ensures one_proposal_a_view { (n : ℕ) → NoViewHasTwoProposals S.Scheme (⟦<S as Speaks<D>>⟧.formats n) }
     ensures no_finalized_view_nullified { (n : ℕ) → NoFinalizedViewIsNullified S.Scheme (⟦<S as Speaks<D>>⟧.formats n) }
@@ -36,6 +36,7 @@ pub fn headline<S: Listing<D>, D: Digest>()
     ensures none_due_stays_unsent { (n : ℕ) → NoneIsDueBehindAnswers S.Scheme (⟦<S as Speaks<D>>⟧.formats n) }
     ensures none_blocked { (n : ℕ) → n < 2 ^ 32 → NoneIsBlamed S.Scheme (⟦<S as Speaks<D>>⟧.formats n) }
     ensures enough_named { (n : ℕ) → ReportedNameEnough S.Scheme (⟦<S as Speaks<D>>⟧.formats n) D.cmp }
+    ensures in_grammar { (n : ℕ) → n < 2 ^ 32 → AllIsInGrammar S.Scheme (⟦<S as Speaks<D>>⟧.formats n) }
     ensures read_to_the_end { (scheme : S)
         → S.size scheme < 2 ^ 32
         → JoinedAreAudited S.Scheme (⟦<S as Speaks<D>>⟧.formats (S.size scheme)) D.cmp scheme

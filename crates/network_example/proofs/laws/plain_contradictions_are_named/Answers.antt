@@ -14,4 +14,4 @@ returns g c = plain-named _ _ g.D.Write.spelling g.D.Write.fits g.D.Ord.cmp (c.c
       by_others = not-first g.D.Write.spelling base (nullify second);
       by_others_too = not-first g.D.Write.spelling base (finalize (record { round = second; parent = 0; payload = agreed }));
     })
-    (c.packets_are_read_back.ensures.read_back 4 (omega arith)) (c.packets_are_read_back.ensures.readable 4 (omega arith))
+    (c.packets_are_read_back.ensures.read_back 4 (omega arith)) (c.packets_are_read_back.ensures.readable 4 (omega arith)) (c.packets_are_read_back.ensures.recordable 4 (omega arith))

@@ -12,4 +12,4 @@ returns g c = plain-network _ _ g.D.Write.spelling g.D.Write.fits (c.networks_ar
       attests = λ i small. signed g.D.Write.spelling base i small;
       certifies = λ i small. certified g.D.Write.spelling base;
     })
-    (ap (option_map of_vote) (none-read _ _)) (c.packets_are_read_back.ensures.read_back 4 (omega arith)) (c.packets_are_read_back.ensures.readable 4 (omega arith))
+    (ap (option_map of_vote) (none-read _ _)) (c.packets_are_read_back.ensures.read_back 4 (omega arith)) (c.packets_are_read_back.ensures.readable 4 (omega arith)) (c.packets_are_read_back.ensures.recordable 4 (omega arith))

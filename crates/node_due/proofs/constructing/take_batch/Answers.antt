@@ -3,7 +3,7 @@ use Rattle.simplex_member.specs.Point.{Constructs}
 use Rattle.simplex_member.specs.Recorded.{record_of}
 use Rattle.simplex_member.specs.Setup.{owner_of}
 use Rattle.node_core.specs.Leaving.{left_at_rest}
-use Rattle.node_due.proofs.Making.{made_handed, unmade_handed, unmade_keeps}
+use Rattle.node_due.proofs.Making.{adds_nothing, made_handed, unmade_handed, unmade_keeps}
 use Rattle.node_due.proofs.constructing.take_batch.Goals as goal
 
 -- nothing was asked of the disk
@@ -42,6 +42,6 @@ pub returns-in-Ok-enter-clause-taken : goal.returns-in-Ok-enter-clause-taken
 returns-in-Ok-enter-clause-taken g c = λ s h view kind ahead may.
     let f = formats {S = g.row.S.Denot} {P = g.row.S-PublicKey.Denot} g.D.PartialEq.eq g.D.Write.spelling g.S.Signature.Write.spelling g.S.Certificate.Write.spelling g.D.Read.reading g.S.Signature.Read.reading g.S.Certificate.Read.reading (g.S.Scheme.size s.voter.scheme) in
     record {
-      keeps = unmade_keeps g.S.Scheme g.L.Elector g.K.Disk f s c.args.core.now c.enter.new.acceptance h view kind c.args.batch c.in-None.is ahead may (c.in-Ok-enter.ensures.entered s h);
+      keeps = unmade_keeps g.S.Scheme g.L.Elector g.K.Disk f s c.args.core.now c.enter.new.acceptance h view kind c.args.batch c.in-None.is ahead (may (adds_nothing g.S.Scheme f s h view kind c.args.batch _ c.in-None.is)) (c.in-Ok-enter.ensures.entered s h);
       acts = unmade_handed g.S.Scheme f s h view kind c.args.batch c.deref.result.now c.args.out.now.items c.block_all.new.out.items c.deref.ensures.value (c.in-Ok.ensures.done f) c.in-None.is;
     }

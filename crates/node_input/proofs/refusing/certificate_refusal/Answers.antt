@@ -48,7 +48,7 @@ returns-clause-first g c = λ s h k.
     inr (λ ne. ne epoch, inr (some, inr (λ out. out (admits.0 c.if-not-admits_certificate.false), inr (λ out. out (room.0 c.if-not-has_room.false), inr (λ out. out (c.has_parent_below.ensures.0 c.if-not-has_parent_below.false), inr (λ none. none (λ y alike taken. false≢true (sym c.if-has_like.false ∙ like.1 (y, alike, taken))), inr (λ fails. fails (certifies.0 c.if-not-verify.false), refl)))))))
 
 pub returns-clause-may : goal.returns-clause-may
-returns-clause-may g c = λ s h k.
+returns-clause-may g c = λ s h k readable.
     let x = c.args.certificate.now in
     let at : c.epoch.result ≡ c.args.core.now.settings.owner.epoch = ne-same c.epoch.result c.args.core.now.settings.owner.epoch c.ne.ensures c.if-ne.false in
     let epoch : (certificate_round x).epoch ≡ s.voter.epoch = sym c.epoch.ensures ∙ at ∙ ap (λ (o : Owner). o.epoch) k.set_up.owner_is in
@@ -59,4 +59,4 @@ returns-clause-may g c = λ s h k.
     let certifies = subst (λ (scheme : g.row.S.Denot). IsTrue c.verify.result ↔ g.S.Scheme.certifies scheme (certificate_statement x) (certified_by x)) (c.deref.ensures ∙ k.set_up.scheme_is) c.verify.ensures in
     let f = formats {S = g.row.S.Denot} {P = g.row.S-PublicKey.Denot} g.D.PartialEq.eq g.D.Write.spelling g.S.Signature.Write.spelling g.S.Certificate.Write.spelling g.D.Read.reading g.S.Signature.Read.reading g.S.Certificate.Read.reading (g.S.Scheme.size s.voter.scheme) in
     let kept = admits.0 c.if-not-admits_certificate.false in
-    record { order = k.begun; due = kept; fits = may-stand g.S.Scheme f s h x epoch kept.0 (room.0 c.if-not-has_room.false) (c.has_parent_below.ensures.0 c.if-not-has_parent_below.false) (λ y alike taken. false≢true (sym c.if-has_like.false ∙ like.1 (y, alike, taken))) (certifies.0 c.if-not-verify.false) }
+    record { order = k.begun; due = kept; fits = may-stand g.S.Scheme f s h x epoch kept.0 (room.0 c.if-not-has_room.false) (c.has_parent_below.ensures.0 c.if-not-has_parent_below.false) (λ y alike taken. false≢true (sym c.if-has_like.false ∙ like.1 (y, alike, taken))) (certifies.0 c.if-not-verify.false); readable = readable }

@@ -11,11 +11,11 @@ use Rattle.simplex_member.specs.Layers.{finalized_of, latest, repair_of, voter_o
 use Rattle.simplex_member.specs.Packet.{formats}
 use Rattle.simplex_member.specs.Point.{Judged}
 use Rattle.node_outbox.specs.Handing.{HandsOut, both_more}
-use Rattle.node_input.proofs.Judging.{behind_verdict, reports_are, verdict_allowed}
+use Rattle.node_input.proofs.Judging.{behind_verdict, reports_are}
 use Rattle.node_input.proofs.verdicts.learn_verdict.Goals as goal
 
 pub returns-clause-taken : goal.returns-clause-taken
-returns-clause-taken g c = on_ok_weaker c.hand_on_at_entry.result (λ acts. λ s h recorded awaited.
+returns-clause-taken g c = on_ok_weaker c.hand_on_at_entry.result (λ acts. λ s h recorded awaited may.
     let f = formats g.D.PartialEq.eq g.D.Write.spelling g.S.Signature.Write.spelling g.S.Certificate.Write.spelling g.D.Read.reading g.S.Signature.Read.reading g.S.Certificate.Read.reading (g.S.Scheme.size s.voter.scheme) in
     let k = recorded.keeps in
     let low = finalized_of s h in
@@ -27,7 +27,6 @@ returns-clause-taken g c = on_ok_weaker c.hand_on_at_entry.result (λ acts. λ s
     let same : n ≡ j.notarization = same_Some n j.notarization (c.in_ok-notarization.ensures.known s.voter v k.voter j.room ∙ j.known) in
     let found = j.recorded ∙ ap Some (sym same) in
     let at : n.proposal.round.view ≡ c.args.view = subst (λ x. x.proposal.round.view ≡ c.args.view) (sym same) j.at in
-    let may = verdict_allowed g.S.Scheme f s h r c.args.ok k.begun awaited j in
     let now : c.moment-now.result ≡ latest h = c.moment-now.ensures low h k.tables in
     let voter = subst (λ (t : ℕ). voting.Keeps g.S.Scheme g.L.Elector s.voter c.give_verdict.new.voter (judged t c.args.view c.args.ok ∷ v)) now (c.in_ok-notarization.ensures.told s.voter v k.voter) in
     let votes = c.in_ok-enter.ensures.entered s h p refl voter (c.silent_points_leave_votes.ensures.silent s c.args.core.now.acceptance h p (λ view. (refl, λ x. refl)) k.votes) in

@@ -15,6 +15,11 @@ returns-in-Ok-Some-clause-done g c = λ s h k.
     ((rw c.in-Ok-Some.field-0-is at c.in-Ok-Some.ensures.batch) s h still)
     ((rw c.in-Ok-Some.field-0-is at c.in-Ok-Some.ensures.ok) s h still)
 
+pub returns-in-Ok-Some-clause-readable : goal.returns-in-Ok-Some-clause-readable
+returns-in-Ok-Some-clause-readable g c = λ s h k.
+    let still = still-here g.S.Scheme g.D.PartialEq.eq s h c.args.round.now c.args.me c.try_forward_proposal.new.self c.in-None.ensures.exact c.in-None.ensures.keeps k in
+    (rw c.in-Ok-Some.field-0-is at c.in-Ok-Some.ensures.readable) s h still
+
 pub returns-in-Ok-None-clause-done : goal.returns-in-Ok-None-clause-done
 returns-in-Ok-None-clause-done g c = λ s h k.
     let still = still-here g.S.Scheme g.D.PartialEq.eq s h c.args.round.now c.args.me c.try_forward_proposal.new.self c.in-None.ensures.exact c.in-None.ensures.keeps k in

@@ -14,5 +14,6 @@ returns g c =
       none_due_stays_unsent = λ n. c.none_stays_unsent.ensures (spoken n);
       none_blocked = λ n small. c.accountability.ensures.none_blocked (spoken n) (c.packets_are_read_back.ensures.exact n) (c.packets_are_read_back.ensures.read_back n small);
       enough_named = λ n. c.accountability.ensures.reported_enough (spoken n) (c.packets_are_read_back.ensures.exact n);
+      in_grammar = c.accountability.ensures.in_grammar;
       read_to_the_end = c.accountability.ensures.read_to_the_end;
     }

@@ -36,7 +36,7 @@ returns g c = on_ok_weaker c.tell_repair.result (λ recalled n now s found rest 
     record {
       h = Found x told.0 ∷ h;
       reading = k.reading;
-      allowed = (record { order = (reading-some now h k.reading, reading-unbegun now h k.reading); due = told.1; fits = fits }, k.allowed);
+      allowed = (record { order = (reading-some now h k.reading, reading-unbegun now h k.reading); due = told.1; fits = fits; readable = tt }, k.allowed);
       behind = k.behind ∙ sym (append_assoc (record_of h) (x ∷ []) rest);
       stand = record {
         voter = voter;

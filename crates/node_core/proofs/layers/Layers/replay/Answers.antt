@@ -20,7 +20,7 @@ returns g c = λ n s found genesis_is in_time is new.
     let first : IsGoneThrough g.S.Scheme g.L.Elector f s c.args.now found found c.start.new.self [] = record {
       h = Opened c.args.now ∷ [];
       reading = refl;
-      allowed = (record { order = refl; due = in_time; fits = tt }, tt);
+      allowed = (record { order = refl; due = in_time; fits = tt; readable = tt }, tt);
       behind = refl;
       stand = c.in_ok-start.ensures n s genesis_is new;
       acts = tt;

@@ -10,6 +10,11 @@ unfolding Keeps
 returns-in-Ok-clause-done g c = IfSome_then c.in-Ok.due c.in-Ok.ensures.done
     (λ x f s h k. does g.S.Scheme g.D.PartialEq.eq s c.args.self.now h k c.next_due.new.self x.0 x.1 (f (common_part s) (stage s h) (votes_of s h) k.rounds))
 
+pub returns-in-Ok-clause-readable : goal.returns-in-Ok-clause-readable
+unfolding Keeps
+returns-in-Ok-clause-readable g c = IfSome_then c.in-Ok.due c.in-Ok.ensures.readable
+    (λ x f s h k. f (common_part s) (stage s h) (votes_of s h) k.rounds)
+
 pub returns-in-Ok-clause-none : goal.returns-in-Ok-clause-none
 unfolding Keeps
 returns-in-Ok-clause-none g c = λ is s h k.
