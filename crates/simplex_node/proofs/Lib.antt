@@ -1,4 +1,5 @@
 pub mod Listed
+pub mod Lived
 pub mod Passing
 pub mod Stepped
 pub mod Streamed

@@ -2,11 +2,13 @@
 //! with its opening; and what a network of such nodes agrees on.
 #![tactic(auto)]
 
+mod living;
 mod opening_io;
 mod running;
 mod stepping;
 mod streaming;
 
+pub use living::{Opening, live};
 pub use node_steps::{Node, Owner, accountability, agreement, first_refused};
 pub use node_wire::{Answers, EventInput, read_event, write_event, write_out, write_reply};
 pub use opening_io::open_io;
