@@ -208,7 +208,7 @@ module _ {S D P G C : Type 0} (g : Ghosts S D P G C) (f : Formats S D P G C) (sc
         sufficient (m.setup i).voter.scheme x c (record { distinct = p.distinct; members = p.members; enough = p.enough; attesting = λ k d l. alike i j ci cj _ x _ (p.attesting k d l) })
 
     -- no test that blocks applies to it
-    none-first : (s : Setup S D C) → IsOfOneMember (m.setup i) s → (h : History S D P G C) (x : Packet S D P G C) → IsFine grows w j cj known law back faithful x → ((v : Vote S D P G C) → x ≡ of_vote v → ⊥) → (r : Refusal)
+    none-first : (s : Setup S D C) → IsOfOneMember (m.setup i) s → (h : History S D P G C) (x : Packet S D P G C) → IsFine grows w j cj known law back x → ((v : Vote S D P G C) → x ≡ of_vote v → ⊥) → (r : Refusal)
         → IsFirst (sender_tests g f s j ++ packet_tests g f s h j (Some x)) (Some r) → blocks_sender r ≡ true → ⊥
     none-first s same h (of_vote v) fine unvoted r first blocks = unvoted v refl
     none-first s same h (of_certificate c) fine unvoted r first blocks =
