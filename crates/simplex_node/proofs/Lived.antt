@@ -51,12 +51,11 @@ module _ {S D P G C : Type 0} (g : Ghosts S D P G C) (f : Formats S D P G C) whe
           → (all : List (Turn S D P G C)) × Turns g f s h all end × (turn_events all ≡ e ∷ events)
       turn None is step turns go same =
           let takes : Takes g f s h e reply.actions.items mid = subst
-              (λ (r : Option Refusal). MatchOption r (Takes g f s h e reply.actions.items mid) (λ x. (mid ≡ h) × AreActions f reply.actions.items (refused_deeds g f s h e x))) is step.1 in
+          (λ (r : Option Refusal). MatchOption r (Takes g f s h e reply.actions.items mid) (λ x. (mid ≡ h) × AreActions f reply.actions.items (refused_deeds g f s h e x))) is step.1 in
           (Went e takes.points ∷ turns, (mid, takes.step, takes.rests, go), ap (λ (l : List (Event D)). e ∷ l) same)
       turn (Some r) is step turns go same =
           let stays : (mid ≡ h) × AreActions f reply.actions.items (refused_deeds g f s h e r) = subst
-              (λ (o : Option Refusal). MatchOption o (Takes g f s h e reply.actions.items mid) (λ x. (mid ≡ h) × AreActions f reply.actions.items (refused_deeds g f s h e x))) is step.1 in
-          (
+          (λ (o : Option Refusal). MatchOption o (Takes g f s h e reply.actions.items mid) (λ x. (mid ≡ h) × AreActions f reply.actions.items (refused_deeds g f s h e x))) is step.1 in (
             Refuses e r ∷ turns,
             (subst (λ (o : Option Refusal). IsFirst (tests g f s h e) o) is step.0, subst (λ (k : History S D P G C). Turns g f s k turns end) stays.0 go),
             ap (λ (l : List (Event D)). e ∷ l) same,
@@ -134,10 +133,13 @@ module _ {S L D P G C : Type 0} (g : Ghosts S D P G C) (e : elector.Ghosts L S D
           where
             t : Setup S D C
             t = setup_by g e scheme index o
+
             turns : (turns : List (Turn S D P G C)) × Turns g f t mid turns passed.mid × (turn_events turns ≡ passed.before)
             turns = run-turns g f t mid passed.before passed.replies passed.mid passed.run
+
             was : List (Artifact S D P G C) → Option (Event D × List (Point S D P G C)) → History S D P G C → Type 0
             was xs cut end = Lived g f t xs (Lasting o.now opens.points turns.0 cut) end
+
             by : IsReached g f t passed.mid passed.event image → IsLeftByLives g e scheme index f s (before ++ o ∷ []) image
             by (inl reads) = left-more (k.seen on) image at-start (Lasting o.now opens.points turns.0 None) passed.mid
                 (record {
