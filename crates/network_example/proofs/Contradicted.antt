@@ -487,9 +487,9 @@ module _ {S D P G C : Type 0} (g : Ghosts S D P G C) (f : Formats S D P G C) (cm
   correct : IsCorrect w 0
   correct = (omega arith, λ here. outside here)
     where
-      outside : Contains (1 ∷ 2 ∷ 3 ∷ []) 0 → ⊥
-      outside here = ⊎_elim (λ is. omega (arith, is)) (λ later. ⊎_elim (λ is. omega (arith, is)) (λ last. ⊎_elim (λ is. omega (arith, is)) (λ none. Contains-nil 0 none) (Contains-cases 3 [] 0 last)) (Contains-cases 2 (3 ∷ []) 0 later))
-          (Contains-cases 1 (2 ∷ 3 ∷ []) 0 here)
+      outside : Contains {X = ℕ} (1 ∷ 2 ∷ 3 ∷ []) 0 → ⊥
+      outside here = ⊎_elim (λ is. omega (arith, is)) (λ later. ⊎_elim (λ is. omega (arith, is)) (λ last. ⊎_elim (λ is. omega (arith, is)) (λ none. Contains-nil {X = ℕ} 0 none) (Contains-cases {X = ℕ} 3 [] 0 last)) (Contains-cases {X = ℕ} 2 (3 ∷ []) 0 later))
+          (Contains-cases {X = ℕ} 1 (2 ∷ 3 ∷ []) 0 here)
 
   -- ---- what came in is honest
 

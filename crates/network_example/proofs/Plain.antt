@@ -22,7 +22,7 @@ use Rattle.simplex_member.specs.declared.event.Channel.TheVariants as channel
 use Rattle.simplex_member.specs.declared.event.Event.{Event}
 use Rattle.simplex_member.specs.declared.event.Event.TheVariants as event
 use Rattle.simplex_member.specs.Laws.{AreReadBack, CanBeSent}
-use Rattle.simplex_member.specs.Packet.{Formats, of_certificate, whole}
+use Rattle.simplex_member.specs.Packet.{Formats, IsRecordable, of_certificate, whole}
 use Rattle.network_example.specs.Example.{AreKeys, IsJunk, IsOfBytes, NetworksAreThere, first, given_up, nullification_of, nullify_of}
 use Rattle.network_example.specs.Plain.{PlainNetworksAreThere, attested_by, member_of_four, plain_parts}
 

@@ -9,7 +9,7 @@ use Rattle.types_core.specs.declared.attestation.Attestation.{Attestation}
 use Rattle.types_core.specs.declared.scheme.Scheme.{Ghosts}
 use Rattle.types_core.specs.Attestation.{attestation_fits}
 use Rattle.types_core.specs.Quorum.{IsQuorum, IsQuorum-from_ascending}
-use Rattle.types_core.specs.Subject.{Statement, nullify}
+use Rattle.types_core.specs.Subject.{Statement, finalize, nullify}
 use Rattle.simplex_types.specs.AttestationList.{list_fits, list_within}
 use Rattle.simplex_types.specs.Plain.{Attests, Committee, hashed}
 use Rattle.messages_certificates.specs.declared.artifact.Artifact.{Artifact}
@@ -21,7 +21,7 @@ use Rattle.messages_certificates.specs.ProposalCertificate.{certificate_fits}
 use Rattle.simplex_member.specs.declared.event.Event.{Event}
 use Rattle.simplex_member.specs.Laws.{AreReadBack, CanBeSent}
 use Rattle.simplex_member.specs.Packet.{Formats, IsRecordable, of_certificate}
-use Rattle.network_example.specs.Contradicted.{AreForged, ContradictionsAreNamed, Forged, finalization, nullification, second}
+use Rattle.network_example.specs.Contradicted.{AreForged, ContradictionsAreNamed, Forged, agreed_on, finalization, nullification, second}
 use Rattle.network_example.specs.Plain.{member_of_four}
 use Rattle.network_example.specs.PlainContradicted.{PlainContradictionsAreNamed, by_three, plain_forged, stated_by}
 
@@ -80,8 +80,8 @@ module _ {D P : Type 0} (g : Ghosts Committee D P (List ℕ) (List (Attestation 
       law (member_of_four base 0) x (keys base genesis agreed final null)
       (record {
         bytes = final_is;
-        read = back.again (of_certificate (certificate.Finalization (finalization x))) (sent (artifact.Finalization (finalization x)) (finalized-fits x payload_fits (packed-fits payload base _) (packed-within payload base _)));
-        kept = kept (artifact.Finalization (finalization x)) (finalized-fits x payload_fits (packed-fits payload base _) (packed-within payload base _));
+        read = back.again (of_certificate (certificate.Finalization (finalization x))) (sent (artifact.Finalization (finalization x)) (finalized-fits x payload_fits (packed-fits payload base (finalize (agreed_on x))) (packed-within payload base (finalize (agreed_on x)))));
+        kept = kept (artifact.Finalization (finalization x)) (finalized-fits x payload_fits (packed-fits payload base (finalize (agreed_on x))) (packed-within payload base (finalize (agreed_on x))));
       })
       (record {
         bytes = null_is;

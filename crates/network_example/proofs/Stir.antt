@@ -13,6 +13,40 @@ use Rattle.voter_history.specs.History.{started, nullified, finalized, sent, pru
 use Rattle.voter_history.specs.Leaders.{extend, handoff_leader, inherits, leader, named, named_early}
 use Rattle.types_terms.specs.declared.kind.Kind.TheVariants as kind
 
+-- ---- leaders, where no view has the leader of the view before, and the elector names the last member
+
+module _ (IsOne : ℕ → Type 0) where
+  -- nobody leads the view, or the last member does and it is one of these
+  abbrev pub IsLedSo : ℕ → Option ℕ → Type 0
+  IsLedSo view o = (o ≡ None) ⊎ ((o ≡ Some 3) × IsOne view)
+
+  so-or : (view : ℕ) (a b : Option ℕ) → IsLedSo view a → IsLedSo view b → IsLedSo view (option_or a b)
+  so-or view None b before now = now
+  so-or view (Some x) b before now = before
+
+  so-off : (view : ℕ) (b : Bool) (o : Option ℕ) → b ≡ false → IsLedSo view (if b then o else None)
+  so-off view true o e = absurd (both_ways true e refl)
+  so-off view false o e = inl refl
+
+  so-kept : (view : ℕ) (b : Bool) (o : Option ℕ) → IsLedSo view o → IsLedSo view (if b then None else o)
+  so-kept view true o led = inl refl
+  so-kept view false o led = led
+
+  so-at : (view at k : ℕ) → k ≡ 3 → IsOne at → IsLedSo view (if view == at then Some k else None)
+  so-at view at k three one = go (view == at) refl
+    where
+      go : (b : Bool) → (view == at) ≡ b → IsLedSo view (if b then Some k else None)
+      go true e = inr (ap (λ (n : ℕ). Some n) three, subst IsOne (sym (eqb-true view at e)) one)
+      go false e = inl refl
+
+  so-extend : (here : ℕ → Option ℕ) (from_before : ℕ → Bool) (known : ℕ → Option ℕ) → ((view : ℕ) → from_before view ≡ false) → ((view : ℕ) → IsLedSo view (here view)) → ((view : ℕ) → IsLedSo view (known view))
+      → (view : ℕ) → IsLedSo view (extend here from_before known view)
+  so-extend here from_before known off names knows zero = knows zero
+  so-extend here from_before known off names knows (suc w) =
+      so-or (suc w) (known (suc w)) (option_or (here (suc w)) (if from_before (suc w) then extend here from_before known w else None)) (knows (suc w))
+      (so-or (suc w) (here (suc w)) (if from_before (suc w) then extend here from_before known w else None) (names (suc w))
+      (so-off (suc w) (from_before (suc w)) (extend here from_before known w) (off (suc w))))
+
 module _ {S D P G C : Type 0} where
   -- nothing was found good, notarized, or voted for
   pub record IsMild (x : List (Item S D P G C)) : Type 0 where
@@ -111,40 +145,7 @@ module _ {S D P G C : Type 0} where
     stir-vacant (pruned ∷ h) stir view above = either Vacant (nat_lt view (min_active s h)) [] (seen s h view) refl (stir-vacant h stir view above)
     stir-vacant (x ∷ h) stir view above = absurd stir
 
-    -- ---- leaders, where no view has the leader of the view before, and the elector names the last member
-
     module _ (IsOne : ℕ → Type 0) where
-      -- nobody leads the view, or the last member does and it is one of these
-      abbrev pub IsLedSo : ℕ → Option ℕ → Type 0
-      IsLedSo view o = (o ≡ None) ⊎ ((o ≡ Some 3) × IsOne view)
-
-      so-or : (view : ℕ) (a b : Option ℕ) → IsLedSo view a → IsLedSo view b → IsLedSo view (option_or a b)
-      so-or view None b before now = now
-      so-or view (Some x) b before now = before
-
-      so-off : (view : ℕ) (b : Bool) (o : Option ℕ) → b ≡ false → IsLedSo view (if b then o else None)
-      so-off view true o e = absurd (both_ways true e refl)
-      so-off view false o e = inl refl
-
-      so-kept : (view : ℕ) (b : Bool) (o : Option ℕ) → IsLedSo view o → IsLedSo view (if b then None else o)
-      so-kept view true o led = inl refl
-      so-kept view false o led = led
-
-      so-at : (view at k : ℕ) → k ≡ 3 → IsOne at → IsLedSo view (if view == at then Some k else None)
-      so-at view at k three one = go (view == at) refl
-        where
-          go : (b : Bool) → (view == at) ≡ b → IsLedSo view (if b then Some k else None)
-          go true e = inr (ap (λ (n : ℕ). Some n) three, subst IsOne (sym (eqb-true view at e)) one)
-          go false e = inl refl
-
-      so-extend : (here : ℕ → Option ℕ) (from_before : ℕ → Bool) (known : ℕ → Option ℕ) → ((view : ℕ) → from_before view ≡ false) → ((view : ℕ) → IsLedSo view (here view)) → ((view : ℕ) → IsLedSo view (known view))
-          → (view : ℕ) → IsLedSo view (extend here from_before known view)
-      so-extend here from_before known off names knows zero = knows zero
-      so-extend here from_before known off names knows (suc w) =
-          so-or (suc w) (known (suc w)) (option_or (here (suc w)) (if from_before (suc w) then extend here from_before known w else None)) (knows (suc w))
-          (so-or (suc w) (here (suc w)) (if from_before (suc w) then extend here from_before known w else None) (names (suc w))
-          (so-off (suc w) (from_before (suc w)) (extend here from_before known w) (off (suc w))))
-
       -- it names those that the start and certificates lead to
       abbrev pub NamesOnes : List (views.Point S D P G C) → Type 0
       NamesOnes [] = ⊤
@@ -154,19 +155,19 @@ module _ {S D P G C : Type 0} where
       NamesOnes (x ∷ h) = NamesOnes h
 
       module _ (alone : (h : List (views.Point S D P G C)) (view : ℕ) → inherits s h view ≡ false) (three : (view : ℕ) (c : Option C) → s.elect view c ≡ 3) where
-        so-on : (x : views.Point S D P G C) (h : List (views.Point S D P G C)) → IsStir (x ∷ h) → ((view : ℕ) → IsLedSo view (named s x view)) → ((view : ℕ) → IsLedSo view (leader s h view))
-            → (view : ℕ) → IsLedSo view (extend (λ v. option_or (named s x v) (named_early s (x ∷ h) v)) (inherits s (x ∷ h)) (leader s h) view)
-        so-on x h stir names before = so-extend (λ v. option_or (named s x v) (named_early s (x ∷ h) v)) (inherits s (x ∷ h)) (leader s h) (alone (x ∷ h))
-            (λ v. so-or v (named s x v) (named_early s (x ∷ h) v) (names v) (so-off v (past.has_notarized (seen s (x ∷ h) (v - 1))) (handoff_leader s v) (stir-mild (x ∷ h) stir (v - 1)).unvoted)) before
+        so-on : (x : views.Point S D P G C) (h : List (views.Point S D P G C)) → IsStir (x ∷ h) → ((view : ℕ) → IsLedSo IsOne view (named s x view)) → ((view : ℕ) → IsLedSo IsOne view (leader s h view))
+            → (view : ℕ) → IsLedSo IsOne view (extend (λ v. option_or (named s x v) (named_early s (x ∷ h) v)) (inherits s (x ∷ h)) (leader s h) view)
+        so-on x h stir names before = so-extend IsOne (λ v. option_or (named s x v) (named_early s (x ∷ h) v)) (inherits s (x ∷ h)) (leader s h) (alone (x ∷ h))
+            (λ v. so-or IsOne v (named s x v) (named_early s (x ∷ h) v) (names v) (so-off IsOne v (past.has_notarized (seen s (x ∷ h) (v - 1))) (handoff_leader s v) (stir-mild (x ∷ h) stir (v - 1)).unvoted)) before
 
-        pub stir-leads : (h : List (views.Point S D P G C)) → IsStir h → NamesOnes h → (view : ℕ) → IsLedSo view (leader s h view)
+        pub stir-leads : (h : List (views.Point S D P G C)) → IsStir h → NamesOnes h → (view : ℕ) → IsLedSo IsOne view (leader s h view)
         stir-leads [] stir ones view = inl refl
-        stir-leads (started now payload ∷ h) stir ones view = so-on (started now payload) h stir (λ v. so-at v 1 (s.elect 1 None) (three 1 None) ones.0) (stir-leads h stir ones.1) view
+        stir-leads (started now payload ∷ h) stir ones view = so-on (started now payload) h stir (λ v. so-at IsOne v 1 (s.elect 1 None) (three 1 None) ones.0) (stir-leads h stir ones.1) view
         stir-leads (nullified now c ∷ h) stir ones view =
-            so-on (nullified now c) h stir (λ v. so-at v (next_term_start s.length c.round.view) (s.elect v (Some c.certificate)) (three v (Some c.certificate)) ones.0) (stir-leads h stir ones.1) view
+            so-on (nullified now c) h stir (λ v. so-at IsOne v (next_term_start s.length c.round.view) (s.elect v (Some c.certificate)) (three v (Some c.certificate)) ones.0) (stir-leads h stir ones.1) view
         stir-leads (finalized now c ∷ h) stir ones view =
-            so-on (finalized now c) h stir (λ v. so-at v (c.proposal.round.view + 1) (s.elect v (Some c.certificate)) (three v (Some c.certificate)) ones.0) (stir-leads h stir ones.1) view
+            so-on (finalized now c) h stir (λ v. so-at IsOne v (c.proposal.round.view + 1) (s.elect v (Some c.certificate)) (three v (Some c.certificate)) ones.0) (stir-leads h stir ones.1) view
         stir-leads (sent kind.Nullification at ∷ h) stir ones view = so-on (sent kind.Nullification at) h stir (λ v. inl refl) (stir-leads h stir ones) view
         stir-leads (sent kind.Finalization at ∷ h) stir ones view = so-on (sent kind.Finalization at) h stir (λ v. inl refl) (stir-leads h stir ones) view
-        stir-leads (pruned ∷ h) stir ones view = so-kept view (nat_lt view (min_active s h)) (leader s h view) (stir-leads h stir ones view)
+        stir-leads (pruned ∷ h) stir ones view = so-kept IsOne view (nat_lt view (min_active s h)) (leader s h view) (stir-leads h stir ones view)
         stir-leads (x ∷ h) stir ones view = absurd stir

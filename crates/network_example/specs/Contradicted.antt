@@ -78,7 +78,7 @@ module _ {S D C : Type 0} where
 module _ {S D P G C : Type 0} (x : Forged S D C) where
   -- its two certificates
   abbrev pub finalization : Finalization S D P G C
-  finalization = record { proposal = agreed_on x; certificate = x.agreed }
+  finalization = record { proposal = agreed_on x; certificate = x.agreed; kind = record {} }
 
   abbrev pub nullification : Nullification S D P G C
   nullification = record { round = second; certificate = x.given_up }
