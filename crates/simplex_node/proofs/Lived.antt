@@ -210,8 +210,9 @@ module _ {S L D P G C K : Type 0} (g : Ghosts S D P G C) (e : elector.Ghosts L S
           (Contains-append_right before all o (subst (λ (l : List (Opening L D)). Contains l o) (sym so_far.split)
           (Contains-append_right so_far.over left o (subst (λ (l : List (Opening L D)). Contains l o) (sym left_is) (Contains-head o rest)))))) (All-nil IsMember)
 
-  -- all are over where none is left
-  pub all-over : (all rest : List (Opening L D)) (now : K) → rest ≡ [] → LivesOn all rest now → LeavesOnly (k.calls on) (k.calls now) (IsLeftByLives g e scheme index f s (before ++ all))
-  all-over all rest now none so_far =
-      let whole : all ≡ so_far.over = so_far.split ∙ ap (λ (l : List (Opening L D)). so_far.over ++ l) none ∙ append-nil so_far.over in
-      subst (λ (l : List (Opening L D)). LeavesOnly (k.calls on) (k.calls now) (IsLeftByLives g e scheme index f s (before ++ l))) (sym whole) so_far.leaves
+  -- so far they leave what lives behind all of them may leave
+  pub so-far-all : (all rest : List (Opening L D)) (now : K) → LivesOn all rest now → LeavesOnly (k.calls on) (k.calls now) (IsLeftByLives g e scheme index f s (before ++ all))
+  so-far-all all rest now so_far =
+      let whole : (before ++ so_far.over) ++ rest ≡ before ++ all = append_assoc before so_far.over rest ∙ ap (λ (l : List (Opening L D)). before ++ l) (sym so_far.split) in
+      weaker (IsLeftByLives g e scheme index f s (before ++ all)) so_far.leaves
+      (λ image is. subst (λ (l : List (Opening L D)). IsLeftByLives g e scheme index f s l image) whole (left-skip g e scheme index f s (before ++ so_far.over) rest image is))

@@ -33,7 +33,7 @@ pub struct Opening<L: Drop, D: Digest> {
 }
 
 /// A member's lives, one after another: its record is opened, the node steps over the events, and the disk is opened anew. A step
-/// that fails ends its life, and an opening that fails begins none.
+/// that fails ends its life, an opening that fails begins none, and where the scheme can't be shared once more all is over.
 ///
 /// A crash at any moment of any call leaves what lives of the member model have left, of these openings and in their order. So what
 /// the model's laws say of lives holds of every run of nodes over one disk, whatever is lost in between: another call over what a
@@ -57,7 +57,10 @@ pub fn live<S: Scheme<D> + Drop, L: Elector<S, D>, D: Digest, K: Disk>(
 {
     let mut disk = disk;
     for opening in openings {
-        disk = live_once(alloc, Rc::clone(&scheme), disk, opening);
+        match Rc::clone(&scheme) {
+            Ok(shared) => disk = live_once(alloc, shared, disk, opening),
+            Err(_) => return disk,
+        }
     }
     disk
 }

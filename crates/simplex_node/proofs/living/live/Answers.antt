@@ -1,7 +1,5 @@
-use Rattle.std.proofs.Common.{sym, ◌∙◌}
-use Rattle.std.proofs.lemmas.List.{nil_from_length}
 use Rattle.std.proofs.lemmas.List.Elements.{All-rest, All-same}
-use Rattle.simplex_node.proofs.Lived.{all-over, none-over, one-over}
+use Rattle.simplex_node.proofs.Lived.{none-over, one-over, so-far-all}
 use Rattle.simplex_node.proofs.living.live.Goals as goal
 
 pub loop-opening-init : goal.loop-opening-init
@@ -23,5 +21,8 @@ loop-opening-preserved g c =
 
 pub returns-clause-lives : goal.returns-clause-lives
 returns-clause-lives g c = λ s index before own small keeps members start.
-    let none = nil_from_length _ (sym c.loop-opening.opening-iterator.rest.ok.0 ∙ c.in-None.ensures.steps.0) in
-    all-over g.S.Scheme g.L.Elector g.K.Disk c.args.scheme.value index _ s before c.args.disk c.args.openings.items _ c.loop-opening.disk none (c.loop-opening.invariant.lives s index before own small keeps members start)
+    so-far-all g.S.Scheme g.L.Elector g.K.Disk c.args.scheme.value index _ s before c.args.disk c.args.openings.items _ c.loop-opening.disk (c.loop-opening.invariant.lives s index before own small keeps members start)
+
+pub returns-in-Err-clause-lives : goal.returns-in-Err-clause-lives
+returns-in-Err-clause-lives g c = λ s index before own small keeps members start.
+    so-far-all g.S.Scheme g.L.Elector g.K.Disk c.args.scheme.value index _ s before c.args.disk c.args.openings.items _ c.loop-opening.disk (c.loop-opening.invariant.lives s index before own small keeps members start)
