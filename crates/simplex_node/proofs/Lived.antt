@@ -1,5 +1,5 @@
 -- What lives leave: one more behind those before it, and what a crash inside it leaves.
-use Rattle.std.proofs.Common.{◌≡◌, ◌⊎◌, ⊎_elim, inl, inr, ℕ, List, [], ◌∷◌, ◌++◌, Option, Some, None, refl, sym, ap, ◌∙◌, subst, append_assoc, map}
+use Rattle.std.proofs.Common.{◌≡◌, ◌⊎◌, ⊎_elim, inl, inr, ◌≤◌, ℕ, List, [], ◌∷◌, ◌++◌, Option, Some, None, refl, sym, ap, ◌∙◌, subst, append_assoc, map}
 use Rattle.std.specs.Prelude.{All, Contains, MatchOption}
 use Rattle.std.proofs.lemmas.List.{append-nil}
 use Rattle.std.proofs.lemmas.List.Elements.{All-cons, All-contains, All-nil, Contains-append_right}
@@ -168,6 +168,13 @@ module _ {S L D P G C : Type 0} (g : Ghosts S D P G C) (e : elector.Ghosts L S D
       → ((image : List ℕ) → Q image → R image) → LeavesOnly old new R
   leaves-on {old} {mid} {new} {P} {Q} R first here (inl same) there = subst (λ (l : List Call). LeavesOnly old l R) (sym same) (weaker R first here)
   leaves-on {old} {mid} {new} {P} {Q} R first here (inr second) there = and_then (weaker R first here) (weaker R second there)
+
+module _ {S L D P G C K : Type 0} (g : Ghosts S D P G C) (e : elector.Ghosts L S D P G C) (k : disk.Ghosts K) (formats : ℕ → Formats S D P G C) (s : Setup S D C) (index : ℕ) (o : Opening L D) (now new : K) where
+  -- one life behind an opening, by this scheme, took the disk from one to the other
+  abbrev pub LifeBy : S → Type 0
+  LifeBy scheme = (earlier : List (Opening L D)) → g.own scheme ≡ Some index → g.size scheme ≤ 65535 → k.keeps → AreOfOneMember g e scheme index s (o ∷ [])
+      → MayLeaveOnly (k.calls now) (IsLeftByLives g e scheme index (formats (g.size scheme)) s earlier)
+      → LeavesOnly (k.calls now) (k.calls new) (IsLeftByLives g e scheme index (formats (g.size scheme)) s (earlier ++ o ∷ []))
 
 -- what is so of one index is so of another that is the same
 pub same-index : {P : ℕ → Type 0} {own : Option ℕ} {index : ℕ} → ((i : ℕ) × (own ≡ Some i) × P i) → own ≡ Some index → P index
