@@ -37,7 +37,8 @@ pub struct Opening<L: Drop, D: Digest> {
 ///
 /// A crash at any moment of any call leaves what lives of the member model have left, of these openings and in their order. So what
 /// the model's laws say of lives holds of every run of nodes over one disk, whatever is lost in between: another call over what a
-/// crash left goes on where that stood.
+/// crash left goes on where that stood. How much was done it doesn't say: an opening may always fail for want of memory, so a call that
+/// opens nothing meets it too; what an opening or a step does, and hands out, [`Node::open`] and [`run`] say.
 pub fn live<S: Scheme<D> + Drop, L: Elector<S, D>, D: Digest, K: Disk>(
     alloc: Global,
     scheme: Rc<S>,
