@@ -116,7 +116,8 @@ module _ {S D P G C : Type 0} (g : Ghosts S D P G C) (f : Formats S D P G C) (s 
 
   -- a handoff is to stop: the reason why
   abbrev pub IsStopped : History S D P G C → Context D P → Type 0
-  IsStopped h context = (why : HandoffAbandonedReason) × StopsHandoff (member_of s) (known_of s h) context.round.view context.parent.0 context.parent.1 (Some why)
+  IsStopped h context = (why : HandoffAbandonedReason)
+      × StopsHandoff (member_of s) (known_of s h) context.round.view context.parent.0 context.parent.1 (Some why)
 
   -- a build is to be given back: it is superseded, or it is for a handoff that is to stop
   abbrev pub IsGivenBack : History S D P G C → Bool → Context D P → Type 0
@@ -169,13 +170,16 @@ module _ {S D P G C : Type 0} (g : Ghosts S D P G C) (f : Formats S D P G C) (s 
 
   -- a nullify of the current view is due, and it was not given up before; or it was
   abbrev pub GivesUp : History S D P G C → ℕ → Bool → Type 0
-  GivesUp h view again = (view ≡ current_of s h) × NullifyIsDue s.voter (voter_of s h) (latest h) × (past.has_nullified (seen s.voter (voter_of s h) view) ≡ again)
+  GivesUp h view again = (view ≡ current_of s h) × NullifyIsDue s.voter (voter_of s h) (latest h)
+      × (past.has_nullified (seen s.voter (voter_of s h) view) ≡ again)
 
   -- an own vote is due
   abbrev pub VoteIsDue : History S D P G C → Vote S D P G C → Type 0
-  VoteIsDue h (vote.Notarize v) = NotarizeIsDue (member_of s) (known_of s h) v.proposal.round.view × (held_at (member_of s) (known_of s h) v.proposal.round.view ≡ Some v.proposal)
+  VoteIsDue h (vote.Notarize v) = NotarizeIsDue (member_of s) (known_of s h) v.proposal.round.view
+      × (held_at (member_of s) (known_of s h) v.proposal.round.view ≡ Some v.proposal)
   VoteIsDue h (vote.Nullify v) = GivesUp h v.round.view false
-  VoteIsDue h (vote.Finalize v) = FinalizeIsDue (member_of s) (known_of s h) v.proposal.round.view × (held_at (member_of s) (known_of s h) v.proposal.round.view ≡ Some v.proposal)
+  VoteIsDue h (vote.Finalize v) = FinalizeIsDue (member_of s) (known_of s h) v.proposal.round.view
+      × (held_at (member_of s) (known_of s h) v.proposal.round.view ≡ Some v.proposal)
 
   -- the nullify is due once more: the recorded one, with the best certificate to enter its view by
   pub record RepeatIsDue (h : History S D P G C) (v : Nullify S D P G C) (best : Option (Certificate S D P G C)) : Type 0 where
@@ -194,7 +198,8 @@ module _ {S D P G C : Type 0} (g : Ghosts S D P G C) (f : Formats S D P G C) (s 
   IsDue h (Heard v) = IsAccepted h v
   IsDue h (Came c) = Retains (finalized_of s h) s.voter.retention (certificate_round c).view
   IsDue h (Wanted member view) = IsHeeded member view
-  IsDue h (Built number handoff context payload took) = (build_at h number ≡ Some (handoff, context)) × (IsTrue took ↔ BuildCounts h context payload)
+  IsDue h (Built number handoff context payload took) = (build_at h number ≡ Some (handoff, context))
+      × (IsTrue took ↔ BuildCounts h context payload)
   IsDue h (Checked number view answer outcome) = (check_at h number ≡ Some view) × ComesOf h view answer outcome
   IsDue h (Judged r ok) = IsAwaited s h r.view
   IsDue h (Leads view index) = IsSome (stage s h view) × (leader_of (votes_of s h view) ≡ None) × (leader s.voter (voter_of s h) view ≡ Some index)
@@ -206,8 +211,10 @@ module _ {S D P G C : Type 0} (g : Ghosts S D P G C) (f : Formats S D P G C) (s 
   IsDue h (AsksBuild number handoff context) = AsksFor h number handoff context
   IsDue h (AsksVerify number context p) = AsksToVerify h number context p
   IsDue h (AsksCertify p) = CertifyIsDue (member_of s) (known_of s h) p.round.view p
-  IsDue h (GivesBack number view) = (handoff : Bool) × (context : Context D P) × (build_at h number ≡ Some (handoff, context)) × (context.round.view ≡ view) × IsGivenBack h handoff context
-  IsDue h (LeavesBehind number) = (handoff : Bool) × (context : Context D P) × (build_at h number ≡ Some (handoff, context)) × (context.round.view < current_of s h)
+  IsDue h (GivesBack number view) = (handoff : Bool) × (context : Context D P) × (build_at h number ≡ Some (handoff, context))
+      × (context.round.view ≡ view) × IsGivenBack h handoff context
+  IsDue h (LeavesBehind number) = (handoff : Bool) × (context : Context D P) × (build_at h number ≡ Some (handoff, context))
+      × (context.round.view < current_of s h)
   IsDue h (PutsOff view) = MayPutOff h view
   IsDue h (Asks view ask to) = AskIsDue h view ask to
   IsDue h (Resolves view kind u) = MayResolve h view kind u
@@ -225,8 +232,9 @@ module _ {S D P G C : Type 0} (g : Ghosts S D P G C) (f : Formats S D P G C) (s 
   abbrev pub MayRecord : History S D P G C → Artifact S D P G C → Type 0
   MayRecord h x = Fits (g.attests s.voter.scheme) (g.certifies s.voter.scheme) (owner_of s) (record_of h) x
 
-  -- what may come next: in order, due, what it records may stand behind the record, and what it adds to that can be read again. Of a vote that is due the rules on records ask
-  -- nothing more (`due_may_be_recorded`): there the third is about who signed, and that it attests
+  -- what may come next: in order, due, what it records may stand behind the record, and what it adds to that can be read again.
+  -- Of a vote that is due the rules on records ask nothing more (`due_may_be_recorded`): there the third is about who signed, and
+  -- that it attests
   pub record Allowed (h : History S D P G C) (p : Point S D P G C) : Type 0 where
     pub order : IsInOrder h p
     pub due : IsDue h p

@@ -79,4 +79,5 @@ module _ {S D P G C : Type 0} where
 
   -- this was asked for already, of this member or of all; or nothing is left to be asked
   abbrev pub IsAnswered : Formats S D P G C → Setup S D C → History S D P G C → ℕ → Ask → Option ℕ → Type 0
-  IsAnswered f s h view ask to = (is_settled s.voter.length (repair_of f h) view ask.kind ≡ true) ⊎ Contains (asks_of h) (record { view = view; ask = ask; to = to })
+  IsAnswered f s h view ask to = (is_settled s.voter.length (repair_of f h) view ask.kind ≡ true)
+      ⊎ Contains (asks_of h) (record { view = view; ask = ask; to = to })

@@ -124,7 +124,8 @@ module _ {S D P G C : Type 0} where
 
     -- a point entered a view
     abbrev pub entered_deeds : History S D P G C → Point S D P G C → List (Deed S D P G C)
-    entered_deeds h p = if nat_lt (current_of s h) (current_of s (p ∷ h)) then entry_deeds (p ∷ h) (current_of s (p ∷ h)) (current_of s (p ∷ h) - 1) else []
+    entered_deeds h p =
+        if nat_lt (current_of s h) (current_of s (p ∷ h)) then entry_deeds (p ∷ h) (current_of s (p ∷ h)) (current_of s (p ∷ h) - 1) else []
 
     -- what was recorded is reported
     abbrev pub report_deeds : History S D P G C → Artifact S D P G C → List (Deed S D P G C)
@@ -132,7 +133,8 @@ module _ {S D P G C : Type 0} where
 
     -- a certificate that is taken is reported and sent to all; it may make a proposal final, and a view may be entered by it
     abbrev pub certificate_deeds : History S D P G C → Point S D P G C → Certificate S D P G C → List (Deed S D P G C)
-    certificate_deeds h p c = report_deeds h (certificate_artifact c) ++ (Sends None (of_certificate c) ∷ (final_deeds (finalized_of s h) c ++ entered_deeds h p))
+    certificate_deeds h p c =
+        report_deeds h (certificate_artifact c) ++ (Sends None (of_certificate c) ∷ (final_deeds (finalized_of s h) c ++ entered_deeds h p))
 
     -- the best certificate for a view, where there is one
     abbrev pub served : History S D P G C → ℕ → ℕ → List (Deed S D P G C)

@@ -133,7 +133,8 @@ module _ {S D P G C : Type 0} (g : Ghosts S D P G C) (f : Formats S D P G C) (s 
   -- a point casts this vote, which is due; or this vote is the recorded nullify, which is due once more, and the point repeats it
   abbrev pub IsCastDue : History S D P G C → Point S D P G C → Vote S D P G C → Type 0
   IsCastDue h p v = ((p ≡ Votes v) × VoteIsDue g f s h v)
-      ⊎ ((w : Nullify S D P G C) × (best : Option (Certificate S D P G C)) × (p ≡ Repeats w best) × (v ≡ vote.Nullify w) × RepeatIsDue g f s h w best)
+      ⊎ ((w : Nullify S D P G C) × (best : Option (Certificate S D P G C)) × (p ≡ Repeats w best) × (v ≡ vote.Nullify w)
+      × RepeatIsDue g f s h w best)
 
   -- one of these points cast or repeated it, and it was due there
   pub record WasDue (h : History S D P G C) (points : List (Point S D P G C)) (v : Vote S D P G C) : Type 0 where

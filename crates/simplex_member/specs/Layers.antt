@@ -115,7 +115,8 @@ module _ {S D P G C : Type 0} where
     voter_points now low (Found x taken) = finds now x taken
     voter_points now low Began = pruned ∷ []
     voter_points now low (Came c) = takes_certificate now low c
-    voter_points now low (Built number handoff context payload took) = if took then takes_build now context.round.view payload (λ d. built now (proposal_on context d) context.parent.1) else []
+    voter_points now low (Built number handoff context payload took) =
+        if took then takes_build now context.round.view payload (λ d. built now (proposal_on context d) context.parent.1) else []
     voter_points now low (Checked number view answer outcome) = takes_outcome now view answer outcome
     voter_points now low (Judged r ok) = judged now r.view ok ∷ []
     voter_points now low (Forwards view p) = forwarded view p ∷ []

@@ -80,7 +80,8 @@ module _ {S D P G C : Type 0} (g : Ghosts S D P G C) (f : Formats S D P G C) (s 
 
   -- once the current view was given up, it is known when that is due again
   abbrev pub IsLooked : History S D P G C → Type 0
-  IsLooked h = past.has_nullified (seen s.voter (voter_of s h) (current_of s h)) ≡ true → IsSome (past.retry (seen s.voter (voter_of s h) (current_of s h)))
+  IsLooked h = past.has_nullified (seen s.voter (voter_of s h) (current_of s h)) ≡ true
+      → IsSome (past.retry (seen s.voter (voter_of s h) (current_of s h)))
 
   -- no own vote is due
   pub record NoVoteIsDue (h : History S D P G C) : Type 0 where
@@ -94,8 +95,10 @@ module _ {S D P G C : Type 0} (g : Ghosts S D P G C) (f : Formats S D P G C) (s 
     pub no_build : HasNumber h → NoBuildIsDue (member_of s) (known_of s h)
     pub no_verify : HasNumber h → (view : ℕ) (p : Proposal D) (payload : D) → ¬ VerifyIsDue (member_of s) (known_of s h) view p payload
     pub no_certify : (p : Proposal D) → ¬ CertifyIsDue (member_of s) (known_of s h) p.round.view p
-    pub no_return : (number : ℕ) (handoff : Bool) (context : Context D P) → build_at h number ≡ Some (handoff, context) → ¬ IsGivenBack g f s h handoff context
-    pub none_behind : (number : ℕ) (handoff : Bool) (context : Context D P) → build_at h number ≡ Some (handoff, context) → ¬ (context.round.view < current_of s h)
+    pub no_return : (number : ℕ) (handoff : Bool) (context : Context D P) → build_at h number ≡ Some (handoff, context)
+        → ¬ IsGivenBack g f s h handoff context
+    pub none_behind : (number : ℕ) (handoff : Bool) (context : Context D P) → build_at h number ≡ Some (handoff, context)
+        → ¬ (context.round.view < current_of s h)
 
   -- nothing is to be asked of other members. Of a proposal's leader nothing is said once all numbers are used up
   pub record NoAskIsDue (h : History S D P G C) : Type 0 where
@@ -106,7 +109,8 @@ module _ {S D P G C : Type 0} (g : Ghosts S D P G C) (f : Formats S D P G C) (s 
   -- of the votes of no view anything is due: no construction, no leader that they don't know, no proposal to forward
   pub record NoConstructionIsDue (h : History S D P G C) : Type 0 where
     pub no_construction : (view : ℕ) → stage s h view ≡ Some false → next_kind f.same (votes_setup s g h view) (votes_of s h view) ≡ None
-    pub no_leader : (view index : ℕ) → IsSome (stage s h view) → leader_of (votes_of s h view) ≡ None → leader s.voter (voter_of s h) view ≢ Some index
+    pub no_leader : (view index : ℕ) → IsSome (stage s h view) → leader_of (votes_of s h view) ≡ None
+        → leader s.voter (voter_of s h) view ≢ Some index
     pub no_forward : (view : ℕ) → IsSome (stage s h view) → forwardable (votes_of s h view) s.me ≡ None
 
   -- nothing is due

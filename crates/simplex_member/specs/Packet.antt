@@ -71,7 +71,8 @@ module _ {S D P G C : Type 0} where
   packet_spelling p q r (of_ask view) = varint view
 
   -- the packet that bytes on a channel are, where they are exactly one, by the readings of payloads, signatures and certificates
-  abbrev pub packet_at : (List ℕ → Result (D × List ℕ) CodecError) → (List ℕ → Result (G × List ℕ) CodecError) → (List ℕ → Result (C × List ℕ) CodecError)
+  abbrev pub packet_at : (List ℕ → Result (D × List ℕ) CodecError) → (List ℕ → Result (G × List ℕ) CodecError)
+      → (List ℕ → Result (C × List ℕ) CodecError)
       → Channel → List ℕ → Option (Packet S D P G C)
   packet_at p q r channel.Votes bytes = option_map of_vote (whole (any_vote_at p q bytes))
   packet_at p q r channel.Certificates bytes = option_map of_certificate (whole (any_certificate_at p r bytes))
@@ -80,7 +81,8 @@ module _ {S D P G C : Type 0} where
   -- the same of all values, in a committee of so many: by how payloads are compared and spelled, how signatures and certificates are
   -- spelled, and how all three are read under a bound
   abbrev pub formats : (D → D → Bool) → (D → List ℕ) → (G → List ℕ) → (C → List ℕ)
-      → (ℕ → List ℕ → Result (D × List ℕ) CodecError) → (ℕ → List ℕ → Result (G × List ℕ) CodecError) → (ℕ → List ℕ → Result (C × List ℕ) CodecError)
+      → (ℕ → List ℕ → Result (D × List ℕ) CodecError) → (ℕ → List ℕ → Result (G × List ℕ) CodecError)
+      → (ℕ → List ℕ → Result (C × List ℕ) CodecError)
       → ℕ → Formats S D P G C
   formats same p q r p_at q_at r_at n = record {
     same = same;

@@ -113,12 +113,14 @@ module _ {S D P G C : Type 0} (g : Ghosts S D P G C) (f : Formats S D P G C) (s 
   tests h (event.Packet sender by bytes) = sender_tests sender ++ packet_tests h sender (f.packet_in by bytes.items)
   tests h (event.Built number payload) = (refusal.UnknownAnswer, build_at h number ≡ None) ∷ []
   tests h (event.Checked number answer) = (refusal.UnknownAnswer, check_at h number ≡ None) ∷ []
-  tests h (event.Verdict view ok) = (refusal.UnknownAnswer, (IsJudged h view → ⊥) × (IsAwaited s h view → ⊥)) ∷ (refusal.SecondVerdict, IsJudged h view) ∷ []
+  tests h (event.Verdict view ok) =
+      (refusal.UnknownAnswer, (IsJudged h view → ⊥) × (IsAwaited s h view → ⊥)) ∷ (refusal.SecondVerdict, IsJudged h view) ∷ []
   tests h (event.Moment now) = (refusal.MomentFell, now < latest h) ∷ (refusal.MomentTooLate, IsInTime s now → ⊥) ∷ []
 
   -- the evidence that a refused vote gives, where it contradicts one that is kept in full
   abbrev pub evidence_deeds : History S D P G C → ℕ → Option (Packet S D P G C) → List (Deed S D P G C)
-  evidence_deeds h sender (Some (of_vote v)) = map Reports (option_to_list (report_of f.same (votes_setup s g h (vote_round v).view) (votes_of s h (vote_round v).view) sender v))
+  evidence_deeds h sender (Some (of_vote v)) =
+      map Reports (option_to_list (report_of f.same (votes_setup s g h (vote_round v).view) (votes_of s h (vote_round v).view) sender v))
   evidence_deeds h sender x = []
 
   -- the report that stands beside a block

@@ -18,7 +18,8 @@ pub trait Speaks<D: Digest>: Scheme<D> {
 }
 
 impl<D: Digest, S: Scheme<D>> Speaks<D> for S {
-    ghost formats = { formats D.PartialEq.eq D.spelling S.Signature.spelling S.Certificate.spelling D.reading S.Signature.reading S.Certificate.reading };
+    ghost formats = { formats D.PartialEq.eq D.spelling S.Signature.spelling S.Certificate.spelling
+        D.reading S.Signature.reading S.Certificate.reading };
 
     ghost readable = { Readable ⟦<Artifact<S, D> as Write>⟧.fits (⟦<Artifact<S, D> as Read>⟧.within 65535) };
 }

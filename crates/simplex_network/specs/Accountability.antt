@@ -46,7 +46,8 @@ module _ {S D P G C : Type 0} (g : Ghosts S D P G C) (f : Formats S D P G C) whe
       → (reports evidence : List (Activity S D P G C)) → AreReported scheme m world reports
       → IsVerdict g.lists (g.attests scheme) cmp reports evidence
       → (round : Round) → IsContradicted (λ x c. ⊤) reports round
-      → (named : NamesAtLeast (faults world.size + 1) world.size evidence round) × ((i : ℕ) → Contains named.names i → IsCorrect world i → ⊥)
+      → (named : NamesAtLeast (faults world.size + 1) world.size evidence round)
+      × ((i : ℕ) → Contains named.names i → IsCorrect world i → ⊥)
 
   -- their reports, one behind the other as members spell them, are read to their end: an audit of the bytes is one of just these reports
   abbrev pub JoinedAreAudited : (D → D → Ordering) → S → (Activity S D P G C → Type 0) → (Activity S D P G C → List ℕ)

@@ -38,7 +38,8 @@ module _ {D : Type 0} where
 
   -- each recorded nullify of an earlier view of the term lies at or below the last finalized view
   abbrev pub HasNoOpenNullify : ℕ → List (Entry D) → ℕ → Type 0
-  HasNoOpenNullify views before view = (r : Round) → term_start views view ≤ r.view → r.view < view → HasVoted before (nullify r) → r.view ≤ last_finalized before
+  HasNoOpenNullify views before view = (r : Round) → term_start views view ≤ r.view → r.view < view → HasVoted before (nullify r)
+      → r.view ≤ last_finalized before
 
   -- the member may vote to notarize the proposal
   pub record MayNotarize (views : ℕ) (before : List (Entry D)) (p : Proposal D) : Type 0 where

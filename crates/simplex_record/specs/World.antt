@@ -41,7 +41,8 @@ module _ {S D P G C : Type 0} (attests : ℕ → Statement D → G → Type 0) (
     pub honest : IsHonest c
 
 -- a member's own scheme has the committee's size, and what attests by it attests by the committee's
-pub record IsAlike {D G : Type 0} (size : ℕ) (attests : ℕ → Statement D → G → Type 0) (own_size : ℕ) (own_attests : ℕ → Statement D → G → Type 0) : Type 0 where
+pub record IsAlike {D G : Type 0} (size : ℕ) (attests : ℕ → Statement D → G → Type 0) (own_size : ℕ)
+    (own_attests : ℕ → Statement D → G → Type 0) : Type 0 where
   pub size_is : own_size ≡ size
   pub attests_too : (i : ℕ) (s : Statement D) (a : G) → own_attests i s a → attests i s a
 
