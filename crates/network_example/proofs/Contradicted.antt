@@ -39,7 +39,7 @@ use Rattle.simplex_member.specs.Deeds.{Reports}
 use Rattle.simplex_member.specs.First.{IsFirst}
 use Rattle.simplex_member.specs.Layers.{current_of, floor_of, latest, repair_of, voter_of, votes_of, votes_setup}
 use Rattle.simplex_member.specs.Lives.{Holds, IsHonestPacket, Life, Lived, LiveByNodes, Lives, Members, events_of}
-use Rattle.simplex_member.specs.Member.{Goes, IsLooked, IsPacketPoint, IsPointOf, NoneDue}
+use Rattle.simplex_member.specs.Member.{Goes, RetryIsKnown, IsPacketPoint, IsPointOf, NoneDue}
 use Rattle.simplex_member.specs.Packet.{Formats, IsRecordable, Packet, of_certificate}
 use Rattle.simplex_member.specs.Point.{AreActs, Point, Opened, Began, Came, Told, Leads, History, is_act}
 use Rattle.simplex_member.specs.Refusals.{packet_tests, sender_tests, tests}
@@ -187,7 +187,7 @@ module _ {S D P G C : Type 0} (g : Ghosts S D P G C) (f : Formats S D P G C) (x 
   module _ (IsOne : ℕ → Type 0) (h : History S D P G C) (stir : IsStir (voter_of s h)) (above : (view : ℕ) → current_of s h ≤ view → last_finalized (voter_of s h) < view) (ones : NamesOnes s.voter IsOne (voter_of s h))
       (named : (view : ℕ) → IsOne view → leader_of (votes_of s h view) ≡ Some 3)
       (cases : (Q : votes.History S D P G C → Type 0) → Q [] → Q (Led 3 ∷ []) → Q (Certified z ∷ []) → Q (Certified n ∷ Certified z ∷ []) → (view : ℕ) → Q (votes_of s h view))
-      (waits : ¬ NullifyIsDue s.voter (voter_of s h) (latest h)) (looked : IsLooked g f s h) (unasked : (number : ℕ) → build_at h number ≡ None) (settled : (view : ℕ) → IsOutstanding 1 (repair_of f h) view → ⊥) where
+      (waits : ¬ NullifyIsDue s.voter (voter_of s h) (latest h)) (retry_known : RetryIsKnown g f s h) (unasked : (number : ℕ) → build_at h number ≡ None) (settled : (view : ℕ) → IsOutstanding 1 (repair_of f h) view → ⊥) where
     leads : (view : ℕ) → (leader s.voter (voter_of s h) view ≡ None) ⊎ ((leader s.voter (voter_of s h) view ≡ Some 3) × IsOne view)
     leads view = stir-leads s.voter IsOne (λ earlier w. refl) (λ w c. refl) (voter_of s h) stir ones view
 
@@ -211,7 +211,7 @@ module _ {S D P G C : Type 0} (g : Ghosts S D P G C) (f : Formats S D P G C) (x 
       mine = λ view index. cases (λ (r : votes.History S D P G C). has_nullify r index ≡ true → index ≡ 0)
           (λ e. absurd (both_ways false refl e)) (λ e. absurd (both_ways false refl e)) (λ e. absurd (both_ways false refl e)) (λ e. absurd (both_ways false refl e)) view;
       waits = waits;
-      looked = looked;
+      retry_known = retry_known;
       unasked = unasked;
       settled = settled;
     }

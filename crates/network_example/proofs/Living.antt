@@ -24,7 +24,7 @@ use Rattle.simplex_member.specs.First.{IsFirst}
 use Rattle.simplex_member.specs.Lives.{Lived, Lives}
 use Rattle.simplex_member.specs.Member.{Goes, IsPacketPoint, IsPointOf}
 use Rattle.simplex_member.specs.Packet.{Formats, IsRecordable, Packet, of_certificate}
-use Rattle.simplex_member.specs.Point.{Point, AreActs, Opened, Found, Began, Came, Told, Leads, Looks, Votes, Repeats, History, is_act}
+use Rattle.simplex_member.specs.Point.{Point, AreActs, Opened, Found, Began, Came, Told, Leads, Polls, Votes, Repeats, History, is_act}
 use Rattle.simplex_member.specs.Refusals.{packet_tests, refused_deeds, sender_tests, tests}
 use Rattle.simplex_member.specs.Setup.{Setup, IsInTime, IsOfOneMember, owner_of}
 use Rattle.network_example.specs.Example.{IsJunk, IsPacketOf, crashed_life, first, nullification_of, nullify_of, repeating_life, sender_to, set_up}
@@ -150,7 +150,7 @@ module _ {S D P G C : Type 0} (g : Ghosts S D P G C) (f : Formats S D P G C) (ow
     ),
   )
 
-  goes-again : Goes g f s [] (Opened 2000 ∷ Found (artifact.Nullify (nullify_of signed i)) false ∷ Began ∷ Leads 1 3 ∷ Looks ∷ []) h3
+  goes-again : Goes g f s [] (Opened 2000 ∷ Found (artifact.Nullify (nullify_of signed i)) false ∷ Began ∷ Leads 1 3 ∷ Polls ∷ []) h3
   goes-again = (
     record { order = refl; due = in-time 2000 (omega arith); fits = tt; readable = tt },
     (
@@ -165,7 +165,7 @@ module _ {S D P G C : Type 0} (g : Ghosts S D P G C) (f : Formats S D P G C) (ow
     ),
   )
 
-  goes-repeated : Goes g f s h3 (Told 3000 ∷ Repeats (nullify_of signed i) None ∷ Looks ∷ []) h4
+  goes-repeated : Goes g f s h3 (Told 3000 ∷ Repeats (nullify_of signed i) None ∷ Polls ∷ []) h4
   goes-repeated = (
     record { order = refl; due = (later-than, in-time 3000 (omega arith)); fits = tt; readable = tt },
     (
@@ -276,11 +276,11 @@ module _ {S D P G C : Type 0} (g : Ghosts S D P G C) (f : Formats S D P G C) (ow
     lived-second = (
       h3,
       h5,
-      record { read = Found (artifact.Nullify (nullify_of signed i)) false ∷ []; acts = Leads 1 3 ∷ Looks ∷ []; split = refl; are = (refl, tt); own = two-acts (Leads 1 3) Looks refl refl },
+      record { read = Found (artifact.Nullify (nullify_of signed i)) false ∷ []; acts = Leads 1 3 ∷ Polls ∷ []; split = refl; are = (refl, tt); own = two-acts (Leads 1 3) Polls refl refl },
       record { goes = goes-again; none_due = none-due g f own genesis i small h3 (quiet-again g f own genesis i signed size) },
       (
         h4,
-        record { passes = passes-repeated; first = Told 3000; acts = Repeats (nullify_of signed i) None ∷ Looks ∷ []; split = refl; of_it = refl; own = two-acts (Repeats (nullify_of signed i) None) Looks refl refl },
+        record { passes = passes-repeated; first = Told 3000; acts = Repeats (nullify_of signed i) None ∷ Polls ∷ []; split = refl; of_it = refl; own = two-acts (Repeats (nullify_of signed i) None) Polls refl refl },
         record { goes = goes-repeated; none_due = none-due g f own genesis i small h4 (quiet-repeated g f own genesis i signed size) },
         (
           h5,

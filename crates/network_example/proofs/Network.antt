@@ -12,7 +12,7 @@ use Rattle.simplex_member.specs.declared.event.Channel.TheVariants as channel
 use Rattle.simplex_member.specs.declared.event.Event.{Event}
 use Rattle.simplex_member.specs.declared.event.Event.TheVariants as event
 use Rattle.simplex_member.specs.Deeds.{Deed, Sends}
-use Rattle.simplex_member.specs.Lives.{Carries, HandedOut, HandsOutBytes, Holds, IsHonestPacket, Life, Members, events_of}
+use Rattle.simplex_member.specs.Lives.{Carries, HandedOut, HasBytes, Holds, IsHonestPacket, Life, Members, events_of}
 use Rattle.simplex_member.specs.Packet.{Formats, Packet, of_certificate}
 use Rattle.network_example.specs.Example.{AreKeys, ArePackets, IsExample, IsJunk, IsPacketOf, Parts, first_life, four_members, four_world, given_up, second_life, sender_to}
 use Rattle.network_example.proofs.Living.{blocked, both-lived}
@@ -109,7 +109,7 @@ module _ {S D P G C : Type 0} (g : Ghosts S D P G C) (f : Formats S D P G C) (sc
   -- ---- packets in the names of correct members are theirs
 
   abbrev IsOwn : Event D → Type 0
-  IsOwn e = (j : ℕ) (by : Channel) (bytes : List ℕ) → IsCorrect w j → Carries g f scheme m w e j by bytes → (d : Deed S D P G C) × HandedOut g f scheme m w j d × HandsOutBytes g f scheme m w by bytes d
+  IsOwn e = (j : ℕ) (by : Channel) (bytes : List ℕ) → IsCorrect w j → Carries g f scheme m w e j by bytes → (d : Deed S D P G C) × HandedOut g f scheme m w j d × HasBytes g f scheme m w by bytes d
 
   junk-own : (e : Event D) → IsJunk g f e → IsOwn e
   junk-own (event.Packet from by_channel given_bytes) unread j by bytes correct carries = let low = below j correct in absurd (omega (arith, unread.0, carries.0, low))

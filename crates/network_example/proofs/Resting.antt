@@ -24,9 +24,9 @@ use Rattle.simplex_resolver.specs.RepairHistory.{Item, Replayed}
 use Rattle.simplex_resolver.specs.Outstanding.{IsOutstanding}
 use Rattle.simplex_member.specs.Asked.{build_at}
 use Rattle.simplex_member.specs.Layers.{floor_of, latest, repair_of, voter_of, votes_of, votes_setup}
-use Rattle.simplex_member.specs.Member.{IsLooked, NoneDue}
+use Rattle.simplex_member.specs.Member.{RetryIsKnown, NoneDue}
 use Rattle.simplex_member.specs.Packet.{Formats}
-use Rattle.simplex_member.specs.Point.{Opened, Found, Began, Came, Told, Leads, Looks, Repeats, History}
+use Rattle.simplex_member.specs.Point.{Opened, Found, Began, Came, Told, Leads, Polls, Repeats, History}
 use Rattle.simplex_member.specs.Setup.{Setup}
 use Rattle.network_example.specs.Example.{nullification_of, nullify_of, set_up}
 use Rattle.network_example.proofs.Calm.{IsCalm, IsPlain, calm-leads, calm-seen}
@@ -105,7 +105,7 @@ module _ {S D P G C : Type 0} (g : Ghosts S D P G C) (f : Formats S D P G C) (ow
     pub unready : (view : ℕ) → next_kind f.same (votes_setup s g h view) (votes_of s h view) ≡ None
     pub mine : (view index : ℕ) → has_nullify (votes_of s h view) index ≡ true → index ≡ i
     pub waits : ¬ NullifyIsDue s.voter (voter_of s h) (latest h)
-    pub looked : IsLooked g f s h
+    pub retry_known : RetryIsKnown g f s h
     pub unasked : (number : ℕ) → build_at h number ≡ None
     pub settled : (view : ℕ) → IsOutstanding 1 (repair_of f h) view → ⊥
 
@@ -142,7 +142,7 @@ module _ {S D P G C : Type 0} (g : Ghosts S D P G C) (f : Formats S D P G C) (ow
       unready = q.unready;
       mine = q.mine;
       waits = q.waits;
-      looked = q.looked;
+      retry_known = q.retry_known;
       unasked = q.unasked;
       settled = q.settled;
     }
@@ -156,10 +156,10 @@ module _ {S D P G C : Type 0} (g : Ghosts S D P G C) (f : Formats S D P G C) (ow
     opened_first = Leads 1 3 ∷ Began ∷ Opened 0 ∷ []
 
     abbrev pub opened_again : History S D P G C
-    opened_again = Looks ∷ Leads 1 3 ∷ Began ∷ Found (artifact.Nullify (nullify_of signed i)) false ∷ Opened 2000 ∷ []
+    opened_again = Polls ∷ Leads 1 3 ∷ Began ∷ Found (artifact.Nullify (nullify_of signed i)) false ∷ Opened 2000 ∷ []
 
     abbrev pub has_repeated : History S D P G C
-    has_repeated = Looks ∷ Repeats (nullify_of signed i) None ∷ Told 3000 ∷ opened_again
+    has_repeated = Polls ∷ Repeats (nullify_of signed i) None ∷ Told 3000 ∷ opened_again
 
     abbrev Unready : History S D P G C → ℕ → votes.History S D P G C → Type 0
     Unready h view r = next_kind {S = S} {D = D} {P = P} {G = G} {C = C} f.same (votes_setup s g h view) r ≡ None
@@ -191,15 +191,15 @@ module _ {S D P G C : Type 0} (g : Ghosts S D P G C) (f : Formats S D P G C) (ow
           (nat_lt view (floor_of s opened_first)) (1 == view);
       mine = λ view index. votes-led (nullify_of signed i) (λ (r : votes.History S D P G C). has_nullify r index ≡ true → index ≡ i) (λ e. absurd (both_ways false refl e)) (λ e. absurd (both_ways false refl e)) (nat_lt view (floor_of s opened_first)) (1 == view);
       waits = λ due. let e : 1000 ≡ due.moment = ap moment_of due.next in let r : due.moment ≤ 0 = due.reached in omega (arith, e, r);
-      looked = λ e. absurd (both_ways false refl e);
+      retry_known = λ e. absurd (both_ways false refl e);
       unasked = λ number. refl;
       settled = settles opened_first refl;
     }
 
     quiet-cast : (h : History S D P G C) → ((Q : votes.History S D P G C → Type 0) → Q [] → Q (Led 3 ∷ Cast (vote.Nullify (nullify_of signed i)) ∷ []) → (view : ℕ) → Q (votes_of s h view))
-        → IsCalm 1 (voter_of s h) → leader_of (votes_of s h 1) ≡ Some 3 → (¬ NullifyIsDue s.voter (voter_of s h) (latest h)) → IsLooked g f s h → ((number : ℕ) → build_at h number ≡ None) → repair_of f h ≡ Replayed ∷ []
+        → IsCalm 1 (voter_of s h) → leader_of (votes_of s h 1) ≡ Some 3 → (¬ NullifyIsDue s.voter (voter_of s h) (latest h)) → RetryIsKnown g f s h → ((number : ℕ) → build_at h number ≡ None) → repair_of f h ≡ Replayed ∷ []
         → IsQuiet h
-    quiet-cast h cases calm led waits looked unasked repairs = record {
+    quiet-cast h cases calm led waits retry_known unasked repairs = record {
       plain = calm-seen s.voter 1 (voter_of s h) calm;
       led = leads-first h calm led;
       unselected = λ view. cases (λ (r : votes.History S D P G C). selected r ≡ None) refl refl view;
@@ -211,7 +211,7 @@ module _ {S D P G C : Type 0} (g : Ghosts S D P G C) (f : Formats S D P G C) (ow
           view;
       mine = λ view index. cases (λ (r : votes.History S D P G C). has_nullify r index ≡ true → index ≡ i) (λ e. absurd (both_ways false refl e)) (is-mine index) view;
       waits = waits;
-      looked = looked;
+      retry_known = retry_known;
       unasked = unasked;
       settled = settles h repairs;
     }
@@ -269,7 +269,7 @@ module _ {S D P G C : Type 0} (g : Ghosts S D P G C) (f : Formats S D P G C) (ow
             view;
         mine = λ view index. taken-cases (λ (r : votes.History S D P G C). has_nullify r index ≡ true → index ≡ i) (λ e. absurd (both_ways false refl e)) (λ e. absurd (both_ways false refl e)) (is-mine index) view;
         waits = λ due. let e : 4000 ≡ due.moment = ap moment_of due.next in let r : due.moment ≤ 3000 = due.reached in omega (arith, e, r);
-        looked = λ e. absurd (both_ways false refl e);
+        retry_known = λ e. absurd (both_ways false refl e);
         unasked = λ number. refl;
         settled = taken-settled;
       }

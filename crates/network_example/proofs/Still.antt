@@ -23,7 +23,7 @@ use Rattle.simplex_resolver.specs.Outstanding.{IsOutstanding}
 use Rattle.simplex_member.specs.Allowed.{HasReason}
 use Rattle.simplex_member.specs.Asked.{build_at}
 use Rattle.simplex_member.specs.Layers.{current_of, known_of, latest, repair_of, voter_of, votes_of, votes_setup}
-use Rattle.simplex_member.specs.Member.{IsLooked, NoneDue}
+use Rattle.simplex_member.specs.Member.{RetryIsKnown, NoneDue}
 use Rattle.simplex_member.specs.Packet.{Formats}
 use Rattle.simplex_member.specs.Point.{History}
 use Rattle.simplex_member.specs.Setup.{Setup, member_of}
@@ -43,7 +43,7 @@ module _ {S D P G C : Type 0} (g : Ghosts S D P G C) (f : Formats S D P G C) (s 
     pub unready : (view : ℕ) → next_kind f.same (votes_setup s g h view) (votes_of s h view) ≡ None
     pub mine : (view index : ℕ) → has_nullify (votes_of s h view) index ≡ true → index ≡ s.me
     pub waits : ¬ NullifyIsDue s.voter (voter_of s h) (latest h)
-    pub looked : IsLooked g f s h
+    pub retry_known : RetryIsKnown g f s h
     pub unasked : (number : ℕ) → build_at h number ≡ None
     pub settled : (view : ℕ) → IsOutstanding s.voter.length (repair_of f h) view → ⊥
 
@@ -72,7 +72,7 @@ module _ {S D P G C : Type 0} (g : Ghosts S D P G C) (f : Formats S D P G C) (s 
         no_nullify = q.waits;
         no_finalize = λ view due. both_ways (is_some ((known_of s h).notarized view))
             (ap (λ (o : Option (Notarization S D P G C)). is_some (option_map (λ (c : Notarization S D P G C). c.proposal) o)) (q.unnotarized view)) due.notarized;
-        looked = q.looked;
+        retry_known = q.retry_known;
       };
       requests = record {
         no_build = λ left view parent payload due. q.others view s.me (due.leads.known ∙ own) refl;

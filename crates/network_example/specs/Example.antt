@@ -22,7 +22,7 @@ use Rattle.simplex_member.specs.Deeds.{Sends, Blocks}
 use Rattle.simplex_member.specs.Laws.{DoAttestAlike}
 use Rattle.simplex_member.specs.Lives.{AreFaithful, AtMostFLie, CameIn, Course, HandedOut, Life, Lasting, LiveByNodes, Members, Refuses, Went}
 use Rattle.simplex_member.specs.Packet.{Formats, IsRecordable, of_certificate, of_vote}
-use Rattle.simplex_member.specs.Point.{Opened, Found, Began, Came, Told, Leads, Looks, Votes, Repeats}
+use Rattle.simplex_member.specs.Point.{Opened, Found, Began, Came, Told, Leads, Polls, Votes, Repeats}
 use Rattle.simplex_member.specs.Setup.{Setup}
 use Rattle.simplex_network.specs.Network.{HaveOneElector, IsSeen}
 
@@ -81,8 +81,8 @@ module _ {S D P G C : Type 0} where
 
   -- its second: it finds the nullify, and repeats it when that is due; then it takes the certificate, and enters the next view
   abbrev pub repeating_life : Nullify S D P G C → Event D → Nullification S D P G C → Course S D P G C
-  repeating_life v handed c = Lasting 2000 (Opened 2000 ∷ Found (artifact.Nullify v) false ∷ Began ∷ Leads 1 3 ∷ Looks ∷ [])
-      (Went (event.Moment 3000) (Told 3000 ∷ Repeats v None ∷ Looks ∷ []) ∷ Went handed (Came (certificate.Nullification c) ∷ Leads 2 3 ∷ []) ∷ []) None
+  repeating_life v handed c = Lasting 2000 (Opened 2000 ∷ Found (artifact.Nullify v) false ∷ Began ∷ Leads 1 3 ∷ Polls ∷ [])
+      (Went (event.Moment 3000) (Told 3000 ∷ Repeats v None ∷ Polls ∷ []) ∷ Went handed (Came (certificate.Nullification c) ∷ Leads 2 3 ∷ []) ∷ []) None
 
   module _ (x : Parts S D G C) where
     -- its two lives

@@ -14,7 +14,7 @@ use Rattle.simplex_member.specs.Packet.{Formats, of_certificate}
 use Rattle.simplex_member.specs.Point.{History, Point}
 use Rattle.simplex_member.specs.Recorded.{record_of, reported}
 use Rattle.simplex_member.specs.Setup.{Setup}
-use Rattle.node_outbox.specs.Handing.{HandsOut, both_more}
+use Rattle.node_outbox.specs.Handing.{AddsDeeds, both_more}
 
 module _ {S D P G C : Type 0} where
   -- of a certificate an artifact says no more than that it was handed out
@@ -31,8 +31,8 @@ module _ {S D P G C : Type 0} where
 
   -- what a certificate brings is handed out, one thing behind the other
   pub certificate_handed : (g : Ghosts S D P G C) (f : Formats S D P G C) (s : Setup S D C) (h : History S D P G C) (p : Point S D P G C) (c : Certificate S D P G C) (low : ℕ) (made : List (Deed S D P G C)) (first second third fourth fifth : List (Action S D P G C))
-      → low ≡ finalized_of s h → final_deeds low c ≡ made → HandsOut f first second (Reports (certificate_activity c) ∷ []) → HandsOut f second third (Sends None (of_certificate c) ∷ []) → HandsOut f third fourth made
-      → HandsOut f fourth fifth (entered_deeds g f s h p) → HandsOut f first fifth (certificate_deeds g f s h p c)
+      → low ≡ finalized_of s h → final_deeds low c ≡ made → AddsDeeds f first second (Reports (certificate_activity c) ∷ []) → AddsDeeds f second third (Sends None (of_certificate c) ∷ []) → AddsDeeds f third fourth made
+      → AddsDeeds f fourth fifth (entered_deeds g f s h p) → AddsDeeds f first fifth (certificate_deeds g f s h p c)
   certificate_handed g f s h p c low made first second third fourth fifth at is reports sends finalizes enters =
       let entered = entered_deeds g f s h p in
       let final = both_more f third fourth fifth made entered finalizes enters in
@@ -40,5 +40,5 @@ module _ {S D P G C : Type 0} where
       let all = both_more f first second fifth (Reports (certificate_activity c) ∷ []) (Sends None (of_certificate c) ∷ (made ++ entered)) reports told in
       let made_is : made ≡ final_deeds (finalized_of s h) c = sym is ∙ ap (λ (n : ℕ). final_deeds n c) at in
       let reports_is : Reports (certificate_activity c) ∷ [] ≡ map Reports (reported (record_of h) (certificate_artifact c)) = sym (reports_itself (record_of h) c) in
-      subst (λ (l : List (Deed S D P G C)). HandsOut f first fifth (l ++ (Sends None (of_certificate c) ∷ (final_deeds (finalized_of s h) c ++ entered)))) reports_is
-      (subst (λ (l : List (Deed S D P G C)). HandsOut f first fifth (Reports (certificate_activity c) ∷ Sends None (of_certificate c) ∷ (l ++ entered))) made_is all)
+      subst (λ (l : List (Deed S D P G C)). AddsDeeds f first fifth (l ++ (Sends None (of_certificate c) ∷ (final_deeds (finalized_of s h) c ++ entered)))) reports_is
+      (subst (λ (l : List (Deed S D P G C)). AddsDeeds f first fifth (Reports (certificate_activity c) ∷ Sends None (of_certificate c) ∷ (l ++ entered))) made_is all)

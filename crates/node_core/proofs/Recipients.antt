@@ -13,7 +13,7 @@ use Rattle.voter_history.specs.History.{seen}
 use Rattle.voter_history.specs.Leaders.{leader}
 use Rattle.voter_rules.specs.declared.config.ForwardPolicy.{ForwardPolicy}
 use Rattle.voter_rules.specs.declared.config.ForwardPolicy.TheVariants as policy
-use Rattle.simplex_member.specs.Deeds.{HandsOn, HandsTo, entered_deeds, entry_deeds, hands_on, recipients, silent}
+use Rattle.simplex_member.specs.Deeds.{Relays, RelaysTo, entered_deeds, entry_deeds, relay_deeds, recipients, silent}
 use Rattle.simplex_member.specs.Layers.{current_of, voter_of}
 use Rattle.simplex_member.specs.Packet.{Formats}
 use Rattle.simplex_member.specs.Point.{Point, History}
@@ -74,7 +74,7 @@ pub above_from : (a b : ℕ) → false ≡ is_le (nat_cmp a b) → b < a
 above_from a b is = grind (arith, nat_tests, is)
 
 -- a payload goes to those to whom it does, if to any
-pub some_handed : {S D P G C : Type 0} (q : Proposal D) (who : List ℕ) → who ≢ [] → hands_on {S = S} {P = P} {G = G} {C = C} q who ≡ HandsOn q.payload (HandsTo q.round who) ∷ []
+pub some_handed : {S D P G C : Type 0} (q : Proposal D) (who : List ℕ) → who ≢ [] → relay_deeds {S = S} {P = P} {G = G} {C = C} q who ≡ Relays q.payload (RelaysTo q.round who) ∷ []
 some_handed q [] some = absurd (some refl)
 some_handed q (i ∷ who) some = refl
 
@@ -94,18 +94,18 @@ module _ {S D P G C : Type 0} (g : Ghosts S D P G C) (f : Formats S D P G C) (s 
   -- nothing, where no payload of the view before may be forwarded
   pub nothing_held : current_of s h < current_of s (p ∷ h) → None ≡ forwardable_proposal (seen s.voter (voter_of s (p ∷ h)) (current_of s (p ∷ h) - 1)) → entered_deeds g f s h p ≡ []
   nothing_held high held =
-      is_entered high ∙ ap (λ (o : Option (Proposal D)). unwrap_or (option_map (λ (q : Proposal D). hands_on q (recipients s.forward (leader s.voter (voter_of s (p ∷ h)) (current_of s (p ∷ h))) (silent g f s (p ∷ h) (current_of s (p ∷ h) - 1) q))) o) []) (sym held)
+      is_entered high ∙ ap (λ (o : Option (Proposal D)). unwrap_or (option_map (λ (q : Proposal D). relay_deeds q (recipients s.forward (leader s.voter (voter_of s (p ∷ h)) (current_of s (p ∷ h))) (silent g f s (p ∷ h) (current_of s (p ∷ h) - 1) q))) o) []) (sym held)
 
   -- and else it goes to these
   pub handed_on : (q : Proposal D) (who : List ℕ) → current_of s h < current_of s (p ∷ h) → Some q ≡ forwardable_proposal (seen s.voter (voter_of s (p ∷ h)) (current_of s (p ∷ h) - 1))
-      → who ≡ recipients s.forward (leader s.voter (voter_of s (p ∷ h)) (current_of s (p ∷ h))) (silent g f s (p ∷ h) (current_of s (p ∷ h) - 1) q) → entered_deeds g f s h p ≡ hands_on q who
+      → who ≡ recipients s.forward (leader s.voter (voter_of s (p ∷ h)) (current_of s (p ∷ h))) (silent g f s (p ∷ h) (current_of s (p ∷ h) - 1) q) → entered_deeds g f s h p ≡ relay_deeds q who
   handed_on q who high held are =
-      is_entered high ∙ ap (λ (o : Option (Proposal D)). unwrap_or (option_map (λ (r : Proposal D). hands_on r (recipients s.forward (leader s.voter (voter_of s (p ∷ h)) (current_of s (p ∷ h))) (silent g f s (p ∷ h) (current_of s (p ∷ h) - 1) r))) o) []) (sym held)
-      ∙ ap (hands_on q) (sym are)
+      is_entered high ∙ ap (λ (o : Option (Proposal D)). unwrap_or (option_map (λ (r : Proposal D). relay_deeds r (recipients s.forward (leader s.voter (voter_of s (p ∷ h)) (current_of s (p ∷ h))) (silent g f s (p ∷ h) (current_of s (p ∷ h) - 1) r))) o) []) (sym held)
+      ∙ ap (relay_deeds q) (sym are)
 
   -- the same, as the numbers stand in the code
   pub handed_to : (q : Proposal D) (who : List ℕ) (entered before : ℕ) → entered ≡ current_of s (p ∷ h) → current_of s h < entered → before ≡ entered - 1 → Some q ≡ forwardable_proposal (seen s.voter (voter_of s (p ∷ h)) before)
-      → who ≡ recipients s.forward (leader s.voter (voter_of s (p ∷ h)) entered) (silent g f s (p ∷ h) before q) → entered_deeds g f s h p ≡ hands_on q who
+      → who ≡ recipients s.forward (leader s.voter (voter_of s (p ∷ h)) entered) (silent g f s (p ∷ h) before q) → entered_deeds g f s h p ≡ relay_deeds q who
   handed_to q who entered before now high at held are =
       let below : before ≡ current_of s (p ∷ h) - 1 = at ∙ ap (λ (n : ℕ). n - 1) now in
       handed_on q who (subst (λ (n : ℕ). current_of s h < n) now high)

@@ -9,7 +9,7 @@ ghost use Rattle.simplex_member.specs.Packet.{Formats};
 ghost use Rattle.simplex_member.specs.Point.{History, Point};
 ghost use Rattle.simplex_member.specs.Setup.{Setup};
 ghost use Rattle.node_core.specs.Entering.{gets, serves};
-ghost use Rattle.node_outbox.specs.Handing.{HandsOut};
+ghost use Rattle.node_outbox.specs.Handing.{AddsDeeds};
 ghost use Rattle.node_core.specs.Keeps.{AtAll, CoreKeeps};
 
 use crate::node_state::Core;
@@ -28,13 +28,13 @@ impl<S: Scheme<D> + Drop, L: Elector<S, D>, D: Digest, K: Disk> Core<S, L, D, K>
     /// # Errors
     ///
     /// [`NodeFault::Memory`].
-    pub fn hand_on_at_entry(&self, was: View, out: &mut Vec<Action<S, D>>) -> Result<(), NodeFault>
+    pub fn relay_at_entry(&self, was: View, out: &mut Vec<Action<S, D>>) -> Result<(), NodeFault>
         ensures acts { OnOk result ((f : Formats S D S.PublicKey S.Signature S.Certificate) (s : Setup S D S.Certificate)
             (h : History S D S.PublicKey S.Signature S.Certificate) (p : Point S D S.PublicKey S.Signature S.Certificate)
             → f.same ≡ D.PartialEq.eq
             → CoreKeeps S.Scheme L.Elector K.Disk f s self.now (p ∷ h)
             → was ≡ current_of s h
-            → HandsOut f out.old.items out.new.items (entered_deeds S.Scheme f s h p)) }
+            → AddsDeeds f out.old.items out.new.items (entered_deeds S.Scheme f s h p)) }
         ensures fault { IfErr result (λ why. why ≡ step_fault.Memory) }
     {
         let current = self.voter.current_view();

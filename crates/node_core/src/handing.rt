@@ -7,7 +7,7 @@ ghost use Rattle.simplex_member.specs.Layers.{current_of, finalized_of};
 ghost use Rattle.simplex_member.specs.Packet.{Formats, of_certificate};
 ghost use Rattle.simplex_member.specs.Point.{History, Point};
 ghost use Rattle.simplex_member.specs.Setup.{Setup};
-ghost use Rattle.node_outbox.specs.Handing.{HandsOut};
+ghost use Rattle.node_outbox.specs.Handing.{AddsDeeds};
 ghost use Rattle.node_core.specs.Keeps.{CoreKeeps};
 
 use crate::certificates::final_proposal;
@@ -39,7 +39,7 @@ impl<S: Scheme<D> + Drop, L: Elector<S, D>, D: Digest, K: Disk> Core<S, L, D, K>
             → was ≡ current_of s h
             → low ≡ finalized_of s h
             → bytes.items ≡ f.packet (of_certificate certificate)
-            → HandsOut f out.old.items out.new.items (certificate_deeds S.Scheme f s h p certificate)) }
+            → AddsDeeds f out.old.items out.new.items (certificate_deeds S.Scheme f s h p certificate)) }
         ensures fault { IfErr result (λ why. why ≡ step_fault.Memory) }
     {
         let finalized = final_proposal(&certificate, low);
@@ -51,6 +51,6 @@ impl<S: Scheme<D> + Drop, L: Elector<S, D>, D: Digest, K: Disk> Core<S, L, D, K>
         };
         hand_out(send, out)?;
         hand_out_final(finalized, out)?;
-        self.hand_on_at_entry(was, out)
+        self.relay_at_entry(was, out)
     }
 }

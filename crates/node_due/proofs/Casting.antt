@@ -57,12 +57,12 @@ use Rattle.simplex_member.specs.Allowed.{Allowed, AreAllowed, VoteIsDue}
 use Rattle.simplex_member.specs.Deeds.{Deed, Reports, Sends, all_deeds, deeds_of}
 use Rattle.simplex_member.specs.Laws.{DueMayBeRecorded, KnownNullifiesAreRecorded, RecordsStayLawful}
 use Rattle.simplex_member.specs.Layers.{casts, current_of, finalized_of, floor_of, is_begun, known_of, latest, voter_of}
-use Rattle.simplex_member.specs.Member.{Goes, IsLooked}
+use Rattle.simplex_member.specs.Member.{Goes, RetryIsKnown}
 use Rattle.simplex_member.specs.Packet.{Formats, IsRecordable, of_vote}
-use Rattle.simplex_member.specs.Point.{AreActs, History, Looks, Point, Repeats, Votes, is_act}
+use Rattle.simplex_member.specs.Point.{AreActs, History, Polls, Point, Repeats, Votes, is_act}
 use Rattle.simplex_member.specs.Recorded.{record_of, reported}
 use Rattle.simplex_member.specs.Setup.{Setup, member_of, owner_of}
-use Rattle.node_outbox.specs.Handing.{HandsOut, hands_as, nothing_more}
+use Rattle.node_outbox.specs.Handing.{AddsDeeds, hands_as, nothing_more}
 use Rattle.node_requests.specs.declared.acted.Acted.{Acted}
 use Rattle.node_requests.specs.declared.acted.Acted.TheVariants as came
 use Rattle.node_requests.specs.Asking.{AskerKeeps, is_none}
@@ -410,17 +410,17 @@ module _ {S L D P G C K : Type 0} (g : Ghosts S D P G C) (e : elector.Ghosts L S
   }
 
   -- and what it hands out is the vote, and its report
-  pub cast_handed : (h : History S D P G C) (v : Vote S D P G C) (a : Activity S D P G C) (before after : List (Action S D P G C)) → a ≡ as_report v → HandsOut f before after (Sends None (of_vote v) ∷ Reports a ∷ [])
-      → HandsOut f before after (deeds_of g f s h (Votes v))
+  pub cast_handed : (h : History S D P G C) (v : Vote S D P G C) (a : Activity S D P G C) (before after : List (Action S D P G C)) → a ≡ as_report v → AddsDeeds f before after (Sends None (of_vote v) ∷ Reports a ∷ [])
+      → AddsDeeds f before after (deeds_of g f s h (Votes v))
   cast_handed h v a before after is handed =
       hands_as f before after (deeds_of g f s h (Votes v)) (Sends None (of_vote v) ∷ Reports a ∷ [])
       (ap (λ (l : List (Deed S D P G C)). Sends None (of_vote v) ∷ l) (vote_reported (record_of h) v ∙ ap (λ (r : Activity S D P G C). Reports r ∷ []) (sym is))) handed
 
   -- behind a look at the next timeout the node stands where it did
-  pub behind_look : (node : Core S L D K P G C) (voter : State S L D P G C) (h : History S D P G C) → QuietStays g f.same → CoreKeeps g e k f s node h → voting.Keeps g e s.voter voter (voter_of s (Looks ∷ h))
-      → KeepsTables (finalized_of s h) node.tables (Looks ∷ h) → CoreKeeps g e k f s (record node { voter = voter }) (Looks ∷ h)
-  behind_look node voter h quiet keeps looks tables =
-      stands_behind g e k f s node voter node.tables h Looks quiet (λ view. (refl, λ r. refl)) refl keeps.begun refl refl keeps (record { order = keeps.begun; due = tt; fits = tt; readable = tt }) looks tables
+  pub behind_poll : (node : Core S L D K P G C) (voter : State S L D P G C) (h : History S D P G C) → QuietStays g f.same → CoreKeeps g e k f s node h → voting.Keeps g e s.voter voter (voter_of s (Polls ∷ h))
+      → KeepsTables (finalized_of s h) node.tables (Polls ∷ h) → CoreKeeps g e k f s (record node { voter = voter }) (Polls ∷ h)
+  behind_poll node voter h quiet keeps looks tables =
+      stands_behind g e k f s node voter node.tables h Polls quiet (λ view. (refl, λ r. refl)) refl keeps.begun refl refl keeps (record { order = keeps.begun; due = tt; fits = tt; readable = tt }) looks tables
 
   -- behind the recorded nullify that is said once more too
   pub behind_repeat : (node : Core S L D K P G C) (voter : State S L D P G C) (h : History S D P G C) (v : Nullify S D P G C) (best : Option (Certificate S D P G C)) (view : ℕ) → QuietStays g f.same
@@ -453,21 +453,21 @@ module _ {S D P G C : Type 0} where
   put_knows false m l is = absurd (false≢true is)
 
   -- behind a look it is known of the current view
-  look_knows : (v : views.Setup S C) (now : ℕ) (h : List (views.Point S D P G C)) → 0 < current v h → KnowsRetry (seen v (polled now ∷ h) (current v h))
-  look_knows v now h some =
+  poll_knows : (v : views.Setup S C) (now : ℕ) (h : List (views.Point S D P G C)) → 0 < current v h → KnowsRetry (seen v (polled now ∷ h) (current v h))
+  poll_knows v now h some =
       let m : ℕ = past.deadline now v.timeout_retry in
       chosen_knows (nat_lt 0 (current v h)) (current v h) (put (current v h) (past.polled m) (seen v h)) (seen v h) (lt-ltb 0 (current v h) some)
       (put_knows (current v h == current v h) m (seen v h (current v h)) (eq-eqb (current v h) (current v h) refl))
 
 module _ {S D P G C : Type 0} (g : Ghosts S D P G C) (f : Formats S D P G C) (s : Setup S D C) (h : History S D P G C) where
-  pub is_looked : 0 < current_of s h → IsLooked g f s (Looks ∷ h)
-  is_looked some = look_knows s.voter (latest h) (voter_of s h) some
+  pub retry_is_known : 0 < current_of s h → RetryIsKnown g f s (Polls ∷ h)
+  retry_is_known some = poll_knows s.voter (latest h) (voter_of s h) some
 
   -- where the current view may not be given up, no nullify is due
-  pub none_to_cast : (view : ℕ) → view ≡ current_of s h → (¬ MayGiveUp s.voter (voter_of s h) view) → IsLooked g f s h → NoNullifyToCast g f s h
-  none_to_cast view at never looked = record {
+  pub none_to_cast : (view : ℕ) → view ≡ current_of s h → (¬ MayGiveUp s.voter (voter_of s h) view) → RetryIsKnown g f s h → NoNullifyToCast g f s h
+  none_to_cast view at never retry_known = record {
     no_nullify = λ due. never (subst (λ (u : ℕ). MayGiveUp s.voter (voter_of s h) u) (sym at) due.gives_up);
-    looked = looked;
+    retry_known = retry_known;
   }
 
   -- the recorded nullify of the current view may be said once more: it is the last one

@@ -24,9 +24,9 @@ use Rattle.simplex_member.specs.Allowed.{HasReason}
 use Rattle.simplex_member.specs.Layers.{current_of, known_of, latest, voter_of}
 use Rattle.simplex_member.specs.Member.{LatchIsDue}
 use Rattle.simplex_member.specs.Packet.{Formats}
-use Rattle.simplex_member.specs.Point.{Point, Latches, Looks, PutsOff, History}
+use Rattle.simplex_member.specs.Point.{Point, Latches, Polls, PutsOff, History}
 use Rattle.simplex_member.specs.Setup.{Setup, member_of}
-use Rattle.node_requests.specs.Asking.{is_latch, is_look, is_none, is_put_off, is_silent}
+use Rattle.node_requests.specs.Asking.{is_latch, is_poll, is_none, is_put_off, is_silent}
 use Rattle.node_requests.specs.NoneDue.{NoVerdictToAsk}
 use Rattle.node_due.specs.NoneDue.{NoFinalizeToCast, NoNotarizeToCast, NothingByVotes, NothingMoreToAsk, NothingToAskOnProposals}
 
@@ -44,9 +44,9 @@ module _ {S D P G C : Type 0} where
   pub none_lasts : (Done : History S D P G C → Type 0) → Lasts is_none Done
   none_lasts Done h p is done = absurd (false≢true is)
 
-  pub look_lasts : (Done : History S D P G C → Type 0) → ((h : History S D P G C) → Done h → Done (Looks ∷ h)) → Lasts is_look Done
-  look_lasts Done step h Looks is done = step h done
-  look_lasts Done step h p is done = absurd (false≢true is)
+  pub poll_lasts : (Done : History S D P G C → Type 0) → ((h : History S D P G C) → Done h → Done (Polls ∷ h)) → Lasts is_poll Done
+  poll_lasts Done step h Polls is done = step h done
+  poll_lasts Done step h p is done = absurd (false≢true is)
 
   pub both_last : (is_kind : Point S D P G C → Bool) (A B : History S D P G C → Type 0) → Lasts is_kind A → Lasts is_kind B → Lasts is_kind (λ h. A h × B h)
   both_last is_kind A B one other h p is done = (one h p is done.0, other h p is done.1)
@@ -69,9 +69,9 @@ module _ {S D P G C : Type 0} where
   latch_is_silent (Latches view why) is = refl
   latch_is_silent p is = absurd (false≢true is)
 
-  pub look_is_silent : IsPartOf is_look is_silent
-  look_is_silent Looks is = refl
-  look_is_silent p is = absurd (false≢true is)
+  pub poll_is_silent : IsPartOf is_poll is_silent
+  poll_is_silent Polls is = refl
+  poll_is_silent p is = absurd (false≢true is)
 
 -- ---- a look at the next timeout changes nothing else of a view
 
@@ -104,14 +104,14 @@ module _ {S D P G C : Type 0} (g : Ghosts S D P G C) (f : Formats S D P G C) (s 
   verdicts_last law = latch_lasts (NoVerdictToAsk g f s) (λ h view why none. verdicts_known g f s h (Latches view why ∷ h) (law s.voter (voter_of s h) (latest h) view why) none)
 
   module _ (law : PollChangesNothing S D P G C) (h : History S D P G C) where
-    looked_known : known_of s (Looks ∷ h) ≡ known_of s h
+    looked_known : known_of s (Polls ∷ h) ≡ known_of s h
     looked_known = law s.voter (voter_of s h) (latest h)
 
-    looked_leader : (view : ℕ) → leader s.voter (voter_of s h) view ≡ leader s.voter (voter_of s (Looks ∷ h)) view
+    looked_leader : (view : ℕ) → leader s.voter (voter_of s h) view ≡ leader s.voter (voter_of s (Polls ∷ h)) view
     looked_leader view = ap (λ (k : Known D). k.leader view) (sym looked_known)
 
     -- a reason is there no more and no less
-    looked_reason : (view : ℕ) (why : TimeoutReason) → HasReason g f s (Looks ∷ h) view why → HasReason g f s h view why × IsSome (leader s.voter (voter_of s h) view)
+    looked_reason : (view : ℕ) (why : TimeoutReason) → HasReason g f s (Polls ∷ h) view why → HasReason g f s h view why × IsSome (leader s.voter (voter_of s h) view)
     looked_reason view reason.LeaderNullify r =
         let known = looked_leader view ∙ r.known in
         (record { index = r.index; known = known; another = r.another; gave_up = r.gave_up }, subst (λ (o : Option ℕ). IsSome o) (sym known) refl)
@@ -126,10 +126,10 @@ module _ {S D P G C : Type 0} (g : Ghosts S D P G C) (f : Formats S D P G C) (s 
         ((r.0, bad), bad.waits.led.0)
     looked_reason view why r = absurd r
 
-    looked_latch : (view : ℕ) (why : TimeoutReason) → LatchIsDue g f s (Looks ∷ h) view why → LatchIsDue g f s h view why
+    looked_latch : (view : ℕ) (why : TimeoutReason) → LatchIsDue g f s (Polls ∷ h) view why → LatchIsDue g f s h view why
     looked_latch view why due =
         let there = looked_reason view why due.there in
-        let offers : past.offers (seen s.voter (voter_of s (Looks ∷ h)) view) ≡ past.offers (seen s.voter (voter_of s h) view) = ap (λ (k : Known D). k.offers view) looked_known in
+        let offers : past.offers (seen s.voter (voter_of s (Polls ∷ h)) view) ≡ past.offers (seen s.voter (voter_of s h) view) = ap (λ (k : Known D). k.offers view) looked_known in
         record {
           there = there.0;
           counts = record {
@@ -141,9 +141,9 @@ module _ {S D P G C : Type 0} (g : Ghosts S D P G C) (f : Formats S D P G C) (s 
           undecided = sym (looked_same (λ x. past.is_undecided x) (λ m x. refl) s.voter (voter_of s h) (latest h) view) ∙ due.undecided;
         }
 
-    proposals_looked : NothingToAskOnProposals g f s h → NothingToAskOnProposals g f s (Looks ∷ h)
+    proposals_looked : NothingToAskOnProposals g f s h → NothingToAskOnProposals g f s (Polls ∷ h)
     proposals_looked none = record {
-      verdicts = verdicts_known g f s h (Looks ∷ h) looked_known none.verdicts;
+      verdicts = verdicts_known g f s h (Polls ∷ h) looked_known none.verdicts;
       verifications = record {
         none_invalid = λ view due. none.verifications.none_invalid view (looked_latch view reason.InvalidProposal due);
         no_verify = λ left view p payload due. none.verifications.no_verify left view p payload (subst (λ (k : Known D). VerifyIsDue (member_of s) k view p payload) looked_known due);
@@ -151,14 +151,14 @@ module _ {S D P G C : Type 0} (g : Ghosts S D P G C) (f : Formats S D P G C) (s 
       };
     }
 
-    votes_looked : NothingByVotes g f s h → NothingByVotes g f s (Looks ∷ h)
+    votes_looked : NothingByVotes g f s h → NothingByVotes g f s (Polls ∷ h)
     votes_looked none = record {
       leaders = λ view index up waits is. none.leaders view index up waits (looked_leader view ∙ is);
       constructions = record { no_construction = none.constructions.no_construction; no_forward = none.constructions.no_forward };
       followed = λ view due. none.followed view (looked_latch view reason.LeaderNullify due);
     }
 
-    asks_looked : NothingMoreToAsk g f s h → NothingMoreToAsk g f s (Looks ∷ h)
+    asks_looked : NothingMoreToAsk g f s h → NothingMoreToAsk g f s (Polls ∷ h)
     asks_looked none = record {
       returns = record {
         no_return = λ number handoff context stands given. none.returns.no_return number handoff context stands
@@ -178,17 +178,17 @@ module _ {S D P G C : Type 0} (g : Ghosts S D P G C) (f : Formats S D P G C) (s 
     }
 
   -- behind a look at the next timeout
-  pub notarizes_last : PollChangesNothing S D P G C → Lasts {P = P} {G = G} is_look (NoNotarizeToCast s)
-  notarizes_last law = look_lasts (NoNotarizeToCast s) (λ h none. notarizes_known g f s h (Looks ∷ h) (looked_known law h) none)
+  pub notarizes_last : PollChangesNothing S D P G C → Lasts {P = P} {G = G} is_poll (NoNotarizeToCast s)
+  notarizes_last law = poll_lasts (NoNotarizeToCast s) (λ h none. notarizes_known g f s h (Polls ∷ h) (looked_known law h) none)
 
-  pub finalizes_last : PollChangesNothing S D P G C → Lasts {P = P} {G = G} is_look (NoFinalizeToCast s)
-  finalizes_last law = look_lasts (NoFinalizeToCast s) (λ h none. finalizes_known g f s h (Looks ∷ h) (looked_known law h) none)
+  pub finalizes_last : PollChangesNothing S D P G C → Lasts {P = P} {G = G} is_poll (NoFinalizeToCast s)
+  finalizes_last law = poll_lasts (NoFinalizeToCast s) (λ h none. finalizes_known g f s h (Polls ∷ h) (looked_known law h) none)
 
-  pub proposals_last : PollChangesNothing S D P G C → Lasts is_look (NothingToAskOnProposals g f s)
-  proposals_last law = look_lasts (NothingToAskOnProposals g f s) (λ h none. proposals_looked law h none)
+  pub proposals_last : PollChangesNothing S D P G C → Lasts is_poll (NothingToAskOnProposals g f s)
+  proposals_last law = poll_lasts (NothingToAskOnProposals g f s) (λ h none. proposals_looked law h none)
 
-  pub votes_last : PollChangesNothing S D P G C → Lasts is_look (NothingByVotes g f s)
-  votes_last law = look_lasts (NothingByVotes g f s) (λ h none. votes_looked law h none)
+  pub votes_last : PollChangesNothing S D P G C → Lasts is_poll (NothingByVotes g f s)
+  votes_last law = poll_lasts (NothingByVotes g f s) (λ h none. votes_looked law h none)
 
-  pub asks_last : PollChangesNothing S D P G C → Lasts is_look (NothingMoreToAsk g f s)
-  asks_last law = look_lasts (NothingMoreToAsk g f s) (λ h none. asks_looked law h none)
+  pub asks_last : PollChangesNothing S D P G C → Lasts is_poll (NothingMoreToAsk g f s)
+  asks_last law = poll_lasts (NothingMoreToAsk g f s) (λ h none. asks_looked law h none)

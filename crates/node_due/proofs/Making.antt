@@ -48,7 +48,7 @@ use Rattle.simplex_member.specs.Recorded.{added_by, record_of}
 use Rattle.simplex_member.specs.Refusals.{HasNoneLike}
 use Rattle.simplex_member.specs.Setup.{Setup, owner_of}
 use Rattle.node_core.specs.Learning.{IsUnknown, first_of}
-use Rattle.node_outbox.specs.Handing.{HandsOut, both_more, hands_as, nothing_more}
+use Rattle.node_outbox.specs.Handing.{AddsDeeds, both_more, hands_as, nothing_more}
 use Rattle.node_requests.specs.declared.acted.Acted.{Acted}
 use Rattle.node_requests.specs.declared.acted.Acted.TheVariants as came
 use Rattle.node_core.specs.declared.node_state.Core.{Core}
@@ -96,20 +96,20 @@ module _ {S D P G C : Type 0} (g : Ghosts S D P G C) (f : Formats S D P G C) (s 
   pub adds_nothing : (view : ℕ) (kind : Kind) (batch : Batch (Certificate S D P G C)) (Spelled : Artifact S D P G C → Type 0) → batch.certificate ≡ None → IfSome (added_by (Constructs view kind batch)) Spelled
   adds_nothing view kind batch Spelled none = subst (λ (o : Option (Certificate S D P G C)). IfSome (option_map certificate_artifact o) Spelled) (sym none) tt
 
-  module _ (view : ℕ) (kind : Kind) (batch : Batch (Certificate S D P G C)) (invalid : List ℕ) (before mid : List (Action S D P G C)) (are : invalid ≡ batch.invalid.items) (blocks : HandsOut f before mid (map Blocks invalid)) where
-    blocked : HandsOut f before mid (map Blocks batch.invalid.items)
-    blocked = subst (λ (members : List ℕ). HandsOut f before mid (map Blocks members)) are blocks
+  module _ (view : ℕ) (kind : Kind) (batch : Batch (Certificate S D P G C)) (invalid : List ℕ) (before mid : List (Action S D P G C)) (are : invalid ≡ batch.invalid.items) (blocks : AddsDeeds f before mid (map Blocks invalid)) where
+    blocked : AddsDeeds f before mid (map Blocks batch.invalid.items)
+    blocked = subst (λ (members : List ℕ). AddsDeeds f before mid (map Blocks members)) are blocks
 
     -- who is invalid is blocked, and what the certificate brings is handed out, where there is one
-    pub made_handed : (x : Certificate S D P G C) (after : List (Action S D P G C)) → batch.certificate ≡ Some x → HandsOut f mid after (certificate_deeds g f s h (Constructs view kind batch) x)
-        → HandsOut f before after (deeds_of g f s h (Constructs view kind batch))
+    pub made_handed : (x : Certificate S D P G C) (after : List (Action S D P G C)) → batch.certificate ≡ Some x → AddsDeeds f mid after (certificate_deeds g f s h (Constructs view kind batch) x)
+        → AddsDeeds f before after (deeds_of g f s h (Constructs view kind batch))
     made_handed x after is brings =
-        of_made (λ b. HandsOut f before mid (map Blocks b.invalid.items) → HandsOut f mid after (certificate_deeds g f s h (Constructs view kind b) x) → HandsOut f before after (deeds_of g f s h (Constructs view kind b))) batch (Some x) is
+        of_made (λ b. AddsDeeds f before mid (map Blocks b.invalid.items) → AddsDeeds f mid after (certificate_deeds g f s h (Constructs view kind b) x) → AddsDeeds f before after (deeds_of g f s h (Constructs view kind b))) batch (Some x) is
         (λ first second. both_more f before mid after (map Blocks batch.invalid.items) (certificate_deeds g f s h (Constructs view kind (record batch { certificate = Some x })) x) first second) blocked brings
 
-    pub unmade_handed : batch.certificate ≡ None → HandsOut f before mid (deeds_of g f s h (Constructs view kind batch))
+    pub unmade_handed : batch.certificate ≡ None → AddsDeeds f before mid (deeds_of g f s h (Constructs view kind batch))
     unmade_handed none =
-        of_made (λ b. HandsOut f before mid (map Blocks b.invalid.items) → HandsOut f before mid (deeds_of g f s h (Constructs view kind b))) batch None none
+        of_made (λ b. AddsDeeds f before mid (map Blocks b.invalid.items) → AddsDeeds f before mid (deeds_of g f s h (Constructs view kind b))) batch None none
         (λ first. hands_as f before mid _ _ (append-nil (map Blocks batch.invalid.items)) first) blocked
 
 made_within : {S D P G C : Type 0} (W : C → Type 0) (c : Certificate S D P G C) → W (certified_by c) → artifact_within W (certificate_artifact c)

@@ -139,7 +139,7 @@ module _ {S D P G C : Type 0} (g : Ghosts S D P G C) (f : Formats S D P G C) (s 
   -- nothing of any kind is
   pub none_due : NothingToAskOnProposals g f s h → NothingByVotes g f s h → NothingMoreToAsk g f s h → NoVoteToCast g f s h → NoneDue g f s h
   none_due proposals votes asks cast = record {
-    votes = record { no_notarize = cast.notarizes; no_nullify = cast.nullifies.no_nullify; no_finalize = cast.finalizes; looked = cast.nullifies.looked };
+    votes = record { no_notarize = cast.notarizes; no_nullify = cast.nullifies.no_nullify; no_finalize = cast.finalizes; retry_known = cast.nullifies.retry_known };
     requests = record {
       no_build = asks.builds;
       no_verify = proposals.verifications.no_verify;

@@ -34,10 +34,10 @@ use Rattle.simplex_member.specs.Deeds.{Deed}
 use Rattle.simplex_member.specs.Layers.{finalized_of, is_begun, may_enter, repair_of, voter_of, votes_of}
 use Rattle.simplex_member.specs.Member.{EndsWith, Goes, NoneDue}
 use Rattle.simplex_member.specs.Packet.{Formats}
-use Rattle.simplex_member.specs.Point.{Point, Asks, Latches, Leads, Looks, History, is_act}
+use Rattle.simplex_member.specs.Point.{Point, Asks, Latches, Leads, Polls, History, is_act}
 use Rattle.simplex_member.specs.Recorded.{record_of}
 use Rattle.simplex_member.specs.Setup.{Setup, owner_of}
-use Rattle.node_outbox.specs.Handing.{HandsOut, nothing_more}
+use Rattle.node_outbox.specs.Handing.{AddsDeeds, nothing_more}
 use Rattle.node_requests.specs.declared.acted.Acted.{Acted}
 use Rattle.node_requests.specs.declared.acted.Acted.TheVariants as came
 use Rattle.node_requests.specs.Asking.{AskerKeeps, ComesToAsk, HasAsked, is_ask, is_none}
@@ -49,7 +49,7 @@ use Rattle.node_due.specs.Acting.{ComesTo, HasActed, IsLeftByActs, WasSettled, W
 use Rattle.node_core.specs.Keeps.{CoreKeeps, disk_of}
 use Rattle.node_due.specs.NoneDue.{NoLeaderToFollow}
 use Rattle.node_core.specs.Standing.{still-keeps}
-use Rattle.node_due.proofs.Looking.{none_due_behind}
+use Rattle.node_due.proofs.Polling.{none_due_behind}
 
 -- what holds of an answer, by what was said of it
 pub if_ok_by : {X E : Type 0} {P Q : X → Type 0} (answer : Result X E) → IfOk answer P → ((x : X) → P x → Q x) → IfOk answer Q
@@ -67,7 +67,7 @@ module _ {S D P G C : Type 0} where
 
   -- so does an ask
   aside : (f : Formats S D P G C) (p : Point S D P G C) → is_ask p ≡ true → IsAside f p
-  aside f Looks is = record { own = refl; never = refl; nothing = λ view. (refl, λ r. refl); begun = λ h. refl; no_record = λ h. refl; no_repair = λ h. refl }
+  aside f Polls is = record { own = refl; never = refl; nothing = λ view. (refl, λ r. refl); begun = λ h. refl; no_record = λ h. refl; no_repair = λ h. refl }
   aside f p is = record { own = cc is; never = cc is; nothing = λ view. (cc is, λ r. cc is); begun = λ h. cc is; no_record = λ h. cc is; no_repair = λ h. cc is }
 
   fetch_is_ask : (p : Point S D P G C) → is_fetch p ≡ true → is_ask p ≡ true
@@ -288,21 +288,21 @@ module _ {S L D P G C K : Type 0} {g : Ghosts S D P G C} {e : elector.Ghosts L S
   -- it was said when the node wants to be told the time, behind a look at the next timeout
   pub was_settled : {A : Type 0} {before after : List (Action S D P G C)} {answer : Result A NodeFault} (voter : State S L D P G C) (last : List (Deed S D P G C))
       → QuietStays g f.same → LedgerRests g e k f s → PollChangesNothing S D P G C → NoneDue g f s h
-      → OnOk answer (voting.Keeps g e s.voter voter (voter_of s (Looks ∷ h)) × EndsWith g f s (Looks ∷ h) last × HandsOut f before after last)
+      → OnOk answer (voting.Keeps g e s.voter voter (voter_of s (Polls ∷ h)) × EndsWith g f s (Polls ∷ h) last × AddsDeeds f before after last)
       → WasSettled g e k f s node (record node { voter = voter }) h before after answer
   was_settled {A} {before} {after} {answer} voter last quiet law poll none said = record {
     ok = on_ok_weaker answer
         (λ told.
-        let acted = has_acted voter node.tables (Looks ∷ []) (Looks ∷ h) before before quiet (record {
-          are_asks = All-cons (λ (p : Point S D P G C). is_ask p ≡ true) Looks [] refl (All-nil (λ (p : Point S D P G C). is_ask p ≡ true));
+        let acted = has_acted voter node.tables (Polls ∷ []) (Polls ∷ h) before before quiet (record {
+          are_asks = All-cons (λ (p : Point S D P G C). is_ask p ≡ true) Polls [] refl (All-nil (λ (p : Point S D P G C). is_ask p ≡ true));
           goes = (record { order = kept.begun; due = tt; fits = tt; readable = tt }, refl);
           voter_is = told.0;
           tables_are = kept.tables;
           acts = nothing_more f before;
         }) in
         record {
-          points = Looks ∷ [];
-          end = Looks ∷ h;
+          points = Polls ∷ [];
+          end = Polls ∷ h;
           own = acted.own;
           goes = acted.goes;
           none_due = none_due_behind g f s h poll none;

@@ -14,7 +14,7 @@ use Rattle.simplex_member.specs.Member.{EndsWith, Goes, NoneDue, ReadsAs}
 use Rattle.simplex_member.specs.Packet.{Formats}
 use Rattle.simplex_member.specs.Point.{Point, AreActs, History}
 use Rattle.simplex_member.specs.Setup.{Setup}
-use Rattle.node_outbox.specs.Handing.{HandsOut}
+use Rattle.node_outbox.specs.Handing.{AddsDeeds}
 use Rattle.node_requests.specs.declared.acted.Acted.{Acted}
 use Rattle.node_requests.specs.declared.acted.Acted.TheVariants as came
 use Rattle.node_core.specs.declared.node_state.Core.{Core}
@@ -32,7 +32,7 @@ module _ {S L D P G C K : Type 0} (g : Ghosts S D P G C) (e : elector.Ghosts L S
     pub own : AreActs points
     pub goes : Goes g f s h points end
     pub keeps : CoreKeeps g e k f s new end
-    pub acts : HandsOut f before after (all_deeds g f s h points)
+    pub acts : AddsDeeds f before after (all_deeds g f s h points)
 
   -- something that was due was done
   pub record DidSomething (new : Core S L D K P G C) (h : History S D P G C) (before after : List (Action S D P G C)) : Type 0 where
@@ -68,7 +68,7 @@ module _ {S L D P G C K : Type 0} (g : Ghosts S D P G C) (e : elector.Ghosts L S
     pub keeps : CoreKeeps g e k f s new end
     pub last : List (Deed S D P G C)
     pub wakes : EndsWith g f s end last
-    pub acts : HandsOut f before after (all_deeds g f s h points ++ last)
+    pub acts : AddsDeeds f before after (all_deeds g f s h points ++ last)
 
   -- the node was to settle
   pub record WasSettled {A : Type 0} (old new : Core S L D K P G C) (h : History S D P G C) (before after : List (Action S D P G C)) (answer : Result A NodeFault) : Type 0 where

@@ -6,7 +6,7 @@ use Rattle.voter_rules.specs.VotesDue.{NotarizeIsDue, FinalizeIsDue}
 use Rattle.voter_rules.specs.GivingUp.{NullifyIsDue}
 use Rattle.batcher_verifier.specs.History.{forwardable, next_kind}
 use Rattle.simplex_member.specs.Layers.{known_of, latest, stage, voter_of, votes_of, votes_setup}
-use Rattle.simplex_member.specs.Member.{LatchIsDue, IsLooked}
+use Rattle.simplex_member.specs.Member.{LatchIsDue, RetryIsKnown}
 use Rattle.simplex_member.specs.Packet.{Formats}
 use Rattle.simplex_member.specs.Point.{History}
 use Rattle.simplex_member.specs.Setup.{Setup, member_of}
@@ -35,7 +35,7 @@ module _ {S D P G C : Type 0} (g : Ghosts S D P G C) (f : Formats S D P G C) (s 
   -- no nullify of the current view is due, and when it is given up again is known
   pub record NoNullifyToCast (h : History S D P G C) : Type 0 where
     pub no_nullify : ¬ NullifyIsDue s.voter (voter_of s h) (latest h)
-    pub looked : IsLooked g f s h
+    pub retry_known : RetryIsKnown g f s h
 
   -- no verdict is to be asked for and no verification, nor what proposals lack for either, and no view is to be given up for a proposal
   -- that can never stand

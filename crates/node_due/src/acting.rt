@@ -1,6 +1,6 @@
 //! What the node does of its own: all that is due, one act after the other, until nothing is.
 
-ghost use Rattle.node_requests.specs.Asking.{is_look, is_none, is_silent};
+ghost use Rattle.node_requests.specs.Asking.{is_poll, is_none, is_silent};
 ghost use Rattle.simplex_member.specs.Member.{NoneDue};
 ghost use Rattle.node_due.specs.Acting.{WasSettled, WasTried};
 ghost use Rattle.node_core.specs.Keeps.{AtOwn, disk_of};
@@ -150,7 +150,7 @@ fn vote<S: Scheme<D> + Drop, L: Elector<S, D>, D: Digest, K: Disk>(
     out: &mut Vec<Action<S, D>>,
 ) -> Result<Acted, NodeFault>
     ensures tried { AtOwn S.Scheme L.Elector K.Disk ⟦<S as Speaks<D>>⟧.formats core.old (λ f s h.
-        WasTried S.Scheme L.Elector K.Disk f s is_look (NoVoteToCast S.Scheme f s) core.old core.new h out.old.items out.new.items result) }
+        WasTried S.Scheme L.Elector K.Disk f s is_poll (NoVoteToCast S.Scheme f s) core.old core.new h out.old.items out.new.items result) }
     ensures faults { TellsOfDisk K.Disk (disk_of core.old) (disk_of core.new) result }
 {
     a_latch_changes_nothing_due::<S, D>();

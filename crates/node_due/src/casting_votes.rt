@@ -5,11 +5,11 @@ ghost use Rattle.voter_rules.specs.GivingUp.{MayGiveUp, NullifyIsDue};
 ghost use Rattle.node_votes.specs.KeepsVotes.{IsOpenTo};
 ghost use Rattle.simplex_messages.specs.VoteParts.{vote_round};
 ghost use Rattle.journal_single.specs.Disk.{LeavesOnly};
-ghost use Rattle.node_requests.specs.Asking.{is_look, is_none};
+ghost use Rattle.node_requests.specs.Asking.{is_poll, is_none};
 ghost use Rattle.node_requests.specs.declared.acted.Acted.TheVariants as came;
 ghost use Rattle.voter_history.specs.History.{seen};
 ghost use Rattle.voter_history.specs.Past as past;
-ghost use Rattle.simplex_member.specs.Member.{IsLooked};
+ghost use Rattle.simplex_member.specs.Member.{RetryIsKnown};
 ghost use Rattle.simplex_member.specs.Layers.{current_of, latest, voter_of};
 ghost use Rattle.simplex_member.specs.Packet.{IsRecordable};
 ghost use Rattle.simplex_member.specs.Point.{History, Votes};
@@ -103,7 +103,7 @@ pub(crate) fn try_nullify<S: Scheme<D> + Drop, L: Elector<S, D>, D: Digest, K: D
     out: &mut Vec<Action<S, D>>,
 ) -> Result<Acted, NodeFault>
     ensures tried { AtOwn S.Scheme L.Elector K.Disk ⟦<S as Speaks<D>>⟧.formats core.old (λ f s h.
-        WasTried S.Scheme L.Elector K.Disk f s is_look (NoNullifyToCast S.Scheme f s) core.old core.new h out.old.items out.new.items result) }
+        WasTried S.Scheme L.Elector K.Disk f s is_poll (NoNullifyToCast S.Scheme f s) core.old core.new h out.old.items out.new.items result) }
     ensures faults { TellsOfDisk K.Disk (disk_of core.old) (disk_of core.new) result }
 {
     voters_are_orderly::<S, D>();
@@ -124,7 +124,7 @@ fn give_up<S: Scheme<D> + Drop, L: Elector<S, D>, D: Digest, K: Disk>(
 ) -> Result<Acted, NodeFault>
     ensures tried { AtOwn S.Scheme L.Elector K.Disk ⟦<S as Speaks<D>>⟧.formats core.old (λ f s h.
         (MayGiveUp s.voter (voter_of s h) (current_of s h) → NullifyIsDue s.voter (voter_of s h) (latest h))
-        → IsLooked S.Scheme f s h
+        → RetryIsKnown S.Scheme f s h
         → WasTried S.Scheme L.Elector K.Disk f s is_none (NoNullifyToCast S.Scheme f s) core.old core.new h out.old.items out.new.items
         result) }
     ensures faults { TellsOfDisk K.Disk (disk_of core.old) (disk_of core.new) result }
@@ -156,7 +156,7 @@ fn repeat_nullify<S: Scheme<D> + Drop, L: Elector<S, D>, D: Digest, K: Disk>(
         view ≡ current_of s h
         → past.has_nullified (seen s.voter (voter_of s h) view) ≡ true
         → (MayGiveUp s.voter (voter_of s h) (current_of s h) → NullifyIsDue s.voter (voter_of s h) (latest h))
-        → IsLooked S.Scheme f s h
+        → RetryIsKnown S.Scheme f s h
         → WasTried S.Scheme L.Elector K.Disk f s is_none (NoNullifyToCast S.Scheme f s) core.old core.new h out.old.items out.new.items
         result) }
     ensures faults { TellsOfDisk K.Disk (disk_of core.old) (disk_of core.new) result }

@@ -8,7 +8,7 @@ ghost use Rattle.batcher_verifier.specs.declared.batch.Batch.{Batch};
 ghost use Rattle.journal_single.specs.Disk.{LeavesOnly};
 ghost use Rattle.node_requests.specs.Asking.{is_none};
 ghost use Rattle.node_requests.specs.declared.acted.Acted.TheVariants as came;
-ghost use Rattle.node_outbox.specs.Handing.{HandsOut};
+ghost use Rattle.node_outbox.specs.Handing.{AddsDeeds};
 ghost use Rattle.simplex_member.specs.declared.action.Action.{Action};
 ghost use Rattle.simplex_member.specs.declared.fault.NodeFault.TheVariants as step_fault;
 ghost use Rattle.simplex_member.specs.Allowed.{Allowed};
@@ -166,7 +166,7 @@ fn take_made<S: Scheme<D> + Drop, L: Elector<S, D>, D: Digest, K: Disk>(
         (Constructs view kind batch)
         → MayCome S.Scheme f s (artifact_fits D.fits S.Signature.fits S.Certificate.fits) h (Constructs view kind batch)
         → batch.certificate ≡ Some certificate
-        → HandsOut f out.old.items out.new.items (certificate_deeds S.Scheme f s h (Constructs view kind batch) certificate)) }
+        → AddsDeeds f out.old.items out.new.items (certificate_deeds S.Scheme f s h (Constructs view kind batch) certificate)) }
     ensures any_moment { (s : Setup S D S.Certificate) (h : History S D S.PublicKey S.Signature S.Certificate) (view : ℕ) (kind : Kind)
         (batch : Batch (Certificate S D S.PublicKey S.Signature S.Certificate))
         → let f = (⟦<S as Speaks<D>>⟧.formats (S.size s.voter.scheme)) in VotesGoAhead S.Scheme L.Elector K.Disk f s core.old h

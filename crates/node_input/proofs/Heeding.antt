@@ -26,7 +26,7 @@ use Rattle.simplex_member.specs.Packet.{Formats}
 use Rattle.simplex_member.specs.Point.{History, Heard, Wanted}
 use Rattle.simplex_member.specs.Setup.{Setup}
 use Rattle.node_core.specs.declared.node_state.Core.{Core}
-use Rattle.node_outbox.specs.Handing.{HandsOut}
+use Rattle.node_outbox.specs.Handing.{AddsDeeds}
 use Rattle.node_core.specs.Keeps.{CoreKeeps}
 use Rattle.node_input.specs.Hearing.{admission_deeds}
 use Rattle.node_input.specs.Refusing.{IsAnother, MayBeHeard, last_vote_tests}
@@ -52,8 +52,8 @@ pub deeds-blocked : {S D P G C : Type 0} (sender : ℕ) (a : Admission S D P G C
 deeds-blocked sender a isnt does = rw (isnt, does) refl
 
 -- what is reported is the same where the reports are
-pub reports-as : {S D P G C : Type 0} (f : Formats S D P G C) (before after : List (Action S D P G C)) {o x : Option (Activity S D P G C)} → o ≡ x → HandsOut f before after (map Reports (option_to_list o)) → HandsOut f before after (map Reports (option_to_list x))
-reports-as {S} {D} {P} {G} {C} f before after is handed = subst (λ (r : Option (Activity S D P G C)). HandsOut f before after (map Reports (option_to_list r))) is handed
+pub reports-as : {S D P G C : Type 0} (f : Formats S D P G C) (before after : List (Action S D P G C)) {o x : Option (Activity S D P G C)} → o ≡ x → AddsDeeds f before after (map Reports (option_to_list o)) → AddsDeeds f before after (map Reports (option_to_list x))
+reports-as {S} {D} {P} {G} {C} f before after is handed = subst (λ (r : Option (Activity S D P G C)). AddsDeeds f before after (map Reports (option_to_list r))) is handed
 
 module _ {S D P G C : Type 0} {g : Ghosts S D P G C} {f : Formats S D P G C} {s : Setup S D C} {h : History S D P G C} {sender : ℕ} {v : Vote S D P G C} (may : MayBeHeard g f s h sender v) where
   abbrev Blocked : Type 0

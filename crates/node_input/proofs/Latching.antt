@@ -21,13 +21,13 @@ use Rattle.simplex_state.specs.declared.state.State.{State}
 use Rattle.simplex_state.specs.State as voting
 use Rattle.simplex_member.specs.declared.action.Action.{Action}
 use Rattle.simplex_member.specs.Allowed.{AnswerCounts, BuildCounts}
-use Rattle.simplex_member.specs.Deeds.{HandsOn, built_deeds, own_way}
+use Rattle.simplex_member.specs.Deeds.{Relays, built_deeds, own_way}
 use Rattle.simplex_member.specs.Layers.{known_of, latest, takes_outcome, voter_of}
 use Rattle.simplex_member.specs.Packet.{Formats}
 use Rattle.simplex_member.specs.Point.{Counts, Falls, Passes, Built, History}
 use Rattle.simplex_member.specs.Setup.{Setup, member_of}
 use Rattle.node_input.specs.Answering.{TakesAnswer}
-use Rattle.node_outbox.specs.Handing.{HandsOut, nothing_more}
+use Rattle.node_outbox.specs.Handing.{AddsDeeds, nothing_more}
 
 -- something happened or someone is known, or neither
 something_or_nothing : {X Y : Type 0} (xs : List X) (o : Option Y) → ((xs ≢ []) ⊎ IsSome o) ⊎ (((xs ≢ []) ⊎ IsSome o) → ⊥)
@@ -104,12 +104,12 @@ module _ {S L D P G C : Type 0} (g : Ghosts S D P G C) (e : elector.Ghosts L S D
 
 module _ {S D P G C : Type 0} (f : Formats S D P G C) where
   -- where an own payload is not proposed nothing is handed out
-  pub declined_deeds : (actions : List (Action S D P G C)) (round : Round) (handoff : Bool) (payload : D) (took : Bool) → took ≡ false → HandsOut f actions actions (built_deeds round handoff (Some payload) took)
+  pub declined_deeds : (actions : List (Action S D P G C)) (round : Round) (handoff : Bool) (payload : D) (took : Bool) → took ≡ false → AddsDeeds f actions actions (built_deeds round handoff (Some payload) took)
   declined_deeds actions round handoff payload true no_one = absurd (false≢true (sym no_one))
   declined_deeds actions round handoff payload false none = nothing_more f actions
 
   -- and else the payload is
   pub proposed_deeds : (before after : List (Action S D P G C)) (round : Round) (handoff : Bool) (payload : D) (took : Bool) → took ≡ true
-      → HandsOut f before after (HandsOn payload (own_way handoff round) ∷ []) → HandsOut f before after (built_deeds round handoff (Some payload) took)
+      → AddsDeeds f before after (Relays payload (own_way handoff round) ∷ []) → AddsDeeds f before after (built_deeds round handoff (Some payload) took)
   proposed_deeds before after round handoff payload true some handed = handed
   proposed_deeds before after round handoff payload false none handed = absurd (false≢true none)

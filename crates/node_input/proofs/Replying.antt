@@ -40,7 +40,7 @@ use Rattle.std.specs.Prelude.{◌≢◌}
 use Rattle.node_input.specs.Stepping.{StepsBy}
 use Rattle.node_core.specs.Telling.{TellsOfDisk}
 use Rattle.node_core.specs.Taking.{IsLeftBy, IsTaken}
-use Rattle.node_outbox.specs.Handing.{HandsOut}
+use Rattle.node_outbox.specs.Handing.{AddsDeeds}
 use Rattle.node_input.specs.Hearing.{IsHeard}
 use Rattle.node_core.specs.Keeps.{disk_of}
 use Rattle.node_input.specs.Refusing.{IsAnother, last_vote_tests, packet_refused_deeds}
@@ -158,7 +158,7 @@ module _ {S L D P G C K : Type 0} (g : Ghosts S D P G C) (e : elector.Ghosts L S
 module _ {S L D P G C K : Type 0} (g : Ghosts S D P G C) (e : elector.Ghosts L S D P G C) (k : disk.Ghosts K) (f : Formats S D P G C) (s : Setup S D C) (node : Core S L D K P G C) (h : History S D P G C) where
   -- a packet was refused, for no contradiction
   pub refused-handled : (sender : ℕ) (by : Channel) (bytes : Vec ℕ Global) (r : Refusal) (before after : List (Action S D P G C)) → before ≡ [] → IsFirst (tests g f s h (event.Packet sender by bytes)) (Some r) → r ≢ refusal.Contradiction
-      → HandsOut f before after (if blocks_sender r then Blocks sender ∷ [] else [])
+      → AddsDeeds f before after (if blocks_sender r then Blocks sender ∷ [] else [])
       → CoreKeeps g e k f s node h → (k.keeps → LeavesOnly (k.calls (disk_of node)) (k.calls (disk_of node)) (λ image. Reads image (map f.artifact (record_of h))))
       → IsHandled g e k f s node node h (event.Packet sender by bytes) after (Ok (Some r))
   refused-handled sender by bytes r before after none first other acts keeps leaves =

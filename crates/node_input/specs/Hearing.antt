@@ -13,7 +13,7 @@ use Rattle.simplex_member.specs.Packet.{Formats, Packet, of_vote}
 use Rattle.simplex_member.specs.Point.{History, Heard}
 use Rattle.simplex_member.specs.Setup.{Setup}
 use Rattle.node_core.specs.declared.node_state.Core.{Core}
-use Rattle.node_outbox.specs.Handing.{HandsOut}
+use Rattle.node_outbox.specs.Handing.{AddsDeeds}
 use Rattle.node_core.specs.Keeps.{CoreKeeps}
 use Rattle.node_input.specs.Refusing.{last_vote_tests, packet_refused_deeds}
 use Rattle.node_core.specs.Taking.{IsTaken}
@@ -27,7 +27,7 @@ module _ {S L D P G C K : Type 0} (g : Ghosts S D P G C) (e : elector.Ghosts L S
   -- a packet was refused for a reason: the node stands where it stood, and what is handed out for that is behind the actions before
   pub record IsRefused (new : Core S L D K P G C) (h : History S D P G C) (sender : ℕ) (x : Option (Packet S D P G C)) (r : Refusal) (before after : List (Action S D P G C)) : Type 0 where
     pub keeps : CoreKeeps g e k f s new h
-    pub acts : HandsOut f before after (packet_refused_deeds g f s h sender x r)
+    pub acts : AddsDeeds f before after (packet_refused_deeds g f s h sender x r)
 
   -- a vote was taken, or refused for the first reason by other votes
   abbrev pub IsHeard : Core S L D K P G C → History S D P G C → ℕ → Vote S D P G C → Option Refusal → List (Action S D P G C) → List (Action S D P G C) → Type 0

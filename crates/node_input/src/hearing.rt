@@ -3,7 +3,7 @@
 ghost use Rattle.std.specs.Prelude.{◌≡◌, IfErr, IfOk, OnOk};
 ghost use Rattle.simplex_member.specs.declared.fault.NodeFault.TheVariants as step_fault;
 ghost use Rattle.simplex_member.specs.Packet.{Formats};
-ghost use Rattle.node_outbox.specs.Handing.{HandsOut};
+ghost use Rattle.node_outbox.specs.Handing.{AddsDeeds};
 ghost use Rattle.node_input.specs.Hearing.{IsHeard, admission_deeds};
 ghost use Rattle.node_core.specs.Keeps.{AtOwn, disk_of};
 ghost use Rattle.node_input.specs.Refusing.{IsAnother, MayBeHeard};
@@ -65,7 +65,7 @@ fn hand_admission_out<S: Scheme<D>, D: Digest>(
     out: &mut Vec<Action<S, D>>,
 ) -> Result<(), NodeFault>
     ensures done { OnOk result ((f : Formats S D S.PublicKey S.Signature S.Certificate)
-        → HandsOut f out.old.items out.new.items (admission_deeds sender admission)) }
+        → AddsDeeds f out.old.items out.new.items (admission_deeds sender admission)) }
     ensures fault { IfErr result (λ why. why ≡ step_fault.Memory) }
 {
     if admission.added {

@@ -7,7 +7,7 @@ ghost use Rattle.simplex_member.specs.declared.fault.NodeFault.TheVariants as st
 ghost use Rattle.simplex_member.specs.Deeds.{Blocks};
 ghost use Rattle.simplex_member.specs.Packet.{Formats};
 ghost use Rattle.simplex_member.specs.Refusals.{blocks_sender};
-ghost use Rattle.node_outbox.specs.Handing.{HandsOut};
+ghost use Rattle.node_outbox.specs.Handing.{AddsDeeds};
 ghost use Rattle.node_input.specs.Deciding.{IsDecided};
 ghost use Rattle.node_core.specs.Keeps.{AtOwn, disk_of};
 ghost use Rattle.node_input.specs.Refusing.{bytes_tests};
@@ -90,7 +90,7 @@ fn refuse<S: Scheme<D>, D: Digest>(
     out: &mut Vec<Action<S, D>>,
 ) -> Result<(), NodeFault>
     ensures done { OnOk result ((f : Formats S D S.PublicKey S.Signature S.Certificate)
-        → HandsOut f out.old.items out.new.items (if blocks_sender refusal then Blocks sender ∷ [] else [])) }
+        → AddsDeeds f out.old.items out.new.items (if blocks_sender refusal then Blocks sender ∷ [] else [])) }
     ensures memory { OnErr result (blocks_sender refusal ≡ true) }
     ensures fault { IfErr result (λ why. why ≡ step_fault.Memory) }
 {

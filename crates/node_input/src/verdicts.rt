@@ -93,5 +93,5 @@ fn learn_verdict<S: Scheme<D> + Drop, L: Elector<S, D>, D: Digest, K: Disk>(
     report_verdict(alloc, &notarization, ok, out)?;
     judge_repair(alloc, notarization, ok, &mut core.repair)?;
     enter(&core.voter, &mut core.acceptance)?;
-    core.hand_on_at_entry(was, out)
+    core.relay_at_entry(was, out)
 }

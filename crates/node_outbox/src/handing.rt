@@ -5,7 +5,7 @@ ghost use Rattle.simplex_messages.specs.declared.activity.Activity.TheVariants a
 ghost use Rattle.simplex_member.specs.declared.fault.NodeFault.TheVariants as step_fault;
 ghost use Rattle.simplex_member.specs.Deeds.{Blocks, Deed, Finalizes, IsAction, IsPlan, Reports, own_way};
 ghost use Rattle.simplex_member.specs.Packet.{Formats};
-ghost use Rattle.node_outbox.specs.Handing.{HandsOut};
+ghost use Rattle.node_outbox.specs.Handing.{AddsDeeds};
 
 use messages_certificates::Notarization;
 use simplex_member::{Action, NodeFault};
@@ -26,7 +26,7 @@ pub fn hand_out<S: Scheme<D>, D: Digest>(
     ensures done { OnOk result ((f : Formats S D S.PublicKey S.Signature S.Certificate)
         (deed : Deed S D S.PublicKey S.Signature S.Certificate)
         → IsAction f action deed
-        → HandsOut f out.old.items out.new.items (deed ∷ [])) }
+        → AddsDeeds f out.old.items out.new.items (deed ∷ [])) }
     ensures fault { IfErr result (λ why. why ≡ step_fault.Memory) }
 {
     let Ok(()) = out.push(action) else {
@@ -45,7 +45,7 @@ pub fn report_if<S: Scheme<D>, D: Digest>(
     out: &mut Vec<Action<S, D>>,
 ) -> Result<(), NodeFault>
     ensures done { OnOk result ((f : Formats S D S.PublicKey S.Signature S.Certificate)
-        → HandsOut f out.old.items out.new.items (map Reports (option_to_list report))) }
+        → AddsDeeds f out.old.items out.new.items (map Reports (option_to_list report))) }
     ensures fault { IfErr result (λ why. why ≡ step_fault.Memory) }
 {
     match report {
@@ -64,7 +64,7 @@ pub fn hand_out_final<S: Scheme<D>, D: Digest>(
     out: &mut Vec<Action<S, D>>,
 ) -> Result<(), NodeFault>
     ensures done { OnOk result ((f : Formats S D S.PublicKey S.Signature S.Certificate)
-        → HandsOut f out.old.items out.new.items (map Finalizes (option_to_list finalized))) }
+        → AddsDeeds f out.old.items out.new.items (map Finalizes (option_to_list finalized))) }
     ensures fault { IfErr result (λ why. why ≡ step_fault.Memory) }
 {
     match finalized {
@@ -83,7 +83,7 @@ pub fn block_all<S: Scheme<D>, D: Digest>(
     out: &mut Vec<Action<S, D>>,
 ) -> Result<(), NodeFault>
     ensures done { OnOk result
-        ((f : Formats S D S.PublicKey S.Signature S.Certificate) → HandsOut f out.old.items out.new.items (map Blocks members.now)) }
+        ((f : Formats S D S.PublicKey S.Signature S.Certificate) → AddsDeeds f out.old.items out.new.items (map Blocks members.now)) }
     ensures fault { IfErr result (λ why. why ≡ step_fault.Memory) }
 {
     for member in members {
@@ -107,7 +107,7 @@ pub fn report_verdict<S: Scheme<D>, D: Digest>(
     out: &mut Vec<Action<S, D>>,
 ) -> Result<(), NodeFault>
     ensures acts { OnOk result ((f : Formats S D S.PublicKey S.Signature S.Certificate)
-        → HandsOut f out.old.items out.new.items (if ok then Reports (activity.Certification notarization.now) ∷ [] else [])) }
+        → AddsDeeds f out.old.items out.new.items (if ok then Reports (activity.Certification notarization.now) ∷ [] else [])) }
     ensures fault { IfErr result (λ why. why ≡ step_fault.Memory) }
 {
     if !ok {

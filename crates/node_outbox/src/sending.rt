@@ -8,7 +8,7 @@ ghost use Rattle.simplex_messages.specs.VoteParts.{vote_artifact};
 ghost use Rattle.simplex_member.specs.declared.fault.NodeFault.TheVariants as step_fault;
 ghost use Rattle.simplex_member.specs.Deeds.{IsAction, Reports, Sends};
 ghost use Rattle.simplex_member.specs.Packet.{Formats, Packet, of_certificate, of_vote, packet_channel};
-ghost use Rattle.node_outbox.specs.Handing.{HandsOut};
+ghost use Rattle.node_outbox.specs.Handing.{AddsDeeds};
 
 use crate::handing::hand_out;
 use messages_certificates::{Artifact, Certificate, Nullify};
@@ -60,7 +60,7 @@ pub fn hand_vote_out<S: Scheme<D>, D: Digest>(
     ensures done { OnOk result ((f : Formats S D S.PublicKey S.Signature S.Certificate)
         (vote : Vote S D S.PublicKey S.Signature S.Certificate)
         → bytes.items ≡ f.packet (of_vote vote)
-        → HandsOut f out.old.items out.new.items (Sends None (of_vote vote) ∷ Reports report ∷ [])) }
+        → AddsDeeds f out.old.items out.new.items (Sends None (of_vote vote) ∷ Reports report ∷ [])) }
     ensures fault { IfErr result (λ why. why ≡ step_fault.Memory) }
 {
     match hand_out(to_all(Channel::Votes, bytes), out) {
@@ -81,7 +81,7 @@ pub fn send_again<S: Scheme<D>, D: Digest>(
     out: &mut Vec<Action<S, D>>,
 ) -> Result<(), NodeFault>
     ensures done { OnOk result ((n : ℕ)
-        → HandsOut (⟦<S as Speaks<D>>⟧.formats n) out.old.items out.new.items
+        → AddsDeeds (⟦<S as Speaks<D>>⟧.formats n) out.old.items out.new.items
         (Sends None (of_vote (vote.Nullify recorded.now)) ∷ map (λ c. Sends None (of_certificate c)) (option_to_list best))) }
     ensures fault { IfErr result (λ why. why ≡ step_fault.Memory) }
 {
@@ -107,7 +107,7 @@ fn send<S: Scheme<D>, D: Digest, M: EncodeSize>(
         (packet : Packet S D S.PublicKey S.Signature S.Certificate)
         → f.packet packet ≡ M.spelling message.now
         → packet_channel packet ≡ channel
-        → HandsOut f out.old.items out.new.items (Sends None packet ∷ [])) }
+        → AddsDeeds f out.old.items out.new.items (Sends None packet ∷ [])) }
     ensures fault { IfErr result (λ why. why ≡ step_fault.Memory) }
 {
     let Ok(bytes) = spelled(alloc, message) else {

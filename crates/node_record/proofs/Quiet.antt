@@ -1,6 +1,6 @@
 -- What concerns neither requests nor asks nor the time leaves the tables where they stand.
 use Rattle.std.proofs.Common.{◌≡◌, ◌∷◌, ℕ, true}
-use Rattle.simplex_member.specs.Point.{Point, Opened, Found, Began, Told, Heard, Came, Wanted, Built, Checked, Judged, Leads, Forwards, Constructs, Latches, Looks, AsksBuild, AsksVerify, AsksCertify, GivesBack, LeavesBehind, PutsOff, Asks, Resolves, Votes, Repeats, History}
+use Rattle.simplex_member.specs.Point.{Point, Opened, Found, Began, Told, Heard, Came, Wanted, Built, Checked, Judged, Leads, Forwards, Constructs, Latches, Polls, AsksBuild, AsksVerify, AsksCertify, GivesBack, LeavesBehind, PutsOff, Asks, Resolves, Votes, Repeats, History}
 use Rattle.node_record.specs.declared.tables.Tables.{Tables}
 use Rattle.node_record.specs.Tables.{KeepsTables, is_quiet}
 
@@ -20,7 +20,7 @@ module _ {S D P G C : Type 0} (low : ℕ) (tables : Tables S D P G C) (h : Histo
   stays_quiet (Forwards view q) quiet k = k
   stays_quiet (Constructs view kind batch) quiet k = k
   stays_quiet (Latches view why) quiet k = k
-  stays_quiet Looks quiet k = k
+  stays_quiet Polls quiet k = k
   stays_quiet (AsksBuild number handoff context) quiet k = absurd (cc quiet)
   stays_quiet (AsksVerify number context q) quiet k = absurd (cc quiet)
   stays_quiet (AsksCertify q) quiet k = absurd (cc quiet)

@@ -6,7 +6,7 @@ use Rattle.types_quorum.specs.Counting.{Contains-cases, Contains-head, Contains-
 use Rattle.types_core.specs.declared.proposal.Proposal.{Proposal}
 use Rattle.simplex_member.specs.Asked.{IsAwaited, IsJudged}
 use Rattle.simplex_member.specs.Layers.{finalized_of}
-use Rattle.simplex_member.specs.Point.{Point, Opened, Found, Began, Told, Heard, Came, Wanted, Built, Checked, Judged, Leads, Forwards, Constructs, Latches, Looks, AsksBuild, AsksVerify, AsksCertify, GivesBack, LeavesBehind, PutsOff, Asks, Resolves, Votes, Repeats, History}
+use Rattle.simplex_member.specs.Point.{Point, Opened, Found, Began, Told, Heard, Came, Wanted, Built, Checked, Judged, Leads, Forwards, Constructs, Latches, Polls, AsksBuild, AsksVerify, AsksCertify, GivesBack, LeavesBehind, PutsOff, Asks, Resolves, Votes, Repeats, History}
 use Rattle.simplex_member.specs.Setup.{Setup}
 use Rattle.node_record.specs.Tables.{verdict_asked, verdicts_of}
 
@@ -27,7 +27,7 @@ module _ {S D P G C : Type 0} where
   asks_of_proposal (Forwards at q) view e = absurd (cc e)
   asks_of_proposal (Constructs at kind batch) view e = absurd (cc e)
   asks_of_proposal (Latches at why) view e = absurd (cc e)
-  asks_of_proposal Looks view e = absurd (cc e)
+  asks_of_proposal Polls view e = absurd (cc e)
   asks_of_proposal (AsksBuild number handoff context) view e = absurd (cc e)
   asks_of_proposal (AsksVerify number context q) view e = absurd (cc e)
   asks_of_proposal (AsksCertify q) view e = (q, refl, (cc e))

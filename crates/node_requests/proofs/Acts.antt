@@ -18,7 +18,7 @@ use Rattle.simplex_member.specs.Layers.{finalized_of, voter_of}
 use Rattle.simplex_member.specs.Packet.{Formats}
 use Rattle.simplex_member.specs.Point.{Point, History}
 use Rattle.simplex_member.specs.Setup.{Setup}
-use Rattle.node_outbox.specs.Handing.{HandsOut, hands_as, nothing_more}
+use Rattle.node_outbox.specs.Handing.{AddsDeeds, hands_as, nothing_more}
 use Rattle.node_requests.specs.Asking.{HadNothingToAsk, WasAsked, is_ask}
 
 -- a request is for a handoff or not
@@ -30,7 +30,7 @@ module _ {S L D P G C : Type 0} (g : Ghosts S D P G C) (e : elector.Ghosts L S D
   -- one point was asked for
   pub one_asked : (voter : State S L D P G C) (tables : Tables S D P G C) (h : History S D P G C) (p : Point S D P G C) (before after : List (Action S D P G C))
       → is_ask p ≡ true → Allowed g f s h p → voting.Keeps g e s.voter voter (voter_of s (p ∷ h)) → KeepsTables (finalized_of s (p ∷ h)) tables (p ∷ h)
-      → HandsOut f before after (deeds_of g f s h p) → WasAsked g e f s voter tables h before after
+      → AddsDeeds f before after (deeds_of g f s h p) → WasAsked g e f s voter tables h before after
   one_asked voter tables h p before after is allowed voter_is tables_are acts = record {
     points = p ∷ [];
     end = p ∷ h;

@@ -31,7 +31,7 @@ use Rattle.simplex_member.specs.Layers.{current_of, finalized_of, is_begun, know
 use Rattle.simplex_member.specs.Packet.{Formats}
 use Rattle.simplex_member.specs.Point.{Point, AsksBuild, Built, GivesBack, LeavesBehind, History}
 use Rattle.simplex_member.specs.Setup.{Setup, member_of}
-use Rattle.node_outbox.specs.Handing.{HandsOut, nothing_more}
+use Rattle.node_outbox.specs.Handing.{AddsDeeds, nothing_more}
 use Rattle.node_requests.specs.Asking.{WasAsked}
 use Rattle.node_requests.specs.Building.{IsKeptOrFalls}
 use Rattle.node_requests.specs.NoneDue.{NoBuildToGiveBack}
@@ -179,7 +179,7 @@ module _ {S L D P G C : Type 0} (g : Ghosts S D P G C) (e : elector.Ghosts L S D
       → IsPrepared request ↔ IsHandoff (member_of s) (known_of s h) (context_of request).round.view (context_of request).parent.0 (context_of request).parent.1
       → voting.Keeps g e s.voter voter (build_asked (context_of request).round.view ∷ voter_of s h)
       → ((handoff : Bool) → IsTrue handoff ↔ IsPrepared request → KeepsTables (finalized_of s h) tables (AsksBuild (next_number h) handoff (context_of request) ∷ h))
-      → ((handoff : Bool) → IsTrue handoff ↔ IsPrepared request → HandsOut f before after (Builds (next_number h) handoff (context_of request) ∷ []))
+      → ((handoff : Bool) → IsTrue handoff ↔ IsPrepared request → AddsDeeds f before after (Builds (next_number h) handoff (context_of request) ∷ []))
       → WasAsked g e f s voter tables h before after
   build_was_asked voter tables h request before after begun left first names early voter_is tables_are acts =
       let is = prepared_or_not request in

@@ -23,7 +23,7 @@ use Rattle.simplex_member.specs.Allowed.{AreAllowed}
 use Rattle.simplex_member.specs.Layers.{current_of, is_begun, latest, voter_of}
 use Rattle.simplex_member.specs.Member.{IsGivenUpAt, IsWake}
 use Rattle.simplex_member.specs.Packet.{Formats}
-use Rattle.simplex_member.specs.Point.{Looks, History}
+use Rattle.simplex_member.specs.Point.{Polls, History}
 use Rattle.simplex_member.specs.Setup.{Setup}
 use Rattle.node_requests.specs.Silence.{SilenceCounts}
 use Rattle.node_requests.proofs.Moments.{settled}
@@ -223,7 +223,7 @@ pub room_here : (views view length cur : ℕ) → views ≡ length → view ≡ 
 room_here views view length cur same at room = subst (λ (n : ℕ). HasRoom n cur) same (subst (λ (m : ℕ). HasRoom views m) at room)
 
 -- a look is allowed
-pub look_allowed : {S D P G C : Type 0} (g : Ghosts S D P G C) (f : Formats S D P G C) (s : Setup S D C) (h : History S D P G C) → is_begun h ≡ true → AreAllowed g f s h → AreAllowed g f s (Looks ∷ h)
+pub look_allowed : {S D P G C : Type 0} (g : Ghosts S D P G C) (f : Formats S D P G C) (s : Setup S D C) (h : History S D P G C) → is_begun h ≡ true → AreAllowed g f s h → AreAllowed g f s (Polls ∷ h)
 look_allowed g f s h begun all = (record { order = begun; due = tt; fits = tt; readable = tt }, all)
 
 either_way : (b : Bool) → (b ≡ true) ⊎ (b ≡ false)
@@ -362,10 +362,10 @@ module _ {S D P G C : Type 0} (g : Ghosts S D P G C) (f : Formats S D P G C) (s 
 
 module _ {S D P G C : Type 0} (g : Ghosts S D P G C) (f : Formats S D P G C) (s : Setup S D C) (h : History S D P G C) (all : AreAllowed g f s h) (there : CurrentHasTimeout S D P G C) (law : TimeoutIsEarliest S D P G C) where
   -- a view without a timeout behind a look is never given up
-  pub never_without_timeout : (0 < current_of s h → timeout s.voter (voter_of s (Looks ∷ h)) (latest h) ≡ None) → (t : ℕ) → latest h < t → ¬ IsGivenUpAt g f s (Looks ∷ h) t
+  pub never_without_timeout : (0 < current_of s h → timeout s.voter (voter_of s (Polls ∷ h)) (latest h) ≡ None) → (t : ℕ) → latest h < t → ¬ IsGivenUpAt g f s (Polls ∷ h) t
   never_without_timeout none t ahead up = ⊎_elim
       (λ due.
-      let r = (law s.voter (voter_of s (Looks ∷ h)) (latest h) t (omega (arith, ahead)) due.gives_up).0 due in
+      let r = (law s.voter (voter_of s (Polls ∷ h)) (latest h) t (omega (arith, ahead)) due.gives_up).0 due in
       cc (sym r.1 ∙ none due.gives_up.some))
       (λ silent. by_silence silent.2)
       up
@@ -373,10 +373,10 @@ module _ {S D P G C : Type 0} (g : Ghosts S D P G C) (f : Formats S D P G C) (s 
       view : ℕ
       view = current_of s h
 
-      by_silence : NullifyIsDue s.voter (latched t view reason.Inactivity ∷ voter_of s (Looks ∷ h)) t → ⊥
+      by_silence : NullifyIsDue s.voter (latched t view reason.Inactivity ∷ voter_of s (Polls ∷ h)) t → ⊥
       by_silence due =
           let some : 0 < view = due.gives_up.some in
-          let w = voter_of s (Looks ∷ h) in
+          let w = voter_of s (Polls ∷ h) in
           let looked = polled_here s.voter (voter_of s h) (latest h) some in
           let is = sym (latched_timeout s.voter w t reason.Inactivity t) ∙ due.next in
           let opened = open_view t (has_budget s.voter w) (term_deadline s.voter w) (past.latched t reason.Inactivity ∷ seen s.voter w view) (due.moment, due.why) is in

@@ -29,7 +29,7 @@ use Rattle.simplex_member.specs.Member.{Goes}
 use Rattle.simplex_member.specs.Packet.{Formats, of_ask}
 use Rattle.simplex_member.specs.Point.{Point, Asks, History}
 use Rattle.simplex_member.specs.Setup.{Setup, member_of}
-use Rattle.node_outbox.specs.Handing.{HandsOut, both_more, hands_as, nothing_more}
+use Rattle.node_outbox.specs.Handing.{AddsDeeds, both_more, hands_as, nothing_more}
 use Rattle.node_requests.specs.declared.acted.Acted.{Acted}
 use Rattle.node_requests.specs.declared.acted.Acted.TheVariants as came
 use Rattle.node_requests.specs.Fetching.{Fetches, HasFetched, is_fetch}
@@ -93,7 +93,7 @@ module _ {S D P G C : Type 0} (g : Ghosts S D P G C) (f : Formats S D P G C) (s 
   -- one view more was asked for behind those before
   pub fetched_on : (tables more : Tables S D P G C) (h end : History S D P G C) (points : List (Point S D P G C)) (view : ℕ) (ask : Ask) (to : Option ℕ) (before mid after : List (Action S D P G C))
       → HasFetched g f s tables h points end before mid → Allowed g f s end (Asks view ask to) → KeepsTables (finalized_of s end) more (Asks view ask to ∷ end)
-      → HandsOut f mid after (Sends to (of_ask view) ∷ []) → HasFetched g f s more h (points ++ Asks view ask to ∷ []) (Asks view ask to ∷ end) before after
+      → AddsDeeds f mid after (Sends to (of_ask view) ∷ []) → HasFetched g f s more h (points ++ Asks view ask to ∷ []) (Asks view ask to ∷ end) before after
   fetched_on tables more h end points view ask to before mid after k may tables_are sends = record {
     are_fetches = All-push (λ (q : Point S D P G C). is_fetch q ≡ true) points (Asks view ask to) k.are_fetches refl;
     goes = goes_then h end (Asks view ask to ∷ end) points (Asks view ask to ∷ []) k.goes (may, refl);
@@ -131,7 +131,7 @@ module _ {S D P G C : Type 0} (g : Ghosts S D P G C) (f : Formats S D P G C) (s 
       are_fetches = k.are_fetches;
       goes = k.goes;
       tables_are = came.1;
-      acts = subst (λ (l : List (Action S D P G C)). HandsOut f before l (all_deeds g f s h points)) (sym came.2) k.acts;
+      acts = subst (λ (l : List (Action S D P G C)). AddsDeeds f before l (all_deeds g f s h points)) (sym came.2) k.acts;
     };
     answered = came.0;
     aside = aside_here at;

@@ -40,7 +40,7 @@ use Rattle.simplex_member.specs.Member.{Goes}
 use Rattle.simplex_member.specs.Packet.{Formats}
 use Rattle.simplex_member.specs.Point.{Point, AsksCertify, Asks, PutsOff, History}
 use Rattle.simplex_member.specs.Setup.{Setup, member_of}
-use Rattle.node_outbox.specs.Handing.{HandsOut, both_more, hands_as, nothing_more}
+use Rattle.node_outbox.specs.Handing.{AddsDeeds, both_more, hands_as, nothing_more}
 use Rattle.simplex_resolver.specs.declared.state.State.{State as Repair}
 use Rattle.simplex_resolver.specs.Keeps as repairing
 use Rattle.node_requests.specs.Asking.{AskerKeeps, HadNothingToAsk, HasAsked, WasAsked, is_ask, is_put_off}
@@ -385,7 +385,7 @@ module _ {S L D P G C : Type 0} (g : Ghosts S D P G C) (e : elector.Ghosts L S D
   pub one_verdict_asked : (p : Proposal D) (left : List (Proposal D)) (voter more : State S L D P G C) (tables told : Tables S D P G C) (h : History S D P G C) (before mid after : List (Action S D P G C)) → AskedBut (p ∷ left) voter tables h before mid
       → ((v : views.Setup S C) (x : List (views.Point S D P G C)) → voting.Keeps g e v voter x → AddsIfTracked g e v more x p.round.view (certify_asked p.round.view (record { 0 = p.round.view })))
       → ((low : ℕ) (x : History S D P G C) → KeepsTables low tables x → low < p.round.view → KeepsTables low told (AsksCertify p ∷ x))
-      → HandsOut f mid after (Certifies p ∷ []) → AskedBut left more told h before after
+      → AddsDeeds f mid after (Certifies p ∷ []) → AskedBut left more told h before after
   one_verdict_asked p left voter more tables told h before mid after k adds tells acts =
       let Due : Proposal D → Type 0 = λ q. CertifyIsDue (member_of s) (known_of s k.end) q.round.view q in
       let x : Point S D P G C = AsksCertify p in

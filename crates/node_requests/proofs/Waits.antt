@@ -49,7 +49,7 @@ use Rattle.simplex_member.specs.Member.{Goes, LatchIsDue}
 use Rattle.simplex_member.specs.Packet.{Formats}
 use Rattle.simplex_member.specs.Point.{Point, AsksVerify, Asks, Latches, Resolves, History}
 use Rattle.simplex_member.specs.Setup.{Setup, member_of}
-use Rattle.node_outbox.specs.Handing.{HandsOut, hands_as, nothing_more}
+use Rattle.node_outbox.specs.Handing.{AddsDeeds, hands_as, nothing_more}
 use Rattle.simplex_resolver.specs.declared.state.State.{State as Repair}
 use Rattle.node_requests.specs.Asking.{AskerKeeps, HadNothingToAsk, HasAsked, WasAsked, is_ask, is_latch}
 use Rattle.node_requests.specs.Fetching.{Fetches}
@@ -261,7 +261,7 @@ module _ {S L D P G C : Type 0} (g : Ghosts S D P G C) (e : elector.Ghosts L S D
   pub verification_asked : (voter : State S L D P G C) (tables more : Tables S D P G C) (h : History S D P G C) (now : ℕ) (context : Context D P) (p : Proposal D) (before after : List (Action S D P G C)) → is_begun h ≡ true → now ≡ latest h → HasNumber h
       → KeepsTables (finalized_of s h) tables h → Answers g e s.voter voter now (voter_of s h) (verify.Ready context p)
       → ((low : ℕ) (x : History S D P G C) → KeepsTables low tables x → KeepsTables low more (AsksVerify (next_number x) context p ∷ x))
-      → ((low : ℕ) (x : History S D P G C) → KeepsTables low tables x → HandsOut f before after (Verifies (next_number x) context p ∷ []))
+      → ((low : ℕ) (x : History S D P G C) → KeepsTables low tables x → AddsDeeds f before after (Verifies (next_number x) context p ∷ []))
       → WasAsked g e f s voter more h before after
   verification_asked voter tables more h now context p before after live at left tables_are look tells acts =
       let first = current s.voter (voter_of s h) in
@@ -334,7 +334,7 @@ module _ {S L D P G C : Type 0} (g : Ghosts S D P G C) (e : elector.Ghosts L S D
             goes = (may, refl);
             voter_is = asks.keeps;
             tables_are = came.1;
-            acts = subst (λ (l : List (Action S D P G C)). HandsOut f before l []) (sym came.2) (nothing_more f before);
+            acts = subst (λ (l : List (Action S D P G C)). AddsDeeds f before l []) (sym came.2) (nothing_more f before);
           })
 
   -- a proposal that can never stand is the first reason to give its view up, or none that is due

@@ -14,9 +14,9 @@ use Rattle.simplex_member.specs.Deeds.{all_deeds}
 use Rattle.simplex_member.specs.Layers.{finalized_of, is_begun, repair_of, voter_of}
 use Rattle.simplex_member.specs.Member.{Goes}
 use Rattle.simplex_member.specs.Packet.{Formats}
-use Rattle.simplex_member.specs.Point.{Point, Latches, Looks, AsksBuild, AsksVerify, AsksCertify, GivesBack, LeavesBehind, PutsOff, Asks, Resolves, History}
+use Rattle.simplex_member.specs.Point.{Point, Latches, Polls, AsksBuild, AsksVerify, AsksCertify, GivesBack, LeavesBehind, PutsOff, Asks, Resolves, History}
 use Rattle.simplex_member.specs.Setup.{Setup}
-use Rattle.node_outbox.specs.Handing.{HandsOut}
+use Rattle.node_outbox.specs.Handing.{AddsDeeds}
 use Rattle.node_requests.specs.declared.acted.Acted.{Acted}
 use Rattle.node_requests.specs.declared.acted.Acted.TheVariants as came
 
@@ -25,7 +25,7 @@ module _ {S D P G C : Type 0} where
   -- says nothing of votes and of the repair
   abbrev pub is_ask : Point S D P G C → Bool
   is_ask (Latches view why) = true
-  is_ask Looks = true
+  is_ask Polls = true
   is_ask (AsksBuild number handoff context) = true
   is_ask (AsksVerify number context p) = true
   is_ask (AsksCertify p) = true
@@ -50,17 +50,17 @@ module _ {S D P G C : Type 0} where
   is_latch (Latches view why) = true
   is_latch p = false
 
-  -- a verdict is put off, a reason to give a view up counts, or the next timeout is looked at: nothing is handed out
+  -- a verdict is put off, a reason to give a view up counts, or the next timeout is polled: nothing is handed out
   abbrev pub is_silent : Point S D P G C → Bool
   is_silent (Latches view why) = true
-  is_silent Looks = true
+  is_silent Polls = true
   is_silent (PutsOff view) = true
   is_silent p = false
 
-  -- the next timeout is looked at
-  abbrev pub is_look : Point S D P G C → Bool
-  is_look Looks = true
-  is_look p = false
+  -- the next timeout is polled
+  abbrev pub is_poll : Point S D P G C → Bool
+  is_poll Polls = true
+  is_poll p = false
 
 module _ {S L D P G C : Type 0} (g : Ghosts S D P G C) (e : elector.Ghosts L S D P G C) (f : Formats S D P G C) (s : Setup S D C) where
   -- who asks stands where this history leads: the record was gone through, each point was allowed, and the voter, the repair and the
@@ -79,7 +79,7 @@ module _ {S L D P G C : Type 0} (g : Ghosts S D P G C) (e : elector.Ghosts L S D
     pub goes : Goes g f s h points end
     pub voter_is : voting.Keeps g e s.voter voter (voter_of s end)
     pub tables_are : KeepsTables (finalized_of s end) tables end
-    pub acts : HandsOut f before after (all_deeds g f s h points)
+    pub acts : AddsDeeds f before after (all_deeds g f s h points)
 
   -- something that was due was asked
   pub record WasAsked (voter : State S L D P G C) (tables : Tables S D P G C) (h : History S D P G C) (before after : List (Action S D P G C)) : Type 0 where

@@ -18,7 +18,7 @@ use Rattle.simplex_member.specs.Member.{Goes}
 use Rattle.simplex_member.specs.Packet.{Formats, of_ask}
 use Rattle.simplex_member.specs.Point.{Point, Asks, History}
 use Rattle.simplex_member.specs.Setup.{Setup, member_of}
-use Rattle.node_outbox.specs.Handing.{HandsOut}
+use Rattle.node_outbox.specs.Handing.{AddsDeeds}
 use Rattle.node_requests.specs.declared.acted.Acted.{Acted}
 use Rattle.node_requests.specs.declared.acted.Acted.TheVariants as came
 
@@ -32,7 +32,7 @@ module _ {S D P G C : Type 0} (f : Formats S D P G C) (s : Setup S D C) where
   -- this was asked now, since it isn't settled and was not asked before; or nothing was handed out, since one of the two is so
   abbrev pub Fetches : Tables S D P G C → History S D P G C → Asked → List (Action S D P G C) → List (Action S D P G C) → Bool → Type 0
   Fetches tables h asked before after true =
-      (¬ IsAnswered f s h asked.view asked.ask asked.to) × KeepsTables (finalized_of s h) tables (Asks asked.view asked.ask asked.to ∷ h) × HandsOut f before after (Sends asked.to (of_ask asked.view) ∷ [])
+      (¬ IsAnswered f s h asked.view asked.ask asked.to) × KeepsTables (finalized_of s h) tables (Asks asked.view asked.ask asked.to ∷ h) × AddsDeeds f before after (Sends asked.to (of_ask asked.view) ∷ [])
   Fetches tables h asked before after false = IsAnswered f s h asked.view asked.ask asked.to × KeepsTables (finalized_of s h) tables h × (after ≡ before)
 
 module _ {S D P G C : Type 0} (g : Ghosts S D P G C) (f : Formats S D P G C) (s : Setup S D C) where
@@ -49,7 +49,7 @@ module _ {S D P G C : Type 0} (g : Ghosts S D P G C) (f : Formats S D P G C) (s 
     pub are_fetches : All (λ p. is_fetch p ≡ true) points
     pub goes : Goes g f s h points end
     pub tables_are : KeepsTables (finalized_of s end) tables end
-    pub acts : HandsOut f before after (all_deeds g f s h points)
+    pub acts : AddsDeeds f before after (all_deeds g f s h points)
 
   -- views were asked for
   pub record WasFetched (tables : Tables S D P G C) (h : History S D P G C) (before after : List (Action S D P G C)) : Type 0 where

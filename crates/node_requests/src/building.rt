@@ -15,7 +15,7 @@ ghost use Rattle.simplex_member.specs.Point.{History, AsksBuild};
 ghost use Rattle.simplex_member.specs.Setup.{Setup};
 ghost use Rattle.node_record.specs.Tables.{KeepsTables, build_parts};
 ghost use Rattle.node_record.specs.Tables as tabled;
-ghost use Rattle.node_outbox.specs.Handing.{HandsOut};
+ghost use Rattle.node_outbox.specs.Handing.{AddsDeeds};
 ghost use Rattle.node_requests.specs.Asking.{AtAnyAsker, ComesToAsk, is_none};
 ghost use Rattle.node_requests.specs.Building.{IsKeptOrFalls};
 ghost use Rattle.node_requests.specs.NoneDue.{NoBuildToAsk, NoBuildToGiveBack};
@@ -70,7 +70,7 @@ fn hand_build_out<S: Scheme<D>, D: Digest>(
     ensures acts { OnOk result (tabled.AtEach tables.old (λ low h.
         (f : Formats S D S.PublicKey S.Signature S.Certificate) (handoff : Bool)
         → IsTrue handoff ↔ IsPrepared request
-        → HandsOut f out.old.items out.new.items (Builds (next_number h) handoff (context_of request) ∷ []))) }
+        → AddsDeeds f out.old.items out.new.items (Builds (next_number h) handoff (context_of request) ∷ []))) }
     ensures fault { IfErr result (λ why. why ≡ step_fault.Memory) }
 {
     let handoff = request.is_handoff();

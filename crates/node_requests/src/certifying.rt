@@ -10,7 +10,7 @@ ghost use Rattle.simplex_member.specs.Packet.{Formats};
 ghost use Rattle.simplex_member.specs.Point.{AsksCertify};
 ghost use Rattle.node_record.specs.Tables.{KeepsTables};
 ghost use Rattle.node_record.specs.Tables as tabled;
-ghost use Rattle.node_outbox.specs.Handing.{HandsOut};
+ghost use Rattle.node_outbox.specs.Handing.{AddsDeeds};
 ghost use Rattle.node_requests.specs.Asking.{AtAnyAsker, AtAsker, ComesToAsk, WasAsked, is_put_off};
 ghost use Rattle.node_requests.specs.Certifying.{AreDueVerdicts};
 ghost use Rattle.node_requests.specs.Fetching.{AreAllWanted, AtRepairer, FetchesParents};
@@ -118,7 +118,7 @@ fn ask_one<S: Scheme<D> + Drop, L: Elector<S, D>, D: Digest>(
     ensures keeps { OnOk result
         (tabled.AtEach tables.old (λ low h. low < proposal.round.view → KeepsTables low tables.new (AsksCertify proposal ∷ h))) }
     ensures acts { OnOk result
-        ((f : Formats S D S.PublicKey S.Signature S.Certificate) → HandsOut f out.old.items out.new.items (Certifies proposal ∷ [])) }
+        ((f : Formats S D S.PublicKey S.Signature S.Certificate) → AddsDeeds f out.old.items out.new.items (Certifies proposal ∷ [])) }
     ensures fault { IfErr result (λ why. why ≡ step_fault.Memory) }
 {
     let view = proposal.view();

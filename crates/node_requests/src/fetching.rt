@@ -9,7 +9,7 @@ ghost use Rattle.simplex_member.specs.Point.{History};
 ghost use Rattle.simplex_member.specs.Setup.{Setup};
 ghost use Rattle.node_record.specs.Tables.{KeepsTables};
 ghost use Rattle.simplex_resolver.specs.Keeps as repairing;
-ghost use Rattle.node_outbox.specs.Handing.{HandsOut};
+ghost use Rattle.node_outbox.specs.Handing.{AddsDeeds};
 ghost use Rattle.node_requests.specs.Fetching.{Fetches};
 
 use node_outbox::hand_out;
@@ -58,7 +58,7 @@ fn send_ask<S: Scheme<D>, D: Digest>(
     out: &mut Vec<Action<S, D>>,
 ) -> Result<bool, NodeFault>
     ensures sent { IfOk result (λ sent.
-        (sent ≡ true) × ((n : ℕ) → HandsOut (⟦<S as Speaks<D>>⟧.formats n) out.old.items out.new.items (Sends to (of_ask view) ∷ []))) }
+        (sent ≡ true) × ((n : ℕ) → AddsDeeds (⟦<S as Speaks<D>>⟧.formats n) out.old.items out.new.items (Sends to (of_ask view) ∷ []))) }
     ensures fault { IfErr result (λ why. why ≡ step_fault.Memory) }
 {
     let mut bytes = Vec::new(alloc);

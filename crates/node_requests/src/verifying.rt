@@ -15,7 +15,7 @@ ghost use Rattle.simplex_member.specs.Point.{AsksVerify, History};
 ghost use Rattle.simplex_member.specs.Setup.{Setup};
 ghost use Rattle.node_record.specs.Tables.{KeepsTables};
 ghost use Rattle.node_record.specs.Tables as tabled;
-ghost use Rattle.node_outbox.specs.Handing.{HandsOut};
+ghost use Rattle.node_outbox.specs.Handing.{AddsDeeds};
 ghost use Rattle.node_requests.specs.declared.acted.Acted.TheVariants as came;
 ghost use Rattle.node_requests.specs.Asking.{AtAnyAsker, AtAsker, ComesToAsk, is_latch, is_none};
 ghost use Rattle.node_requests.specs.Fetching.{AtRepairer};
@@ -193,7 +193,7 @@ fn hand_check_out<S: Scheme<D>, D: Digest>(
     ensures acts { IfOk result (λ done.
         tabled.AtEach tables.old (λ low h.
         (f : Formats S D S.PublicKey S.Signature S.Certificate)
-        → HandsOut f out.old.items out.new.items (Verifies (next_number h) context.now proposal ∷ []))) }
+        → AddsDeeds f out.old.items out.new.items (Verifies (next_number h) context.now proposal ∷ []))) }
     ensures fault { IfErr result (λ why. why ≡ step_fault.Memory) }
 {
     let Ok(number) = tables.add_check(context.round.view) else {

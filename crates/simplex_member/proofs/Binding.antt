@@ -29,7 +29,7 @@ use Rattle.simplex_member.specs.Asked.{build_at, check_at}
 use Rattle.simplex_member.specs.Laws.{AreTracked, RoundLaws}
 use Rattle.simplex_member.specs.Layers.{finalizes_above, floor_of, known_of, latest, takes_certificate, voter_of, voter_points, votes_of, votes_setup}
 use Rattle.simplex_member.specs.Packet.{Formats}
-use Rattle.simplex_member.specs.Point.{Outcome, Counts, Falls, Passes, Point, Opened, Found, Began, Came, Built, Checked, Judged, Forwards, Constructs, Latches, Looks, AsksBuild, AsksVerify, AsksCertify, GivesBack, LeavesBehind, PutsOff, Resolves, Votes, Repeats, History}
+use Rattle.simplex_member.specs.Point.{Outcome, Counts, Falls, Passes, Point, Opened, Found, Began, Came, Built, Checked, Judged, Forwards, Constructs, Latches, Polls, AsksBuild, AsksVerify, AsksCertify, GivesBack, LeavesBehind, PutsOff, Resolves, Votes, Repeats, History}
 use Rattle.simplex_member.specs.Setup.{Setup, member_of}
 use Rattle.simplex_member.proofs.Ballots.{votes-lawful}
 use Rattle.simplex_member.proofs.Bound.{Inv, ArePlain, all-plain, built-inv, confirm-inv, inv-less, inv-nil, leader-stays-all, unbind-inv, verify-inv}
@@ -224,7 +224,7 @@ module _ {S D P G C : Type 0} (g : Ghosts S D P G C) (f : Formats S D P G C) (s 
     step (Forwards at p) h view kept a all i = plainly (Forwards at p) h view kept (λ k v e. e) (λ k b e. e) (λ is. forwarded-in h all at p a ∙ is, tt) i
     step (Constructs at kind batch) h view kept a all i = plainly (Constructs at kind batch) h view kept (λ k v e. e) (λ k b e. e) (plain-option (Pending (Constructs at kind batch ∷ h) view) view (latest h) (last_finalized (voter_of s h)) batch.certificate) i
     step (Latches at why) h view kept a all i = plainly (Latches at why) h view kept (λ k v e. e) (λ k b e. e) (tt, tt) i
-    step Looks h view kept a all i = plainly Looks h view kept (λ k v e. e) (λ k b e. e) (tt, tt) i
+    step Polls h view kept a all i = plainly Polls h view kept (λ k v e. e) (λ k b e. e) (tt, tt) i
     step (AsksBuild n handoff context) h view kept a all i = build-step h n handoff context view kept a i
     step (AsksVerify n context p) h view kept a all i = verify-step h n context p view kept a i
     step (AsksCertify p) h view kept a all i = plainly (AsksCertify p) h view kept (λ k v e. e) (λ k b e. e) (tt, tt) i

@@ -26,7 +26,7 @@ use Rattle.simplex_member.specs.declared.refusal.Refusal.{Refusal}
 use Rattle.simplex_member.specs.declared.refusal.Refusal.TheVariants as refusal
 use Rattle.simplex_member.specs.Deeds.{Deed, Sends, Serves, Blocks, Reports, all_deeds}
 use Rattle.simplex_member.specs.Laws.{AreReadBack, IsOwnAndSound, RecordLaws}
-use Rattle.simplex_member.specs.Lives.{Course, Life, Broken, Lasting, Turn, Refuses, Went, AreFaithful, CameIn, HandedOut, HandsOutBytes, Holds, LiveByNodes, Lived, Lives, Members, Turns, WasHanded, handed_out, turn_deeds}
+use Rattle.simplex_member.specs.Lives.{Course, Life, Broken, Lasting, Turn, Refuses, Went, AreFaithful, CameIn, HandedOut, HasBytes, Holds, LiveByNodes, Lived, Lives, Members, Turns, WasHanded, handed_out, turn_deeds}
 use Rattle.simplex_member.specs.Member.{Goes, after}
 use Rattle.simplex_member.specs.Packet.{Formats, IsReadable, Packet, of_ask, of_certificate, of_vote, packet_of}
 use Rattle.simplex_member.specs.Point.{Point, History}
@@ -156,7 +156,7 @@ module _ {S D P G C : Type 0} (g : Ghosts S D P G C) (f : Formats S D P G C) (sc
   pub came-sound : RecordLaws g → AreReadBack f → LiveByNodes g f scheme m world → AreFaithful g f scheme m world → (i j : ℕ) → IsCorrect world i → IsCorrect world j → (v : Vote S D P G C) → CameIn g f scheme m world i j (of_vote v) → IsOwnAndSound world j v
   came-sound grows back w faithful i j ci cj v came = go came.0 came.1 came.2
     where
-      by-deed : (by : Channel) (bytes : List ℕ) → f.packet_in by bytes ≡ Some (of_vote v) → (d : Deed S D P G C) → HandedOut g f scheme m world j d → HandsOutBytes g f scheme m world by bytes d → IsOwnAndSound world j v
+      by-deed : (by : Channel) (bytes : List ℕ) → f.packet_in by bytes ≡ Some (of_vote v) → (d : Deed S D P G C) → HandedOut g f scheme m world j d → HasBytes g f scheme m world by bytes d → IsOwnAndSound world j v
       by-deed by bytes read (Sends to (of_vote u)) sent is =
           let sound = own-sound grows w j cj to u sent in
           let read_so : f.packet_in channel.Votes (f.packet (of_vote u)) ≡ Some (of_vote v) = subst (λ (b : List ℕ). f.packet_in channel.Votes b ≡ Some (of_vote v)) is.1 (subst (λ (c : Channel). f.packet_in c bytes ≡ Some (of_vote v)) is.0 read) in

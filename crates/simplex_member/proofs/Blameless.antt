@@ -27,7 +27,7 @@ use Rattle.simplex_member.specs.Allowed.{Allowed}
 use Rattle.simplex_member.specs.Deeds.{Deed, Sends, Serves, Blocks, Reports}
 use Rattle.simplex_member.specs.First.{IsFirst}
 use Rattle.simplex_member.specs.Laws.{AreReadBack, DoAttestAlike, HoldsNoVote, IsRefusedFor, ReadsAsPacket, RecordLaws, RoundLaws}
-use Rattle.simplex_member.specs.Lives.{AreFaithful, Carries, HandedOut, HandsOutBytes, LiveByNodes, Members}
+use Rattle.simplex_member.specs.Lives.{AreFaithful, Carries, HandedOut, HasBytes, LiveByNodes, Members}
 use Rattle.simplex_member.specs.Packet.{Formats, IsReadable, Packet, of_ask, of_certificate, of_vote, packet_channel, packet_of}
 use Rattle.simplex_member.specs.Point.{Point, History}
 use Rattle.simplex_member.specs.Recorded.{record_of, recorded_by}
@@ -180,7 +180,7 @@ module _ {S D P G C : Type 0} (g : Ghosts S D P G C) (f : Formats S D P G C) (sc
           subst (λ (c : Channel). f.packet_in c bytes ≡ Some x) (sym e) (subst (λ (l : List ℕ). f.packet_in at l ≡ Some x) (sym b) read)
 
       -- each packet in its name reads as such a one
-      handed-read : (by : Channel) (bytes : List ℕ) (d : Deed S D P G C) → HandedOut g f scheme m world j d → HandsOutBytes g f scheme m world by bytes d → IsRead by bytes
+      handed-read : (by : Channel) (bytes : List ℕ) (d : Deed S D P G C) → HandedOut g f scheme m world j d → HasBytes g f scheme m world by bytes d → IsRead by bytes
       handed-read by bytes (Sends to x) out is = record {
         x = x;
         is = at-channel by (packet_channel x) bytes (f.packet x) x is.0 is.1 (back.again x (sent-readable to x out));

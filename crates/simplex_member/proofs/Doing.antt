@@ -19,7 +19,7 @@ use Rattle.voter_history.specs.Past.{forwardable_proposal}
 use Rattle.voter_history.specs.History.{seen}
 use Rattle.voter_history.specs.Leaders.{leader}
 use Rattle.simplex_resolver.specs.Answers.{produced}
-use Rattle.simplex_member.specs.Deeds.{Deed, HandsTo, Sends, Serves, Blocks, Builds, Verifies, Certifies, HandsOn, Finalizes, Reports, built_deeds, certificate_deeds, deeds_of, entered_deeds, entry_deeds, final_deeds, hands_on, own_way, recipients, report_deeds, silent}
+use Rattle.simplex_member.specs.Deeds.{Deed, RelaysTo, Sends, Serves, Blocks, Builds, Verifies, Certifies, Relays, Finalizes, Reports, built_deeds, certificate_deeds, deeds_of, entered_deeds, entry_deeds, final_deeds, relay_deeds, own_way, recipients, report_deeds, silent}
 use Rattle.simplex_member.specs.Laws.{IsDeedOf}
 use Rattle.simplex_member.specs.Layers.{current_of, finalized_of, repair_of, voter_of}
 use Rattle.simplex_member.specs.Packet.{Formats, of_vote, of_certificate, of_ask}
@@ -61,9 +61,9 @@ module _ {S D P G C : Type 0} (g : Ghosts S D P G C) (f : Formats S D P G C) (s 
   abbrev Are : List (Deed S D P G C) → Type 0
   Are deeds = Covers (λ d. IsDeedOf g f s h p d) deeds
 
-  hands-are : (q : Proposal D) (xs : List ℕ) → Are (hands_on q xs)
+  hands-are : (q : Proposal D) (xs : List ℕ) → Are (relay_deeds q xs)
   hands-are q [] = covers-nil (λ d. IsDeedOf g f s h p d)
-  hands-are q (x ∷ xs) = covers-cons (λ d. IsDeedOf g f s h p d) (HandsOn q.payload (HandsTo q.round (x ∷ xs))) [] tt (covers-nil (λ d. IsDeedOf g f s h p d))
+  hands-are q (x ∷ xs) = covers-cons (λ d. IsDeedOf g f s h p d) (Relays q.payload (RelaysTo q.round (x ∷ xs))) [] tt (covers-nil (λ d. IsDeedOf g f s h p d))
 
   final-are : (low : ℕ) (c : Certificate S D P G C) → Are (final_deeds low c)
   final-are low (certificate.Notarization c) = covers-nil (λ d. IsDeedOf g f s h p d)
@@ -72,13 +72,13 @@ module _ {S D P G C : Type 0} (g : Ghosts S D P G C) (f : Formats S D P G C) (s 
       (covers-cons (λ d. IsDeedOf g f s h p d) (Finalizes c.proposal) [] tt (covers-nil (λ d. IsDeedOf g f s h p d)))
 
   built-are : (round : Round) (handoff : Bool) (payload : Option D) (took : Bool) → Are (built_deeds round handoff payload took)
-  built-are round handoff (Some d) true = covers-cons (λ d. IsDeedOf g f s h p d) (HandsOn d (own_way handoff round)) [] tt (covers-nil (λ d. IsDeedOf g f s h p d))
+  built-are round handoff (Some d) true = covers-cons (λ d. IsDeedOf g f s h p d) (Relays d (own_way handoff round)) [] tt (covers-nil (λ d. IsDeedOf g f s h p d))
   built-are round handoff (Some d) false = covers-nil (λ d. IsDeedOf g f s h p d)
   built-are round handoff None true = covers-nil (λ d. IsDeedOf g f s h p d)
   built-are round handoff None false = covers-nil (λ d. IsDeedOf g f s h p d)
 
   entry-are : (k : History S D P G C) (view before : ℕ) → Are (entry_deeds g f s k view before)
-  entry-are k view before = covers-each (λ d. IsDeedOf g f s h p d) (λ q. hands_on q (recipients s.forward (leader s.voter (voter_of s k) view) (silent g f s k before q))) (forwardable_proposal (seen s.voter (voter_of s k) before))
+  entry-are k view before = covers-each (λ d. IsDeedOf g f s h p d) (λ q. relay_deeds q (recipients s.forward (leader s.voter (voter_of s k) view) (silent g f s k before q))) (forwardable_proposal (seen s.voter (voter_of s k) before))
       (λ q is. hands-are q (recipients s.forward (leader s.voter (voter_of s k) view) (silent g f s k before q)))
 
   entered-are : Are (entered_deeds g f s h p)

@@ -24,7 +24,7 @@ use Rattle.voter_history.specs.Past as past
 use Rattle.voter_rules.specs.Answers.{best_certificate, covering_nullification, entry_certificate, last_of}
 use Rattle.voter_rules.specs.Building.{proposal_on}
 use Rattle.simplex_member.specs.Layers.{casts, finalizes_above, finds, latest, reason_of, takes_certificate, takes_outcome, voter_of, voter_points}
-use Rattle.simplex_member.specs.Point.{Outcome, Counts, Falls, Passes, Point, Opened, Found, Began, Came, Built, Checked, Judged, Forwards, Constructs, Latches, Looks, AsksBuild, AsksVerify, AsksCertify, GivesBack, PutsOff, Resolves, Votes, Repeats, History}
+use Rattle.simplex_member.specs.Point.{Outcome, Counts, Falls, Passes, Point, Opened, Found, Began, Came, Built, Checked, Judged, Forwards, Constructs, Latches, Polls, AsksBuild, AsksVerify, AsksCertify, GivesBack, PutsOff, Resolves, Votes, Repeats, History}
 use Rattle.simplex_member.specs.Recorded.{record_of, recorded_by}
 use Rattle.simplex_member.specs.Setup.{Setup}
 use Rattle.simplex_member.proofs.Lists.{put-before, put-here, some-is}
@@ -276,7 +276,7 @@ module _ {S D P G C : Type 0} (s : Setup S D C) where
   point-records now low (Forwards view q) = records-plain (Forwards view q) (views.forwarded view q) [] refl (records-nil (Forwards view q))
   point-records now low (Constructs view kind_ batch) = made-records (Constructs view kind_ batch) now low batch.certificate refl
   point-records now low (Latches view why) = records-plain (Latches view why) (views.latched now view why) [] refl (records-nil (Latches view why))
-  point-records now low Looks = records-plain Looks (views.polled now) [] refl (records-nil Looks)
+  point-records now low Polls = records-plain Polls (views.polled now) [] refl (records-nil Polls)
   point-records now low (AsksBuild number handoff context) = records-plain (AsksBuild number handoff context) (views.build_asked context.round.view) [] refl (records-nil (AsksBuild number handoff context))
   point-records now low (AsksVerify number context q) = records-plain (AsksVerify number context q) (views.verify_asked context.round.view q context.parent.1) [] refl (records-nil (AsksVerify number context q))
   point-records now low (AsksCertify q) = records-plain (AsksCertify q) (views.certify_asked q.round.view (record { 0 = q.round.view })) [] refl (records-nil (AsksCertify q))

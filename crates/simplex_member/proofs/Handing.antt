@@ -20,7 +20,7 @@ use Rattle.voter_history.specs.Past.{forwardable_proposal}
 use Rattle.voter_history.specs.History.{seen}
 use Rattle.voter_history.specs.Leaders.{leader}
 use Rattle.simplex_resolver.specs.Answers.{produced}
-use Rattle.simplex_member.specs.Deeds.{Deed, Way, HandsTo, Sends, Serves, Blocks, Builds, Verifies, Certifies, HandsOn, Finalizes, Reports, built_deeds, certificate_deeds, deeds_of, entered_deeds, entry_deeds, final_deeds, hands_on, own_way, recipients, report_deeds, silent}
+use Rattle.simplex_member.specs.Deeds.{Deed, Way, RelaysTo, Sends, Serves, Blocks, Builds, Verifies, Certifies, Relays, Finalizes, Reports, built_deeds, certificate_deeds, deeds_of, entered_deeds, entry_deeds, final_deeds, relay_deeds, own_way, recipients, report_deeds, silent}
 use Rattle.simplex_member.specs.Layers.{current_of, finalized_of, repair_of, voter_of}
 use Rattle.simplex_member.specs.Packet.{Formats, of_vote, of_certificate, of_ask}
 use Rattle.simplex_member.specs.Point.{Point, Found, Began, Heard, Came, Wanted, Built, Judged, Constructs, AsksBuild, AsksVerify, AsksCertify, Asks, Votes, Repeats, History}
@@ -36,7 +36,7 @@ pub record PassesBy {S D P G C Y : Type 0} (f : Deed S D P G C → Option Y) : T
   pub builds : (number : ℕ) (handoff : Bool) (context : Context D P) → f (Builds number handoff context) ≡ None
   pub verifies : (number : ℕ) (context : Context D P) (p : Proposal D) → f (Verifies number context p) ≡ None
   pub certifies : (p : Proposal D) → f (Certifies p) ≡ None
-  pub hands : (payload : D) (way : Way) → f (HandsOn payload way) ≡ None
+  pub hands : (payload : D) (way : Way) → f (Relays payload way) ≡ None
   pub finalizes : (p : Proposal D) → f (Finalizes p) ≡ None
   pub reports : (a : Activity S D P G C) → f (Reports a) ≡ None
 
@@ -49,9 +49,9 @@ module _ {S D P G C : Type 0} where
   first_deeds p = []
 
 module _ {S D P G C Y : Type 0} (f : Deed S D P G C → Option Y) (passes : PassesBy f) where
-  lacks-hands : (p : Proposal D) (xs : List ℕ) → Lacks f (hands_on p xs)
+  lacks-hands : (p : Proposal D) (xs : List ℕ) → Lacks f (relay_deeds p xs)
   lacks-hands p [] = lacks-nil f
-  lacks-hands p (x ∷ xs) = lacks-one f (HandsOn p.payload (HandsTo p.round (x ∷ xs))) (passes.hands p.payload (HandsTo p.round (x ∷ xs)))
+  lacks-hands p (x ∷ xs) = lacks-one f (Relays p.payload (RelaysTo p.round (x ∷ xs))) (passes.hands p.payload (RelaysTo p.round (x ∷ xs)))
 
   lacks-final : (low : ℕ) (c : Certificate S D P G C) → Lacks f (final_deeds low c)
   lacks-final low (certificate.Notarization c) = lacks-nil f
@@ -59,7 +59,7 @@ module _ {S D P G C Y : Type 0} (f : Deed S D P G C → Option Y) (passes : Pass
   lacks-final low (certificate.Finalization c) = lacks-if f (nat_lt low c.proposal.round.view) (Finalizes c.proposal ∷ []) (lacks-one f (Finalizes c.proposal) (passes.finalizes c.proposal))
 
   lacks-built : (round : Round) (handoff : Bool) (payload : Option D) (took : Bool) → Lacks f (built_deeds round handoff payload took)
-  lacks-built round handoff (Some d) true = lacks-one f (HandsOn d (own_way handoff round)) (passes.hands d (own_way handoff round))
+  lacks-built round handoff (Some d) true = lacks-one f (Relays d (own_way handoff round)) (passes.hands d (own_way handoff round))
   lacks-built round handoff (Some d) false = lacks-nil f
   lacks-built round handoff None true = lacks-nil f
   lacks-built round handoff None false = lacks-nil f
@@ -69,7 +69,7 @@ module _ {S D P G C Y : Type 0} (f : Deed S D P G C → Option Y) (passes : Pass
     lacks-reports h x = lacks-map f Reports (reported (record_of h) x) passes.reports
 
     lacks-entry : (h : History S D P G C) (view before : ℕ) → Lacks f (entry_deeds g m s h view before)
-    lacks-entry h view before = lacks-each f (λ p. hands_on p (recipients s.forward (leader s.voter (voter_of s h) view) (silent g m s h before p))) (forwardable_proposal (seen s.voter (voter_of s h) before))
+    lacks-entry h view before = lacks-each f (λ p. relay_deeds p (recipients s.forward (leader s.voter (voter_of s h) view) (silent g m s h before p))) (forwardable_proposal (seen s.voter (voter_of s h) before))
         (λ p. lacks-hands p (recipients s.forward (leader s.voter (voter_of s h) view) (silent g m s h before p)))
 
     lacks-entered : (h : History S D P G C) (p : Point S D P G C) → Lacks f (entered_deeds g m s h p)

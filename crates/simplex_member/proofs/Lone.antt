@@ -53,7 +53,7 @@ use Rattle.simplex_member.specs.Laws.{IsKeptView, RecordLaws, RoundLaws, raises}
 use Rattle.simplex_member.specs.Layers.{all_votes, current_of, finalized_of, finalizes_above, floor_of, has_room, known_of, latest, opened, opens, passes_over, stage, takes_certificate, voter_of, voter_points, votes_of}
 use Rattle.simplex_member.specs.Member.{AreStep, Goes, IsPacketPoint, IsPointOf}
 use Rattle.simplex_member.specs.Packet.{Formats, Packet, of_ask, of_certificate, of_vote}
-use Rattle.simplex_member.specs.Point.{Counts, Falls, Passes, AreActs, Point, Opened, Found, Began, Told, Heard, Came, Wanted, Built, Checked, Judged, Leads, Forwards, Constructs, Latches, Looks, AsksBuild, AsksVerify, AsksCertify, GivesBack, LeavesBehind, PutsOff, Asks, Resolves, Votes, Repeats, History, is_act}
+use Rattle.simplex_member.specs.Point.{Counts, Falls, Passes, AreActs, Point, Opened, Found, Began, Told, Heard, Came, Wanted, Built, Checked, Judged, Leads, Forwards, Constructs, Latches, Polls, AsksBuild, AsksVerify, AsksCertify, GivesBack, LeavesBehind, PutsOff, Asks, Resolves, Votes, Repeats, History, is_act}
 use Rattle.simplex_member.specs.Recorded.{record_of, recorded_by}
 use Rattle.simplex_member.specs.Setup.{Setup, DeadlinesLieAhead, GoesByMembers, IsInTime, member_of}
 use Rattle.simplex_member.proofs.Ballots.{some-from, stage-kept}
@@ -436,7 +436,7 @@ module _ {S D P G C : Type 0} (g : Ghosts S D P G C) (f : Formats S D P G C) (s 
         act-puts (Forwards at x) h all q act now low view enters_so = (tt, tt)
         act-puts (Constructs at kind batch) h all q act now low view enters_so = made-puts now low batch.certificate view enters_so
         act-puts (Latches at why) h all q act now low view enters_so = absurd (no-reason h all at why q.due.0)
-        act-puts Looks h all q act now low view enters_so = (tt, tt)
+        act-puts Polls h all q act now low view enters_so = (tt, tt)
         act-puts (AsksBuild number handoff context) h all q act now low view enters_so = (tt, tt)
         act-puts (AsksVerify number context x) h all q act now low view enters_so = ((tt, tt), tt)
         act-puts (AsksCertify x) h all q act now low view enters_so = (tt, tt)

@@ -20,7 +20,7 @@ use Rattle.simplex_member.specs.Asked.{build_at}
 use Rattle.simplex_member.specs.Laws.{RoundLaws}
 use Rattle.simplex_member.specs.Layers.{finalizes_above, finds, latest, takes_certificate, takes_outcome, voter_of}
 use Rattle.simplex_member.specs.Packet.{Formats}
-use Rattle.simplex_member.specs.Point.{Outcome, Counts, Falls, Passes, Point, Opened, Found, Began, Came, Built, Checked, Judged, Forwards, Constructs, Latches, Looks, AsksBuild, AsksVerify, AsksCertify, GivesBack, LeavesBehind, PutsOff, Resolves, Votes, Repeats, History}
+use Rattle.simplex_member.specs.Point.{Outcome, Counts, Falls, Passes, Point, Opened, Found, Began, Came, Built, Checked, Judged, Forwards, Constructs, Latches, Polls, AsksBuild, AsksVerify, AsksCertify, GivesBack, LeavesBehind, PutsOff, Resolves, Votes, Repeats, History}
 use Rattle.simplex_member.specs.Setup.{Setup}
 use Rattle.simplex_member.proofs.Ballots.{certificate-epoch}
 use Rattle.simplex_member.proofs.Binding.{forwarded-round, gone, under}
@@ -89,7 +89,7 @@ module _ {S D P G C : Type 0} (g : Ghosts S D P G C) (f : Formats S D P G C) (s 
     placed-point (Forwards view p) h a all placed = (forwarded-round g f s laws h all view p a, placed)
     placed-point (Constructs view made batch) h a all placed = placed-option s.voter _ _ batch.certificate (voter_of s h) (made-epoch h batch.certificate a.fits) placed
     placed-point (Latches view why) h a all placed = (tt, placed)
-    placed-point Looks h a all placed = (tt, placed)
+    placed-point Polls h a all placed = (tt, placed)
     placed-point (AsksBuild number handoff context) h a all placed = (tt, placed)
     placed-point (AsksVerify number context p) h a all placed = (tt, placed)
     placed-point (AsksCertify p) h a all placed = (tt, placed)

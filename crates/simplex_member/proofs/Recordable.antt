@@ -26,7 +26,7 @@ use Rattle.voter_laws.specs.Matching.{IsOrderly, Matches, IsBound, EachHistoryMa
 use Rattle.simplex_member.specs.Allowed.{Allowed, AreAllowed, GivesUp, VoteIsDue}
 use Rattle.simplex_member.specs.Layers.{current_of, finalizes_above, given, known_of, latest, takes_certificate, takes_outcome, voter_of, voter_points}
 use Rattle.simplex_member.specs.Packet.{Formats}
-use Rattle.simplex_member.specs.Point.{Outcome, Counts, Falls, Passes, Point, Opened, Found, Began, Told, Heard, Came, Wanted, Built, Checked, Judged, Forwards, Constructs, Latches, Looks, AsksBuild, AsksVerify, AsksCertify, GivesBack, PutsOff, Resolves, Votes, Repeats, History}
+use Rattle.simplex_member.specs.Point.{Outcome, Counts, Falls, Passes, Point, Opened, Found, Began, Told, Heard, Came, Wanted, Built, Checked, Judged, Forwards, Constructs, Latches, Polls, AsksBuild, AsksVerify, AsksCertify, GivesBack, PutsOff, Resolves, Votes, Repeats, History}
 use Rattle.simplex_member.specs.Recorded.{record_of}
 use Rattle.simplex_member.specs.Setup.{Setup, member_of}
 use Rattle.simplex_member.proofs.Orderly.{AreInPlace, all-taken, place-behind}
@@ -92,7 +92,7 @@ module _ {S D P G C : Type 0} where
     recalled-here now low (Forwards v p) view ok here = absurd (lacks-absurd recall_in (voter_points s now low (Forwards v p)) (recalled_verdict view ok) (view, ok) (lacks-one recall_in _ refl) refl here)
     recalled-here now low (Constructs v kind batch) view ok here = absurd (lacks-absurd recall_in (voter_points s now low (Constructs v kind batch)) (recalled_verdict view ok) (view, ok) (none-option now low batch.certificate) refl here)
     recalled-here now low (Latches v why) view ok here = absurd (lacks-absurd recall_in (voter_points s now low (Latches v why)) (recalled_verdict view ok) (view, ok) (lacks-one recall_in _ refl) refl here)
-    recalled-here now low Looks view ok here = absurd (lacks-absurd recall_in (voter_points s now low Looks) (recalled_verdict view ok) (view, ok) (lacks-one recall_in _ refl) refl here)
+    recalled-here now low Polls view ok here = absurd (lacks-absurd recall_in (voter_points s now low Polls) (recalled_verdict view ok) (view, ok) (lacks-one recall_in _ refl) refl here)
     recalled-here now low (AsksBuild number handoff context) view ok here = absurd (lacks-absurd recall_in (voter_points s now low (AsksBuild number handoff context)) (recalled_verdict view ok) (view, ok) (lacks-one recall_in _ refl) refl here)
     recalled-here now low (AsksVerify number context p) view ok here = absurd (lacks-absurd recall_in (voter_points s now low (AsksVerify number context p)) (recalled_verdict view ok) (view, ok) (lacks-one recall_in _ refl) refl here)
     recalled-here now low (AsksCertify p) view ok here = absurd (lacks-absurd recall_in (voter_points s now low (AsksCertify p)) (recalled_verdict view ok) (view, ok) (lacks-one recall_in _ refl) refl here)

@@ -41,7 +41,7 @@ use Rattle.simplex_resolver.specs.Outstanding.{IsOutstanding}
 use Rattle.simplex_member.specs.Asked.{HasNumber, IsAnswered, IsAwaited, ancestry, backfill, build_at, check_at, last_heard, next_number}
 use Rattle.simplex_member.specs.Layers.{current_of, finalized_of, is_begun, known_of, latest, reason_of, repair_of, stage, voter_of, votes_of, votes_setup}
 use Rattle.simplex_member.specs.Packet.{Formats, IsRecordable}
-use Rattle.simplex_member.specs.Point.{Outcome, Counts, Falls, Passes, Point, Opened, Found, Began, Told, Heard, Came, Wanted, Built, Checked, Judged, Leads, Forwards, Constructs, Latches, Looks, AsksBuild, AsksVerify, AsksCertify, GivesBack, LeavesBehind, PutsOff, Asks, Resolves, Votes, Repeats, History}
+use Rattle.simplex_member.specs.Point.{Outcome, Counts, Falls, Passes, Point, Opened, Found, Began, Told, Heard, Came, Wanted, Built, Checked, Judged, Leads, Forwards, Constructs, Latches, Polls, AsksBuild, AsksVerify, AsksCertify, GivesBack, LeavesBehind, PutsOff, Asks, Resolves, Votes, Repeats, History}
 use Rattle.simplex_member.specs.Recorded.{added_by, record_of, recorded_by}
 use Rattle.simplex_member.specs.Refusals.{AdmitsVote}
 use Rattle.simplex_member.specs.Setup.{Setup, IsInTime, owner_of, member_of}
@@ -207,7 +207,7 @@ module _ {S D P G C : Type 0} (g : Ghosts S D P G C) (f : Formats S D P G C) (s 
   IsDue h (Constructs view kind batch) = (stage s h view ≡ Some false) × (next_kind f.same (votes_setup s g h view) (votes_of s h view) ≡ Some kind)
       × IsBatch g f.same (votes_setup s g h view) kind (votes_of s h view) batch
   IsDue h (Latches view why) = HasReason h view why × MayLatch s.voter (voter_of s h) view why
-  IsDue h Looks = ⊤
+  IsDue h Polls = ⊤
   IsDue h (AsksBuild number handoff context) = AsksFor h number handoff context
   IsDue h (AsksVerify number context p) = AsksToVerify h number context p
   IsDue h (AsksCertify p) = CertifyIsDue (member_of s) (known_of s h) p.round.view p

@@ -37,7 +37,7 @@ use Rattle.simplex_member.specs.Setup.{Setup}
 pub data Way : Type 0 where
   Prepares : Round → Way
   Proposes : Round → Way
-  HandsTo : Round → List ℕ → Way
+  RelaysTo : Round → List ℕ → Way
 
 -- what a node hands out
 pub data Deed (S D P G C : Type 0) : Type 0 where
@@ -50,7 +50,7 @@ pub data Deed (S D P G C : Type 0) : Type 0 where
   Builds : ℕ → Bool → Context D P → Deed S D P G C
   Verifies : ℕ → Context D P → Proposal D → Deed S D P G C
   Certifies : Proposal D → Deed S D P G C
-  HandsOn : D → Way → Deed S D P G C
+  Relays : D → Way → Deed S D P G C
   Finalizes : Proposal D → Deed S D P G C
   -- what was taken or done; when the node wants to be told the time
   Reports : Activity S D P G C → Deed S D P G C
@@ -60,7 +60,7 @@ pub data Deed (S D P G C : Type 0) : Type 0 where
 abbrev pub IsPlan : Plan ℕ → Way → Type 0
 IsPlan (plan.Prepare round) (Prepares r) = round ≡ r
 IsPlan (plan.Propose round) (Proposes r) = round ≡ r
-IsPlan (plan.Forward round recipients) (HandsTo r members) = (round ≡ r) × (recipients.items ≡ members)
+IsPlan (plan.Forward round recipients) (RelaysTo r members) = (round ≡ r) × (recipients.items ≡ members)
 IsPlan x way = ⊥
 
 -- who of the silent gets a payload: all, or the leader if it is one
@@ -83,7 +83,7 @@ module _ {S D P G C : Type 0} where
   IsAction f (action.Build number handoff context) (Builds n h c) = (number ≡ n) × (handoff ≡ h) × (context ≡ c)
   IsAction f (action.Verify number context p) (Verifies n c q) = (number ≡ n) × (context ≡ c) × (p ≡ q)
   IsAction f (action.Certify p) (Certifies q) = p ≡ q
-  IsAction f (action.Forward payload x) (HandsOn d way) = (payload ≡ d) × IsPlan x way
+  IsAction f (action.Forward payload x) (Relays d way) = (payload ≡ d) × IsPlan x way
   IsAction f (action.Finalized p) (Finalizes q) = p ≡ q
   IsAction f (action.Report a) (Reports b) = a ≡ b
   IsAction f (action.Wake now) (Wakes t) = now ≡ t
@@ -96,13 +96,13 @@ module _ {S D P G C : Type 0} where
   AreActions f actions deeds = ⊥
 
   -- a payload goes to these, if to any
-  abbrev pub hands_on : Proposal D → List ℕ → List (Deed S D P G C)
-  hands_on p [] = []
-  hands_on p (i ∷ members) = HandsOn p.payload (HandsTo p.round (i ∷ members)) ∷ []
+  abbrev pub relay_deeds : Proposal D → List ℕ → List (Deed S D P G C)
+  relay_deeds p [] = []
+  relay_deeds p (i ∷ members) = Relays p.payload (RelaysTo p.round (i ∷ members)) ∷ []
 
   -- an own proposal was recorded
   abbrev pub built_deeds : Round → Bool → Option D → Bool → List (Deed S D P G C)
-  built_deeds round handoff (Some payload) true = HandsOn payload (own_way handoff round) ∷ []
+  built_deeds round handoff (Some payload) true = Relays payload (own_way handoff round) ∷ []
   built_deeds round handoff payload took = []
 
   -- a certificate makes a proposal final, above this view
@@ -119,7 +119,7 @@ module _ {S D P G C : Type 0} where
     -- behind the entry of a view the payload of the view before, where it may be forwarded, goes to those who may lack it
     abbrev pub entry_deeds : History S D P G C → ℕ → ℕ → List (Deed S D P G C)
     entry_deeds h view before =
-        unwrap_or (option_map (λ p. hands_on p (recipients s.forward (leader s.voter (voter_of s h) view) (silent h before p)))
+        unwrap_or (option_map (λ p. relay_deeds p (recipients s.forward (leader s.voter (voter_of s h) view) (silent h before p)))
         (forwardable_proposal (seen s.voter (voter_of s h) before))) []
 
     -- a point entered a view

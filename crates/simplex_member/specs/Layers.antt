@@ -26,7 +26,7 @@ use Rattle.batcher_verifier.specs.ConstructionResult.{after}
 use Rattle.simplex_resolver.specs.RepairHistory as repair
 use Rattle.simplex_resolver.specs.RepairHistory.{Item, Replayed, item_of}
 use Rattle.simplex_member.specs.Packet.{Formats}
-use Rattle.simplex_member.specs.Point.{Outcome, Counts, Falls, Passes, Point, Opened, Found, Began, Told, Heard, Came, Built, Checked, Judged, Leads, Forwards, Constructs, Latches, Looks, AsksBuild, AsksVerify, AsksCertify, GivesBack, PutsOff, Resolves, Votes, Repeats, History}
+use Rattle.simplex_member.specs.Point.{Outcome, Counts, Falls, Passes, Point, Opened, Found, Began, Told, Heard, Came, Built, Checked, Judged, Leads, Forwards, Constructs, Latches, Polls, AsksBuild, AsksVerify, AsksCertify, GivesBack, PutsOff, Resolves, Votes, Repeats, History}
 use Rattle.simplex_member.specs.Recorded.{notarization_in, record_of}
 use Rattle.simplex_member.specs.Setup.{Setup}
 
@@ -122,7 +122,7 @@ module _ {S D P G C : Type 0} where
     voter_points now low (Forwards view p) = forwarded view p ∷ []
     voter_points now low (Constructs view kind batch) = unwrap_or (option_map (takes_certificate now low) batch.certificate) []
     voter_points now low (Latches view why) = latched now view why ∷ []
-    voter_points now low Looks = polled now ∷ []
+    voter_points now low Polls = polled now ∷ []
     voter_points now low (AsksBuild number handoff context) = build_asked context.round.view ∷ []
     voter_points now low (AsksVerify number context p) = verify_asked context.round.view p context.parent.1 ∷ []
     voter_points now low (AsksCertify p) = certify_asked p.round.view (record { 0 = p.round.view }) ∷ []

@@ -153,16 +153,16 @@ module _ {S D P G C : Type 0} (g : Ghosts S D P G C) (f : Formats S D P G C) (sc
     pub honest : (i sender : ℕ) → IsCorrect world i → (x : Packet S D P G C) → CameIn i sender x → IsHonestPacket x
 
   -- a deed hands out these bytes by this channel
-  abbrev pub HandsOutBytes : Channel → List ℕ → Deed S D P G C → Type 0
-  HandsOutBytes by bytes (Sends to x) = (by ≡ packet_channel x) × (bytes ≡ f.packet x)
-  HandsOutBytes by bytes (Serves member served) = (by ≡ channel.Certificates) × (bytes ≡ served)
-  HandsOutBytes by bytes d = ⊥
+  abbrev pub HasBytes : Channel → List ℕ → Deed S D P G C → Type 0
+  HasBytes by bytes (Sends to x) = (by ≡ packet_channel x) × (bytes ≡ f.packet x)
+  HasBytes by bytes (Serves member served) = (by ≡ channel.Certificates) × (bytes ≡ served)
+  HasBytes by bytes d = ⊥
 
   -- a packet in a correct member's name was handed out by one of its nodes
   pub record AreFaithful : Type 0 where
     pub handed : (i j : ℕ) (e : Event D) (by : Channel) (bytes : List ℕ) → IsCorrect world i → IsCorrect world j → WasHanded i e
         → Carries e j by bytes
-        → (d : Deed S D P G C) × HandedOut j d × HandsOutBytes by bytes d
+        → (d : Deed S D P G C) × HandedOut j d × HasBytes by bytes d
 
 -- at most as many are excused as may be faulty
 pub record AtMostFLie {S D P G C : Type 0} (world : World S D P G C) : Type 0 where

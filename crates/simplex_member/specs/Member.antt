@@ -79,8 +79,8 @@ module _ {S D P G C : Type 0} (g : Ghosts S D P G C) (f : Formats S D P G C) (s 
     pub undecided : past.is_undecided (seen s.voter (voter_of s h) view) ≡ true
 
   -- once the current view was given up, it is known when that is due again
-  abbrev pub IsLooked : History S D P G C → Type 0
-  IsLooked h = past.has_nullified (seen s.voter (voter_of s h) (current_of s h)) ≡ true
+  abbrev pub RetryIsKnown : History S D P G C → Type 0
+  RetryIsKnown h = past.has_nullified (seen s.voter (voter_of s h) (current_of s h)) ≡ true
       → IsSome (past.retry (seen s.voter (voter_of s h) (current_of s h)))
 
   -- no own vote is due
@@ -88,7 +88,7 @@ module _ {S D P G C : Type 0} (g : Ghosts S D P G C) (f : Formats S D P G C) (s 
     pub no_notarize : (view : ℕ) → ¬ NotarizeIsDue (member_of s) (known_of s h) view
     pub no_nullify : ¬ NullifyIsDue s.voter (voter_of s h) (latest h)
     pub no_finalize : (view : ℕ) → ¬ FinalizeIsDue (member_of s) (known_of s h) view
-    pub looked : IsLooked h
+    pub retry_known : RetryIsKnown h
 
   -- nothing is to be asked of the application, and no build is to be given back
   pub record NoRequestIsDue (h : History S D P G C) : Type 0 where
@@ -166,7 +166,7 @@ module _ {S D P G C : Type 0} (g : Ghosts S D P G C) (f : Formats S D P G C) (s 
     pub none_due : NoneDue end
 
   -- these actions are what points hand out, with the wake of where they led as the last
-  pub record HandsOut (h : History S D P G C) (points : List (Point S D P G C)) (end : History S D P G C) (actions : List (Action S D P G C)) : Type 0 where
+  pub record AreActionsOf (h : History S D P G C) (points : List (Point S D P G C)) (end : History S D P G C) (actions : List (Action S D P G C)) : Type 0 where
     pub last : List (Deed S D P G C)
     pub wakes : EndsWith end last
     pub are : AreActions f actions (all_deeds g f s h points ++ last)
@@ -176,7 +176,7 @@ module _ {S D P G C : Type 0} (g : Ghosts S D P G C) (f : Formats S D P G C) (s 
     pub points : List (Point S D P G C)
     pub step : AreStep h e points
     pub rests : Rests h points end
-    pub hands_out : HandsOut h points end actions
+    pub hands_out : AreActionsOf h points end actions
 
   -- one step: the first test that applies refuses the event, or it is taken
   abbrev pub Steps : History S D P G C → Event D → Reply S D P G C → History S D P G C → Type 0
@@ -195,7 +195,7 @@ module _ {S D P G C : Type 0} (g : Ghosts S D P G C) (f : Formats S D P G C) (s 
     pub points : List (Point S D P G C)
     pub opening : AreOpening now found points
     pub rests : Rests [] points end
-    pub hands_out : HandsOut [] points end actions
+    pub hands_out : AreActionsOf [] points end actions
 
   -- ---- a crash at any moment
 

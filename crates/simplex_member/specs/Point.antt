@@ -39,9 +39,9 @@ pub data Point (S D P G C : Type 0) : Type 0 where
   Leads : ℕ → ℕ → Point S D P G C
   Forwards : ℕ → Proposal D → Point S D P G C
   Constructs : ℕ → Kind → Batch (Certificate S D P G C) → Point S D P G C
-  -- a reason to give a view up counts; the next timeout was looked at
+  -- a reason to give a view up counts; the next timeout was polled
   Latches : ℕ → TimeoutReason → Point S D P G C
-  Looks : Point S D P G C
+  Polls : Point S D P G C
   -- asked of the application: a build under this number, for a handoff or not; a verification; a verdict. A build in a view is given
   -- back, or left behind with its view. A verdict on a view waits for the view before
   AsksBuild : ℕ → Bool → Context D P → Point S D P G C

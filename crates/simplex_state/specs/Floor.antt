@@ -19,14 +19,14 @@ module _ {S D P G C : Type 0} where
 
 module _ {S L D P G C : Type 0} where
   -- the finalization of the view was handed out, where it is known and wasn't handed out before
-  pub record HandsOut (g : Ghosts S D P G C) (e : elector.Ghosts L S D P G C) (s : Setup S C) (state : State S L D P G C) (h : List (Point S D P G C)) (view : ℕ) (copy : Option (Finalization S D P G C)) : Type 0 where
+  pub record Broadcasts (g : Ghosts S D P G C) (e : elector.Ghosts L S D P G C) (s : Setup S C) (state : State S L D P G C) (h : List (Point S D P G C)) (view : ℕ) (copy : Option (Finalization S D P G C)) : Type 0 where
     pub answer : copy ≡ (if past.has_sent_finalization (seen s h view) then None else past.finalization (seen s h view))
     pub keeps : Keeps g e s state (if is_some copy then sent kind.Finalization view ∷ h else h)
 
   -- the finalization was taken where it had to be, and then handed out
   pub record StandsOn (g : Ghosts S D P G C) (e : elector.Ghosts L S D P G C) (s : Setup S C) (state : State S L D P G C) (now : ℕ) (h : List (Point S D P G C)) (c : Finalization S D P G C) (answer : Option (Finalization S D P G C)) : Type 0 where
-    pub taken : IsTaken s h c → HandsOut g e s state (finalized now c ∷ h) c.proposal.round.view answer
-    pub known : (IsTaken s h c → ⊥) → HandsOut g e s state h c.proposal.round.view answer
+    pub taken : IsTaken s h c → Broadcasts g e s state (finalized now c ∷ h) c.proposal.round.view answer
+    pub known : (IsTaken s h c → ⊥) → Broadcasts g e s state h c.proposal.round.view answer
 
   -- the voter started on the payload, which answers nothing, or stands on the finalization
   abbrev pub StartsOn : Ghosts S D P G C → elector.Ghosts L S D P G C → Setup S C → State S L D P G C → ℕ → List (Point S D P G C) → Floor S D P G C → Option (Finalization S D P G C) → Type 0

@@ -76,7 +76,7 @@ pub data Point (S D P G C : Type 0) : Type 0 where
   recalled_verdict : ℕ → Bool → Point S D P G C
   -- the certificate of this kind of a view was handed out, or the record says so
   sent : Kind → ℕ → Point S D P G C
-  -- the next timeout was looked at; the views that need not be kept were dropped
+  -- the next timeout was polled; the views that need not be kept were dropped
   polled : ℕ → Point S D P G C
   pruned : Point S D P G C
 

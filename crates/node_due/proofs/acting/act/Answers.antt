@@ -1,7 +1,7 @@
 use Rattle.simplex_member.specs.Packet.{formats}
-use Rattle.node_requests.specs.Asking.{is_look, is_silent}
+use Rattle.node_requests.specs.Asking.{is_poll, is_silent}
 use Rattle.node_due.specs.NoneDue.{NothingByVotes, NothingMoreToAsk, NothingToAskOnProposals}
-use Rattle.node_due.proofs.Lasting.{asks_last, both_last, itself, look_is_silent, none_is_all, none_lasts, proposals_last, votes_last}
+use Rattle.node_due.proofs.Lasting.{asks_last, both_last, itself, poll_is_silent, none_is_all, none_lasts, proposals_last, votes_last}
 use Rattle.node_due.proofs.Settling.{did_so, failed_so, none_due, tried_as, tried_behind}
 use Rattle.node_core.specs.Telling.{tells_behind, tells_ok}
 use Rattle.node_due.proofs.acting.act.Goals as goal
@@ -41,9 +41,9 @@ returns-clause-tried g c = λ s h k.
     let proposals = NothingToAskOnProposals g.S.Scheme f s in
     let votes = NothingByVotes g.S.Scheme f s in
     let asks = NothingMoreToAsk g.S.Scheme f s in
-    let last = both_last is_look (λ at. proposals at × votes at) asks (both_last is_look proposals votes (proposals_last g.S.Scheme f s law) (votes_last g.S.Scheme f s law)) (asks_last g.S.Scheme f s law) in
+    let last = both_last is_poll (λ at. proposals at × votes at) asks (both_last is_poll proposals votes (proposals_last g.S.Scheme f s law) (votes_last g.S.Scheme f s law)) (asks_last g.S.Scheme f s law) in
     tried_as (λ at all. none_due g.S.Scheme f s at all.0.0.0 all.0.0.1 all.0.1 all.1)
-    (tried_behind is_silent (itself is_silent) look_is_silent last c.in-Ok-Nothing-ask_for_more.field-0-is three (c.vote.ensures.tried s))
+    (tried_behind is_silent (itself is_silent) poll_is_silent last c.in-Ok-Nothing-ask_for_more.field-0-is three (c.vote.ensures.tried s))
 
 pub returns-in-Ok-Did-clause-faults : goal.returns-in-Ok-Did-clause-faults
 returns-in-Ok-Did-clause-faults g c = tells_ok c.in-Ok-Did.ensures.faults

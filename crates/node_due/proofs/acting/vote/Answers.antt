@@ -1,5 +1,5 @@
 use Rattle.simplex_member.specs.Packet.{formats}
-use Rattle.node_requests.specs.Asking.{is_look, is_none}
+use Rattle.node_requests.specs.Asking.{is_poll, is_none}
 use Rattle.node_due.specs.NoneDue.{NoFinalizeToCast, NoNotarizeToCast}
 use Rattle.node_due.proofs.Lasting.{both_last, finalizes_last, itself, none_is_all, none_lasts, notarizes_last}
 use Rattle.node_due.proofs.Settling.{did_so, failed_so, tried_as, tried_behind}
@@ -26,9 +26,9 @@ pub returns-clause-tried : goal.returns-clause-tried
 returns-clause-tried g c = λ s h k.
     let f = formats {S = g.row.S.Denot} {P = g.row.S-PublicKey.Denot} g.D.PartialEq.eq g.D.Write.spelling g.S.Signature.Write.spelling g.S.Certificate.Write.spelling g.D.Read.reading g.S.Signature.Read.reading g.S.Certificate.Read.reading (g.S.Scheme.size s.voter.scheme) in
     let two = tried_behind is_none (itself is_none) (itself is_none) (none_lasts _) c.in-Ok-Nothing.field-0-is (c.in-Ok-Nothing.ensures.tried s h k) (c.in-Ok-Nothing-try_finalize.ensures.tried s) in
-    let last = both_last is_look (NoNotarizeToCast s) (NoFinalizeToCast s) (notarizes_last g.S.Scheme f s c.a_latch_changes_nothing_due.ensures.poll) (finalizes_last g.S.Scheme f s c.a_latch_changes_nothing_due.ensures.poll) in
+    let last = both_last is_poll (NoNotarizeToCast s) (NoFinalizeToCast s) (notarizes_last g.S.Scheme f s c.a_latch_changes_nothing_due.ensures.poll) (finalizes_last g.S.Scheme f s c.a_latch_changes_nothing_due.ensures.poll) in
     tried_as (λ at all. record { notarizes = all.0.0; finalizes = all.0.1; nullifies = all.1 })
-    (tried_behind is_look (none_is_all is_look) (itself is_look) last c.in-Ok-Nothing-try_finalize.field-0-is two (c.try_nullify.ensures.tried s))
+    (tried_behind is_poll (none_is_all is_poll) (itself is_poll) last c.in-Ok-Nothing-try_finalize.field-0-is two (c.try_nullify.ensures.tried s))
 
 pub returns-in-Ok-Did-clause-faults : goal.returns-in-Ok-Did-clause-faults
 returns-in-Ok-Did-clause-faults g c = tells_ok c.in-Ok-Did.ensures.faults

@@ -16,11 +16,11 @@ use Rattle.node_due.proofs.Casting.{ahead_nullify, did_fail, did_nothing, did_on
 use Rattle.node_due.proofs.casting_votes.give_up.Goals as goal
 
 pub returns-then-voted_nullify-clause-tried : goal.returns-then-voted_nullify-clause-tried
-returns-then-voted_nullify-clause-tried g c = λ s h k due looked.
-    c.repeat_nullify.ensures.tried s h k (c.current_view-view.ensures s.voter (voter_of s h) k.voter) (sym (c.voted_nullify.ensures s.voter (voter_of s h) k.voter) ∙ c.if-voted_nullify.true) due looked
+returns-then-voted_nullify-clause-tried g c = λ s h k due retry_known.
+    c.repeat_nullify.ensures.tried s h k (c.current_view-view.ensures s.voter (voter_of s h) k.voter) (sym (c.voted_nullify.ensures s.voter (voter_of s h) k.voter) ∙ c.if-voted_nullify.true) due retry_known
 
 pub returns-in-Ok-Some-clause-tried : goal.returns-in-Ok-Some-clause-tried
-returns-in-Ok-Some-clause-tried g c = λ s h k due looked.
+returns-in-Ok-Some-clause-tried g c = λ s h k due retry_known.
     let f = formats {S = g.row.S.Denot} {P = g.row.S-PublicKey.Denot} g.D.PartialEq.eq g.D.Write.spelling g.S.Signature.Write.spelling g.S.Certificate.Write.spelling g.D.Read.reading g.S.Signature.Read.reading g.S.Certificate.Read.reading (g.S.Scheme.size s.voter.scheme) in
     let v = c.in-Ok-Some.vote in
     let view = c.current_view-view.result in
@@ -36,16 +36,16 @@ returns-in-Ok-Some-clause-tried g c = λ s h k due looked.
     c.cast.ensures.did (on_ok_weaker c.cast.result (λ taken. taken s h ahead may (open_to_nullify g.S.Scheme f s h v.round view is.2.round is.0)) c.cast.ensures.taken) (λ it. c.cast.ensures.any_moment s h ahead may it)
 
 pub returns-in-Ok-None-clause-tried : goal.returns-in-Ok-None-clause-tried
-returns-in-Ok-None-clause-tried g c = λ s h k due looked.
+returns-in-Ok-None-clause-tried g c = λ s h k due retry_known.
     let f = formats {S = g.row.S.Denot} {P = g.row.S-PublicKey.Denot} g.D.PartialEq.eq g.D.Write.spelling g.S.Signature.Write.spelling g.S.Certificate.Write.spelling g.D.Read.reading g.S.Signature.Read.reading g.S.Certificate.Read.reading (g.S.Scheme.size s.voter.scheme) in
     let is = (rw c.in-Ok-None.field-0-is at c.in-Ok-None.ensures.answer) s.voter (voter_of s h) k.voter in
     let same = (rw c.in-Ok-None.field-0-is at c.in-Ok-None.ensures.keeps) s.voter (voter_of s h) k.voter in
     did_nothing g.S.Scheme g.L.Elector g.K.Disk f s is_none (NoNullifyToCast g.S.Scheme f s) c.args.core.now (record c.args.core.now { voter = c.construct_nullify.new.self }) h c.args.out.now.items
     (still_stands g.S.Scheme g.L.Elector g.K.Disk f s c.args.core.now c.construct_nullify.new.self h k same)
-    (none_to_cast g.S.Scheme f s h c.current_view-view.result (c.current_view-view.ensures s.voter (voter_of s h) k.voter) (is (ap is_some k.set_up.me_is)) looked)
+    (none_to_cast g.S.Scheme f s h c.current_view-view.result (c.current_view-view.ensures s.voter (voter_of s h) k.voter) (is (ap is_some k.set_up.me_is)) retry_known)
     (c.a_ledger_at_rest_leaves_its_record.ensures (owner_of s) c.args.core.now.ledger (record_of h) k.ledger)
 
 pub returns-in-Err-clause-tried : goal.returns-in-Err-clause-tried
-returns-in-Err-clause-tried g c = λ s h k due looked.
+returns-in-Err-clause-tried g c = λ s h k due retry_known.
     let f = formats {S = g.row.S.Denot} {P = g.row.S-PublicKey.Denot} g.D.PartialEq.eq g.D.Write.spelling g.S.Signature.Write.spelling g.S.Certificate.Write.spelling g.D.Read.reading g.S.Signature.Read.reading g.S.Certificate.Read.reading (g.S.Scheme.size s.voter.scheme) in
     did_fail g.S.Scheme g.L.Elector g.K.Disk f s is_none (NoNullifyToCast g.S.Scheme f s) c.args.core.now _ h c.args.out.now.items c.args.out.now.items step_fault.Memory (c.a_ledger_at_rest_leaves_its_record.ensures (owner_of s) c.args.core.now.ledger (record_of h) k.ledger)

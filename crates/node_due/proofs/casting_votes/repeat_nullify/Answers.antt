@@ -17,7 +17,7 @@ use Rattle.node_due.proofs.Casting.{behind_repeat, did_fail, did_nothing, did_on
 use Rattle.node_due.proofs.casting_votes.repeat_nullify.Goals as goal
 
 pub returns-in-Ok-send_again-clause-tried : goal.returns-in-Ok-send_again-clause-tried
-returns-in-Ok-send_again-clause-tried g c = λ s h k at given_up due looked.
+returns-in-Ok-send_again-clause-tried g c = λ s h k at given_up due retry_known.
     let f = formats {S = g.row.S.Denot} {P = g.row.S-PublicKey.Denot} g.D.PartialEq.eq g.D.Write.spelling g.S.Signature.Write.spelling g.S.Certificate.Write.spelling g.D.Read.reading g.S.Signature.Read.reading g.S.Certificate.Read.reading (g.S.Scheme.size s.voter.scheme) in
     let v = c.in-Some.vote.now in
     let best = c.in-Ok.best in
@@ -36,32 +36,32 @@ returns-in-Ok-send_again-clause-tried g c = λ s h k at given_up due looked.
     (λ it. left_at_rest g.S.Scheme f s h (Repeats v best) _ _ (c.a_ledger_at_rest_leaves_its_record.ensures (owner_of s) c.args.core.now.ledger (record_of h) k.ledger it))
 
 pub returns-in_default-clause-tried : goal.returns-in_default-clause-tried
-returns-in_default-clause-tried g c = λ s h k at given_up due looked.
+returns-in_default-clause-tried g c = λ s h k at given_up due retry_known.
     let f = formats {S = g.row.S.Denot} {P = g.row.S-PublicKey.Denot} g.D.PartialEq.eq g.D.Write.spelling g.S.Signature.Write.spelling g.S.Certificate.Write.spelling g.D.Read.reading g.S.Signature.Read.reading g.S.Certificate.Read.reading (g.S.Scheme.size s.voter.scheme) in
     did_fail g.S.Scheme g.L.Elector g.K.Disk f s is_none (NoNullifyToCast g.S.Scheme f s) c.args.core.now _ h c.args.out.now.items c.args.out.now.items step_fault.Memory (c.a_ledger_at_rest_leaves_its_record.ensures (owner_of s) c.args.core.now.ledger (record_of h) k.ledger)
 
 pub returns-in-Ok-None-clause-tried : goal.returns-in-Ok-None-clause-tried
-returns-in-Ok-None-clause-tried g c = λ s h k at given_up due looked.
+returns-in-Ok-None-clause-tried g c = λ s h k at given_up due retry_known.
     let f = formats {S = g.row.S.Denot} {P = g.row.S-PublicKey.Denot} g.D.PartialEq.eq g.D.Write.spelling g.S.Signature.Write.spelling g.S.Certificate.Write.spelling g.D.Read.reading g.S.Signature.Read.reading g.S.Certificate.Read.reading (g.S.Scheme.size s.voter.scheme) in
     let is = (rw c.in-Ok-None.field-0-is at c.in-Ok-None.ensures.answer) s.voter (voter_of s h) k.voter in
     let same = (rw c.in-Ok-None.field-0-is at c.in-Ok-None.ensures.keeps) s.voter (voter_of s h) k.voter in
     did_nothing g.S.Scheme g.L.Elector g.K.Disk f s is_none (NoNullifyToCast g.S.Scheme f s) c.args.core.now (record c.args.core.now { voter = c.construct_nullify.new.self }) h c.args.out.now.items
     (still_stands g.S.Scheme g.L.Elector g.K.Disk f s c.args.core.now c.construct_nullify.new.self h k same)
-    (none_to_cast g.S.Scheme f s h c.args.view at (is (ap is_some k.set_up.me_is)) looked)
+    (none_to_cast g.S.Scheme f s h c.args.view at (is (ap is_some k.set_up.me_is)) retry_known)
     (c.a_ledger_at_rest_leaves_its_record.ensures (owner_of s) c.args.core.now.ledger (record_of h) k.ledger)
 
 pub returns-in-Err-clause-tried : goal.returns-in-Err-clause-tried
-returns-in-Err-clause-tried g c = λ s h k at given_up due looked.
+returns-in-Err-clause-tried g c = λ s h k at given_up due retry_known.
     let f = formats {S = g.row.S.Denot} {P = g.row.S-PublicKey.Denot} g.D.PartialEq.eq g.D.Write.spelling g.S.Signature.Write.spelling g.S.Certificate.Write.spelling g.D.Read.reading g.S.Signature.Read.reading g.S.Certificate.Read.reading (g.S.Scheme.size s.voter.scheme) in
     did_fail g.S.Scheme g.L.Elector g.K.Disk f s is_none (NoNullifyToCast g.S.Scheme f s) c.args.core.now _ h c.args.out.now.items c.args.out.now.items step_fault.Memory (c.a_ledger_at_rest_leaves_its_record.ensures (owner_of s) c.args.core.now.ledger (record_of h) k.ledger)
 
 pub returns-in_default-last_nullify-clause-tried : goal.returns-in_default-last_nullify-clause-tried
-returns-in_default-last_nullify-clause-tried g c = λ s h k at given_up due looked.
+returns-in_default-last_nullify-clause-tried g c = λ s h k at given_up due retry_known.
     let f = formats {S = g.row.S.Denot} {P = g.row.S-PublicKey.Denot} g.D.PartialEq.eq g.D.Write.spelling g.S.Signature.Write.spelling g.S.Certificate.Write.spelling g.D.Read.reading g.S.Signature.Read.reading g.S.Certificate.Read.reading (g.S.Scheme.size s.voter.scheme) in
     did_fail g.S.Scheme g.L.Elector g.K.Disk f s is_none (NoNullifyToCast g.S.Scheme f s) c.args.core.now _ h c.args.out.now.items c.args.out.now.items step_fault.Memory (c.a_ledger_at_rest_leaves_its_record.ensures (owner_of s) c.args.core.now.ledger (record_of h) k.ledger)
 
 pub returns-in-Err-send_again-clause-tried : goal.returns-in-Err-send_again-clause-tried
-returns-in-Err-send_again-clause-tried g c = λ s h k at given_up due looked.
+returns-in-Err-send_again-clause-tried g c = λ s h k at given_up due retry_known.
     let f = formats {S = g.row.S.Denot} {P = g.row.S-PublicKey.Denot} g.D.PartialEq.eq g.D.Write.spelling g.S.Signature.Write.spelling g.S.Certificate.Write.spelling g.D.Read.reading g.S.Signature.Read.reading g.S.Certificate.Read.reading (g.S.Scheme.size s.voter.scheme) in
     did_fail g.S.Scheme g.L.Elector g.K.Disk f s is_none (NoNullifyToCast g.S.Scheme f s) c.args.core.now _ h c.args.out.now.items c.send_again.new.out.items c.in-Err-send_again.fault
     (c.a_ledger_at_rest_leaves_its_record.ensures (owner_of s) c.args.core.now.ledger (record_of h) k.ledger)

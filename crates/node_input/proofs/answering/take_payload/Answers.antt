@@ -1,6 +1,6 @@
 use Rattle.std.proofs.Common.{Some, refl}
 use Rattle.std.proofs.lemmas.Result.{on_ok_weaker}
-use Rattle.simplex_member.specs.Deeds.{HandsOn, own_way}
+use Rattle.simplex_member.specs.Deeds.{Relays, own_way}
 use Rattle.simplex_member.specs.Layers.{finalized_of, voter_of}
 use Rattle.simplex_member.specs.Packet.{formats}
 use Rattle.simplex_member.specs.Point.{Built}
@@ -36,6 +36,6 @@ returns-clause-taken g c = on_ok_weaker c.hand_out.result (λ done. λ s h k sta
         keeps = behind_payload g.S.Scheme g.L.Elector g.K.Disk f s c.args.core.now c.proposed.new.self c.end_build.new.self h c.args.number b.handoff b.context c.args.payload c.in-Ok.took c.moment-now.result
             c.silent_points_leave_votes.ensures.quiet k stands (c.moment-now.ensures low h k.tables) (c.in-Ok.ensures.keeps s.voter (voter_of s h) k.voter) (c.in-Ok.ensures.answer s.voter (voter_of s h) k.voter)
             (c.end_build.ensures.built low h k.tables b.handoff b.context (Some c.args.payload) c.in-Ok.took);
-        acts = proposed_deeds f _ _ b.context.round b.handoff c.args.payload c.in-Ok.took c.if-not-took.false (done f (HandsOn c.args.payload (own_way b.handoff b.context.round)) (refl, c.own_plan-plan.ensures));
+        acts = proposed_deeds f _ _ b.context.round b.handoff c.args.payload c.in-Ok.took c.if-not-took.false (done f (Relays c.args.payload (own_way b.handoff b.context.round)) (refl, c.own_plan-plan.ensures));
       };
     }) c.hand_out.ensures.done

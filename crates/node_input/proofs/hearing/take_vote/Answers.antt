@@ -6,7 +6,7 @@ use Rattle.node_votes.specs.KeepsVotes.{IsOpenTo}
 use Rattle.simplex_member.specs.Deeds.{Blocks, Reports}
 use Rattle.simplex_member.specs.Layers.{finalized_of}
 use Rattle.simplex_member.specs.Packet.{formats}
-use Rattle.node_outbox.specs.Handing.{HandsOut, hands_as}
+use Rattle.node_outbox.specs.Handing.{AddsDeeds, hands_as}
 use Rattle.node_input.specs.Hearing.{admission_deeds}
 use Rattle.node_input.proofs.Heeding.{deeds-added, deeds-blocked, deeds-passed, heard-keeps, is-contradiction, is-repeated, its-report, none-applies, reports-as}
 use Rattle.node_core.specs.Standing.{still-keeps}
@@ -49,7 +49,7 @@ returns-clause-heard g c = λ s h k another may.
       is-contradiction may (block.0 c.if-not-block.false),
       record {
         keeps = still-keeps k c.hear.new.self (c.in-Ok.ensures.refused c.if-added.false s h k.votes);
-        acts = subst (λ (o : Option (Activity g.row.S.Denot g.row.D.Denot g.row.S-PublicKey.Denot g.row.S-Signature.Denot g.row.S-Certificate.Denot)). HandsOut f c.args.out.now.items c.hand_admission_out.new.out.items (Blocks c.args.sender ∷ map Reports (option_to_list o))) (c.in-Ok.ensures.report s h k.votes opened)
+        acts = subst (λ (o : Option (Activity g.row.S.Denot g.row.D.Denot g.row.S-PublicKey.Denot g.row.S-Signature.Denot g.row.S-Certificate.Denot)). AddsDeeds f c.args.out.now.items c.hand_admission_out.new.out.items (Blocks c.args.sender ∷ map Reports (option_to_list o))) (c.in-Ok.ensures.report s h k.votes opened)
             (hands_as f c.args.out.now.items c.hand_admission_out.new.out.items (Blocks c.args.sender ∷ map Reports (option_to_list a.report)) (admission_deeds c.args.sender a) (sym (deeds-blocked c.args.sender a c.if-added.false c.if-not-block.false)) (c.in-Ok-hand_admission_out.ensures.done f));
       },
     )

@@ -5,7 +5,7 @@ use Rattle.simplex_member.specs.Deeds.{Serves}
 use Rattle.simplex_member.specs.Layers.{finalized_of, repair_of}
 use Rattle.simplex_member.specs.Packet.{formats}
 use Rattle.simplex_member.specs.Point.{Wanted}
-use Rattle.node_outbox.specs.Handing.{HandsOut}
+use Rattle.node_outbox.specs.Handing.{AddsDeeds}
 use Rattle.node_input.proofs.Heeding.{wanted-keeps}
 use Rattle.node_input.proofs.serving.take_ask.Goals as goal
 
@@ -16,6 +16,6 @@ returns-clause-taken g c = on_ok_weaker c.hand_out.result (λ done. λ s h k all
     record {
       keeps = wanted-keeps k c.args.sender c.args.view allowed (c.silent_points_leave_votes.ensures.quiet s c.args.core.now.acceptance h (Wanted c.args.sender c.args.view) (λ u. (refl, λ r. refl)) refl k.votes)
           (c.quiet_points_leave_the_tables.ensures (finalized_of s h) c.args.core.now.tables h (Wanted c.args.sender c.args.view) refl k.tables);
-      acts = subst (λ (o : Option (List ℕ)). HandsOut f c.args.out.now.items c.hand_out.new.out.items (map (Serves c.args.sender) (option_to_list o))) (c.in-Some.ensures s.voter.length (repair_of f h) k.repair)
+      acts = subst (λ (o : Option (List ℕ)). AddsDeeds f c.args.out.now.items c.hand_out.new.out.items (map (Serves c.args.sender) (option_to_list o))) (c.in-Some.ensures s.voter.length (repair_of f h) k.repair)
           (done f (Serves c.args.sender c.in-Some.answer.now) (refl, refl, items));
     }) c.hand_out.ensures.done

@@ -10,12 +10,12 @@ use Rattle.simplex_member.specs.Deeds.{Deed, entered_deeds, report_deeds}
 use Rattle.simplex_member.specs.Layers.{finalized_of, latest, repair_of, voter_of}
 use Rattle.simplex_member.specs.Packet.{formats}
 use Rattle.simplex_member.specs.Point.{Judged}
-use Rattle.node_outbox.specs.Handing.{HandsOut, both_more}
+use Rattle.node_outbox.specs.Handing.{AddsDeeds, both_more}
 use Rattle.node_input.proofs.Judging.{behind_verdict, reports_are}
 use Rattle.node_input.proofs.verdicts.learn_verdict.Goals as goal
 
 pub returns-clause-taken : goal.returns-clause-taken
-returns-clause-taken g c = on_ok_weaker c.hand_on_at_entry.result (λ acts. λ s h recorded awaited may.
+returns-clause-taken g c = on_ok_weaker c.relay_at_entry.result (λ acts. λ s h recorded awaited may.
     let f = formats g.D.PartialEq.eq g.D.Write.spelling g.S.Signature.Write.spelling g.S.Certificate.Write.spelling g.D.Read.reading g.S.Signature.Read.reading g.S.Certificate.Read.reading (g.S.Scheme.size s.voter.scheme) in
     let k = recorded.keeps in
     let low = finalized_of s h in
@@ -33,8 +33,8 @@ returns-clause-taken g c = on_ok_weaker c.hand_on_at_entry.result (λ acts. λ s
     let repair = c.in_ok-judge_repair.ensures.told s.voter.length (repair_of f h) k.repair (subst (λ (u : ℕ). HasRoom s.voter.length u) (sym at) j.room) in
     let tables = c.quiet_points_leave_the_tables.ensures low c.args.core.now.tables h p refl k.tables in
     let keeps = behind_verdict g.S.Scheme g.L.Elector g.K.Disk f s c.args.core.now c.give_verdict.new.voter c.enter.new.acceptance c.judge_repair.new.repair h r c.args.ok n recorded may found at voter votes repair tables in
-    let reported = subst (λ (deeds : List (Deed _ _ _ _ _)). HandsOut f c.args.out.now.items c.report_verdict.new.out.items deeds) (reports_are g.S.Scheme f s h r n c.args.ok found) (c.in_ok-report_verdict.ensures.acts f) in
+    let reported = subst (λ (deeds : List (Deed _ _ _ _ _)). AddsDeeds f c.args.out.now.items c.report_verdict.new.out.items deeds) (reports_are g.S.Scheme f s h r n c.args.ok found) (c.in_ok-report_verdict.ensures.acts f) in
     record {
       keeps = keeps;
       acts = both_more f _ _ _ (report_deeds g.S.Scheme f s h (artifact.Certification r c.args.ok)) (entered_deeds g.S.Scheme f s h p) reported (acts f s h p refl keeps (c.current_view-was.ensures s.voter v k.voter));
-    }) c.hand_on_at_entry.ensures.acts
+    }) c.relay_at_entry.ensures.acts

@@ -1,7 +1,7 @@
 use Rattle.std.proofs.Common.{◌≡◌, ◌∷◌, ◌++◌, ◌∙◌, [], ap, sym, subst, refl, ℕ, ◌+◌, List, map, take}
 use Rattle.std.proofs.lemmas.List.{map-append, take_all, take_more}
 use Rattle.simplex_member.specs.Deeds.{Blocks}
-use Rattle.node_outbox.specs.Handing.{HandsOut, both_more, hands_as, nothing_more}
+use Rattle.node_outbox.specs.Handing.{AddsDeeds, both_more, hands_as, nothing_more}
 use Rattle.node_outbox.proofs.handing.block_all.Goals as goal
 
 pub loop-member-init : goal.loop-member-init
@@ -17,4 +17,4 @@ loop-member-preserved g c = λ f.
     (both_more f c.args.out.now.items c.loop-member.out.items c.hand_out.new.out.items (map Blocks (take i members)) (Blocks member ∷ []) (c.loop-member.invariant f) (c.in-Ok.ensures.done f (Blocks member) refl))
 
 pub returns-clause-done : goal.returns-clause-done
-returns-clause-done g c = λ f. subst (λ (l : List ℕ). HandsOut f c.args.out.now.items c.loop-member.out.items (map Blocks l)) (take_all c.loop-member.member-index c.args.members.now c.loop-member-test.false) (c.loop-member.invariant f)
+returns-clause-done g c = λ f. subst (λ (l : List ℕ). AddsDeeds f c.args.out.now.items c.loop-member.out.items (map Blocks l)) (take_all c.loop-member.member-index c.args.members.now c.loop-member-test.false) (c.loop-member.invariant f)

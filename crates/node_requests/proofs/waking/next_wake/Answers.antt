@@ -6,7 +6,7 @@ use Rattle.voter_rules.specs.GivingUp.{timeout}
 use Rattle.simplex_state.specs.State as voting
 use Rattle.simplex_member.specs.Layers.{current_of, finalized_of, latest, voter_of}
 use Rattle.simplex_member.specs.Packet.{formats}
-use Rattle.simplex_member.specs.Point.{Looks}
+use Rattle.simplex_member.specs.Point.{Polls}
 use Rattle.node_requests.proofs.Ending.{is_repetition, look_allowed, never_without_room, never_without_timeout, no_repetition, room_here, told_next, told_none, wakes_at_deadline, wakes_to_repeat}
 use Rattle.node_requests.proofs.Silences.{latest_fits}
 use Rattle.node_requests.proofs.waking.next_wake.Goals as goal
@@ -37,7 +37,7 @@ returns-then-not-has_room-clause-wakes g c = λ repair s h keeps of early t ahea
     let v = voter_of s h in
     let same = c.lookahead-length.ensures.length s.voter v (c.views.ensures s.voter v keeps.voter_is) in
     let at = c.current_view.ensures s.voter v keeps.voter_is in
-    never_without_room g.S.Scheme f s (Looks ∷ h)
+    never_without_room g.S.Scheme f s (Polls ∷ h)
     (λ room. false≢true (sym c.if-not-has_room.true ∙ c.has_room-has_room.ensures.1 (room_here s.voter.length (current_of s h) c.lookahead-length.result.length c.current_view.result (sym same) (sym at) room))) t
 
 pub returns-then-eq-clause-wakes : goal.returns-then-eq-clause-wakes
@@ -50,7 +50,7 @@ returns-then-eq-clause-wakes g c = λ repair s h keeps of early.
     let next = told_next s.voter v (latest h) c.in-Ok-Some.field-0 answer (c.in-Ok-Some.moment, c.in-Ok-Some.why) c.in-Ok-Some.field-0-is in
     let room = room_here c.lookahead-length.result.length c.current_view.result s.voter.length (current_of s h) same at (c.has_room-has_room.ensures.0 c.if-not-has_room.false) in
     let all = look_allowed g.S.Scheme f s h keeps.begun keeps.allowed in
-    wakes_to_repeat g.S.Scheme f s (Looks ∷ h) all c.the_timeout_is_the_earliest.ensures.earliest c.in-Ok-Some.moment c.in-Ok-Some.why next.1 next.0 room early
+    wakes_to_repeat g.S.Scheme f s (Polls ∷ h) all c.the_timeout_is_the_earliest.ensures.earliest c.in-Ok-Some.moment c.in-Ok-Some.why next.1 next.0 room early
     (is_repetition c.in-Ok-Some.why c.eq.result c.eq.ensures c.if-eq.true)
 
 pub returns-else-eq-clause-wakes : goal.returns-else-eq-clause-wakes
@@ -64,9 +64,9 @@ returns-else-eq-clause-wakes g c = λ repair s h keeps of early.
     let room = room_here c.lookahead-length.result.length c.current_view.result s.voter.length (current_of s h) same at (c.has_room-has_room.ensures.0 c.if-not-has_room.false) in
     let all = look_allowed g.S.Scheme f s h keeps.begun keeps.allowed in
     let looked = subst (λ (t : ℕ). voting.Keeps g.S.Scheme g.L.Elector s.voter c.next_timeout.new.self (polled t ∷ v)) (c.moment.ensures (finalized_of s h) h keeps.tables_are) (c.in-Ok-Some.ensures.keeps s.voter v keeps.voter_is) in
-    wakes_at_deadline g.S.Scheme f s (Looks ∷ h) all c.the_timeout_is_the_earliest.ensures.earliest c.in-Ok-Some.moment c.in-Ok-Some.why next.1 next.0 room early
+    wakes_at_deadline g.S.Scheme f s (Polls ∷ h) all c.the_timeout_is_the_earliest.ensures.earliest c.in-Ok-Some.moment c.in-Ok-Some.why next.1 next.0 room early
     (no_repetition c.in-Ok-Some.why c.eq.result c.eq.ensures c.if-eq.false) c.earliest.result (latest_fits g.S.Scheme f s h keeps.begun keeps.allowed) c.earliest.type_inv
-    (c.earliest.ensures repair s (Looks ∷ h) (record { begun = keeps.begun; allowed = all; voter_is = looked; repair_is = keeps.repair_is; tables_are = keeps.tables_are }) of)
+    (c.earliest.ensures repair s (Polls ∷ h) (record { begun = keeps.begun; allowed = all; voter_is = looked; repair_is = keeps.repair_is; tables_are = keeps.tables_are }) of)
 
 pub returns-in-Ok-None-clause-wakes : goal.returns-in-Ok-None-clause-wakes
 returns-in-Ok-None-clause-wakes g c = λ repair s h keeps of early t ahead.

@@ -28,7 +28,7 @@ use Rattle.simplex_member.specs.Asked.{HasNumber}
 use Rattle.simplex_member.specs.Layers.{current_of, known_of, latest, voter_of}
 use Rattle.simplex_member.specs.Member.{IsGivenUpAt, LatchIsDue, NoneDue}
 use Rattle.simplex_member.specs.Packet.{Formats}
-use Rattle.simplex_member.specs.Point.{Looks, History}
+use Rattle.simplex_member.specs.Point.{Polls, History}
 use Rattle.simplex_member.specs.Setup.{Setup, member_of}
 
 -- one more moment is the moment only where there was none, and nullify was voted
@@ -124,9 +124,9 @@ module _ {S D P G C : Type 0} (g : Ghosts S D P G C) (f : Formats S D P G C) (s 
   v = voter_of s h
 
   abbrev w : List (views.Point S D P G C)
-  w = voter_of s (Looks ∷ h)
+  w = voter_of s (Polls ∷ h)
 
-  known_same : known_of s (Looks ∷ h) ≡ known_of s h
+  known_same : known_of s (Polls ∷ h) ≡ known_of s h
   known_same = law s.voter v (latest h)
 
   leader_same : (view : ℕ) → leader s.voter w view ≡ leader s.voter v view
@@ -137,21 +137,21 @@ module _ {S D P G C : Type 0} (g : Ghosts S D P G C) (f : Formats S D P G C) (s 
 
   no_nullify : ¬ NullifyIsDue s.voter w (latest h)
   no_nullify due = none.votes.no_nullify (due_before s.voter v w (latest h) refl (same_behind (λ l. past.has_finalized l) (λ moment u here. refl) (current_of s h))
-      (looked_timeout s.voter v (latest h) (latest h) none.votes.looked) due)
+      (looked_timeout s.voter v (latest h) (latest h) none.votes.retry_known) due)
 
   -- a view that is given up is given up once more at a moment that is known already
-  looked : past.has_nullified (seen s.voter w (current_of s h)) ≡ true → IsSome (past.retry (seen s.voter w (current_of s h)))
-  looked given =
-      let before = none.votes.looked (sym (same_behind (λ l. past.has_nullified l) (λ moment u here. refl) (current_of s h)) ∙ given) in
+  retry_known : past.has_nullified (seen s.voter w (current_of s h)) ≡ true → IsSome (past.retry (seen s.voter w (current_of s h)))
+  retry_known given =
+      let before = none.votes.retry_known (sym (same_behind (λ l. past.has_nullified l) (λ moment u here. refl) (current_of s h)) ∙ given) in
       subst (λ (o : Option ℕ). IsSome o)
       (sym (same_behind (λ l. past.retry l)
       (λ moment u here.
       retry_stays (past.has_nullified (seen s.voter v u)) (past.retry (seen s.voter v u)) moment
-      (subst (λ (c : ℕ). past.has_nullified (seen s.voter v c) ≡ true → IsSome (past.retry (seen s.voter v c))) here none.votes.looked))
+      (subst (λ (c : ℕ). past.has_nullified (seen s.voter v c) ≡ true → IsSome (past.retry (seen s.voter v c))) here none.votes.retry_known))
       (current_of s h))) before
 
   -- a reason to give a view up was one before, and who gives a reason leads
-  silent_before : (now : ℕ) → IsSilent g f s (Looks ∷ h) now → IsSilent g f s h now
+  silent_before : (now : ℕ) → IsSilent g f s (Polls ∷ h) now → IsSilent g f s h now
   silent_before now silent = record {
     index = silent.index;
     known = sym (leader_same (current_of s h)) ∙ silent.known;
@@ -164,7 +164,7 @@ module _ {S D P G C : Type 0} (g : Ghosts S D P G C) (f : Formats S D P G C) (s 
   is_led : (view index : ℕ) → leader s.voter v view ≡ Some index → IsTracked s.voter v view
   is_led view index is = inr (subst (λ (o : Option ℕ). IsSome o) (sym is) refl)
 
-  reason_before : (view : ℕ) (why : TimeoutReason) → HasReason g f s (Looks ∷ h) view why → HasReason g f s h view why × IsTracked s.voter v view
+  reason_before : (view : ℕ) (why : TimeoutReason) → HasReason g f s (Polls ∷ h) view why → HasReason g f s h view why × IsTracked s.voter v view
   reason_before view reason.LeaderNullify there =
       let known = sym (leader_same view) ∙ there.known in
       (record { index = there.index; known = known; another = there.another; gave_up = there.gave_up }, is_led view there.index known)
@@ -176,7 +176,7 @@ module _ {S D P G C : Type 0} (g : Ghosts S D P G C) (f : Formats S D P G C) (s 
       ((there.0, invalid), inr invalid.waits.led.0)
   reason_before view why there = absurd there
 
-  no_reason : (view : ℕ) (why : TimeoutReason) → ¬ LatchIsDue g f s (Looks ∷ h) view why
+  no_reason : (view : ℕ) (why : TimeoutReason) → ¬ LatchIsDue g f s (Polls ∷ h) view why
   no_reason view why due =
       let before = reason_before view why due.there in
       none.no_reason view why (record {
@@ -191,13 +191,13 @@ module _ {S D P G C : Type 0} (g : Ghosts S D P G C) (f : Formats S D P G C) (s 
       })
 
   -- nothing is due behind the look
-  pub none_due_behind : NoneDue g f s (Looks ∷ h)
+  pub none_due_behind : NoneDue g f s (Polls ∷ h)
   none_due_behind = record {
     votes = record {
       no_notarize = subst (λ (k : Known D). (view : ℕ) → ¬ NotarizeIsDue (member_of s) k view) (sym known_same) none.votes.no_notarize;
       no_nullify = no_nullify;
       no_finalize = subst (λ (k : Known D). (view : ℕ) → ¬ FinalizeIsDue (member_of s) k view) (sym known_same) none.votes.no_finalize;
-      looked = looked;
+      retry_known = retry_known;
     };
     requests = record {
       no_build = subst (λ (k : Known D). HasNumber h → NoBuildIsDue (member_of s) k) (sym known_same) none.requests.no_build;
@@ -232,7 +232,7 @@ module _ {S D P G C : Type 0} (g : Ghosts S D P G C) (f : Formats S D P G C) (s 
   }
 
   -- nor is the current view given up there
-  pub not_given_up : ¬ IsGivenUpAt g f s (Looks ∷ h) (latest h)
+  pub not_given_up : ¬ IsGivenUpAt g f s (Polls ∷ h) (latest h)
   not_given_up up = ⊎_elim
       no_nullify
       (λ silent.

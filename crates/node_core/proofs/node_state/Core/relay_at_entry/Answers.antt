@@ -6,11 +6,11 @@ use Rattle.std.proofs.lemmas.Map.Keys.{le_from_is_le}
 use Rattle.std.proofs.lemmas.Result.{on_ok_weaker}
 use Rattle.voter_history.specs.Past.{forwardable_proposal}
 use Rattle.voter_history.specs.History.{seen}
-use Rattle.simplex_member.specs.Deeds.{HandsOn, HandsTo, hands_on}
+use Rattle.simplex_member.specs.Deeds.{Relays, RelaysTo, relay_deeds}
 use Rattle.simplex_member.specs.Layers.{current_of, voter_of}
 use Rattle.node_outbox.specs.Handing.{hands_as, nothing_more}
 use Rattle.node_core.proofs.Recipients.{above_from, handed_to, not_entered, nothing_held, some_handed}
-use Rattle.node_core.proofs.node_state.Core.hand_on_at_entry.Goals as goal
+use Rattle.node_core.proofs.node_state.Core.relay_at_entry.Goals as goal
 
 -- no view was entered
 pub returns-then-le-clause-acts : goal.returns-then-le-clause-acts
@@ -42,7 +42,7 @@ returns-then-is_empty-clause-acts g c =
     let high : current_of s h < c.current_view-current.result = subst (λ (n : ℕ). n < c.current_view-current.result) was above in
     let is = handed_to g.S.Scheme f s h p q c.in-Ok.recipients.items c.current_view-current.result c.in-Some.before now high c.in-Some.ensures.before
     (c.in-Some-forwardable_proposal.ensures s.voter v (c.views.ensures s.voter v k.voter)) (c.in-Ok.ensures f s (p ∷ h) k same) in
-    hands_as f _ _ _ _ (is ∙ ap (hands_on q) none) (nothing_more f c.args.out.now.items)
+    hands_as f _ _ _ _ (is ∙ ap (relay_deeds q) none) (nothing_more f c.args.out.now.items)
 
 -- these get it
 pub returns-clause-acts : goal.returns-clause-acts
@@ -56,4 +56,4 @@ returns-clause-acts g c =
     let high : current_of s h < c.current_view-current.result = subst (λ (n : ℕ). n < c.current_view-current.result) was above in
     let is = handed_to g.S.Scheme f s h p q c.in-Ok.recipients.items c.current_view-current.result c.in-Some.before now high c.in-Some.ensures.before
     (c.in-Some-forwardable_proposal.ensures s.voter v (c.views.ensures s.voter v k.voter)) (c.in-Ok.ensures f s (p ∷ h) k same) in
-    hands_as f _ _ _ _ (is ∙ some_handed q c.in-Ok.recipients.items some) (done f (HandsOn q.payload (HandsTo q.round c.in-Ok.recipients.items)) (refl, (refl, refl)))) c.hand_out.ensures.done
+    hands_as f _ _ _ _ (is ∙ some_handed q c.in-Ok.recipients.items some) (done f (Relays q.payload (RelaysTo q.round c.in-Ok.recipients.items)) (refl, (refl, refl)))) c.hand_out.ensures.done
