@@ -1,6 +1,6 @@
 -- What comes of the votes of all views: a proposal is forwarded, or a construction is made.
 use Rattle.std.proofs.Common.{◌≡◌, ◌≤◌, ◌<◌, ◌∷◌, ◌++◌, ◌∙◌, [], ℕ, Bool, true, List, Option, Some, None, Result, Ok, Err, refl, sym, ap, subst, map, append-nil, ⊎_elim}
-use Rattle.std.specs.Prelude.{IfOk, IfSome, IsSome, OnOk, MatchOption, option_map}
+use Rattle.std.specs.Prelude.{IfOk, IfSome, OnOk, MatchOption, option_map}
 use Rattle.std.proofs.lemmas.List.Elements.{All-cons, All-nil}
 use Rattle.types_core.specs.declared.proposal.Proposal.{Proposal}
 use Rattle.types_core.specs.declared.scheme.Scheme.{Ghosts}
@@ -41,7 +41,7 @@ use Rattle.simplex_member.specs.declared.fault.NodeFault.{NodeFault}
 use Rattle.simplex_member.specs.Allowed.{Allowed, MayRecord}
 use Rattle.simplex_member.specs.Deeds.{Blocks, certificate_deeds, deeds_of}
 use Rattle.simplex_member.specs.Laws.{IsExact, MadeIsAllowed}
-use Rattle.simplex_member.specs.Layers.{finalized_of, latest, may_enter, repair_of, takes_certificate, voter_of, votes_of, votes_setup}
+use Rattle.simplex_member.specs.Layers.{finalized_of, latest, may_enter, repair_of, takes_certificate, voter_of, votes_of, votes_setup, Stage, IsUp}
 use Rattle.simplex_member.specs.Packet.{Formats, IsRecordable}
 use Rattle.simplex_member.specs.Point.{History, Point, Constructs, Forwards, is_act}
 use Rattle.simplex_member.specs.Recorded.{added_by, record_of}
@@ -211,7 +211,7 @@ module _ {S L D P G C K : Type 0} (g : Ghosts S D P G C) (e : elector.Ghosts L S
 
   -- where nothing is due of the votes of any view, no construction is to be made
   pub nothing_due : (h : History S D P G C) → accepting.NoneIsDue g f.same s h → NoConstructionToMake g f s h
-  nothing_due h none = record { no_construction = λ view is. none.no_construction view (subst (λ (o : Option Bool). IsSome o) (sym is) refl); no_forward = none.no_forward }
+  nothing_due h none = record { no_construction = λ view is. none.no_construction view (subst (λ (at : Stage). IsUp at) (sym is) refl); no_forward = none.no_forward }
 
   module _ (node : Core S L D K P G C) (acceptance : Acceptance S D P G C) (h : History S D P G C) (keeps : CoreKeeps g e k f s node h) (view : ℕ) where
     -- the votes of a view forwarded their proposal

@@ -1,11 +1,11 @@
 -- That nothing of a kind is left to be done.
-use Rattle.std.specs.Prelude.{◌≡◌, ℕ, false, Some, None, IsSome}
+use Rattle.std.specs.Prelude.{◌≡◌, ℕ, None}
 use Rattle.types_core.specs.declared.scheme.Scheme.{Ghosts}
 use Rattle.voter_history.specs.declared.timeout_reason.TimeoutReason.TheVariants as reason
 use Rattle.voter_rules.specs.VotesDue.{NotarizeIsDue, FinalizeIsDue}
 use Rattle.voter_rules.specs.GivingUp.{NullifyIsDue}
 use Rattle.batcher_verifier.specs.History.{forwardable, next_kind}
-use Rattle.simplex_member.specs.Layers.{known_of, latest, stage, voter_of, votes_of, votes_setup}
+use Rattle.simplex_member.specs.Layers.{known_of, latest, stage, voter_of, votes_of, votes_setup, Collected, IsUp}
 use Rattle.simplex_member.specs.Member.{LatchIsDue, RetryIsKnown}
 use Rattle.simplex_member.specs.Packet.{Formats}
 use Rattle.simplex_member.specs.Point.{History}
@@ -25,8 +25,8 @@ module _ {S D P G C : Type 0} (s : Setup S D C) where
 module _ {S D P G C : Type 0} (g : Ghosts S D P G C) (f : Formats S D P G C) (s : Setup S D C) where
   -- of the votes of no view a construction is due, nor a proposal to forward
   pub record NoConstructionToMake (h : History S D P G C) : Type 0 where
-    pub no_construction : (view : ℕ) → stage s h view ≡ Some false → next_kind f.same (votes_setup s g h view) (votes_of s h view) ≡ None
-    pub no_forward : (view : ℕ) → IsSome (stage s h view) → forwardable (votes_of s h view) s.me ≡ None
+    pub no_construction : (view : ℕ) → stage s h view ≡ Collected → next_kind f.same (votes_setup s g h view) (votes_of s h view) ≡ None
+    pub no_forward : (view : ℕ) → IsUp (stage s h view) → forwardable (votes_of s h view) s.me ≡ None
 
   -- that its leader gave a view up is no reason that is due
   abbrev pub NoLeaderToFollow : History S D P G C → Type 0

@@ -1,6 +1,6 @@
 -- Looking for the first view that is to be given up since its leader gave it up.
 use Rattle.std.proofs.Common.{◌≡◌, ◌≢◌, ◌≤◌, ◌<◌, ◌+◌, ◌^◌, ◌↔◌, ℕ, Bool, true, false, [], ◌∷◌, Option, ⊎_elim, refl, subst, arith}
-use Rattle.std.specs.Prelude.{◌&&◌, None, Some, IsSome, IsTrue, is_none}
+use Rattle.std.specs.Prelude.{◌&&◌, None, Some, IsTrue, is_none}
 use Rattle.std.proofs.lemmas.Bool.{cases_lt}
 use Rattle.types_core.specs.declared.scheme.Scheme.{Ghosts}
 use Rattle.types_terms.specs.declared.elector.Elector as elector
@@ -11,7 +11,7 @@ use Rattle.voter_rules.specs.GivingUp.{IsFirstLatch, MayLatch}
 use Rattle.simplex_state.specs.declared.state.State.{State}
 use Rattle.simplex_state.specs.State as voting
 use Rattle.simplex_member.specs.Allowed.{LeaderGaveUp}
-use Rattle.simplex_member.specs.Layers.{current_of, latest, stage, voter_of, votes_of}
+use Rattle.simplex_member.specs.Layers.{current_of, latest, stage, voter_of, votes_of, IsUp}
 use Rattle.simplex_member.specs.Member.{LatchIsDue}
 use Rattle.simplex_member.specs.Packet.{Formats}
 use Rattle.simplex_member.specs.Point.{History}
@@ -52,7 +52,7 @@ module _ {S D P G C : Type 0} (g : Ghosts S D P G C) (f : Formats S D P G C) (s 
       (cases_lt u view)
 
   -- up to the last view there is
-  pub none_at_all : 0 < s.voter.length → ((view : ℕ) → votes_of s h view ≢ [] → IsSome (stage s h view)) → NoneBelow (2 ^ 64) → (view : ℕ) → ¬ LatchIsDue g f s h view reason.LeaderNullify
+  pub none_at_all : 0 < s.voter.length → ((view : ℕ) → votes_of s h view ≢ [] → IsUp (stage s h view)) → NoneBelow (2 ^ 64) → (view : ℕ) → ¬ LatchIsDue g f s h view reason.LeaderNullify
   none_at_all long kept none view due =
       let gave_up = due.there.gave_up in
       let small = came_small s h view long (kept view (λ bare. absurd (cc (rw bare at gave_up)))) in

@@ -1,6 +1,6 @@
 -- Views that are given up on the way to a proposal that waits, and what is asked for that behind them.
 use Rattle.std.proofs.Common.{◌≡◌, ◌⊎◌, ◌<◌, ◌≤◌, ◌+◌, ◌∷◌, ◌++◌, ◌∙◌, [], inl, inr, ⊎_elim, ℕ, Bool, true, false, List, Option, Some, None, refl, sym, ap, subst, append-nil, arith, eq-eqb, if◌then◌else◌}
-use Rattle.std.specs.Prelude.{◌^◌, ◌-◌, ◌&&◌, All, Contains, IsSome, IsTrue, is_none, is_some, ◌↔◌}
+use Rattle.std.specs.Prelude.{◌^◌, ◌-◌, ◌&&◌, All, IsSome, IsTrue, is_none, is_some, ◌↔◌}
 use Rattle.std.specs.Option.{option_or}
 use Rattle.std.proofs.lemmas.Bool.{cases_lt, false≢true}
 use Rattle.std.proofs.lemmas.Option.{none-some}

@@ -1,11 +1,11 @@
 -- Who leads the views whose votes came up.
-use Rattle.std.specs.Prelude.{◌≡◌, ◌≢◌, ◌⊎◌, ◌∷◌, Bool, ℕ, Some, None, IsSome}
+use Rattle.std.specs.Prelude.{◌≡◌, ◌≢◌, ◌⊎◌, ◌∷◌, Bool, ℕ, Some, None}
 use Rattle.types_core.specs.declared.scheme.Scheme.{Ghosts}
 use Rattle.voter_history.specs.Leaders.{leader}
 use Rattle.batcher_verifier.specs.History.{leader_of}
 use Rattle.node_votes.specs.declared.acceptance.Acceptance.{Acceptance}
 use Rattle.node_votes.specs.KeepsVotes as accepting
-use Rattle.simplex_member.specs.Layers.{stage, voter_of, votes_of}
+use Rattle.simplex_member.specs.Layers.{stage, voter_of, votes_of, IsUp}
 use Rattle.simplex_member.specs.Point.{History, Leads}
 use Rattle.simplex_member.specs.Setup.{Setup}
 use Rattle.node_requests.specs.declared.acted.Acted.{Acted}
@@ -14,11 +14,11 @@ use Rattle.node_requests.specs.declared.acted.Acted.TheVariants as came
 module _ {S D P G C : Type 0} (s : Setup S D C) where
   -- the votes of each view know who leads it, as far as the voter does
   abbrev pub NoLeaderToName : History S D P G C → Type 0
-  NoLeaderToName h = (view index : ℕ) → IsSome (stage s h view) → leader_of (votes_of s h view) ≡ None → leader s.voter (voter_of s h) view ≢ Some index
+  NoLeaderToName h = (view index : ℕ) → IsUp (stage s h view) → leader_of (votes_of s h view) ≡ None → leader s.voter (voter_of s h) view ≢ Some index
 
   -- the voter knows that this member leads a view whose votes came up, which may not know it yet
   pub record MayBeNamed (h : History S D P G C) (view index : ℕ) : Type 0 where
-    pub there : IsSome (stage s h view)
+    pub there : IsUp (stage s h view)
     pub known : leader s.voter (voter_of s h) view ≡ Some index
 
   -- a leader was named to the votes of a view, which waited for it or knew it; or none is to name

@@ -1,6 +1,6 @@
 -- What comes of the calls on a member's votes.
 use Rattle.std.proofs.Common.{◌≡◌, ◌⊎◌, ℕ, ◌-◌, ◌≤◌, ◌<◌, Bool, true, false, [], ◌∷◌, ⊎_elim, refl, sym, ◌∙◌, subst, arith, if◌then◌else◌}
-use Rattle.std.specs.Prelude.{◌↔◌, nat_lt, Option, None, IsSome, IsTrue}
+use Rattle.std.specs.Prelude.{◌↔◌, nat_lt, Option, IsTrue}
 use Rattle.std.proofs.lemmas.Bool.{cases_lt, lt-ltb}
 use Rattle.types_core.specs.Positions.{HasRoom}
 use Rattle.types_core.specs.declared.scheme.Scheme.{Ghosts}
@@ -13,7 +13,7 @@ use Rattle.simplex_messages.specs.VoteParts.{vote_artifact, vote_round}
 use Rattle.batcher_admission.specs.declared.admission.Admission.{Admission}
 use Rattle.batcher_verifier.specs.declared.batcher_fault.BatcherFault.{BatcherFault}
 use Rattle.batcher_verifier.specs.History.{Taken, Cast, Certified, Led}
-use Rattle.simplex_member.specs.Layers.{all_votes, current_of, floor_of, stage, votes_of, votes_setup}
+use Rattle.simplex_member.specs.Layers.{all_votes, current_of, floor_of, stage, votes_of, votes_setup, Unopened, IsUp}
 use Rattle.simplex_member.specs.Point.{History, Came, Found, Heard, Leads, Votes}
 use Rattle.simplex_member.specs.Setup.{Setup}
 use Rattle.simplex_batcher.specs.Admission.{IsCastFault}
@@ -34,10 +34,10 @@ same-both false x = refl
 
 -- at the start no votes came up
 pub bare-stands : {S D P G C : Type 0} (g : Ghosts S D P G C) (same : D → D → Bool) (s : Setup S D C) (r : Rounds S D P G C) {scheme : S} {epoch length me : ℕ} {tracks : Bool} → IsSetUp s scheme epoch length me tracks
-    → Stand g same (record { scheme = scheme; epoch = epoch; me = me; tracks = tracks }) r (λ view. None) (λ view. []) → Stand g same (common_part s) r (stage {P = P} {G = G} s []) (votes_of {P = P} {G = G} s [])
-bare-stands {P = P} {G = G} g same s r set k = alike g same (common_part s) r (λ view. None) (stage {P = P} {G = G} s []) (λ view. []) (votes_of {P = P} {G = G} s [])
-    (λ u. same-both (nat_lt u (floor_of {P = P} {G = G} s [])) None) (λ u. same-both (nat_lt u (floor_of {P = P} {G = G} s [])) [])
-    (subst (λ (c : Common _). Stand g same c r (λ view. None) (λ view. [])) (λ i. record { scheme = set.scheme_is i; epoch = set.epoch_is i; me = set.me_is i; tracks = set.tracks_is i }) k)
+    → Stand g same (record { scheme = scheme; epoch = epoch; me = me; tracks = tracks }) r (λ view. Unopened) (λ view. []) → Stand g same (common_part s) r (stage {P = P} {G = G} s []) (votes_of {P = P} {G = G} s [])
+bare-stands {P = P} {G = G} g same s r set k = alike g same (common_part s) r (λ view. Unopened) (stage {P = P} {G = G} s []) (λ view. []) (votes_of {P = P} {G = G} s [])
+    (λ u. same-both (nat_lt u (floor_of {P = P} {G = G} s [])) Unopened) (λ u. same-both (nat_lt u (floor_of {P = P} {G = G} s [])) [])
+    (subst (λ (c : Common _). Stand g same c r (λ view. Unopened) (λ view. [])) (λ i. record { scheme = set.scheme_is i; epoch = set.epoch_is i; me = set.me_is i; tracks = set.tracks_is i }) k)
 
 -- a view may be kept that is not below the floor and has room
 pub both-open : (floor low view views length : ℕ) (b : Bool) → low ≤ view → low ≡ floor → length ≡ views → IsTrue b ↔ HasRoom length view → IsTrue b ↔ ((floor ≤ view) × HasRoom views view)
@@ -178,14 +178,14 @@ module _ {S D P G C : Type 0} (g : Ghosts S D P G C) (same : D → D → Bool) (
   }
 
   -- the votes of a view are kept that came up
-  pub stage-kept : (view : ℕ) → IsSome (stage s h view) → floor_of s h ≤ view
+  pub stage-kept : (view : ℕ) → IsUp (stage s h view) → floor_of s h ≤ view
   stage-kept view some = ⊎_elim
       (λ lt. let below : nat_lt view (floor_of s h) ≡ true = lt-ltb view (floor_of s h) lt in absurd (cc (rw below at some)))
       (λ ge. ge)
       (cases_lt view (floor_of s h))
 
   -- the leader of a view is named
-  pub led : (new : Rounds S D P G C) (view leader : ℕ) → IsSome (stage s h view) → Stand g same (common_part s) new (stage s h) (put view (Led leader) (votes_of s h)) → Keeps g same s (record a { rounds = new }) (Leads view leader ∷ h)
+  pub led : (new : Rounds S D P G C) (view leader : ℕ) → IsUp (stage s h view) → Stand g same (common_part s) new (stage s h) (put view (Led leader) (votes_of s h)) → Keeps g same s (record a { rounds = new }) (Leads view leader ∷ h)
   unfolding Keeps
   led new view leader some stands = record {
     length_is = k.length_is;

@@ -1,9 +1,8 @@
 -- A change of the votes of one view among those of all.
 use Rattle.std.proofs.Common.{◌≡◌, ◌≢◌, ◌≤◌, ◌<◌, ℕ, ◌==◌, Bool, true, false, [], ⊎_elim, refl, sym, ◌∙◌, subst, arith}
-use Rattle.std.specs.Prelude.{Option, Some, None, IfSome, IsSome, OnErr, Result, Ok, Err, is_some, nat_lt, unwrap_or}
+use Rattle.std.specs.Prelude.{Option, Some, None, IsSome, OnErr, Result, Ok, Err, is_some, nat_lt}
 use Rattle.std.specs.BTreeMap.{BTreeMap, is_at}
 use Rattle.std.specs.BTreeSet.{BTreeSet, Updates, contains}
-use Rattle.std.specs.Option.{option_or}
 use Rattle.std.specs.Ordering.{nat_cmp}
 use Rattle.std.specs.declared.cmp.Reverse.{Reverse}
 use Rattle.std.proofs.lemmas.Bool.{and_right, cases_eq, cases_lt, eq-eqb, le-ltb, lt-ltb}
@@ -17,7 +16,8 @@ use Rattle.batcher_verifier.specs.History.{History, Setup, leader_of}
 use Rattle.simplex_batcher.specs.declared.round.Round.{Round}
 use Rattle.simplex_batcher.specs.Rounds.{RoundKeeps}
 use Rattle.node_votes.specs.declared.rounds.Rounds.{Rounds}
-use Rattle.node_votes.specs.Standing.{Common, IsAtRest, IsKept, Stand, common_of, happened_from, come_up, is_passed, set_at, setup_at, up_from}
+use Rattle.node_votes.specs.Standing.{Common, IsAtRest, IsKept, Stand, common_of, happened_from, come_up, is_passed, set_at, setup_at, up_from, IfUp}
+use Rattle.simplex_member.specs.Layers.{Stage, Unopened, Collected, PassedOver, IsUp, first_up, skips}
 
 -- a number is itself; two that are not one are apart in a set, and as keys of a map
 pub itself : (n : ℕ) → (n == n) ≡ true
@@ -34,15 +34,15 @@ some-is e = subst (λ found. is_some found ≡ true) e refl
 
 module _ {S D P G C : Type 0} (g : Ghosts S D P G C) (same : D → D → Bool) where
   -- of one view the votes changed, those of the others stand as before
-  pub changed : (s : Common S) (old new : Rounds S D P G C) (at : ℕ) (up up' : ℕ → Option Bool) (happened happened' : ℕ → History S D P G C)
+  pub changed : (s : Common S) (old new : Rounds S D P G C) (at : ℕ) (up up' : ℕ → Stage) (happened happened' : ℕ → History S D P G C)
       → Stand g same s old up happened → common_of new ≡ common_of old
       → ((u : ℕ) → (at == u) ≡ false → stored new.by_view u ≡ stored old.by_view u)
       → ((u : ℕ) → (at == u) ≡ false → (up' u ≡ up u) × (happened' u ≡ happened u))
       → ((u : ℕ) → (at == u) ≡ false → contains nat_cmp new.touched u ≡ false → contains nat_cmp old.touched u ≡ false)
       → ((u : ℕ) → (at == u) ≡ false → contains nat_cmp new.unled u ≡ false → contains nat_cmp old.unled u ≡ false)
       → IsKept g same s at (stored new.by_view at) (up' at) (happened' at)
-      → (contains nat_cmp new.touched at ≡ false → IfSome (up' at) (λ skipped. IsAtRest g same s at skipped (happened' at)))
-      → (contains nat_cmp new.unled at ≡ false → IsSome (up' at) → leader_of (happened' at) ≢ None)
+      → (contains nat_cmp new.touched at ≡ false → IfUp (up' at) (λ skipped. IsAtRest g same s at skipped (happened' at)))
+      → (contains nat_cmp new.unled at ≡ false → IsUp (up' at) → leader_of (happened' at) ≢ None)
       → Stand g same s new up' happened'
   changed s old new at up up' happened happened' k shared rounds others touched unled here rest named = record {
     shared = shared ∙ k.shared;
@@ -51,17 +51,17 @@ module _ {S D P G C : Type 0} (g : Ghosts S D P G C) (same : D → D → Bool) w
         (λ ne. let apart : (at == u) ≡ false = grind (arith, nat_tests) in let o = others u apart in rw (rounds u apart, o.0, o.1) (k.kept u))
         (cases_eq at u);
     at_rest = λ u. ⊎_elim
-        (λ e. subst (λ (w : ℕ). contains nat_cmp new.touched w ≡ false → IfSome (up' w) (λ skipped. IsAtRest g same s w skipped (happened' w))) e rest)
+        (λ e. subst (λ (w : ℕ). contains nat_cmp new.touched w ≡ false → IfUp (up' w) (λ skipped. IsAtRest g same s w skipped (happened' w))) e rest)
         (λ ne untouched. let apart : (at == u) ≡ false = grind (arith, nat_tests) in let o = others u apart in rw (o.0, o.1) (k.at_rest u (touched u apart untouched)))
         (cases_eq at u);
     named = λ u. ⊎_elim
-        (λ e. subst (λ (w : ℕ). contains nat_cmp new.unled w ≡ false → IsSome (up' w) → leader_of (happened' w) ≢ None) e named)
+        (λ e. subst (λ (w : ℕ). contains nat_cmp new.unled w ≡ false → IsUp (up' w) → leader_of (happened' w) ≢ None) e named)
         (λ ne led. let apart : (at == u) ≡ false = grind (arith, nat_tests) in let o = others u apart in rw (o.0, o.1) (k.named u (unled u apart led)))
         (cases_eq at u);
   }
 
   -- the same came up, and the same happened
-  pub alike : (s : Common S) (r : Rounds S D P G C) (up up' : ℕ → Option Bool) (happened happened' : ℕ → History S D P G C)
+  pub alike : (s : Common S) (r : Rounds S D P G C) (up up' : ℕ → Stage) (happened happened' : ℕ → History S D P G C)
       → ((u : ℕ) → up' u ≡ up u) → ((u : ℕ) → happened' u ≡ happened u) → Stand g same s r up happened → Stand g same s r up' happened'
   alike s r up up' happened happened' ups events k = record {
     shared = k.shared;
@@ -71,22 +71,26 @@ module _ {S D P G C : Type 0} (g : Ghosts S D P G C) (same : D → D → Bool) w
   }
 
   -- of a round that is there the votes came up
-  pub known : (s : Common S) (at : ℕ) (r : Round S D P G C) (o : Option Bool) (b : Bool) (h : History S D P G C) → IsKept g same s at (Some r) o h
-      → RoundKeeps same g g.batchable (setup_at g s at (unwrap_or o b)) r h
-  known s at r None b h k = absurd k
-  known s at r (Some x) b h k = k
+  pub known : (s : Common S) (at : ℕ) (r : Round S D P G C) (o : Stage) (b : Bool) (h : History S D P G C) → IsKept g same s at (Some r) o h
+      → RoundKeeps same g g.batchable (setup_at g s at (skips o b)) r h
+  known s at r Unopened b h k = absurd k
+  known s at r Collected b h k = k
+  known s at r PassedOver b h k = k
 
   -- once the votes of a view come up its round is there
-  pub kept-up : (s : Common S) (at : ℕ) (r : Round S D P G C) (o : Option Bool) (b : Bool) (h : History S D P G C) → RoundKeeps same g g.batchable (setup_at g s at (unwrap_or o b)) r h
-      → IsKept g same s at (Some r) (option_or o (Some b)) h
-  kept-up s at r None b h k = k
-  kept-up s at r (Some x) b h k = k
+  pub kept-up : (s : Common S) (at : ℕ) (r : Round S D P G C) (o : Stage) (b : Bool) (h : History S D P G C) → RoundKeeps same g g.batchable (setup_at g s at (skips o b)) r h
+      → IsKept g same s at (Some r) (first_up o b) h
+  kept-up s at r Unopened true h k = k
+  kept-up s at r Unopened false h k = k
+  kept-up s at r Collected b h k = k
+  kept-up s at r PassedOver b h k = k
 
   -- the round of votes that came up changed
-  pub kept-still : (s : Common S) (at : ℕ) (r r' : Round S D P G C) (o : Option Bool) (b : Bool) (h h' : History S D P G C) → IsKept g same s at (Some r) o h
-      → RoundKeeps same g g.batchable (setup_at g s at (unwrap_or o b)) r' h' → IsKept g same s at (Some r') o h'
-  kept-still s at r r' None b h h' k k' = absurd k
-  kept-still s at r r' (Some x) b h h' k k' = k'
+  pub kept-still : (s : Common S) (at : ℕ) (r r' : Round S D P G C) (o : Stage) (b : Bool) (h h' : History S D P G C) → IsKept g same s at (Some r) o h
+      → RoundKeeps same g g.batchable (setup_at g s at (skips o b)) r' h' → IsKept g same s at (Some r') o h'
+  kept-still s at r r' Unopened b h h' k k' = absurd k
+  kept-still s at r r' Collected b h h' k k' = k'
+  kept-still s at r r' PassedOver b h h' k k' = k'
 
 module _ {S D P G C : Type 0} where
   -- of the views from the floor on nothing changed
@@ -98,7 +102,7 @@ module _ {S D P G C : Type 0} where
 
 module _ {S D P G C : Type 0} (g : Ghosts S D P G C) (same : D → D → Bool) where
   -- the votes of the views below the floor are gone
-  pub dropped : (s : Common S) (floor : ℕ) (old new : Rounds S D P G C) (up : ℕ → Option Bool) (happened : ℕ → History S D P G C) → IsDropping floor old new → ((u : ℕ) → u < floor → stored new.by_view u ≡ None)
+  pub dropped : (s : Common S) (floor : ℕ) (old new : Rounds S D P G C) (up : ℕ → Stage) (happened : ℕ → History S D P G C) → IsDropping floor old new → ((u : ℕ) → u < floor → stored new.by_view u ≡ None)
       → Stand g same s old up happened → Stand g same s new (up_from floor up) (happened_from floor happened)
   dropped s floor old new up happened d none k = record {
     shared = d.shared ∙ k.shared;
@@ -117,12 +121,12 @@ module _ {S D P G C : Type 0} (g : Ghosts S D P G C) (same : D → D → Bool) w
   }
 
   -- a view without a round is one whose votes didn't come up
-  pub unknown : (s : Common S) (at : ℕ) (o : Option (Round S D P G C)) (up : Option Bool) (h : History S D P G C) → o ≡ None → IsKept g same s at o up h → (up ≡ None) × (h ≡ [])
+  pub unknown : (s : Common S) (at : ℕ) (o : Option (Round S D P G C)) (up : Stage) (h : History S D P G C) → o ≡ None → IsKept g same s at o up h → (up ≡ Unopened) × (h ≡ [])
   unknown s at o up h none k = rw none at k
 
 module _ {S D P G C : Type 0} (g : Ghosts S D P G C) (same : D → D → Bool) where
   -- more views are looked at again, and nothing else changed
-  pub widened : (s : Common S) (old new : Rounds S D P G C) (up : ℕ → Option Bool) (happened : ℕ → History S D P G C) → common_of new ≡ common_of old
+  pub widened : (s : Common S) (old new : Rounds S D P G C) (up : ℕ → Stage) (happened : ℕ → History S D P G C) → common_of new ≡ common_of old
       → ((u : ℕ) → stored new.by_view u ≡ stored old.by_view u)
       → ((u : ℕ) → contains nat_cmp new.touched u ≡ false → contains nat_cmp old.touched u ≡ false)
       → ((u : ℕ) → contains nat_cmp new.unled u ≡ false → contains nat_cmp old.unled u ≡ false)
@@ -152,7 +156,7 @@ same-get old new e u = rw e refl
 
 module _ {S D P G C : Type 0} (g : Ghosts S D P G C) (same : D → D → Bool) where
   -- the round of a view that had none is among the others
-  pub seated : (s : Common S) (old new : Rounds S D P G C) (up : ℕ → Option Bool) (happened : ℕ → History S D P G C) (view : ℕ) (round : Round S D P G C) (passed : Bool) (h : History S D P G C)
+  pub seated : (s : Common S) (old new : Rounds S D P G C) (up : ℕ → Stage) (happened : ℕ → History S D P G C) (view : ℕ) (round : Round S D P G C) (passed : Bool) (h : History S D P G C)
       → Stand g same s old up happened → common_of new ≡ common_of old → Stores old.by_view new.by_view view (Some round) → new.touched ≡ old.touched → Updates nat_cmp old.unled new.unled view true
       → stored old.by_view view ≡ None → contains nat_cmp old.touched view ≡ true → RoundKeeps same g g.batchable (setup_at g s view passed) round h
       → Stand g same s new (come_up view passed up) (set_at view h happened)
@@ -165,7 +169,7 @@ module _ {S D P G C : Type 0} (g : Ghosts S D P G C) (same : D → D → Bool) w
       (λ u ne. (rw ne refl, rw ne refl))
       (λ u ne. subst (λ (t : BTreeSet ℕ). contains nat_cmp t u ≡ false → contains nat_cmp old.touched u ≡ false) (sym same_touched) (λ no. no))
       (λ u ne. lacking old.unled new.unled view unled u)
-      (rw (put_in, itself view, bare.0) kept)
+      (rw (put_in, itself view, bare.0) (kept-up g same s view round Unopened passed h kept))
       (λ no. absurd (cc (still, no)))
       (λ no. absurd (lacks-not old.unled new.unled view unled no))
 

@@ -1,6 +1,6 @@
 -- What comes of the first that happens to the votes of a view.
-use Rattle.std.proofs.Common.{◌≡◌, ◌≢◌, ℕ, ◌==◌, Bool, true, false, List, [], ◌∷◌, ⊎_elim, refl, sym, ◌∙◌, ap, subst, arith}
-use Rattle.std.specs.Prelude.{◌↔◌, Option, Some, None, IsTrue, if◌then◌else◌, is_none, unwrap_or}
+use Rattle.std.proofs.Common.{◌≡◌, ◌≢◌, ℕ, ◌==◌, Bool, true, false, [], ◌∷◌, ⊎_elim, refl, sym, ◌∙◌, subst, arith}
+use Rattle.std.specs.Prelude.{◌↔◌, Option, Some, None, IsTrue, if◌then◌else◌, is_none}
 use Rattle.std.specs.BTreeSet.{contains}
 use Rattle.std.specs.Ordering.{nat_cmp}
 use Rattle.std.proofs.lemmas.Bool.{cases_eq, eq-eqb}
@@ -26,6 +26,7 @@ use Rattle.node_votes.specs.declared.rounds.Rounds.{Rounds}
 use Rattle.node_votes.specs.Standing.{AtEach, Common, IsAdmitted, IsCast, Stand, come_up, common_of, is_passed, put, set_at, setup_at, setup_now}
 use Rattle.node_votes.proofs.Changing.{alike, unknown}
 use Rattle.node_votes.proofs.Known.{admission-memory, round-of}
+use Rattle.simplex_member.specs.Layers.{Stage, skips}
 
 module _ {S D P G C : Type 0} where
   -- the first that happens is all that happened
@@ -35,7 +36,7 @@ module _ {S D P G C : Type 0} where
       (λ ne. let other : (at == u) ≡ false = grind (arith, nat_tests) in rw other refl)
       (cases_eq at u)
 
-module _ {S D P G C : Type 0} (g : Ghosts S D P G C) (same : D → D → Bool) (s : Common S) (old new : Rounds S D P G C) (up : ℕ → Option Bool) (happened : ℕ → History S D P G C) (current : ℕ) (k : Stand g same s old up happened) where
+module _ {S D P G C : Type 0} (g : Ghosts S D P G C) (same : D → D → Bool) (s : Common S) (old new : Rounds S D P G C) (up : ℕ → Stage) (happened : ℕ → History S D P G C) (current : ℕ) (k : Stand g same s old up happened) where
   -- something happened to the votes of a view that had no round
   pub first : (at : ℕ) (e : Event (Vote S D P G C) (Certificate S D P G C)) (passed : Bool) → stored old.by_view at ≡ None
       → Stand g same s new (come_up at passed up) (set_at at (e ∷ []) happened) → Stand g same s new (come_up at passed up) (put at e happened)
@@ -76,7 +77,7 @@ module _ {S D P G C : Type 0} (g : Ghosts S D P G C) (same : D → D → Bool) (
     first-why e why = λ s up happened k. subst (λ (w : ℕ). stored old.by_view w ≡ None → IsCastFault same (setup_now g s up w current) (happened w) v e) ours
         (λ none.
         let bare = unknown g same s view (stored old.by_view view) (up view) (happened view) none (k.kept view) in
-        subst (λ (o : Option Bool). IsCastFault same (setup_at g s view (unwrap_or o (is_passed s view current))) (happened view) v e) (sym bare.0)
+        subst (λ (o : Stage). IsCastFault same (setup_at g s view (skips o (is_passed s view current))) (happened view) v e) (sym bare.0)
         (subst (λ (h : History S D P G C). IsCastFault same (setup_at g s view (is_passed s view current)) h v e) (sym bare.1)
         (why (setup_at g s view (is_passed s view current)) [] (fresh s k.shared))))
 
@@ -89,7 +90,7 @@ module _ {S D P G C : Type 0} (g : Ghosts S D P G C) (same : D → D → Bool) (
     (seats : AtEach g same old (λ s up happened. stored old.by_view view ≡ None → contains nat_cmp old.touched view ≡ true → (passed : Bool) (h : History S D P G C) → RoundKeeps same g g.batchable (setup_at g s view passed) round' h
     → Stand g same s new (come_up view passed up) (set_at view h happened))) where
   -- something happened to the votes of a view that had no round
-  pub first-put : (e : Event (Vote S D P G C) (Certificate S D P G C)) (s : Common S) (up : ℕ → Option Bool) (happened : ℕ → History S D P G C) → Stand g same s old up happened → stored old.by_view view ≡ None → contains nat_cmp old.touched view ≡ true
+  pub first-put : (e : Event (Vote S D P G C) (Certificate S D P G C)) (s : Common S) (up : ℕ → Stage) (happened : ℕ → History S D P G C) → Stand g same s old up happened → stored old.by_view view ≡ None → contains nat_cmp old.touched view ≡ true
       → RoundKeeps same g g.batchable (setup_at g s view (is_passed s view current)) round' (e ∷ []) → Stand g same s new (come_up view (is_passed s view current) up) (put view e happened)
   first-put e s up happened k none touched kept = first g same s old new up happened current k view e (is_passed s view current) none (seats s up happened k none touched (is_passed s view current) (e ∷ []) kept)
 

@@ -1,10 +1,9 @@
 -- What comes of a view whose votes came up before.
 use Rattle.std.proofs.Common.{◌≡◌, ◌≢◌, ℕ, ◌==◌, Bool, true, false, ◌∷◌, ⊎_elim, refl, sym, ◌∙◌, subst, arith}
-use Rattle.std.specs.Prelude.{◌↔◌, Option, Some, None, IfOk, IfErr, OnOk, OnErr, Result, Ok, Err, IfSome, IsSome, IsTrue, if◌then◌else◌, is_none, is_some}
+use Rattle.std.specs.Prelude.{◌↔◌, Option, Some, None, IfOk, IfErr, OnOk, OnErr, Result, Ok, Err, IsTrue, if◌then◌else◌, is_none}
 use Rattle.std.specs.BTreeMap.{BTreeMap}
 use Rattle.std.specs.BTreeSet.{BTreeSet, contains}
 use Rattle.std.specs.BTreeSet as sorted
-use Rattle.std.specs.Option.{option_or}
 use Rattle.std.specs.Ordering.{nat_cmp}
 use Rattle.std.specs.declared.cmp.Reverse.{Reverse}
 use Rattle.std.proofs.lemmas.Bool.{cases_eq}
@@ -28,8 +27,9 @@ use Rattle.simplex_batcher.specs.Admission.{AgreesWithOwn, IsAdmissionFault, IsB
 use Rattle.simplex_batcher.specs.Rounds.{RoundKeeps}
 use Rattle.simplex_batcher.specs.Rounds as one
 use Rattle.node_votes.specs.declared.rounds.Rounds.{Rounds}
-use Rattle.node_votes.specs.Standing.{AtEach, Common, IsAdmitted, IsAtRest, IsCast, IsKept, Stand, come_up, is_passed, put, set_at, setup_now}
+use Rattle.node_votes.specs.Standing.{AtEach, Common, IsAdmitted, IsAtRest, IsCast, IsKept, Stand, come_up, is_passed, put, set_at, setup_now, IfUp}
 use Rattle.node_votes.proofs.Changing.{apart-at, changed, itself, kept-still, kept-up, keys-apart, known}
+use Rattle.simplex_member.specs.Layers.{Stage, Unopened, Collected, PassedOver, IsUp, first_up}
 
 -- a round is its epoch and its view
 pub round-of : (r : position.Round) (epoch view : ℕ) → r.epoch ≡ epoch → r.view ≡ view → r ≡ record { epoch = epoch; view = view }
@@ -43,11 +43,12 @@ admission-memory s v Contradicts ours fault = absurd fault
 admission-memory s v Memory ours fault = refl
 
 -- what came up stays so
-pub option-some : {A : Type 0} (o : Option A) (b : A) → IsSome o → option_or o (Some b) ≡ o
-option-some None b some = absurd (cc some)
-option-some (Some x) b some = refl
+pub still-up : (at : Stage) (b : Bool) → IsUp at → first_up at b ≡ at
+still-up Unopened b up = absurd (cc up)
+still-up Collected b up = refl
+still-up PassedOver b up = refl
 
-module _ {S D P G C : Type 0} (g : Ghosts S D P G C) (same : D → D → Bool) (s : Common S) (mid : Rounds S D P G C) (up : ℕ → Option Bool) (happened : ℕ → History S D P G C) (view : ℕ) (k : Stand g same s mid up happened) where
+module _ {S D P G C : Type 0} (g : Ghosts S D P G C) (same : D → D → Bool) (s : Common S) (mid : Rounds S D P G C) (up : ℕ → Stage) (happened : ℕ → History S D P G C) (view : ℕ) (k : Stand g same s mid up happened) where
   module _ (current : ℕ) (round : Round S D P G C) (there : Some round ≡ stored mid.by_view view) where
     pub kept-here : IsKept g same s view (Some round) (up view) (happened view)
     kept-here = subst (λ (o : Option (Round S D P G C)). IsKept g same s view o (up view) (happened view)) (sym there) (k.kept view)
@@ -56,13 +57,14 @@ module _ {S D P G C : Type 0} (g : Ghosts S D P G C) (same : D → D → Bool) (
     pub stands-here : RoundKeeps same g g.batchable (setup_now g s up view current) round (happened view)
     stands-here = known g same s view round (up view) (is_passed s view current) (happened view) kept-here
 
-    pub came-up : (o : Option Bool) → IsKept g same s view (Some round) o (happened view) → is_some o ≡ true
-    came-up None kept = absurd kept
-    came-up (Some x) kept = refl
+    pub came-up : (o : Stage) → IsKept g same s view (Some round) o (happened view) → IsUp o
+    came-up Unopened kept = absurd kept
+    came-up Collected kept = refl
+    came-up PassedOver kept = refl
 
     module _ (round' : Round S D P G C) (m : BTreeMap (Reverse ℕ) (Round S D P G C)) (updates : Stores mid.by_view m view (Some round')) (touched : contains nat_cmp mid.touched view ≡ true) where
       -- its votes changed
-      pub moved : (up' : ℕ → Option Bool) (happened' : ℕ → History S D P G C) → IsKept g same s view (Some round') (up' view) (happened' view)
+      pub moved : (up' : ℕ → Stage) (happened' : ℕ → History S D P G C) → IsKept g same s view (Some round') (up' view) (happened' view)
           → ((u : ℕ) → (view == u) ≡ false → (up' u ≡ up u) × (happened' u ≡ happened u)) → (leader_of (happened view) ≢ None → leader_of (happened' view) ≢ None)
           → Stand g same s (record mid { by_view = m }) up' happened'
       moved up' happened' kept others led = changed g same s mid (record mid { by_view = m }) view up up' happened happened' k refl
@@ -92,13 +94,13 @@ module _ {S D P G C : Type 0} (g : Ghosts S D P G C) (same : D → D → Bool) (
           (rw (itself view) led)
 
   -- nothing is due of a view, which is touched no more
-  pub rested : (t : BTreeSet ℕ) → sorted.UpdatesBy nat_cmp (nat_cmp view) mid.touched t false → IfSome (up view) (λ skipped. IsAtRest g same s view skipped (happened view))
+  pub rested : (t : BTreeSet ℕ) → sorted.UpdatesBy nat_cmp (nat_cmp view) mid.touched t false → IfUp (up view) (λ skipped. IsAtRest g same s view skipped (happened view))
       → Stand g same s (record mid { touched = t }) up happened
   rested t updates rest = record {
     shared = k.shared;
     kept = k.kept;
     at_rest = λ u untouched. ⊎_elim
-        (λ e. subst (λ (w : ℕ). IfSome (up w) (λ skipped. IsAtRest g same s w skipped (happened w))) e rest)
+        (λ e. subst (λ (w : ℕ). IfUp (up w) (λ skipped. IsAtRest g same s w skipped (happened w))) e rest)
         (λ ne. let apart : (view == u) ≡ false = grind (arith, nat_tests) in k.at_rest u (sym (updates.2 u (apart-at view u apart)) ∙ untouched))
         (cases_eq view u);
     named = k.named;

@@ -1,6 +1,6 @@
 -- What comes of opening a view, and of what is done of one.
 use Rattle.std.proofs.Common.{◌≡◌, ◌≢◌, ℕ, ◌==◌, Bool, true, false, [], ◌∷◌, ⊎_elim, refl, sym, ◌∙◌, subst, arith}
-use Rattle.std.specs.Prelude.{◌↔◌, IsTrue, Option, Some, None, IfSome, IsSome, MatchOption, if◌then◌else◌, is_none, is_some, unwrap_or}
+use Rattle.std.specs.Prelude.{◌↔◌, IsTrue, Option, Some, None, IsSome, MatchOption, if◌then◌else◌, is_none, is_some}
 use Rattle.std.specs.BTreeMap.{BTreeMap}
 use Rattle.std.specs.BTreeSet.{BTreeSet, contains}
 use Rattle.std.specs.BTreeSet as sorted
@@ -21,9 +21,10 @@ use Rattle.simplex_batcher.specs.Rounds as one
 use Rattle.node_votes.specs.declared.due.Due.{Due}
 use Rattle.node_votes.specs.declared.due.Due.TheVariants as due
 use Rattle.node_votes.specs.declared.rounds.Rounds.{Rounds}
-use Rattle.node_votes.specs.Standing.{Common, IsAtRest, IsDone, IsKept, IsRoundDone, Stand, come_up, is_passed, put, set_at, setup_at, setup_now}
+use Rattle.node_votes.specs.Standing.{Common, IsAtRest, IsDone, IsKept, IsRoundDone, Stand, come_up, is_passed, put, set_at, setup_at, setup_now, IfUp, WhereUp}
 use Rattle.node_votes.proofs.Changing.{alike, apart-at, changed, itself, kept-still, keys-apart, unknown}
-use Rattle.node_votes.proofs.Known.{came-up, kept-here, moved, moved-set, moved-still, option-some, rested, stands-here}
+use Rattle.node_votes.proofs.Known.{came-up, kept-here, moved, moved-set, moved-still, still-up, rested, stands-here}
+use Rattle.simplex_member.specs.Layers.{Stage, Unopened, Collected, PassedOver, IsUp, skips}
 
 not-none : {A : Type 0} (o : Option A) → o ≢ None → is_none o ≡ false
 not-none None known = absurd (known refl)
@@ -31,42 +32,46 @@ not-none (Some x) known = refl
 
 module _ {S D P G C : Type 0} (g : Ghosts S D P G C) (same : D → D → Bool) where
   -- a round is there exactly where votes came up
-  pub there-up : (s : Common S) (view : ℕ) (o : Option (Round S D P G C)) (up : Option Bool) (h : History S D P G C) → IsSome o → IsKept g same s view o up h → IsSome up
+  pub there-up : (s : Common S) (view : ℕ) (o : Option (Round S D P G C)) (up : Stage) (h : History S D P G C) → IsSome o → IsKept g same s view o up h → IsUp up
   there-up s view None up h some k = absurd (cc some)
-  there-up s view (Some r) None h some k = absurd k
-  there-up s view (Some r) (Some x) h some k = refl
+  there-up s view (Some r) Unopened h some k = absurd k
+  there-up s view (Some r) Collected h some k = refl
+  there-up s view (Some r) PassedOver h some k = refl
 
   -- and the other way round
-  pub both-there : (s : Common S) (view : ℕ) (o : Option (Round S D P G C)) (up : Option Bool) (h : History S D P G C) → IsKept g same s view o up h → IsTrue (is_some o) ↔ IsSome up
+  pub both-there : (s : Common S) (view : ℕ) (o : Option (Round S D P G C)) (up : Stage) (h : History S D P G C) → IsKept g same s view o up h → IsTrue (is_some o) ↔ IsUp up
   both-there s view None up h k = (λ some. absurd (cc some), λ some. absurd (cc (k.0, some)))
-  both-there s view (Some r) None h k = absurd k
-  both-there s view (Some r) (Some x) h k = (λ some. refl, λ some. refl)
+  both-there s view (Some r) Unopened h k = absurd k
+  both-there s view (Some r) Collected h k = (λ some. refl, λ some. refl)
+  both-there s view (Some r) PassedOver h k = (λ some. refl, λ some. refl)
 
   -- something happened to those votes alone that came up
-  pub came-where-kept : (s : Common S) (view : ℕ) (o : Option (Round S D P G C)) (up : Option Bool) (h : History S D P G C) → IsKept g same s view o up h → h ≢ [] → IsSome up
+  pub came-where-kept : (s : Common S) (view : ℕ) (o : Option (Round S D P G C)) (up : Stage) (h : History S D P G C) → IsKept g same s view o up h → h ≢ [] → IsUp up
   came-where-kept s view None up h k some = absurd (some k.1)
-  came-where-kept s view (Some r) None h k some = absurd k
-  came-where-kept s view (Some r) (Some x) h k some = refl
+  came-where-kept s view (Some r) Unopened h k some = absurd k
+  came-where-kept s view (Some r) Collected h k some = refl
+  came-where-kept s view (Some r) PassedOver h k some = refl
 
-  pub kept-none : (s : Common S) (view : ℕ) (o : Option (Round S D P G C)) (up : Option Bool) (h : History S D P G C) → up ≡ None → IsKept g same s view o up h → o ≡ None
+  pub kept-none : (s : Common S) (view : ℕ) (o : Option (Round S D P G C)) (up : Stage) (h : History S D P G C) → up ≡ Unopened → IsKept g same s view o up h → o ≡ None
   kept-none s view None up h none k = refl
-  kept-none s view (Some r) None h none k = absurd k
-  kept-none s view (Some r) (Some x) h none k = absurd (cc none)
+  kept-none s view (Some r) Unopened h none k = absurd k
+  kept-none s view (Some r) Collected h none k = absurd (cc none)
+  kept-none s view (Some r) PassedOver h none k = absurd (cc none)
 
   -- the votes of a view come up that did before
-  pub open-still : (s : Common S) (r : Rounds S D P G C) (up : ℕ → Option Bool) (happened : ℕ → History S D P G C) (view : ℕ) (b : Bool) → IsSome (stored r.by_view view) → Stand g same s r up happened
+  pub open-still : (s : Common S) (r : Rounds S D P G C) (up : ℕ → Stage) (happened : ℕ → History S D P G C) (view : ℕ) (b : Bool) → IsSome (stored r.by_view view) → Stand g same s r up happened
       → Stand g same s r (come_up view b up) happened
   open-still s r up happened view b some k =
-      let came : IsSome (up view) = there-up s view (stored r.by_view view) (up view) (happened view) some (k.kept view) in
+      let came : IsUp (up view) = there-up s view (stored r.by_view view) (up view) (happened view) some (k.kept view) in
       alike g same s r up (come_up view b up) happened happened
       (λ u. ⊎_elim
-      (λ e. let here : (view == u) ≡ true = eq-eqb view u e in let up_u : IsSome (up u) = subst (λ (w : ℕ). IsSome (up w)) e came in rw here (option-some (up u) b up_u))
+      (λ e. let here : (view == u) ≡ true = eq-eqb view u e in let up_u : IsUp (up u) = subst (λ (w : ℕ). IsUp (up w)) e came in rw here (still-up (up u) b up_u))
       (λ ne. let other : (view == u) ≡ false = grind (arith, nat_tests) in rw other refl)
       (cases_eq view u))
       (λ u. refl) k
 
   -- they come up, and nothing happened to them
-  pub open-first : (s : Common S) (old mid new : Rounds S D P G C) (up : ℕ → Option Bool) (happened : ℕ → History S D P G C) (view : ℕ) (b : Bool) → stored old.by_view view ≡ None → Stand g same s old up happened → Stand g same s mid up happened
+  pub open-first : (s : Common S) (old mid new : Rounds S D P G C) (up : ℕ → Stage) (happened : ℕ → History S D P G C) (view : ℕ) (b : Bool) → stored old.by_view view ≡ None → Stand g same s old up happened → Stand g same s mid up happened
       → (stored mid.by_view view ≡ None → Stand g same s new (come_up view b up) (set_at view [] happened)) → Stand g same s new (come_up view b up) happened
   open-first s old mid new up happened view b none k k' seats =
       let bare = unknown g same s view (stored old.by_view view) (up view) (happened view) none (k.kept view) in
@@ -79,7 +84,7 @@ module _ {S D P G C : Type 0} (g : Ghosts S D P G C) (same : D → D → Bool) w
       (seats still)
 
   -- the leader is named
-  pub known-led : (s : Common S) (mid : Rounds S D P G C) (up : ℕ → Option Bool) (happened : ℕ → History S D P G C) (view leader : ℕ) (round round' : Round S D P G C) (m : BTreeMap (Reverse ℕ) (Round S D P G C)) (t : BTreeSet ℕ)
+  pub known-led : (s : Common S) (mid : Rounds S D P G C) (up : ℕ → Stage) (happened : ℕ → History S D P G C) (view leader : ℕ) (round round' : Round S D P G C) (m : BTreeMap (Reverse ℕ) (Round S D P G C)) (t : BTreeSet ℕ)
       → Some round ≡ stored mid.by_view view → Stores mid.by_view m view (Some round') → contains nat_cmp mid.touched view ≡ true → sorted.UpdatesBy nat_cmp (nat_cmp view) mid.unled t false
       → one.AtEach same g g.batchable round (λ st h. RoundKeeps same g g.batchable st round' (if is_none (leader_of h) then Led leader ∷ h else h)) → leader_of (happened view) ≡ None → Stand g same s mid up happened
       → Stand g same s (record mid { by_view = m; unled = t }) up (put view (Led leader) happened)
@@ -96,7 +101,7 @@ module _ {S D P G C : Type 0} (g : Ghosts S D P G C) (same : D → D → Bool) w
       (λ no some. rw (itself view) (λ never. absurd (cc never)))
 
   -- or it is named again
-  pub known-again : (s : Common S) (mid : Rounds S D P G C) (up : ℕ → Option Bool) (happened : ℕ → History S D P G C) (view leader : ℕ) (round round' : Round S D P G C) (m : BTreeMap (Reverse ℕ) (Round S D P G C)) (t : BTreeSet ℕ)
+  pub known-again : (s : Common S) (mid : Rounds S D P G C) (up : ℕ → Stage) (happened : ℕ → History S D P G C) (view leader : ℕ) (round round' : Round S D P G C) (m : BTreeMap (Reverse ℕ) (Round S D P G C)) (t : BTreeSet ℕ)
       → Some round ≡ stored mid.by_view view → Stores mid.by_view m view (Some round') → contains nat_cmp mid.touched view ≡ true → sorted.UpdatesBy nat_cmp (nat_cmp view) mid.unled t false
       → one.AtEach same g g.batchable round (λ st h. RoundKeeps same g g.batchable st round' (if is_none (leader_of h) then Led leader ∷ h else h)) → leader_of (happened view) ≢ None → Stand g same s mid up happened
       → Stand g same s (record mid { by_view = m; unled = t }) up happened
@@ -124,10 +129,11 @@ module _ {S D P G C : Type 0} (g : Ghosts S D P G C) (same : D → D → Bool) w
       go None e = rw e led
       go (Some c) e = rw e led
 
-  module _ (s : Common S) (old : Rounds S D P G C) (up : ℕ → Option Bool) (happened : ℕ → History S D P G C) (view : ℕ) (k : Stand g same s old up happened) (round round' : Round S D P G C) (there : Some round ≡ stored old.by_view view) where
-    kept-at : (Q : Bool → Type 0) (o : Option Bool) (b : Bool) → IsKept g same s view (Some round) o (happened view) → Q (unwrap_or o b) → MatchOption o ⊥ Q
-    kept-at Q None b kept q = absurd kept
-    kept-at Q (Some x) b kept q = q
+  module _ (s : Common S) (old : Rounds S D P G C) (up : ℕ → Stage) (happened : ℕ → History S D P G C) (view : ℕ) (k : Stand g same s old up happened) (round round' : Round S D P G C) (there : Some round ≡ stored old.by_view view) where
+    kept-at : (Q : Bool → Type 0) (o : Stage) (b : Bool) → IsKept g same s view (Some round) o (happened view) → Q (skips o b) → WhereUp o Q
+    kept-at Q Unopened b kept q = absurd kept
+    kept-at Q Collected b kept q = q
+    kept-at Q PassedOver b kept q = q
 
     -- nothing happened
     pub same-still : (m : BTreeMap (Reverse ℕ) (Round S D P G C)) → Stores old.by_view m view (Some round') → RoundKeeps same g g.batchable (setup_now g s up view 0) round' (happened view) → Stand g same s (record old { by_view = m }) up happened
@@ -155,9 +161,10 @@ module _ {S D P G C : Type 0} (g : Ghosts S D P G C) (same : D → D → Bool) w
           (next_kind same (setup_now g s up view 0) (happened view))
           (λ kind p. (p.0, moved-set g same s old up happened view k 0 round there round' m updates touched (after kind (Some batch) (happened view)) (after-led kind batch (happened view)) p.1)) done)
 
-      rest-at : (Q : Bool → Type 0) (o : Option Bool) (b : Bool) → Q (unwrap_or o b) → IfSome o Q
-      rest-at Q None b q = tt
-      rest-at Q (Some x) b q = q
+      rest-at : (Q : Bool → Type 0) (o : Stage) (b : Bool) → Q (skips o b) → IfUp o Q
+      rest-at Q Unopened b q = tt
+      rest-at Q Collected b q = q
+      rest-at Q PassedOver b q = q
 
       -- nothing was
       pub known-rests : (me : ℕ) (t : BTreeSet ℕ) → me ≡ s.me → sorted.UpdatesBy nat_cmp (nat_cmp view) old.touched t false → IsRoundDone g same (setup_now g s up view 0) (happened view) me round' None → Stand g same s (record old { by_view = m; touched = t }) up happened
@@ -165,7 +172,7 @@ module _ {S D P G C : Type 0} (g : Ghosts S D P G C) (same : D → D → Bool) w
           (rest-at (λ skipped. IsAtRest g same s view skipped (happened view)) (up view) (is_passed s view 0) (record { no_construction = done.1; no_forward = subst (λ (i : ℕ). forwardable (happened view) i ≡ None) is done.0 }))
 
   -- a view without a round rests
-  pub none-rests : (s : Common S) (old : Rounds S D P G C) (up : ℕ → Option Bool) (happened : ℕ → History S D P G C) (view : ℕ) (t : BTreeSet ℕ) → stored old.by_view view ≡ None → sorted.UpdatesBy nat_cmp (nat_cmp view) old.touched t false
+  pub none-rests : (s : Common S) (old : Rounds S D P G C) (up : ℕ → Stage) (happened : ℕ → History S D P G C) (view : ℕ) (t : BTreeSet ℕ) → stored old.by_view view ≡ None → sorted.UpdatesBy nat_cmp (nat_cmp view) old.touched t false
       → Stand g same s old up happened → Stand g same s (record old { touched = t }) up happened
   none-rests s old up happened view t none gone k =
       let bare = unknown g same s view (stored old.by_view view) (up view) (happened view) none (k.kept view) in

@@ -1,6 +1,6 @@
 -- Looking for the first view whose leader may not be named.
 use Rattle.std.proofs.Common.{◌≡◌, ◌≢◌, ◌≤◌, ◌<◌, ℕ, Bool, true, false, List, [], ◌∷◌, ⊎_elim, refl, subst, arith}
-use Rattle.std.specs.Prelude.{Option, Some, None, IfSome, IsSome, IsTrue, MatchOption, length}
+use Rattle.std.specs.Prelude.{Option, Some, None, IfSome, IsTrue, MatchOption, length}
 use Rattle.std.specs.Ordering.{nat_cmp}
 use Rattle.std.specs.declared.ops.Bound.TheVariants.{Excluded, Included, Unbounded}
 use Rattle.std.specs.BTreeSet.{BTreeSet, IsKeyRangeOf, btree_set_len, contains}
@@ -10,6 +10,7 @@ use Rattle.types_core.specs.declared.scheme.Scheme.{Ghosts}
 use Rattle.batcher_verifier.specs.History.{History, leader_of}
 use Rattle.node_votes.specs.declared.rounds.Rounds.{Rounds}
 use Rattle.node_votes.specs.Standing.{AreLedFrom, Common, Stand}
+use Rattle.simplex_member.specs.Layers.{Stage, IsUp}
 
 isnt : (b : Bool) → (IsTrue b → ⊥) → b ≡ false
 isnt true never = absurd (never refl)
@@ -41,15 +42,15 @@ module _ (set : BTreeSet ℕ) (last : ℕ) (range : List ℕ) (is_range : IsKeyR
 
 module _ {S D P G C : Type 0} where
   -- of the views from one on up to this one, on whose votes came up, they know who leads
-  abbrev pub AreLedTo : (ℕ → Option Bool) → (ℕ → History S D P G C) → ℕ → ℕ → Type 0
-  AreLedTo up happened from to = (u : ℕ) → from ≤ u → u < to → IsSome (up u) → leader_of (happened u) ≢ None
+  abbrev pub AreLedTo : (ℕ → Stage) → (ℕ → History S D P G C) → ℕ → ℕ → Type 0
+  AreLedTo up happened from to = (u : ℕ) → from ≤ u → u < to → IsUp (up u) → leader_of (happened u) ≢ None
 
-module _ {S D P G C : Type 0} (g : Ghosts S D P G C) (same : D → D → Bool) (s : Common S) (r : Rounds S D P G C) (up : ℕ → Option Bool) (happened : ℕ → History S D P G C) (k : Stand g same s r up happened) (from last : ℕ)
-    (led : AreLedTo up happened from last) (none : IsSome (up last) → ⊥) where
-  here : (u : ℕ) → last ≤ u → (last < u → contains nat_cmp r.unled u ≡ false) → IsSome (up u) → leader_of (happened u) ≢ None
+module _ {S D P G C : Type 0} (g : Ghosts S D P G C) (same : D → D → Bool) (s : Common S) (r : Rounds S D P G C) (up : ℕ → Stage) (happened : ℕ → History S D P G C) (k : Stand g same s r up happened) (from last : ℕ)
+    (led : AreLedTo up happened from last) (none : IsUp (up last) → ⊥) where
+  here : (u : ℕ) → last ≤ u → (last < u → contains nat_cmp r.unled u ≡ false) → IsUp (up u) → leader_of (happened u) ≢ None
   here u at named some = ⊎_elim
       (λ lt. k.named u (named lt) some)
-      (λ ge. let same_view : u ≡ last = omega (arith, at, ge) in absurd (none (subst (λ (w : ℕ). IsSome (up w)) same_view some)))
+      (λ ge. let same_view : u ≡ last = omega (arith, at, ge) in absurd (none (subst (λ (w : ℕ). IsUp (up w)) same_view some)))
       (cases_lt last u)
 
   -- the votes of a view came not up, and the leaders of those behind are named, up to the next one

@@ -1,6 +1,5 @@
 -- At which history of its node the votes of all views stand.
-use Rattle.std.specs.Prelude.{◌≡◌, ◌≢◌, ◌⊎◌, ◌<◌, ◌≤◌, ◌&&◌, nat_lt, ℕ, Bool, [], ◌∷◌, Option, Some, None, IsSome, MatchOption, if◌then◌else◌, is_none, true, false}
-use Rattle.std.specs.Option.{option_or}
+use Rattle.std.specs.Prelude.{◌≡◌, ◌≢◌, ◌⊎◌, ◌<◌, ◌≤◌, ◌&&◌, nat_lt, ℕ, Bool, [], ◌∷◌, Some, None, MatchOption, if◌then◌else◌, is_none, true, false}
 use Rattle.types_core.specs.declared.position.Round.{Round}
 use Rattle.types_core.specs.declared.scheme.Scheme.{Ghosts}
 use Rattle.types_core.specs.Positions.{HasRoom}
@@ -8,9 +7,9 @@ use Rattle.batcher_verifier.specs.History as votes
 use Rattle.simplex_messages.specs.declared.vote.Vote.{Vote}
 use Rattle.simplex_messages.specs.VoteParts.{vote_round, vote_signer}
 use Rattle.batcher_verifier.specs.ConstructionResult.{IsBatch}
-use Rattle.batcher_verifier.specs.History.{forwardable, leader_of, next_kind, recorded}
+use Rattle.batcher_verifier.specs.History.{forwardable, next_kind, recorded}
 use Rattle.batcher_verifier.specs.Votes.{vote_attestation, vote_statement}
-use Rattle.simplex_member.specs.Layers.{add_point, all_votes, concerns, current_of, floor_of, has_room, may_enter, opened, passes_over, stage, votes_of, votes_setup}
+use Rattle.simplex_member.specs.Layers.{add_point, all_votes, concerns, current_of, floor_of, has_room, may_enter, opened, passes_over, stage, votes_of, votes_setup, Stage, Unopened, IsUp, first_up}
 use Rattle.simplex_member.specs.Point.{History, Point, Constructs, Forwards}
 use Rattle.simplex_member.specs.Setup.{Setup}
 use Rattle.node_votes.specs.declared.acceptance.Acceptance.{Acceptance}
@@ -50,15 +49,15 @@ module _ {S D P G C : Type 0} where
     pub free : is_none (recorded (votes_of s h (vote_round v).view) v) ≡ true
 
   -- whether the votes of a view came up, a point ahead: what the point brings is taken, and the view that it enters is not entered yet
-  abbrev pub stage_ahead : Setup S D C → History S D P G C → Point S D P G C → ℕ → Option Bool
-  stage_ahead s h p view = if nat_lt view (floor_of s h) then None else (if concerns view p && has_room s.voter.length view then option_or (opened s h view) (Some (passes_over s h view)) else opened s h view)
+  abbrev pub stage_ahead : Setup S D C → History S D P G C → Point S D P G C → ℕ → Stage
+  stage_ahead s h p view = if nat_lt view (floor_of s h) then Unopened else (if concerns view p && has_room s.voter.length view then first_up (opened s h view) (passes_over s h view) else opened s h view)
 
   -- what happened to the votes of a view, a point ahead
   abbrev pub votes_ahead : Setup S D C → History S D P G C → Point S D P G C → ℕ → votes.History S D P G C
   votes_ahead s h p view = if nat_lt view (floor_of s h) then [] else add_point view p (all_votes view h)
 
 module _ {S D P G C : Type 0} (g : Ghosts S D P G C) (same : D → D → Bool) where
-  pub record IsAt (s : Setup S D C) (a : Acceptance S D P G C) (current floor : ℕ) (up : ℕ → Option Bool) (happened : ℕ → votes.History S D P G C) : Type 0 where
+  pub record IsAt (s : Setup S D C) (a : Acceptance S D P G C) (current floor : ℕ) (up : ℕ → Stage) (happened : ℕ → votes.History S D P G C) : Type 0 where
     pub length_is : a.length ≡ s.voter.length
     pub current_is : a.current ≡ current
     pub floor_is : a.floor ≡ floor
@@ -79,13 +78,13 @@ module _ {S D P G C : Type 0} (g : Ghosts S D P G C) (same : D → D → Bool) w
 
   -- of the votes of no view a construction is due, nor a proposal to forward
   pub record NoneIsDue (s : Setup S D C) (h : History S D P G C) : Type 0 where
-    pub no_construction : (view : ℕ) → IsSome (stage s h view) → next_kind same (votes_setup s g h view) (votes_of s h view) ≡ None
-    pub no_forward : (view : ℕ) → IsSome (stage s h view) → forwardable (votes_of s h view) s.me ≡ None
+    pub no_construction : (view : ℕ) → IsUp (stage s h view) → next_kind same (votes_setup s g h view) (votes_of s h view) ≡ None
+    pub no_forward : (view : ℕ) → IsUp (stage s h view) → forwardable (votes_of s h view) s.me ≡ None
 
   -- what was due of the votes of a view is done: their proposal is forwarded; or a construction was made, by which a view may be entered
   abbrev pub Does : Setup S D C → History S D P G C → Acceptance S D P G C → ℕ → Due S D P G C → Type 0
-  Does s h new view (due.Forwards p) = IsSome (stage s h view) × (forwardable (votes_of s h view) s.me ≡ Some p) × Keeps s new (Forwards view p ∷ h)
-  Does s h new view (due.Made batch) = IsSome (stage s h view) × MatchOption (next_kind same (votes_setup s g h view) (votes_of s h view)) ⊥
+  Does s h new view (due.Forwards p) = IsUp (stage s h view) × (forwardable (votes_of s h view) s.me ≡ Some p) × Keeps s new (Forwards view p ∷ h)
+  Does s h new view (due.Made batch) = IsUp (stage s h view) × MatchOption (next_kind same (votes_setup s g h view) (votes_of s h view)) ⊥
       (λ kind. IsBatch g same (votes_setup s g h view) kind (votes_of s h view) batch × KeepsAhead s new h (Constructs view kind batch))
 
 module _ {S D P G C : Type 0} where
@@ -104,4 +103,4 @@ module _ {S D P G C : Type 0} (g : Ghosts S D P G C) (same : D → D → Bool) w
 
   -- something happened to the votes of those views alone whose votes came up
   abbrev pub KeptCameUp : Type 0
-  KeptCameUp = (s : Setup S D C) (a : Acceptance S D P G C) (h : History S D P G C) (view : ℕ) → Keeps g same s a h → votes_of s h view ≢ [] → IsSome (stage s h view)
+  KeptCameUp = (s : Setup S D C) (a : Acceptance S D P G C) (h : History S D P G C) (view : ℕ) → Keeps g same s a h → votes_of s h view ≢ [] → IsUp (stage s h view)

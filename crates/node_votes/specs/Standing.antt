@@ -1,7 +1,6 @@
 -- What is kept of the votes of all views.
-use Rattle.std.specs.Prelude.{◌≡◌, ◌≢◌, ◌↔◌, ◌≤◌, ◌<◌, ◌==◌, ◌&&◌, nat_lt, not, ℕ, Bool, true, false, [], ◌∷◌, Option, Some, None, IfSome, IsSome, IsTrue, MatchOption, if◌then◌else◌, is_none, unwrap_or, ⊤}
+use Rattle.std.specs.Prelude.{◌≡◌, ◌≢◌, ◌↔◌, ◌≤◌, ◌<◌, ◌==◌, ◌&&◌, nat_lt, not, ℕ, Bool, true, false, [], ◌∷◌, Option, Some, None, IfSome, IsTrue, MatchOption, if◌then◌else◌, is_none, ⊤}
 use Rattle.std.specs.BTreeSet.{contains}
-use Rattle.std.specs.Option.{option_or}
 use Rattle.std.specs.Ordering.{nat_cmp}
 use Rattle.types_quorum.specs.Committee.{quorum}
 use Rattle.types_core.specs.LatestFirst.{stored}
@@ -21,6 +20,7 @@ use Rattle.simplex_batcher.specs.Rounds.{RoundKeeps}
 use Rattle.node_votes.specs.declared.due.Due.{Due}
 use Rattle.node_votes.specs.declared.due.Due.TheVariants as due
 use Rattle.node_votes.specs.declared.rounds.Rounds.{Rounds}
+use Rattle.simplex_member.specs.Layers.{Stage, Unopened, Collected, PassedOver, IsUp, first_up, skips}
 
 -- what stays the same of the votes of all views
 pub record Common (S : Type 0) : Type 0 where
@@ -32,17 +32,28 @@ pub record Common (S : Type 0) : Type 0 where
   -- votes are kept in full for good
   pub tracks : Bool
 
+-- where votes came up, this holds of whether their view is passed over; the same, and they did
+abbrev pub IfUp : Stage → (Bool → Type 0) → Type 0
+IfUp Unopened Holds = ⊤
+IfUp Collected Holds = Holds false
+IfUp PassedOver Holds = Holds true
+
+abbrev pub WhereUp : Stage → (Bool → Type 0) → Type 0
+WhereUp Unopened Holds = ⊥
+WhereUp Collected Holds = Holds false
+WhereUp PassedOver Holds = Holds true
+
 -- a view whose votes come up at this current view is passed over: it is behind, and votes of such views are not kept
 abbrev pub is_passed : {S : Type 0} → Common S → ℕ → ℕ → Bool
 is_passed s view current = nat_lt view current && not s.tracks
 
 -- the votes of a view come up, where they didn't before, and are passed over or not; those of other views do as before
-abbrev pub come_up : ℕ → Bool → (ℕ → Option Bool) → ℕ → Option Bool
-come_up at passed up view = if at == view then option_or (up view) (Some passed) else up view
+abbrev pub come_up : ℕ → Bool → (ℕ → Stage) → ℕ → Stage
+come_up at passed up view = if at == view then first_up (up view) passed else up view
 
 -- of the views from the floor on the same came up
-abbrev pub up_from : ℕ → (ℕ → Option Bool) → ℕ → Option Bool
-up_from floor up view = if nat_lt view floor then None else up view
+abbrev pub up_from : ℕ → (ℕ → Stage) → ℕ → Stage
+up_from floor up view = if nat_lt view floor then Unopened else up view
 
 module _ {S D P G C : Type 0} where
   -- one more thing happened to the votes of a view
@@ -74,14 +85,14 @@ module _ {S D P G C : Type 0} where
   CanBeRead within members due = ⊤
 
   -- of each view from this one on whose votes came up they know who leads
-  abbrev pub AreLedFrom : (ℕ → Option Bool) → (ℕ → History S D P G C) → ℕ → Type 0
-  AreLedFrom up happened from = (view : ℕ) → from ≤ view → IsSome (up view) → leader_of (happened view) ≢ None
+  abbrev pub AreLedFrom : (ℕ → Stage) → (ℕ → History S D P G C) → ℕ → Type 0
+  AreLedFrom up happened from = (view : ℕ) → from ≤ view → IsUp (up view) → leader_of (happened view) ≢ None
 
   -- this is the first view from that one on whose votes came up and may not know who leads
-  pub record IsFirstUnled (up : ℕ → Option Bool) (happened : ℕ → History S D P G C) (from view : ℕ) : Type 0 where
+  pub record IsFirstUnled (up : ℕ → Stage) (happened : ℕ → History S D P G C) (from view : ℕ) : Type 0 where
     pub behind : from ≤ view
-    pub there : IsSome (up view)
-    pub first : (u : ℕ) → from ≤ u → u < view → IsSome (up u) → leader_of (happened u) ≢ None
+    pub there : IsUp (up view)
+    pub first : (u : ℕ) → from ≤ u → u < view → IsUp (up u) → leader_of (happened u) ≢ None
 
 module _ {S D P G C : Type 0} (g : Ghosts S D P G C) where
   -- what stays the same of the votes of one view, passed over or not
@@ -97,13 +108,13 @@ module _ {S D P G C : Type 0} (g : Ghosts S D P G C) where
   }
 
   -- the same at this current view: where its votes didn't come up, as if they did now
-  abbrev pub setup_now : Common S → (ℕ → Option Bool) → ℕ → ℕ → Setup S
-  setup_now s up view current = setup_at s view (unwrap_or (up view) (is_passed s view current))
+  abbrev pub setup_now : Common S → (ℕ → Stage) → ℕ → ℕ → Setup S
+  setup_now s up view current = setup_at s view (skips (up view) (is_passed s view current))
 
 module _ {S D P G C : Type 0} (g : Ghosts S D P G C) (same : D → D → Bool) where
   -- the votes of a view stand in its round where this history leads; there is a round exactly where they came up
-  abbrev pub IsKept : Common S → ℕ → Option (Round S D P G C) → Option Bool → History S D P G C → Type 0
-  IsKept s view round up happened = MatchOption round ((up ≡ None) × (happened ≡ [])) (λ r. MatchOption up ⊥ (λ skipped. RoundKeeps same g g.batchable (setup_at g s view skipped) r happened))
+  abbrev pub IsKept : Common S → ℕ → Option (Round S D P G C) → Stage → History S D P G C → Type 0
+  IsKept s view round up happened = MatchOption round ((up ≡ Unopened) × (happened ≡ [])) (λ r. WhereUp up (λ skipped. RoundKeeps same g g.batchable (setup_at g s view skipped) r happened))
 
   -- nothing is due of the votes of a view: no construction, and no proposal to forward
   pub record IsAtRest (s : Common S) (view : ℕ) (skipped : Bool) (happened : History S D P G C) : Type 0 where
@@ -111,23 +122,23 @@ module _ {S D P G C : Type 0} (g : Ghosts S D P G C) (same : D → D → Bool) w
     pub no_forward : forwardable happened s.me ≡ None
 
   -- nothing is due of the votes of any view
-  abbrev pub AreAtRest : Common S → (ℕ → Option Bool) → (ℕ → History S D P G C) → Type 0
-  AreAtRest s up happened = (view : ℕ) → IfSome (up view) (λ skipped. IsAtRest s view skipped (happened view))
+  abbrev pub AreAtRest : Common S → (ℕ → Stage) → (ℕ → History S D P G C) → Type 0
+  AreAtRest s up happened = (view : ℕ) → IfUp (up view) (λ skipped. IsAtRest s view skipped (happened view))
 
   -- The votes of each view stand where this happened to them, those of which came up. Nothing is due of a view that is not touched,
   -- and the leader of one that waits for none is named.
-  pub record Stand (s : Common S) (r : Rounds S D P G C) (up : ℕ → Option Bool) (happened : ℕ → History S D P G C) : Type 0 where
+  pub record Stand (s : Common S) (r : Rounds S D P G C) (up : ℕ → Stage) (happened : ℕ → History S D P G C) : Type 0 where
     pub shared : common_of r ≡ s
     pub kept : (view : ℕ) → IsKept s view (stored r.by_view view) (up view) (happened view)
-    pub at_rest : (view : ℕ) → contains nat_cmp r.touched view ≡ false → IfSome (up view) (λ skipped. IsAtRest s view skipped (happened view))
-    pub named : (view : ℕ) → contains nat_cmp r.unled view ≡ false → IsSome (up view) → leader_of (happened view) ≢ None
+    pub at_rest : (view : ℕ) → contains nat_cmp r.touched view ≡ false → IfUp (up view) (λ skipped. IsAtRest s view skipped (happened view))
+    pub named : (view : ℕ) → contains nat_cmp r.unled view ≡ false → IsUp (up view) → leader_of (happened view) ≢ None
 
   -- what holds of whatever led here
-  abbrev pub AtEach : Rounds S D P G C → (Common S → (ℕ → Option Bool) → (ℕ → History S D P G C) → Type 0) → Type 0
-  AtEach r Holds = (s : Common S) (up : ℕ → Option Bool) (happened : ℕ → History S D P G C) → Stand s r up happened → Holds s up happened
+  abbrev pub AtEach : Rounds S D P G C → (Common S → (ℕ → Stage) → (ℕ → History S D P G C) → Type 0) → Type 0
+  AtEach r Holds = (s : Common S) (up : ℕ → Stage) (happened : ℕ → History S D P G C) → Stand s r up happened → Holds s up happened
 
   -- what is answered to a vote from the network, and where the votes stand then, by what is kept of its view
-  pub record IsAdmitted (s : Common S) (up : ℕ → Option Bool) (happened : ℕ → History S D P G C) (new : Rounds S D P G C) (current sender : ℕ) (v : Vote S D P G C) (a : Admission S D P G C) : Type 0 where
+  pub record IsAdmitted (s : Common S) (up : ℕ → Stage) (happened : ℕ → History S D P G C) (new : Rounds S D P G C) (current sender : ℕ) (v : Vote S D P G C) (a : Admission S D P G C) : Type 0 where
     pub added : a.added ≡ takes (setup_now g s up (vote_round v).view current) (happened (vote_round v).view) sender v
     pub block : IsTrue a.block ↔ IsBlocked (setup_now g s up (vote_round v).view current) (happened (vote_round v).view) sender v
     pub report : a.report ≡ report_of same (setup_now g s up (vote_round v).view current) (happened (vote_round v).view) sender v
@@ -135,7 +146,7 @@ module _ {S D P G C : Type 0} (g : Ghosts S D P G C) (same : D → D → Bool) w
     pub passed : a.added ≡ false → Stand s new up happened
 
   -- an own vote was told to its round, and contradicts no recorded one: where it is new, it is cast
-  pub record IsCast (s : Common S) (up : ℕ → Option Bool) (happened : ℕ → History S D P G C) (new : Rounds S D P G C) (current : ℕ) (v : Vote S D P G C) (report : Option (Activity S D P G C)) : Type 0 where
+  pub record IsCast (s : Common S) (up : ℕ → Stage) (happened : ℕ → History S D P G C) (new : Rounds S D P G C) (current : ℕ) (v : Vote S D P G C) (report : Option (Activity S D P G C)) : Type 0 where
     pub report_is : report ≡ (if is_none (recorded (happened (vote_round v).view) v) then Some (as_report v) else None)
     pub cast : g.attests s.scheme (vote_signer v) (vote_statement v) (vote_attestation v).signature → is_none (recorded (happened (vote_round v).view) v) ≡ true
         → Stand s new (come_up (vote_round v).view (is_passed s (vote_round v).view current) up) (put (vote_round v).view (Cast v) happened)
@@ -150,8 +161,8 @@ module _ {S D P G C : Type 0} (g : Ghosts S D P G C) (same : D → D → Bool) w
   IsRoundDone s h me new None = (forwardable h me ≡ None) × (next_kind same s h ≡ None) × RoundKeeps same g g.batchable s new h
 
   -- what was due of the votes of a view is done
-  abbrev pub IsDone : Common S → (ℕ → Option Bool) → (ℕ → History S D P G C) → Rounds S D P G C → ℕ → Option (Due S D P G C) → Type 0
-  IsDone s up happened new view (Some (due.Forwards p)) = IsSome (up view) × (forwardable (happened view) s.me ≡ Some p) × Stand s new up (put view Forwarded happened)
-  IsDone s up happened new view (Some (due.Made batch)) = MatchOption (up view) ⊥ (λ skipped. MatchOption (next_kind same (setup_at g s view skipped) (happened view)) ⊥
+  abbrev pub IsDone : Common S → (ℕ → Stage) → (ℕ → History S D P G C) → Rounds S D P G C → ℕ → Option (Due S D P G C) → Type 0
+  IsDone s up happened new view (Some (due.Forwards p)) = IsUp (up view) × (forwardable (happened view) s.me ≡ Some p) × Stand s new up (put view Forwarded happened)
+  IsDone s up happened new view (Some (due.Made batch)) = WhereUp (up view) (λ skipped. MatchOption (next_kind same (setup_at g s view skipped) (happened view)) ⊥
       (λ kind. IsBatch g same (setup_at g s view skipped) kind (happened view) batch × Stand s new up (set_at view (after kind (Some batch) (happened view)) happened)))
   IsDone s up happened new view None = Stand s new up happened

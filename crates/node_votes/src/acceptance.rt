@@ -1,18 +1,17 @@
 //! The votes of all views that a member's node keeps.
 #![tactic(auto)]
 
-ghost use Rattle.std.specs.Prelude.{◌≡◌, ◌≢◌, ◌≤◌, ◌↔◌, ◌∷◌, ℕ, [], true, false, Bool, Option, None, Some, IsSome, IsTrue, IfOk, IfErr, IfSome, OnOk, OnErr, MatchOption, is_none, if◌then◌else◌};
+ghost use Rattle.std.specs.Prelude.{◌≡◌, ◌≢◌, ◌≤◌, ◌↔◌, ◌∷◌, ℕ, [], true, false, Bool, Option, None, Some, IsTrue, IfOk, IfErr, IfSome, OnOk, OnErr, MatchOption, is_none, if◌then◌else◌};
 ghost use Rattle.types_core.specs.Positions.{HasRoom};
 ghost use Rattle.messages_certificates.specs.Artifact.{certificate_artifact};
 ghost use Rattle.messages_certificates.specs.Certificate.{certificate_round};
-ghost use Rattle.simplex_messages.specs.VoteParts.{vote_artifact, vote_round, vote_signer};
+ghost use Rattle.simplex_messages.specs.VoteParts.{vote_artifact, vote_round};
 ghost use Rattle.batcher_admission.specs.Evidence.{as_report};
 ghost use Rattle.batcher_verifier.specs.declared.batcher_fault.BatcherFault.TheVariants.{Memory};
-ghost use Rattle.batcher_verifier.specs.History.{forwardable, leader_of, next_kind, recorded, takes};
-ghost use Rattle.batcher_verifier.specs.Votes.{vote_attestation, vote_statement};
+ghost use Rattle.batcher_verifier.specs.History.{leader_of, recorded, takes};
 ghost use Rattle.simplex_batcher.specs.Admission.{AgreesWithOwn, IsBlocked, IsCastFault, contradicts, report_of};
 ghost use Rattle.simplex_batcher.specs.Queries.{has_nullify, is_missing_voter};
-ghost use Rattle.simplex_member.specs.Layers.{current_of, floor_of, may_enter, stage, votes_of, votes_setup};
+ghost use Rattle.simplex_member.specs.Layers.{current_of, floor_of, may_enter, stage, votes_of, votes_setup, Stage, IsUp};
 ghost use Rattle.simplex_member.specs.Point.{Point, History, Came, Found, Heard, Leads, Votes};
 ghost use Rattle.simplex_member.specs.Setup.{Setup};
 ghost use Rattle.batcher_verifier.specs.History as votes;
@@ -223,7 +222,7 @@ impl<S: Scheme<D> + Drop, D: Digest> Acceptance<S, D> {
 
     /// The current view and the floor rose, by which votes are dropped.
     fn move_to(&mut self, current: View, floor: View)
-        ensures { (s : Setup S D S.Certificate) (before low : ℕ) (up : ℕ → Option Bool)
+        ensures { (s : Setup S D S.Certificate) (before low : ℕ) (up : ℕ → Stage)
             (happened : ℕ → votes.History S D S.PublicKey S.Signature S.Certificate)
             → IsAt S.Scheme D.PartialEq.eq s self.old before low up happened
             → IsAt S.Scheme D.PartialEq.eq s self.new current floor (up_from floor up) (happened_from floor happened) }
@@ -241,7 +240,7 @@ impl<S: Scheme<D> + Drop, D: Digest> Acceptance<S, D> {
     /// then.
     pub fn lead(&mut self, view: View, leader: Participant) -> Result<(), BatcherFault>
         ensures led { OnOk result (AtEach S.Scheme D.PartialEq.eq self.old (λ s h.
-            IsSome (stage s h view) → leader_of (votes_of s h view) ≡ None → Keeps S.Scheme D.PartialEq.eq s self.new (Leads view leader ∷ h))) }
+            IsUp (stage s h view) → leader_of (votes_of s h view) ≡ None → Keeps S.Scheme D.PartialEq.eq s self.new (Leads view leader ∷ h))) }
         ensures again { OnOk result
             (AtEach S.Scheme D.PartialEq.eq self.old (λ s h. leader_of (votes_of s h view) ≢ None → Keeps S.Scheme D.PartialEq.eq s self.new h)) }
         ensures fault { IfErr result (λ e. AtEach S.Scheme D.PartialEq.eq self.old (λ s h. leader_of (votes_of s h view) ≡ None → e ≡ Memory)) }

@@ -1,6 +1,6 @@
 //! The rounds of votes of all views.
 
-ghost use Rattle.std.specs.Prelude.{◌≡◌, ◌≢◌, ◌==◌, ◌↔◌, ◌<◌, ◌≤◌, ℕ, [], true, false, Bool, Option, None, Some, IsSome, IsTrue, IfOk, IfErr, IfSome, OnOk, OnErr, MatchOption, if◌then◌else◌, unwrap_or, is_none};
+ghost use Rattle.std.specs.Prelude.{◌≡◌, ◌≢◌, ◌==◌, ◌↔◌, ◌<◌, ◌≤◌, ℕ, [], true, false, Bool, Option, None, Some, IsSome, IsTrue, IfOk, IfErr, IfSome, OnOk, OnErr, MatchOption, is_none};
 ghost use Rattle.std.specs.BTreeMap.{btree_map_len};
 ghost use Rattle.std.specs.BTreeSet.{btree_set_len, contains};
 ghost use Rattle.std.specs.Ordering.{nat_cmp};
@@ -14,6 +14,7 @@ ghost use Rattle.simplex_batcher.specs.Admission.{AgreesWithOwn, IsCastFault};
 ghost use Rattle.simplex_batcher.specs.Rounds.{RoundKeeps};
 ghost use Rattle.simplex_batcher.specs.Rounds as one;
 ghost use Rattle.node_votes.specs.Standing.{AreAlike, AreAtRest, AreLedFrom, AtEach, CanBeRead, Common, IsAdmitted, IsFirstUnled, IsCast, IsDone, IsRoundDone, Stand, come_up, common_of, happened_from, is_passed, put, set_at, setup_at, setup_now, up_from};
+ghost use Rattle.simplex_member.specs.Layers.{IsUp};
 
 use crate::due::Due;
 use simplex_batcher::{Admission, BatcherFault, Round};
@@ -279,7 +280,7 @@ impl<S: Scheme<D> + Drop, D: Digest> Rounds<S, D> {
     /// Names the leader of a view.
     pub(crate) fn lead(&mut self, view: View, leader: Participant) -> Result<(), BatcherFault>
         ensures led { OnOk result (AtEach S.Scheme D.PartialEq.eq self.old (λ s up happened.
-            IsSome (up view) → leader_of (happened view) ≡ None → Stand S.Scheme D.PartialEq.eq s self.new up (put view (Led leader) happened))) }
+            IsUp (up view) → leader_of (happened view) ≡ None → Stand S.Scheme D.PartialEq.eq s self.new up (put view (Led leader) happened))) }
         ensures again { OnOk result (AtEach S.Scheme D.PartialEq.eq self.old
             (λ s up happened. leader_of (happened view) ≢ None → Stand S.Scheme D.PartialEq.eq s self.new up happened)) }
         ensures refused { IfErr result
@@ -352,7 +353,7 @@ impl<S: Scheme<D> + Drop, D: Digest> Rounds<S, D> {
 
     /// Whether the votes of the view came up.
     fn is_up(&self, view: View) -> bool
-        ensures { AtEach S.Scheme D.PartialEq.eq self.now (λ s up happened. IsTrue result ↔ IsSome (up view)) }
+        ensures { AtEach S.Scheme D.PartialEq.eq self.now (λ s up happened. IsTrue result ↔ IsUp (up view)) }
     {
         self.by_view.contains_key(&Reverse(view))
     }

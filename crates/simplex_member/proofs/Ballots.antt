@@ -1,7 +1,6 @@
 -- The votes of each view are lawful, and no quorum of them is lost.
 use Rattle.std.proofs.Common.{◌≡◌, ◌≢◌, ◌⊎◌, inl, inr, ⊎_elim, ℕ, ◌==◌, ◌&&◌, Bool, true, false, List, [], ◌∷◌, Option, Some, None, refl, sym, ◌∙◌, ap, subst, arith}
-use Rattle.std.specs.Prelude.{Contains, IfSome, IsSome, MatchBool, find, if◌then◌else◌, is_none, is_some, nat_lt, option_map, unwrap_or}
-use Rattle.std.specs.Option.{option_or}
+use Rattle.std.specs.Prelude.{Contains, IfSome, IsSome, MatchBool, find, if◌then◌else◌, is_none, is_some, nat_lt, option_map}
 use Rattle.std.proofs.lemmas.Bool.{and_parts, eqb-true, le-ltb}
 use Rattle.std.proofs.lemmas.Option.{none-some}
 use Rattle.types_quorum.specs.Counting.{Contains-cases, Contains-head, Contains-rest}
@@ -32,7 +31,7 @@ use Rattle.batcher_verifier.specs.ConstructionResult.{IsBatch, IsCertificateOn, 
 use Rattle.batcher_verifier.specs.Quorums.{AllCertified}
 use Rattle.simplex_member.specs.Allowed.{Allowed, AreAllowed, MayRecord}
 use Rattle.simplex_member.specs.Laws.{IsOfVote, RoundLaws}
-use Rattle.simplex_member.specs.Layers.{all_votes, floor_of, opened, opens, passes_over, stage, votes_of, votes_setup}
+use Rattle.simplex_member.specs.Layers.{all_votes, floor_of, opened, opens, passes_over, stage, votes_of, votes_setup, Stage, Unopened, Collected, PassedOver, is_up, IsUp, first_up, skips}
 use Rattle.simplex_member.specs.Member.{NoneDue}
 use Rattle.simplex_member.specs.Packet.{Formats}
 use Rattle.simplex_member.specs.Point.{Point, Found, Heard, Came, Leads, Forwards, Constructs, Votes, History}
@@ -55,13 +54,28 @@ none-is None e = refl
 none-is (Some x) e = absurd (apart e)
 
 -- a view came up so, if it did
-abbrev IsOpenAs : Option Bool → Bool → Type 0
-IsOpenAs o b = (o ≡ Some b) ⊎ (o ≡ None)
+abbrev IsOpenAs : Stage → Bool → Type 0
+IsOpenAs at b = (at ≡ first_up Unopened b) ⊎ (at ≡ Unopened)
 
-open-before : (c : Bool) (a : Option Bool) (d b : Bool) → IsOpenAs (if c then option_or a (Some d) else a) b → IsOpenAs a b
+open-before : (c : Bool) (a : Stage) (d b : Bool) → IsOpenAs (if c then first_up a d else a) b → IsOpenAs a b
 open-before false a d b is = is
-open-before true None d b is = inr refl
-open-before true (Some x) d b is = is
+open-before true Unopened d b is = inr refl
+open-before true Collected d b is = is
+open-before true PassedOver d b is = is
+
+-- a view is passed over as its votes came up
+skipped-as : (b c : Bool) → first_up Unopened b ≡ first_up Unopened c → b ≡ c
+skipped-as true true is = refl
+skipped-as true false is = ap (λ (at : Stage). skips at false) is
+skipped-as false true is = ap (λ (at : Stage). skips at false) is
+skipped-as false false is = refl
+
+never-unopened : (b : Bool) → Unopened ≡ first_up Unopened b → ⊥
+never-unopened true is = apart (ap is_up is)
+never-unopened false is = apart (ap is_up is)
+
+pub up-from : {at to : Stage} → IsUp to → at ≡ to → IsUp at
+up-from up is = subst (λ (x : Stage). IsUp x) (sym is) up
 
 module _ {S D P G C : Type 0} where
   pub way-signer : (v u : Vote S D P G C) → is_in_way v u ≡ true → vote_signer u ≡ vote_signer v
@@ -117,19 +131,19 @@ module _ {S D P G C : Type 0} (g : Ghosts S D P G C) (f : Formats S D P G C) (s 
 
   -- ---- a view that is kept
 
-  pub stage-kept : (h : History S D P G C) (view : ℕ) → IsSome (stage s h view) → nat_lt view (floor_of s h) ≡ false
+  pub stage-kept : (h : History S D P G C) (view : ℕ) → IsUp (stage s h view) → nat_lt view (floor_of s h) ≡ false
   stage-kept h view some = go (nat_lt view (floor_of s h)) some
     where
-      go : (b : Bool) → IsSome (if b then None else opened s h view) → b ≡ false
+      go : (b : Bool) → IsUp (if b then Unopened else opened s h view) → b ≡ false
       go false is = refl
       go true is = absurd (apart is)
 
-  stage-opened : (h : History S D P G C) (view : ℕ) (b : Bool) → stage s h view ≡ Some b → opened s h view ≡ Some b
+  stage-opened : (h : History S D P G C) (view : ℕ) (b : Bool) → stage s h view ≡ first_up Unopened b → opened s h view ≡ first_up Unopened b
   stage-opened h view b is = go (nat_lt view (floor_of s h)) is
     where
-      go : (c : Bool) → (if c then None else opened s h view) ≡ Some b → opened s h view ≡ Some b
+      go : (c : Bool) → (if c then Unopened else opened s h view) ≡ first_up Unopened b → opened s h view ≡ first_up Unopened b
       go false e = e
-      go true e = absurd (none-some b e)
+      go true e = absurd (never-unopened b e)
 
   pub kept-all : (h : History S D P G C) (view : ℕ) → nat_lt view (floor_of s h) ≡ false → votes_of s h view ≡ all_votes view h
   kept-all h view e = ap (λ (c : Bool). if c then [] else all_votes view h) e
@@ -227,8 +241,8 @@ module _ {S D P G C : Type 0} (g : Ghosts S D P G C) (f : Formats S D P G C) (s 
       where
         is_false : b ≡ false
         is_false = ⊎_elim
-            (λ some. some-is b false (sym some ∙ stage-opened h view false a.due.0))
-            (λ none. absurd (none-some false (sym none ∙ stage-opened h view false a.due.0)))
+            (λ some. skipped-as b false (sym some ∙ stage-opened h view false a.due.0))
+            (λ none. absurd (never-unopened false (sym none ∙ stage-opened h view false a.due.0)))
             open_
 
         r : votes.History S D P G C
@@ -238,8 +252,8 @@ module _ {S D P G C : Type 0} (g : Ghosts S D P G C) (f : Formats S D P G C) (s 
         mine = subst (λ (c : Bool). Lawful view c r) is_false before
 
         batch_is : IsBatch g f.same (setup_as view false) kind r batch
-        batch_is = subst (λ (x : votes.History S D P G C). IsBatch g f.same (setup_as view false) kind x batch) (kept-all h view (stage-kept h view (some-from (stage s h view) false a.due.0)))
-            (subst (λ (o : Option Bool). IsBatch g f.same (setup_as view (unwrap_or o (passes_over s h view))) kind (votes_of s h view) batch) a.due.0 a.due.2)
+        batch_is = subst (λ (x : votes.History S D P G C). IsBatch g f.same (setup_as view false) kind x batch) (kept-all h view (stage-kept h view (up-from refl a.due.0)))
+            (subst (λ (o : Stage). IsBatch g f.same (setup_as view (skips o (passes_over s h view))) kind (votes_of s h view) batch) a.due.0 a.due.2)
 
         go : (o : Option (Certificate S D P G C)) → batch.certificate ≡ o → Lawful view false (after kind (Some batch) r)
         go (Some c) e = rw e (batch-round (setup_as view false) kind r batch c batch_is e, mine)
@@ -286,26 +300,30 @@ module _ {S D P G C : Type 0} (g : Ghosts S D P G C) (f : Formats S D P G C) (s 
         step-lawful p h view b all.0 all.1 before (all-lawful h all.1 view b before)
 
     -- the votes of each view that is kept are lawful
-    pub votes-lawful : (h : History S D P G C) → AreAllowed g f s h → (view : ℕ) → IsSome (stage s h view) → IsLawful f.same g.attests (votes_setup s g h view) (votes_of s h view)
+    pub votes-lawful : (h : History S D P G C) → AreAllowed g f s h → (view : ℕ) → IsUp (stage s h view) → IsLawful f.same g.attests (votes_setup s g h view) (votes_of s h view)
     votes-lawful h all view some = go (stage s h view) refl some
       where
-        go : (o : Option Bool) → stage s h view ≡ o → IsSome o → IsLawful f.same g.attests (votes_setup s g h view) (votes_of s h view)
-        go None e is = absurd (apart is)
-        go (Some b) e is =
-            subst (λ (o : Option Bool). IsLawful f.same g.attests (setup_as view (unwrap_or o (passes_over s h view))) (votes_of s h view)) (sym e)
-            (subst (λ (x : votes.History S D P G C). Lawful view b x) (sym (kept-all h view (stage-kept h view some))) (all-lawful h all view b (inl (stage-opened h view b e))))
+        lawful-as : (b : Bool) → stage s h view ≡ first_up Unopened b → Lawful view b (votes_of s h view)
+        lawful-as b e = subst (λ (x : votes.History S D P G C). Lawful view b x) (sym (kept-all h view (stage-kept h view some))) (all-lawful h all view b (inl (stage-opened h view b e)))
+
+        go : (o : Stage) → stage s h view ≡ o → IsUp o → IsLawful f.same g.attests (votes_setup s g h view) (votes_of s h view)
+        go Unopened e is = absurd (apart is)
+        go Collected e is =
+            subst (λ (o : Stage). IsLawful f.same g.attests (setup_as view (skips o (passes_over s h view))) (votes_of s h view)) (sym e) (lawful-as false e)
+        go PassedOver e is =
+            subst (λ (o : Stage). IsLawful f.same g.attests (setup_as view (skips o (passes_over s h view))) (votes_of s h view)) (sym e) (lawful-as true e)
 
     -- where nothing is due, each kind with a valid quorum has its certificate
-    pub no-quorum-lost : (h : History S D P G C) → AreAllowed g f s h → NoneDue g f s h → (view : ℕ) → stage s h view ≡ Some false → AllCertified g.attests (votes_setup s g h view) (votes_of s h view)
+    pub no-quorum-lost : (h : History S D P G C) → AreAllowed g f s h → NoneDue g f s h → (view : ℕ) → stage s h view ≡ Collected → AllCertified g.attests (votes_setup s g h view) (votes_of s h view)
     no-quorum-lost h all none view is =
-        laws.no_quorum_lost (votes_setup s g h view) (votes_of s h view) (ap (λ (o : Option Bool). unwrap_or o (passes_over s h view)) is)
-        (votes-lawful h all view (some-from (stage s h view) false is)) (none.constructions.no_construction view is)
+        laws.no_quorum_lost (votes_setup s g h view) (votes_of s h view) (ap (λ (o : Stage). skips o (passes_over s h view)) is)
+        (votes-lawful h all view (up-from refl is)) (none.constructions.no_construction view is)
 
     -- each attestation that a made certificate lists is that of a known vote that states what the certificate states
     pub made-lists : (h : History S D P G C) → AreAllowed g f s h → (view : ℕ) (kind : Kind) (batch : Batch (Certificate S D P G C)) → Allowed g f s h (Constructs view kind batch) → (c : Certificate S D P G C) → batch.certificate ≡ Some c
         → (a : Attestation G) → Contains (g.lists (certified_by c)) a → IsOfVote g f s h (certificate_statement c) a
     made-lists h all view kind batch allowed c made a here =
-        let sound = votes-lawful h all view (some-from (stage s h view) false allowed.due.0) in
+        let sound = votes-lawful h all view (up-from refl allowed.due.0) in
         let is = if-some (IsFounded g (votes_setup s g h view) kind (votes_of s h view)) batch.certificate c (laws.founded (votes_setup s g h view) (votes_of s h view) kind batch sound allowed.due.2) made in
         let v = is.listed a here in
         let from = accepted-known g f s h all view v.vote (kept-only (nat_lt view (floor_of s h)) (all_votes view h) v.vote v.accepted_is) in

@@ -6,7 +6,6 @@ use Rattle.types_quorum.specs.Counting.{Contains-cases}
 use Rattle.types_core.specs.declared.scheme.Scheme.{Ghosts}
 use Rattle.types_core.specs.Subject.{notarize}
 use Rattle.messages_certificates.specs.declared.artifact.Artifact.{Artifact}
-use Rattle.messages_certificates.specs.declared.artifact.Artifact.TheVariants as artifact
 use Rattle.simplex_messages.specs.declared.vote.Vote.{Vote}
 use Rattle.simplex_messages.specs.declared.vote.Vote.TheVariants as vote
 use Rattle.simplex_messages.specs.VoteParts.{vote_artifact}

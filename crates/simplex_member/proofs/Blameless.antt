@@ -7,7 +7,6 @@ use Rattle.types_quorum.specs.Counting.{Contains-nil}
 use Rattle.types_core.specs.declared.scheme.Scheme.{Ghosts}
 use Rattle.types_core.specs.Quorum.{IsQuorum}
 use Rattle.types_core.specs.Subject.{Statement}
-use Rattle.messages_certificates.specs.declared.artifact.Artifact.TheVariants as artifact
 use Rattle.messages_certificates.specs.declared.certificate.Certificate.{Certificate}
 use Rattle.messages_certificates.specs.declared.certificate.Certificate.TheVariants as certificate
 use Rattle.messages_certificates.specs.Artifact.{certificate_artifact}

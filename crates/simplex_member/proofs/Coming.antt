@@ -1,7 +1,6 @@
 -- A view whose votes came up has room, and lies from 1 on.
-use Rattle.std.proofs.Common.{◌≡◌, ℕ, ◌+◌, ◌*◌, ◌≤◌, ◌^◌, ◌==◌, ◌&&◌, ◌||◌, Bool, true, false, List, [], ◌∷◌, Option, Some, None, refl, subst, arith}
-use Rattle.std.specs.Prelude.{IsSome, if◌then◌else◌, nat_lt}
-use Rattle.std.specs.Option.{option_or}
+use Rattle.std.proofs.Common.{◌≡◌, ℕ, ◌+◌, ◌*◌, ◌≤◌, ◌^◌, ◌==◌, ◌&&◌, ◌||◌, Bool, true, false, List, [], ◌∷◌, refl, subst, arith}
+use Rattle.std.specs.Prelude.{if◌then◌else◌, nat_lt}
 use Rattle.std.proofs.lemmas.Bool.{and_parts, eqb-true, ltb-true}
 use Rattle.types_core.specs.declared.scheme.Scheme.{Ghosts}
 use Rattle.types_core.specs.Positions.{HasRoom, next_term_start}
@@ -13,7 +12,7 @@ use Rattle.simplex_messages.specs.declared.vote.Vote.TheVariants as vote
 use Rattle.simplex_messages.specs.VoteParts.{vote_artifact, vote_round}
 use Rattle.simplex_record.specs.Record.{current_view, enters, entries, greatest}
 use Rattle.simplex_member.specs.Allowed.{Allowed, AreAllowed, MayRecord}
-use Rattle.simplex_member.specs.Layers.{concerns, current_of, floor_of, has_room, may_enter, opened, opens, passes_over, stage}
+use Rattle.simplex_member.specs.Layers.{concerns, current_of, floor_of, has_room, may_enter, opened, opens, passes_over, stage, Stage, Unopened, IsUp, first_up}
 use Rattle.simplex_member.specs.Packet.{Formats}
 use Rattle.simplex_member.specs.Point.{Point, Found, Heard, Came, Votes, History}
 use Rattle.simplex_member.specs.Recorded.{record_of}
@@ -29,24 +28,24 @@ pub either-true : (b c : Bool) (Q : Type 0) → (b || c) ≡ true → (b ≡ tru
 either-true true c Q is first second = first refl
 either-true false c Q is first second = second is
 
-staged : (b : Bool) (o : Option Bool) → IsSome (if b then None else o) → IsSome o
+staged : (b : Bool) (o : Stage) → IsUp (if b then Unopened else o) → IsUp o
 staged true o some = absurd (apart some)
 staged false o some = some
 
 module _ {S D P G C : Type 0} (s : Setup S D C) where
-  opened-room : (h : History S D P G C) (view : ℕ) → IsSome (opened s h view) → has_room s.voter.length view ≡ true
+  opened-room : (h : History S D P G C) (view : ℕ) → IsUp (opened s h view) → has_room s.voter.length view ≡ true
   opened-room [] view some = absurd (apart some)
   opened-room (p ∷ h) view some = new (concerns view p || (may_enter p && (current_of s (p ∷ h) == view))) (has_room s.voter.length view) some (λ before. opened-room h view before)
     where
-      new : (b c : Bool) → IsSome (if b && c then option_or (opened s h view) (Some (passes_over s h view)) else opened s h view) → (IsSome (opened s h view) → c ≡ true) → c ≡ true
+      new : (b c : Bool) → IsUp (if b && c then first_up (opened s h view) (passes_over s h view) else opened s h view) → (IsUp (opened s h view) → c ≡ true) → c ≡ true
       new true true there before = refl
       new true false there before = before there
       new false c there before = before there
 
-  pub staged-room : (h : History S D P G C) (view : ℕ) → IsSome (stage s h view) → has_room s.voter.length view ≡ true
+  pub staged-room : (h : History S D P G C) (view : ℕ) → IsUp (stage s h view) → has_room s.voter.length view ≡ true
   staged-room h view some = opened-room h view (staged (nat_lt view (floor_of s h)) (opened s h view) some)
 
-  pub stage-room : (h : History S D P G C) (view : ℕ) → IsSome (stage s h view) → HasRoom s.voter.length view
+  pub stage-room : (h : History S D P G C) (view : ℕ) → IsUp (stage s h view) → HasRoom s.voter.length view
   stage-room h view some = ltb-true (next_term_start s.voter.length view + 2 * s.voter.length + 1) (2 ^ 64) (staged-room h view some)
 
 module _ {S D P G C : Type 0} (g : Ghosts S D P G C) (f : Formats S D P G C) (s : Setup S D C) where
@@ -76,7 +75,7 @@ module _ {S D P G C : Type 0} (g : Ghosts S D P G C) (f : Formats S D P G C) (s 
   concerns-beyond (Votes v) h view a is = subst (λ (n : ℕ). 1 ≤ n) (eqb-true (vote_round v).view view is) (vote-beyond h v a.fits)
   concerns-beyond p h view a is = absurd (apart is)
 
-  opened-beyond : (h : History S D P G C) → AreAllowed g f s h → (view : ℕ) → IsSome (opened s h view) → 1 ≤ view
+  opened-beyond : (h : History S D P G C) → AreAllowed g f s h → (view : ℕ) → IsUp (opened s h view) → 1 ≤ view
   opened-beyond [] all view some = absurd (apart some)
   opened-beyond (p ∷ h) all view some = go (opens s h p view) refl some (λ there. opened-beyond h all.1 view there)
     where
@@ -86,9 +85,9 @@ module _ {S D P G C : Type 0} (g : Ghosts S D P G C) (f : Formats S D P G C) (s 
           (λ of. concerns-beyond p h view all.0 of)
           (λ entered. subst (λ (n : ℕ). 1 ≤ n) (eqb-true (current_of s (p ∷ h)) view (and_parts (may_enter p) (current_of s (p ∷ h) == view) entered).1) (orderly g f s p h all).began)
 
-      go : (b : Bool) → opens s h p view ≡ b → IsSome (if b then option_or (opened s h view) (Some (passes_over s h view)) else opened s h view) → (IsSome (opened s h view) → 1 ≤ view) → 1 ≤ view
+      go : (b : Bool) → opens s h p view ≡ b → IsUp (if b then first_up (opened s h view) (passes_over s h view) else opened s h view) → (IsUp (opened s h view) → 1 ≤ view) → 1 ≤ view
       go true is there before = brought is
       go false is there before = before there
 
-  pub stage-beyond : (h : History S D P G C) → AreAllowed g f s h → (view : ℕ) → IsSome (stage s h view) → 1 ≤ view
+  pub stage-beyond : (h : History S D P G C) → AreAllowed g f s h → (view : ℕ) → IsUp (stage s h view) → 1 ≤ view
   stage-beyond h all view some = opened-beyond h all view (staged (nat_lt view (floor_of s h)) (opened s h view) some)

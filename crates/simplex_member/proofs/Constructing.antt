@@ -1,6 +1,6 @@
 -- What a construction gives that is due may be taken: its certificate may be recorded.
 use Rattle.std.proofs.Common.{◌≡◌, ⊎_elim, ℕ, ◌<◌, ◌≤◌, ◌&&◌, ◌||◌, Bool, true, false, List, [], ◌∷◌, ◌++◌, ◌+◌, length, Option, Some, None, refl, sym, ◌∙◌, ap, subst, arith}
-use Rattle.std.specs.Prelude.{Contains, IfSome, IsSome, MatchBool, if◌then◌else◌, filter, is_some, nat_le, nat_lt, not, option_map, unwrap_or}
+use Rattle.std.specs.Prelude.{Contains, IfSome, MatchBool, if◌then◌else◌, filter, is_some, nat_le, nat_lt, not, option_map}
 use Rattle.std.proofs.lemmas.Bool.{and_parts, leb-true, ltb-true}
 use Rattle.std.proofs.lemmas.List.Elements.{All-contains}
 use Rattle.types_quorum.specs.Committee.{faults-few, quorum}
@@ -26,7 +26,7 @@ use Rattle.batcher_verifier.specs.ConstructionResult.{IsBatch, IsCertificateOn, 
 use Rattle.batcher_verifier.specs.Votes.{is_kind, vote_kind, vote_statement}
 use Rattle.simplex_member.specs.Allowed.{Allowed, AreAllowed, MayRecord}
 use Rattle.simplex_member.specs.Laws.{RecordLaws, RoundLaws}
-use Rattle.simplex_member.specs.Layers.{all_votes, floor_of, is_begun, passes_over, stage, votes_of, votes_setup}
+use Rattle.simplex_member.specs.Layers.{all_votes, floor_of, is_begun, passes_over, stage, votes_of, votes_setup, Stage, Unopened, Collected, PassedOver, IsUp, skips}
 use Rattle.simplex_member.specs.Packet.{Formats, IsRecordable}
 use Rattle.simplex_member.specs.Point.{Point, Constructs, Heard, History}
 use Rattle.simplex_member.specs.Recorded.{added_by, record_of}
@@ -145,7 +145,7 @@ module _ {S D P G C : Type 0} (g : Ghosts S D P G C) (f : Formats S D P G C) (s 
   may-record h (certificate.Nullification c) epoch certifies may = record { verifies = record { epoch = epoch; verifies = certifies }; follows = may }
   may-record h (certificate.Finalization c) epoch certifies may = record { verifies = record { epoch = epoch; verifies = certifies }; follows = may }
 
-  module _ (some : 0 < g.size s.voter.scheme) (h : History S D P G C) (all : AreAllowed g f s h) (view : ℕ) (up : IsSome (stage s h view)) (kind : Kind)
+  module _ (some : 0 < g.size s.voter.scheme) (h : History S D P G C) (all : AreAllowed g f s h) (view : ℕ) (up : IsUp (stage s h view)) (kind : Kind)
       (next : next_kind f.same (votes_setup s g h view) (votes_of s h view) ≡ Some kind) (batch : Batch (Certificate S D P G C)) (is : IsBatch g f.same (votes_setup s g h view) kind (votes_of s h view) batch) where
     abbrev t : votes.Setup S
     t = votes_setup s g h view
@@ -163,12 +163,13 @@ module _ {S D P G C : Type 0} (g : Ghosts S D P G C) (f : Formats S D P G C) (s 
     sound = votes-lawful g f s laws h all view up
 
     -- the view isn't passed over
-    stage-is : stage s h view ≡ Some false
+    stage-is : stage s h view ≡ Collected
     stage-is = go (stage s h view) refl up
       where
-        go : (o : Option Bool) → stage s h view ≡ o → IsSome o → o ≡ Some false
-        go None e none = absurd (apart none)
-        go (Some b) e there = ap (λ (c : Bool). Some c) (sym (ap (λ (o : Option Bool). unwrap_or o (passes_over s h view)) e) ∙ due-kept f.same t kind r needed due)
+        go : (o : Stage) → stage s h view ≡ o → IsUp o → o ≡ Collected
+        go Unopened e none = absurd (apart none)
+        go Collected e there = refl
+        go PassedOver e there = absurd (apart (sym (sym (ap (λ (o : Stage). skips o (passes_over s h view)) e) ∙ due-kept f.same t kind r needed due)))
 
     module _ (c : Certificate S D P G C) (made : batch.certificate ≡ Some c) where
       founded : IsFounded g t kind r c

@@ -30,7 +30,7 @@ use Rattle.simplex_messages.specs.VoteParts.{vote_artifact, vote_round, vote_sig
 use Rattle.types_terms.specs.declared.kind.Kind.TheVariants as sent_kind
 use Rattle.types_terms.specs.Spans.{ends-before, term_end-above, term_end-le}
 use Rattle.simplex_record.specs.Record as recorded
-use Rattle.simplex_record.specs.Record.{Entry, current_view, entries, entry, enters, greatest, HasTaken}
+use Rattle.simplex_record.specs.Record.{Entry, entries, entry, enters, greatest}
 use Rattle.types_terms.specs.declared.kind.Kind.{Kind}
 use Rattle.batcher_verifier.specs.declared.batch.Batch.{Batch}
 use Rattle.batcher_verifier.specs.History.{accepted}
@@ -50,13 +50,13 @@ use Rattle.simplex_member.specs.declared.event.Event.{Event}
 use Rattle.simplex_member.specs.declared.event.Event.TheVariants as event
 use Rattle.simplex_member.specs.Allowed.{Allowed, AreAllowed, HasReason}
 use Rattle.simplex_member.specs.Laws.{IsKeptView, RecordLaws, RoundLaws, raises}
-use Rattle.simplex_member.specs.Layers.{all_votes, current_of, finalized_of, finalizes_above, floor_of, has_room, known_of, latest, opened, opens, passes_over, stage, takes_certificate, voter_of, voter_points, votes_of}
+use Rattle.simplex_member.specs.Layers.{all_votes, current_of, finalized_of, finalizes_above, floor_of, has_room, known_of, latest, opened, opens, passes_over, stage, takes_certificate, voter_of, voter_points, votes_of, IsUp, first_up}
 use Rattle.simplex_member.specs.Member.{AreStep, Goes, IsPacketPoint, IsPointOf}
 use Rattle.simplex_member.specs.Packet.{Formats, Packet, of_ask, of_certificate, of_vote}
 use Rattle.simplex_member.specs.Point.{Counts, Falls, Passes, AreActs, Point, Opened, Found, Began, Told, Heard, Came, Wanted, Built, Checked, Judged, Leads, Forwards, Constructs, Latches, Polls, AsksBuild, AsksVerify, AsksCertify, GivesBack, LeavesBehind, PutsOff, Asks, Resolves, Votes, Repeats, History, is_act}
 use Rattle.simplex_member.specs.Recorded.{record_of, recorded_by}
 use Rattle.simplex_member.specs.Setup.{Setup, DeadlinesLieAhead, GoesByMembers, IsInTime, member_of}
-use Rattle.simplex_member.proofs.Ballots.{some-from, stage-kept}
+use Rattle.simplex_member.proofs.Ballots.{stage-kept, up-from}
 use Rattle.simplex_member.proofs.Blame.{placed}
 use Rattle.simplex_member.proofs.Coming.{staged-room}
 use Rattle.simplex_member.proofs.Going.{allowed-lawful}
@@ -64,7 +64,7 @@ use Rattle.simplex_member.proofs.Judgeable.{asked-taken}
 use Rattle.simplex_member.proofs.Listed.{accepted-known, kept-only}
 use Rattle.simplex_member.proofs.Lists.{Contains-map, Contains-mapped, put-cases, same-number, some-is, some-of}
 use Rattle.simplex_member.proofs.Peace.{find-there}
-use Rattle.simplex_member.proofs.Raising.{acts-head, acts-rest, leads_on, listed, of-view, rise-of, some-either, some-first, step-few, view_of, voted, way-cases, ways}
+use Rattle.simplex_member.proofs.Raising.{acts-head, acts-rest, leads_on, listed, of-view, rise-of, step-few, up-either, up-first, view_of, voted, way-cases, ways}
 use Rattle.simplex_member.proofs.Raising as raising
 use Rattle.simplex_member.proofs.Recordable.{matches, orderly}
 use Rattle.simplex_member.proofs.Rising.{goes-rise}
@@ -286,20 +286,20 @@ module _ {S D P G C : Type 0} (g : Ghosts S D P G C) (f : Formats S D P G C) (s 
   -- ---- views whose votes came up
 
   -- an own nullify of a view with room brought them up
-  opened-here : (p : Point S D P G C) (h : History S D P G C) (view : ℕ) → opens s h p view ≡ true → IsSome (opened s (p ∷ h) view)
-  opened-here p h view is = subst (λ (b : Bool). IsSome (if b then option_or (opened s h view) (Some (passes_over s h view)) else opened s h view)) (sym is) (some-first (opened s h view) (passes_over s h view))
+  opened-here : (p : Point S D P G C) (h : History S D P G C) (view : ℕ) → opens s h p view ≡ true → IsUp (opened s (p ∷ h) view)
+  opened-here p h view is = subst (λ (b : Bool). IsUp (if b then first_up (opened s h view) (passes_over s h view) else opened s h view)) (sym is) (up-first (opened s h view) (passes_over s h view))
 
-  own-opened : (h : History S D P G C) (w : Nullify S D P G C) → has_room s.voter.length w.round.view ≡ true → Contains (record_of h) (artifact.Nullify w) → IsSome (opened s h w.round.view)
+  own-opened : (h : History S D P G C) (w : Nullify S D P G C) → has_room s.voter.length w.round.view ≡ true → Contains (record_of h) (artifact.Nullify w) → IsUp (opened s h w.round.view)
   own-opened [] w room here = absurd (Contains-nil (artifact.Nullify w) here)
   own-opened (p ∷ h) w room here = ⊎_elim
-      (λ before. some-either (opens s h p w.round.view) (opened s h w.round.view) (passes_over s h w.round.view) (own-opened h w room before))
+      (λ before. up-either (opens s h p w.round.view) (opened s h w.round.view) (passes_over s h w.round.view) (own-opened h w room before))
       (λ now. brought p now)
       (put-cases (record_of h) (recorded_by p) (artifact.Nullify w) here)
     where
       at-own : (v : Nullify S D P G C) → artifact.Nullify v ≡ artifact.Nullify w → (v.round.view == w.round.view) ≡ true
       at-own v is = same-number v.round.view w.round.view (ap (λ (x : Nullify S D P G C). x.round.view) (nullify-is v w is))
 
-      brought : (q : Point S D P G C) → recorded_by q ≡ Some (artifact.Nullify w) → IsSome (opened s (q ∷ h) w.round.view)
+      brought : (q : Point S D P G C) → recorded_by q ≡ Some (artifact.Nullify w) → IsUp (opened s (q ∷ h) w.round.view)
       brought (Votes (vote.Nullify v)) is = opened-here (Votes (vote.Nullify v)) h w.round.view (rw (at-own v (some-is (artifact.Nullify v) (artifact.Nullify w) is)) room)
       brought (Votes (vote.Notarize v)) is = absurd (cc (some-is (artifact.Notarize v) (artifact.Nullify w) is))
       brought (Votes (vote.Finalize v)) is = absurd (cc (some-is (artifact.Finalize v) (artifact.Nullify w) is))
@@ -565,21 +565,21 @@ module _ {S D P G C : Type 0} (g : Ghosts S D P G C) (f : Formats S D P G C) (s 
         -- ---- which views lead on
 
         -- a view that was given up before the step was kept when that began
-        given-kept : (h : History S D P G C) (w : Nullify S D P G C) → finalized_of s start ≤ finalized_of s h → IsSome (stage s h w.round.view) → Contains (record_of start) (artifact.Nullify w) → Contains these w.round.view
+        given-kept : (h : History S D P G C) (w : Nullify S D P G C) → finalized_of s start ≤ finalized_of s h → IsUp (stage s h w.round.view) → Contains (record_of start) (artifact.Nullify w) → Contains these w.round.view
         given-kept h w final up here =
             let high = ltb-false w.round.view (floor_of s h) (stage-kept g f s h w.round.view up) in
             let room = staged-room s h w.round.view up in
             let low : floor_of s start ≤ w.round.view = omega (arith, high, final) in
-            let up_before : IsSome (stage s start w.round.view) = rw (le-ltb w.round.view (floor_of s start) low) (own-opened start w room here) in
+            let up_before : IsUp (stage s start w.round.view) = rw (le-ltb w.round.view (floor_of s start) low) (own-opened start w room here) in
             kept w.round.view (inl up_before)
 
         -- a certificate that leads on, of an own vote: a nullification of a view of these
         by-own : (h : History S D P G C) → AreAllowed g f s h → Holds h → finalized_of s start ≤ finalized_of s h → (view : ℕ) (kind : Kind) (batch : Batch (Certificate S D P G C)) (c : Certificate S D P G C) → batch.certificate ≡ Some c
-            → IsSome (stage s h view) → (certificate_round c).view ≡ view → nat_lt (current_of s h) (current_of s (Constructs view kind batch ∷ h)) ≡ true
+            → IsUp (stage s h view) → (certificate_round c).view ≡ view → nat_lt (current_of s h) (current_of s (Constructs view kind batch ∷ h)) ≡ true
             → (v : Vote S D P G C) → Contains (record_of h) (vote_artifact v) → vote_statement v ≡ certificate_statement c → leads_on c ≡ true → (vote_round v).view ≡ view → Contains these view
         by-own h all holds final view kind batch c made up at raises_so (vote.Nullify w) here states leads of_view = ⊎_elim
             (λ there_so. subst (λ (n : ℕ). Contains these n) of_view there_so)
-            (λ before. subst (λ (n : ℕ). Contains these n) of_view (given-kept h w final (subst (λ (n : ℕ). IsSome (stage s h n)) (sym of_view) up) before))
+            (λ before. subst (λ (n : ℕ). Contains these n) of_view (given-kept h w final (subst (λ (n : ℕ). IsUp (stage s h n)) (sym of_view) up) before))
             (holds.given_up w here)
         by-own h all holds final view kind batch (certificate.Finalization c) made up at raises_so (vote.Finalize w) here states leads of_view =
             absurd (finalized-lower h all w here view kind batch c made (at ∙ sym of_view) raises_so)
@@ -606,7 +606,7 @@ module _ {S D P G C : Type 0} (g : Ghosts S D P G C) (f : Formats S D P G C) (s 
             subst (λ (n : ℕ). Contains these n) (sym (ap view_of rise.is) ∙ up.1)
             (⊎_elim
             (λ heard. absurd (none-heard h all is.vote heard))
-            (λ own. by-own h all holds final rise.view rise.kind rise.batch rise.c rise.made (some-from g f s (stage s h rise.view) false q.due.0) at raised is.vote own.1 is.states rise.leads of_view)
+            (λ own. by-own h all holds final rise.view rise.kind rise.batch rise.c rise.made (up-from refl q.due.0) at raised is.vote own.1 is.states rise.leads of_view)
             is.known))
             (λ later.
             let rises = (goes-rise g f s h (p ∷ h) (p ∷ []) (goes.0, refl)).1 in

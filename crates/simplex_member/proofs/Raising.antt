@@ -1,7 +1,6 @@
 -- How often a step raises the current view: by each view whose votes were heard, once.
 use Rattle.std.proofs.Common.{◌≡◌, ◌≢◌, ⊎_elim, inl, inr, ℕ, suc, ◌+◌, ◌≤◌, ◌<◌, ◌==◌, Bool, true, false, List, [], ◌∷◌, length, Option, Some, None, refl, sym, ◌∙◌, ap, subst, arith}
-use Rattle.std.specs.Prelude.{All, Contains, IfSome, IsSome, ◌⊎◌, ◌^◌, find, if◌then◌else◌, nat_lt, option_map}
-use Rattle.std.specs.Option.{option_or}
+use Rattle.std.specs.Prelude.{All, Contains, IfSome, ◌⊎◌, ◌^◌, find, if◌then◌else◌, nat_lt, option_map}
 use Rattle.std.proofs.lemmas.Bool.{le-ltb, lt-ltb, ltb-false, ltb-true}
 use Rattle.std.proofs.lemmas.Option.{none-some}
 use Rattle.types_quorum.specs.Counting.{Contains-cases, Contains-head, Contains-rest, NoneTwice, NoneTwice-cons, escapes, no_longer}
@@ -31,14 +30,14 @@ use Rattle.batcher_verifier.specs.Votes.{is_in_way, vote_statement}
 use Rattle.simplex_member.specs.declared.event.Event.{Event}
 use Rattle.simplex_member.specs.Allowed.{Allowed, AreAllowed, MayRecord}
 use Rattle.simplex_member.specs.Laws.{IsKnownVote, IsOfVote, RecordLaws, RoundLaws, raises}
-use Rattle.simplex_member.specs.Layers.{all_votes, current_of, finalized_of, floor_of, opened, opens, passes_over, stage, votes_of, votes_setup}
+use Rattle.simplex_member.specs.Layers.{all_votes, current_of, finalized_of, floor_of, opened, opens, passes_over, stage, votes_of, votes_setup, Stage, Unopened, Collected, PassedOver, IsUp, first_up}
 use Rattle.simplex_member.specs.Member.{AreStep, Goes, IsPointOf}
 use Rattle.simplex_member.specs.Packet.{Formats}
 use Rattle.simplex_member.specs.Point as point
 use Rattle.simplex_member.specs.Point.{AreActs, Point, Found, Began, Opened, Told, Heard, Came, Wanted, Built, Checked, Leads, Forwards, Constructs, Votes, History, is_act}
 use Rattle.simplex_member.specs.Recorded.{record_of, recorded_by}
 use Rattle.simplex_member.specs.Setup.{Setup}
-use Rattle.simplex_member.proofs.Ballots.{batch-round, heard-another, made-lists, stage-kept, some-from, taken-allowed}
+use Rattle.simplex_member.proofs.Ballots.{batch-round, heard-another, made-lists, stage-kept, taken-allowed, up-from}
 use Rattle.simplex_member.proofs.Going.{allowed-lawful}
 use Rattle.simplex_member.proofs.Listed.{after-none, known-on, signer-of}
 use Rattle.simplex_member.proofs.Lists.{Contains-map, Contains-mapped, mapped-before, put-here, same-number, some-is}
@@ -68,14 +67,15 @@ either : (b : Bool) (n rounds : ℕ) → n ≤ rounds + 1 → (if b then 1 else 
 either true n rounds few = omega (arith, few)
 either false n rounds few = omega (arith, few)
 
-pub some-either : (b : Bool) (o : Option Bool) (d : Bool) → IsSome o → IsSome (if b then option_or o (Some d) else o)
-some-either true None d some = refl
-some-either true (Some x) d some = refl
-some-either false o d some = some
+pub up-first : (o : Stage) (d : Bool) → IsUp (first_up o d)
+up-first Unopened true = refl
+up-first Unopened false = refl
+up-first Collected d = refl
+up-first PassedOver d = refl
 
-pub some-first : (o : Option Bool) (d : Bool) → IsSome (option_or o (Some d))
-some-first None d = refl
-some-first (Some x) d = refl
+pub up-either : (b : Bool) (o : Stage) (d : Bool) → IsUp o → IsUp (if b then first_up o d else o)
+up-either true o d up = up-first o d
+up-either false o d up = up
 
 module _ {D : Type 0} where
   -- what gives a view up, or says that it is final
@@ -194,18 +194,18 @@ module _ {S D P G C : Type 0} (g : Ghosts S D P G C) (f : Formats S D P G C) (s 
   does-certify h (certificate.Finalization c) may = may.verifies.verifies
 
   -- the votes of the view of a vote that was heard came up
-  heard-opened : (h : History S D P G C) → AreAllowed g f s h → (v : Vote S D P G C) → Contains h (Heard v) → IsSome (opened s h (vote_round v).view)
+  heard-opened : (h : History S D P G C) → AreAllowed g f s h → (v : Vote S D P G C) → Contains h (Heard v) → IsUp (opened s h (vote_round v).view)
   heard-opened [] all v here = absurd (omega (arith, here.1))
   heard-opened (p ∷ h) all v here = ⊎_elim
-      (λ is. subst (λ (q : Point S D P G C). IsSome (opened s (q ∷ h) (vote_round v).view)) (sym is) (now (subst (λ (q : Point S D P G C). Allowed g f s h q) is all.0)))
-      (λ later. some-either (opens s h p (vote_round v).view) (opened s h (vote_round v).view) (passes_over s h (vote_round v).view) (heard-opened h all.1 v later))
+      (λ is. subst (λ (q : Point S D P G C). IsUp (opened s (q ∷ h) (vote_round v).view)) (sym is) (now (subst (λ (q : Point S D P G C). Allowed g f s h q) is all.0)))
+      (λ later. up-either (opens s h p (vote_round v).view) (opened s h (vote_round v).view) (passes_over s h (vote_round v).view) (heard-opened h all.1 v later))
       (Contains-cases p h (Heard v) here)
     where
       opens-now : Allowed g f s h (Heard v) → opens s h (Heard v) (vote_round v).view ≡ true
       opens-now a = rw (same-number (vote_round v).view (vote_round v).view refl) (lt-ltb _ (2 ^ 64) a.due.room)
 
-      now : Allowed g f s h (Heard v) → IsSome (opened s (Heard v ∷ h) (vote_round v).view)
-      now a = subst (λ (b : Bool). IsSome (if b then option_or (opened s h (vote_round v).view) (Some (passes_over s h (vote_round v).view)) else opened s h (vote_round v).view)) (sym (opens-now a)) (some-first (opened s h (vote_round v).view) (passes_over s h (vote_round v).view))
+      now : Allowed g f s h (Heard v) → IsUp (opened s (Heard v ∷ h) (vote_round v).view)
+      now a = subst (λ (b : Bool). IsUp (if b then first_up (opened s h (vote_round v).view) (passes_over s h (vote_round v).view) else opened s h (vote_round v).view)) (sym (opens-now a)) (up-first (opened s h (vote_round v).view) (passes_over s h (vote_round v).view))
 
   -- a vote that is heard has none heard before in its way
   heard-free : (h : History S D P G C) (v u : Vote S D P G C) → Allowed g f s h (Heard v) → Contains h (Heard u) → (vote_round u).view ≡ (vote_round v).view → is_in_way v u ≡ true → ⊥
@@ -435,7 +435,7 @@ module _ {S D P G C : Type 0} (g : Ghosts S D P G C) (f : Formats S D P G C) (s 
           (λ own. absurd (one.2 (sym signer ∙ own.0)))
           is.known
 
-      module _ (start : History S D P G C) (begun : AreAllowed g f s start) (first : Point S D P G C) (numbers : List ℕ) (kept : (x : ℕ) → IsSome (stage s start x) → Contains numbers x) where
+      module _ (start : History S D P G C) (begun : AreAllowed g f s start) (first : Point S D P G C) (numbers : List ℕ) (kept : (x : ℕ) → IsUp (stage s start x) → Contains numbers x) where
         -- of a view that leads on votes were kept when the step began, or the event was its first
         ways-listed : (h : History S D P G C) → AreAllowed g f s h → (points : List (Point S D P G C)) (end : History S D P G C) → Goes g f s h points end → AreActs points
             → ((v : Vote S D P G C) → Contains h (Heard v) → Contains (first ∷ start) (Heard v)) → finalized_of s start ≤ finalized_of s h
@@ -451,10 +451,10 @@ module _ {S D P G C : Type 0} (g : Ghosts S D P G C) (f : Formats S D P G C) (s 
             ⊎_elim
             (λ now. subst (λ (n : ℕ). Contains (heard_view first ∷ numbers) n) (ap heard_view now ∙ at_view) (Contains-head (heard_view first) numbers))
             (λ before.
-            let high = ltb-false rise.view (floor_of s h) (stage-kept g f s h rise.view (some-from g f s (stage s h rise.view) false a.due.0)) in
+            let high = ltb-false rise.view (floor_of s h) (stage-kept g f s h rise.view (up-from refl a.due.0)) in
             let low : floor_of s start ≤ (vote_round some_vote.0).view = omega (arith, high, final, some_vote.2) in
-            let there : IsSome (stage s start (vote_round some_vote.0).view) = rw (le-ltb (vote_round some_vote.0).view (floor_of s start) low) (heard-opened start begun some_vote.0 before) in
-            Contains-rest (heard_view first) numbers x (kept x (subst (λ (n : ℕ). IsSome (stage s start n)) at_view there)))
+            let there : IsUp (stage s start (vote_round some_vote.0).view) = rw (le-ltb (vote_round some_vote.0).view (floor_of s start) low) (heard-opened start begun some_vote.0 before) in
+            Contains-rest (heard_view first) numbers x (kept x (subst (λ (n : ℕ). IsUp (stage s start n)) at_view there)))
             (Contains-cases first start (Heard some_vote.0) (heard some_vote.0 some_vote.1)))
             (λ later. ways-listed (p ∷ h) (goes.0, all) points end goes.1 (acts-rest p points acts)
             (λ v there. ⊎_elim (λ is. absurd (act-hears-none p v (acts-head p points acts) is)) (λ before. heard v before) (Contains-cases p h (Heard v) there))
@@ -463,7 +463,7 @@ module _ {S D P G C : Type 0} (g : Ghosts S D P G C) (f : Formats S D P G C) (s 
 
       -- a step raises it at most once by its event, once by the view of a vote that it brings, and once by each view whose votes were kept
       pub step-raises : (h : History S D P G C) → AreAllowed g f s h → (e : Event D) (more : List (Point S D P G C)) (end : History S D P G C) → AreStep g f s h e more → Goes g f s h more end
-          → (numbers : List ℕ) → ((x : ℕ) → IsSome (stage s h x) → Contains numbers x) → raises g f s h more ≤ length numbers + 2
+          → (numbers : List ℕ) → ((x : ℕ) → IsUp (stage s h x) → Contains numbers x) → raises g f s h more ≤ length numbers + 2
       step-raises h all e more end step goes numbers kept = step-few h all e more end step goes heard_view numbers
           (λ first acts a of_it gone own x here. ways-listed h all first numbers kept (first ∷ h) (a, all) acts end gone own (λ v there. there) (goes-rise g f s h (first ∷ h) (first ∷ []) (a, refl)).1 x here)
 

@@ -1,5 +1,5 @@
 -- What may come next: what was due, or came, by the layers' own words.
-use Rattle.std.specs.Prelude.{◌≡◌, ◌≢◌, ◌⊎◌, ◌↔◌, ◌+◌, ◌<◌, ◌≤◌, ℕ, Bool, true, false, [], ◌∷◌, Contains, Option, Some, None, IfSome, IsSome, IsTrue, ⊤}
+use Rattle.std.specs.Prelude.{◌≡◌, ◌≢◌, ◌⊎◌, ◌↔◌, ◌+◌, ◌<◌, ◌≤◌, ℕ, Bool, true, false, [], ◌∷◌, Contains, Option, Some, None, IfSome, IsTrue, ⊤}
 use Rattle.types_core.specs.declared.context.Context.{Context}
 use Rattle.types_core.specs.declared.proposal.Proposal.{Proposal}
 use Rattle.types_core.specs.declared.scheme.Scheme.{Ghosts}
@@ -39,7 +39,7 @@ use Rattle.simplex_resolver.specs.declared.ask.Kind as repair
 use Rattle.simplex_resolver.specs.declared.ask.Kind.TheVariants as repair_kind
 use Rattle.simplex_resolver.specs.Outstanding.{IsOutstanding}
 use Rattle.simplex_member.specs.Asked.{HasNumber, IsAnswered, IsAwaited, ancestry, backfill, build_at, check_at, last_heard, next_number}
-use Rattle.simplex_member.specs.Layers.{current_of, finalized_of, is_begun, known_of, latest, reason_of, repair_of, stage, voter_of, votes_of, votes_setup}
+use Rattle.simplex_member.specs.Layers.{current_of, finalized_of, is_begun, known_of, latest, reason_of, repair_of, stage, voter_of, votes_of, votes_setup, Collected, IsUp}
 use Rattle.simplex_member.specs.Packet.{Formats, IsRecordable}
 use Rattle.simplex_member.specs.Point.{Outcome, Counts, Falls, Passes, Point, Opened, Found, Began, Told, Heard, Came, Wanted, Built, Checked, Judged, Leads, Forwards, Constructs, Latches, Polls, AsksBuild, AsksVerify, AsksCertify, GivesBack, LeavesBehind, PutsOff, Asks, Resolves, Votes, Repeats, History}
 use Rattle.simplex_member.specs.Recorded.{added_by, record_of, recorded_by}
@@ -202,9 +202,9 @@ module _ {S D P G C : Type 0} (g : Ghosts S D P G C) (f : Formats S D P G C) (s 
       × (IsTrue took ↔ BuildCounts h context payload)
   IsDue h (Checked number view answer outcome) = (check_at h number ≡ Some view) × ComesOf h view answer outcome
   IsDue h (Judged r ok) = IsAwaited s h r.view
-  IsDue h (Leads view index) = IsSome (stage s h view) × (leader_of (votes_of s h view) ≡ None) × (leader s.voter (voter_of s h) view ≡ Some index)
-  IsDue h (Forwards view p) = IsSome (stage s h view) × (forwardable (votes_of s h view) s.me ≡ Some p)
-  IsDue h (Constructs view kind batch) = (stage s h view ≡ Some false) × (next_kind f.same (votes_setup s g h view) (votes_of s h view) ≡ Some kind)
+  IsDue h (Leads view index) = IsUp (stage s h view) × (leader_of (votes_of s h view) ≡ None) × (leader s.voter (voter_of s h) view ≡ Some index)
+  IsDue h (Forwards view p) = IsUp (stage s h view) × (forwardable (votes_of s h view) s.me ≡ Some p)
+  IsDue h (Constructs view kind batch) = (stage s h view ≡ Collected) × (next_kind f.same (votes_setup s g h view) (votes_of s h view) ≡ Some kind)
       × IsBatch g f.same (votes_setup s g h view) kind (votes_of s h view) batch
   IsDue h (Latches view why) = HasReason h view why × MayLatch s.voter (voter_of s h) view why
   IsDue h Polls = ⊤

@@ -1,6 +1,6 @@
 -- What follows from the member model, as statements. Each is proved where a function without a body has it as a clause (`laws.rt`): what
 -- stands in no clause there is not proved.
-use Rattle.std.specs.Prelude.{◌≡◌, ◌≢◌, ◌↔◌, IsTrue, ◌⊎◌, ◌≤◌, ◌<◌, ◌+◌, ◌^◌, ◌++◌, ℕ, true, false, List, [], ◌∷◌, Contains, IsSome, Option, Some, nat_lt, if◌then◌else◌, Bool, None, IfSome, option_map, map, All, ⊤}
+use Rattle.std.specs.Prelude.{◌≡◌, ◌≢◌, ◌↔◌, IsTrue, ◌⊎◌, ◌≤◌, ◌<◌, ◌+◌, ◌^◌, ◌++◌, ℕ, true, false, List, [], ◌∷◌, Contains, Option, Some, nat_lt, if◌then◌else◌, Bool, None, IfSome, option_map, map, All, ⊤}
 use Rattle.types_core.specs.declared.attestation.Attestation.{Attestation}
 use Rattle.types_core.specs.declared.context.Context.{Context}
 use Rattle.types_core.specs.declared.position.Round.{Round}
@@ -64,7 +64,7 @@ use Rattle.simplex_resolver.specs.declared.ask.Ask.{Ask}
 use Rattle.simplex_resolver.specs.Answers.{produced}
 use Rattle.simplex_resolver.specs.RepairHistory as repair
 use Rattle.simplex_member.specs.Deeds.{Deed, Sends, Serves, Blocks, Reports, all_deeds, deeds_of}
-use Rattle.simplex_member.specs.Layers.{current_of, finalized_of, floor_of, is_begun, known_of, repair_of, stage, voter_of, votes_of, votes_setup}
+use Rattle.simplex_member.specs.Layers.{current_of, finalized_of, floor_of, is_begun, known_of, repair_of, stage, voter_of, votes_of, votes_setup, Collected, IsUp}
 use Rattle.simplex_member.specs.Lives.{Life, Lives, Members, LiveByNodes, AtMostFLie, AreFaithful, HandedOut, CameIn, IsHonestVote, WasHanded, points_of}
 use Rattle.simplex_member.specs.Member.{AreOpening, Goes, NoneDue, Run, AreStep, ReadsAs, after}
 use Rattle.simplex_member.specs.Packet.{Formats, IsReadable, IsRecordable, Packet, of_vote, of_certificate, of_ask, packet_channel, packet_of}
@@ -186,7 +186,7 @@ module _ {S D P G C : Type 0} (g : Ghosts S D P G C) (f : Formats S D P G C) (s 
 
   -- a view is kept: its votes came up, or the voter tracks it
   abbrev pub IsKeptView : History S D P G C → ℕ → Type 0
-  IsKeptView h view = IsSome (stage s h view) ⊎ IsTracked s.voter (voter_of s h) view
+  IsKeptView h view = IsUp (stage s h view) ⊎ IsTracked s.voter (voter_of s h) view
 
   -- a step raises the current view at most as often as there were views that are kept when it began, plus two, in a committee of any size
   abbrev pub StepsRaiseLittle : Type 0
@@ -196,12 +196,12 @@ module _ {S D P G C : Type 0} (g : Ghosts S D P G C) (f : Formats S D P G C) (s 
   -- in one of more than one, as often as there were views whose votes were kept, plus two, whatever deadlines are
   abbrev pub StepsOfSeveralRaiseLittle : Type 0
   StepsOfSeveralRaiseLittle = (h end : History S D P G C) (points more : List (Point S D P G C)) (e : Event D) (rounds : ℕ) → 1 < g.size s.voter.scheme → Goes g f s [] points h
-      → AreStep g f s h e more → Goes g f s h more end → HasExactly (λ view. IsSome (stage s h view)) rounds → raises h more ≤ rounds + 2
+      → AreStep g f s h e more → Goes g f s h more end → HasExactly (λ view. IsUp (stage s h view)) rounds → raises h more ≤ rounds + 2
 
   -- no quorum is lost: where nothing is due, each kind with a valid quorum has its certificate, in each view whose votes are kept
   abbrev pub NoQuorumIsLost : Type 0
   NoQuorumIsLost = (h : History S D P G C) (points : List (Point S D P G C)) → Goes g f s [] points h → NoneDue g f s h
-      → (view : ℕ) → stage s h view ≡ Some false → AllCertified g.attests (votes_setup s g h view) (votes_of s h view)
+      → (view : ℕ) → stage s h view ≡ Collected → AllCertified g.attests (votes_setup s g h view) (votes_of s h view)
 
   -- ---- of certificates that are made
 
@@ -229,7 +229,7 @@ module _ {S D P G C : Type 0} (g : Ghosts S D P G C) (f : Formats S D P G C) (s 
   -- what a construction gives that is due may be taken, its certificate recorded where it can be read again: nothing more is asked of it
   abbrev pub MadeIsAllowed : Type 0
   MadeIsAllowed = (h : History S D P G C) (view : ℕ) (kind : Kind) (batch : Batch (Certificate S D P G C)) → 0 < g.size s.voter.scheme → AreAllowed g f s h → is_begun h ≡ true
-      → IsSome (stage s h view) → votes.next_kind f.same (votes_setup s g h view) (votes_of s h view) ≡ Some kind → IsBatch g f.same (votes_setup s g h view) kind (votes_of s h view) batch
+      → IsUp (stage s h view) → votes.next_kind f.same (votes_setup s g h view) (votes_of s h view) ≡ Some kind → IsBatch g f.same (votes_setup s g h view) kind (votes_of s h view) batch
       → IfSome (added_by (Constructs view kind batch)) (IsRecordable f) → Allowed g f s h (Constructs view kind batch)
 
   -- ---- how the layers' words meet, of a history that points led to
@@ -258,7 +258,7 @@ module _ {S D P G C : Type 0} (g : Ghosts S D P G C) (f : Formats S D P G C) (s 
   -- the votes of each view are lawful
   abbrev pub VotesAreLawful : Type 0
   VotesAreLawful = (h : History S D P G C) (points : List (Point S D P G C)) (view : ℕ) → Goes g f s [] points h
-      → IsSome (stage s h view) → lawful.IsLawful f.same g.attests (votes_setup s g h view) (votes_of s h view)
+      → IsUp (stage s h view) → lawful.IsLawful f.same g.attests (votes_setup s g h view) (votes_of s h view)
 
   -- a proposal on which a notarize is due was bound to its parent's payload
   abbrev pub DueIsBound : Type 0

@@ -1,6 +1,5 @@
 -- What a node's history says of its voter, of the votes of each view, and of its repair.
-use Rattle.std.specs.Prelude.{◌==◌, ◌+◌, ◌*◌, ◌^◌, ◌&&◌, ◌||◌, ◌++◌, nat_lt, not, ℕ, Bool, true, false, List, [], ◌∷◌, Option, Some, None, option_map, option_to_list, unwrap_or, if◌then◌else◌}
-use Rattle.std.specs.Option.{option_or}
+use Rattle.std.specs.Prelude.{◌≡◌, ◌==◌, ◌+◌, ◌*◌, ◌^◌, ◌&&◌, ◌||◌, ◌++◌, nat_lt, not, ℕ, Bool, true, false, List, [], ◌∷◌, Option, Some, None, option_map, option_to_list, unwrap_or, if◌then◌else◌}
 use Rattle.types_core.specs.declared.scheme.Scheme.{Ghosts}
 use Rattle.types_quorum.specs.Committee.{quorum}
 use Rattle.types_core.specs.Positions.{next_term_start}
@@ -33,6 +32,35 @@ use Rattle.simplex_member.specs.Setup.{Setup}
 -- whether a view has room: `HasRoom`
 abbrev pub has_room : ℕ → ℕ → Bool
 has_room views view = nat_lt (next_term_start views view + 2 * views + 1) (2 ^ 64)
+
+-- How far the votes of a view are: they didn't come up, or are no longer kept; they are collected; or the view was behind when they
+-- came up, and is passed over, since votes of such views are not kept
+pub data Stage : Type 0 where
+  Unopened : Stage
+  Collected : Stage
+  PassedOver : Stage
+
+-- they came up
+abbrev pub is_up : Stage → Bool
+is_up Unopened = false
+is_up Collected = true
+is_up PassedOver = true
+
+abbrev pub IsUp : Stage → Type 0
+IsUp at = is_up at ≡ true
+
+-- they come up, passed over or not; where they did before nothing changes
+abbrev pub first_up : Stage → Bool → Stage
+first_up Unopened true = PassedOver
+first_up Unopened false = Collected
+first_up Collected passed = Collected
+first_up PassedOver passed = PassedOver
+
+-- whether the view is passed over; of votes that didn't come up, this is whether it would be now
+abbrev pub skips : Stage → Bool → Bool
+skips Unopened now = now
+skips Collected now = false
+skips PassedOver now = true
 
 -- why an answer on a proposal gives its view up
 abbrev pub reason_of : Option Bool → TimeoutReason
@@ -201,7 +229,7 @@ module _ {S D P G C : Type 0} where
   may_enter p = false
 
   module _ (s : Setup S D C) where
-    -- a view is behind when its votes come up, and votes of such views are not kept: it is passed over
+    -- a view is behind, and votes of such views are not kept
     abbrev pub passes_over : History S D P G C → ℕ → Bool
     passes_over h view = nat_lt view (current_of s h) && not s.tracks
 
@@ -209,14 +237,14 @@ module _ {S D P G C : Type 0} where
     abbrev pub opens : History S D P G C → Point S D P G C → ℕ → Bool
     opens h p view = (concerns view p || (may_enter p && (current_of s (p ∷ h) == view))) && has_room s.voter.length view
 
-    -- whether the votes of a view came up, and whether it is passed over
-    abbrev pub opened : History S D P G C → ℕ → Option Bool
-    opened [] view = None
-    opened (p ∷ h) view = if opens h p view then option_or (opened h view) (Some (passes_over h view)) else opened h view
+    -- how far the votes of a view are, kept or not
+    abbrev pub opened : History S D P G C → ℕ → Stage
+    opened [] view = Unopened
+    opened (p ∷ h) view = if opens h p view then first_up (opened h view) (passes_over h view) else opened h view
 
-    -- the same while the view is kept
-    abbrev pub stage : History S D P G C → ℕ → Option Bool
-    stage h view = if nat_lt view (floor_of s h) then None else opened h view
+    -- and while it is kept
+    abbrev pub stage : History S D P G C → ℕ → Stage
+    stage h view = if nat_lt view (floor_of s h) then Unopened else opened h view
 
     -- what happened to the votes of a view, while it is kept
     abbrev pub votes_of : History S D P G C → ℕ → votes.History S D P G C
@@ -231,7 +259,7 @@ module _ {S D P G C : Type 0} where
       needed = quorum (g.size s.voter.scheme);
       batchable = g.batchable s.voter.scheme;
       tracks = s.tracks;
-      is_skipped = unwrap_or (stage h view) (passes_over h view);
+      is_skipped = skips (stage h view) (passes_over h view);
     }
 
   -- ---- the repair

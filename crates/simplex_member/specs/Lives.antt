@@ -1,6 +1,6 @@
 -- A member's lives: openings one after another, each by a setup of its own and with the events that came, until a crash or a fault. And
 -- members that live so, beside others that may do anything.
-use Rattle.std.specs.Prelude.{◌≡◌, ◌<◌, ◌≤◌, ◌++◌, ℕ, List, [], ◌∷◌, length, Contains, Option, Some, None, IfSome, option_map, option_to_list, unwrap_or, ⊤}
+use Rattle.std.specs.Prelude.{◌≡◌, ◌<◌, ◌≤◌, ◌++◌, ℕ, List, [], ◌∷◌, length, Contains, Option, Some, None, option_map, option_to_list, unwrap_or, ⊤}
 use Rattle.types_core.specs.declared.scheme.Scheme.{Ghosts}
 use Rattle.types_quorum.specs.Committee.{faults}
 use Rattle.messages_certificates.specs.declared.artifact.Artifact.{Artifact}

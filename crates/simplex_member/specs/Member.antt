@@ -1,5 +1,5 @@
 -- The member model: how a node goes from point to point, what a step and an opening are, and a whole run.
-use Rattle.std.specs.Prelude.{◌≡◌, ◌≢◌, ◌⊎◌, ◌<◌, ◌++◌, ℕ, Bool, true, false, map, List, [], ◌∷◌, Option, Some, None, IsSome, MatchOption, ⊤}
+use Rattle.std.specs.Prelude.{◌≡◌, ◌≢◌, ◌⊎◌, ◌<◌, ◌++◌, ℕ, Bool, true, map, List, [], ◌∷◌, Option, Some, None, IsSome, MatchOption, ⊤}
 use Rattle.types_core.specs.declared.context.Context.{Context}
 use Rattle.types_core.specs.declared.proposal.Proposal.{Proposal}
 use Rattle.types_core.specs.declared.scheme.Scheme.{Ghosts}
@@ -26,7 +26,7 @@ use Rattle.simplex_member.specs.Allowed.{Allowed, AskIsDue, HasReason, IsGivenBa
 use Rattle.simplex_member.specs.Asked.{HasNumber, build_at}
 use Rattle.simplex_member.specs.Deeds.{Deed, Wakes, AreActions, all_deeds}
 use Rattle.simplex_member.specs.First.{IsFirst}
-use Rattle.simplex_member.specs.Layers.{current_of, known_of, latest, stage, voter_of, votes_of, votes_setup}
+use Rattle.simplex_member.specs.Layers.{current_of, known_of, latest, stage, voter_of, votes_of, votes_setup, Collected, IsUp}
 use Rattle.simplex_member.specs.Packet.{Formats, Packet, of_vote, of_certificate, of_ask}
 use Rattle.simplex_member.specs.Point.{Point, Opened, Found, Began, Told, Heard, Came, Wanted, Built, Checked, Judged, AreActs, History}
 use Rattle.simplex_member.specs.Recorded.{record_of}
@@ -108,10 +108,10 @@ module _ {S D P G C : Type 0} (g : Ghosts S D P G C) (f : Formats S D P G C) (s 
 
   -- of the votes of no view anything is due: no construction, no leader that they don't know, no proposal to forward
   pub record NoConstructionIsDue (h : History S D P G C) : Type 0 where
-    pub no_construction : (view : ℕ) → stage s h view ≡ Some false → next_kind f.same (votes_setup s g h view) (votes_of s h view) ≡ None
-    pub no_leader : (view index : ℕ) → IsSome (stage s h view) → leader_of (votes_of s h view) ≡ None
+    pub no_construction : (view : ℕ) → stage s h view ≡ Collected → next_kind f.same (votes_setup s g h view) (votes_of s h view) ≡ None
+    pub no_leader : (view index : ℕ) → IsUp (stage s h view) → leader_of (votes_of s h view) ≡ None
         → leader s.voter (voter_of s h) view ≢ Some index
-    pub no_forward : (view : ℕ) → IsSome (stage s h view) → forwardable (votes_of s h view) s.me ≡ None
+    pub no_forward : (view : ℕ) → IsUp (stage s h view) → forwardable (votes_of s h view) s.me ≡ None
 
   -- nothing is due
   pub record NoneDue (h : History S D P G C) : Type 0 where

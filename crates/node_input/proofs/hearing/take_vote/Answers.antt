@@ -1,4 +1,4 @@
-use Rattle.std.proofs.Common.{[], ◌∷◌, refl, sym, ◌∙◌, map, subst}
+use Rattle.std.proofs.Common.{[], ◌∷◌, sym, ◌∙◌, map, subst}
 use Rattle.std.specs.Prelude.{Option, option_to_list}
 use Rattle.simplex_messages.specs.declared.activity.Activity.{Activity}
 use Rattle.simplex_messages.specs.VoteParts.{vote_round}
