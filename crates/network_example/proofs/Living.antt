@@ -98,6 +98,7 @@ module _ {S D P G C : Type 0} (g : Ghosts S D P G C) (f : Formats S D P G C) (ow
   may-stand = record {
     verifies = record { own = refl; epoch = refl; verifies = attests };
     follows = record {
+      room = has-room;
       current = refl;
       first = λ t alike voted. let l : voted.0 < 0 = voted.1 in omega (arith, l);
       not_finalized = λ p same voted. let l : voted.0 < 0 = voted.1 in omega (arith, l);

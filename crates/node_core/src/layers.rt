@@ -18,10 +18,11 @@ use messages_certificates::Artifact;
 use node_record::{Recorded, Tables, quiet_points_leave_the_tables};
 use node_votes::{Acceptance, silent_points_leave_votes};
 use simplex_member::{Action, Speaks};
+use simplex_record::lawful_records_leave_room;
 use simplex_resolver::State as Repair;
 use simplex_state::State as Voter;
 use std::alloc::{AllocError, Global};
-use types_core::{Digest, Scheme, Viewable};
+use types_core::{Digest, Scheme};
 use types_terms::Elector;
 use voter_rules::config::Config;
 
@@ -172,9 +173,7 @@ impl<S: Scheme<D> + Drop, L: Elector<S, D>, D: Digest> Layers<S, L, D> {
     {
         quiet_points_leave_the_tables::<S, D>();
         what_is_not_recorded_is_unknown::<S, D>();
-        if !artifact.view().has_room(self.repair.term_length()) {
-            return Err(AllocError);
-        }
+        lawful_records_leave_room::<S, D>();
         let floor = self.voter.views().min_active();
         tell_voter(&mut self.voter, alloc, self.tables.moment(), artifact)?;
         tell_votes(&mut self.acceptance, alloc, floor, artifact)?;

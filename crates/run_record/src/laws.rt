@@ -2,8 +2,8 @@
 
 use simplex_record::{
     a_lawful_record_grows, agreement, chain, ever_lawful_members_vote_lawfully,
-    no_own_vote_stands_in_the_way, records_stand_on_ground, verdicts_follow_their_notarizations,
-    whole_records_are_ever_lawful,
+    lawful_records_leave_room, no_own_vote_stands_in_the_way, records_stand_on_ground,
+    verdicts_follow_their_notarizations, whole_records_are_ever_lawful,
 };
 use simplex_types::PlainScheme;
 use test_words::{Say, Trouble, Words};
@@ -19,6 +19,7 @@ pub(crate) fn answer(words: &Words<'_>, say: &mut Say) -> Result<(), Trouble> {
     ever_lawful_members_vote_lawfully::<PlainScheme, Sha256Digest>();
     verdicts_follow_their_notarizations::<PlainScheme, Sha256Digest>();
     a_lawful_record_grows::<PlainScheme, Sha256Digest>();
+    lawful_records_leave_room::<PlainScheme, Sha256Digest>();
     no_own_vote_stands_in_the_way::<Sha256Digest>();
     say.ok()
 }

@@ -187,7 +187,7 @@ module _ {S D P G C : Type 0} (g : Ghosts S D P G C) (f : Formats S D P G C) (s 
   nullify-follows law due p h all v is =
       let may = subst (λ (u : ℕ). MayNullify s.voter.length (entries (record_of (p ∷ h))) (matching.round_of s.voter u)) (sym is.0)
       (nullify-may law due p h all (refl, is.1, subst (λ (u : ℕ). past.has_nullified (seen s.voter (voter_of s (p ∷ h)) u) ≡ false) is.0 is.2)) in
-      record { current = may.current; first = may.first; not_finalized = may.not_finalized }
+      record { room = may.room; current = may.current; first = may.first; not_finalized = may.not_finalized }
 
   pub finalize-follows : EachHistoryMatches S D P G C → DueMayBeFinalized D → (p : Point S D P G C) (h : History S D P G C) → AreAllowed g f s (p ∷ h) → (v : Finalize S D P G C)
       → VoteIsDue g f s (p ∷ h) (vote.Finalize v) → MayFollow s.voter.length (entries (record_of (p ∷ h))) (entry (artifact.Finalize v))

@@ -3,7 +3,7 @@ use Rattle.std.proofs.Common.{◌≡◌, ◌⊎◌, inl, inr, ⊎_elim, ℕ, zer
 use Rattle.std.proofs.lemmas.List.{append-nil, map-append}
 use Rattle.types_core.specs.declared.position.Round.{Round}
 use Rattle.types_core.specs.Positions.{HasRoom}
-use Rattle.types_core.specs.Subject.{Statement, notarize}
+use Rattle.types_core.specs.Subject.{Statement, notarize, nullify, finalize}
 use Rattle.messages_certificates.specs.declared.artifact.Artifact.{Artifact}
 use Rattle.simplex_record.specs.declared.certificates.Certificates.{Certificates}
 use Rattle.simplex_record.specs.declared.owner.Owner.{Owner}
@@ -45,7 +45,9 @@ module _ {D : Type 0} where
 
   -- what may follow has room
   pub follows_room : (views : ℕ) (standing : Standing D) (before : List (Entry D)) → Keeps views standing before → (e : Entry D) → MayFollow views before e → LeavesRoom views e
-  follows_room views standing before keeps (voted s) may = tt
+  follows_room views standing before keeps (voted (notarize p)) may = may.room
+  follows_room views standing before keeps (voted (nullify r)) may = may.room
+  follows_room views standing before keeps (voted (finalize p)) may = keeps.by_view.certificates.room (notarize p) may.notarized
   follows_room views standing before keeps (taken s) may = may.room
   follows_room views standing before keeps (judged r verdict) may = judged_room views standing.certificates before keeps.by_view.certificates r may
 

@@ -43,6 +43,7 @@ module _ {D : Type 0} where
 
   -- the member may vote to notarize the proposal
   pub record MayNotarize (views : ℕ) (before : List (Entry D)) (p : Proposal D) : Type 0 where
+    pub room : HasRoom views p.round.view
     pub first : HasNoVoteLike before (notarize p)
     pub not_given_up : HasNoVoteLike before (nullify p.round)
     pub parent_below : p.parent < p.round.view
@@ -50,6 +51,7 @@ module _ {D : Type 0} where
 
   -- it may vote to nullify the round
   pub record MayNullify (views : ℕ) (before : List (Entry D)) (r : Round) : Type 0 where
+    pub room : HasRoom views r.view
     pub current : r.view ≡ current_view views before
     pub first : HasNoVoteLike before (nullify r)
     pub not_finalized : (p : Proposal D) → p.round.view ≡ r.view → HasVoted before (finalize p) → ⊥
@@ -84,9 +86,9 @@ module _ {D : Type 0} where
   MayFollow views before (taken s) = MayTake views before s
   MayFollow views before (judged r verdict) = MayJudge before r
 
-  -- the view of a certificate or a verdict has room; of a vote's nothing is asked
+  -- the view that an entry speaks of has room
   abbrev pub LeavesRoom : ℕ → Entry D → Type 0
-  LeavesRoom views (voted s) = ⊤
+  LeavesRoom views (voted s) = HasRoom views (statement_round s).view
   LeavesRoom views (taken s) = HasRoom views (statement_round s).view
   LeavesRoom views (judged r verdict) = HasRoom views r.view
 

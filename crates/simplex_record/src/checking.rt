@@ -96,17 +96,17 @@ fn is_own(owner: &Owner, epoch: Epoch, signer: Participant) -> bool
     epoch == owner.epoch && signer == owner.signer
 }
 
-/// Whether the artifact's view has room, where that is asked of it: of votes nothing is.
+/// Whether the artifact's view has room.
 fn leaves_room<S: Scheme<D>, D: Digest>(length: TermLength, artifact: &Artifact<S, D>) -> bool
     ensures { IsTrue result ↔ LeavesRoom length (entry artifact.now) }
 {
     match artifact {
-        Artifact::Notarize(_) => true,
+        Artifact::Notarize(vote) => vote.view().has_room(length),
         Artifact::Notarization(certificate) => certificate.view().has_room(length),
         Artifact::Certification(round, _) => round.view.has_room(length),
-        Artifact::Nullify(_) => true,
+        Artifact::Nullify(vote) => vote.view().has_room(length),
         Artifact::Nullification(certificate) => certificate.view().has_room(length),
-        Artifact::Finalize(_) => true,
+        Artifact::Finalize(vote) => vote.view().has_room(length),
         Artifact::Finalization(certificate) => certificate.view().has_room(length),
     }
 }
@@ -141,7 +141,7 @@ impl<D: Digest> Standing<D> {
         }
     }
 
-    /// Adds an artifact: whether it was taken. A certificate or a verdict of a view without room is not. What
+    /// Adds an artifact: whether it was taken. What is of a view without room is not. What
     /// is kept is what the record tells with it, where the rules allow it there. Refused only where memory
     /// is: then what is kept tells nothing any more.
     pub fn add<S: Scheme<D>>(

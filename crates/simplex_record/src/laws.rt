@@ -7,6 +7,8 @@ ghost use Rattle.simplex_record.specs.Chain.{StandsOnGround, MayFollowOnGround, 
 ghost use Rattle.types_core.specs.declared.position.Round.{Round};
 ghost use Rattle.types_core.specs.declared.proposal.Proposal.{Proposal};
 ghost use Rattle.types_core.specs.Subject.{Statement, notarize};
+ghost use Rattle.types_core.specs.Positions.{HasRoom};
+ghost use Rattle.messages_certificates.specs.Artifact.{artifact_round};
 ghost use Rattle.messages_certificates.specs.declared.artifact.Artifact.TheVariants as artifact;
 ghost use Rattle.simplex_record.specs.Record.{Entry, voted, entries, HasVoted, HasTaken};
 ghost use Rattle.simplex_record.specs.Rules.{MayFollow, StandsInTheWay};
@@ -89,6 +91,14 @@ pub fn verdicts_follow_their_notarizations<S: Scheme<D>, D: Digest>()
         (verdict : Bool)
         → IsEverLawful (S.attests scheme) (S.certifies scheme) owner (before ++ artifact.Certification round verdict ∷ after)
         → (p : Proposal D) × (p.round ≡ round) × HasTaken (entries before) (notarize p) }
+{}
+
+/// Each artifact of a lawful record is of a view with room.
+pub fn lawful_records_leave_room<S: Scheme<D>, D: Digest>()
+    ensures { (scheme : S) (owner : Owner) (before after : List (Artifact S D S.PublicKey S.Signature S.Certificate))
+        (x : Artifact S D S.PublicKey S.Signature S.Certificate)
+        → IsLawful (S.attests scheme) (S.certifies scheme) owner (before ++ x ∷ after)
+        → HasRoom owner.term_length (artifact_round x).view }
 {}
 
 /// A lawful record of which nothing was ever dropped is lawful as the list of all that was ever recorded.

@@ -83,8 +83,12 @@ impl<D: Digest> Standing<D> {
     pub fn may_notarize(&self, length: TermLength, proposal: &Proposal<D>) -> bool
         ensures lawful { (before : List (Entry D)) → Keeps length self.now before → IsTrue result ↔ MayNotarize length before proposal.now }
         ensures parent_below { IsTrue result → proposal.now.parent < proposal.now.round.view }
+        ensures room { IsTrue result → HasRoom length proposal.now.round.view }
     {
         let view = proposal.round.view;
+        if !view.has_room(length) {
+            return false;
+        }
         if self.votes.notarizes.contains(&Reverse(view)) {
             return false;
         }
@@ -103,9 +107,13 @@ impl<D: Digest> Standing<D> {
     pub fn may_nullify(&self, length: TermLength, round: Round) -> bool
         ensures lawful { (before : List (Entry D)) → Keeps length self.now before → IsTrue result ↔ MayNullify length before round }
         ensures from_one { IsTrue result → 1 ≤ round.view }
+        ensures room { IsTrue result → HasRoom length round.view }
     {
         // View 0 is never entered, so nobody gives it up.
         if round.view == View::zero() {
+            return false;
+        }
+        if !round.view.has_room(length) {
             return false;
         }
         if round.view != self.current_view {
@@ -121,8 +129,12 @@ impl<D: Digest> Standing<D> {
     pub fn may_finalize(&self, length: TermLength, proposal: &Proposal<D>) -> bool
         ensures lawful { (before : List (Entry D)) → Keeps length self.now before → IsTrue result ↔ MayFinalize length before proposal.now }
         ensures from_one { IsTrue result → 1 ≤ proposal.now.round.view }
+        ensures room { IsTrue result → HasRoom length proposal.now.round.view }
     {
         let finalized = proposal.round.view;
+        if !finalized.has_room(length) {
+            return false;
+        }
         if self.last_finalized >= finalized {
             return false;
         }

@@ -65,6 +65,7 @@ due_may_be_notarized m k r view p matches b due =
     let covers = parent_covers m k view p.parent b.payload (⊎_elim (λ rule. inl rule) (λ own. inr own.1) stands.parent) in
     let kept : recorded.IsKept m.retention r p.round.view = rw b.at (kept_in m k r matches view due.kept.1) in
     record {
+      room = rw b.at due.room;
       first = no_notarize m k r matches p kept (rw b.at due.first);
       not_given_up = no_nullify m k r matches p.round kept (rw b.at due.not_given_up);
       parent_below = rw b.at covers.0;
@@ -123,6 +124,7 @@ module _ {S D P G C : Type 0} where
   due_may_be_nullified s h r now matches due none =
       let kept : recorded.IsKept s.retention r (current s h) = kept_in (member s) (known s h) r matches (current s h) (omega (arith, ahead s h)) in
       record {
+        room = due.gives_up.room;
         current = matches.current;
         first = no_nullify (member s) (known s h) r matches (round_of s (current s h)) kept none;
         not_finalized = λ p at voted. not_final p at (matches.own_finalize p voted (rw at kept));

@@ -10,6 +10,7 @@ use Rattle.simplex_member.specs.Layers.{finds, repair_of, voter_of}
 use Rattle.simplex_member.specs.Packet.{formats}
 use Rattle.simplex_member.specs.Point.{Found}
 use Rattle.simplex_member.specs.Recorded.{record_of}
+use Rattle.simplex_member.specs.Setup.{owner_of}
 use Rattle.node_core.specs.GoingThrough.{IsRecordOf}
 use Rattle.node_core.specs.Learning.{first_of}
 use Rattle.node_core.proofs.Gone.{reading-some, reading-unbegun}
@@ -23,9 +24,7 @@ returns g c = on_ok_weaker c.tell_repair.result (λ recalled n now s found rest 
     let whole = subst (λ (xs : List (Artifact g.row.S.Denot g.row.D.Denot g.row.S-PublicKey.Denot g.row.S-Signature.Denot g.row.S-Certificate.Denot)). IsRecordOf g.S.Scheme s c.args.recorded.now xs) k.behind is in
     let fits = whole.lawful (record_of h) rest x refl in
     let moment = c.moment.ensures 0 h (k.stand.tables 0) in
-    let length = c.term_length.ensures.each s.voter.length (repair_of f h) k.stand.repair in
-    let room_here = subst (λ (v : ℕ). HasRoom c.term_length.result v) c.view.ensures (c.has_room.ensures.0 c.if-not-has_room.false) in
-    let room = subst (λ (views : ℕ). HasRoom views (artifact_round x).view) length room_here in
+    let room : HasRoom s.voter.length (artifact_round x).view = c.lawful_records_leave_room.ensures s.voter.scheme (owner_of s) (record_of h) rest x whole.lawful in
     let told = c.in_ok-tell_voter.ensures s.voter (voter_of s h) k.stand.voter room (λ d is_it. c.what_is_not_recorded_is_unknown.ensures f s h d k.allowed (reading-some now h k.reading)
     (first_of s.voter.length (entries (record_of h)) d (subst (λ (y : (Artifact g.row.S.Denot g.row.D.Denot g.row.S-PublicKey.Denot g.row.S-Signature.Denot g.row.S-Certificate.Denot)). MayFollow s.voter.length (entries (record_of h)) (entry y)) is_it fits.follows))) in
     let voter = subst (λ (t : ℕ). voting.Keeps g.S.Scheme g.L.Elector s.voter c.tell_voter.new.voter (finds t x told.0 ++ voter_of s h)) moment told.2 in

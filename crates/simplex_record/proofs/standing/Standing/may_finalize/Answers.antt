@@ -1,7 +1,12 @@
 use Rattle.std.proofs.Common.{◌<◌, ⊎_elim, sym, ◌∙◌, arith}
 use Rattle.std.proofs.lemmas.Bool.Decides.{nat_tests}
+use Rattle.types_core.specs.Subject.{notarize}
 use Rattle.simplex_record.proofs.Ruling.{no_nullify, no_finalize, none_above, notarized_is, notarized_kept, true_verdict, unlike}
 use Rattle.simplex_record.proofs.standing.Standing.may_finalize.Goals as goal
+
+pub returns-then-not-has_room-clause-lawful : goal.returns-then-not-has_room-clause-lawful
+returns-then-not-has_room-clause-lawful g c = λ before k.
+    unlike (λ may. sym (c.has_room.ensures.1 (k.by_view.certificates.room (notarize c.args.proposal.now) may.notarized)) ∙ c.if-not-has_room.true)
 
 pub returns-then-contains-clause-lawful : goal.returns-then-contains-clause-lawful
 returns-then-contains-clause-lawful g c = λ before k. unlike (λ may. sym (c.if-contains.true) ∙ c.contains.ensures ∙ (no_nullify c.args.self.now.votes before k.by_view.votes c.args.proposal.now.round).1 may.not_given_up)

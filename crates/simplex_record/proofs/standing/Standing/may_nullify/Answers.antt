@@ -11,6 +11,9 @@ returns-then-eq-clause-lawful g c = λ before k. unlike (λ may.
     let some : 1 ≤ current_view c.args.length before = greatest-least 1 (enters c.args.length) before in
     absurd (omega (arith, zero, some, may.current)))
 
+pub returns-then-not-has_room-clause-lawful : goal.returns-then-not-has_room-clause-lawful
+returns-then-not-has_room-clause-lawful g c = λ before k. unlike (λ may. sym (c.has_room.ensures.1 may.room) ∙ c.if-not-has_room.true)
+
 pub returns-then-contains-clause-lawful : goal.returns-then-contains-clause-lawful
 returns-then-contains-clause-lawful g c = λ before k. unlike (λ may. sym (c.if-contains.true) ∙ c.contains.ensures ∙ (no_nullify c.args.self.now.votes before k.by_view.votes c.args.round).1 may.first)
 
@@ -19,6 +22,7 @@ returns-clause-lawful g c = λ before k.
     let same : c.args.round.view ≡ c.args.self.now.current_view = grind (arith, nat_tests, c.ne.ensures, c.if-ne.false) in
     let never = no_finalize_of c.args.self.now.votes before k.by_view.votes c.args.round.view in (
       λ none. record {
+        room = c.has_room.ensures.0 c.if-not-has_room.false;
         current = same ∙ k.by_view.current_view;
         first = (no_nullify c.args.self.now.votes before k.by_view.votes c.args.round).0 (sym c.contains.ensures ∙ c.if-contains.false);
         not_finalized = never.0 (sym c.contains-2.ensures ∙ (true_not c.contains-2.result).0 none);
