@@ -74,8 +74,8 @@ never-unopened : (b : Bool) → Unopened ≡ first_up Unopened b → ⊥
 never-unopened true is = apart (ap is_up is)
 never-unopened false is = apart (ap is_up is)
 
-pub up-from : {at to : Stage} → IsUp to → at ≡ to → IsUp at
-up-from up is = subst (λ (x : Stage). IsUp x) (sym is) up
+pub collected-up : {at : Stage} → at ≡ Collected → IsUp at
+collected-up is = subst (λ (x : Stage). IsUp x) (sym is) refl
 
 module _ {S D P G C : Type 0} where
   pub way-signer : (v u : Vote S D P G C) → is_in_way v u ≡ true → vote_signer u ≡ vote_signer v
@@ -252,7 +252,7 @@ module _ {S D P G C : Type 0} (g : Ghosts S D P G C) (f : Formats S D P G C) (s 
         mine = subst (λ (c : Bool). Lawful view c r) is_false before
 
         batch_is : IsBatch g f.same (setup_as view false) kind r batch
-        batch_is = subst (λ (x : votes.History S D P G C). IsBatch g f.same (setup_as view false) kind x batch) (kept-all h view (stage-kept h view (up-from refl a.due.0)))
+        batch_is = subst (λ (x : votes.History S D P G C). IsBatch g f.same (setup_as view false) kind x batch) (kept-all h view (stage-kept h view (collected-up a.due.0)))
             (subst (λ (o : Stage). IsBatch g f.same (setup_as view (skips o (passes_over s h view))) kind (votes_of s h view) batch) a.due.0 a.due.2)
 
         go : (o : Option (Certificate S D P G C)) → batch.certificate ≡ o → Lawful view false (after kind (Some batch) r)
@@ -317,13 +317,13 @@ module _ {S D P G C : Type 0} (g : Ghosts S D P G C) (f : Formats S D P G C) (s 
     pub no-quorum-lost : (h : History S D P G C) → AreAllowed g f s h → NoneDue g f s h → (view : ℕ) → stage s h view ≡ Collected → AllCertified g.attests (votes_setup s g h view) (votes_of s h view)
     no-quorum-lost h all none view is =
         laws.no_quorum_lost (votes_setup s g h view) (votes_of s h view) (ap (λ (o : Stage). skips o (passes_over s h view)) is)
-        (votes-lawful h all view (up-from refl is)) (none.constructions.no_construction view is)
+        (votes-lawful h all view (collected-up is)) (none.constructions.no_construction view is)
 
     -- each attestation that a made certificate lists is that of a known vote that states what the certificate states
     pub made-lists : (h : History S D P G C) → AreAllowed g f s h → (view : ℕ) (kind : Kind) (batch : Batch (Certificate S D P G C)) → Allowed g f s h (Constructs view kind batch) → (c : Certificate S D P G C) → batch.certificate ≡ Some c
         → (a : Attestation G) → Contains (g.lists (certified_by c)) a → IsOfVote g f s h (certificate_statement c) a
     made-lists h all view kind batch allowed c made a here =
-        let sound = votes-lawful h all view (up-from refl allowed.due.0) in
+        let sound = votes-lawful h all view (collected-up allowed.due.0) in
         let is = if-some (IsFounded g (votes_setup s g h view) kind (votes_of s h view)) batch.certificate c (laws.founded (votes_setup s g h view) (votes_of s h view) kind batch sound allowed.due.2) made in
         let v = is.listed a here in
         let from = accepted-known g f s h all view v.vote (kept-only (nat_lt view (floor_of s h)) (all_votes view h) v.vote v.accepted_is) in

@@ -56,7 +56,7 @@ use Rattle.simplex_member.specs.Packet.{Formats, Packet, of_ask, of_certificate,
 use Rattle.simplex_member.specs.Point.{Counts, Falls, Passes, AreActs, Point, Opened, Found, Began, Told, Heard, Came, Wanted, Built, Checked, Judged, Leads, Forwards, Constructs, Latches, Polls, AsksBuild, AsksVerify, AsksCertify, GivesBack, LeavesBehind, PutsOff, Asks, Resolves, Votes, Repeats, History, is_act}
 use Rattle.simplex_member.specs.Recorded.{record_of, recorded_by}
 use Rattle.simplex_member.specs.Setup.{Setup, DeadlinesLieAhead, GoesByMembers, IsInTime, member_of}
-use Rattle.simplex_member.proofs.Ballots.{stage-kept, up-from}
+use Rattle.simplex_member.proofs.Ballots.{collected-up, stage-kept}
 use Rattle.simplex_member.proofs.Blame.{placed}
 use Rattle.simplex_member.proofs.Coming.{staged-room}
 use Rattle.simplex_member.proofs.Going.{allowed-lawful}
@@ -606,7 +606,7 @@ module _ {S D P G C : Type 0} (g : Ghosts S D P G C) (f : Formats S D P G C) (s 
             subst (λ (n : ℕ). Contains these n) (sym (ap view_of rise.is) ∙ up.1)
             (⊎_elim
             (λ heard. absurd (none-heard h all is.vote heard))
-            (λ own. by-own h all holds final rise.view rise.kind rise.batch rise.c rise.made (up-from refl q.due.0) at raised is.vote own.1 is.states rise.leads of_view)
+            (λ own. by-own h all holds final rise.view rise.kind rise.batch rise.c rise.made (collected-up q.due.0) at raised is.vote own.1 is.states rise.leads of_view)
             is.known))
             (λ later.
             let rises = (goes-rise g f s h (p ∷ h) (p ∷ []) (goes.0, refl)).1 in

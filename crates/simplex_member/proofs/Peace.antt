@@ -31,7 +31,7 @@ use Rattle.simplex_member.specs.Lives.{AreFaithful, CameIn, LiveByNodes, Members
 use Rattle.simplex_member.specs.Packet.{Formats, of_vote}
 use Rattle.simplex_member.specs.Point.{Constructs, History}
 use Rattle.simplex_member.specs.Setup.{IsOfOneMember, Setup, owner_of}
-use Rattle.simplex_member.proofs.Ballots.{none-in-way, up-from, votes-lawful, way-signer}
+use Rattle.simplex_member.proofs.Ballots.{collected-up, none-in-way, votes-lawful, way-signer}
 use Rattle.simplex_member.proofs.Blame.{came-sound, splits}
 use Rattle.simplex_member.proofs.Going.{Lawful}
 use Rattle.simplex_member.proofs.Listed.{accepted-known, kept-only, signer-of, vote-entry}
@@ -187,7 +187,7 @@ module _ {S D P G C : Type 0} (g : Ghosts S D P G C) (f : Formats S D P G C) (sc
       → Allowed g f s h (Constructs view kind batch) → Contains batch.invalid.items j → ⊥
   none-invalid grows laws back w faithful alike i j ci cj s own_setup h all heard view kind batch allowed here =
       let r = votes_of s h view in
-      let sound = votes-lawful g f s laws h all view (up-from refl allowed.due.0) in
+      let sound = votes-lawful g f s laws h all view (collected-up allowed.due.0) in
       let bad = All-contains (HasFailed g.attests (votes_setup s g h view) kind r) batch.invalid.items j (laws.failed (votes_setup s g h view) r kind batch sound allowed.due.2) here in
       let from = accepted-known g f s h all view bad.vote (kept-only (nat_lt view (floor_of s h)) (all_votes view h) bad.vote bad.accepted_is) in
       bad.fails (subst (λ (n : ℕ). g.attests s.voter.scheme n (vote_statement bad.vote) (vote_attestation bad.vote).signature) (signer-of bad.vote) (attests-here bad.vote from.known bad.signer_is))

@@ -37,7 +37,7 @@ use Rattle.simplex_member.specs.Point as point
 use Rattle.simplex_member.specs.Point.{AreActs, Point, Found, Began, Opened, Told, Heard, Came, Wanted, Built, Checked, Leads, Forwards, Constructs, Votes, History, is_act}
 use Rattle.simplex_member.specs.Recorded.{record_of, recorded_by}
 use Rattle.simplex_member.specs.Setup.{Setup}
-use Rattle.simplex_member.proofs.Ballots.{batch-round, heard-another, made-lists, stage-kept, taken-allowed, up-from}
+use Rattle.simplex_member.proofs.Ballots.{batch-round, heard-another, made-lists, collected-up, stage-kept, taken-allowed}
 use Rattle.simplex_member.proofs.Going.{allowed-lawful}
 use Rattle.simplex_member.proofs.Listed.{after-none, known-on, signer-of}
 use Rattle.simplex_member.proofs.Lists.{Contains-map, Contains-mapped, mapped-before, put-here, same-number, some-is}
@@ -451,7 +451,7 @@ module _ {S D P G C : Type 0} (g : Ghosts S D P G C) (f : Formats S D P G C) (s 
             ⊎_elim
             (λ now. subst (λ (n : ℕ). Contains (heard_view first ∷ numbers) n) (ap heard_view now ∙ at_view) (Contains-head (heard_view first) numbers))
             (λ before.
-            let high = ltb-false rise.view (floor_of s h) (stage-kept g f s h rise.view (up-from refl a.due.0)) in
+            let high = ltb-false rise.view (floor_of s h) (stage-kept g f s h rise.view (collected-up a.due.0)) in
             let low : floor_of s start ≤ (vote_round some_vote.0).view = omega (arith, high, final, some_vote.2) in
             let there : IsUp (stage s start (vote_round some_vote.0).view) = rw (le-ltb (vote_round some_vote.0).view (floor_of s start) low) (heard-opened start begun some_vote.0 before) in
             Contains-rest (heard_view first) numbers x (kept x (subst (λ (n : ℕ). IsUp (stage s start n)) at_view there)))
