@@ -1,5 +1,5 @@
 -- Own votes: what one point of the node's own comes to, when an own vote may come next, and where the node stands behind it.
-use Rattle.std.proofs.Common.{◌≡◌, ◌≢◌, ◌≤◌, ◌<◌, ◌-◌, ◌⊎◌, ⊎_elim, ℕ, Bool, true, false, List, [], ◌∷◌, ◌++◌, Option, Some, None, Result, Ok, Err, refl, sym, ◌∙◌, ap, subst, append-nil, arith, map}
+use Rattle.std.proofs.Common.{◌≡◌, ◌≢◌, ◌≤◌, ◌<◌, ◌-◌, ◌⊎◌, ⊎_elim, inl, inr, ℕ, Bool, true, false, List, [], ◌∷◌, ◌++◌, Option, Some, None, Result, Ok, Err, refl, sym, ◌∙◌, ap, subst, append-nil, arith, map}
 use Rattle.std.specs.Prelude.{◌==◌, nat_lt, All, Contains, IfErr, IfOk, IsErrOf, IsSome, OnOk, if◌then◌else◌}
 use Rattle.std.specs.Option.{option_or}
 use Rattle.std.proofs.lemmas.Bool.{eq-eqb, false≢true, lt-ltb}
@@ -65,7 +65,7 @@ use Rattle.simplex_member.specs.Setup.{Setup, member_of, owner_of}
 use Rattle.node_outbox.specs.Handing.{AddsDeeds, hands_as, nothing_more}
 use Rattle.node_requests.specs.declared.acted.Acted.{Acted}
 use Rattle.node_requests.specs.declared.acted.Acted.TheVariants as came
-use Rattle.node_requests.specs.Asking.{AskerKeeps, is_none}
+use Rattle.node_requests.specs.Asking.{AskerKeeps, BringsOn, is_none}
 use Rattle.node_core.specs.declared.node_state.Core.{Core}
 use Rattle.node_due.specs.Acting.{ComesTo, HasActed, IsLeftByActs, WasTried}
 use Rattle.node_due.specs.Ahead.{MayCome, VoterIsAhead}
@@ -129,14 +129,14 @@ module _ {S L D P G C K : Type 0} (g : Ghosts S D P G C) (e : elector.Ghosts L S
 
   module _ (is_kind : Point S D P G C → Bool) (Done : History S D P G C → Type 0) where
     -- one point was taken
-    pub did_one : (old new : Core S L D K P G C) (h : History S D P G C) (p : Point S D P G C) (before after : List (Action S D P G C)) (answer : Result Acted NodeFault) → is_act p ≡ true
+    pub did_one : (old new : Core S L D K P G C) (h : History S D P G C) (p : Point S D P G C) (before after : List (Action S D P G C)) (answer : Result Acted NodeFault) → is_act p ≡ true → BringsOn g f s h p
         → IfOk answer (λ done. done ≡ came.Did) → OnOk answer (IsTaken g e k f s new h p before after)
         → (k.keeps → LeavesOnly (k.calls (disk_of old)) (k.calls (disk_of new)) (IsLeftBy g f s h p)) → WasTried g e k f s is_kind Done old new h before after answer
-    did_one old new h p before after (Ok done) own did taken leaves = record {
-      ok = subst (λ (a : Acted). ComesTo g e k f s is_kind Done new h before after a) (sym did) (record { points = p ∷ []; end = p ∷ h; acted = one_acted new h p before after own taken });
+    did_one old new h p before after (Ok done) own brings did taken leaves = record {
+      ok = subst (λ (a : Acted). ComesTo g e k f s is_kind Done new h before after a) (sym did) (record { points = p ∷ []; end = p ∷ h; acted = one_acted new h p before after own taken; some = inl brings });
       any_moment = λ it. left_by_act g f s h p (k.calls (disk_of old)) (k.calls (disk_of new)) own (leaves it);
     }
-    did_one old new h p before after (Err why) own did taken leaves = record {
+    did_one old new h p before after (Err why) own brings did taken leaves = record {
       ok = tt;
       any_moment = λ it. left_by_act g f s h p (k.calls (disk_of old)) (k.calls (disk_of new)) own (leaves it);
     }
@@ -160,7 +160,7 @@ module _ {S L D P G C K : Type 0} (g : Ghosts S D P G C) (e : elector.Ghosts L S
         → is_act p ≡ true → Allowed g f s h p → deeds_of g f s h p ≡ [] → is_kind p ≡ true
         → ComesTo g e k f s is_none Done new (p ∷ h) before after acted → ComesTo g e k f s is_kind Done new h before after acted
     came_behind new h p before after came.Did own may silent kind did =
-        record { points = p ∷ did.points; end = did.end; acted = more_acts new h p did.points did.end before after own may silent did.acted }
+        record { points = p ∷ did.points; end = did.end; acted = more_acts new h p did.points did.end before after own may silent did.acted; some = inr did.some }
     came_behind new h p before after came.Nothing own may silent kind did = record {
       points = p ∷ did.points;
       end = did.end;

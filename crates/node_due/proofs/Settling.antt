@@ -22,6 +22,7 @@ use Rattle.simplex_member.specs.Recorded.{record_of}
 use Rattle.simplex_member.specs.Setup.{Setup}
 use Rattle.node_outbox.specs.Handing.{both_more, hands_as, nothing_more}
 use Rattle.node_requests.specs.Asking.{is_silent}
+use Rattle.node_requests.specs.Onward.{on_behind}
 use Rattle.node_requests.specs.declared.acted.Acted.{Acted}
 use Rattle.node_requests.specs.declared.acted.Acted.TheVariants as came
 use Rattle.node_core.specs.declared.node_state.Core.{Core}
@@ -82,6 +83,7 @@ module _ {S L D P G C K : Type 0} (g : Ghosts S D P G C) (e : elector.Ghosts L S
       points = none.points ++ did.points;
       end = did.end;
       acted = acted_behind mid new h none.end did.end none.points did.points before between after none.acted did.acted;
+      some = on_behind g f s h none.end none.points did.points none.acted.goes did.some;
     }
     comes_behind (Ok came.Nothing) more = record {
       points = none.points ++ more.points;
@@ -155,9 +157,15 @@ module _ {S D P G C : Type 0} (g : Ghosts S D P G C) (f : Formats S D P G C) (s 
 -- ---- one act after the other
 
 module _ {S L D P G C K : Type 0} (g : Ghosts S D P G C) (e : elector.Ghosts L S D P G C) (k : disk.Ghosts K) (f : Formats S D P G C) (s : Setup S D C) where
+  -- points were gone through so far, or none
+  pub record HasGone (new : Core S L D K P G C) (h : History S D P G C) (before after : List (Action S D P G C)) : Type 0 where
+    pub points : List (Point S D P G C)
+    pub end : History S D P G C
+    pub acted : HasActed g e k f s new h points end before after
+
   -- acts were done so far
   pub record ActsSoFar (old new : Core S L D K P G C) (h : History S D P G C) (before after : List (Action S D P G C)) : Type 0 where
-    pub did : DidSomething g e k f s new h before after
+    pub did : HasGone new h before after
     pub any_moment : k.keeps → LeavesOnly (k.calls (disk_of old)) (k.calls (disk_of new)) (IsLeftByActs g f s h)
 
   -- at first none was
@@ -175,7 +183,7 @@ module _ {S L D P G C K : Type 0} (g : Ghosts S D P G C) (e : elector.Ghosts L S
     left_so_far : (k.keeps → LeavesOnly (k.calls (disk_of mid)) (k.calls (disk_of new)) (IsLeftByActs g f s far.did.end)) → k.keeps → LeavesOnly (k.calls (disk_of old)) (k.calls (disk_of new)) (IsLeftByActs g f s h)
     left_so_far = left_through g e k f s old mid new h far.did.end far.did.points so_far.own so_far.goes far.any_moment
 
-    did_more : DidSomething g e k f s new far.did.end between after → DidSomething g e k f s new h before after
+    did_more : DidSomething g e k f s new far.did.end between after → HasGone new h before after
     did_more more = record {
       points = far.did.points ++ more.points;
       end = more.end;

@@ -1,5 +1,5 @@
 -- Where a node stands behind what it asked for, and behind what it learnt of leaders.
-use Rattle.std.proofs.Common.{◌≡◌, ◌∷◌, ◌∙◌, [], ⊎_elim, Bool, true, false, List, None, Result, map, refl, sym, ap, subst}
+use Rattle.std.proofs.Common.{◌≡◌, ◌∷◌, ◌∙◌, [], inl, Bool, true, false, List, Result, map, refl, sym, ap, subst}
 use Rattle.std.proofs.lemmas.List.Elements.{All-cons, All-head, All-nil, All-tail, All-weaker}
 use Rattle.std.proofs.lemmas.Result.{IfOk-weaker, on_ok_weaker}
 use Rattle.std.specs.Prelude.{All, IfOk, OnOk}
@@ -13,7 +13,6 @@ use Rattle.journal_single.specs.declared.disk.Disk as disk
 use Rattle.journal_single.specs.Disk.{LeavesOnly}
 use Rattle.journal_single.specs.Moments.{weaker}
 use Rattle.journal_single.specs.Record.{Reads}
-use Rattle.batcher_verifier.specs.History.{leader_of}
 use Rattle.voter_laws.specs.Matching.{PollChangesNothing}
 use Rattle.simplex_state.specs.declared.state.State.{State}
 use Rattle.simplex_state.specs.State as voting
@@ -31,7 +30,7 @@ use Rattle.simplex_member.specs.declared.action.Action.{Action}
 use Rattle.simplex_member.specs.declared.fault.NodeFault.{NodeFault}
 use Rattle.simplex_member.specs.Allowed.{Allowed, AreAllowed}
 use Rattle.simplex_member.specs.Deeds.{Deed}
-use Rattle.simplex_member.specs.Layers.{finalized_of, is_begun, may_enter, repair_of, voter_of, votes_of}
+use Rattle.simplex_member.specs.Layers.{finalized_of, is_begun, may_enter, repair_of, voter_of}
 use Rattle.simplex_member.specs.Member.{EndsWith, Goes, NoneDue}
 use Rattle.simplex_member.specs.Packet.{Formats}
 use Rattle.simplex_member.specs.Point.{Point, Asks, Latches, Leads, Polls, History, is_act}
@@ -173,6 +172,7 @@ module _ {S L D P G C K : Type 0} {g : Ghosts S D P G C} {e : elector.Ghosts L S
     points = was.points;
     end = was.end;
     acted = has_acted voter tables was.points was.end before after quiet was.asked;
+    some = was.some;
   }
   comes_to is_kind Done voter tables before after quiet came.Nothing had = record {
     points = had.points;
@@ -204,6 +204,7 @@ module _ {S L D P G C K : Type 0} {g : Ghosts S D P G C} {e : elector.Ghosts L S
     points = fetched.points;
     end = fetched.end;
     asked = fetched_is_asked g e f s node.voter tables h fetched.points fetched.end before after kept.voter fetched.fetched;
+    some = fetched.some;
   }
   fetches_ask Done tables before after came.Nothing done = record {
     points = [];
@@ -226,6 +227,7 @@ module _ {S L D P G C K : Type 0} {g : Ghosts S D P G C} {e : elector.Ghosts L S
       tables_are = kept.tables;
       acts = nothing_more f actions;
     };
+    some = inl followed.1.0;
   }
   follows_ask voter actions came.Nothing none = record {
     points = [];
@@ -247,31 +249,29 @@ module _ {S L D P G C K : Type 0} {g : Ghosts S D P G C} {e : elector.Ghosts L S
   -- those of a view learn who leads it, or none has to
   pub leads : (votes : Acceptance S D P G C) (actions : List (Action S D P G C)) (acted : Acted) → NamesLeader s g f.same votes h acted
       → ComesTo g e k f s is_none (NoLeaderToName s) (record node { acceptance = votes }) h actions actions acted
-  leads votes actions came.Did named = ⊎_elim
-      (λ waited. record {
-        points = Leads named.0 named.1 ∷ [];
-        end = Leads named.0 named.1 ∷ h;
-        acted = record {
-          own = All-cons (λ (p : Point S D P G C). is_act p ≡ true) (Leads named.0 named.1) [] refl (All-nil (λ (p : Point S D P G C). is_act p ≡ true));
-          goes = (may waited.0, refl);
-          keeps = record {
-            begun = kept.begun;
-            allowed = (may waited.0, kept.allowed);
-            set_up = kept.set_up;
-            voter = kept.voter;
-            votes = waited.1;
-            repair = kept.repair;
-            ledger = kept.ledger;
-            tables = kept.tables;
-          };
-          acts = nothing_more f actions;
-        };
-      })
-      (λ knew. record { points = []; end = h; acted = stays votes actions knew })
-      named.3
+  leads votes actions came.Did named = record {
+    points = Leads named.0 named.1 ∷ [];
+    end = Leads named.0 named.1 ∷ h;
+    acted = record {
+      own = All-cons (λ (p : Point S D P G C). is_act p ≡ true) (Leads named.0 named.1) [] refl (All-nil (λ (p : Point S D P G C). is_act p ≡ true));
+      goes = (may, refl);
+      keeps = record {
+        begun = kept.begun;
+        allowed = (may, kept.allowed);
+        set_up = kept.set_up;
+        voter = kept.voter;
+        votes = named.3;
+        repair = kept.repair;
+        ledger = kept.ledger;
+        tables = kept.tables;
+      };
+      acts = nothing_more f actions;
+    };
+    some = inl tt;
+  }
     where
-      may : leader_of (votes_of s h named.0) ≡ None → Allowed g f s h (Leads named.0 named.1)
-      may unknown = record { order = kept.begun; due = (named.2.there, unknown, named.2.known); fits = tt; readable = tt }
+      may : Allowed g f s h (Leads named.0 named.1)
+      may = record { order = kept.begun; due = (named.2.there, named.2.waits, named.2.known); fits = tt; readable = tt }
   leads votes actions came.Nothing none = record {
     points = [];
     end = h;

@@ -15,6 +15,7 @@ use Rattle.simplex_member.specs.Packet.{Formats}
 use Rattle.simplex_member.specs.Point.{Point, AreActs, History}
 use Rattle.simplex_member.specs.Setup.{Setup}
 use Rattle.node_outbox.specs.Handing.{AddsDeeds}
+use Rattle.node_requests.specs.Asking.{SomeBringsOn}
 use Rattle.node_requests.specs.declared.acted.Acted.{Acted}
 use Rattle.node_requests.specs.declared.acted.Acted.TheVariants as came
 use Rattle.node_core.specs.declared.node_state.Core.{Core}
@@ -34,11 +35,12 @@ module _ {S L D P G C K : Type 0} (g : Ghosts S D P G C) (e : elector.Ghosts L S
     pub keeps : CoreKeeps g e k f s new end
     pub acts : AddsDeeds f before after (all_deeds g f s h points)
 
-  -- something that was due was done
+  -- something that was due was done, which brings the node on
   pub record DidSomething (new : Core S L D K P G C) (h : History S D P G C) (before after : List (Action S D P G C)) : Type 0 where
     pub points : List (Point S D P G C)
     pub end : History S D P G C
     pub acted : HasActed new h points end before after
+    pub some : SomeBringsOn g f s h points
 
   -- nothing of a kind was left to be done, behind points of this kind alone, which hand out nothing: this holds where they led
   pub record DidNothing (is_kind : Point S D P G C → Bool) (Done : History S D P G C → Type 0) (new : Core S L D K P G C) (h : History S D P G C) (before after : List (Action S D P G C)) : Type 0 where

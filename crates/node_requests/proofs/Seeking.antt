@@ -32,7 +32,9 @@ use Rattle.simplex_member.specs.Setup.{Setup, member_of}
 use Rattle.node_outbox.specs.Handing.{AddsDeeds, both_more, hands_as, nothing_more}
 use Rattle.node_requests.specs.declared.acted.Acted.{Acted}
 use Rattle.node_requests.specs.declared.acted.Acted.TheVariants as came
+use Rattle.node_requests.specs.Asking.{SomeBringsOn}
 use Rattle.node_requests.specs.Fetching.{Fetches, HasFetched, is_fetch}
+use Rattle.node_requests.specs.Onward.{on_before, on_behind}
 
 module _ {S D P G C : Type 0} (g : Ghosts S D P G C) (f : Formats S D P G C) (s : Setup S D C) where
   -- points behind others
@@ -103,17 +105,19 @@ module _ {S D P G C : Type 0} (g : Ghosts S D P G C) (f : Formats S D P G C) (s 
   }
 
   -- behind views that were asked for, one more was sought: it is answered then, and where nothing was sent for it nothing changed
-  pub record HasSought (tables : Tables S D P G C) (h at : History S D P G C) (view : ℕ) (ask : Ask) (to : Option ℕ) (before mid after : List (Action S D P G C)) (sent : Bool) : Type 0 where
+  pub record HasSought (tables : Tables S D P G C) (h at : History S D P G C) (first : List (Point S D P G C)) (view : ℕ) (ask : Ask) (to : Option ℕ) (before mid after : List (Action S D P G C)) (sent : Bool) : Type 0 where
     pub points : List (Point S D P G C)
     pub end : History S D P G C
     pub fetched : HasFetched g f s tables h points end before after
     pub answered : IsAnswered f s end view ask to
     pub aside : StandsAside at end
     pub idle : sent ≡ false → (end ≡ at) × (after ≡ mid)
+    pub kept : SomeBringsOn g f s h first → SomeBringsOn g f s h points
+    pub some : sent ≡ true → SomeBringsOn g f s h points
 
   pub seeks : (tables more : Tables S D P G C) (h at : History S D P G C) (points : List (Point S D P G C)) (asked : Asked) (before mid after : List (Action S D P G C)) (sent : Bool)
       → is_begun at ≡ true → HasFetched g f s tables h points at before mid → IsSought g f s at asked.view asked.ask asked.to → Fetches f s more at asked mid after sent
-      → HasSought more h at asked.view asked.ask asked.to before mid after sent
+      → HasSought more h at points asked.view asked.ask asked.to before mid after sent
   seeks tables more h at points asked before mid after true begun k sought came =
       let may : Allowed g f s at (Asks asked.view asked.ask asked.to) = record { order = begun; due = record { sought = sought; first = came.0 }; fits = tt; readable = tt } in
       record {
@@ -123,6 +127,8 @@ module _ {S D P G C : Type 0} (g : Ghosts S D P G C) (f : Formats S D P G C) (s 
         answered = inr (Contains-head (record { view = asked.view; ask = asked.ask; to = asked.to }) (asks_of at));
         aside = aside_one at (Asks asked.view asked.ask asked.to) refl may;
         idle = λ not_sent. absurd (false≢true (sym not_sent));
+        kept = λ some. on_before g f s h points (Asks asked.view asked.ask asked.to ∷ []) some;
+        some = λ is_sent. on_behind g f s h at points (Asks asked.view asked.ask asked.to ∷ []) k.goes (inl tt);
       }
   seeks tables more h at points asked before mid after false begun k sought came = record {
     points = points;
@@ -136,6 +142,8 @@ module _ {S D P G C : Type 0} (g : Ghosts S D P G C) (f : Formats S D P G C) (s 
     answered = came.0;
     aside = aside_here at;
     idle = λ not_sent. (refl, came.2);
+    kept = λ some. some;
+    some = λ is_sent. absurd (false≢true is_sent);
   }
 
   -- who is sought stays so
@@ -154,13 +162,14 @@ module _ {S D P G C : Type 0} (g : Ghosts S D P G C) (f : Formats S D P G C) (s 
       pub end : History S D P G C
       pub fetched : HasFetched g f s tables h points end before after
       pub idle : acted ≡ came.Nothing → (end ≡ h) × (after ≡ before)
+      pub some : acted ≡ came.Did → SomeBringsOn g f s h points
       pub due : (view : ℕ) → Contains left view → IsSought g f s h view ask None
       pub rest : (view : ℕ) → Wanted view → Contains left view ⊎ IsAnswered f s end view ask None
 
     -- at first all are left
-    pub none_asked : (left : List ℕ) (tables : Tables S D P G C) (h : History S D P G C) (actions : List (Action S D P G C)) (acted : Acted) → KeepsTables (finalized_of s h) tables h
-        → ((view : ℕ) → Contains left view → IsSought g f s h view ask None) → ((view : ℕ) → Wanted view → Contains left view) → AsksBut left tables h actions actions acted
-    none_asked left tables h actions acted tables_are due all = record {
+    pub none_asked : (left : List ℕ) (tables : Tables S D P G C) (h : History S D P G C) (actions : List (Action S D P G C)) → KeepsTables (finalized_of s h) tables h
+        → ((view : ℕ) → Contains left view → IsSought g f s h view ask None) → ((view : ℕ) → Wanted view → Contains left view) → AsksBut left tables h actions actions came.Nothing
+    none_asked left tables h actions tables_are due all = record {
       points = [];
       end = h;
       fetched = record {
@@ -170,18 +179,19 @@ module _ {S D P G C : Type 0} (g : Ghosts S D P G C) (f : Formats S D P G C) (s 
         acts = nothing_more f actions;
       };
       idle = λ none. (refl, refl);
+      some = λ did. absurd (cc did);
       due = due;
       rest = λ view wanted. inl (all view wanted);
     }
 
     -- one more was asked for, or it was answered before
     pub one_fewer : (view : ℕ) (left : List ℕ) (tables more : Tables S D P G C) (h : History S D P G C) (before mid after : List (Action S D P G C)) (acted now : Acted) (sent : Bool) → is_begun h ≡ true
-        → (now ≡ came.Nothing → (acted ≡ came.Nothing) × (sent ≡ false)) → AsksBut (view ∷ left) tables h before mid acted
+        → (now ≡ came.Nothing → (acted ≡ came.Nothing) × (sent ≡ false)) → (now ≡ came.Did → (acted ≡ came.Did) ⊎ (sent ≡ true)) → AsksBut (view ∷ left) tables h before mid acted
         → ((end : History S D P G C) → StandsAside h end → KeepsTables (finalized_of s end) tables end → Fetches f s more end (record { view = view; ask = ask; to = None }) mid after sent)
         → AsksBut left more h before after now
-    one_fewer view left tables more h before mid after acted now sent begun came_of k fetches =
+    one_fewer view left tables more h before mid after acted now sent begun came_of did_of k fetches =
         let aside : StandsAside h k.end = stands_aside h k.end k.points k.fetched.are_fetches k.fetched.goes in
-        let next : HasSought more h k.end view ask None before mid after sent =
+        let next : HasSought more h k.end k.points view ask None before mid after sent =
         seeks tables more h k.end k.points (record { view = view; ask = ask; to = None }) before mid after sent (aside.begun begun) k.fetched
         (sought_behind h k.end view ask aside (k.due view (Contains-head view left))) (fetches k.end aside k.fetched.tables_are) in
         record {
@@ -193,6 +203,7 @@ module _ {S D P G C : Type 0} (g : Ghosts S D P G C) (f : Formats S D P G C) (s 
               let earlier = k.idle both.0 in
               let this = next.idle both.1 in
               (this.0 ∙ earlier.0, this.1 ∙ earlier.1);
+          some = λ did. ⊎_elim (λ earlier. next.kept (k.some earlier)) (λ this. next.some this) (did_of did);
           due = λ u there. k.due u (Contains-rest view left u there);
           rest = λ u is. ⊎_elim
               (λ there. ⊎_elim

@@ -2,7 +2,7 @@
 use Rattle.std.proofs.Common.{◌≡◌, ◌≢◌, ◌⊎◌, ⊎_elim, inl, inr, min, ◌∷◌, [], ◌∙◌, ℕ, ◌+◌, ◌<◌, ◌≤◌, ◌^◌, ◌==◌, Bool, true, false, List, Option, Some, None, refl, sym, ap, subst, arith}
 use Rattle.std.proofs.lemmas.Bool.{cases_lt, false≢true}
 use Rattle.std.proofs.lemmas.Grind.{common_steps}
-use Rattle.std.specs.Prelude.{◌↔◌, unwrap_or, if◌then◌else◌}
+use Rattle.std.specs.Prelude.{◌↔◌, is_none, unwrap_or, if◌then◌else◌}
 use Rattle.types_core.specs.declared.scheme.Scheme.{Ghosts}
 use Rattle.simplex_messages.specs.VoteParts.{vote_signer}
 use Rattle.types_terms.specs.declared.elector.Elector as elector
@@ -27,6 +27,7 @@ use Rattle.node_requests.specs.Asking.{WasAsked}
 use Rattle.node_requests.specs.NoneDue.{NoSilence}
 use Rattle.node_requests.specs.Silence.{IsSilentFrom, SilenceCounts}
 use Rattle.node_requests.proofs.Acts.{one_asked}
+use Rattle.node_requests.proofs.Waits.{both_true, none_of}
 
 -- whoever has another index is another member
 pub is_another : (same : Bool) (i me own : ℕ) → same ≡ (i == me) → same ≡ false → me ≡ own → i ≢ own
@@ -99,10 +100,13 @@ module _ {S D P G C : Type 0} (g : Ghosts S D P G C) (f : Formats S D P G C) (s 
 module _ {S L D P G C : Type 0} (g : Ghosts S D P G C) (e : elector.Ghosts L S D P G C) (f : Formats S D P G C) (s : Setup S D C) where
   -- for a silence that is the first reason the view is given up
   pub silence_counts : (voter : State S L D P G C) (tables : Tables S D P G C) (h : History S D P G C) (now view : ℕ) (actions : List (Action S D P G C)) → is_begun h ≡ true → now ≡ latest h → view ≡ current_of s h
-      → IsSilent g f s h (latest h) → MayLatch s.voter (voter_of s h) view reason.Inactivity → voting.Keeps g e s.voter voter (latched now view reason.Inactivity ∷ voter_of s h)
+      → IsSilent g f s h (latest h) → IsFirstLatch s.voter (voter_of s h) view reason.Inactivity → voting.Keeps g e s.voter voter (latched now view reason.Inactivity ∷ voter_of s h)
       → KeepsTables (finalized_of s h) tables h → WasAsked g e f s voter tables h actions actions
-  silence_counts voter tables h now view actions begun at is silent counts voter_is tables_are =
-      one_asked g e f s voter tables h (Latches view reason.Inactivity) actions actions refl (record { order = begun; due = ((is, silent), counts); fits = tt; readable = tt })
+  silence_counts voter tables h now view actions begun at is silent first voter_is tables_are =
+      let both = both_true (past.is_undecided (seen s.voter (voter_of s h) view)) (is_none (past.latch (seen s.voter (voter_of s h) view))) first.first in
+      one_asked g e f s voter tables h (Latches view reason.Inactivity) actions actions refl
+      (record { there = (is, silent); counts = first.counts; first = none_of (past.latch (seen s.voter (voter_of s h) view)) both.1; undecided = both.0 })
+      (record { order = begun; due = ((is, silent), first.counts); fits = tt; readable = tt })
       (subst (λ (t : ℕ). voting.Keeps g e s.voter voter (latched t view reason.Inactivity ∷ voter_of s h)) at voter_is) tables_are (nothing_more f actions)
 
 module _ {S D P G C : Type 0} (g : Ghosts S D P G C) (f : Formats S D P G C) (s : Setup S D C) (h : History S D P G C) (t moment : ℕ) where

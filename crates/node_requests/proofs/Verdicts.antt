@@ -1,9 +1,10 @@
 -- Verdicts that are put off, and those that are asked for one after the other.
-use Rattle.std.proofs.Common.{◌≡◌, ◌⊎◌, ◌<◌, ◌+◌, ◌∷◌, ◌++◌, ◌∙◌, [], inl, inr, ⊎_elim, ℕ, Bool, true, false, suc, List, drop, get_or, map, Option, Some, None, refl, sym, ap, subst, arith, length, if◌then◌else◌}
+use Rattle.std.proofs.Common.{◌≡◌, ◌≢◌, ◌⊎◌, ◌<◌, ◌≤◌, ◌+◌, ◌∷◌, ◌++◌, ◌∙◌, [], inl, inr, ⊎_elim, ℕ, Bool, true, false, suc, List, drop, get_or, map, Option, Some, None, refl, sym, ap, subst, arith, length, if◌then◌else◌}
 use Rattle.std.specs.Prelude.{◌==◌, ◌||◌, ◌↔◌, All, AllPairs, Contains, option_map}
 use Rattle.std.proofs.Math.Seq.{drop-cons}
-use Rattle.std.proofs.lemmas.Bool.{cases_Bool, false≢true}
+use Rattle.std.proofs.lemmas.Bool.{cases_Bool, eqb-true, false≢true}
 use Rattle.std.proofs.lemmas.Bool.Decides.{Decides-eqb}
+use Rattle.std.proofs.lemmas.List.{nil_from_length}
 use Rattle.std.proofs.lemmas.Option.{none-some}
 use Rattle.std.proofs.lemmas.List.Elements.{All-append, All-cons, All-contains, All-contains_itself, All-head, All-nil, All-push, All-tail, All-weaker}
 use Rattle.types_quorum.specs.Counting.{Contains-cases, Contains-head, Contains-nil, Contains-rest}
@@ -43,12 +44,33 @@ use Rattle.simplex_member.specs.Setup.{Setup, member_of}
 use Rattle.node_outbox.specs.Handing.{AddsDeeds, both_more, hands_as, nothing_more}
 use Rattle.simplex_resolver.specs.declared.state.State.{State as Repair}
 use Rattle.simplex_resolver.specs.Keeps as repairing
-use Rattle.node_requests.specs.Asking.{AskerKeeps, HadNothingToAsk, HasAsked, WasAsked, is_ask, is_put_off}
-use Rattle.node_requests.specs.Certifying.{AreDueVerdicts}
+use Rattle.node_requests.specs.Asking.{AskerKeeps, HadNothingToAsk, HasAsked, SomeBringsOn, WasAsked, is_ask, is_put_off}
+use Rattle.node_requests.specs.Certifying.{AreDueVerdicts, AsksForEach}
+use Rattle.node_requests.specs.declared.acted.Acted.{Acted}
 use Rattle.node_requests.specs.declared.acted.Acted.TheVariants as came
 use Rattle.node_requests.specs.Fetching.{AreAllWanted, Fetches, FetchesParents, HasFetched, RepairerKeeps, is_fetch}
 use Rattle.node_requests.specs.NoneDue.{NoVerdictToAsk}
+use Rattle.node_requests.specs.Onward.{on_before, on_behind}
 use Rattle.node_requests.proofs.Seeking.{AsksBut, deeds_then, goes_then, none_asked, one_fewer, stands_aside}
+
+-- a list is empty, or has an item
+empty_or_not : {X : Type 0} (xs : List X) → (xs ≡ []) ⊎ (xs ≢ [])
+empty_or_not [] = inl refl
+empty_or_not (x ∷ xs) = inr (λ is. cc is)
+
+empty_is : {X : Type 0} (xs : List X) → ((length xs == 0) ≡ true) ↔ (xs ≡ [])
+empty_is xs = (λ yes. nil_from_length xs (eqb-true (length xs) 0 yes), λ none. rw none refl)
+
+-- whether both are empty
+pub both_empty : {X Y : Type 0} (xs : List X) (ys : List Y) (result : Bool) → (length xs == 0) ≡ true → result ≡ (length ys == 0) → (result ≡ true) ↔ ((xs ≡ []) × (ys ≡ []))
+both_empty xs ys result none same = (λ yes. ((empty_is xs).0 none, (empty_is ys).0 (sym same ∙ yes)), λ both. same ∙ (empty_is ys).1 both.1)
+
+pub not_empty : {X Y : Type 0} (xs : List X) (ys : List Y) (result : Bool) → result ≡ (length xs == 0) → result ≡ false → (result ≡ true) ↔ ((xs ≡ []) × (ys ≡ []))
+not_empty xs ys result same off = (λ yes. absurd (false≢true (sym off ∙ yes)), λ both. absurd (false≢true (sym off ∙ same ∙ (empty_is xs).1 both.0)))
+
+one_of : {X : Type 0} (xs : List X) → xs ≢ [] → (x : X) × Contains xs x
+one_of [] many = absurd (many refl)
+one_of (x ∷ xs) many = (x, Contains-head x xs)
 
 -- ---- pairs
 
@@ -166,6 +188,7 @@ module _ {S D P G C : Type 0} (g : Ghosts S D P G C) (f : Formats S D P G C) (s 
     pub goes : Goes g f s h points end
     pub voter_is : voter_of s end ≡ put_off waiting (voter_of s h)
     pub no_deeds : all_deeds g f s h points ≡ []
+    pub some : waiting ≢ [] → SomeBringsOn g f s h points
     pub repair_is : repair_of f end ≡ repair_of f h
     pub remembered_is : remembered end ≡ remembered h
     pub finalized_is : finalized_of s end ≡ finalized_of s h
@@ -205,6 +228,7 @@ module _ {S D P G C : Type 0} (g : Ghosts S D P G C) (f : Formats S D P G C) (s 
     goes = refl;
     voter_is = refl;
     no_deeds = refl;
+    some = λ many. absurd (many refl);
     repair_is = refl;
     remembered_is = refl;
     finalized_is = refl;
@@ -227,6 +251,7 @@ module _ {S D P G C : Type 0} (g : Ghosts S D P G C) (f : Formats S D P G C) (s 
         goes = (may, rest.goes);
         voter_is = rest.voter_is;
         no_deeds = rest.no_deeds;
+        some = λ many. inl tt;
         repair_is = rest.repair_is;
         remembered_is = rest.remembered_is;
         finalized_is = rest.finalized_is;
@@ -307,7 +332,7 @@ module _ {S D P G C : Type 0} (g : Ghosts S D P G C) (f : Formats S D P G C) (s 
 
   -- all of these notarizations were asked for but those that are left
   abbrev pub ParentsBut : List CertificateFetch → List CertificateFetch → Tables S D P G C → History S D P G C → List (Action S D P G C) → List (Action S D P G C) → Type 0
-  ParentsBut wanted left tables h before after = AsksBut g f s (ancestry kind.Notarization) (IsWantedIn wanted) (map (λ (x : CertificateFetch). x.view) left) tables h before after came.Did
+  ParentsBut wanted left tables h before after = (acted : Acted) × AsksBut g f s (ancestry kind.Notarization) (IsWantedIn wanted) (map (λ (x : CertificateFetch). x.view) left) tables h before after acted
 
   among_views : (wanted : List CertificateFetch) (view : ℕ) → Contains (map (λ (x : CertificateFetch). x.view) wanted) view → IsWantedIn wanted view
   among_views [] view there = absurd (Contains-nil view there)
@@ -324,27 +349,44 @@ module _ {S D P G C : Type 0} (g : Ghosts S D P G C) (f : Formats S D P G C) (s 
       (Contains-cases x wanted fetch there)
 
   pub no_parent_asked : (wanted : List CertificateFetch) (tables : Tables S D P G C) (h : History S D P G C) (actions : List (Action S D P G C)) → KeepsTables (finalized_of s h) tables h → AreAllWanted g f s h wanted → ParentsBut wanted wanted tables h actions actions
-  no_parent_asked wanted tables h actions are all =
-      none_asked g f s (ancestry kind.Notarization) (IsWantedIn wanted) (map (λ (x : CertificateFetch). x.view) wanted) tables h actions came.Did are
-      (λ view there. let one = among_views wanted view there in
-      inr (refl, (one.0.proposal, subst (λ (v : ℕ). CertificateIsWanted (member_of s) (known_of s h) one.0.proposal v) one.2 (all one.0 one.1))))
-      (λ view is. subst (λ (v : ℕ). Contains (map (λ (x : CertificateFetch). x.view) wanted) v) is.2 (views_among wanted is.0 is.1))
+  no_parent_asked wanted tables h actions are all = (
+    came.Nothing,
+    none_asked g f s (ancestry kind.Notarization) (IsWantedIn wanted) (map (λ (x : CertificateFetch). x.view) wanted) tables h actions are
+        (λ view there. let one = among_views wanted view there in
+        inr (refl, (one.0.proposal, subst (λ (v : ℕ). CertificateIsWanted (member_of s) (known_of s h) one.0.proposal v) one.2 (all one.0 one.1))))
+        (λ view is. subst (λ (v : ℕ). Contains (map (λ (x : CertificateFetch). x.view) wanted) v) is.2 (views_among wanted is.0 is.1)),
+  )
+
+  -- whether any was sent by now
+  abbrev came_by : Acted → Bool → Acted
+  came_by acted true = came.Did
+  came_by acted false = acted
+
+  none_came : (acted : Acted) (sent : Bool) → came_by acted sent ≡ came.Nothing → (acted ≡ came.Nothing) × (sent ≡ false)
+  none_came acted true is = absurd (cc is)
+  none_came acted false is = (is, refl)
+
+  some_came : (acted : Acted) (sent : Bool) → came_by acted sent ≡ came.Did → (acted ≡ came.Did) ⊎ (sent ≡ true)
+  some_came acted true is = inr refl
+  some_came acted false is = inl is
 
   -- one more was asked for
   pub one_parent_asked : (wanted : List CertificateFetch) (x : CertificateFetch) (left : List CertificateFetch) (repair : Repair) (first tables more : Tables S D P G C) (h : History S D P G C) (before mid after : List (Action S D P G C)) (sent : Bool) → RepairerKeeps g f s repair first h
       → ParentsBut wanted (x ∷ left) tables h before mid
       → ((end : History S D P G C) → repairing.Keeps s.voter.length repair (repair_of f end) → KeepsTables (finalized_of s end) tables end → Fetches f s more end (record { view = x.view; ask = ancestry kind.Notarization; to = None }) mid after sent)
       → ParentsBut wanted left more h before after
-  one_parent_asked wanted x left repair first tables more h before mid after sent stands k fetches =
-      one_fewer g f s (ancestry kind.Notarization) (IsWantedIn wanted) x.view (map (λ (y : CertificateFetch). y.view) left) tables more h before mid after came.Did came.Did sent stands.begun (λ is. absurd (cc is)) k
-      (λ end aside there. fetches end (subst (λ r. repairing.Keeps s.voter.length repair r) (sym aside.repair) stands.repair_is) there)
+  one_parent_asked wanted x left repair first tables more h before mid after sent stands k fetches = (
+    came_by k.0 sent,
+    one_fewer g f s (ancestry kind.Notarization) (IsWantedIn wanted) x.view (map (λ (y : CertificateFetch). y.view) left) tables more h before mid after k.0 (came_by k.0 sent) sent stands.begun (none_came k.0 sent) (some_came k.0 sent) k.1
+        (λ end aside there. fetches end (subst (λ r. repairing.Keeps s.voter.length repair r) (sym aside.repair) stands.repair_is) there),
+  )
 
   pub parents_asked : (wanted : List CertificateFetch) (tables : Tables S D P G C) (h : History S D P G C) (before after : List (Action S D P G C)) → ParentsBut wanted [] tables h before after → FetchesParents g f s tables h wanted before after
   parents_asked wanted tables h before after k = record {
-    points = k.points;
-    end = k.end;
-    fetched = k.fetched;
-    answered = λ fetch there. ⊎_elim (λ left. absurd (Contains-nil fetch.view left)) (λ is. is) (k.rest fetch.view (fetch, there, refl));
+    points = k.1.points;
+    end = k.1.end;
+    fetched = k.1.fetched;
+    answered = λ fetch there. ⊎_elim (λ left. absurd (Contains-nil fetch.view left)) (λ is. is) (k.1.rest fetch.view (fetch, there, refl));
   }
 
 put_off_is_ask : {S D P G C : Type 0} (p : Point S D P G C) → is_put_off p ≡ true → is_ask p ≡ true
@@ -358,16 +400,17 @@ fetch_is_ask p is = absurd (false≢true is)
 -- ---- verdicts that are asked for
 
 module _ {S L D P G C : Type 0} (g : Ghosts S D P G C) (e : elector.Ghosts L S D P G C) (f : Formats S D P G C) (s : Setup S D C) where
-  -- verdicts were asked for on all proposals but those that are left
-  pub record AskedBut (left : List (Proposal D)) (voter : State S L D P G C) (tables : Tables S D P G C) (h : History S D P G C) (before after : List (Action S D P G C)) : Type 0 where
+  -- verdicts were asked for on so many proposals, on all but those that are left
+  pub record AskedBut (count : ℕ) (left : List (Proposal D)) (voter : State S L D P G C) (tables : Tables S D P G C) (h : History S D P G C) (before after : List (Action S D P G C)) : Type 0 where
     pub points : List (Point S D P G C)
     pub end : History S D P G C
     pub asked : HasAsked g e f s voter tables h points end before after
     pub begun : is_begun end ≡ true
     pub due : AreDueVerdicts s end left
+    pub some : 0 < count → SomeBringsOn g f s h points
 
   pub no_verdict_asked : (ready : List (Proposal D)) (voter : State S L D P G C) (repair : Repair) (tables : Tables S D P G C) (h : History S D P G C) (actions : List (Action S D P G C)) → AskerKeeps g e f s voter repair tables h → AreDueVerdicts s h ready
-      → AskedBut ready voter tables h actions actions
+      → AskedBut 0 ready voter tables h actions actions
   no_verdict_asked ready voter repair tables h actions k due = record {
     points = [];
     end = h;
@@ -380,13 +423,14 @@ module _ {S L D P G C : Type 0} (g : Ghosts S D P G C) (e : elector.Ghosts L S D
     };
     begun = k.begun;
     due = due;
+    some = λ any. absurd (omega (arith, any));
   }
 
-  pub one_verdict_asked : (p : Proposal D) (left : List (Proposal D)) (voter more : State S L D P G C) (tables told : Tables S D P G C) (h : History S D P G C) (before mid after : List (Action S D P G C)) → AskedBut (p ∷ left) voter tables h before mid
+  pub one_verdict_asked : (count : ℕ) (p : Proposal D) (left : List (Proposal D)) (voter more : State S L D P G C) (tables told : Tables S D P G C) (h : History S D P G C) (before mid after : List (Action S D P G C)) → AskedBut count (p ∷ left) voter tables h before mid
       → ((v : views.Setup S C) (x : List (views.Point S D P G C)) → voting.Keeps g e v voter x → AddsIfTracked g e v more x p.round.view (certify_asked p.round.view (record { 0 = p.round.view })))
       → ((low : ℕ) (x : History S D P G C) → KeepsTables low tables x → low < p.round.view → KeepsTables low told (AsksCertify p ∷ x))
-      → AddsDeeds f mid after (Certifies p ∷ []) → AskedBut left more told h before after
-  one_verdict_asked p left voter more tables told h before mid after k adds tells acts =
+      → AddsDeeds f mid after (Certifies p ∷ []) → AskedBut (count + 1) left more told h before after
+  one_verdict_asked count p left voter more tables told h before mid after k adds tells acts =
       let Due : Proposal D → Type 0 = λ q. CertifyIsDue (member_of s) (known_of s k.end) q.round.view q in
       let x : Point S D P G C = AsksCertify p in
       let token : Token = record { 0 = p.round.view } in
@@ -414,16 +458,27 @@ module _ {S L D P G C : Type 0} (g : Ghosts S D P G C) (e : elector.Ghosts L S D
               (All-contains Due left q (All-tail Due p left k.due.due) there)) left (All-contains_itself left);
           ascend = pairs_rest (λ (a b : Proposal D). a.round.view < b.round.view) p left k.due.ascend;
         };
+        some = λ any. on_behind g f s h k.end k.points (x ∷ []) k.asked.goes (inl tt);
       }
 
   -- when none is left, some were asked for, if there were any
-  pub verdicts_asked : (voter : State S L D P G C) (tables : Tables S D P G C) (h : History S D P G C) (before after : List (Action S D P G C)) (left : List (Proposal D)) → AskedBut left voter tables h before after → WasAsked g e f s voter tables h before after
-  verdicts_asked voter tables h before after left k = record { points = k.points; end = k.end; asked = k.asked }
+  pub verdicts_asked : (voter : State S L D P G C) (tables : Tables S D P G C) (h : History S D P G C) (before after : List (Action S D P G C)) (count : ℕ) (ready left : List (Proposal D)) → length ready ≤ count → AskedBut count left voter tables h before after
+      → AsksForEach g e f s voter tables h ready before after
+  verdicts_asked voter tables h before after count ready left all k = record {
+    points = k.points;
+    end = k.end;
+    asked = k.asked;
+    some = λ many. k.some (some_of ready all many);
+  }
+    where
+      some_of : (xs : List (Proposal D)) → length xs ≤ count → xs ≢ [] → 0 < count
+      some_of [] within many = absurd (many refl)
+      some_of (x ∷ xs) within many = omega (arith, within)
 
   -- views were asked for, then verdicts put off, then others asked for
   pub all_asked_for : (voter : State S L D P G C) (first tables : Tables S D P G C) (h : History S D P G C) (waiting : List ℕ) (points : List (Point S D P G C)) (at : History S D P G C) (before mid after : List (Action S D P G C))
-      → HasFetched g f s first h points at before mid → (k : HasPutOff g f s waiting at) → WasAsked g e f s voter tables k.end mid after → WasAsked g e f s voter tables h before after
-  all_asked_for voter first tables h waiting points at before mid after fetched k more = record {
+      (ready : List (Proposal D)) → HasFetched g f s first h points at before mid → (k : HasPutOff g f s waiting at) → AsksForEach g e f s voter tables k.end ready mid after → (waiting ≢ []) ⊎ (ready ≢ []) → WasAsked g e f s voter tables h before after
+  all_asked_for voter first tables h waiting points at before mid after ready fetched k more any = record {
     points = points ++ (k.points ++ more.points);
     end = more.end;
     asked = record {
@@ -440,6 +495,10 @@ module _ {S L D P G C : Type 0} (g : Ghosts S D P G C) (e : elector.Ghosts L S D
           (deeds_then g f s at k.end k.points more.points k.goes ∙ ap (λ (l : List (Deed S D P G C)). l ++ all_deeds g f s k.end more.points) k.no_deeds))
           (both_more f before mid after (all_deeds g f s h points) (all_deeds g f s k.end more.points) fetched.acts more.asked.acts);
     };
+    some = on_behind g f s h at points (k.points ++ more.points) fetched.goes (⊎_elim
+        (λ waits. on_before g f s at k.points more.points (k.some waits))
+        (λ asks. on_behind g f s at k.end k.points more.points k.goes (more.some asks))
+        any);
   }
 
   -- ---- all of it
@@ -502,8 +561,8 @@ module _ {S L D P G C : Type 0} (g : Ghosts S D P G C) (e : elector.Ghosts L S D
   -- else all of them are asked for
   pub verdicts_come : (old voter new : State S L D P G C) (repair : Repair) (tables mid_tables told : Tables S D P G C) (h : History S D P G C) (ready : List (Proposal D)) (fetches : List CertificateFetch) (before mid after : List (Action S D P G C))
       → AskerKeeps g e f s old repair tables h → HasLookedAt voter h ready fetches → (AreAllWanted g f s h fetches → FetchesParents g f s mid_tables h fetches before mid)
-      → ((x : History S D P G C) → AskerKeeps g e f s voter repair mid_tables x → AreDueVerdicts s x ready → WasAsked g e f s new told x mid after) → WasAsked g e f s new told h before after
-  verdicts_come old voter new repair tables mid_tables told h ready fetches before mid after stands k fetches_them asks_each =
+      → ((x : History S D P G C) → AskerKeeps g e f s voter repair mid_tables x → AreDueVerdicts s x ready → AsksForEach g e f s new told x ready mid after) → (ready ≡ [] → fetches ≡ [] → ⊥) → WasAsked g e f s new told h before after
+  verdicts_come old voter new repair tables mid_tables told h ready fetches before mid after stands k fetches_them asks_each any =
       let parents : FetchesParents g f s mid_tables h fetches before mid = fetches_them (λ fetch there. (k.are_wanted.exact fetch).0 there) in
       let aside = stands_aside g f s h parents.end parents.points parents.fetched.are_fetches parents.fetched.goes in
       let put : HasPutOff g f s k.waiting parents.end = puts_off g f s k.waiting parents.end (aside.begun stands.begun) k.are_put_off.ascend (ready_to_wait voter h parents.end ready fetches k aside.voter parents.answered) in
@@ -521,4 +580,12 @@ module _ {S L D P G C : Type 0} (g : Ghosts S D P G C) (e : elector.Ghosts L S D
             ready (All-contains_itself ready);
         ascend = k.are_ready.ascend;
       } in
-      all_asked_for new mid_tables told h k.waiting parents.points parents.end before mid after parents.fetched put (asks_each put.end there due)
+      all_asked_for new mid_tables told h k.waiting parents.points parents.end before mid after ready parents.fetched put (asks_each put.end there due)
+      (⊎_elim (λ none. inl (waits_for (one_of fetches (any none)))) (λ many. inr many) (empty_or_not ready))
+    where
+      -- a verdict waits for each notarization that is fetched
+      waits_for : (fetch : CertificateFetch) × Contains fetches fetch → k.waiting ≢ []
+      waits_for some none =
+          let wanted = (k.are_wanted.exact some.0).0 some.1 in
+          let waits : Contains k.waiting some.0.proposal = (k.are_put_off.exact some.0.proposal).1 (some.0.view, record { waits = wanted.waits; first = wanted.first }) in
+          Contains-nil some.0.proposal (subst (λ (l : List ℕ). Contains l some.0.proposal) none waits)

@@ -51,7 +51,8 @@ use Rattle.simplex_member.specs.Point.{Point, AsksVerify, Asks, Latches, Resolve
 use Rattle.simplex_member.specs.Setup.{Setup, member_of}
 use Rattle.node_outbox.specs.Handing.{AddsDeeds, hands_as, nothing_more}
 use Rattle.simplex_resolver.specs.declared.state.State.{State as Repair}
-use Rattle.node_requests.specs.Asking.{AskerKeeps, HadNothingToAsk, HasAsked, WasAsked, is_ask, is_latch}
+use Rattle.node_requests.specs.Asking.{AskerKeeps, HadNothingToAsk, HasAsked, SomeBringsOn, WasAsked, is_ask, is_latch}
+use Rattle.node_requests.specs.Onward.{on_behind}
 use Rattle.node_requests.specs.Fetching.{Fetches}
 use Rattle.node_requests.specs.GivingUp.{GivesInvalidUp}
 use Rattle.node_requests.specs.NoneDue.{NoInvalidProposal, NoVerificationToAsk}
@@ -170,11 +171,11 @@ some_of : {X : Type 0} (o : Option X) → IsSome o → (x : X) × (o ≡ Some x)
 some_of (Some x) is = (x, refl)
 some_of None is = absurd (false≢true is)
 
-none_of : {X : Type 0} (o : Option X) → is_none o ≡ true → o ≡ None
+pub none_of : {X : Type 0} (o : Option X) → is_none o ≡ true → o ≡ None
 none_of None is = refl
 none_of (Some x) is = absurd (false≢true is)
 
-both_true : (a b : Bool) → (a && b) ≡ true → (a ≡ true) × (b ≡ true)
+pub both_true : (a b : Bool) → (a && b) ≡ true → (a ≡ true) × (b ≡ true)
 both_true true true is = (refl, refl)
 both_true true false is = absurd (false≢true is)
 both_true false b is = absurd (false≢true is)
@@ -194,8 +195,8 @@ latches_are_asks points are = All-weaker (λ p. is_latch p ≡ true) (λ p. is_a
 module _ {S L D P G C : Type 0} (g : Ghosts S D P G C) (e : elector.Ghosts L S D P G C) (f : Formats S D P G C) (s : Setup S D C) where
   -- behind views that were given up these points were asked for
   pub asked_behind : (voter : State S L D P G C) (tables : Tables S D P G C) (h : History S D P G C) (voted : List (views.Point S D P G C)) (k : HasGivenUp g f s h voted) (points : List (Point S D P G C)) (end : History S D P G C) (before after : List (Action S D P G C))
-      → HasAsked g e f s voter tables k.end points end before after → WasAsked g e f s voter tables h before after
-  asked_behind voter tables h voted k points end before after more = record {
+      → HasAsked g e f s voter tables k.end points end before after → SomeBringsOn g f s k.end points → WasAsked g e f s voter tables h before after
+  asked_behind voter tables h voted k points end before after more some = record {
     points = k.points ++ points;
     end = end;
     asked = record {
@@ -206,6 +207,7 @@ module _ {S L D P G C : Type 0} (g : Ghosts S D P G C) (e : elector.Ghosts L S D
       acts = hands_as f before after (all_deeds g f s h (k.points ++ points)) (all_deeds g f s k.end points)
           (deeds_then g f s h k.end k.points points k.goes ∙ ap (λ l. l ++ all_deeds g f s k.end points) k.no_deeds) more.acts;
     };
+    some = on_behind g f s h k.end k.points points k.goes some;
   }
 
   -- nothing is left to be asked where a look passed all that may be spoken of
@@ -282,7 +284,7 @@ module _ {S L D P G C : Type 0} (g : Ghosts S D P G C) (e : elector.Ghosts L S D
         voter_is = asks.keeps;
         tables_are = tells (finalized_of s k.end) k.end there;
         acts = acts (finalized_of s k.end) k.end there;
-      })
+      }) (inl tt)
 
   -- or the certificate that a proposal lacks, of whoever leads its view
   pub certificate_asked : WhatIsKnownStays S D P G C → (voter : State S L D P G C) (tables more : Tables S D P G C) (h : History S D P G C) (now proposal view : ℕ) (what : repair.Kind) (target : P) (to : Option ℕ) (before after : List (Action S D P G C)) (sent : Bool)
@@ -325,7 +327,7 @@ module _ {S L D P G C : Type 0} (g : Ghosts S D P G C) (e : elector.Ghosts L S D
             voter_is = asks.keeps;
             tables_are = came.1;
             acts = came.2;
-          })
+          }) (inl tt)
       resolves at voted k index asks leads false came =
           let r : Point S D P G C = Resolves proposal what view in
           let may : Allowed g f s k.end r = record { order = k.begun; due = record { missing = asks.missing; index = index; leads = leads; asked = came.0 }; fits = tt; readable = tt } in
@@ -335,7 +337,7 @@ module _ {S L D P G C : Type 0} (g : Ghosts S D P G C) (e : elector.Ghosts L S D
             voter_is = asks.keeps;
             tables_are = came.1;
             acts = subst (λ (l : List (Action S D P G C)). AddsDeeds f before l []) (sym came.2) (nothing_more f before);
-          })
+          }) (inl tt)
 
   -- a proposal that can never stand is the first reason to give its view up, or none that is due
   pub gives_invalid_up : (new : State S L D P G C) (h : History S D P G C) (view now : ℕ) (first : Bool) → latest h ≡ now → ((p : Proposal D) × IsInvalid (member_of s) (known_of s h) view p)
@@ -420,5 +422,5 @@ module _ {S L D P G C : Type 0} (g : Ghosts S D P G C) (e : elector.Ghosts L S D
   pub gave_up : (new : State S L D P G C) (repair : Repair) (voter : State S L D P G C) (tables : Tables S D P G C) (h : History S D P G C) (view : ℕ) (actions : List (Action S D P G C)) → AskerKeeps g e f s voter repair tables h → GivesInvalidUp g e f s new h view true
       → WasAsked g e f s new tables h actions actions
   gave_up new repair voter tables h view actions k came =
-      one_asked g e f s new tables h (Latches view reason.InvalidProposal) actions actions refl
+      one_asked g e f s new tables h (Latches view reason.InvalidProposal) actions actions refl came.0
       (record { order = k.begun; due = (came.0.there, came.0.counts); fits = tt; readable = tt }) came.1 k.tables_are (nothing_more f actions)

@@ -1,5 +1,5 @@
 -- Who leads the views whose votes came up.
-use Rattle.std.specs.Prelude.{◌≡◌, ◌≢◌, ◌⊎◌, ◌∷◌, Bool, ℕ, Some, None}
+use Rattle.std.specs.Prelude.{◌≡◌, ◌≢◌, ◌⊎◌, ◌∷◌, Bool, ℕ, Some, None, IsSome}
 use Rattle.types_core.specs.declared.scheme.Scheme.{Ghosts}
 use Rattle.voter_history.specs.Leaders.{leader}
 use Rattle.batcher_verifier.specs.History.{leader_of}
@@ -16,13 +16,13 @@ module _ {S D P G C : Type 0} (s : Setup S D C) where
   abbrev pub NoLeaderToName : History S D P G C → Type 0
   NoLeaderToName h = (view index : ℕ) → IsUp (stage s h view) → leader_of (votes_of s h view) ≡ None → leader s.voter (voter_of s h) view ≢ Some index
 
-  -- the voter knows that this member leads a view whose votes came up, which may not know it yet
+  -- the voter knows that this member leads a view whose votes came up, and they don't know it yet
   pub record MayBeNamed (h : History S D P G C) (view index : ℕ) : Type 0 where
     pub there : IsUp (stage s h view)
+    pub waits : leader_of (votes_of s h view) ≡ None
     pub known : leader s.voter (voter_of s h) view ≡ Some index
 
-  -- a leader was named to the votes of a view, which waited for it or knew it; or none is to name
+  -- a leader was named to the votes of a view, which waited for it; or none is to name
   abbrev pub NamesLeader : Ghosts S D P G C → (D → D → Bool) → Acceptance S D P G C → History S D P G C → Acted → Type 0
-  NamesLeader g same new h came.Did = (view : ℕ) × (index : ℕ) × MayBeNamed h view index
-      × (((leader_of (votes_of s h view) ≡ None) × accepting.Keeps g same s new (Leads view index ∷ h)) ⊎ accepting.Keeps g same s new h)
+  NamesLeader g same new h came.Did = (view : ℕ) × (index : ℕ) × MayBeNamed h view index × accepting.Keeps g same s new (Leads view index ∷ h)
   NamesLeader g same new h came.Nothing = NoLeaderToName h × accepting.Keeps g same s new h

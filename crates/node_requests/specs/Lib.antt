@@ -1,4 +1,5 @@
 pub mod Asking
+pub mod Onward
 pub mod Building
 pub mod Certifying
 pub mod Fetching

@@ -1,6 +1,6 @@
 //! Verdicts that are asked for.
 
-ghost use Rattle.std.specs.Prelude.{◌≡◌, ◌<◌, ◌∷◌, [], IfErr, IfOk, OnOk};
+ghost use Rattle.std.specs.Prelude.{◌≡◌, ◌↔◌, ◌<◌, ◌∷◌, [], IsTrue, IfErr, IfOk, OnOk};
 ghost use Rattle.simplex_state.specs.State as voting;
 ghost use Rattle.simplex_state.specs.Known.{AddsIfTracked};
 ghost use Rattle.voter_history.specs.History.{certify_asked};
@@ -12,7 +12,7 @@ ghost use Rattle.node_record.specs.Tables.{KeepsTables};
 ghost use Rattle.node_record.specs.Tables as tabled;
 ghost use Rattle.node_outbox.specs.Handing.{AddsDeeds};
 ghost use Rattle.node_requests.specs.Asking.{AtAnyAsker, AtAsker, ComesToAsk, WasAsked, is_put_off};
-ghost use Rattle.node_requests.specs.Certifying.{AreDueVerdicts};
+ghost use Rattle.node_requests.specs.Certifying.{AreDueVerdicts, AsksForEach};
 ghost use Rattle.node_requests.specs.Fetching.{AreAllWanted, AtRepairer, FetchesParents};
 ghost use Rattle.node_requests.specs.NoneDue.{NoVerdictToAsk};
 
@@ -48,7 +48,7 @@ pub fn ask_for_verdicts<S: Scheme<D> + Drop, L: Elector<S, D>, D: Digest>(
 {
     match voter.certify_candidates(alloc) {
         Ok((ready, fetches)) => {
-            if ready.is_empty() && fetches.is_empty() {
+            if are_none(&ready, &fetches) {
                 return Ok(Acted::Nothing);
             }
             fetch_parents(alloc, &fetches, repair, tables, out)?;
@@ -57,6 +57,13 @@ pub fn ask_for_verdicts<S: Scheme<D> + Drop, L: Elector<S, D>, D: Digest>(
         }
         Err(_) => Err(NodeFault::Memory),
     }
+}
+
+/// Whether there is neither a verdict nor a notarization to ask for.
+fn are_none<D: Digest>(ready: &[Proposal<D>], fetches: &[CertificateFetch]) -> bool
+    ensures { IsTrue result ↔ ((ready.now ≡ []) × (fetches.now ≡ [])) }
+{
+    ready.is_empty() && fetches.is_empty()
 }
 
 /// Asks all for the notarizations that verdicts wait for.
@@ -93,7 +100,9 @@ fn ask_each<S: Scheme<D> + Drop, L: Elector<S, D>, D: Digest>(
     out: &mut Vec<Action<S, D>>,
 ) -> Result<(), NodeFault>
     ensures asked { OnOk result (AtAnyAsker S.Scheme L.Elector ⟦<S as Speaks<D>>⟧.formats voter.old tables.old
-        (λ f s h. AreDueVerdicts s h ready.now → WasAsked S.Scheme L.Elector f s voter.new tables.new h out.old.items out.new.items)) }
+        (λ f s h.
+        AreDueVerdicts s h ready.now
+        → AsksForEach S.Scheme L.Elector f s voter.new tables.new h ready.now out.old.items out.new.items)) }
     ensures fault { IfErr result (λ why. why ≡ step_fault.Memory) }
 {
     for proposal in ready {

@@ -16,7 +16,7 @@ use simplex_state::State as Voter;
 use types_core::{Digest, Participant, Scheme, View};
 use types_terms::Elector;
 
-/// Tells the votes of the first view that may wait for it who leads, where the voter knows that.
+/// Tells the votes of the first view that waits for it who leads, where the voter knows that.
 ///
 /// # Errors
 ///
@@ -41,7 +41,7 @@ pub fn name_leader<S: Scheme<D> + Drop, L: Elector<S, D>, D: Digest>(
     }
 }
 
-/// The first view whose votes may wait for the name of their leader, which the voter knows.
+/// The first view whose votes wait for the name of their leader, which the voter knows.
 fn first_led<S: Scheme<D> + Drop, L: Elector<S, D>, D: Digest>(
     voter: &Voter<S, L, D>,
     acceptance: &Acceptance<S, D>,

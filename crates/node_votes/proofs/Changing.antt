@@ -1,6 +1,6 @@
 -- A change of the votes of one view among those of all.
-use Rattle.std.proofs.Common.{◌≡◌, ◌≢◌, ◌≤◌, ◌<◌, ℕ, ◌==◌, Bool, true, false, [], ⊎_elim, refl, sym, ◌∙◌, subst, arith}
-use Rattle.std.specs.Prelude.{Option, Some, None, IsSome, OnErr, Result, Ok, Err, is_some, nat_lt}
+use Rattle.std.proofs.Common.{◌≡◌, ◌≢◌, ◌≤◌, ◌<◌, ℕ, ◌==◌, Bool, true, false, [], ⊎_elim, refl, sym, ◌∙◌, subst, arith, ◌⊎◌, inl, inr}
+use Rattle.std.specs.Prelude.{Option, Some, None, IsSome, OnErr, Result, Ok, Err, is_some, nat_lt, IfSome, unwrap_or}
 use Rattle.std.specs.BTreeMap.{BTreeMap, is_at}
 use Rattle.std.specs.BTreeSet.{BTreeSet, Updates, contains}
 use Rattle.std.specs.Ordering.{nat_cmp}
@@ -39,12 +39,13 @@ module _ {S D P G C : Type 0} (g : Ghosts S D P G C) (same : D → D → Bool) w
       → ((u : ℕ) → (at == u) ≡ false → stored new.by_view u ≡ stored old.by_view u)
       → ((u : ℕ) → (at == u) ≡ false → (up' u ≡ up u) × (happened' u ≡ happened u))
       → ((u : ℕ) → (at == u) ≡ false → contains nat_cmp new.touched u ≡ false → contains nat_cmp old.touched u ≡ false)
-      → ((u : ℕ) → (at == u) ≡ false → contains nat_cmp new.unled u ≡ false → contains nat_cmp old.unled u ≡ false)
+      → ((u : ℕ) → (at == u) ≡ false → contains nat_cmp new.unled u ≡ contains nat_cmp old.unled u)
       → IsKept g same s at (stored new.by_view at) (up' at) (happened' at)
       → (contains nat_cmp new.touched at ≡ false → IfUp (up' at) (λ skipped. IsAtRest g same s at skipped (happened' at)))
       → (contains nat_cmp new.unled at ≡ false → IsUp (up' at) → leader_of (happened' at) ≢ None)
+      → (contains nat_cmp new.unled at ≡ true → leader_of (happened' at) ≡ None)
       → Stand g same s new up' happened'
-  changed s old new at up up' happened happened' k shared rounds others touched unled here rest named = record {
+  changed s old new at up up' happened happened' k shared rounds others touched unled here rest named waits = record {
     shared = shared ∙ k.shared;
     kept = λ u. ⊎_elim
         (λ e. subst (λ (w : ℕ). IsKept g same s w (stored new.by_view w) (up' w) (happened' w)) e here)
@@ -56,7 +57,11 @@ module _ {S D P G C : Type 0} (g : Ghosts S D P G C) (same : D → D → Bool) w
         (cases_eq at u);
     named = λ u. ⊎_elim
         (λ e. subst (λ (w : ℕ). contains nat_cmp new.unled w ≡ false → IsUp (up' w) → leader_of (happened' w) ≢ None) e named)
-        (λ ne led. let apart : (at == u) ≡ false = grind (arith, nat_tests) in let o = others u apart in rw (o.0, o.1) (k.named u (unled u apart led)))
+        (λ ne led. let apart : (at == u) ≡ false = grind (arith, nat_tests) in let o = others u apart in rw (o.0, o.1) (k.named u (sym (unled u apart) ∙ led)))
+        (cases_eq at u);
+    waits = λ u. ⊎_elim
+        (λ e. subst (λ (w : ℕ). contains nat_cmp new.unled w ≡ true → leader_of (happened' w) ≡ None) e waits)
+        (λ ne unnamed. let apart : (at == u) ≡ false = grind (arith, nat_tests) in let o = others u apart in rw o.1 (k.waits u (sym (unled u apart) ∙ unnamed)))
         (cases_eq at u);
   }
 
@@ -68,6 +73,7 @@ module _ {S D P G C : Type 0} (g : Ghosts S D P G C) (same : D → D → Bool) w
     kept = λ u. rw (ups u, events u) (k.kept u);
     at_rest = λ u untouched. rw (ups u, events u) (k.at_rest u untouched);
     named = λ u led. rw (ups u, events u) (k.named u led);
+    waits = λ u unnamed. rw (events u) (k.waits u unnamed);
   }
 
   -- of a round that is there the votes came up
@@ -118,6 +124,10 @@ module _ {S D P G C : Type 0} (g : Ghosts S D P G C) (same : D → D → Bool) w
         (λ lt led. let below : nat_lt u floor ≡ true = lt-ltb u floor lt in rw below (λ never. absurd (cc never)))
         (λ ge led. let above : nat_lt u floor ≡ false = le-ltb u floor ge in rw above (k.named u (sym (d.unled u ge) ∙ led)))
         (cases_lt u floor);
+    waits = λ u. ⊎_elim
+        (λ lt unnamed. let below : nat_lt u floor ≡ true = lt-ltb u floor lt in rw below refl)
+        (λ ge unnamed. let above : nat_lt u floor ≡ false = le-ltb u floor ge in rw above (k.waits u (sym (d.unled u ge) ∙ unnamed)))
+        (cases_lt u floor);
   }
 
   -- a view without a round is one whose votes didn't come up
@@ -130,12 +140,14 @@ module _ {S D P G C : Type 0} (g : Ghosts S D P G C) (same : D → D → Bool) w
       → ((u : ℕ) → stored new.by_view u ≡ stored old.by_view u)
       → ((u : ℕ) → contains nat_cmp new.touched u ≡ false → contains nat_cmp old.touched u ≡ false)
       → ((u : ℕ) → contains nat_cmp new.unled u ≡ false → contains nat_cmp old.unled u ≡ false)
+      → ((u : ℕ) → contains nat_cmp new.unled u ≡ true → (contains nat_cmp old.unled u ≡ true) ⊎ (leader_of (happened u) ≡ None))
       → Stand g same s old up happened → Stand g same s new up happened
-  widened s old new up happened shared rounds touched unled k = record {
+  widened s old new up happened shared rounds touched unled more k = record {
     shared = shared ∙ k.shared;
     kept = λ u. rw (rounds u) (k.kept u);
     at_rest = λ u untouched. k.at_rest u (touched u untouched);
     named = λ u led. k.named u (unled u led);
+    waits = λ u unnamed. ⊎_elim (λ before. k.waits u before) (λ none. none) (more u unnamed);
   }
 
 -- what holds however a call ended holds where it was refused
@@ -150,6 +162,15 @@ lacking old new view up u lacks = grind (arith, common_steps, up.0 u, lacks)
 pub lacks-not : (old new : BTreeSet ℕ) (view : ℕ) → Updates nat_cmp old new view true → contains nat_cmp new view ≡ false → ⊥
 lacks-not old new view up lacks = absurd (cc (up.1, lacks))
 
+module _ {S D P G C : Type 0} (g : Ghosts S D P G C) (same : D → D → Bool) where
+  -- where a view without a round came to a set, each other one was there before, and nothing happened to its votes
+  pub unled_more : (s : Common S) (old : Rounds S D P G C) (up : ℕ → Stage) (happened : ℕ → History S D P G C) (new : BTreeSet ℕ) (view : ℕ) → Updates nat_cmp old.unled new view true → stored old.by_view view ≡ None
+      → Stand g same s old up happened → (u : ℕ) → contains nat_cmp new u ≡ true → (contains nat_cmp old.unled u ≡ true) ⊎ (leader_of (happened u) ≡ None)
+  unled_more s old up happened new view updates none k u more = ⊎_elim
+      (λ e. let bare = unknown g same s view (stored old.by_view view) (up view) (happened view) none (k.kept view) in inr (subst (λ (w : ℕ). leader_of (happened w) ≡ None) e (rw bare.1 refl)))
+      (λ ne. let apart : (view == u) ≡ false = grind (arith, nat_tests) in inl (sym (updates.2 u (apart-at view u apart)) ∙ more))
+      (cases_eq view u)
+
 -- a map with the same entries has the same at each view
 pub same-get : {X : Type 0} (old new : BTreeMap (Reverse ℕ) X) → new.entries ≡ old.entries → (u : ℕ) → stored new u ≡ stored old u
 same-get old new e u = rw e refl
@@ -158,9 +179,9 @@ module _ {S D P G C : Type 0} (g : Ghosts S D P G C) (same : D → D → Bool) w
   -- the round of a view that had none is among the others
   pub seated : (s : Common S) (old new : Rounds S D P G C) (up : ℕ → Stage) (happened : ℕ → History S D P G C) (view : ℕ) (round : Round S D P G C) (passed : Bool) (h : History S D P G C)
       → Stand g same s old up happened → common_of new ≡ common_of old → Stores old.by_view new.by_view view (Some round) → new.touched ≡ old.touched → Updates nat_cmp old.unled new.unled view true
-      → stored old.by_view view ≡ None → contains nat_cmp old.touched view ≡ true → RoundKeeps same g g.batchable (setup_at g s view passed) round h
+      → stored old.by_view view ≡ None → contains nat_cmp old.touched view ≡ true → leader_of h ≡ None → RoundKeeps same g g.batchable (setup_at g s view passed) round h
       → Stand g same s new (come_up view passed up) (set_at view h happened)
-  seated s old new up happened view round passed h k shared rounds same_touched unled none touched kept =
+  seated s old new up happened view round passed h k shared rounds same_touched unled none touched nobody kept =
       let bare = unknown g same s view (stored old.by_view view) (up view) (happened view) none (k.kept view) in
       let put_in : stored new.by_view view ≡ Some round = rounds.1 in
       let still : contains nat_cmp new.touched view ≡ true = subst (λ (t : BTreeSet ℕ). contains nat_cmp t view ≡ true) (sym same_touched) touched in
@@ -168,10 +189,11 @@ module _ {S D P G C : Type 0} (g : Ghosts S D P G C) (same : D → D → Bool) w
       (λ u ne. rounds.2 (as_key u) (keys-apart view u ne))
       (λ u ne. (rw ne refl, rw ne refl))
       (λ u ne. subst (λ (t : BTreeSet ℕ). contains nat_cmp t u ≡ false → contains nat_cmp old.touched u ≡ false) (sym same_touched) (λ no. no))
-      (λ u ne. lacking old.unled new.unled view unled u)
+      (λ u ne. unled.2 u (apart-at view u ne))
       (rw (put_in, itself view, bare.0) (kept-up g same s view round Unopened passed h kept))
       (λ no. absurd (cc (still, no)))
       (λ no. absurd (lacks-not old.unled new.unled view unled no))
+      (λ unnamed. rw (itself view) nobody)
 
 -- a view that is behind is passed over, but where votes are kept for good
 pub passed-by : {S : Type 0} (s : Common S) (view current : ℕ) → nat_lt view current ≡ true → s.tracks ≡ false → is_passed s view current ≡ true

@@ -16,7 +16,7 @@ use Rattle.batcher_admission.specs.declared.admission.Admission.{Admission}
 use Rattle.batcher_admission.specs.Evidence.{as_report}
 use Rattle.batcher_verifier.specs.declared.batcher_fault.BatcherFault.{BatcherFault}
 use Rattle.batcher_verifier.specs.declared.batcher_fault.BatcherFault.TheVariants.{WrongRound, Memory}
-use Rattle.batcher_verifier.specs.History.{Event, History, Taken, Cast, Certified, recorded, takes}
+use Rattle.batcher_verifier.specs.History.{Event, History, Taken, Cast, Certified, leader_of, recorded, takes}
 use Rattle.batcher_verifier.specs.Lawful.{VoteAttests}
 use Rattle.simplex_batcher.specs.declared.round.Round.{Round}
 use Rattle.simplex_batcher.specs.Admission.{AgreesWithOwn, IsAdmissionFault, IsBlocked, IsCastFault, contradicts, report_of}
@@ -87,12 +87,12 @@ module _ {S D P G C : Type 0} (g : Ghosts S D P G C) (same : D → D → Bool) (
 
 module _ {S D P G C : Type 0} (g : Ghosts S D P G C) (same : D → D → Bool) (old new : Rounds S D P G C) (current view : ℕ) (round round' : Round S D P G C)
     (fresh : (s : Common S) → common_of old ≡ s → RoundKeeps same g g.batchable (setup_at g s view (is_passed s view current)) round [])
-    (seats : AtEach g same old (λ s up happened. stored old.by_view view ≡ None → contains nat_cmp old.touched view ≡ true → (passed : Bool) (h : History S D P G C) → RoundKeeps same g g.batchable (setup_at g s view passed) round' h
+    (seats : AtEach g same old (λ s up happened. stored old.by_view view ≡ None → contains nat_cmp old.touched view ≡ true → (passed : Bool) (h : History S D P G C) → leader_of h ≡ None → RoundKeeps same g g.batchable (setup_at g s view passed) round' h
     → Stand g same s new (come_up view passed up) (set_at view h happened))) where
   -- something happened to the votes of a view that had no round
-  pub first-put : (e : Event (Vote S D P G C) (Certificate S D P G C)) (s : Common S) (up : ℕ → Stage) (happened : ℕ → History S D P G C) → Stand g same s old up happened → stored old.by_view view ≡ None → contains nat_cmp old.touched view ≡ true
+  pub first-put : (e : Event (Vote S D P G C) (Certificate S D P G C)) (s : Common S) (up : ℕ → Stage) (happened : ℕ → History S D P G C) → Stand g same s old up happened → stored old.by_view view ≡ None → contains nat_cmp old.touched view ≡ true → leader_of (e ∷ []) ≡ None
       → RoundKeeps same g g.batchable (setup_at g s view (is_passed s view current)) round' (e ∷ []) → Stand g same s new (come_up view (is_passed s view current) up) (put view e happened)
-  first-put e s up happened k none touched kept = first g same s old new up happened current k view e (is_passed s view current) none (seats s up happened k none touched (is_passed s view current) (e ∷ []) kept)
+  first-put e s up happened k none touched nobody kept = first g same s old new up happened current k view e (is_passed s view current) none (seats s up happened k none touched (is_passed s view current) (e ∷ []) nobody kept)
 
   module _ (v : Vote S D P G C) (ours : view ≡ (vote_round v).view) where
     -- a vote from the network is taken
@@ -107,7 +107,7 @@ module _ {S D P G C : Type 0} (g : Ghosts S D P G C) (same : D → D → Bool) (
         (λ none touched.
         let bare = unknown g same s view (stored old.by_view view) (up view) (happened view) none (k.kept view) in
         let does : takes st [] sender v ≡ true = sym (added st [] here) ∙ was in
-        let stands = first-put (Taken v) s up happened k none touched (subst (λ (b : Bool). RoundKeeps same g g.batchable st round' (if b then Taken v ∷ [] else [])) does (ok st [] here)) in
+        let stands = first-put (Taken v) s up happened k none touched refl (subst (λ (b : Bool). RoundKeeps same g g.batchable st round' (if b then Taken v ∷ [] else [])) does (ok st [] here)) in
         subst (λ (w : ℕ). (a.added ≡ takes (setup_now g s up w current) (happened w) sender v) → (IsTrue a.block ↔ IsBlocked (setup_now g s up w current) (happened w) sender v) → (a.report ≡ report_of same (setup_now g s up w current) (happened w) sender v)
         → (a.added ≡ true → Stand g same s new (come_up w (is_passed s w current) up) (put w (Taken v) happened)) → IsAdmitted g same s up happened new current sender v a) (sym ours)
         (λ x y z t. record { added = x; block = y; report = z; taken = t; passed = λ isnt. absurd (cc (was, isnt)) })
@@ -127,7 +127,7 @@ module _ {S D P G C : Type 0} (g : Ghosts S D P G C) (same : D → D → Bool) (
         subst (λ (w : ℕ). (o ≡ (if is_none (recorded (happened w) v) then Some (as_report v) else None)) → (VoteAttests g.attests st v → Stand g same s new (come_up w (is_passed s w current) up) (put w (Cast v) happened))
         → (is_none (recorded (happened w) v) ≡ false → ⊥) → (contradicts same (happened w) v ≡ false) → IsCast g same s up happened new current v o) (sym ours)
         (λ x y z a. record { report_is = x; cast = λ attests free. y attests; again = λ no. absurd (z no); agrees = a })
-        (rw bare.1 (report st [] here)) (λ attests. first-put (Cast v) s up happened k none touched (ok st [] here attests)) (rw bare.1 (λ no. absurd (cc no))) (rw bare.1 (agrees st [] here)))
+        (rw bare.1 (report st [] here)) (λ attests. first-put (Cast v) s up happened k none touched refl (ok st [] here attests)) (rw bare.1 (λ no. absurd (cc no))) (rw bare.1 (agrees st [] here)))
 
   module _ (c : Certificate S D P G C) (ours : view ≡ (certificate_round c).view) where
     -- a certificate is recorded
@@ -135,4 +135,4 @@ module _ {S D P G C : Type 0} (g : Ghosts S D P G C) (same : D → D → Bool) (
         → AtEach g same old (λ s up happened. stored old.by_view (certificate_round c).view ≡ None → contains nat_cmp old.touched (certificate_round c).view ≡ true
         → Stand g same s new (come_up (certificate_round c).view (is_passed s (certificate_round c).view current) up) (put (certificate_round c).view (Certified c) happened))
     first-certified ok = λ s up happened k. subst (λ (w : ℕ). stored old.by_view w ≡ None → contains nat_cmp old.touched w ≡ true → Stand g same s new (come_up w (is_passed s w current) up) (put w (Certified c) happened)) ours
-        (λ none touched. first-put (Certified c) s up happened k none touched (ok (setup_at g s view (is_passed s view current)) [] (fresh s k.shared)))
+        (λ none touched. first-put (Certified c) s up happened k none touched refl (ok (setup_at g s view (is_passed s view current)) [] (fresh s k.shared)))

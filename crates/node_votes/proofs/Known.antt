@@ -65,17 +65,18 @@ module _ {S D P G C : Type 0} (g : Ghosts S D P G C) (same : D → D → Bool) (
     module _ (round' : Round S D P G C) (m : BTreeMap (Reverse ℕ) (Round S D P G C)) (updates : Stores mid.by_view m view (Some round')) (touched : contains nat_cmp mid.touched view ≡ true) where
       -- its votes changed
       pub moved : (up' : ℕ → Stage) (happened' : ℕ → History S D P G C) → IsKept g same s view (Some round') (up' view) (happened' view)
-          → ((u : ℕ) → (view == u) ≡ false → (up' u ≡ up u) × (happened' u ≡ happened u)) → (leader_of (happened view) ≢ None → leader_of (happened' view) ≢ None)
+          → ((u : ℕ) → (view == u) ≡ false → (up' u ≡ up u) × (happened' u ≡ happened u)) → leader_of (happened' view) ≡ leader_of (happened view)
           → Stand g same s (record mid { by_view = m }) up' happened'
       moved up' happened' kept others led = changed g same s mid (record mid { by_view = m }) view up up' happened happened' k refl
-          (λ u ne. updates.2 (as_key u) (keys-apart view u ne)) others (λ u ne no. no) (λ u ne no. no)
+          (λ u ne. updates.2 (as_key u) (keys-apart view u ne)) others (λ u ne no. no) (λ u ne. refl)
           (subst (λ (o : Option (Round S D P G C)). IsKept g same s view o (up' view) (happened' view)) (sym updates.1) kept)
           (λ no. absurd (cc (touched, no)))
-          (λ no some. led (k.named view no (came-up (up view) kept-here)))
+          (λ no some. rw led (k.named view no (came-up (up view) kept-here)))
+          (λ unnamed. led ∙ k.waits view unnamed)
 
       -- nothing happened
       pub moved-still : RoundKeeps same g g.batchable (setup_now g s up view current) round' (happened view) → Stand g same s (record mid { by_view = m }) up happened
-      moved-still stands = moved up happened (kept-still g same s view round round' (up view) (is_passed s view current) (happened view) (happened view) kept-here stands) (λ u ne. (refl, refl)) (λ led. led)
+      moved-still stands = moved up happened (kept-still g same s view round round' (up view) (is_passed s view current) (happened view) (happened view) kept-here stands) (λ u ne. (refl, refl)) refl
 
       -- one more thing happened, which names no leader
       pub moved-put : (e : Event (Vote S D P G C) (Certificate S D P G C)) → (leader_of (e ∷ happened view) ≡ leader_of (happened view)) → RoundKeeps same g g.batchable (setup_now g s up view current) round' (e ∷ happened view)
@@ -83,10 +84,10 @@ module _ {S D P G C : Type 0} (g : Ghosts S D P G C) (same : D → D → Bool) (
       moved-put e unled stands = moved (come_up view (is_passed s view current) up) (put view e happened)
           (rw (itself view) (kept-up g same s view round' (up view) (is_passed s view current) (e ∷ happened view) stands))
           (λ u ne. (rw ne refl, rw ne refl))
-          (rw (itself view, unled) (λ led. led))
+          (rw (itself view) unled)
 
       -- the same, of what came up
-      pub moved-set : (h : History S D P G C) → (leader_of (happened view) ≢ None → leader_of h ≢ None) → RoundKeeps same g g.batchable (setup_now g s up view current) round' h
+      pub moved-set : (h : History S D P G C) → leader_of h ≡ leader_of (happened view) → RoundKeeps same g g.batchable (setup_now g s up view current) round' h
           → Stand g same s (record mid { by_view = m }) up (set_at view h happened)
       moved-set h led stands = moved up (set_at view h happened)
           (rw (itself view) (kept-still g same s view round round' (up view) (is_passed s view current) (happened view) h kept-here stands))
@@ -104,6 +105,7 @@ module _ {S D P G C : Type 0} (g : Ghosts S D P G C) (same : D → D → Bool) (
         (λ ne. let apart : (view == u) ≡ false = grind (arith, nat_tests) in k.at_rest u (sym (updates.2 u (apart-at view u apart)) ∙ untouched))
         (cases_eq view u);
     named = k.named;
+    waits = k.waits;
   }
 
 module _ {S D P G C : Type 0} (g : Ghosts S D P G C) (same : D → D → Bool) (old mid : Rounds S D P G C) (opens : AtEach g same old (λ s up happened. Stand g same s mid up happened)) (view : ℕ) (round round' : Round S D P G C)

@@ -70,12 +70,19 @@ module _ {S D P G C : Type 0} (g : Ghosts S D P G C) (same : D → D → Bool) w
       (cases_eq view u))
       (λ u. refl) k
 
+  -- a view without a round has none where the same stands
+  pub still-none : (s : Common S) (old mid : Rounds S D P G C) (up : ℕ → Stage) (happened : ℕ → History S D P G C) (view : ℕ) → stored old.by_view view ≡ None → Stand g same s old up happened → Stand g same s mid up happened
+      → stored mid.by_view view ≡ None
+  still-none s old mid up happened view none k k' =
+      let bare = unknown g same s view (stored old.by_view view) (up view) (happened view) none (k.kept view) in
+      kept-none s view (stored mid.by_view view) (up view) (happened view) bare.0 (k'.kept view)
+
   -- they come up, and nothing happened to them
   pub open-first : (s : Common S) (old mid new : Rounds S D P G C) (up : ℕ → Stage) (happened : ℕ → History S D P G C) (view : ℕ) (b : Bool) → stored old.by_view view ≡ None → Stand g same s old up happened → Stand g same s mid up happened
       → (stored mid.by_view view ≡ None → Stand g same s new (come_up view b up) (set_at view [] happened)) → Stand g same s new (come_up view b up) happened
   open-first s old mid new up happened view b none k k' seats =
       let bare = unknown g same s view (stored old.by_view view) (up view) (happened view) none (k.kept view) in
-      let still : stored mid.by_view view ≡ None = kept-none s view (stored mid.by_view view) (up view) (happened view) bare.0 (k'.kept view) in
+      let still : stored mid.by_view view ≡ None = still-none s old mid up happened view none k k' in
       alike g same s new (come_up view b up) (come_up view b up) (set_at view [] happened) happened (λ u. refl)
       (λ u. ⊎_elim
       (λ e. let here : (view == u) ≡ true = eq-eqb view u e in rw here (subst (λ (w : ℕ). happened w ≡ []) e bare.1))
@@ -93,12 +100,13 @@ module _ {S D P G C : Type 0} (g : Ghosts S D P G C) (same : D → D → Bool) w
       let stands = ok (setup_now g s up view 0) (happened view) here in
       changed g same s mid (record mid { by_view = m; unled = t }) view up up happened (put view (Led leader) happened) k refl
       (λ u ne. updates.2 (as_key u) (keys-apart view u ne)) (λ u ne. (refl, rw ne refl)) (λ u ne no. no)
-      (λ u ne no. sym (led.2 u (apart-at view u ne)) ∙ no)
+      (λ u ne. led.2 u (apart-at view u ne))
       (subst (λ (o : Option (Round S D P G C)). IsKept g same s view o (up view) (put view (Led leader) happened view)) (sym updates.1)
       (rw (itself view) (kept-still g same s view round round' (up view) (is_passed s view 0) (happened view) (Led leader ∷ happened view) (kept-here g same s mid up happened view k 0 round there)
       (subst (λ (o : Option ℕ). RoundKeeps same g g.batchable (setup_now g s up view 0) round' (if is_none o then Led leader ∷ happened view else happened view)) none stands))))
       (λ no. absurd (cc (touched, no)))
       (λ no some. rw (itself view) (λ never. absurd (cc never)))
+      (λ unnamed. absurd (cc (led.1, unnamed)))
 
   -- or it is named again
   pub known-again : (s : Common S) (mid : Rounds S D P G C) (up : ℕ → Stage) (happened : ℕ → History S D P G C) (view leader : ℕ) (round round' : Round S D P G C) (m : BTreeMap (Reverse ℕ) (Round S D P G C)) (t : BTreeSet ℕ)
@@ -109,12 +117,13 @@ module _ {S D P G C : Type 0} (g : Ghosts S D P G C) (same : D → D → Bool) w
       let stands = ok (setup_now g s up view 0) (happened view) (stands-here g same s mid up happened view k 0 round there) in
       changed g same s mid (record mid { by_view = m; unled = t }) view up up happened happened k refl
       (λ u ne. updates.2 (as_key u) (keys-apart view u ne)) (λ u ne. (refl, refl)) (λ u ne no. no)
-      (λ u ne no. sym (led.2 u (apart-at view u ne)) ∙ no)
+      (λ u ne. led.2 u (apart-at view u ne))
       (subst (λ (o : Option (Round S D P G C)). IsKept g same s view o (up view) (happened view)) (sym updates.1)
       (kept-still g same s view round round' (up view) (is_passed s view 0) (happened view) (happened view) (kept-here g same s mid up happened view k 0 round there)
       (subst (λ (b : Bool). RoundKeeps same g g.batchable (setup_now g s up view 0) round' (if b then Led leader ∷ happened view else happened view)) (not-none (leader_of (happened view)) known) stands)))
       (λ no. absurd (cc (touched, no)))
       (λ no some. known)
+      (λ unnamed. absurd (cc (led.1, unnamed)))
 
   -- what follows of the kind that is due
   pub at-due : {P Q : Kind → Type 0} (next : Option Kind) → ((kind : Kind) → P kind → Q kind) → MatchOption next ⊥ P → MatchOption next ⊥ Q
@@ -122,12 +131,12 @@ module _ {S D P G C : Type 0} (g : Ghosts S D P G C) (same : D → D → Bool) w
   at-due (Some kind) f p = f kind p
 
   -- a construction names no leader
-  pub after-led : (kind : Kind) (batch : Batch (Certificate S D P G C)) (h : History S D P G C) → leader_of h ≢ None → leader_of (after kind (Some batch) h) ≢ None
-  after-led kind batch h led = go batch.certificate refl
+  pub after-led : (kind : Kind) (batch : Batch (Certificate S D P G C)) (h : History S D P G C) → leader_of (after kind (Some batch) h) ≡ leader_of h
+  after-led kind batch h = go batch.certificate refl
     where
-      go : (o : Option (Certificate S D P G C)) → batch.certificate ≡ o → leader_of (after kind (Some batch) h) ≢ None
-      go None e = rw e led
-      go (Some c) e = rw e led
+      go : (o : Option (Certificate S D P G C)) → batch.certificate ≡ o → leader_of (after kind (Some batch) h) ≡ leader_of h
+      go None e = rw e refl
+      go (Some c) e = rw e refl
 
   module _ (s : Common S) (old : Rounds S D P G C) (up : ℕ → Stage) (happened : ℕ → History S D P G C) (view : ℕ) (k : Stand g same s old up happened) (round round' : Round S D P G C) (there : Some round ≡ stored old.by_view view) where
     kept-at : (Q : Bool → Type 0) (o : Stage) (b : Bool) → IsKept g same s view (Some round) o (happened view) → Q (skips o b) → WhereUp o Q
@@ -138,10 +147,10 @@ module _ {S D P G C : Type 0} (g : Ghosts S D P G C) (same : D → D → Bool) w
     -- nothing happened
     pub same-still : (m : BTreeMap (Reverse ℕ) (Round S D P G C)) → Stores old.by_view m view (Some round') → RoundKeeps same g g.batchable (setup_now g s up view 0) round' (happened view) → Stand g same s (record old { by_view = m }) up happened
     same-still m updates stands = changed g same s old (record old { by_view = m }) view up up happened happened k refl
-        (λ u ne. updates.2 (as_key u) (keys-apart view u ne)) (λ u ne. (refl, refl)) (λ u ne no. no) (λ u ne no. no)
+        (λ u ne. updates.2 (as_key u) (keys-apart view u ne)) (λ u ne. (refl, refl)) (λ u ne no. no) (λ u ne. refl)
         (subst (λ (o : Option (Round S D P G C)). IsKept g same s view o (up view) (happened view)) (sym updates.1)
         (kept-still g same s view round round' (up view) (is_passed s view 0) (happened view) (happened view) (kept-here g same s old up happened view k 0 round there) stands))
-        (k.at_rest view) (k.named view)
+        (k.at_rest view) (k.named view) (k.waits view)
 
     module _ (m : BTreeMap (Reverse ℕ) (Round S D P G C)) (updates : Stores old.by_view m view (Some round')) (touched : contains nat_cmp old.touched view ≡ true) where
       -- something was due
@@ -151,7 +160,7 @@ module _ {S D P G C : Type 0} (g : Ghosts S D P G C) (same : D → D → Bool) w
         subst (λ (i : ℕ). forwardable (happened view) i ≡ Some p) is done.0,
         moved g same s old up happened view k 0 round there round' m updates touched up (put view Forwarded happened)
             (rw (itself view) (kept-still g same s view round round' (up view) (is_passed s view 0) (happened view) (Forwarded ∷ happened view) (kept-here g same s old up happened view k 0 round there) done.1))
-            (λ u ne. (refl, rw ne refl)) (rw (itself view) (λ led. led)),
+            (λ u ne. (refl, rw ne refl)) (rw (itself view) refl),
       )
       known-done me (due.Made batch) is done = kept-at
           (λ skipped. MatchOption (next_kind same (setup_at g s view skipped) (happened view)) ⊥ (λ kind. IsBatch g same (setup_at g s view skipped) kind (happened view) batch × Stand g same s (record old { by_view = m }) up (set_at view (after kind (Some batch) (happened view)) happened)))

@@ -1,4 +1,4 @@
--- Looking for the first view whose leader may not be named.
+-- Looking for the first view whose leader is not named.
 use Rattle.std.proofs.Common.{◌≡◌, ◌≢◌, ◌≤◌, ◌<◌, ℕ, Bool, true, false, List, [], ◌∷◌, ⊎_elim, refl, subst, arith}
 use Rattle.std.specs.Prelude.{Option, Some, None, IfSome, IsTrue, MatchOption, length}
 use Rattle.std.specs.Ordering.{nat_cmp}
@@ -29,6 +29,9 @@ module _ (set : BTreeSet ℕ) (from : ℕ) (range : List ℕ) (is_range : IsKeyR
   pub none_before : (view : ℕ) (rest : List ℕ) → range ≡ view ∷ rest → (u : ℕ) → from ≤ u → u < view → contains nat_cmp set u ≡ false
   none_before view rest is u at below = isnt (contains nat_cmp set u) (λ there. let le = rw is at (is_range.2 u (grind (arith, nat_tests, at), tt) there) in absurd (grind (arith, nat_tests, le, below)))
 
+  pub there_from : (view : ℕ) (rest : List ℕ) → range ≡ view ∷ rest → contains nat_cmp set view ≡ true
+  there_from view rest is = (rw is at is_range.1).1
+
   pub none_from : range ≡ [] → (u : ℕ) → from ≤ u → contains nat_cmp set u ≡ false
   none_from none u at = is_range.5 none u (grind (arith, nat_tests, at), tt)
 
@@ -36,6 +39,9 @@ module _ (set : BTreeSet ℕ) (last : ℕ) (range : List ℕ) (is_range : IsKeyR
   -- nor between a view and the first behind it
   pub none_between : (view : ℕ) (rest : List ℕ) → range ≡ view ∷ rest → (u : ℕ) → last < u → u < view → contains nat_cmp set u ≡ false
   none_between view rest is u behind below = isnt (contains nat_cmp set u) (λ there. let le = rw is at (is_range.2 u (grind (arith, nat_tests, behind), tt) there) in absurd (grind (arith, nat_tests, le, below)))
+
+  pub there_behind : (view : ℕ) (rest : List ℕ) → range ≡ view ∷ rest → contains nat_cmp set view ≡ true
+  there_behind view rest is = (rw is at is_range.1).1
 
   pub none_behind : range ≡ [] → (u : ℕ) → last < u → contains nat_cmp set u ≡ false
   none_behind none u behind = is_range.5 none u (grind (arith, nat_tests, behind), tt)

@@ -88,10 +88,11 @@ module _ {S D P G C : Type 0} where
   abbrev pub AreLedFrom : (ℕ → Stage) → (ℕ → History S D P G C) → ℕ → Type 0
   AreLedFrom up happened from = (view : ℕ) → from ≤ view → IsUp (up view) → leader_of (happened view) ≢ None
 
-  -- this is the first view from that one on whose votes came up and may not know who leads
+  -- this is the first view from that one on whose votes came up and don't know who leads
   pub record IsFirstUnled (up : ℕ → Stage) (happened : ℕ → History S D P G C) (from view : ℕ) : Type 0 where
     pub behind : from ≤ view
     pub there : IsUp (up view)
+    pub waits : leader_of (happened view) ≡ None
     pub first : (u : ℕ) → from ≤ u → u < view → IsUp (up u) → leader_of (happened u) ≢ None
 
 module _ {S D P G C : Type 0} (g : Ghosts S D P G C) where
@@ -126,12 +127,13 @@ module _ {S D P G C : Type 0} (g : Ghosts S D P G C) (same : D → D → Bool) w
   AreAtRest s up happened = (view : ℕ) → IfUp (up view) (λ skipped. IsAtRest s view skipped (happened view))
 
   -- The votes of each view stand where this happened to them, those of which came up. Nothing is due of a view that is not touched,
-  -- and the leader of one that waits for none is named.
+  -- and the leader of a view is named exactly where it doesn't wait for that.
   pub record Stand (s : Common S) (r : Rounds S D P G C) (up : ℕ → Stage) (happened : ℕ → History S D P G C) : Type 0 where
     pub shared : common_of r ≡ s
     pub kept : (view : ℕ) → IsKept s view (stored r.by_view view) (up view) (happened view)
     pub at_rest : (view : ℕ) → contains nat_cmp r.touched view ≡ false → IfUp (up view) (λ skipped. IsAtRest s view skipped (happened view))
     pub named : (view : ℕ) → contains nat_cmp r.unled view ≡ false → IsUp (up view) → leader_of (happened view) ≢ None
+    pub waits : (view : ℕ) → contains nat_cmp r.unled view ≡ true → leader_of (happened view) ≡ None
 
   -- what holds of whatever led here
   abbrev pub AtEach : Rounds S D P G C → (Common S → (ℕ → Stage) → (ℕ → History S D P G C) → Type 0) → Type 0

@@ -252,7 +252,7 @@ impl<S: Scheme<D> + Drop, D: Digest> Acceptance<S, D> {
         }
     }
 
-    /// The first view from this one on whose votes came up and may wait for the name of their leader.
+    /// The first view from this one on whose votes came up and wait for the name of their leader.
     pub fn first_unled(&self, from: View) -> Option<View>
         ensures behind { IfSome result (λ view. from ≤ view) }
         ensures first { AtEach S.Scheme D.PartialEq.eq self.now

@@ -38,7 +38,7 @@ pub(crate) struct Rounds<S: Scheme<D>, D: Digest> {
     by_view: BTreeMap<Reverse<View>, Round<S, D>>,
     /// The views of which something may be due.
     touched: BTreeSet<View>,
-    /// The views whose leader may not be named yet.
+    /// The views whose leader is not named yet.
     unled: BTreeSet<View>,
 }
 
@@ -96,9 +96,11 @@ impl<S: Scheme<D> + Drop, D: Digest> Rounds<S, D> {
             stored self.old.by_view view ≡ None
             → contains nat_cmp self.old.touched view ≡ true
             → (passed : Bool) (h : History S D S.PublicKey S.Signature S.Certificate)
+            → leader_of h ≡ None
             → RoundKeeps D.PartialEq.eq S.Scheme S.batchable (setup_at S.Scheme s view passed) round h
             → Stand S.Scheme D.PartialEq.eq s self.new (come_up view passed up) (set_at view h happened))) }
-        ensures err { OnErr result (AtEach S.Scheme D.PartialEq.eq self.old (λ s up happened. Stand S.Scheme D.PartialEq.eq s self.new up happened)) }
+        ensures err { OnErr result (AtEach S.Scheme D.PartialEq.eq self.old
+            (λ s up happened. stored self.old.by_view view ≡ None → Stand S.Scheme D.PartialEq.eq s self.new up happened)) }
     {
         self.unled.insert(view)?;
         self.by_view.insert(Reverse(view), round)?;
@@ -141,7 +143,8 @@ impl<S: Scheme<D> + Drop, D: Digest> Rounds<S, D> {
             → IsAdmitted S.Scheme D.PartialEq.eq s up happened self.new current sender vote a)) }
         ensures refused { IfErr result
             (λ e. AtEach S.Scheme D.PartialEq.eq self.old (λ s up happened. (vote_round vote).epoch ≡ s.epoch → e ≡ Memory)) }
-        ensures err { OnErr result (AtEach S.Scheme D.PartialEq.eq self.old (λ s up happened. Stand S.Scheme D.PartialEq.eq s self.new up happened)) }
+        ensures err { OnErr result (AtEach S.Scheme D.PartialEq.eq self.old
+            (λ s up happened. stored self.old.by_view (vote_round vote).view ≡ None → Stand S.Scheme D.PartialEq.eq s self.new up happened)) }
     {
         let view = vote.view();
         let mut round = self.fresh(view, current)?;
@@ -202,7 +205,8 @@ impl<S: Scheme<D> + Drop, D: Digest> Rounds<S, D> {
             AtEach S.Scheme D.PartialEq.eq self.old (λ s up happened.
             stored self.old.by_view (vote_round vote).view ≡ None
             → IsCastFault D.PartialEq.eq (setup_now S.Scheme s up (vote_round vote).view current) (happened (vote_round vote).view) vote e)) }
-        ensures err { OnErr result (AtEach S.Scheme D.PartialEq.eq self.old (λ s up happened. Stand S.Scheme D.PartialEq.eq s self.new up happened)) }
+        ensures err { OnErr result (AtEach S.Scheme D.PartialEq.eq self.old
+            (λ s up happened. stored self.old.by_view (vote_round vote).view ≡ None → Stand S.Scheme D.PartialEq.eq s self.new up happened)) }
     {
         let view = vote.view();
         let mut round = self.fresh(view, current)?;
@@ -250,7 +254,8 @@ impl<S: Scheme<D> + Drop, D: Digest> Rounds<S, D> {
             → Stand S.Scheme D.PartialEq.eq s self.new (come_up w (is_passed s w current) up) (put w (Certified certificate.now) happened))) }
         ensures refused { IfErr result
             (λ e. AtEach S.Scheme D.PartialEq.eq self.old (λ s up happened. (certificate_round certificate.now).epoch ≡ s.epoch → e ≡ Memory)) }
-        ensures err { OnErr result (AtEach S.Scheme D.PartialEq.eq self.old (λ s up happened. Stand S.Scheme D.PartialEq.eq s self.new up happened)) }
+        ensures err { OnErr result (AtEach S.Scheme D.PartialEq.eq self.old
+            (λ s up happened. stored self.old.by_view (certificate_round certificate.now).view ≡ None → Stand S.Scheme D.PartialEq.eq s self.new up happened)) }
     {
         let view = certificate.view();
         let mut round = self.fresh(view, current)?;
@@ -300,7 +305,7 @@ impl<S: Scheme<D> + Drop, D: Digest> Rounds<S, D> {
         }
     }
 
-    /// The first view from this one on whose votes came up and may wait for the name of their leader.
+    /// The first view from this one on whose votes came up and wait for the name of their leader.
     pub(crate) fn first_unled(&self, from: View) -> Option<View>
         ensures behind { IfSome result (λ view. from ≤ view) }
         ensures first { AtEach S.Scheme D.PartialEq.eq self.now
@@ -316,9 +321,10 @@ impl<S: Scheme<D> + Drop, D: Digest> Rounds<S, D> {
         None
     }
 
-    /// The first view from this one on whose leader may not be named yet.
+    /// The first view from this one on whose leader is not named yet.
     fn unled_from(&self, from: View) -> Option<View>
         ensures behind { IfSome result (λ view. from ≤ view) }
+        ensures there { IfSome result (λ view. contains nat_cmp self.now.unled view ≡ true) }
         ensures first { MatchOption result ((u : ℕ) → from ≤ u → contains nat_cmp self.now.unled u ≡ false)
             (λ view. (u : ℕ) → from ≤ u → u < view → contains nat_cmp self.now.unled u ≡ false) }
     {
@@ -335,9 +341,10 @@ impl<S: Scheme<D> + Drop, D: Digest> Rounds<S, D> {
         }
     }
 
-    /// The first view behind this one whose leader may not be named yet.
+    /// The first view behind this one whose leader is not named yet.
     fn unled_behind(&self, last: View) -> Option<View>
         ensures behind { IfSome result (λ view. last < view) }
+        ensures there { IfSome result (λ view. contains nat_cmp self.now.unled view ≡ true) }
         ensures first { MatchOption result ((u : ℕ) → last < u → contains nat_cmp self.now.unled u ≡ false)
             (λ view. (u : ℕ) → last < u → u < view → contains nat_cmp self.now.unled u ≡ false) }
     {

@@ -24,7 +24,7 @@ returns-in-Some-construct_finalize-clause-tried g c = λ s h k.
     let may = finalize_allowed g.S.Scheme f s h k.begun k.set_up.me_is v view k.allowed (c.due_may_be_recorded.ensures.votes f s g.met.D.Digest.equal_is_same) is.0 is.1 is.2 round in
     let ahead = is_ahead g.S.Scheme g.L.Elector g.K.Disk f s c.args.core.now c.construct_finalize.new.self h (Votes (vote.Finalize v)) k
     (ahead_finalize g.S.Scheme g.L.Elector g.K.Disk f s c.construct_finalize.new.self h v view (ap (λ (r : Round). r.view) round) (said.keeps s.voter (voter_of s h) k.voter)) in
-    did_one g.S.Scheme g.L.Elector g.K.Disk f s is_none (NoFinalizeToCast s) c.args.core.now c.cast.new.core h (Votes (vote.Finalize v)) c.args.out.now.items c.cast.new.out.items c.cast.result refl
+    did_one g.S.Scheme g.L.Elector g.K.Disk f s is_none (NoFinalizeToCast s) c.args.core.now c.cast.new.core h (Votes (vote.Finalize v)) c.args.out.now.items c.cast.new.out.items c.cast.result refl tt
     c.cast.ensures.did (on_ok_weaker c.cast.result (λ taken. taken s h ahead may (open_to_finalize g.S.Scheme f s h v.proposal.round view round is.0)) c.cast.ensures.taken) (λ it. c.cast.ensures.any_moment s h ahead may it)
 
 pub returns-in-None-construct_finalize-clause-tried : goal.returns-in-None-construct_finalize-clause-tried

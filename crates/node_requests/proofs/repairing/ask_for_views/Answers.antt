@@ -1,4 +1,4 @@
-use Rattle.std.proofs.Common.{ℕ, List, sym, subst}
+use Rattle.std.proofs.Common.{inl, inr, ℕ, List, sym, subst}
 use Rattle.std.specs.Prelude.{◌↔◌, Contains}
 use Rattle.simplex_resolver.specs.Outstanding.{IsOutstanding}
 use Rattle.simplex_member.specs.Layers.{repair_of}
@@ -19,7 +19,7 @@ views-preserved-in-Ok-true g c = λ s h k.
     let f = formats {S = g.row.S.Denot} {P = g.row.S-PublicKey.Denot} g.D.PartialEq.eq g.D.Write.spelling g.S.Signature.Write.spelling g.S.Certificate.Write.spelling g.D.Read.reading g.S.Signature.Read.reading g.S.Certificate.Read.reading (g.S.Scheme.size s.voter.scheme) in
     let out = c.args.out.now.items in
     let mid = c.views.out.items in
-    one_repaired g.S.Scheme f s c.in-Some.view c.next.new.self c.backfill.result c.args.repair.now c.args.tables.now c.views.tables c.fetch.new.tables h out mid c.fetch.new.out.items c.views.acted came.Did c.in-Ok-true.field-0 c.backfill.ensures.kind c.backfill.ensures.until k (λ is. absurd (cc is))
+    one_repaired g.S.Scheme f s c.in-Some.view c.next.new.self c.backfill.result c.args.repair.now c.args.tables.now c.views.tables c.fetch.new.tables h out mid c.fetch.new.out.items c.views.acted came.Did c.in-Ok-true.field-0 c.backfill.ensures.kind c.backfill.ensures.until k (λ is. absurd (cc is)) (λ did. inr c.in-Ok-true.field-0-test)
     (subst (λ (left : List ℕ). RepairsBut g.S.Scheme f s left c.views.tables h out mid c.views.acted) c.in-Some.ensures.steps (c.views.invariant s h k))
     (λ end repairs there. c.in-Ok-true.ensures.fetches (g.S.Scheme.size s.voter.scheme) s end repairs there)
 
@@ -28,7 +28,7 @@ views-preserved g c = λ s h k.
     let f = formats {S = g.row.S.Denot} {P = g.row.S-PublicKey.Denot} g.D.PartialEq.eq g.D.Write.spelling g.S.Signature.Write.spelling g.S.Certificate.Write.spelling g.D.Read.reading g.S.Signature.Read.reading g.S.Certificate.Read.reading (g.S.Scheme.size s.voter.scheme) in
     let out = c.args.out.now.items in
     let mid = c.views.out.items in
-    one_repaired g.S.Scheme f s c.in-Some.view c.next.new.self c.backfill.result c.args.repair.now c.args.tables.now c.views.tables c.fetch.new.tables h out mid c.fetch.new.out.items c.views.acted c.views.acted c.in-Ok-false.field-0 c.backfill.ensures.kind c.backfill.ensures.until k (λ idle. (idle, c.in-Ok-false.field-0-test))
+    one_repaired g.S.Scheme f s c.in-Some.view c.next.new.self c.backfill.result c.args.repair.now c.args.tables.now c.views.tables c.fetch.new.tables h out mid c.fetch.new.out.items c.views.acted c.views.acted c.in-Ok-false.field-0 c.backfill.ensures.kind c.backfill.ensures.until k (λ idle. (idle, c.in-Ok-false.field-0-test)) (λ did. inl did)
     (subst (λ (left : List ℕ). RepairsBut g.S.Scheme f s left c.views.tables h out mid c.views.acted) c.in-Some.ensures.steps (c.views.invariant s h k))
     (λ end repairs there. c.in-Ok-false.ensures.fetches (g.S.Scheme.size s.voter.scheme) s end repairs there)
 

@@ -40,7 +40,7 @@ returns-in-Ok-true-clause-acts g c = λ repair s h keeps of actions.
     let late : c.in-Some.moment ≤ latest h = omega (arith, at, passed) in
     let first = (c.in-Ok-true.ensures.answer s.voter v keeps.voter_is).0 c.in-Ok-true.field-0-test in
     silence_counts g.S.Scheme g.L.Elector f s c.trigger_timeout.new.self c.args.tables.now h c.moment-now.result c.current_view-view.result actions keeps.begun at (c.current_view-view.ensures s.voter v keeps.voter_is)
-    ((from (latest h) fits).1 late) first.counts (c.in-Ok-true.ensures.keeps s.voter v keeps.voter_is first.counts) keeps.tables_are
+    ((from (latest h) fits).1 late) first (c.in-Ok-true.ensures.keeps s.voter v keeps.voter_is first.counts) keeps.tables_are
 
 pub returns-in-Ok-false-clause-acts : goal.returns-in-Ok-false-clause-acts
 returns-in-Ok-false-clause-acts g c = λ repair s h keeps of actions.

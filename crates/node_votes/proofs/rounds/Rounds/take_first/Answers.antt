@@ -1,3 +1,4 @@
+use Rattle.node_votes.proofs.Changing.{on-err}
 use Rattle.node_votes.proofs.Firsts.{first-admitted, first-passed, first-refused}
 use Rattle.node_votes.proofs.rounds.Rounds.take_first.Goals as goal
 
@@ -11,3 +12,7 @@ returns-in_ok-seat-in-Ok-clause-admitted g c = first-admitted g.S.Scheme g.D.Par
 
 pub returns-in-Err-clause-refused : goal.returns-in-Err-clause-refused
 returns-in-Err-clause-refused g c = first-refused g.S.Scheme g.D.PartialEq.eq c.args.self.now c.args.current c.view-view.result c.in_ok-round.round c.in_ok-round.ensures c.args.vote c.view-view.ensures c.in-Err.fault c.in-Err.ensures.refused
+
+pub returns-in_err-seat-in-Ok-clause-err : goal.returns-in_err-seat-in-Ok-clause-err
+returns-in_err-seat-in-Ok-clause-err g c = on-err c.from_residual-in_err-seat-in-Ok.result _
+    (λ s up happened k none. c.in_err-seat-in-Ok.ensures.err s up happened k (rw c.view-view.ensures none))

@@ -31,4 +31,4 @@ returns-in-None-clause-refused g c = IfErr-weaker c.take_first.result _ _
 
 pub returns-in-None-clause-err : goal.returns-in-None-clause-err
 returns-in-None-clause-err g c = IfErr-weaker c.take_first.result _ _
-    (λ e f s up happened k. f s up happened (rw c.get_mut.follows.holds-at-none (c.touch.ensures.stands s up happened k))) c.take_first.ensures.err
+    (λ e f s up happened k. f s up happened (rw c.get_mut.follows.holds-at-none (c.touch.ensures.stands s up happened k)) (rw (c.get_mut.follows.holds-at-none, ← c.view-view.ensures) (sym c.in-None.ensures.value))) c.take_first.ensures.err
