@@ -14,7 +14,7 @@ ghost use Rattle.simplex_batcher.specs.Admission.{AgreesWithOwn, IsCastFault};
 ghost use Rattle.simplex_batcher.specs.Rounds.{RoundKeeps};
 ghost use Rattle.simplex_batcher.specs.Rounds as one;
 ghost use Rattle.node_votes.specs.Standing.{AreAlike, AreAtRest, AreLedFrom, AtEach, CanBeRead, Common, IsAdmitted, IsFirstUnled, IsCast, IsDone, IsRoundDone, Stand, come_up, common_of, happened_from, is_passed, put, set_at, setup_at, setup_now, up_from};
-ghost use Rattle.simplex_member.specs.Layers.{IsUp};
+ghost use Rattle.simplex_member.specs.Layers.{IsUp, Unopened};
 
 use crate::due::Due;
 use simplex_batcher::{Admission, BatcherFault, Round};
@@ -52,7 +52,7 @@ impl<S: Scheme<D> + Drop, D: Digest> Rounds<S, D> {
         tracks: bool,
     ) -> Self
         ensures { Stand S.Scheme D.PartialEq.eq (record { scheme = scheme.value; epoch = epoch; me = me; tracks = tracks }) result
-            (λ view. None) (λ view. []) }
+            (λ view. Unopened) (λ view. []) }
     {
         Rounds {
             alloc,

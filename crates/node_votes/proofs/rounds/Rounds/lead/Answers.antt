@@ -1,6 +1,7 @@
-use Rattle.std.proofs.Common.{refl, sym}
+use Rattle.std.proofs.Common.{ap, refl, sym}
+use Rattle.simplex_member.specs.Layers.{is_up}
 use Rattle.node_votes.specs.Standing.{setup_now}
-use Rattle.node_votes.proofs.Changing.{no-some, some-is, unknown}
+use Rattle.node_votes.proofs.Changing.{some-is, unknown}
 use Rattle.node_votes.proofs.Known.{known-same, stands-here}
 use Rattle.node_votes.proofs.Opening.{known-again, known-led}
 use Rattle.node_votes.proofs.rounds.Rounds.lead.Goals as goal
@@ -24,7 +25,7 @@ returns-in-Err-clause-err g c = known-same g.S.Scheme g.D.PartialEq.eq c.args.se
 pub returns-in-None-clause-led : goal.returns-in-None-clause-led
 returns-in-None-clause-led g c = λ s up happened k some none.
     let bare = unknown g.S.Scheme g.D.PartialEq.eq s c.args.view _ (up c.args.view) (happened c.args.view) (sym c.in-None.ensures.value) ((c.touch.ensures.stands s up happened k).kept c.args.view) in
-    absurd (no-some bare.0 some)
+    absurd (cc (some, ap is_up bare.0))
 
 pub returns-in-None-clause-again : goal.returns-in-None-clause-again
 returns-in-None-clause-again g c = λ s up happened k known.
