@@ -1,5 +1,5 @@
 -- What steps over the events of a stream come to: what was read, what was written, and what is left of what stepped.
-use Rattle.std.specs.Prelude.{◌≡◌, ◌++◌, ◌⊎◌, ℕ, List, [], ◌∷◌, map, Option, None, Some, IfSome, Result, Ok, Err}
+use Rattle.std.specs.Prelude.{◌≡◌, ◌++◌, ◌⊎◌, ◌<◌, ◌≤◌, ◌^◌, ℕ, List, [], ◌∷◌, length, map, Option, None, Some, IfSome, Result, Ok, Err}
 use Rattle.std.specs.List.{flat_map}
 use Rattle.std.specs.Io.KnownBytes.{Appends, Keeps}
 use Rattle.types_codec.specs.declared.codec.CodecError.{CodecError}
@@ -8,7 +8,7 @@ use Rattle.simplex_member.specs.declared.event.Event.{Event}
 use Rattle.simplex_member.specs.declared.fault.IoFault.{IoFault}
 use Rattle.simplex_member.specs.declared.fault.IoFault.TheVariants as fault
 use Rattle.simplex_member.specs.declared.fault.NodeFault.{NodeFault}
-use Rattle.node_wire.specs.Event.{event_value}
+use Rattle.node_wire.specs.Event.{event_spelling, event_value}
 use Rattle.node_wire.specs.Reply.{reply_spelling, reply_value}
 use Rattle.node_wire.specs.Stream.{AreEvents, AreTaken}
 use Rattle.types_codec.specs.Front.{AppendsFront}
@@ -20,6 +20,12 @@ spelled k p q r reply = reply_spelling k p q r (reply_value reply)
 -- these events stand at the front of the bytes, by the spelling of payloads
 abbrev pub StandInFront : {D : Type 0} → (D → Type 0) → (D → List ℕ) → List (Event D) → List ℕ → Type 0
 StandInFront F p events bytes = (rest : List ℕ) × AreTaken F p bytes (map event_value events) rest
+
+-- an event behind these ends behind the last place that 64 bits tell
+pub record EndsTooFarBehind {D : Type 0} (F : D → Type 0) (p : D → List ℕ) (events : List (Event D)) (given : Option (List ℕ)) : Type 0 where
+  pub event : Event D
+  pub read : IfSome given (StandInFront F p (events ++ event ∷ []))
+  pub far : 2 ^ 64 ≤ length (flat_map (event_spelling p) (map event_value (events ++ event ∷ [])))
 
 -- by what a step over an event may answer, and leave
 module _ {S D P G C N : Type 0} (steps : N → Event D → Result (Reply S D P G C) NodeFault → N → Type 0) where
@@ -57,9 +63,16 @@ module _ {S D P G C : Type 0} (F : D → Type 0) (p : D → List ℕ) (w : Reply
       pub split : w reply ≡ front ++ rest
       pub written : Appends text more (flat_map w replies ++ front)
 
-    -- all events of the input were answered, and the replies were written. Behind them there is nothing, or at this place no event
+    -- behind the answers to some events no more was read: they are 2^32, or the next ends too far, or a read failed
+    pub record GivesUp (ReadFailed : Type 0) (given text more : Option (List ℕ)) : Type 0 where
+      pub front : AnswersFront given text more
+      pub why : (length front.events ≡ 2 ^ 32) ⊎ (EndsTooFarBehind F p front.events given ⊎ ReadFailed)
+
+    -- all events of the input, fewer than 2^32, were answered, and the replies were written. Behind them there is nothing, or at this place
+    -- no event
     pub record AnswersAll (q : List ℕ → Result (D × List ℕ) CodecError) (given : Option (List ℕ)) (bad : Option ℕ) (text more : Option (List ℕ)) : Type 0 where
       pub events : List (Event D)
+      pub few : length events < 2 ^ 32
       pub read : IfSome given (λ bytes. AreEvents F p q bytes (map event_value events) bad)
       pub replies : List (Reply S D P G C)
       pub answered : Answered events replies
@@ -75,12 +88,15 @@ module _ {S D P G C : Type 0} (F : D → Type 0) (p : D → List ℕ) (w : Reply
     pub failed : Failed events replies event why
     pub written : Appends text more (flat_map w replies)
 
-  -- what came of an input, by what holds where events were answered, and where behind such a step failed
+  -- what came of an input, by what holds where events were answered, where behind such a step failed, and where a read did
   abbrev pub EndsIn : {A : Type 0} → (List ℕ → Result (D × List ℕ) CodecError) → (List (Event D) → List (Reply S D P G C) → Type 0)
-      → (List (Event D) → List (Reply S D P G C) → Event D → NodeFault → Type 0) → Result A IoFault → Option (List ℕ) → Option (List ℕ) → Option (List ℕ) → Type 0
-  EndsIn q Answered Failed (Ok done) given text more = AnswersAll Answered q given None text more
-  EndsIn q Answered Failed (Err fault.Read) given text more = AnswersFront Answered given text more
-  EndsIn q Answered Failed (Err fault.Write) given text more = BreaksOff Answered given text more
-  EndsIn q Answered Failed (Err (fault.BadEvent place)) given text more = AnswersAll Answered q given (Some place) text more
-  EndsIn q Answered Failed (Err (fault.Node why)) given text more = Fails Failed why given text more
-  EndsIn q Answered Failed (Err fault.Memory) given text more = AnswersFront Answered given text more ⊎ ((broken : BreaksOff Answered given text more) × (broken.front ≡ []))
+      → (List (Event D) → List (Reply S D P G C) → Event D → NodeFault → Type 0) → Type 0 → Result A IoFault
+      → Option (List ℕ) → Option (List ℕ) → Option (List ℕ) → Type 0
+  EndsIn q Answered Failed ReadFailed (Ok done) given text more = AnswersAll Answered q given None text more
+  EndsIn q Answered Failed ReadFailed (Err fault.Read) given text more = GivesUp Answered ReadFailed given text more
+  EndsIn q Answered Failed ReadFailed (Err fault.Write) given text more = BreaksOff Answered given text more
+  EndsIn q Answered Failed ReadFailed (Err (fault.BadEvent place)) given text more = AnswersAll Answered q given (Some place) text more
+  EndsIn q Answered Failed ReadFailed (Err (fault.Node why)) given text more = Fails Failed why given text more
+  EndsIn q Answered Failed ReadFailed (Err fault.Memory) given text more =
+      ((ends : AnswersFront Answered given text more) × (length ends.events < 2 ^ 32))
+      ⊎ ((broken : BreaksOff Answered given text more) × (broken.front ≡ []))
