@@ -55,10 +55,15 @@ def artifacts_in(setup, data):
     return found
 
 
+def faults_in(told):
+    """The error lines of a run, without what it says of the record that it looked at, each on a line of its own."""
+    return "".join(line for line in told.decode().splitlines(keepends=True) if not line.startswith("record: "))
+
+
 def run(program, words, given, folder, **how):
     """The status, the output and the error lines of a run that is given these bytes."""
     ended = subprocess.run([program, *words], input=given, stdout=subprocess.PIPE, stderr=subprocess.PIPE, cwd=folder, **how)
-    return ended.returncode, ended.stdout, ended.stderr.decode()
+    return ended.returncode, ended.stdout, faults_in(ended.stderr)
 
 
 def acknowledged(setup, replies):
@@ -137,7 +142,7 @@ class Running:
             self.child.stdin.close()
         except BrokenPipeError:
             pass
-        told = self.child.stderr.read().decode()
+        told = faults_in(self.child.stderr.read())
         self.child.stdout.close()
         self.child.stderr.close()
         return self.child.wait(), told

@@ -8,8 +8,8 @@ use Rattle.types_codec.specs.declared.codec.CodecError.{CodecError}
 use Rattle.types_codec.specs.declared.codec.CodecError.TheVariants.{End}
 use Rattle.simplex_member.specs.declared.fault.IoFault.{IoFault}
 use Rattle.simplex_member.specs.declared.fault.IoFault.TheVariants as fault
-use Rattle.node_wire.specs.Event.{EventValue, event_spelling, event_at}
-use Rattle.node_wire.specs.Stream.{InputState, left_of, IsTaken, IsBarred, HasNone, IsFault}
+use Rattle.node_wire.specs.Event.{EventValue, event_at, event_spelling}
+use Rattle.node_wire.specs.Stream.{HasNone, InputState, IsBarred, IsFault, IsTaken, left_of}
 
 -- what is taken of what is held is taken of what is left
 pub taken_over : {D : Type 0} {F : D → Type 0} {p : D → List ℕ} (e : EventValue D) (old mid new : InputState) (a r : Option (List ℕ)) → mid.place ≡ old.place → mid.taken ≡ old.taken
@@ -39,13 +39,13 @@ module _ {D : Type 0} (q : List ℕ → Result (D × List ℕ) CodecError) where
   cut_left (Some xs) None held kept end some cut = absurd kept
   cut_left (Some xs) (Some ys) held kept end some cut = record { front = held; more = ys; some = some; whole = sym kept; refused = inr (cut, end) }
 
--- the same fault at the same place, for a reason that follows
-pub fault_over : (f : IoFault) (old new : ℕ) (A B : Type 0) → old ≡ new → (A → B) → IsFault old A f → IsFault new B f
-fault_over fault.Read old new A B same turn h = tt
-fault_over fault.Write old new A B same turn h = h
-fault_over (fault.BadEvent at) old new A B same turn h = (h.0 ∙ same, turn h.1)
-fault_over (fault.Node x) old new A B same turn h = h
-fault_over fault.Memory old new A B same turn h = tt
+-- the same fault at the same place, for reasons that follow
+pub fault_over : (f : IoFault) (old new : ℕ) (X Y A B : Type 0) → old ≡ new → (X → Y) → (A → B) → IsFault old X A f → IsFault new Y B f
+fault_over fault.Read old new X Y A B same up turn h = up h
+fault_over fault.Write old new X Y A B same up turn h = h
+fault_over (fault.BadEvent at) old new X Y A B same up turn h = (h.0 ∙ same, turn h.1)
+fault_over (fault.Node x) old new X Y A B same up turn h = h
+fault_over fault.Memory old new X Y A B same up turn h = tt
 
 -- where all is taken nothing is held
 pub none_held : (start : ℕ) (items : List ℕ) → start ≡ length items → drop start items ≡ []

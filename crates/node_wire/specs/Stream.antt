@@ -1,12 +1,12 @@
 -- The events of an input.
-use Rattle.std.specs.Prelude.{◌≡◌, ◌≢◌, ◌⊎◌, ℕ, ◌+◌, List, [], ◌++◌, length, All, Option, MatchOption, Result, Ok, Err, ⊤}
+use Rattle.std.specs.Prelude.{◌≡◌, ◌≢◌, ◌⊎◌, ℕ, ◌+◌, ◌^◌, List, [], ◌++◌, length, All, Option, MatchOption, Result, Ok, Err, ⊤}
 use Rattle.std.specs.List.{flat_map}
 use Rattle.std.specs.Io.KnownBytes.{Consumes, prepend_known}
 use Rattle.types_codec.specs.declared.codec.CodecError.{CodecError}
 use Rattle.types_codec.specs.declared.codec.CodecError.TheVariants.{End, Invalid, TooLong, Memory}
 use Rattle.simplex_member.specs.declared.fault.IoFault.{IoFault}
 use Rattle.simplex_member.specs.declared.fault.IoFault.TheVariants as fault
-use Rattle.node_wire.specs.Event.{EventValue, IsEvent, event_spelling, event_at}
+use Rattle.node_wire.specs.Event.{EventValue, IsEvent, event_at, event_spelling}
 
 -- reading was refused for what the bytes are, and not since they ended
 abbrev pub IsBarred : {A : Type 0} → Result A CodecError → Type 0
@@ -16,9 +16,11 @@ IsBarred (Err Invalid) = ⊤
 IsBarred (Err TooLong) = ⊤
 IsBarred (Err Memory) = ⊥
 
--- what was read of an input and is not yet taken, how many bytes were taken before, and how many events
+-- what was read of an input and is not yet taken, how many bytes that were taken are kept before it, how many were taken in all, and how
+-- many events
 pub record InputState : Type 0 where
   pub held : List ℕ
+  pub behind : ℕ
   pub place : ℕ
   pub taken : ℕ
 
@@ -41,13 +43,17 @@ pub record HasNone {D : Type 0} (q : List ℕ → Result (D × List ℕ) CodecEr
   pub whole : bytes ≡ front ++ more
   pub refused : IsBarred (event_at q front) ⊎ ((event_at q front ≡ Err End) × (more ≡ []))
 
--- why no event was taken at this place: a bad event, for this reason, is named by the place
-abbrev pub IsFault : ℕ → Type 0 → IoFault → Type 0
-IsFault place reason fault.Read = ⊤
-IsFault place reason fault.Write = ⊥
-IsFault place reason (fault.BadEvent at) = (at ≡ place) × reason
-IsFault place reason (fault.Node x) = ⊥
-IsFault place reason fault.Memory = ⊤
+-- where an input stands so it is given up: behind 2^32 events, or since a read failed
+abbrev pub IsGivenUp : InputState → Type 0 → Type 0
+IsGivenUp state ReadFailed = (state.taken ≡ 2 ^ 32) ⊎ ReadFailed
+
+-- why no event was taken at this place: the input was given up; or a bad event, for that reason, is named by the place
+abbrev pub IsFault : ℕ → Type 0 → Type 0 → IoFault → Type 0
+IsFault place given_up bad fault.Read = given_up
+IsFault place given_up bad fault.Write = ⊥
+IsFault place given_up bad (fault.BadEvent at) = (at ≡ place) × bad
+IsFault place given_up bad (fault.Node x) = ⊥
+IsFault place given_up bad fault.Memory = ⊤
 
 -- of the bytes these events were taken, and the rest is left
 pub record AreTaken {D : Type 0} (F : D → Type 0) (p : D → List ℕ) (bytes : List ℕ) (events : List (EventValue D)) (rest : List ℕ) : Type 0 where

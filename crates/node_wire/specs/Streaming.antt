@@ -1,5 +1,5 @@
 -- What steps over the events of a stream come to: what was read, what was written, and what is left of what stepped.
-use Rattle.std.specs.Prelude.{◌≡◌, ◌++◌, ◌⊎◌, ℕ, List, [], ◌∷◌, map, Option, None, Some, IfSome, Result, Ok, Err}
+use Rattle.std.specs.Prelude.{◌≡◌, ◌++◌, ◌⊎◌, ◌<◌, ◌^◌, ℕ, List, [], ◌∷◌, length, map, Option, None, Some, IfSome, Result, Ok, Err}
 use Rattle.std.specs.List.{flat_map}
 use Rattle.std.specs.Io.KnownBytes.{Appends, Keeps}
 use Rattle.types_codec.specs.declared.codec.CodecError.{CodecError}
@@ -57,9 +57,16 @@ module _ {S D P G C : Type 0} (F : D → Type 0) (p : D → List ℕ) (w : Reply
       pub split : w reply ≡ front ++ rest
       pub written : Appends text more (flat_map w replies ++ front)
 
-    -- all events of the input were answered, and the replies were written. Behind them there is nothing, or at this place no event
+    -- behind the answers to some events no more was read: they are 2^32, or a read failed
+    pub record GivesUp (ReadFailed : Type 0) (given text more : Option (List ℕ)) : Type 0 where
+      pub front : AnswersFront given text more
+      pub why : (length front.events ≡ 2 ^ 32) ⊎ ReadFailed
+
+    -- all events of the input, fewer than 2^32, were answered, and the replies were written. Behind them there is nothing, or at this place
+    -- no event
     pub record AnswersAll (q : List ℕ → Result (D × List ℕ) CodecError) (given : Option (List ℕ)) (bad : Option ℕ) (text more : Option (List ℕ)) : Type 0 where
       pub events : List (Event D)
+      pub few : length events < 2 ^ 32
       pub read : IfSome given (λ bytes. AreEvents F p q bytes (map event_value events) bad)
       pub replies : List (Reply S D P G C)
       pub answered : Answered events replies
@@ -75,12 +82,15 @@ module _ {S D P G C : Type 0} (F : D → Type 0) (p : D → List ℕ) (w : Reply
     pub failed : Failed events replies event why
     pub written : Appends text more (flat_map w replies)
 
-  -- what came of an input, by what holds where events were answered, and where behind such a step failed
+  -- what came of an input, by what holds where events were answered, where behind such a step failed, and where a read did
   abbrev pub EndsIn : {A : Type 0} → (List ℕ → Result (D × List ℕ) CodecError) → (List (Event D) → List (Reply S D P G C) → Type 0)
-      → (List (Event D) → List (Reply S D P G C) → Event D → NodeFault → Type 0) → Result A IoFault → Option (List ℕ) → Option (List ℕ) → Option (List ℕ) → Type 0
-  EndsIn q Answered Failed (Ok done) given text more = AnswersAll Answered q given None text more
-  EndsIn q Answered Failed (Err fault.Read) given text more = AnswersFront Answered given text more
-  EndsIn q Answered Failed (Err fault.Write) given text more = BreaksOff Answered given text more
-  EndsIn q Answered Failed (Err (fault.BadEvent place)) given text more = AnswersAll Answered q given (Some place) text more
-  EndsIn q Answered Failed (Err (fault.Node why)) given text more = Fails Failed why given text more
-  EndsIn q Answered Failed (Err fault.Memory) given text more = AnswersFront Answered given text more ⊎ ((broken : BreaksOff Answered given text more) × (broken.front ≡ []))
+      → (List (Event D) → List (Reply S D P G C) → Event D → NodeFault → Type 0) → Type 0 → Result A IoFault
+      → Option (List ℕ) → Option (List ℕ) → Option (List ℕ) → Type 0
+  EndsIn q Answered Failed ReadFailed (Ok done) given text more = AnswersAll Answered q given None text more
+  EndsIn q Answered Failed ReadFailed (Err fault.Read) given text more = GivesUp Answered ReadFailed given text more
+  EndsIn q Answered Failed ReadFailed (Err fault.Write) given text more = BreaksOff Answered given text more
+  EndsIn q Answered Failed ReadFailed (Err (fault.BadEvent place)) given text more = AnswersAll Answered q given (Some place) text more
+  EndsIn q Answered Failed ReadFailed (Err (fault.Node why)) given text more = Fails Failed why given text more
+  EndsIn q Answered Failed ReadFailed (Err fault.Memory) given text more =
+      ((ends : AnswersFront Answered given text more) × (length ends.events < 2 ^ 32))
+      ⊎ ((broken : BreaksOff Answered given text more) × (broken.front ≡ []))

@@ -1,7 +1,8 @@
-//! Events and replies as bytes, the events of an input, and whatever steps over events, over a list of them and over streams, without a
-//! node.
+//! Events and replies as bytes, streams that count their faults, the events of an input, and whatever steps over events, over a list of
+//! them and over streams, without a node.
 #![tactic(auto)]
 
+mod counted;
 mod event;
 mod input;
 mod listing;
@@ -10,7 +11,9 @@ mod reply;
 mod replying;
 mod stepper;
 mod streaming;
+mod streams;
 
+pub use counted::{CountedReader, CountedWriter};
 pub use event::{read_event, write_event};
 pub use input::EventInput;
 pub use listing::{Answers, answer_list};
@@ -18,3 +21,4 @@ pub use reply::write_reply;
 pub use replying::write_out;
 pub use stepper::Stepper;
 pub use streaming::answer_stream;
+pub use streams::{Sink, Source, StreamFault};

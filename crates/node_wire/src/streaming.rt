@@ -1,19 +1,18 @@
 //! What steps over events, over streams.
 
-ghost use Rattle.std.specs.Prelude.{◌≡◌};
+ghost use Rattle.std.specs.Prelude.{◌≡◌, ◌≢◌, false, Err};
+ghost use Rattle.journal_single.specs.Disk.{counted};
+ghost use Rattle.simplex_member.specs.declared.fault.IoFault.TheVariants as fault;
 ghost use Rattle.node_wire.specs.Stepper.{Answer, AnswerBefore, AnswersNone};
 ghost use Rattle.node_wire.specs.Streaming.{EndsIn, spelled};
 
 use crate::input::EventInput;
 use crate::replying::answer;
 use crate::stepper::Stepper;
+use crate::streams::{Sink, Source};
 use simplex_member::{Event, IoFault, Reply};
 use std::alloc::Global;
-use std::io::{Read, Write};
 use types_core::{Digest, Scheme};
-
-/// The events after which an input is given up.
-const MOST_EVENTS: u64 = 4_294_967_296;
 
 /// The size of the largest committee. A payload is read alike in each.
 const LARGEST: u32 = 65_535;
@@ -23,25 +22,31 @@ const LARGEST: u32 = 65_535;
 ///
 /// # Errors
 ///
-/// [`IoFault::Read`] where a read failed, and behind 2^32 events; [`IoFault::BadEvent`] with the place, counted from 0, of the
-/// first byte at which no event stands, behind the answers to all before it; [`IoFault::Node`] where a step failed;
-/// [`IoFault::Write`] where a write failed: then a front of the last reply was written, or nothing of it; [`IoFault::Memory`] where
-/// there is none for an event, or for the last reply's bytes: then nothing of it was written.
+/// [`IoFault::Read`] where a read failed, and behind 2^32 events; [`IoFault::BadEvent`] with the place, counted from 0, of the first byte at which no event stands, behind the answers to all before
+/// it; [`IoFault::Node`] where a step failed; [`IoFault::Write`] where a write or a flush failed: then a front of the last reply was
+/// written; [`IoFault::Memory`] where there is none for an event, or for the last reply's bytes: then nothing of it was written.
 pub fn answer_stream<
     T: Stepper<Event<D>, Reply<S, D>, N>,
     S: Scheme<D>,
     D: Digest,
     N,
-    R: Read,
-    W: Write,
+    R: Source,
+    W: Sink,
 >(alloc: Global, node: &mut N, reader: &mut R, writer: &mut W) -> Result<(), IoFault>
     ensures answers { EndsIn D.fits D.spelling (spelled S.PublicKey.spelling D.spelling S.Signature.spelling S.Certificate.spelling)
-        (D.reading 65535) (Answer T.steps node.old node.new) (AnswerBefore T.steps node.old node.new) result (R.remaining reader.old)
-        (W.contents writer.old) (W.contents writer.new) }
+        (D.reading 65535) (Answer T.steps node.old node.new) (AnswerBefore T.steps node.old node.new)
+        (R.failed reader.new ≡ counted false (R.failed reader.old)) result (R.remaining reader.old) (W.contents writer.old)
+        (W.contents writer.new) }
     ensures untouched { AnswersNone T.steps node.old → writer.new ≡ writer.old }
+
+    // Reading and writing failed exactly where that is told, and what was written is flushed.
+    ensures read { result ≢ Err fault.Read → R.failed reader.new ≡ R.failed reader.old }
+    ensures write_failed { result ≡ Err fault.Write → W.failed writer.new ≡ counted false (W.failed writer.old) }
+    ensures write { result ≢ Err fault.Write → W.failed writer.new ≡ W.failed writer.old }
+    ensures flushed { result ≢ Err fault.Write → W.is_flushed writer.old → W.is_flushed writer.new }
 {
     let mut input = EventInput::new(alloc);
-    for _ in 0..MOST_EVENTS {
+    while !input.is_spent() {
         let found = match input.next_event(alloc, reader, LARGEST) {
             Ok(found) => found,
             Err(fault) => return Err(fault),

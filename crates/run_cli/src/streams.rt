@@ -8,6 +8,7 @@ use crate::texts::say_text;
 use cli_audit::{audit_over, report, run_words, words_unread, write_audit};
 use cli_tool::{misused, parse_call, run_request};
 use journal_single::MemoryDisk;
+use node_wire::{CountedReader, CountedWriter};
 use simplex_cli::{drive, tell};
 use std::alloc::Global;
 use std::io;
@@ -128,13 +129,15 @@ impl Streams {
     ) -> Result<MemoryDisk, Trouble>
         requires { index < count }
     {
-        let mut input = self.read();
-        let mut output = FakeWriter::new(say.alloc, self.output);
+        let mut input = CountedReader::new(self.read());
+        let mut output = CountedWriter::new(FakeWriter::new(say.alloc, self.output));
         let mut faults = FakeWriter::new(say.alloc, self.faults);
         let (ended, disk) = drive(say.alloc, disk, index, count, &mut input, &mut output);
         let status = tell(say.alloc, ended, &mut faults);
         say.number(u64::from(status))?;
         say.gap()?;
+        let input = input.into_inner();
+        let output = output.into_inner();
         say.number(input.left() as u64)?;
         say.gap()?;
         say.bytes(output.taken())?;

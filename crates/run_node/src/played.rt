@@ -5,9 +5,10 @@ ghost use Rattle.std.specs.Prelude.{◌≡◌, IfOk};
 use journal_single::Disk;
 use node_steps::Node;
 use simplex_member::{Action, Event, IoFault, NodeFault, OpenFault, Reply};
-use simplex_node::run_io;
+use simplex_node::{CountedWriter, run_io};
 use std::alloc::Global;
 use std::io::{Read, Write};
+use std::mem;
 use std::rc::Rc;
 use test_node::{Medium, Member, Seat, Setup, Turns, play_on};
 use test_words::Committee;
@@ -53,7 +54,10 @@ impl<S: Scheme<D> + Drop, L: Turns<S, D>, D: Digest, K: Disk> Seat<
         replies: &mut Vec<u8>,
     ) -> Result<(), IoFault> {
         let mut reader = events;
-        run_io(alloc, node, &mut reader, replies)
+        let mut writer = CountedWriter::new(mem::replace(replies, Vec::new(alloc)));
+        let ended = run_io(alloc, node, &mut reader, &mut writer);
+        *replies = writer.into_inner();
+        ended
     }
 
     fn current_view(node: &Node<S, L, D, K>) -> View {

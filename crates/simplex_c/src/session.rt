@@ -1,6 +1,6 @@
 //! A member's node between two calls.
 
-ghost use Rattle.std.specs.Prelude.{◌≡◌, ◌<◌, ◌++◌, ℕ, None, Some, IfOk};
+ghost use Rattle.std.specs.Prelude.{◌≡◌, ◌<◌, ◌++◌, ℕ, IfOk, None, Some};
 ghost use Rattle.simplex_member.specs.declared.action.Reply.{Reply};
 ghost use Rattle.simplex_member.specs.Setup.{setup_of};
 ghost use Rattle.node_steps.specs.Keeps.{AtOwn};
@@ -12,12 +12,14 @@ use crate::disk::HostedDisk;
 use crate::requests::Requests;
 use journal_single::Disk;
 use node_steps::Node;
+use node_wire::CountedWriter;
 use simplex_cli::{config, elector, scheme};
 use simplex_member::{IoFault, OpenFault, Reply, Speaks};
 use simplex_node::{open_io, run_io};
 use simplex_types::PlainScheme;
 use std::alloc::{AllocError, Global};
 use std::marker::Model;
+use std::mem;
 use std::rc::Rc;
 use types_core::{Digest, Scheme, Sha256Digest};
 use types_terms::Elector;
@@ -162,7 +164,10 @@ fn begin<S: Scheme<D> + Drop, L: Elector<S, D>, D: Digest, K: Disk>(
         × IsOpenAndSettled S.Scheme L.Elector K.Disk (⟦<S as Speaks<D>>⟧.formats (S.size scheme.value))
         (setup_of S.Scheme L.Elector config scheme.value elector index) ⟦<S as Speaks<D>>⟧.readable disk 0 node first.actions.items) }
 {
-    match open_io(alloc, config, scheme, elector, disk, 0, replies) {
+    let mut output = CountedWriter::new(mem::replace(replies, Vec::new(alloc)));
+    let opened = open_io(alloc, config, scheme, elector, disk, 0, &mut output);
+    *replies = output.into_inner();
+    match opened {
         Ok((node, written)) => match written {
             Ok(()) => Ok(node),
             Err(_) => {
@@ -183,9 +188,12 @@ fn go_on<S: Scheme<D> + Drop, L: Elector<S, D>, D: Digest, K: Disk>(
 ) -> Result<(), IoFault>
     ensures { AtOwn S.Scheme L.Elector K.Disk ⟦<S as Speaks<D>>⟧.formats node.old (λ f s h.
         EndsIn D.fits D.spelling (spelled S.PublicKey.spelling D.spelling S.Signature.spelling S.Certificate.spelling) (D.reading 65535)
-        (RunsTo S.Scheme L.Elector K.Disk f s h node.new) (RunFails S.Scheme L.Elector K.Disk f s h node.new) result (Some events.now)
+        (RunsTo S.Scheme L.Elector K.Disk f s h node.new) (RunFails S.Scheme L.Elector K.Disk f s h node.new) ⊥ result (Some events.now)
         (Some replies.old.items) (Some replies.new.items)) }
 {
-    let mut rest = events;
-    run_io(alloc, node, &mut rest, replies)
+    let mut input = events;
+    let mut output = CountedWriter::new(mem::replace(replies, Vec::new(alloc)));
+    let ended = run_io(alloc, node, &mut input, &mut output);
+    *replies = output.into_inner();
+    ended
 }

@@ -1,2 +1,3 @@
 mod Served
 mod Statuses
+mod Streams

@@ -1,6 +1,6 @@
 -- What a run over streams comes to, without the node that was left, and behind the opening of a record.
-use Rattle.std.proofs.Common.{◌≡◌, ◌⊎◌, inl, inr, ap, ℕ, List, Option, None}
-use Rattle.std.specs.Prelude.{Result, Err, ⊤}
+use Rattle.std.proofs.Common.{◌≡◌, ◌⊎◌, inl, inr, sym, ap, ◌∙◌, subst, ℕ, List, Option, None, Some}
+use Rattle.std.specs.Prelude.{Result, Err, unwrap_or, ⊤}
 use Rattle.std.specs.Io.KnownBytes.{Appends}
 use Rattle.types_codec.specs.declared.codec.CodecError.{CodecError}
 use Rattle.types_core.specs.declared.scheme.Scheme.{Ghosts}
@@ -10,9 +10,10 @@ use Rattle.journal_single.specs.declared.disk.Disk as disk
 use Rattle.simplex_member.specs.declared.action.Reply.{Reply}
 use Rattle.simplex_member.specs.declared.fault.IoFault.{IoFault}
 use Rattle.simplex_member.specs.declared.fault.IoFault.TheVariants as fault
+use Rattle.simplex_member.specs.declared.fault.OpenFault.{OpenFault}
 use Rattle.simplex_member.specs.Packet.{Formats}
 use Rattle.simplex_member.specs.Point.{History}
-use Rattle.simplex_member.specs.Setup.{Setup}
+use Rattle.simplex_member.specs.Setup.{Setup, setup_of}
 use Rattle.node_steps.specs.declared.node.Node.{Node}
 use Rattle.node_steps.specs.Keeps.{NodeKeeps}
 use Rattle.node_steps.specs.Opening.{IsOpenAndSettled}
@@ -20,8 +21,13 @@ use Rattle.simplex_node.specs.Running.{RunFails, RunsTo}
 use Rattle.types_codec.specs.Front.{AppendsFront}
 use Rattle.node_wire.specs.Over.{ends_as}
 use Rattle.node_wire.specs.Streaming.{EndsIn}
+use Rattle.voter_rules.specs.declared.config.Config.{Config}
 use Rattle.simplex_cli.specs.declared.ending.Ending.{Ending}
-use Rattle.simplex_cli.specs.Serving.{Answers, AnswersBefore, ServesOver, ended_of}
+use Rattle.simplex_cli.specs.declared.ending.Ending.TheVariants as ending
+use Rattle.simplex_cli.specs.Serving.{Answers, AnswersBefore, ComesTo, ServesOver, ended_of}
+
+some-is : {X : Type 0} (x y : X) → Some x ≡ Some y → x ≡ y
+some-is x y e = ap (λ o. unwrap_or o x) e
 
 -- a run that ended before its input
 abbrev broken_off : IoFault → Result ⊤ IoFault
@@ -34,24 +40,57 @@ is_broken_off why (inr is) = inr (ap broken_off is)
 module _ {S L D P G C K : Type 0} (g : Ghosts S D P G C) (e : elector.Ghosts L S D P G C) (k : disk.Ghosts K) (f : Formats S D P G C) (s : Setup S D C)
     (F : D → Type 0) (p : D → List ℕ) (w : Reply S D P G C → List ℕ) (q : List ℕ → Result (D × List ℕ) CodecError) where
   -- by what is said of the node that was left
-  pub served : {A : Type 0} (h : History S D P G C) (node : Node S L D K P G C) (r : Result A IoFault) (given text more : Option (List ℕ))
-      → EndsIn F p w q (RunsTo g e k f s h node) (RunFails g e k f s h node) r given text more → EndsIn F p w q (Answers g f s h) (AnswersBefore g f s h) r given text more
-  served h node r given text more =
-      ends_as F p w q (RunsTo g e k f s h node) (RunFails g e k f s h node) (Answers g f s h) (AnswersBefore g f s h)
+  pub served : {A : Type 0} (h : History S D P G C) (node : Node S L D K P G C) (ReadFailed : Type 0) (r : Result A IoFault) (given text more : Option (List ℕ))
+      → EndsIn F p w q (RunsTo g e k f s h node) (RunFails g e k f s h node) ReadFailed r given text more → EndsIn F p w q (Answers g f s h) (AnswersBefore g f s h) ReadFailed r given text more
+  served h node ReadFailed r given text more =
+      ends_as F p w q (RunsTo g e k f s h node) (RunFails g e k f s h node) ReadFailed (Answers g f s h) (AnswersBefore g f s h)
       (λ events replies runs. (runs.end, runs.run)) (λ events replies event why fails. (fails.runs.end, fails.runs.run)) r given text more
 
   -- behind the opening of a record, whose first reply was written
-  pub served_over : (Readable : Artifact S D P G C → Type 0) (on : K) (now : ℕ) (node : Node S L D K P G C) (first : Reply S D P G C) (r : Result ⊤ Ending) (given text mid more : Option (List ℕ))
+  pub served_over : (Readable : Artifact S D P G C → Type 0) (on : K) (now : ℕ) (node : Node S L D K P G C) (first : Reply S D P G C) (ReadFailed : Type 0) (r : Result ⊤ Ending) (given text mid more : Option (List ℕ))
       → first.refused ≡ None → IsOpenAndSettled g e k f s Readable on now node first.actions.items → Appends text mid (w first)
-      → ((h : History S D P G C) → NodeKeeps g e k f s node h → (ended : Result ⊤ IoFault) × (r ≡ ended_of ended) × EndsIn F p w q (Answers g f s h) (AnswersBefore g f s h) ended given mid more)
-      → (ended : Result ⊤ IoFault) × (r ≡ ended_of ended) × ServesOver g k f s F p w q Readable on now ended given text more
-  served_over Readable on now node first r given text mid more taken settled whole serves =
+      → ((h : History S D P G C) → NodeKeeps g e k f s node h → (ended : Result ⊤ IoFault) × (r ≡ ended_of ended) × EndsIn F p w q (Answers g f s h) (AnswersBefore g f s h) ReadFailed ended given mid more)
+      → (ended : Result ⊤ IoFault) × (r ≡ ended_of ended) × ServesOver g k f s F p w q Readable on now ReadFailed ended given text more
+  served_over Readable on now node first ReadFailed r given text mid more taken settled whole serves =
       let this = serves settled.end settled.keeps in
       (this.0, this.1, record { found = settled.found; are_found = settled.are_found; first = first; taken = taken; end = settled.end; opens = settled.opens; serves = inl (mid, whole, this.2) })
 
   -- of which only a front was
-  pub served_not : (Readable : Artifact S D P G C → Type 0) (on : K) (now : ℕ) (node : Node S L D K P G C) (first : Reply S D P G C) (why : IoFault) (given text more : Option (List ℕ))
+  pub served_not : (Readable : Artifact S D P G C → Type 0) (on : K) (now : ℕ) (node : Node S L D K P G C) (first : Reply S D P G C) (ReadFailed : Type 0) (why : IoFault) (given text more : Option (List ℕ))
       → first.refused ≡ None → IsOpenAndSettled g e k f s Readable on now node first.actions.items → (why ≡ fault.Memory) ⊎ (why ≡ fault.Write) → AppendsFront text more (w first)
-      → ServesOver g k f s F p w q Readable on now (broken_off why) given text more
-  served_not Readable on now node first why given text more taken settled faults front =
+      → ServesOver g k f s F p w q Readable on now ReadFailed (broken_off why) given text more
+  served_not Readable on now node first ReadFailed why given text more taken settled faults front =
       record { found = settled.found; are_found = settled.are_found; first = first; taken = taken; end = settled.end; opens = settled.opens; serves = inr (is_broken_off why faults, front) }
+
+-- what a program comes to that is set up so, by what a run does that was set up by these values
+module _ {S L D P G C K : Type 0} (g : Ghosts S D P G C) (e : elector.Ghosts L S D P G C) (k : disk.Ghosts K) (formats : ℕ → Formats S D P G C)
+    (F : D → Type 0) (p : D → List ℕ) (w : Reply S D P G C → List ℕ) (q : List ℕ → Result (D × List ℕ) CodecError) (Readable : Artifact S D P G C → Type 0)
+    (on : K) (now : ℕ) (ReadFailed Untouched : Type 0) (ended : Result ⊤ Ending) (given old new : Option (List ℕ)) where
+  -- the run of a member of this index
+  abbrev Run_of : Config D → S → L → ℕ → Type 0
+  Run_of config scheme elect index = (io : Result ⊤ IoFault) × (ended ≡ ended_of io)
+      × ServesOver g k (formats (g.size scheme)) (setup_of g e config scheme elect index) F p w q Readable on now ReadFailed io given old new
+
+  -- it was not opened, or run by the index that the scheme has
+  abbrev pub Serves_by : Config D → S → L → Type 0
+  Serves_by config scheme elect = ((why : OpenFault) × (ended ≡ Err (ending.Open why)) × Untouched)
+      ⊎ ((io : Result ⊤ IoFault) × (index : ℕ) × (ended ≡ ended_of io) × (g.own scheme ≡ Some index)
+      × ServesOver g k (formats (g.size scheme)) (setup_of g e config scheme elect index) F p w q Readable on now ReadFailed io given old new)
+
+  comes : (config : Config D) (scheme : S) (elect : L) (index : ℕ) → g.own scheme ≡ Some index → Serves_by config scheme elect
+      → ComesTo g k (formats (g.size scheme)) (setup_of g e config scheme elect index) F p w q Readable on now ReadFailed Untouched ended given old new
+  comes config scheme elect index own (inl (why, is, same)) = inl (inr (why, is), same)
+  comes config scheme elect index own (inr (io, member, is, owns, serves)) =
+      let same : member ≡ index = some-is member index (sym owns ∙ own) in
+      let run : Run_of config scheme elect member = (io, is, serves) in
+      inr (subst (λ (n : ℕ). Run_of config scheme elect n) same run)
+
+  -- by what the values are
+  pub comes_by : (config other_config : Config D) (scheme other_scheme : S) (elect other_elect : L) (index : ℕ) → config ≡ other_config → scheme ≡ other_scheme → elect ≡ other_elect
+      → g.own other_scheme ≡ Some index → Serves_by config scheme elect
+      → ComesTo g k (formats (g.size other_scheme)) (setup_of g e other_config other_scheme other_elect index) F p w q Readable on now ReadFailed Untouched ended given old new
+  comes_by config other_config scheme other_scheme elect other_elect index settings committee rotation own serves =
+      comes other_config other_scheme other_elect index own
+      (subst (λ (x : L). Serves_by other_config other_scheme x) rotation
+      (subst (λ (x : S). Serves_by other_config x elect) committee
+      (subst (λ (x : Config D). Serves_by x scheme elect) settings serves)))

@@ -1,9 +1,10 @@
 -- What a status and a line say of how a program ended.
-use Rattle.std.proofs.Common.{◌≡◌, ◌≢◌, ◌⊎◌, inl, inr, ℕ, sym, ◌∙◌, Ok, Err, arith}
+use Rattle.std.proofs.Common.{◌≡◌, ◌⊎◌, inl, inr, ℕ, sym, ◌∙◌, Ok, Err, arith}
 use Rattle.std.specs.Prelude.{Result, IfErr, IfOk}
 use Rattle.simplex_cli.specs.declared.ending.Ending.{Ending}
 use Rattle.simplex_cli.specs.declared.ending.Ending.TheVariants as ending
 use Rattle.simplex_cli.specs.Ending.{ending_status}
+use Rattle.simplex_cli.specs.Serving.{status_of}
 
 -- no ending has the status of a whole input
 never_zero : (why : Ending) → ending_status why ≡ 0 → ⊥
@@ -30,8 +31,7 @@ module _ {A : Type 0} where
   silent (Ok x) status X same faulty zero = same
   silent (Err why) status X same faulty zero = absurd (never_zero why (sym faulty ∙ zero))
 
-  -- else the ending is, by its status and line
-  pub told : (ended : Result A Ending) (status : ℕ) (X : Ending → Type 0) → IfOk ended (λ _. status ≡ 0) → IfErr ended (λ why. status ≡ ending_status why) → IfErr ended X → status ≢ 0
-      → (why : Ending) × (status ≡ ending_status why) × X why
-  told (Ok x) status X whole faulty line other = absurd (other whole)
-  told (Err why) status X whole faulty line other = (why, faulty, line)
+  -- the status is that of the ending
+  pub status_is : (ended : Result A Ending) (status : ℕ) → IfOk ended (λ _. status ≡ 0) → IfErr ended (λ why. status ≡ ending_status why) → status ≡ status_of ended
+  status_is (Ok x) status whole faulty = whole
+  status_is (Err why) status whole faulty = faulty

@@ -1,16 +1,18 @@
 -- What a program that runs a node comes to: what was opened, and what was written.
-use Rattle.std.specs.Prelude.{◌≡◌, ◌⊎◌, ℕ, List, Option, None, Result, Ok, Err}
+use Rattle.std.specs.Prelude.{◌≡◌, ◌≢◌, ◌⊎◌, ℕ, List, Option, None, Result, Ok, Err, false, ⊤}
 use Rattle.std.specs.Io.KnownBytes.{Appends}
 use Rattle.types_codec.specs.declared.codec.CodecError.{CodecError}
 use Rattle.types_core.specs.declared.scheme.Scheme.{Ghosts}
 use Rattle.messages_certificates.specs.declared.artifact.Artifact.{Artifact}
 use Rattle.journal_single.specs.declared.disk.Disk as disk
+use Rattle.journal_single.specs.Disk.{counted}
 use Rattle.node_record.specs.Ledger.{AreFoundOn}
 use Rattle.simplex_member.specs.declared.action.Reply.{Reply}
 use Rattle.simplex_member.specs.declared.event.Event.{Event}
 use Rattle.simplex_member.specs.declared.fault.IoFault.{IoFault}
 use Rattle.simplex_member.specs.declared.fault.IoFault.TheVariants as fault
 use Rattle.simplex_member.specs.declared.fault.NodeFault.{NodeFault}
+use Rattle.simplex_member.specs.declared.fault.OpenFault.{OpenFault}
 use Rattle.simplex_member.specs.Member.{Opens, Run}
 use Rattle.simplex_member.specs.Packet.{Formats}
 use Rattle.simplex_member.specs.Point.{History}
@@ -18,12 +20,26 @@ use Rattle.simplex_member.specs.Setup.{Setup}
 use Rattle.types_codec.specs.Front.{AppendsFront}
 use Rattle.node_wire.specs.Streaming.{EndsIn}
 use Rattle.simplex_cli.specs.declared.ending.Ending.{Ending}
-use Rattle.simplex_cli.specs.Ending.{ending_of}
+use Rattle.simplex_cli.specs.declared.ending.Ending.TheVariants as ending
+use Rattle.simplex_cli.specs.Ending.{ending_of, ending_status}
 
 -- how a program ends whose run over streams ended so
 abbrev pub ended_of : {A : Type 0} → Result A IoFault → Result A Ending
 ended_of (Ok done) = Ok done
 ended_of (Err why) = Err (ending_of why)
+
+-- its status: 0 where all of the input was answered
+abbrev pub status_of : {A : Type 0} → Result A Ending → ℕ
+status_of (Ok done) = 0
+status_of (Err why) = ending_status why
+
+-- of a program that ended so: its input and its output failed exactly where that is told, by how often each had failed before and has now; and
+-- what was written is flushed, where that was so before
+pub record AreTold {A : Type 0} (ended : Result A Ending) (read_before read_now written_before written_now : ℕ) (WasFlushed IsFlushed : Type 0) : Type 0 where
+  pub read : ended ≢ Err ending.Read → read_now ≡ read_before
+  pub write_failed : ended ≡ Err ending.Write → written_now ≡ counted false written_before
+  pub write : ended ≢ Err ending.Write → written_now ≡ written_before
+  pub flushed : ended ≢ Err ending.Write → WasFlushed → IsFlushed
 
 module _ {S D P G C : Type 0} (g : Ghosts S D P G C) (f : Formats S D P G C) (s : Setup S D C) where
   -- a member may answer these events by these replies
@@ -36,19 +52,26 @@ module _ {S D P G C : Type 0} (g : Ghosts S D P G C) (f : Formats S D P G C) (s 
 
   module _ (F : D → Type 0) (p : D → List ℕ) (w : Reply S D P G C → List ℕ) (q : List ℕ → Result (D × List ℕ) CodecError) where
     -- a first reply was written, and then a run over streams came to this; or only a front of it was, where a write failed or memory ran out
-    abbrev pub Serves : {A : Type 0} → History S D P G C → Reply S D P G C → Result A IoFault → Option (List ℕ) → Option (List ℕ) → Option (List ℕ) → Type 0
-    Serves h first ended given old new =
-        ((mid : Option (List ℕ)) × Appends old mid (w first) × EndsIn F p w q (Answers h) (AnswersBefore h) ended given mid new)
+    abbrev pub Serves : {A : Type 0} → History S D P G C → Reply S D P G C → Type 0 → Result A IoFault → Option (List ℕ) → Option (List ℕ) → Option (List ℕ) → Type 0
+    Serves h first ReadFailed ended given old new =
+        ((mid : Option (List ℕ)) × Appends old mid (w first) × EndsIn F p w q (Answers h) (AnswersBefore h) ReadFailed ended given mid new)
         ⊎ (((ended ≡ Err fault.Memory) ⊎ (ended ≡ Err fault.Write)) × AppendsFront old new (w first))
 
 module _ {S D P G C K : Type 0} (g : Ghosts S D P G C) (k : disk.Ghosts K) (f : Formats S D P G C) (s : Setup S D C)
     (F : D → Type 0) (p : D → List ℕ) (w : Reply S D P G C → List ℕ) (q : List ℕ → Result (D × List ℕ) CodecError) where
   -- a record was opened over what was found on a disk, and what that hands out was written as the first reply
-  pub record ServesOver {A : Type 0} (Readable : Artifact S D P G C → Type 0) (on : K) (now : ℕ) (ended : Result A IoFault) (given old new : Option (List ℕ)) : Type 0 where
+  pub record ServesOver {A : Type 0} (Readable : Artifact S D P G C → Type 0) (on : K) (now : ℕ) (ReadFailed : Type 0) (ended : Result A IoFault) (given old new : Option (List ℕ)) : Type 0 where
     pub found : List (Artifact S D P G C)
     pub are_found : AreFoundOn k f.artifact Readable on found
     pub first : Reply S D P G C
     pub taken : first.refused ≡ None
     pub end : History S D P G C
     pub opens : Opens g f s now found first.actions.items end
-    pub serves : Serves g f s F p w q end first ended given old new
+    pub serves : Serves g f s F p w q end first ReadFailed ended given old new
+
+  -- a program opened no record, or had no memory for what that takes, and then its output is untouched; or it opened one and ran a node over
+  -- streams, at whose end it ended
+  abbrev pub ComesTo : (Artifact S D P G C → Type 0) → K → ℕ → Type 0 → Type 0 → Result ⊤ Ending → Option (List ℕ) → Option (List ℕ) → Option (List ℕ) → Type 0
+  ComesTo Readable on now ReadFailed Untouched ended given old new =
+      (((ended ≡ Err ending.Memory) ⊎ ((why : OpenFault) × (ended ≡ Err (ending.Open why)))) × Untouched)
+      ⊎ ((io : Result ⊤ IoFault) × (ended ≡ ended_of io) × ServesOver Readable on now ReadFailed io given old new)

@@ -1,8 +1,13 @@
 //! A node over a disk and streams, as the program sets it up.
 
-ghost use Rattle.std.specs.Prelude.{◌≡◌, ◌≢◌, ◌⊎◌, ◌<◌};
-ghost use Rattle.simplex_cli.specs.Ending.{ending_line, ending_status, memory_line};
+ghost use Rattle.std.specs.Prelude.{◌≡◌, ◌⊎◌, ◌<◌, false, IfErr, Result, ⊤};
+ghost use Rattle.journal_single.specs.Disk.{counted};
+ghost use Rattle.simplex_member.specs.Setup.{setup_of};
+ghost use Rattle.node_wire.specs.Streaming.{spelled};
 ghost use Rattle.simplex_cli.specs.declared.ending.Ending.{Ending};
+ghost use Rattle.simplex_cli.specs.Ending.{ending_line, memory_line};
+ghost use Rattle.simplex_cli.specs.Serving.{AreTold, ComesTo, status_of};
+ghost use Rattle.simplex_cli.specs.Settings.{program_committee, program_config, program_rotation};
 ghost use Rattle.types_codec.specs.Front.{AppendsFront};
 
 use crate::ending::Ending;
@@ -10,13 +15,18 @@ use crate::serving::serve_over;
 use crate::settings::{config, elector, scheme};
 use crate::telling::tell;
 use journal_single::Disk;
+use node_wire::{Sink, Source};
+use simplex_member::Speaks;
+use simplex_types::{AttestationList, PlainKey, PlainScheme, PlainSignature};
 use std::alloc::Global;
-use std::io::{Read, Write};
+use std::io::Write as Writes;
+use types_core::{Read, Scheme, Sha256Digest, Write};
+use types_terms::elector::{Elector, RoundRobinElector};
 
 /// Runs the member of this index, of so many, over a disk: opens its record at moment 0, writes what the opening hands out as a
 /// reply, then answers the events of `input` on `output`. Answers the status: 0 at the end of the input between two events, 3 where
 /// a place was named at which none stands, and 1 where something failed, each but 0 with a line on `faults`.
-pub fn node_over<K: Disk, R: Read, W: Write, F: Write>(
+pub fn node_over<K: Disk, R: Source, W: Sink, F: Writes>(
     alloc: Global,
     disk: K,
     index: u16,
@@ -28,9 +38,19 @@ pub fn node_over<K: Disk, R: Read, W: Write, F: Write>(
     requires { index < count }
     ensures statuses { (result ≡ 0) ⊎ ((result ≡ 1) ⊎ (result ≡ 3)) }
     ensures silent { result ≡ 0 → faults.new ≡ faults.old }
-    ensures told { result ≢ 0
-        → (why : Ending) × (result ≡ ending_status why) × (AppendsFront (F.contents faults.old) (F.contents faults.new) (ending_line why) ⊎
-        AppendsFront (F.contents faults.old) (F.contents faults.new) memory_line) }
+
+    // How it ended gives the status and the line, and says what was read and written.
+    ensures comes_to { (ended : Result ⊤ Ending) × (result ≡ status_of ended) × IfErr ended (λ why.
+        AppendsFront (F.contents faults.old) (F.contents faults.new) (ending_line why) ⊎ AppendsFront (F.contents faults.old)
+        (F.contents faults.new) memory_line) × AreTold ended (R.failed input.old) (R.failed input.new) (W.failed output.old)
+        (W.failed output.new) (W.is_flushed output.old) (W.is_flushed output.new) ×
+        ComesTo ⟦<PlainScheme as Scheme<Sha256Digest>>⟧ K.Disk (⟦<PlainScheme as Speaks<Sha256Digest>>⟧.formats count)
+        (setup_of ⟦<PlainScheme as Scheme<Sha256Digest>>⟧ ⟦<RoundRobinElector as Elector<PlainScheme, Sha256Digest>>⟧ program_config
+        (program_committee index count) (program_rotation count) index) ⟦<Sha256Digest as Write>⟧.fits ⟦<Sha256Digest as Write>⟧.spelling
+        (spelled ⟦<PlainKey as Write>⟧.spelling ⟦<Sha256Digest as Write>⟧.spelling ⟦<PlainSignature as Write>⟧.spelling
+        ⟦<AttestationList<PlainSignature> as Write>⟧.spelling) (⟦<Sha256Digest as Read>⟧.reading 65535)
+        ⟦<PlainScheme as Speaks<Sha256Digest>>⟧.readable disk 0 (R.failed input.new ≡ counted false (R.failed input.old))
+        (output.new ≡ output.old) ended (R.remaining input.old) (W.contents output.old) (W.contents output.new) }
 {
     let (ended, disk) = drive(alloc, disk, index, count, input, output);
     drop(disk);
@@ -38,7 +58,7 @@ pub fn node_over<K: Disk, R: Read, W: Write, F: Write>(
 }
 
 /// The same without a word of how it ended, which it hands back with the disk.
-pub fn drive<K: Disk, R: Read, W: Write>(
+pub fn drive<K: Disk, R: Source, W: Sink>(
     alloc: Global,
     disk: K,
     index: u16,
@@ -47,6 +67,15 @@ pub fn drive<K: Disk, R: Read, W: Write>(
     output: &mut W,
 ) -> (Result<(), Ending>, K)
     requires { index < count }
+    ensures streams { AreTold result.0 (R.failed input.old) (R.failed input.new) (W.failed output.old) (W.failed output.new)
+        (W.is_flushed output.old) (W.is_flushed output.new) }
+    ensures comes_to { ComesTo ⟦<PlainScheme as Scheme<Sha256Digest>>⟧ K.Disk (⟦<PlainScheme as Speaks<Sha256Digest>>⟧.formats count)
+        (setup_of ⟦<PlainScheme as Scheme<Sha256Digest>>⟧ ⟦<RoundRobinElector as Elector<PlainScheme, Sha256Digest>>⟧ program_config
+        (program_committee index count) (program_rotation count) index) ⟦<Sha256Digest as Write>⟧.fits ⟦<Sha256Digest as Write>⟧.spelling
+        (spelled ⟦<PlainKey as Write>⟧.spelling ⟦<Sha256Digest as Write>⟧.spelling ⟦<PlainSignature as Write>⟧.spelling
+        ⟦<AttestationList<PlainSignature> as Write>⟧.spelling) (⟦<Sha256Digest as Read>⟧.reading 65535)
+        ⟦<PlainScheme as Speaks<Sha256Digest>>⟧.readable disk 0 (R.failed input.new ≡ counted false (R.failed input.old))
+        (output.new ≡ output.old) result.0 (R.remaining input.old) (W.contents output.old) (W.contents output.new) }
 {
     let Ok(scheme) = scheme(alloc, index, count) else {
         return (Err(Ending::Memory), disk);

@@ -1,6 +1,7 @@
 //! How the nodes of the program and of the library for C are set up.
 
-ghost use Rattle.std.specs.Prelude.{◌≡◌, ◌<◌, codes, IfOk, Some};
+ghost use Rattle.std.specs.Prelude.{◌≡◌, ◌<◌, IfOk};
+ghost use Rattle.simplex_cli.specs.Settings.{program_committee, program_config, program_rotation};
 
 use simplex_types::PlainScheme;
 use std::alloc::{AllocError, Global};
@@ -13,7 +14,9 @@ use voter_rules::config::{Config, ForwardPolicy, SkipBudget, SkipPolicy};
 const BASE: &[u8; 7] = b"simplex";
 
 /// The node's settings. All times are in milliseconds.
-pub fn config() -> Config<Sha256Digest> {
+pub fn config() -> Config<Sha256Digest>
+    ensures { result ≡ program_config }
+{
     Config {
         epoch: Epoch::new(0),
         genesis: Sha256Digest::new([0; 32]),
@@ -33,9 +36,7 @@ pub fn config() -> Config<Sha256Digest> {
 /// The plain scheme of so many members, as the member of this index has it.
 pub fn scheme(alloc: Global, index: u16, count: u16) -> Result<Rc<PlainScheme>, AllocError>
     requires { index < count }
-    ensures base { IfOk result (λ s. s.value.base ≡ codes "simplex") }
-    ensures members { IfOk result (λ s. s.value.participants ≡ count) }
-    ensures me { IfOk result (λ s. s.value.me ≡ Some index) }
+    ensures { IfOk result (λ s. s.value ≡ program_committee index count) }
 {
     let me = Participant::new(u32::from(index));
     let scheme = PlainScheme::new(alloc, BASE, u32::from(count), Some(me))?;
@@ -43,10 +44,12 @@ pub fn scheme(alloc: Global, index: u16, count: u16) -> Result<Rc<PlainScheme>, 
     Ok(scheme)
 }
 
-/// Who leads in a committee of so many: all in turn, a term of four views each.
+/// Who leads in a committee of so many: all in turn, a term of four views each, with two optimistic views and a stall timeout of ten
+/// seconds.
 pub fn elector(alloc: Global, count: u16) -> Result<RoundRobinElector, AllocError>
     requires { 0 < count }
-    ensures { IfOk result (λ e. ⟦<RoundRobinElector as Elector<PlainScheme, Sha256Digest>>⟧.built_for e count) }
+    ensures rotation { IfOk result (λ e. e ≡ program_rotation count) }
+    ensures built { IfOk result (λ e. ⟦<RoundRobinElector as Elector<PlainScheme, Sha256Digest>>⟧.built_for e count) }
 {
     let rotation = RoundRobin::default().with_term(TermLength::new(4), 10_000, ViewDelta::new(2));
     Building::<PlainScheme, Sha256Digest>::build(&rotation, alloc, u32::from(count))

@@ -33,36 +33,36 @@ told other (Err (fault.Node why)) = why
 told other (Err fault.Memory) = other
 
 module _ {S L D P G C K A : Type 0} (g : Ghosts S D P G C) (e : elector.Ghosts L S D P G C) (k : disk.Ghosts K) (formats : ℕ → Formats S D P G C) (F : D → Type 0) (p : D → List ℕ) (w : Reply S D P G C → List ℕ)
-    (q : List ℕ → Result (D × List ℕ) CodecError) (old new : Node S L D K P G C) (r : Result A IoFault) (given text more : Option (List ℕ))
-    (ends : EndsIn F p w {A = A} q (Answer (IsStep g e k formats) old new) (AnswerBefore (IsStep g e k formats) old new) r given text more) where
+    (q : List ℕ → Result (D × List ℕ) CodecError) (old new : Node S L D K P G C) (ReadFailed : Type 0) (r : Result A IoFault) (given text more : Option (List ℕ))
+    (ends : EndsIn F p w {A = A} q (Answer (IsStep g e k formats) old new) (AnswerBefore (IsStep g e k formats) old new) ReadFailed r given text more) where
   pub io_failed : (why : NodeFault) → r ≡ Err (fault.Node why) → has_failed new ≡ true
   io_failed why is =
-      ends_by F p w q (Answer (IsStep g e k formats) old new) (AnswerBefore (IsStep g e k formats) old new) r given text more
+      ends_by F p w q (Answer (IsStep g e k formats) old new) (AnswerBefore (IsStep g e k formats) old new) ReadFailed r given text more
       (λ events replies a not. absurd (not why is)) (λ events replies event y same a. a.failed.failed) ends
 
   pub io_still : has_failed old ≡ true → new ≡ old
   io_still failed =
-      ends_by F p w q (Answer (IsStep g e k formats) old new) (AnswerBefore (IsStep g e k formats) old new) r given text more
+      ends_by F p w q (Answer (IsStep g e k formats) old new) (AnswerBefore (IsStep g e k formats) old new) ReadFailed r given text more
       (λ events replies a not. (failed_stays g e k formats old new events replies failed a).0) (λ events replies event y same a. (failed_stays_too g e k formats old new events replies event y failed a).0) ends
 
   pub io_device : r ≡ Err (fault.Node Device) → k.failed (disk_of new) ≡ counted false (k.failed (disk_of old))
   io_device is =
-      ends_by F p w q (Answer (IsStep g e k formats) old new) (AnswerBefore (IsStep g e k formats) old new) r given text more
+      ends_by F p w q (Answer (IsStep g e k formats) old new) (AnswerBefore (IsStep g e k formats) old new) ReadFailed r given text more
       (λ events replies a not. absurd (not Device is)) (λ events replies event y same a. one_fault g e k formats old new events replies event y a (ap (told Device) (sym same ∙ is))) ends
 
   pub io_no_device : r ≢ Err (fault.Node Device) → k.failed (disk_of new) ≡ k.failed (disk_of old)
   io_no_device other =
-      ends_by F p w q (Answer (IsStep g e k formats) old new) (AnswerBefore (IsStep g e k formats) old new) r given text more
+      ends_by F p w q (Answer (IsStep g e k formats) old new) (AnswerBefore (IsStep g e k formats) old new) ReadFailed r given text more
       (λ events replies a not. same_faults g e k formats old new events replies a) (λ events replies event y same a. no_fault g e k formats old new events replies event y a (λ is. other (same ∙ ap (λ (x : NodeFault). Err (fault.Node x)) is))) ends
 
   module _ (s : Setup S D C) (h : History S D P G C) (keeps : NodeKeeps g e k (formats (g.size s.voter.scheme)) s old h) where
-    pub io_answers : EndsIn F p w {A = A} q (RunsTo g e k (formats (g.size s.voter.scheme)) s h new) (RunFails g e k (formats (g.size s.voter.scheme)) s h new) r given text more
+    pub io_answers : EndsIn F p w {A = A} q (RunsTo g e k (formats (g.size s.voter.scheme)) s h new) (RunFails g e k (formats (g.size s.voter.scheme)) s h new) ReadFailed r given text more
     io_answers =
-        ends_as F p w q (Answer (IsStep g e k formats) old new) (AnswerBefore (IsStep g e k formats) old new) (RunsTo g e k (formats (g.size s.voter.scheme)) s h new) (RunFails g e k (formats (g.size s.voter.scheme)) s h new)
+        ends_as F p w q (Answer (IsStep g e k formats) old new) (AnswerBefore (IsStep g e k formats) old new) ReadFailed (RunsTo g e k (formats (g.size s.voter.scheme)) s h new) (RunFails g e k (formats (g.size s.voter.scheme)) s h new)
         (λ events replies a. runs g e k formats s events replies h old new keeps a) (λ events replies event why a. runs_fail g e k formats s events replies event why h old new keeps a) r given text more ends
 
     pub io_leaves : k.keeps → LeavesPassed g (formats (g.size s.voter.scheme)) s F p h given (k.calls (disk_of old)) (k.calls (disk_of new))
     io_leaves kept =
-        let (events, read, left) = ends_over F p w q (Answer (IsStep g e k formats) old new) (AnswerBefore (IsStep g e k formats) old new) (λ events. LeavesAtMost (k.calls (disk_of old)) (k.calls (disk_of new)) (IsPassed g (formats (g.size s.voter.scheme)) s h events)) r given text more
+        let (events, read, left) = ends_over F p w q (Answer (IsStep g e k formats) old new) (AnswerBefore (IsStep g e k formats) old new) ReadFailed (λ events. LeavesAtMost (k.calls (disk_of old)) (k.calls (disk_of new)) (IsPassed g (formats (g.size s.voter.scheme)) s h events)) r given text more
         (λ events replies a. leaves g e k formats s events replies h old new keeps kept a) (λ events replies event why a. leaves_too g e k formats s events replies event why h old new keeps kept a) ends in
         record { events = events; read = read; leaves = left }

@@ -10,7 +10,10 @@ mod streaming;
 
 pub use living::{Opening, live};
 pub use node_steps::{Node, Owner, accountability, agreement, first_refused, headline};
-pub use node_wire::{Answers, EventInput, read_event, write_event, write_out, write_reply};
+pub use node_wire::{
+    Answers, CountedReader, CountedWriter, EventInput, Sink, Source, StreamFault, read_event,
+    write_event, write_out, write_reply,
+};
 pub use opening_io::open_io;
 pub use running::run;
 pub use simplex_member::{Action, Channel, Event, IoFault, NodeFault, OpenFault, Refusal, Reply};

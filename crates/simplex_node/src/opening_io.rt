@@ -1,6 +1,7 @@
 //! Opening a node's record over a stream.
 
-ghost use Rattle.std.specs.Prelude.{◌≡◌, ℕ, Err, IfOk, None, OnErr, Some};
+ghost use Rattle.std.specs.Prelude.{◌≡◌, ◌≢◌, false, Err, IfOk, None, OnErr, OnOk, Some};
+ghost use Rattle.journal_single.specs.Disk.{counted};
 ghost use Rattle.simplex_member.specs.declared.action.Reply.{Reply};
 ghost use Rattle.simplex_member.specs.declared.fault.IoFault.TheVariants as fault;
 ghost use Rattle.simplex_member.specs.Setup.{setup_of};
@@ -11,10 +12,9 @@ ghost use Rattle.node_wire.specs.Streaming.{spelled};
 
 use journal_single::Disk;
 use node_steps::Node;
-use node_wire::write_out;
+use node_wire::{Sink, write_out};
 use simplex_member::{IoFault, OpenFault, Reply, Speaks};
 use std::alloc::Global;
-use std::io::Write;
 use std::rc::Rc;
 use types_core::{Digest, Scheme};
 use types_terms::Elector;
@@ -26,8 +26,8 @@ use voter_rules::config::Config;
 /// # Errors
 ///
 /// Those of [`Node::open`], with the disk: then nothing was written. Beside the node [`IoFault::Memory`] where there is none for the
-/// reply's bytes: then nothing was written, and [`IoFault::Write`] where a write failed: then a front of them was.
-pub fn open_io<S: Scheme<D> + Drop, L: Elector<S, D>, D: Digest, K: Disk, W: Write>(
+/// reply's bytes: then nothing was written, and [`IoFault::Write`] where a write or the flush failed: then a front of them was.
+pub fn open_io<S: Scheme<D> + Drop, L: Elector<S, D>, D: Digest, K: Disk, W: Sink>(
     alloc: Global,
     config: Config<D>,
     scheme: Rc<S>,
@@ -46,6 +46,11 @@ pub fn open_io<S: Scheme<D> + Drop, L: Elector<S, D>, D: Digest, K: Disk, W: Wri
         (setup_of S.Scheme L.Elector config scheme.value elector index) ⟦<S as Speaks<D>>⟧.readable disk now r.0 first.actions.items) }
     ensures no_memory { IfOk result (λ r. r.1 ≡ Err fault.Memory → writer.new ≡ writer.old) }
     ensures unwritten { OnErr result (writer.new ≡ writer.old) }
+
+    // Writing failed exactly where that is told, and what was written is flushed.
+    ensures write_failed { IfOk result (λ r. r.1 ≡ Err fault.Write → W.failed writer.new ≡ counted false (W.failed writer.old)) }
+    ensures write { IfOk result (λ r. r.1 ≢ Err fault.Write → W.failed writer.new ≡ W.failed writer.old) }
+    ensures flushed { IfOk result (λ r. OnOk r.1 (W.is_flushed writer.new)) }
 
     // Of its faults, and of a crash meanwhile, all that [`Node::open`] promises.
     ensures opening { IsOpening S.Scheme L.Elector K.Disk (⟦<S as Speaks<D>>⟧.formats (S.size scheme.value))

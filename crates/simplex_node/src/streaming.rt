@@ -12,10 +12,9 @@ ghost use Rattle.node_wire.specs.Streaming.{EndsIn, spelled};
 use crate::stepping::NodeSteps;
 use journal_single::Disk;
 use node_steps::Node;
-use node_wire::answer_stream;
+use node_wire::{Sink, Source, answer_stream};
 use simplex_member::{IoFault, Speaks};
 use std::alloc::Global;
-use std::io::{Read, Write};
 use types_core::{Digest, Scheme};
 use types_terms::Elector;
 
@@ -26,9 +25,9 @@ use types_terms::Elector;
 ///
 /// [`IoFault::Read`] where a read failed, and behind 2^32 events; [`IoFault::BadEvent`] with the place, counted from 0, of the
 /// first byte at which no event stands, behind the answers to all before it; [`IoFault::Node`] where a step failed, behind the
-/// answers to all before it; [`IoFault::Write`] where a write failed: then a front of the last reply was written, or nothing of it;
+/// answers to all before it; [`IoFault::Write`] where a write or a flush failed: then a front of the last reply was written;
 /// [`IoFault::Memory`] where there is none for an event, or for the last reply's bytes: then nothing of it was written.
-pub fn run_io<S: Scheme<D> + Drop, L: Elector<S, D>, D: Digest, K: Disk, R: Read, W: Write>(
+pub fn run_io<S: Scheme<D> + Drop, L: Elector<S, D>, D: Digest, K: Disk, R: Source, W: Sink>(
     alloc: Global,
     node: &mut Node<S, L, D, K>,
     reader: &mut R,
@@ -36,10 +35,17 @@ pub fn run_io<S: Scheme<D> + Drop, L: Elector<S, D>, D: Digest, K: Disk, R: Read
 ) -> Result<(), IoFault>
     ensures answers { AtOwn S.Scheme L.Elector K.Disk ⟦<S as Speaks<D>>⟧.formats node.old (λ f s h.
         EndsIn D.fits D.spelling (spelled S.PublicKey.spelling D.spelling S.Signature.spelling S.Certificate.spelling) (D.reading 65535)
-        (RunsTo S.Scheme L.Elector K.Disk f s h node.new) (RunFails S.Scheme L.Elector K.Disk f s h node.new) result
-        (R.remaining reader.old) (W.contents writer.old) (W.contents writer.new)) }
+        (RunsTo S.Scheme L.Elector K.Disk f s h node.new) (RunFails S.Scheme L.Elector K.Disk f s h node.new)
+        (R.failed reader.new ≡ counted false (R.failed reader.old)) result (R.remaining reader.old) (W.contents writer.old)
+        (W.contents writer.new)) }
     ensures failed { (why : NodeFault) → result ≡ Err (fault.Node why) → has_failed node.new ≡ true }
     ensures refused_if_failed { has_failed node.old ≡ true → (node.new ≡ node.old) × (writer.new ≡ writer.old) }
+
+    // Reading and writing failed exactly where that is told, and what was written is flushed.
+    ensures read { result ≢ Err fault.Read → R.failed reader.new ≡ R.failed reader.old }
+    ensures write_failed { result ≡ Err fault.Write → W.failed writer.new ≡ counted false (W.failed writer.old) }
+    ensures write { result ≢ Err fault.Write → W.failed writer.new ≡ W.failed writer.old }
+    ensures flushed { result ≢ Err fault.Write → W.is_flushed writer.old → W.is_flushed writer.new }
 
     // The disk has failed once more exactly where that is told.
     ensures device { result ≡ Err (fault.Node Device) → K.failed (disk_of node.new) ≡ counted false (K.failed (disk_of node.old)) }

@@ -1,4 +1,6 @@
+use Rattle.std.proofs.Common.{arith}
+use Rattle.node_wire.specs.Over.{ends_where}
 use Rattle.simplex_c.proofs.session.go_on.Goals as goal
 
 pub returns : goal.returns
-returns g c = c.run_io.ensures.answers
+returns g c = λ s h keeps. ends_where _ _ _ _ _ _ _ _ (λ failed. omega arith) _ _ _ _ (c.run_io-ended.ensures.answers s h keeps)

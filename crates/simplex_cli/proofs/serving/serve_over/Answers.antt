@@ -1,13 +1,14 @@
 use Rattle.std.proofs.Common.{inr, ap}
-use Rattle.std.specs.Prelude.{Err}
+use Rattle.std.specs.Prelude.{Err, ⊤}
 use Rattle.simplex_member.specs.Packet.{formats}
 use Rattle.simplex_member.specs.Setup.{setup_of}
 use Rattle.node_wire.specs.Streaming.{spelled}
 use Rattle.simplex_cli.proofs.Served.{served_not, served_over}
+use Rattle.simplex_cli.proofs.Streams.{told_behind, told_first, told_none}
 use Rattle.simplex_cli.proofs.serving.serve_over.Goals as goal
 
-pub returns-in-Ok-written : goal.returns-in-Ok-written
-returns-in-Ok-written g c =
+pub returns-in-Ok-written-clause-serves : goal.returns-in-Ok-written-clause-serves
+returns-in-Ok-written-clause-serves g c =
     let opened = c.in-Ok.ensures.opened in
     let s = setup_of g.S.Scheme g.L.Elector c.args.config c.args.scheme.value c.args.elector opened.0 in
     let whole = rw c.in-Ok-written.is at opened.4.whole in
@@ -15,11 +16,11 @@ returns-in-Ok-written g c =
     served_over g.S.Scheme g.L.Elector g.K.Disk
     (formats {S = g.row.S.Denot} {P = g.row.S-PublicKey.Denot} g.D.PartialEq.eq g.D.Write.spelling g.S.Signature.Write.spelling g.S.Certificate.Write.spelling g.D.Read.reading g.S.Signature.Read.reading g.S.Certificate.Read.reading (g.S.Scheme.size c.args.scheme.value))
     s g.D.Write.fits g.D.Write.spelling (spelled g.S.PublicKey.Write.spelling g.D.Write.spelling g.S.Signature.Write.spelling g.S.Certificate.Write.spelling) (g.D.Read.reading 65535)
-    _ c.args.disk c.args.now c.in-Ok.node opened.1 c.serve.result.0 _ _ _ _ opened.3 opened.5 whole (c.serve.ensures s) in
+    _ c.args.disk c.args.now c.in-Ok.node opened.1 _ c.serve.result.0 _ _ _ _ opened.3 opened.5 whole (c.serve.ensures.serves s) in
     inr (this.0, opened.0, this.1, opened.2, this.2)
 
-pub returns-in-Err-written : goal.returns-in-Err-written
-returns-in-Err-written g c =
+pub returns-in-Err-written-clause-serves : goal.returns-in-Err-written-clause-serves
+returns-in-Err-written-clause-serves g c =
     let opened = c.in-Ok.ensures.opened in
     let s = setup_of g.S.Scheme g.L.Elector c.args.config c.args.scheme.value c.args.elector opened.0 in
     let faults = rw c.in-Err-written.is at opened.4.faults in
@@ -27,5 +28,23 @@ returns-in-Err-written g c =
     served_not g.S.Scheme g.L.Elector g.K.Disk
     (formats {S = g.row.S.Denot} {P = g.row.S-PublicKey.Denot} g.D.PartialEq.eq g.D.Write.spelling g.S.Signature.Write.spelling g.S.Certificate.Write.spelling g.D.Read.reading g.S.Signature.Read.reading g.S.Certificate.Read.reading (g.S.Scheme.size c.args.scheme.value))
     s g.D.Write.fits g.D.Write.spelling (spelled g.S.PublicKey.Write.spelling g.D.Write.spelling g.S.Signature.Write.spelling g.S.Certificate.Write.spelling) (g.D.Read.reading 65535)
-    _ c.args.disk c.args.now c.in-Ok.node opened.1 c.in-Err-written.fault (g.R.Read.remaining c.args.input.now) _ _ opened.3 opened.5 faults opened.4.front in
+    _ c.args.disk c.args.now c.in-Ok.node opened.1 _ c.in-Err-written.fault (g.R.Source.remaining c.args.input.now) _ _ opened.3 opened.5 faults opened.4.front in
     inr (Err c.in-Err-written.fault, opened.0, ap Err c.of.ensures, opened.2, this)
+
+pub returns-in-Ok-written-clause-streams : goal.returns-in-Ok-written-clause-streams
+returns-in-Ok-written-clause-streams g c =
+    told_behind c.serve.result.0 _ _ _ _ _ _ _ _ ((rw c.in-Ok-written.is at c.in-Ok.ensures.write) (λ bad. absurd cc)) (rw c.in-Ok-written.is at c.in-Ok.ensures.flushed) c.serve.ensures.streams
+
+pub returns-in-Err-written-clause-streams : goal.returns-in-Err-written-clause-streams
+returns-in-Err-written-clause-streams g c =
+    let opened = c.in-Ok.ensures.opened in
+    let faults = rw c.in-Err-written.is at opened.4.faults in
+    let memory = rw c.in-Err-written.is at c.in-Ok.ensures.no_memory in
+    let broken = rw c.in-Err-written.is at c.in-Ok.ensures.write_failed in
+    let whole = rw c.in-Err-written.is at c.in-Ok.ensures.write in
+    rw c.of.ensures
+    (told_first {A = ⊤} g.W.Sink.failed g.W.Sink.is_flushed c.in-Err-written.fault (g.R.Source.failed c.args.input.now) c.args.output.now c.open_io.new.writer faults
+    (λ is. memory (ap Err is)) (λ is. broken (ap Err is)) (λ other. whole (λ is. other (cc))))
+
+pub returns-in-Err-clause-streams : goal.returns-in-Err-clause-streams
+returns-in-Err-clause-streams g c = told_none g.W.Sink.failed g.W.Sink.is_flushed _ (g.R.Source.failed c.args.input.now) c.args.output.now c.open_io.new.writer (λ bad. absurd cc) c.in-Err.ensures.unwritten

@@ -1,0 +1,42 @@
+-- What is found of a record's bytes before a node opens them.
+use Rattle.std.specs.Prelude.{◌≡◌, ℕ, ◌+◌, ◌-◌, List, [], Bool, false, length, map, drop, All, ⊤}
+use Rattle.journal_single.specs.Record.{IsForeign, IsFound}
+use Rattle.journal_look.specs.Look.{BeginsLikeOne, IsTooMuch}
+use Rattle.journal_look.specs.declared.looking.Strange.{Strange}
+use Rattle.journal_look.specs.declared.looking.Strange.TheVariants as strange
+use Rattle.simplex_record.specs.Lawful.{IsLawful, IsRefusedAt}
+use Rattle.cli_tool.specs.ToolAnswers.{Entry, HoldsEntries, IsEntry, attests_in, certifies_in, entry_spelling, owner_of}
+use Rattle.cli_opening.specs.declared.looking.Barred.{Barred}
+use Rattle.cli_opening.specs.declared.looking.Barred.TheVariants as barred
+use Rattle.cli_opening.specs.declared.looking.Found.{Found}
+
+-- the bytes are a lawful record of this member of so many, and this is said of it: how many entries it has, and how many bytes behind its
+-- last gate an opening cuts. They are no more than a crash leaves, unless whatever stands there is to be cut
+pub record IsFoundIn (index count : ℕ) (cuts : Bool) (bytes : List ℕ) (found : Found) : Type 0 where
+  pub entries : List Entry
+  pub fitting : All IsEntry entries
+  pub gate : ℕ
+  pub held : IsFound [] bytes gate (map entry_spelling entries)
+  pub begins : BeginsLikeOne bytes
+  pub left : cuts ≡ false → ¬ IsTooMuch (drop gate bytes)
+  pub lawful : IsLawful (attests_in count) (certifies_in count) (owner_of index) entries
+  pub entries_are : found.entries ≡ length entries
+  pub cut_is : found.cut ≡ length bytes - (gate + 1)
+
+-- why a file of these bytes is left as it is, by whose record it should be
+abbrev pub IsBarred : ℕ → ℕ → List ℕ → Barred → Type 0
+IsBarred index count bytes barred.Memory = ⊤
+IsBarred index count bytes barred.Device = ⊤
+IsBarred index count bytes barred.NoRecord = ¬ BeginsLikeOne bytes
+IsBarred index count bytes (barred.Foreign place) = IsForeign [] IsEntry entry_spelling bytes place
+IsBarred index count bytes (barred.Unlawful position) =
+    (entries : List Entry) × HoldsEntries bytes entries × IsRefusedAt (attests_in count) (certifies_in count) (owner_of index) entries position
+IsBarred index count bytes (barred.Behind place) =
+    (entries : List Entry) × All IsEntry entries × IsFound [] bytes place (map entry_spelling entries) × IsTooMuch (drop place bytes)
+
+-- why a file is left that is so strange
+abbrev pub barred_of : Strange → Barred
+barred_of strange.Memory = barred.Memory
+barred_of strange.NoRecord = barred.NoRecord
+barred_of (strange.Foreign place) = barred.Foreign place
+barred_of (strange.Behind place) = barred.Behind place

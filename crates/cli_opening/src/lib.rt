@@ -1,0 +1,8 @@
+//! What a record's file holds, looked at before a node opens it, and what is said of that.
+#![tactic(auto)]
+
+mod looking;
+mod saying;
+
+pub use looking::{Barred, Found, look_at, look_over};
+pub use saying::{say_barred, say_found};

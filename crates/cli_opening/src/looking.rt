@@ -1,0 +1,172 @@
+//! What a record's bytes hold.
+
+ghost use Rattle.std.specs.Prelude.{◌≡◌, ◌<◌, [], All, IfErr, IfNone, IfOk, IfSome, OnOk, drop, false, map};
+ghost use Rattle.journal_single.specs.Disk.{counted};
+ghost use Rattle.journal_single.specs.Record.{IsFound};
+ghost use Rattle.journal_look.specs.Look.{BeginsLikeOne, IsStrange, IsTooMuch};
+ghost use Rattle.simplex_record.specs.Lawful.{IsLawful, IsRefusedAt};
+ghost use Rattle.cli_tool.specs.ToolAnswers.{IsEntry, attests_in, certifies_in, entry_spelling, owner_of};
+ghost use Rattle.cli_opening.specs.Looking.{IsBarred, IsFoundIn, barred_of};
+ghost use Rattle.cli_opening.specs.declared.looking.Barred.TheVariants as barred;
+
+use cli_audit::scheme_of;
+use journal_look::{Strange, look};
+use journal_single::{Disk, Entries, JournalFault, read_disk, read_entries};
+use simplex_messages::Artifact;
+use simplex_record::{Owner, first_refused};
+use simplex_types::PlainScheme;
+use std::alloc::{AllocError, Global};
+use types_core::{Epoch, Participant, Sha256Digest, TermLength};
+
+/// An entry of a record under the plain scheme.
+type Plain = Artifact<PlainScheme, Sha256Digest>;
+
+/// How many views a term of the program's committees has.
+const TERM: u32 = 4;
+
+/// What was found: a lawful record of the member.
+#[derive(Clone, Copy, Drop)]
+pub struct Found {
+    /// How many entries it has.
+    pub entries: usize,
+    /// How many bytes behind its last gate an opening cuts.
+    pub cut: usize,
+}
+
+/// Why a file is left as it is.
+#[derive(Clone, Copy, Drop)]
+pub enum Barred {
+    /// Memory ran out before it was known.
+    Memory,
+    /// It could not be read.
+    Device,
+    /// It isn't empty, and no record begins with its first byte.
+    NoRecord,
+    /// A whole entry is no artifact: its gate's place.
+    Foreign(u64),
+    /// A lawful record of this member refuses an entry: how many stand before it.
+    Unlawful(usize),
+    /// Behind the closed gate at this place stands more than a crash leaves.
+    Behind(u64),
+}
+
+impl Barred {
+    /// Why a file is left that is so strange.
+    fn of(strange: Strange) -> Barred
+        ensures { result ≡ barred_of strange }
+    {
+        match strange {
+            Strange::Memory => Barred::Memory,
+            Strange::NoRecord => Barred::NoRecord,
+            Strange::Foreign(place) => Barred::Foreign(place),
+            Strange::Behind(place) => Barred::Behind(place),
+        }
+    }
+}
+
+/// Looks at what a disk holds, and asks no more of it.
+///
+/// # Errors
+///
+/// [`Barred::Device`] where the disk could not be read, and those of [`look_at`].
+pub fn look_over<K: Disk>(
+    alloc: Global,
+    disk: &mut K,
+    index: u16,
+    count: u16,
+    cuts: bool,
+) -> Result<Found, Barred>
+    requires { index < count }
+    ensures found { IfOk result (λ found. K.keeps → IsFoundIn index count cuts (K.seen disk.old) found) }
+    ensures barred { IfErr result (λ why. K.keeps → IsBarred index count (K.seen disk.old) why) }
+    ensures untouched { K.keeps → K.calls disk.new ≡ K.calls disk.old }
+    ensures device { IfErr result (λ why. why ≡ barred.Device → K.failed disk.new ≡ counted false (K.failed disk.old)) }
+{
+    match read_disk(alloc, disk) {
+        Ok(bytes) => look_at(alloc, &bytes, index, count, cuts),
+        Err(JournalFault::Device) => Err(Barred::Device),
+        Err(_) => Err(Barred::Memory),
+    }
+}
+
+/// Looks at a record's bytes, as the member of this index, of so many, has it. Where `cuts`, what stands behind its last gate may be
+/// anything.
+///
+/// # Errors
+///
+/// Each [`Barred`] but `Device`.
+#[tactic(auto, using(crate::proofs::Barring::barred_over, crate::proofs::Barring::unlawful_over))]
+pub fn look_at(
+    alloc: Global,
+    bytes: &[u8],
+    index: u16,
+    count: u16,
+    cuts: bool,
+) -> Result<Found, Barred>
+    requires { index < count }
+    ensures found { IfOk result (IsFoundIn index count cuts bytes.now) }
+    ensures barred { IfErr result (IsBarred index count bytes.now) }
+{
+    let entries = match found_in(alloc, bytes, cuts) {
+        Ok(entries) => entries,
+        Err(strange) => return Err(Barred::of(strange)),
+    };
+    match refused_in(alloc, index, count, &entries.messages) {
+        Ok(None) => Ok(Found {
+            entries: entries.messages.len(),
+            cut: bytes.len() - bytes.len().min(entries.gate + 1),
+        }),
+        Ok(Some(position)) => Err(Barred::Unlawful(position)),
+        Err(_) => Err(Barred::Memory),
+    }
+}
+
+/// The entries of a record that these bytes hold. Where `cuts`, what stands behind its last gate may be anything.
+fn found_in(alloc: Global, bytes: &[u8], cuts: bool) -> Result<Entries<Plain>, Strange>
+    ensures found { IfOk result (λ entries. IsFound [] bytes.now entries.gate (map entry_spelling entries.messages.items)) }
+    ensures fitting { IfOk result (λ entries. All IsEntry entries.messages.items) }
+    ensures begins { OnOk result (BeginsLikeOne bytes.now) }
+    ensures left { IfOk result (λ entries. cuts ≡ false → ¬ IsTooMuch (drop entries.gate bytes.now)) }
+    ensures strange { IfErr result (IsStrange IsEntry entry_spelling bytes.now) }
+{
+    match look(alloc, bytes) {
+        Err(Strange::Behind(_)) if cuts => all_in(alloc, bytes),
+        looked => looked,
+    }
+}
+
+/// The same, whatever stands behind its last gate.
+fn all_in(alloc: Global, bytes: &[u8]) -> Result<Entries<Plain>, Strange>
+    requires { BeginsLikeOne bytes.now }
+    ensures found { IfOk result (λ entries. IsFound [] bytes.now entries.gate (map entry_spelling entries.messages.items)) }
+    ensures fitting { IfOk result (λ entries. All IsEntry entries.messages.items) }
+    ensures strange { IfErr result (IsStrange IsEntry entry_spelling bytes.now) }
+{
+    match read_entries(alloc, bytes) {
+        Ok(entries) => Ok(entries),
+        Err(JournalFault::Foreign(place)) => Err(Strange::Foreign(place)),
+        Err(_) => Err(Strange::Memory),
+    }
+}
+
+/// The position of the first artifact that a lawful record of this member refuses, if there is one.
+fn refused_in(
+    alloc: Global,
+    index: u16,
+    count: u16,
+    artifacts: &[Plain],
+) -> Result<Option<usize>, AllocError>
+    requires { index < count }
+    ensures lawful { IfOk result
+        (λ found. IfNone found (IsLawful (attests_in count) (certifies_in count) (owner_of index) artifacts.now)) }
+    ensures refused { IfOk result
+        (λ found. IfSome found (IsRefusedAt (attests_in count) (certifies_in count) (owner_of index) artifacts.now)) }
+{
+    let owner = Owner {
+        epoch: Epoch::new(0),
+        term_length: TermLength::new(TERM),
+        signer: Participant::new(u32::from(index)),
+    };
+    let scheme = scheme_of(alloc, count)?;
+    first_refused(alloc, &scheme, owner, artifacts)
+}
