@@ -1,7 +1,7 @@
 -- Why a file is left, by what is strange of it, and what is found where nothing is.
 use Rattle.std.proofs.Common.{◌≡◌, ℕ, ◌+◌, ◌-◌, List, Bool, [], false, length, map, drop, All}
 use Rattle.journal_single.specs.Record.{IsFound}
-use Rattle.journal_look.specs.Look.{BeginsLikeOne, IsStrange, IsTooMuch}
+use Rattle.journal_look.specs.Look.{IsStrange}
 use Rattle.journal_look.specs.declared.looking.Strange.{Strange}
 use Rattle.journal_look.specs.declared.looking.Strange.TheVariants as strange
 use Rattle.simplex_record.specs.Lawful.{IsLawful, IsRefusedAt}
@@ -15,6 +15,7 @@ pub barred_over : (index count : ℕ) (bytes : List ℕ) (why : Strange) → IsS
 barred_over index count bytes strange.Memory is = tt
 barred_over index count bytes strange.NoRecord is = is
 barred_over index count bytes (strange.Foreign place) is = is.1
+barred_over index count bytes (strange.Unclosed place) is = is.1
 barred_over index count bytes (strange.Behind place) is = is.1
 
 -- so does an entry that is refused
