@@ -1,6 +1,6 @@
 //! What a record's bytes hold.
 
-ghost use Rattle.std.specs.Prelude.{◌≡◌, ◌<◌, [], All, IfErr, IfNone, IfOk, IfSome, OnOk, drop, false, map};
+ghost use Rattle.std.specs.Prelude.{◌≡◌, ◌≢◌, ◌<◌, [], All, IfErr, IfNone, IfOk, IfSome, OnOk, drop, false, map};
 ghost use Rattle.journal_single.specs.Disk.{counted};
 ghost use Rattle.journal_single.specs.Record.{IsFound};
 ghost use Rattle.journal_look.specs.Look.{BeginsLikeOne, IsStrange, IsTooMuch, IsUnclosed};
@@ -98,7 +98,7 @@ pub fn look_over<K: Disk>(
 /// # Errors
 ///
 /// Each [`Barred`] but `Device`.
-#[tactic(auto, using(crate::proofs::Barring::barred_over, crate::proofs::Barring::unlawful_over))]
+#[tactic(auto, using(crate::proofs::Barring::barred_over, crate::proofs::Barring::found_over, crate::proofs::Barring::never_device, crate::proofs::Barring::unlawful_over))]
 pub fn look_at(
     alloc: Global,
     bytes: &[u8],
@@ -109,6 +109,7 @@ pub fn look_at(
     requires { index < count }
     ensures found { IfOk result (IsFoundIn index count cuts bytes.now) }
     ensures barred { IfErr result (IsBarred index count bytes.now) }
+    ensures not_device { IfErr result (λ why. why ≢ barred.Device) }
 {
     let entries = match found_in(alloc, bytes, cuts) {
         Ok(entries) => entries,

@@ -17,6 +17,7 @@ pub const HELP: &str =
 pub const VERSION: &str = "simplex: version 1 of the formats\n";
 
 /// Says what is found in the record at this path.
+#[tactic(auto, using(crate::proofs::Nothing::nothing_written))]
 pub fn say_found<F: Write>(alloc: Global, path: &str, found: Found, faults: &mut F)
     ensures told { AppendsFront (F.contents faults.old) (F.contents faults.new) (found_words path.now found) }
 {
@@ -27,6 +28,7 @@ pub fn say_found<F: Write>(alloc: Global, path: &str, found: Found, faults: &mut
 }
 
 /// Says why the file at this path is left as it is.
+#[tactic(auto, using(crate::proofs::Nothing::nothing_written))]
 pub fn say_barred<F: Write>(alloc: Global, path: &str, barred: Barred, faults: &mut F)
     ensures told { AppendsFront (F.contents faults.old) (F.contents faults.new) (barred_words path.now barred) }
 {
