@@ -55,6 +55,7 @@ def parser() -> Parser:
     of["node"].add_argument("record", metavar="RECORD")
     of["node"].add_argument("index", metavar="INDEX")
     of["node"].add_argument("count", metavar="COUNT")
+    of["node"].add_argument("--cut", action="store_true", help="cut what no crash leaves behind the record's last whole entry, and open it")
     of["test"].add_argument("names", nargs="*", metavar="NAME", help="a driver or a program of crates.txt (all)")
     of["test"].add_argument("--jobs", type=int, help="how many builds at once (as many as processors and memory allow)")
     of["prove"].add_argument("names", nargs="*", metavar="NAME", help="crates (all)")
@@ -126,7 +127,7 @@ def stories(lines: list[str]) -> list[str]:
 def node(given: argparse.Namespace) -> int:
     path, known = program("simplex", given.program)
     say(f"simplex: {known}")
-    words = [path, "node", given.record, given.index, given.count]
+    words = [path, "node", given.record, given.index, given.count, *(["--cut"] if given.cut else [])]
     with child(words, stderr=subprocess.PIPE, text=True) as started:
         for line in started.stderr:
             explain([line], given.record)

@@ -1,1 +1,2 @@
 pub mod Barring
+pub mod Nothing

@@ -1,26 +1,36 @@
 -- What is found of a record's bytes before a node opens them.
 use Rattle.std.specs.Prelude.{◌≡◌, ℕ, ◌+◌, ◌-◌, List, [], Bool, false, length, map, drop, All, ⊤}
 use Rattle.journal_single.specs.Record.{IsForeign, IsFound}
-use Rattle.journal_look.specs.Look.{BeginsLikeOne, IsTooMuch}
+use Rattle.journal_look.specs.Look.{BeginsLikeOne, IsTooMuch, IsUnclosed}
 use Rattle.journal_look.specs.declared.looking.Strange.{Strange}
 use Rattle.journal_look.specs.declared.looking.Strange.TheVariants as strange
+use Rattle.messages_certificates.specs.Artifact.{artifact_round}
+use Rattle.simplex_record.specs.Record.{entries, greatest, last_finalized}
 use Rattle.simplex_record.specs.Lawful.{IsLawful, IsRefusedAt}
 use Rattle.cli_tool.specs.ToolAnswers.{Entry, HoldsEntries, IsEntry, attests_in, certifies_in, entry_spelling, owner_of}
 use Rattle.cli_opening.specs.declared.looking.Barred.{Barred}
 use Rattle.cli_opening.specs.declared.looking.Barred.TheVariants as barred
 use Rattle.cli_opening.specs.declared.looking.Found.{Found}
 
--- the bytes are a lawful record of this member of so many, and this is said of it: how many entries it has, and how many bytes behind its
--- last gate an opening cuts. They are no more than a crash leaves, unless whatever stands there is to be cut
+-- the view that an entry is of
+abbrev pub view_of : Entry → ℕ
+view_of entry = (artifact_round entry).view
+
+-- the bytes are a lawful record of this member of so many, and this is said of it: how many entries it has, the highest view of one and of a
+-- finalization, and how many bytes behind its last gate an opening cuts. That gate is closed and no more stands behind it than a crash leaves,
+-- unless whatever stands there is to be cut
 pub record IsFoundIn (index count : ℕ) (cuts : Bool) (bytes : List ℕ) (found : Found) : Type 0 where
-  pub entries : List Entry
-  pub fitting : All IsEntry entries
+  pub artifacts : List Entry
+  pub fitting : All IsEntry artifacts
   pub gate : ℕ
-  pub held : IsFound [] bytes gate (map entry_spelling entries)
+  pub held : IsFound [] bytes gate (map entry_spelling artifacts)
   pub begins : BeginsLikeOne bytes
+  pub closed : cuts ≡ false → ¬ IsUnclosed (drop gate bytes)
   pub left : cuts ≡ false → ¬ IsTooMuch (drop gate bytes)
-  pub lawful : IsLawful (attests_in count) (certifies_in count) (owner_of index) entries
-  pub entries_are : found.entries ≡ length entries
+  pub lawful : IsLawful (attests_in count) (certifies_in count) (owner_of index) artifacts
+  pub entries_are : found.entries ≡ length artifacts
+  pub reaches_is : found.reaches ≡ greatest 0 view_of artifacts
+  pub finalized_is : found.finalized ≡ last_finalized (entries artifacts)
   pub cut_is : found.cut ≡ length bytes - (gate + 1)
 
 -- why a file of these bytes is left as it is, by whose record it should be
@@ -30,13 +40,16 @@ IsBarred index count bytes barred.Device = ⊤
 IsBarred index count bytes barred.NoRecord = ¬ BeginsLikeOne bytes
 IsBarred index count bytes (barred.Foreign place) = IsForeign [] IsEntry entry_spelling bytes place
 IsBarred index count bytes (barred.Unlawful position) =
-    (entries : List Entry) × HoldsEntries bytes entries × IsRefusedAt (attests_in count) (certifies_in count) (owner_of index) entries position
+    (artifacts : List Entry) × HoldsEntries bytes artifacts × IsRefusedAt (attests_in count) (certifies_in count) (owner_of index) artifacts position
+IsBarred index count bytes (barred.Unclosed place) =
+    (artifacts : List Entry) × All IsEntry artifacts × IsFound [] bytes place (map entry_spelling artifacts) × IsUnclosed (drop place bytes)
 IsBarred index count bytes (barred.Behind place) =
-    (entries : List Entry) × All IsEntry entries × IsFound [] bytes place (map entry_spelling entries) × IsTooMuch (drop place bytes)
+    (artifacts : List Entry) × All IsEntry artifacts × IsFound [] bytes place (map entry_spelling artifacts) × IsTooMuch (drop place bytes)
 
 -- why a file is left that is so strange
 abbrev pub barred_of : Strange → Barred
 barred_of strange.Memory = barred.Memory
 barred_of strange.NoRecord = barred.NoRecord
 barred_of (strange.Foreign place) = barred.Foreign place
+barred_of (strange.Unclosed place) = barred.Unclosed place
 barred_of (strange.Behind place) = barred.Behind place

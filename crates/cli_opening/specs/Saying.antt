@@ -1,23 +1,27 @@
 -- The words of what a record's file holds, each on a line of its own.
-use Rattle.std.specs.Prelude.{ℕ, List, [], ◌∷◌, ◌++◌, codes}
+use Rattle.std.specs.Prelude.{ℕ, List, [], ◌∷◌, codes}
 use Rattle.std.specs.List.{concat}
 use Rattle.std.specs.Fmt.{decimal}
-use Rattle.cli_audit.specs.Lines.{newline}
 use Rattle.cli_opening.specs.declared.looking.Barred.{Barred}
 use Rattle.cli_opening.specs.declared.looking.Barred.TheVariants as barred
 use Rattle.cli_opening.specs.declared.looking.Found.{Found}
 
 -- the line of a record that is opened
-unfoldable pub found_words : Found → List ℕ
-found_words found = concat (codes "record: " ∷ decimal found.entries ∷ codes " entries, " ∷ decimal found.cut ∷ codes " bytes behind them are cut" ∷ newline ∷ [])
+unfoldable pub found_words : List ℕ → Found → List ℕ
+found_words path found =
+    concat (codes "record: " ∷ path ∷ codes ": " ∷ decimal found.entries ∷ codes " entries, up to view " ∷ decimal found.reaches ∷ codes ", finalized up to view " ∷ decimal found.finalized ∷ codes "; " ∷ decimal found.cut ∷ codes " bytes behind them are left out\n" ∷ [])
 
 -- the words of why a file is left as it is
-unfoldable pub barred_words : Barred → List ℕ
-barred_words barred.Memory = []
-barred_words barred.Device = codes "record: it could not be read" ++ newline
-barred_words barred.NoRecord = codes "record: left as it is, since none begins with its first byte" ++ newline
-barred_words (barred.Foreign place) = concat (codes "record: left as it is, since no artifact stands at byte " ∷ decimal place ∷ newline ∷ [])
-barred_words (barred.Unlawful position) =
-    concat (codes "record: left as it is, since no record of this member has entry " ∷ decimal position ∷ codes ", counted from 0" ∷ newline ∷ [])
-barred_words (barred.Behind place) =
-    concat (codes "record: left as it is, since more than a crash leaves stands behind byte " ∷ decimal place ∷ codes "; --cut cuts it" ∷ newline ∷ [])
+unfoldable pub barred_words : List ℕ → Barred → List ℕ
+barred_words path barred.Memory = []
+barred_words path barred.Device = concat (codes "record: " ∷ path ∷ codes ": it can't be read\n" ∷ [])
+barred_words path barred.NoRecord =
+    concat (codes "record: " ∷ path ∷ codes ": left as it is, since no record begins with its first byte; does the path name another file?\n" ∷ [])
+barred_words path (barred.Foreign place) =
+    concat (codes "record: " ∷ path ∷ codes ": left as it is, since no artifact stands at byte " ∷ decimal place ∷ codes "; does the path name another file?\n" ∷ [])
+barred_words path (barred.Unlawful position) =
+    concat (codes "record: " ∷ path ∷ codes ": left as it is, since no record of this member has entry " ∷ decimal position ∷ codes ", counted from 0; was it written with another INDEX or COUNT?\n" ∷ [])
+barred_words path (barred.Unclosed place) =
+    concat (codes "record: " ∷ path ∷ codes ": left as it is, since its end is gone: no whole entry stands behind the gate at byte " ∷ decimal place ∷ codes ", which isn't closed; --cut cuts there, and may take votes that were sent\n" ∷ [])
+barred_words path (barred.Behind place) =
+    concat (codes "record: " ∷ path ∷ codes ": left as it is, since more than a crash leaves stands behind the gate at byte " ∷ decimal place ∷ codes "; --cut cuts there, and may take votes that were sent\n" ∷ [])

@@ -2,7 +2,8 @@
 #![tactic(auto)]
 
 mod looking;
+mod reaching;
 mod saying;
 
 pub use looking::{Barred, Found, look_at, look_over};
-pub use saying::{say_barred, say_found};
+pub use saying::{HELP, VERSION, say_barred, say_found};

@@ -1,25 +1,21 @@
 //! What a record's bytes hold.
 
-ghost use Rattle.std.specs.Prelude.{◌≡◌, ◌<◌, [], All, IfErr, IfNone, IfOk, IfSome, OnOk, drop, false, map};
+ghost use Rattle.std.specs.Prelude.{◌≡◌, ◌≢◌, ◌<◌, [], All, IfErr, IfNone, IfOk, IfSome, OnOk, drop, false, map};
 ghost use Rattle.journal_single.specs.Disk.{counted};
 ghost use Rattle.journal_single.specs.Record.{IsFound};
-ghost use Rattle.journal_look.specs.Look.{BeginsLikeOne, IsStrange, IsTooMuch};
+ghost use Rattle.journal_look.specs.Look.{BeginsLikeOne, IsStrange, IsTooMuch, IsUnclosed};
 ghost use Rattle.simplex_record.specs.Lawful.{IsLawful, IsRefusedAt};
 ghost use Rattle.cli_tool.specs.ToolAnswers.{IsEntry, attests_in, certifies_in, entry_spelling, owner_of};
 ghost use Rattle.cli_opening.specs.Looking.{IsBarred, IsFoundIn, barred_of};
 ghost use Rattle.cli_opening.specs.declared.looking.Barred.TheVariants as barred;
 
+use crate::reaching::{Plain, highest_view, last_finalized};
 use cli_audit::scheme_of;
 use journal_look::{Strange, look};
 use journal_single::{Disk, Entries, JournalFault, read_disk, read_entries};
-use simplex_messages::Artifact;
 use simplex_record::{Owner, first_refused};
-use simplex_types::PlainScheme;
 use std::alloc::{AllocError, Global};
-use types_core::{Epoch, Participant, Sha256Digest, TermLength};
-
-/// An entry of a record under the plain scheme.
-type Plain = Artifact<PlainScheme, Sha256Digest>;
+use types_core::{Epoch, Participant, TermLength};
 
 /// How many views a term of the program's committees has.
 const TERM: u32 = 4;
@@ -29,6 +25,10 @@ const TERM: u32 = 4;
 pub struct Found {
     /// How many entries it has.
     pub entries: usize,
+    /// The highest view that one of them is of, or 0.
+    pub reaches: u64,
+    /// The highest view of which it has a finalization, or 0.
+    pub finalized: u64,
     /// How many bytes behind its last gate an opening cuts.
     pub cut: usize,
 }
@@ -46,6 +46,8 @@ pub enum Barred {
     Foreign(u64),
     /// A lawful record of this member refuses an entry: how many stand before it.
     Unlawful(usize),
+    /// The gate at this place isn't closed, and no whole entry stands there.
+    Unclosed(u64),
     /// Behind the closed gate at this place stands more than a crash leaves.
     Behind(u64),
 }
@@ -59,6 +61,7 @@ impl Barred {
             Strange::Memory => Barred::Memory,
             Strange::NoRecord => Barred::NoRecord,
             Strange::Foreign(place) => Barred::Foreign(place),
+            Strange::Unclosed(place) => Barred::Unclosed(place),
             Strange::Behind(place) => Barred::Behind(place),
         }
     }
@@ -89,13 +92,13 @@ pub fn look_over<K: Disk>(
     }
 }
 
-/// Looks at a record's bytes, as the member of this index, of so many, has it. Where `cuts`, what stands behind its last gate may be
-/// anything.
+/// Looks at a record's bytes, as the member of this index, of so many, has it. Where `cuts`, its last gate and
+/// what stands behind it may be anything.
 ///
 /// # Errors
 ///
 /// Each [`Barred`] but `Device`.
-#[tactic(auto, using(crate::proofs::Barring::barred_over, crate::proofs::Barring::unlawful_over))]
+#[tactic(auto, using(crate::proofs::Barring::barred_over, crate::proofs::Barring::found_over, crate::proofs::Barring::never_device, crate::proofs::Barring::unlawful_over))]
 pub fn look_at(
     alloc: Global,
     bytes: &[u8],
@@ -106,6 +109,7 @@ pub fn look_at(
     requires { index < count }
     ensures found { IfOk result (IsFoundIn index count cuts bytes.now) }
     ensures barred { IfErr result (IsBarred index count bytes.now) }
+    ensures not_device { IfErr result (λ why. why ≢ barred.Device) }
 {
     let entries = match found_in(alloc, bytes, cuts) {
         Ok(entries) => entries,
@@ -114,6 +118,8 @@ pub fn look_at(
     match refused_in(alloc, index, count, &entries.messages) {
         Ok(None) => Ok(Found {
             entries: entries.messages.len(),
+            reaches: highest_view(&entries.messages),
+            finalized: last_finalized(&entries.messages),
             cut: bytes.len() - bytes.len().min(entries.gate + 1),
         }),
         Ok(Some(position)) => Err(Barred::Unlawful(position)),
@@ -121,21 +127,22 @@ pub fn look_at(
     }
 }
 
-/// The entries of a record that these bytes hold. Where `cuts`, what stands behind its last gate may be anything.
+/// The entries of a record that these bytes hold. Where `cuts`, its last gate and what stands behind it may be anything.
 fn found_in(alloc: Global, bytes: &[u8], cuts: bool) -> Result<Entries<Plain>, Strange>
     ensures found { IfOk result (λ entries. IsFound [] bytes.now entries.gate (map entry_spelling entries.messages.items)) }
     ensures fitting { IfOk result (λ entries. All IsEntry entries.messages.items) }
     ensures begins { OnOk result (BeginsLikeOne bytes.now) }
+    ensures closed { IfOk result (λ entries. cuts ≡ false → ¬ IsUnclosed (drop entries.gate bytes.now)) }
     ensures left { IfOk result (λ entries. cuts ≡ false → ¬ IsTooMuch (drop entries.gate bytes.now)) }
     ensures strange { IfErr result (IsStrange IsEntry entry_spelling bytes.now) }
 {
     match look(alloc, bytes) {
-        Err(Strange::Behind(_)) if cuts => all_in(alloc, bytes),
+        Err(Strange::Unclosed(_) | Strange::Behind(_)) if cuts => all_in(alloc, bytes),
         looked => looked,
     }
 }
 
-/// The same, whatever stands behind its last gate.
+/// The same, whatever its last gate is and stands behind it.
 fn all_in(alloc: Global, bytes: &[u8]) -> Result<Entries<Plain>, Strange>
     requires { BeginsLikeOne bytes.now }
     ensures found { IfOk result (λ entries. IsFound [] bytes.now entries.gate (map entry_spelling entries.messages.items)) }

@@ -32,11 +32,22 @@ pub record IsTooMuch (rest : List ℕ) : Type 0 where
   pub more : HasMore behind
   pub kept : ¬ All (λ byte. byte ≡ 0) behind
 
+-- of what stands behind the entries of a record: a gate that isn't closed, and so bytes behind it that are gone or were changed. A crash
+-- leaves a closed one there, since a gate is opened only once its entry is kept
+pub record IsUnclosed (rest : List ℕ) : Type 0 where
+  pub gate : ℕ
+  pub behind : List ℕ
+  pub split : rest ≡ gate ∷ behind
+  pub unclosed : gate ≢ 0
+
 -- by which messages can be read, and how they are spelled: why these bytes are not to be opened as a record. No record begins so; or at this
--- place a whole entry is no message; or behind the gate at this place stands more than a crash leaves
+-- place a whole entry is no message; or the gate at this place isn't closed, and no whole entry stands there; or behind the gate at this place
+-- stands more than a crash leaves
 abbrev pub IsStrange : {M : Type 0} → (M → Type 0) → (M → List ℕ) → List ℕ → Strange → Type 0
 IsStrange Fits spelling bytes strange.Memory = ⊤
 IsStrange Fits spelling bytes strange.NoRecord = ¬ BeginsLikeOne bytes
 IsStrange Fits spelling bytes (strange.Foreign place) = BeginsLikeOne bytes × IsForeign [] Fits spelling bytes place
+IsStrange {M} Fits spelling bytes (strange.Unclosed place) =
+    BeginsLikeOne bytes × ((messages : List M) × All Fits messages × IsFound [] bytes place (map spelling messages) × IsUnclosed (drop place bytes))
 IsStrange {M} Fits spelling bytes (strange.Behind place) =
     BeginsLikeOne bytes × ((messages : List M) × All Fits messages × IsFound [] bytes place (map spelling messages) × IsTooMuch (drop place bytes))

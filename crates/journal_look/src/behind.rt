@@ -1,7 +1,7 @@
 //! What stands behind the entries of a record.
 
 ghost use Rattle.std.specs.Prelude.{◌≡◌, ◌↔◌, All, IsTrue};
-ghost use Rattle.journal_look.specs.Look.{HasMore, IsTooMuch};
+ghost use Rattle.journal_look.specs.Look.{HasMore, IsTooMuch, IsUnclosed};
 
 /// Whether all bytes are 0.
 fn are_zero(bytes: &[u8]) -> bool
@@ -37,7 +37,17 @@ fn has_more(bytes: &[u8]) -> bool
     is_open(bytes[4 + size])
 }
 
-/// Whether a closed gate stands in front, and more behind it than a crash leaves.
+/// Whether a gate stands in front that isn't closed.
+pub(crate) fn is_unclosed(rest: &[u8]) -> bool
+    ensures { IsTrue result ↔ IsUnclosed rest.now }
+{
+    match rest.first() {
+        Some(gate) => *gate != 0,
+        None => false,
+    }
+}
+
+/// Whether a gate that isn't open stands in front, and more behind it than a crash leaves.
 pub(crate) fn is_too_much(rest: &[u8]) -> bool
     ensures { IsTrue result ↔ IsTooMuch rest.now }
 {

@@ -1,10 +1,13 @@
-//! `simplex_tool`: hands the program's words, its streams and the file that they name to the library.
+//! `simplex_tool`: hands the program's words, its streams and the file that they name to the library, and says of a record that is
+//! checked what of its file is no part of it.
 #![tactic(auto)]
 
 ghost use Rattle.cli_tool.specs.Command.{IsAsked};
 
+use cli_audit::read_all;
+use cli_opening::{look_at, say_barred, say_found};
 use cli_tool::{Call, Request, misused, parse_call, run_request, unopened, words_unread};
-use std::fs::File;
+use std::fs::{self, File};
 use std::process::ExitCode;
 use std::{env, io};
 
@@ -26,6 +29,42 @@ fn answer_of_file(rt: &HostRuntime, call: Call<'_>, path: &str) -> u8
     }
 }
 
+/// Whether the path names a file. What is no file is not read twice: a pipe would wait.
+fn is_file(rt: &HostRuntime, path: &str) -> bool {
+    match fs::metadata(rt, path) {
+        Ok(found) => found.is_file(),
+        Err(_) => false,
+    }
+}
+
+/// Says how far the record in a file reaches and what stands behind it, or why a node would leave the file.
+fn say_looked(rt: &HostRuntime, path: &str, index: u16, count: u16)
+    requires { index < count }
+{
+    let Ok(mut file) = File::open(rt, path) else {
+        return;
+    };
+    let Ok(bytes) = read_all(rt.alloc(), &mut file) else {
+        return;
+    };
+    let mut faults = rt.stderr();
+    match look_at(rt.alloc(), &bytes, index, count, false) {
+        Ok(found) => say_found(rt.alloc(), path, found, &mut faults),
+        Err(barred) => say_barred(rt.alloc(), path, barred, &mut faults),
+    }
+}
+
+/// Answers a call that checks a record.
+fn answer_of_check(rt: &HostRuntime, call: Call<'_>, path: &str, index: u16, count: u16) -> u8
+    requires { IsAsked call.request }
+{
+    let status = answer_of_file(rt, call, path);
+    if status != 1 && index < count && is_file(rt, path) {
+        say_looked(rt, path, index, count);
+    }
+    status
+}
+
 /// Answers a call about standard input, or about nothing.
 fn answer_of_input(rt: &HostRuntime, call: Call<'_>) -> u8
     requires { IsAsked call.request }
@@ -43,7 +82,7 @@ fn answer(rt: &HostRuntime, words: &[String]) -> u8 {
     };
     match call.request {
         Request::Record { path } => answer_of_file(rt, call, path),
-        Request::Check { path, .. } => answer_of_file(rt, call, path),
+        Request::Check { index, count, path } => answer_of_check(rt, call, path, index, count),
         _ => answer_of_input(rt, call),
     }
 }
