@@ -13,12 +13,16 @@ use std::time::{Duration, Instant};
 use tempfile::TempDir;
 use voumlisd::Settings;
 
-/// How long anything may take: a program that isn't proved is slow, and the machine may be busy. `VOUMLIS_PATIENCE` says another number
-/// of seconds, for runs in which a test is to fail.
+/// How long anything may take: a program that isn't proved is slow, and where the machine has more to do than processors it takes as many
+/// times longer. `VOUMLIS_PATIENCE` says a number of seconds, for runs in which a test is to fail.
 pub fn patience() -> Duration {
-    let named = std::env::var("VOUMLIS_PATIENCE").ok();
-    let seconds = named.map_or(180, |text| text.parse().expect("a number of seconds"));
-    Duration::from_secs(seconds)
+    if let Ok(named) = std::env::var("VOUMLIS_PATIENCE") {
+        return Duration::from_secs(named.parse().expect("a number of seconds"));
+    }
+    let load = fs::read_to_string("/proc/loadavg").unwrap_or_default();
+    let load: f64 = load.split(' ').next().unwrap().parse().unwrap_or(0.0);
+    let processors = thread::available_parallelism().map_or(1.0, |it| it.get() as f64);
+    Duration::from_secs(180).mul_f64((load / processors).max(1.0))
 }
 
 /// The program `simplex`.
