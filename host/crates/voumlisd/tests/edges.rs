@@ -63,7 +63,15 @@ fn refused(committee: &Committee, why: &str) -> f64 {
 
 /// Three of four members, and the key of the fourth.
 fn three() -> (Committee, Arc<Keys>, SecretKey) {
-    let mut committee = Committee::new(4, |settings| settings.limits.strangers = 8);
+    three_that_allow(voumlisd::settings::Limits::default().peer_asks)
+}
+
+/// The same, who take so many asks of a peer at once, and a second.
+fn three_that_allow(asks: (f64, f64)) -> (Committee, Arc<Keys>, SecretKey) {
+    let mut committee = Committee::new(4, |settings| {
+        settings.limits.strangers = 8;
+        settings.limits.peer_asks = asks;
+    });
     (0..3).for_each(|member| committee.start(member));
     committee.reach(&[0, 1, 2], 2);
     let keys = Arc::new(committee.settings[0].committee().unwrap());
@@ -252,9 +260,10 @@ fn frames_are_taken_once_and_told_again_behind_a_reconnection() {
 
 #[test]
 fn a_peer_that_asks_much_waits_and_a_slow_reader_holds_up_nobody() {
-    let (mut committee, keys, key) = three();
+    // Few enough that even a busy machine would take more in the time, were it let.
+    let (most, a_second, asked): (u32, u32, u64) = (50, 10, 100);
+    let (mut committee, keys, key) = three_that_allow((most.into(), a_second.into()));
     let address = committee.settings[0].listen;
-    let most = committee.settings[0].limits.peer_asks;
     let runtime = tokio::runtime::Runtime::new().unwrap();
     // Of HTTP: it asks, and reads nothing.
     let mut slow = TcpStream::connect(committee.settings[0].http).unwrap();
@@ -264,36 +273,36 @@ fn a_peer_that_asks_much_waits_and_a_slow_reader_holds_up_nobody() {
         slow.set_write_timeout(Some(Duration::from_millis(200)))
             .unwrap();
     }
-    let taken = runtime.block_on(async {
+    let begun = Instant::now();
+    runtime.block_on(async {
         let mut stream = dial(&keys, &key, 0, address).await.unwrap();
         greet(&mut stream, keys.hash(), 1).await.unwrap();
-        // Asks for a block that nobody has: each is answered with a frame, to a peer that isn't there.
-        let ask = Frame::AskBlocks {
-            payload: [9; 32],
-            above: 0,
-        };
-        let ask = ask.bytes();
+        // Asks for a block that nobody has, each answered with a frame, to a peer that isn't there; and for a certificate.
+        let payload = [9; 32];
+        let for_blocks = Frame::AskBlocks { payload, above: 0 };
+        let sealer = Sealer::new(keys.clone(), key).unwrap();
+        let for_certificate = sealer.seal(Channel::Fetches, vec![1]).unwrap().0;
+        let asks = [for_blocks.bytes(), Frame::Packet(for_certificate).bytes()];
         let (mut reader, mut writer) = tokio::io::split(stream);
         tokio::spawn(async move {
-            for number in 1..=(most.0 as u64 * 20) {
+            for number in 1..=asked * 100 {
+                let ask = &asks[number as usize % 2];
                 writer.write_u32(ask.len() as u32).await?;
                 writer.write_u64(number).await?;
-                writer.write_all(&ask).await?;
+                writer.write_all(ask).await?;
                 writer.flush().await?;
             }
             Ok::<_, std::io::Error>(writer)
         });
-        // For three seconds, or until the machine has found time for twenty.
-        let (mut taken, begun) = (0, Instant::now());
-        while taken < 20 || begun.elapsed() < Duration::from_secs(3) {
+        let mut taken = 0;
+        while taken < asked {
             let acknowledged = tokio::time::timeout(patience(), reader.read_u64());
             taken = acknowledged.await.expect("asks are taken").unwrap();
         }
-        (taken, begun.elapsed())
     });
-    let (taken, passed) = taken;
-    let may = most.0 + most.1 * (passed.as_secs_f64() + 1.0);
-    assert!(taken as f64 <= may, "{taken} asks were taken in {passed:?}");
+    let passed = begun.elapsed();
+    let least = Duration::from_secs((asked - u64::from(most)) / u64::from(a_second));
+    assert!(passed >= least, "{asked} asks were taken in {passed:?}");
     go_on(&mut committee);
     drop(slow);
 }
