@@ -313,6 +313,30 @@ fn moments_do_not_fall_and_come_when_the_node_wants_to_be_woken() {
 }
 
 #[test]
+fn the_time_is_told_with_what_comes() {
+    let folder = tempfile::tempdir().unwrap();
+    let network = Remembered::default();
+    // It is woken once, and wants to be told no time from then on.
+    let member = Running::new(folder.path(), LONG, network, |_, _| reply(Vec::new()));
+    let woken = until("it is woken", || {
+        match member.events.lock().unwrap().first() {
+            Some((_, Event::Moment(moment))) => Some(*moment),
+            _ => None,
+        }
+    });
+    thread::sleep(Duration::from_millis(30));
+    let vote = nullify(1, 1);
+    member.packet(1, vote.bytes(), vec![signature(&vote)]);
+    member.told(1);
+    let events = member.events.lock().unwrap().clone();
+    let [_, (_, Event::Moment(moment)), (_, Event::Packet { .. })] = events[..] else {
+        panic!("{events:?}");
+    };
+    assert!(moment >= woken + 30, "{moment} behind {woken}");
+    member.stop();
+}
+
+#[test]
 fn a_record_is_opened_again_and_no_answer_reaches_another_life() {
     let folder = tempfile::tempdir().unwrap();
     let network = Remembered::default();

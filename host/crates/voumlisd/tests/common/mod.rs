@@ -8,6 +8,7 @@ use std::io::{Read, Write};
 use std::net::{SocketAddr, TcpListener, TcpStream};
 use std::path::{Path, PathBuf};
 use std::process::{Child, Command, ExitStatus, Output, Stdio};
+use std::sync::atomic::{AtomicU32, Ordering};
 use std::thread;
 use std::time::{Duration, Instant};
 use tempfile::TempDir;
@@ -55,15 +56,17 @@ pub fn until<T>(what: &str, mut look: impl FnMut() -> Option<T>) -> T {
     }
 }
 
-/// Addresses of the loopback that nobody listens at. All are held until the last is found, so that they differ.
+/// Addresses of the loopback that nobody listens at, below those that systems give to connections: none is taken until a member listens.
 pub fn free_addresses(count: usize) -> Vec<SocketAddr> {
-    let listeners: Vec<TcpListener> = (0..count)
-        .map(|_| TcpListener::bind("127.0.0.1:0").unwrap())
-        .collect();
-    listeners
-        .iter()
-        .map(|listener| listener.local_addr().unwrap())
-        .collect()
+    static NEXT: AtomicU32 = AtomicU32::new(0);
+    let begin = std::process::id() % 150 * 140;
+    let ports = std::iter::repeat_with(|| {
+        let at = begin + NEXT.fetch_add(1, Ordering::Relaxed);
+        10_000 + (at % 22_000) as u16
+    });
+    let addresses = ports.map(|port| SocketAddr::from(([127, 0, 0, 1], port)));
+    let is_free = |address: &SocketAddr| TcpListener::bind(address).is_ok();
+    addresses.filter(is_free).take(count).collect()
 }
 
 /// A committee: its folder, its members' settings, and the processes that run.
