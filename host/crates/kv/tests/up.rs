@@ -8,8 +8,17 @@ use std::thread;
 use std::time::{Duration, Instant};
 use tempfile::TempDir;
 
-/// How long anything may take: a program that isn't proved is slow, and the machine may be busy.
-const PATIENCE: Duration = Duration::from_secs(180);
+/// How long anything may take: a program that isn't proved is slow, and where the machine has more to do than processors it takes as many
+/// times longer. `VOUMLIS_PATIENCE` says a number of seconds.
+fn patience() -> Duration {
+    if let Ok(named) = std::env::var("VOUMLIS_PATIENCE") {
+        return Duration::from_secs(named.parse().expect("a number of seconds"));
+    }
+    let load = std::fs::read_to_string("/proc/loadavg").unwrap_or_default();
+    let load: f64 = load.split(' ').next().unwrap().parse().unwrap_or(0.0);
+    let processors = thread::available_parallelism().map_or(1.0, |it| it.get() as f64);
+    Duration::from_secs(180).mul_f64((load / processors).max(1.0))
+}
 
 fn top() -> PathBuf {
     Path::new(env!("CARGO_MANIFEST_DIR")).join("../../..")
@@ -27,7 +36,7 @@ fn program() -> PathBuf {
 }
 
 fn until<T>(what: &str, mut look: impl FnMut() -> Option<T>) -> T {
-    let end = Instant::now() + PATIENCE;
+    let end = Instant::now() + patience();
     loop {
         if let Some(found) = look() {
             return found;
@@ -66,6 +75,7 @@ impl Up {
             .env("VOUMLIS_PORT", free_ports().to_string())
             .env("VOUMLIS_MEMBER", env!("CARGO_BIN_EXE_kv"))
             .env("VOUMLIS_PROGRAM", program())
+            .env("VOUMLIS_PATIENCE", patience().as_secs().to_string())
             .stdout(Stdio::piped())
             .spawn()
             .unwrap();
@@ -142,7 +152,7 @@ impl Drop for Up {
 /// The body of an answer of status 200.
 fn ask(address: SocketAddr, head: &str, body: &str) -> Option<String> {
     let mut stream = TcpStream::connect(address).ok()?;
-    stream.set_read_timeout(Some(PATIENCE)).unwrap();
+    stream.set_read_timeout(Some(patience())).unwrap();
     let length = body.len();
     write!(
         stream,
@@ -201,4 +211,27 @@ fn the_store_that_is_printed_answers_and_no_member_that_is_killed_loses_or_stops
     }
     // Of its own members none is left: it ends by itself.
     until("host/up ends", || up.script.try_wait().unwrap());
+}
+
+#[test]
+fn a_build_that_finds_no_crates_says_in_one_line_what_to_do() {
+    let folder = tempfile::tempdir().unwrap();
+    let at = |name: &str| folder.path().join(name);
+    std::fs::copy(top().join("host/build"), at("build")).unwrap();
+    std::fs::create_dir_all(at("src")).unwrap();
+    std::fs::create_dir_all(at(".cargo")).unwrap();
+    std::fs::write(at("src/lib.rs"), "").unwrap();
+    // Settings are there, so none of Debian's are written; by these there is no network.
+    std::fs::write(at(".cargo/config.toml"), "[net]\noffline = true\n").unwrap();
+    let manifest = "[package]\nname = \"a\"\nversion = \"0.1.0\"\n[dependencies]\nserde = \"1\"\n";
+    std::fs::write(at("Cargo.toml"), manifest).unwrap();
+    let built = Command::new(at("build"))
+        .arg("--quiet")
+        .env("CARGO_HOME", at("nothing"))
+        .output()
+        .unwrap();
+    let told = String::from_utf8(built.stderr).unwrap();
+    assert_eq!(built.status.code(), Some(1), "{told}");
+    assert_eq!(told.lines().count(), 1, "{told}");
+    assert!(told.contains("host/use-debian-crates --install"), "{told}");
 }

@@ -344,17 +344,17 @@ impl Engine {
 
     fn report(&mut self, life: &mut Life, plain: Vec<u8>) -> Result<()> {
         let report = Report::read(LARGEST, &plain).context("a node hands out reports")?;
-        if let Report::Evidence(first, _) = &report {
-            let (signer, view) = (first.attestation.signer, report.view());
-            warn!(signer, view, "evidence: two votes that contradict");
-            self.status.change(|state| state.evidence += 1);
-        }
         if let Report::Certificate(certificate) = &report {
             life.recorded.insert((certificate.kind, certificate.on));
         }
         self.enter(&report);
         if self.reports.has(&plain) {
             return Ok(());
+        }
+        if let Report::Evidence(first, _) = &report {
+            let (signer, view) = (first.attestation.signer, report.view());
+            warn!(signer, view, "evidence: two votes that contradict");
+            self.status.change(|state| state.evidence += 1);
         }
         match self.sealer.seal_report(&report) {
             Ok(signatures) => {

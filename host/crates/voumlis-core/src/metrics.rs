@@ -137,7 +137,7 @@ pub struct State {
     pub applied: BlockId,
     /// Members of whom nothing more is taken, and why.
     pub blocked: BTreeMap<u32, String>,
-    /// How many pieces of evidence the node told in this process.
+    /// How many pieces of evidence the node told in this process that the log didn't have.
     pub evidence: u64,
     /// How often the record was opened in this process.
     pub life: u64,

@@ -1,7 +1,8 @@
 //! The log of a member's reports, with the signatures of their attestations, so that whoever has the public keys can judge by it.
 //!
 //! An entry is the report's size in 4 bytes, the most significant first, the report, and a signature of 64 bytes for each attestation
-//! in it, in order. What a node tells anew when its record is opened again isn't written again.
+//! in it, in order. What a node tells anew isn't written again: of its record when it is opened again, and evidence each time that a liar
+//! repeats itself.
 
 use crate::committee::Signature;
 use crate::files;
@@ -25,6 +26,10 @@ pub struct SignedReport {
 }
 
 impl SignedReport {
+    fn is_evidence(&self) -> bool {
+        matches!(self.report, Report::Evidence(..))
+    }
+
     /// The entry's bytes.
     pub fn bytes(&self) -> Vec<u8> {
         let size = (self.plain.len() as u32).to_be_bytes();
@@ -66,11 +71,13 @@ pub fn read_all(bytes: &[u8]) -> (Vec<SignedReport>, usize) {
 
 /// The log's file. One thread has it.
 ///
-/// A node tells a report once in a life, and at its opening those of its record: so which there are is remembered for that time alone.
+/// At its opening a node tells the reports of its record: so which there are is remembered for that time alone. Later it tells each once in
+/// a life, but evidence.
 pub struct ReportLog {
     path: PathBuf,
     file: File,
     found: HashSet<[u8; 32]>,
+    evidence: HashSet<[u8; 32]>,
     /// How many bytes it has.
     pub size: u64,
 }
@@ -89,6 +96,7 @@ impl ReportLog {
             path: path.to_owned(),
             file: files::open_to_append(path, size).with_context(named)?,
             found: HashSet::new(),
+            evidence: HashSet::new(),
             size,
         })
     }
@@ -101,18 +109,21 @@ impl ReportLog {
     pub fn remember(&mut self) -> Result<()> {
         let stored = files::read_or_empty(&self.path)?;
         let (all, _) = read_all(&stored);
+        let evidence = all.iter().filter(|one| one.is_evidence());
+        self.evidence = evidence.map(|one| sha256(&[&one.plain])).collect();
         self.found = all.iter().map(|one| sha256(&[&one.plain])).collect();
         Ok(())
     }
 
-    /// Forgets which there are: the node was opened.
+    /// Forgets which there are, but evidence: the node was opened.
     pub fn forget(&mut self) {
         self.found = HashSet::new();
     }
 
     /// Whether this report is remembered.
     pub fn has(&self, plain: &[u8]) -> bool {
-        self.found.contains(&sha256(&[plain]))
+        let hash = sha256(&[plain]);
+        self.found.contains(&hash) || self.evidence.contains(&hash)
     }
 
     /// Writes a report. It isn't synced: what a crash of the machine takes the node tells anew, as long as its record has it.
@@ -124,6 +135,9 @@ impl ReportLog {
         let bytes = signed.bytes();
         self.file.write_all(&bytes)?;
         self.size += bytes.len() as u64;
+        if signed.is_evidence() {
+            self.evidence.insert(sha256(&[&signed.plain]));
+        }
         Ok(())
     }
 }

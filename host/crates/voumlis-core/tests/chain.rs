@@ -14,7 +14,7 @@ use voumlis_core::chain::{Chain, ChainHandle, ChainSettings, Request, Surroundin
 use voumlis_core::frame::Frame;
 use voumlis_core::inbox::{Inbox, Input};
 use voumlis_core::metrics::{Metrics, Status};
-use voumlis_core::wire::{self, Event, Proposal, Round};
+use voumlis_core::wire::{self, Event, Plan, Proposal, Round};
 
 /// What the application was told, in order.
 type Told = Arc<Mutex<Vec<String>>>;
@@ -323,5 +323,35 @@ fn a_block_is_on_the_disk_before_it_is_voted_for() {
     let payload = payload.unwrap();
     assert!(file.windows(32).any(|part| part == payload));
     assert_eq!(member.syncs(), 2);
+    member.close();
+}
+
+#[test]
+fn what_was_built_goes_to_all_and_what_is_forwarded_to_those_of_its_plan() {
+    let folder = tempfile::tempdir().unwrap();
+    let member = Member::open(folder.path());
+    let context = context(&blocks(1)[0]);
+    member.ask(Request::Build(1, context));
+    let Event::Built { payload, .. } = member.answer() else {
+        panic!("it builds");
+    };
+    let (payload, round) = (payload.unwrap(), context.round);
+    let built = blocks(1).remove(0);
+    let frame = Frame::Block(Block::bytes(1, built.parent, &built.contents));
+    assert_eq!(payload, built.id.payload);
+    for (plan, to) in [
+        (Plan::Prepare(round), vec![None]),
+        (Plan::Propose(round), vec![None]),
+        (Plan::Forward(round, vec![2, 3]), vec![Some(2), Some(3)]),
+    ] {
+        member.ask(Request::Forward(payload, plan));
+        let mut sent = Vec::new();
+        until("it is sent", || {
+            sent.append(&mut member.network.taken());
+            (sent.len() >= to.len()).then_some(())
+        });
+        let wanted: Vec<_> = to.into_iter().map(|to| (to, frame.clone())).collect();
+        assert_eq!(sent, wanted);
+    }
     member.close();
 }

@@ -21,7 +21,7 @@ use voumlis_core::plain::{BASE, attestation};
 use voumlis_core::reports::{ReportLog, read_all};
 use voumlis_core::signatures::SignatureFile;
 use voumlis_core::wire::{
-    Action, Attestation, Channel, Event, On, Reply, Round, Vote, VoteKind, put_number,
+    Action, Attestation, Channel, Event, On, Proposal, Reply, Round, Vote, VoteKind, put_number,
 };
 
 /// What the nodes of all lives were told, each with the number of its life.
@@ -313,6 +313,30 @@ fn moments_do_not_fall_and_come_when_the_node_wants_to_be_woken() {
 }
 
 #[test]
+fn the_time_is_told_with_what_comes() {
+    let folder = tempfile::tempdir().unwrap();
+    let network = Remembered::default();
+    // It is woken once, and wants to be told no time from then on.
+    let member = Running::new(folder.path(), LONG, network, |_, _| reply(Vec::new()));
+    let woken = until("it is woken", || {
+        match member.events.lock().unwrap().first() {
+            Some((_, Event::Moment(moment))) => Some(*moment),
+            _ => None,
+        }
+    });
+    thread::sleep(Duration::from_millis(30));
+    let vote = nullify(1, 1);
+    member.packet(1, vote.bytes(), vec![signature(&vote)]);
+    member.told(1);
+    let events = member.events.lock().unwrap().clone();
+    let [_, (_, Event::Moment(moment)), (_, Event::Packet { .. })] = events[..] else {
+        panic!("{events:?}");
+    };
+    assert!(moment >= woken + 30, "{moment} behind {woken}");
+    member.stop();
+}
+
+#[test]
 fn a_record_is_opened_again_and_no_answer_reaches_another_life() {
     let folder = tempfile::tempdir().unwrap();
     let network = Remembered::default();
@@ -365,6 +389,54 @@ fn reports_are_kept_with_signatures_and_what_is_told_anew_is_not_written_again()
     let (reports, size) = read_all(&stored);
     assert_eq!((reports.len(), size), (1, stored.len()));
     assert_eq!(reports[0].signatures, signed);
+}
+
+/// A notarize of the proposal with this payload, in view 1.
+fn notarize(signer: u32, payload: u8) -> Vote {
+    let round = Round { epoch: 0, view: 1 };
+    let proposal = Proposal {
+        round,
+        parent: 0,
+        payload: [payload; 32],
+    };
+    let (kind, on) = (VoteKind::Notarize, On::Proposal(proposal));
+    let hash = attestation(BASE, kind, &on, signer);
+    let attestation = Attestation { signer, hash };
+    Vote {
+        kind,
+        on,
+        attestation,
+    }
+}
+
+#[test]
+fn evidence_that_a_liar_brings_again_is_kept_once() {
+    let folder = tempfile::tempdir().unwrap();
+    let votes = [notarize(1, 7), notarize(1, 8)];
+    let evidence = [&[7], &votes[0].bytes()[1..], &votes[1].bytes()[1..]].concat();
+    let told = evidence.clone();
+    // As a node does, it tells the same of each vote that contradicts the first.
+    let say = move |_, event: &Event| match event {
+        Event::Packet { bytes, .. } if *bytes == votes[1].bytes() => {
+            reply(vec![Action::Block(1), Action::Report(told.clone())])
+        }
+        _ => reply(Vec::new()),
+    };
+    let kept = || read_all(&std::fs::read(folder.path().join("reports")).unwrap()).0;
+    // Behind a restart of the process too.
+    for _ in 0..2 {
+        let network = Remembered::default();
+        let member = Running::new(folder.path(), LONG, network, say.clone());
+        for payload in [7, 8, 8, 8] {
+            let vote = notarize(1, payload);
+            member.packet(1, vote.bytes(), vec![signature(&vote)]);
+        }
+        member.told(4);
+        member.stop();
+        let kept = kept();
+        assert_eq!(kept.len(), 1);
+        assert_eq!(kept[0].plain, evidence);
+    }
 }
 
 #[test]

@@ -418,7 +418,10 @@ impl Links {
         stream: tokio_rustls::server::TlsStream<TcpStream>,
     ) -> Result<()> {
         let (reader, writer) = split(stream);
-        let (mut reader, mut writer) = (BufReader::new(reader), BufWriter::new(writer));
+        let (mut reader, mut writer) = (
+            BufReader::new(reader),
+            BufWriter::with_capacity(8 * AT_ONCE, writer),
+        );
         writer.write_u64(self.run).await?;
         writer.write_u64(last).await?;
         writer.flush().await?;
@@ -426,8 +429,12 @@ impl Links {
         loop {
             let read = timeout(SILENCE, self.read_frame(peer, from, &mut reader)).await;
             if let Some((number, bytes)) = read.context("it says nothing")?? {
-                // Meanwhile nothing more is read from it, so what it sends waits at the peer.
-                sleep(self.wait_for(peer, &bytes)).await;
+                let wait = self.wait_for(peer, &bytes);
+                if !wait.is_zero() {
+                    // Nothing more is read from it, so what it sends waits at the peer. It hears first what came until now.
+                    timeout(SILENCE, writer.flush()).await.context("slow")??;
+                    sleep(wait).await;
+                }
                 if self.is_next(peer, connection, number)? {
                     self.take(peer, from, bytes).await?;
                 }

@@ -15,6 +15,7 @@ use voumlis_core::envelope::{Sealed, Sealer};
 use voumlis_core::frame::Frame;
 use voumlis_core::plain::{BASE, attestation};
 use voumlis_core::wire::{Attestation, Channel, On, Round, Vote, VoteKind};
+use voumlisd::settings::Limits;
 use voumlisd::tls;
 
 /// A connection to a member, by TLS with this key, up to the greeting.
@@ -63,7 +64,15 @@ fn refused(committee: &Committee, why: &str) -> f64 {
 
 /// Three of four members, and the key of the fourth.
 fn three() -> (Committee, Arc<Keys>, SecretKey) {
-    let mut committee = Committee::new(4, |settings| settings.limits.strangers = 8);
+    three_with(|_| {})
+}
+
+/// The same, whose limits are changed so.
+fn three_with(change: impl Fn(&mut Limits)) -> (Committee, Arc<Keys>, SecretKey) {
+    let mut committee = Committee::new(4, |settings| {
+        settings.limits.strangers = 8;
+        change(&mut settings.limits);
+    });
     (0..3).for_each(|member| committee.start(member));
     committee.reach(&[0, 1, 2], 2);
     let keys = Arc::new(committee.settings[0].committee().unwrap());
@@ -250,11 +259,33 @@ fn frames_are_taken_once_and_told_again_behind_a_reconnection() {
     go_on(&mut committee);
 }
 
+/// Sends these frames in turn, again and again, and waits until so many are acknowledged.
+async fn send_until(stream: TlsStream<tokio::net::TcpStream>, frames: Vec<Vec<u8>>, count: u64) {
+    let (mut reader, mut writer) = tokio::io::split(stream);
+    tokio::spawn(async move {
+        for number in 1..=count * 100 {
+            let frame = &frames[number as usize % frames.len()];
+            writer.write_u32(frame.len() as u32).await?;
+            writer.write_u64(number).await?;
+            writer.write_all(frame).await?;
+            writer.flush().await?;
+        }
+        Ok::<_, std::io::Error>(writer)
+    });
+    let mut taken = 0;
+    while taken < count {
+        let acknowledged = tokio::time::timeout(patience(), reader.read_u64());
+        taken = acknowledged.await.expect("frames are taken").unwrap();
+    }
+}
+
 #[test]
 fn a_peer_that_asks_much_waits_and_a_slow_reader_holds_up_nobody() {
-    let (mut committee, keys, key) = three();
+    // Few enough that even a busy machine would take more in the time, were it let.
+    let (most, a_second, asked): (u32, u32, u64) = (50, 5, 100);
+    let (mut committee, keys, key) =
+        three_with(|limits| limits.peer_asks = (most.into(), a_second.into()));
     let address = committee.settings[0].listen;
-    let most = committee.settings[0].limits.peer_asks;
     let runtime = tokio::runtime::Runtime::new().unwrap();
     // Of HTTP: it asks, and reads nothing.
     let mut slow = TcpStream::connect(committee.settings[0].http).unwrap();
@@ -264,36 +295,61 @@ fn a_peer_that_asks_much_waits_and_a_slow_reader_holds_up_nobody() {
         slow.set_write_timeout(Some(Duration::from_millis(200)))
             .unwrap();
     }
-    let taken = runtime.block_on(async {
+    let begun = Instant::now();
+    runtime.block_on(async {
         let mut stream = dial(&keys, &key, 0, address).await.unwrap();
         greet(&mut stream, keys.hash(), 1).await.unwrap();
-        // Asks for a block that nobody has: each is answered with a frame, to a peer that isn't there.
-        let ask = Frame::AskBlocks {
-            payload: [9; 32],
-            above: 0,
-        };
-        let ask = ask.bytes();
-        let (mut reader, mut writer) = tokio::io::split(stream);
-        tokio::spawn(async move {
-            for number in 1..=(most.0 as u64 * 20) {
-                writer.write_u32(ask.len() as u32).await?;
-                writer.write_u64(number).await?;
-                writer.write_all(&ask).await?;
-                writer.flush().await?;
-            }
-            Ok::<_, std::io::Error>(writer)
-        });
-        // For three seconds, or until the machine has found time for twenty.
-        let (mut taken, begun) = (0, Instant::now());
-        while taken < 20 || begun.elapsed() < Duration::from_secs(3) {
-            let acknowledged = tokio::time::timeout(patience(), reader.read_u64());
-            taken = acknowledged.await.expect("asks are taken").unwrap();
-        }
-        (taken, begun.elapsed())
+        // Asks for a block that nobody has, each answered with a frame, to a peer that isn't there; and for a certificate.
+        let payload = [9; 32];
+        let for_blocks = Frame::AskBlocks { payload, above: 0 };
+        let sealer = Sealer::new(keys.clone(), key).unwrap();
+        let for_certificate = sealer.seal(Channel::Fetches, vec![1]).unwrap().0;
+        let asks = vec![for_blocks.bytes(), Frame::Packet(for_certificate).bytes()];
+        send_until(stream, asks, asked).await;
     });
-    let (taken, passed) = taken;
-    let may = most.0 + most.1 * (passed.as_secs_f64() + 1.0);
-    assert!(taken as f64 <= may, "{taken} asks were taken in {passed:?}");
+    let passed = begun.elapsed();
+    let least = Duration::from_secs((asked - u64::from(most)) / u64::from(a_second));
+    assert!(passed >= least, "{asked} asks were taken in {passed:?}");
     go_on(&mut committee);
     drop(slow);
+}
+
+#[test]
+fn a_peer_that_sends_much_waits() {
+    let (most, a_second, sent): (u32, u32, u64) = (200_000, 50_000, 35);
+    let (mut committee, keys, key) =
+        three_with(|limits| limits.peer_bytes = (most.into(), a_second.into()));
+    let address = committee.settings[0].listen;
+    let runtime = tokio::runtime::Runtime::new().unwrap();
+    let frame = Frame::Block(vec![0; 20_000]).bytes();
+    let size = frame.len() as u64;
+    let begun = Instant::now();
+    runtime.block_on(async {
+        let mut stream = dial(&keys, &key, 0, address).await.unwrap();
+        greet(&mut stream, keys.hash(), 1).await.unwrap();
+        send_until(stream, vec![frame], sent).await;
+    });
+    let passed = begun.elapsed();
+    let least = Duration::from_secs((sent * size - u64::from(most)) / u64::from(a_second));
+    assert!(passed >= least, "{sent} frames were taken in {passed:?}");
+    go_on(&mut committee);
+}
+
+#[test]
+fn what_listens_with_another_key_is_told_nothing() {
+    let (mut committee, keys, _) = three();
+    let key = SecretKey::generate().unwrap();
+    let acceptor = tls::acceptor(&keys, &key, 3).unwrap();
+    let runtime = tokio::runtime::Runtime::new().unwrap();
+    runtime.block_on(async {
+        let address = committee.settings[3].listen;
+        let listener = tokio::net::TcpListener::bind(address).await.unwrap();
+        for _ in 0..3 {
+            let dialed = tokio::time::timeout(patience(), listener.accept()).await;
+            let (stream, _) = dialed.expect("it is dialed").unwrap();
+            let shaken = acceptor.accept(stream).await;
+            assert!(shaken.is_err(), "a member talks to another key");
+        }
+    });
+    go_on(&mut committee);
 }

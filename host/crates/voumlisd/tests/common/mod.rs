@@ -8,17 +8,22 @@ use std::io::{Read, Write};
 use std::net::{SocketAddr, TcpListener, TcpStream};
 use std::path::{Path, PathBuf};
 use std::process::{Child, Command, ExitStatus, Output, Stdio};
+use std::sync::atomic::{AtomicU32, Ordering};
 use std::thread;
 use std::time::{Duration, Instant};
 use tempfile::TempDir;
 use voumlisd::Settings;
 
-/// How long anything may take: a program that isn't proved is slow, and the machine may be busy. `VOUMLIS_PATIENCE` says another number
-/// of seconds, for runs in which a test is to fail.
+/// How long anything may take: a program that isn't proved is slow, and where the machine has more to do than processors it takes as many
+/// times longer. `VOUMLIS_PATIENCE` says a number of seconds, for runs in which a test is to fail.
 pub fn patience() -> Duration {
-    let named = std::env::var("VOUMLIS_PATIENCE").ok();
-    let seconds = named.map_or(180, |text| text.parse().expect("a number of seconds"));
-    Duration::from_secs(seconds)
+    if let Ok(named) = std::env::var("VOUMLIS_PATIENCE") {
+        return Duration::from_secs(named.parse().expect("a number of seconds"));
+    }
+    let load = fs::read_to_string("/proc/loadavg").unwrap_or_default();
+    let load: f64 = load.split(' ').next().unwrap().parse().unwrap_or(0.0);
+    let processors = thread::available_parallelism().map_or(1.0, |it| it.get() as f64);
+    Duration::from_secs(180).mul_f64((load / processors).max(1.0))
 }
 
 /// The program `simplex`.
@@ -51,15 +56,17 @@ pub fn until<T>(what: &str, mut look: impl FnMut() -> Option<T>) -> T {
     }
 }
 
-/// Addresses of the loopback that nobody listens at. All are held until the last is found, so that they differ.
+/// Addresses of the loopback that nobody listens at, below those that systems give to connections: none is taken until a member listens.
 pub fn free_addresses(count: usize) -> Vec<SocketAddr> {
-    let listeners: Vec<TcpListener> = (0..count)
-        .map(|_| TcpListener::bind("127.0.0.1:0").unwrap())
-        .collect();
-    listeners
-        .iter()
-        .map(|listener| listener.local_addr().unwrap())
-        .collect()
+    static NEXT: AtomicU32 = AtomicU32::new(0);
+    let begin = std::process::id() % 150 * 140;
+    let ports = std::iter::repeat_with(|| {
+        let at = begin + NEXT.fetch_add(1, Ordering::Relaxed);
+        10_000 + (at % 22_000) as u16
+    });
+    let addresses = ports.map(|port| SocketAddr::from(([127, 0, 0, 1], port)));
+    let is_free = |address: &SocketAddr| TcpListener::bind(address).is_ok();
+    addresses.filter(is_free).take(count).collect()
 }
 
 /// A committee: its folder, its members' settings, and the processes that run.
