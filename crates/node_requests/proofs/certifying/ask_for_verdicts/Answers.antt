@@ -4,7 +4,7 @@ use Rattle.types_core.specs.declared.proposal.Proposal.{Proposal}
 use Rattle.voter_rules.specs.declared.certificate_fetch.CertificateFetch.{CertificateFetch}
 use Rattle.simplex_member.specs.Layers.{voter_of}
 use Rattle.simplex_member.specs.Packet.{formats}
-use Rattle.node_requests.specs.Certifying.{AreDueVerdicts}
+use Rattle.node_requests.specs.Certifying.{AreDueVerdicts, AsksForEach}
 use Rattle.node_requests.specs.Fetching.{AreAllWanted, FetchesParents}
 use Rattle.node_requests.proofs.Verdicts.{HasLookedAt, has_looked_at, no_verdict_due, verdicts_come}
 use Rattle.node_requests.proofs.certifying.ask_for_verdicts.Goals as goal
@@ -36,6 +36,7 @@ returns-in_ok-ask_each-in-Ok-clause-acts g c = λ s h k.
     (c.in_ok-fetch_parents-in-Ok.ensures.fetched s h (record { begun = k.begun; allowed = k.allowed; repair_is = k.repair_is; tables_are = k.tables_are })
     (subst (λ (l : List CertificateFetch). AreAllWanted g.S.Scheme f s h l) (sym c.deref-in-Ok-2.ensures.value) wanted)))
     (λ x there due.
-    c.in_ok-ask_each-in-Ok.ensures.asked c.args.repair.now s x there
-    (subst (λ (l : List (Proposal g.row.D.Denot)). AreDueVerdicts s x l) (sym c.deref-in-Ok-3.ensures.value) due))
+    subst (λ (l : List (Proposal g.row.D.Denot)). AsksForEach g.S.Scheme g.L.Elector f s c.ask_each.new.voter c.ask_each.new.tables x l mid c.ask_each.new.out.items) c.deref-in-Ok-3.ensures.value
+    (c.in_ok-ask_each-in-Ok.ensures.asked c.args.repair.now s x there
+    (subst (λ (l : List (Proposal g.row.D.Denot)). AreDueVerdicts s x l) (sym c.deref-in-Ok-3.ensures.value) due)))
     (λ no_verdict no_fetch. false≢true (sym c.if-are_none.false ∙ c.are_none.ensures.1 (c.deref.ensures.value ∙ no_verdict, c.deref-in-Ok.ensures.value ∙ no_fetch)))
