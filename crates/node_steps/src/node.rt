@@ -1,11 +1,15 @@
 //! One member's node.
 
-ghost use Rattle.std.specs.Prelude.{◌≡◌, false};
+ghost use Rattle.std.specs.Prelude.{◌≡◌, ℕ, List, false};
+ghost use Rattle.journal_single.specs.Disk.{MayLeave};
 ghost use Rattle.simplex_member.specs.Layers.{current_of, finalized_of};
-ghost use Rattle.node_steps.specs.Keeps.{AtAll, disk_of, has_failed};
+ghost use Rattle.simplex_member.specs.Member.{ReadsAs};
+ghost use Rattle.node_steps.specs.Keeps.{AtAll, AtOwn, disk_of, has_failed};
 
 use journal_single::Disk;
 use node_core::Core;
+use node_record::a_ledger_at_rest_leaves_its_record;
+use simplex_member::Speaks;
 use types_core::{Digest, Scheme, View};
 use types_terms::Elector;
 
@@ -39,10 +43,13 @@ impl<S: Scheme<D> + Drop, L: Elector<S, D>, D: Digest, K: Disk> Node<S, L, D, K>
         self.failed
     }
 
-    /// Gives the disk back.
+    /// Gives the disk back, which holds what the node has recorded: a crash leaves nothing else.
     pub fn close(self) -> K
-        ensures { result ≡ disk_of self }
+        ensures disk { result ≡ disk_of self }
+        ensures left { AtOwn S.Scheme L.Elector K.Disk ⟦<S as Speaks<D>>⟧.formats self
+            (λ f s h. K.keeps → (image : List ℕ) → MayLeave (K.calls result) image → ReadsAs S.Scheme f s image h) }
     {
+        a_ledger_at_rest_leaves_its_record::<S, D, K>();
         let core = self.core;
         core.ledger.close()
     }

@@ -3,3 +3,4 @@ pub mod Lived
 pub mod Passing
 pub mod Stepped
 pub mod Streamed
+pub mod Told

@@ -1,8 +1,8 @@
--- What lives leave: one more behind those before it, and what a crash inside it leaves.
-use Rattle.std.proofs.Common.{◌≡◌, ◌⊎◌, ⊎_elim, inl, inr, ◌≤◌, ℕ, List, [], ◌∷◌, ◌++◌, Option, Some, None, refl, sym, ap, ◌∙◌, subst, append_assoc, map}
-use Rattle.std.specs.Prelude.{All, Contains, MatchOption}
-use Rattle.std.proofs.lemmas.List.{append-nil}
-use Rattle.std.proofs.lemmas.List.Elements.{All-cons, All-contains, All-nil, Contains-append_right}
+-- What lives leave: one more behind those before it, by what it answered, and what a crash inside it leaves.
+use Rattle.std.proofs.Common.{◌≡◌, ◌⊎◌, ⊎_elim, inl, inr, ◌≤◌, ◌+◌, ℕ, List, [], ◌∷◌, ◌++◌, length, Option, Some, None, refl, sym, ap, ◌∙◌, subst, append_assoc, map, arith}
+use Rattle.std.specs.Prelude.{All, Contains, IfSome, MatchOption, option_map, option_to_list}
+use Rattle.std.proofs.lemmas.List.{append-nil, length-append}
+use Rattle.std.proofs.lemmas.List.Elements.{All-cons, All-contains, All-head, All-nil, Contains-append_right}
 use Rattle.std.proofs.lemmas.Option.{same_Some}
 use Rattle.types_quorum.specs.Counting.{Contains-head}
 use Rattle.types_core.specs.declared.scheme.Scheme.{Ghosts}
@@ -11,26 +11,38 @@ use Rattle.types_terms.specs.declared.elector.Elector as elector
 use Rattle.journal_single.specs.declared.disk.Disk as disk
 use Rattle.journal_single.specs.Disk.{Call, LeavesOnly, MayLeave}
 use Rattle.journal_single.specs.Moments.{and_then, at_last, started, weaker}
-use Rattle.journal_single.specs.Record.{IsReopened, Reads}
+use Rattle.journal_single.specs.Record.{IsForeign, IsReopened, Reads}
 use Rattle.simplex_member.specs.declared.action.Action.{Action}
 use Rattle.simplex_member.specs.declared.action.Reply.{Reply}
 use Rattle.simplex_member.specs.declared.event.Event.{Event}
+use Rattle.simplex_member.specs.declared.fault.NodeFault.{NodeFault}
+use Rattle.simplex_member.specs.declared.fault.NodeFault.TheVariants as node_fault
+use Rattle.simplex_member.specs.declared.fault.OpenFault.{OpenFault}
+use Rattle.simplex_member.specs.declared.fault.OpenFault.TheVariants as open_fault
 use Rattle.simplex_member.specs.declared.refusal.Refusal.{Refusal}
 use Rattle.simplex_member.specs.Deeds.{AreActions}
 use Rattle.simplex_member.specs.First.{IsFirst}
-use Rattle.simplex_member.specs.Lives.{Broken, Course, Lasting, Life, Lived, Lives, Refuses, Turn, Turns, Went, events_of, turn_events}
+use Rattle.simplex_member.specs.Lives.{Broken, Course, IsCut, Lasting, Life, Lived, Lives, Refuses, Turn, Turns, Went, events_of, turn_events}
 use Rattle.simplex_member.specs.Member as whole
-use Rattle.simplex_member.specs.Member.{AreStep, Goes, IsOpened, IsReached, ReadsAs, Run, Steps, Takes}
+use Rattle.simplex_member.specs.Member.{AreStep, Goes, HandsOut, IsOpened, IsReached, ReadsAs, Run, Steps, Takes, after}
 use Rattle.simplex_member.specs.Packet.{Formats}
 use Rattle.simplex_member.specs.Point.{Point, History}
 use Rattle.simplex_member.specs.Recorded.{record_of}
 use Rattle.simplex_member.specs.Refusals.{refused_deeds, tests}
-use Rattle.simplex_member.specs.Setup.{IsOfOneMember, Setup}
-use Rattle.node_record.specs.Ledger.{AreFoundOn}
-use Rattle.node_steps.specs.Opening.{MayBeLeftOpen}
+use Rattle.simplex_member.specs.Setup.{IsOfOneMember, Setup, owner_of}
+use Rattle.simplex_record.specs.declared.owner.Owner.{Owner}
+use Rattle.simplex_record.specs.Lawful.{IsRefusedAt}
+use Rattle.node_record.specs.Ledger.{AreFoundOn, IsContradiction}
+use Rattle.node_steps.specs.Opening.{MayBeLeftOpen, early, open_tests}
+use Rattle.node_wire.specs.declared.listing.Answers.{Answers}
+use Rattle.simplex_node.specs.declared.living.Answered.{Answered}
+use Rattle.simplex_node.specs.declared.living.Answered.TheVariants.{NotOpened, Opened}
 use Rattle.simplex_node.specs.declared.living.Opening.{Opening}
-use Rattle.simplex_node.specs.Living.{AreLivesOf, AreOfOneMember, IsLeftByLives, IsLifeOf, MayLeaveOnly, setup_by}
+use Rattle.simplex_node.specs.Living.{AreLivesOf, AreOfOneMember, AreReplies, BeginsNone, FailsFor, Gives, IsLeftByLives, IsLeftByTurns, IsLifeOf, MayLeaveOnly, Tells, Try, setup_by, tried}
 use Rattle.simplex_node.specs.Running.{IsPassed, LeavesAtMost}
+
+some-none : {X : Type 0} (x : X) → Some x ≡ None → ⊥
+some-none x e = cc e
 
 module _ {S D P G C : Type 0} (g : Ghosts S D P G C) (f : Formats S D P G C) where
   -- one life behind others
@@ -39,187 +51,329 @@ module _ {S D P G C : Type 0} (g : Ghosts S D P G C) (f : Formats S D P G C) whe
   lives-on s found [] left life end is lived one = (end, subst (λ (xs : List (Artifact S D P G C)). Lived g f life.setup xs life.course end) is lived, refl, one)
   lives-on s found (first ∷ lives) left life end (mid, lived_first, more, same) lived one = (mid, lived_first, lives-on s (record_of mid) lives left life end more lived one, same)
 
-  -- the turns of a run
-  pub run-turns : (s : Setup S D C) (h : History S D P G C) (events : List (Event D)) (replies : List (Reply S D P G C)) (end : History S D P G C) → Run g f s h events replies end
-      → (turns : List (Turn S D P G C)) × Turns g f s h turns end × (turn_events turns ≡ events)
-  run-turns s h [] [] end is = ([], is, refl)
-  run-turns s h [] (reply ∷ replies) end run = absurd run
-  run-turns s h (e ∷ events) [] end run = absurd run
-  run-turns s h (e ∷ events) (reply ∷ replies) end (mid, step, run) =
-      let more = run-turns s mid events replies end run in
-      turn reply.refused refl step more.0 more.1 more.2
-    where
-      turn : (refused : Option Refusal) → reply.refused ≡ refused → Steps g f s h e reply mid → (turns : List (Turn S D P G C)) → Turns g f s mid turns end → turn_events turns ≡ events
-          → (all : List (Turn S D P G C)) × Turns g f s h all end × (turn_events all ≡ e ∷ events)
-      turn None is step turns go same =
-          let takes : Takes g f s h e reply.actions.items mid = subst
-          (λ (r : Option Refusal). MatchOption r (Takes g f s h e reply.actions.items mid) (λ x. (mid ≡ h) × AreActions f reply.actions.items (refused_deeds g f s h e x))) is step.1 in
-          (Went e takes.points ∷ turns, (mid, takes.step, takes.rests, go), ap (λ (l : List (Event D)). e ∷ l) same)
-      turn (Some r) is step turns go same =
-          let stays : (mid ≡ h) × AreActions f reply.actions.items (refused_deeds g f s h e r) = subst
-          (λ (o : Option Refusal). MatchOption o (Takes g f s h e reply.actions.items mid) (λ x. (mid ≡ h) × AreActions f reply.actions.items (refused_deeds g f s h e x))) is step.1 in (
-            Refuses e r ∷ turns,
-            (subst (λ (o : Option Refusal). IsFirst (tests g f s h e) o) is step.0, subst (λ (k : History S D P G C). Turns g f s k turns end) stays.0 go),
-            ap (λ (l : List (Event D)). e ∷ l) same,
+  module _ (s : Setup S D C) where
+    -- where points lead
+    pub goes-after : (points : List (Point S D P G C)) (h end : History S D P G C) → Goes g f s h points end → end ≡ after h points
+    goes-after [] h end is = is
+    goes-after (p ∷ points) h end (allowed, goes) = goes-after points (p ∷ h) end goes
+
+    -- the turns of a run
+    pub record RunTurns (h : History S D P G C) (events : List (Event D)) (replies : List (Reply S D P G C)) (end : History S D P G C) : Type 0 where
+      pub turns : List (Turn S D P G C)
+      pub turned : Turns g f s h turns end
+      pub over : turn_events turns ≡ events
+      pub replied : AreReplies g f s h turns replies
+
+    pub run-turns : (h : History S D P G C) (events : List (Event D)) (replies : List (Reply S D P G C)) (end : History S D P G C) → Run g f s h events replies end
+        → RunTurns h events replies end
+    run-turns h [] [] end is = record { turns = []; turned = is; over = refl; replied = tt }
+    run-turns h [] (reply ∷ replies) end run = absurd run
+    run-turns h (e ∷ events) [] end run = absurd run
+    run-turns h (e ∷ events) (reply ∷ replies) end (mid, step, run) = turn reply.refused refl step (run-turns mid events replies end run)
+      where
+        turn : (refused : Option Refusal) → reply.refused ≡ refused → Steps g f s h e reply mid → RunTurns mid events replies end → RunTurns h (e ∷ events) (reply ∷ replies) end
+        turn None is step more =
+            let takes : Takes g f s h e reply.actions.items mid = subst
+            (λ (r : Option Refusal). MatchOption r (Takes g f s h e reply.actions.items mid) (λ x. (mid ≡ h) × AreActions f reply.actions.items (refused_deeds g f s h e x))) is step.1 in
+            let same : mid ≡ after h takes.points = goes-after takes.points h mid takes.rests.goes in
+            record {
+              turns = Went e takes.points ∷ more.turns;
+              turned = (mid, takes.step, takes.rests, more.turned);
+              over = ap (λ (l : List (Event D)). e ∷ l) more.over;
+              replied = (
+                is,
+                subst (λ (k : History S D P G C). HandsOut g f s h takes.points k reply.actions.items) same takes.hands_out,
+                subst (λ (k : History S D P G C). AreReplies g f s k more.turns replies) same more.replied,
+              );
+            }
+        turn (Some r) is step more =
+            let stays : (mid ≡ h) × AreActions f reply.actions.items (refused_deeds g f s h e r) = subst
+            (λ (o : Option Refusal). MatchOption o (Takes g f s h e reply.actions.items mid) (λ x. (mid ≡ h) × AreActions f reply.actions.items (refused_deeds g f s h e x))) is step.1 in
+            record {
+              turns = Refuses e r ∷ more.turns;
+              turned = (
+                subst (λ (o : Option Refusal). IsFirst (tests g f s h e) o) is step.0,
+                subst (λ (k : History S D P G C). Turns g f s k more.turns end) stays.0 more.turned,
+              );
+              over = ap (λ (l : List (Event D)). e ∷ l) more.over;
+              replied = (is, stays.1, subst (λ (k : History S D P G C). AreReplies g f s k more.turns replies) stays.0 more.replied);
+            }
+
+    -- all events were answered
+    pub turns-whole : (h : History S D P G C) (events : List (Event D)) (replies : List (Reply S D P G C)) (end : History S D P G C) (fault : Option NodeFault) (image : List ℕ)
+        → Run g f s h events replies end → ReadsAs g f s image end → IsLeftByTurns g f s h events replies fault image
+    turns-whole h events replies end fault image run reads =
+        let t = run-turns h events replies end run in
+        record {
+          turns = t.turns;
+          last = end;
+          cut = None;
+          end = end;
+          turned = t.turned;
+          is_cut = refl;
+          replied = t.replied;
+          left = [];
+          split = sym t.over ∙ sym (append-nil (turn_events t.turns)) ∙ sym (append-nil (turn_events t.turns ++ []));
+          whole = λ is. (refl, refl);
+          reads = reads;
+        }
+
+    -- none was
+    pub turns-none : (h : History S D P G C) (events : List (Event D)) (why : NodeFault) (image : List ℕ) → ReadsAs g f s image h → IsLeftByTurns g f s h events [] (Some why) image
+    turns-none h events why image reads = record {
+      turns = [];
+      last = h;
+      cut = None;
+      end = h;
+      turned = refl;
+      is_cut = refl;
+      replied = tt;
+      left = events;
+      split = refl;
+      whole = λ is. absurd (some-none why is);
+      reads = reads;
+    }
+
+    -- those before one were, and the step over that may have been cut off
+    pub turns-cut : (h : History S D P G C) (events before behind : List (Event D)) (event : Event D) (replies : List (Reply S D P G C)) (mid : History S D P G C) (why : NodeFault) (image : List ℕ)
+        → events ≡ before ++ event ∷ behind → Run g f s h before replies mid → IsReached g f s mid event image → IsLeftByTurns g f s h events replies (Some why) image
+    turns-cut h events before behind event replies mid why image is run reached = by reached
+      where
+        t : RunTurns h before replies mid
+        t = run-turns h before replies mid run
+
+        by : IsReached g f s mid event image → IsLeftByTurns g f s h events replies (Some why) image
+        by (inl reads) = record {
+          turns = t.turns;
+          last = mid;
+          cut = None;
+          end = mid;
+          turned = t.turned;
+          is_cut = refl;
+          replied = t.replied;
+          left = event ∷ behind;
+          split = is ∙ ap (λ (l : List (Event D)). l ++ event ∷ behind) (sym t.over ∙ sym (append-nil (turn_events t.turns)));
+          whole = λ same. absurd (some-none why same);
+          reads = reads;
+        }
+        by (inr (points, end, step, goes, reads)) = record {
+          turns = t.turns;
+          last = mid;
+          cut = Some (event, points);
+          end = end;
+          turned = t.turned;
+          is_cut = (step, goes);
+          replied = t.replied;
+          left = behind;
+          split = is ∙ sym (append_assoc before (event ∷ []) behind) ∙ ap (λ (l : List (Event D)). (l ++ event ∷ []) ++ behind) (sym t.over);
+          whole = λ same. absurd (some-none why same);
+          reads = reads;
+        }
+
+    pub turns-passed : (h : History S D P G C) (events : List (Event D)) (image : List ℕ) → (passed : IsPassed g f s h events image)
+        → IsLeftByTurns g f s h events passed.replies (Some node_fault.Memory) image
+    turns-passed h events image passed =
+        turns-cut h events passed.before passed.behind passed.event passed.replies passed.mid node_fault.Memory image passed.split passed.run passed.reached
+
+    -- turns to which no fault is told were over all events
+    pub over-all : (events : List (Event D)) (turns : List (Turn S D P G C)) (cut : Option (Event D × List (Point S D P G C))) (left : List (Event D))
+        → events ≡ (turn_events turns ++ option_to_list (option_map (λ c. c.0) cut)) ++ left → cut ≡ None → left ≡ [] → turn_events turns ≡ events
+    over-all events turns cut left split none nothing =
+        sym (split
+        ∙ ap (λ (c : Option (Event D × List (Point S D P G C))). (turn_events turns ++ option_to_list (option_map (λ x. x.0) c)) ++ left) none
+        ∙ ap (λ (l : List (Event D)). (turn_events turns ++ []) ++ l) nothing
+        ∙ append-nil (turn_events turns ++ []) ∙ append-nil (turn_events turns))
+
+-- an opening and what it answered
+abbrev pub trial : {S L D P G C : Type 0} → Opening S L D → Option (Answered S D P G C) → Try S L D P G C
+trial o answer = record { opening = o; answer = answer }
+
+abbrev pub owner_by : ℕ → ℕ → ℕ → Owner
+owner_by epoch length me = record { epoch = epoch; term_length = length; signer = me }
+
+-- openings of which none has told anything, in two parts
+pub tried-none : {S L D P G C : Type 0} (over more : List (Opening S L D)) → tried {P = P} {G = G} {C = C} (over ++ more) [] ≡ tried over [] ++ tried more []
+tried-none [] more = refl
+tried-none {S} {L} {D} {P} {G} {C} (o ∷ over) more = ap (λ (l : List (Try S L D P G C)). trial o None ∷ l) (tried-none over more)
+
+-- one more that answered
+pub tried-more : {S L D P G C : Type 0} (over : List (Opening S L D)) (answers : List (Answered S D P G C)) (o : Opening S L D) (a : Answered S D P G C) → length answers ≡ length over
+    → tried (over ++ o ∷ []) (answers ++ a ∷ []) ≡ tried over answers ++ trial o (Some a) ∷ []
+tried-more [] [] o a same = refl
+tried-more [] (b ∷ answers) o a same = absurd (omega (arith, same))
+tried-more (p ∷ over) [] o a same = absurd (omega (arith, same))
+tried-more {S} {L} {D} {P} {G} {C} (p ∷ over) (b ∷ answers) o a same =
+    ap (λ (l : List (Try S L D P G C)). trial p (Some b) ∷ l) (tried-more over answers o a (omega (arith, same)))
+
+module _ {S L D P G C : Type 0} (g : Ghosts S D P G C) (e : elector.Ghosts L S D P G C) (f : Formats S D P G C) (index : ℕ) where
+  -- lives behind some openings are such behind more of them that may have begun none
+  pub lives-none : (tries : List (Try S L D P G C)) (o : Opening S L D) (answer : Option (Answered S D P G C)) (lives : List (Life S D P G C)) → BeginsNone g e f index o answer
+      → AreLivesOf g e f index tries lives → AreLivesOf g e f index (tries ++ trial o answer ∷ []) lives
+  lives-none [] o answer [] begins are = (begins, tt)
+  lives-none [] o answer (life ∷ lives) begins are = absurd are
+  lives-none (t ∷ tries) o answer [] begins are = (are.0, lives-none tries o answer [] begins are.1)
+  lives-none (t ∷ tries) o answer (life ∷ lives) begins (inl (is, gives, more)) = inl (is, gives, lives-none tries o answer lives begins more)
+  lives-none (t ∷ tries) o answer (life ∷ lives) begins (inr (none, more)) = inr (none, lives-none tries o answer (life ∷ lives) begins more)
+
+  -- and with one life more behind one more opening
+  pub lives-more : (tries : List (Try S L D P G C)) (o : Opening S L D) (answer : Option (Answered S D P G C)) (lives : List (Life S D P G C)) (life : Life S D P G C)
+      → IsLifeOf g e f index o life → Gives g e f index o answer life → AreLivesOf g e f index tries lives
+      → AreLivesOf g e f index (tries ++ trial o answer ∷ []) (lives ++ life ∷ [])
+  lives-more [] o answer [] life is gives are = inl (is, gives, tt)
+  lives-more [] o answer (first ∷ lives) life is gives are = absurd are
+  lives-more (t ∷ tries) o answer [] life is gives are = inr (are.0, lives-more tries o answer [] life is gives are.1)
+  lives-more (t ∷ tries) o answer (first ∷ lives) life is gives (inl (of, gave, more)) = inl (of, gave, lives-more tries o answer lives life is gives more)
+  lives-more (t ∷ tries) o answer (first ∷ lives) life is gives (inr (none, more)) = inr (none, lives-more tries o answer (first ∷ lives) life is gives more)
+
+  -- what was answered is forgotten
+  pub lives-untold : (openings : List (Opening S L D)) (answers : List (Answered S D P G C)) (more : List (Try S L D P G C)) (lives : List (Life S D P G C))
+      → AreLivesOf g e f index (tried openings answers ++ more) lives → AreLivesOf g e f index (tried openings [] ++ more) lives
+  lives-untold [] answers more lives are = are
+  lives-untold (o ∷ openings) [] more lives are = are
+  lives-untold (o ∷ openings) (a ∷ answers) more [] are = (tt, lives-untold openings answers more [] are.1)
+  lives-untold (o ∷ openings) (a ∷ answers) more (life ∷ lives) (inl (is, gives, rest)) = inl (is, tt, lives-untold openings answers more lives rest)
+  lives-untold (o ∷ openings) (a ∷ answers) more (life ∷ lives) (inr (none, rest)) = inr (tt, lives-untold openings answers more (life ∷ lives) rest)
+
+  -- behind what was tried before
+  pub lives-behind : (before one other : List (Try S L D P G C)) → ((lives : List (Life S D P G C)) → AreLivesOf g e f index one lives → AreLivesOf g e f index other lives)
+      → (lives : List (Life S D P G C)) → AreLivesOf g e f index (before ++ one) lives → AreLivesOf g e f index (before ++ other) lives
+  lives-behind [] one other so lives are = so lives are
+  lives-behind (t ∷ before) one other so [] are = (are.0, lives-behind before one other so [] are.1)
+  lives-behind (t ∷ before) one other so (life ∷ lives) (inl (is, gives, more)) = inl (is, gives, lives-behind before one other so lives more)
+  lives-behind (t ∷ before) one other so (life ∷ lives) (inr (none, more)) = inr (none, lives-behind before one other so (life ∷ lives) more)
+
+module _ {S L D P G C : Type 0} (g : Ghosts S D P G C) (e : elector.Ghosts L S D P G C) (f : Formats S D P G C) (s : Setup S D C) where
+  abbrev Left : List (Try S L D P G C) → List ℕ → Type 0
+  Left tries image = IsLeftByLives g e f s tries image
+
+  -- one more opening that may have begun no life
+  pub left-none : (tries : List (Try S L D P G C)) (o : Opening S L D) (answer : Option (Answered S D P G C)) → BeginsNone g e f s.me o answer
+      → (image : List ℕ) → Left tries image → Left (tries ++ trial o answer ∷ []) image
+  left-none tries o answer begins image is = record {
+    lives = is.lives;
+    left = is.left;
+    are = lives-none g e f s.me tries o answer is.lives begins is.are;
+    lived = is.lived;
+    reads = is.reads;
+  }
+
+  -- openings whose answers are forgotten
+  pub left-untold : (before : List (Try S L D P G C)) (openings : List (Opening S L D)) (answers : List (Answered S D P G C)) (more : List (Try S L D P G C))
+      → (image : List ℕ) → Left (before ++ (tried openings answers ++ more)) image → Left (before ++ (tried openings [] ++ more)) image
+  left-untold before openings answers more image is = record {
+    lives = is.lives;
+    left = is.left;
+    are = lives-behind g e f s.me before (tried openings answers ++ more) (tried openings [] ++ more) (lives-untold g e f s.me openings answers more) is.lives is.are;
+    lived = is.lived;
+    reads = is.reads;
+  }
+
+  module _ (before : List (Try S L D P G C)) (o : Opening S L D) (one : IsOfOneMember s (setup_by g e s.me o)) where
+    -- how it is set up
+    abbrev t : Setup S D C
+    t = setup_by g e s.me o
+
+    -- one life more
+    pub left-more : (answer : Option (Answered S D P G C)) (seen image : List ℕ) (is : Left before seen) (course : Course S D P G C) (end : History S D P G C)
+        → IsLifeOf g e f s.me o (record { setup = t; course = course }) → Gives g e f s.me o answer (record { setup = t; course = course })
+        → Lived g f t is.left course end → ReadsAs g f t image end → Left (before ++ trial o answer ∷ []) image
+    left-more answer seen image is course end life gives lived reads = record {
+      lives = is.lives ++ (record { setup = t; course = course }) ∷ [];
+      left = record_of end;
+      are = lives-more g e f s.me before o answer is.lives (record { setup = t; course = course }) life gives is.are;
+      lived = lives-on g f s [] is.lives is.left (record { setup = t; course = course }) end is.lived lived one;
+      reads = reads;
+    }
+
+    module _ {K : Type 0} (k : disk.Ghosts K) (Readable : Artifact S D P G C → Type 0) (on : K) (keeps : k.keeps)
+        (one_record : (image : List ℕ) (bodies others : List (List ℕ)) → Reads image bodies → Reads image others → bodies ≡ others)
+        (found_is : (lives : List (Life S D P G C)) (left found : List (Artifact S D P G C)) (image : List ℕ) → Lives g f s [] lives left → Reads image (map f.artifact left)
+        → All Readable found → Reads image (map f.artifact found) → found ≡ left)
+        (start : MayLeaveOnly (k.calls on) (Left before)) (seen : MayLeave (k.calls on) (k.seen on)) where
+      -- what was left at the start
+      pub at-start : Left before (k.seen on)
+      at-start = start (k.seen on) seen
+
+      -- what is found is what was left
+      pub found-left : (found : List (Artifact S D P G C)) → AreFoundOn k f.artifact Readable on found → found ≡ at-start.left
+      found-left found are = found_is at-start.lives at-start.left found (k.seen on) at-start.lived at-start.reads are.readable (are.reads keeps)
+
+      -- what a crash inside the opening leaves, and one that failed
+      pub left-open : (answer : Option (Answered S D P G C)) → BeginsNone g e f s.me o answer
+          → ((points : List (Point S D P G C)) → Gives g e f s.me o answer (record { setup = t; course = Broken o.now points }))
+          → (image : List ℕ) → MayBeLeftOpen g e k f t Readable on o.now image → Left (before ++ trial o answer ∷ []) image
+      left-open answer begins gives image (inl reopened) =
+          let was = start reopened.before reopened.left in
+          left-none before o answer begins image (record {
+            lives = was.lives;
+            left = was.left;
+            are = was.are;
+            lived = was.lived;
+            reads = subst (λ (bodies : List (List ℕ)). Reads image bodies) (one_record reopened.before reopened.bodies (map f.artifact was.left) reopened.reads_before was.reads) reopened.reads;
+          })
+      left-open answer begins gives image (inr (found, are, opened)) = left-more answer (k.seen on) image at-start (Broken o.now opened.0) opened.1
+          (record { setup = refl; now = refl; left = o.events.items; events = refl }) (gives opened.0)
+          (subst (λ (xs : List (Artifact S D P G C)). Lived g f t xs (Broken o.now opened.0) opened.1) (found-left found are) (opened.2, opened.3))
+          opened.4
+
+      -- what turns behind the opening leave
+      pub left-turned : (answer : Option (Answered S D P G C)) (found : List (Artifact S D P G C)) (first : List (Action S D P G C)) (mid : History S D P G C) (replies : List (Reply S D P G C)) (fault : Option NodeFault)
+          → AreFoundOn k f.artifact Readable on found → (opens : whole.Opens g f t o.now found first mid) → (image : List ℕ) → (is : IsLeftByTurns g f t mid o.events.items replies fault image)
+          → Gives g e f s.me o answer (record { setup = t; course = Lasting o.now opens.points is.turns is.cut })
+          → Left (before ++ trial o answer ∷ []) image
+      left-turned answer found first mid replies fault are opens image is gives =
+          left-more answer (k.seen on) image at-start (Lasting o.now opens.points is.turns is.cut) is.end
+          (record { setup = refl; now = refl; left = is.left; events = is.split }) gives
+          (subst (λ (xs : List (Artifact S D P G C)). Lived g f t xs (Lasting o.now opens.points is.turns is.cut) is.end) (found-left found are)
+          (mid, is.last, opens.opening, opens.rests, is.turned, is.is_cut))
+          is.reads
+
+      -- and what they answered
+      pub left-told : (found : List (Artifact S D P G C)) (first : List (Action S D P G C)) (mid : History S D P G C) (replies : List (Reply S D P G C)) (fault : Option NodeFault)
+          → (opens : whole.Opens g f t o.now found first mid) → (image : List ℕ) → (is : IsLeftByTurns g f t mid o.events.items replies fault image)
+          → Tells g f t o.events.items first replies fault (Lasting o.now opens.points is.turns is.cut)
+      left-told found first mid replies fault opens image is =
+          let same : mid ≡ after [] opens.points = goes-after g f t opens.points [] mid opens.rests.goes in (
+            subst (λ (h : History S D P G C). HandsOut g f t [] opens.points h first) same opens.hands_out,
+            subst (λ (h : History S D P G C). AreReplies g f t h is.turns replies) same is.replied,
+            λ none. ((is.whole none).0, over-all g f t o.events.items is.turns is.cut is.left is.split (is.whole none).0 (is.whole none).1),
           )
 
-module _ {S L D P G C : Type 0} (g : Ghosts S D P G C) (e : elector.Ghosts L S D P G C) (scheme : S) (index : ℕ) where
-  -- lives behind openings are such behind more of them
-  pub lives-skip : (openings more : List (Opening L D)) (lives : List (Life S D P G C)) → AreLivesOf g e scheme index openings lives → AreLivesOf g e scheme index (openings ++ more) lives
-  lives-skip openings more [] are = tt
-  lives-skip [] more (life ∷ lives) are = absurd are
-  lives-skip (o ∷ openings) more (life ∷ lives) (inl both) = inl (both.0, lives-skip openings more lives both.1)
-  lives-skip (o ∷ openings) more (life ∷ lives) (inr others) = inr (lives-skip openings more (life ∷ lives) others)
+      -- an opening that failed did so for its arguments, or for want of memory or by the disk
+      module _ (never : (lives : List (Life S D P G C)) (left : List (Artifact S D P G C)) (image : List ℕ) (place : ℕ) → Lives g f s [] lives left → Reads image (map f.artifact left)
+          → IsForeign [] Readable f.artifact image place → ⊥)
+          (lawful : (lives : List (Life S D P G C)) (left : List (Artifact S D P G C)) (position : ℕ) → Lives g f s [] lives left
+          → IsRefusedAt (g.attests s.voter.scheme) (g.certifies s.voter.scheme) (owner_of s) left position → ⊥) where
+        owner-same : owner_of t ≡ owner_of s
+        owner-same = ap (λ (n : ℕ). owner_by n t.voter.length t.me) one.epoch ∙ ap (λ (n : ℕ). owner_by s.voter.epoch n t.me) one.length ∙ ap (λ (n : ℕ). owner_by s.voter.epoch s.voter.length n) one.me
 
-  -- and with one more life behind one more opening
-  pub lives-more : (openings : List (Opening L D)) (o : Opening L D) (lives : List (Life S D P G C)) (life : Life S D P G C) → AreLivesOf g e scheme index openings lives → IsLifeOf g e scheme index o life
-      → AreLivesOf g e scheme index (openings ++ o ∷ []) (lives ++ life ∷ [])
-  lives-more [] o [] life are is = inl (is, tt)
-  lives-more [] o (first ∷ lives) life are is = absurd are
-  lives-more (p ∷ openings) o [] life are is = inr (lives-more openings o [] life tt is)
-  lives-more (p ∷ openings) o (first ∷ lives) life (inl both) is = inl (both.0, lives-more openings o lives life both.1 is)
-  lives-more (p ∷ openings) o (first ∷ lives) life (inr others) is = inr (lives-more openings o (first ∷ lives) life others is)
+        no-contradiction : (position : ℕ) → IsContradiction k f.artifact Readable (g.attests o.scheme.value) (g.certifies o.scheme.value) (owner_of t) on position → ⊥
+        no-contradiction position (found, are, refused) =
+            lawful at-start.lives at-start.left position at-start.lived
+            (subst (λ (xs : List (Artifact S D P G C)). IsRefusedAt (g.attests s.voter.scheme) (g.certifies s.voter.scheme) (owner_of s) xs position) (found-left found are)
+            (subst (λ (x : S). IsRefusedAt (g.attests x) (g.certifies x) (owner_of s) found position) one.scheme
+            (subst (λ (w : Owner). IsRefusedAt (g.attests o.scheme.value) (g.certifies o.scheme.value) w found position) owner-same refused)))
 
-  module _ (f : Formats S D P G C) (s : Setup S D C) where
-    -- what lives leave that are behind these openings, such leave that are behind more of them
-    pub left-skip : (openings more : List (Opening L D)) (image : List ℕ) → IsLeftByLives g e scheme index f s openings image → IsLeftByLives g e scheme index f s (openings ++ more) image
-    left-skip openings more image is = record { lives = is.lives; left = is.left; are = lives-skip openings more is.lives is.are; lived = is.lived; reads = is.reads }
+        pub fails : (X : Type 0) (why : OpenFault) → IfSome (early why) (λ x. IsFirst (open_tests g t o.config o.now) (Some x) × X) → (early why ≡ None → IsFirst (open_tests g t o.config o.now) None)
+            → ((place : ℕ) → why ≡ open_fault.Foreign place → k.keeps → IsForeign [] Readable f.artifact (k.seen on) place)
+            → ((position : ℕ) → why ≡ open_fault.Contradiction position
+            → IsContradiction k f.artifact Readable (g.attests o.scheme.value) (g.certifies o.scheme.value) (owner_of t) on position)
+            → FailsFor g e f s.me o why
+        fails X open_fault.NoKey told later foreign contradiction = (told.0, λ none. absurd (some-none open_fault.NoKey none))
+        fails X (open_fault.Config x) told later foreign contradiction = (told.0, λ none. absurd (some-none (open_fault.Config x) none))
+        fails X open_fault.MomentTooLate told later foreign contradiction = (told.0, λ none. absurd (some-none open_fault.MomentTooLate none))
+        fails X (open_fault.Foreign place) told later foreign contradiction =
+            absurd (never at-start.lives at-start.left (k.seen on) place at-start.lived at-start.reads (foreign place refl keeps))
+        fails X (open_fault.Contradiction position) told later foreign contradiction = absurd (no-contradiction position (contradiction position refl))
+        fails X open_fault.Device told later foreign contradiction = (later refl, λ none. inr refl)
+        fails X open_fault.Memory told later foreign contradiction = (later refl, λ none. inl refl)
 
-    module _ (before : List (Opening L D)) (o : Opening L D) (one : IsOfOneMember s (setup_by g e scheme index o)) where
-      -- one life more
-      pub left-more : (seen image : List ℕ) (is : IsLeftByLives g e scheme index f s before seen) (course : Course S D P G C) (end : History S D P G C)
-          → IsLifeOf g e scheme index o (record { setup = setup_by g e scheme index o; course = course }) → Lived g f (setup_by g e scheme index o) is.left course end → ReadsAs g f s image end
-          → IsLeftByLives g e scheme index f s (before ++ o ∷ []) image
-      left-more seen image is course end life lived reads = record {
-        lives = is.lives ++ (record { setup = setup_by g e scheme index o; course = course }) ∷ [];
-        left = record_of end;
-        are = lives-more before o is.lives (record { setup = setup_by g e scheme index o; course = course }) is.are life;
-        lived = lives-on g f s [] is.lives is.left (record { setup = setup_by g e scheme index o; course = course }) end is.lived lived one;
-        reads = reads;
-      }
-
-      module _ {K : Type 0} (k : disk.Ghosts K) (Readable : Artifact S D P G C → Type 0) (on : K) (keeps : k.keeps)
-          (one_record : (image : List ℕ) (bodies others : List (List ℕ)) → Reads image bodies → Reads image others → bodies ≡ others)
-          (found_is : (lives : List (Life S D P G C)) (left found : List (Artifact S D P G C)) (image : List ℕ) → Lives g f s [] lives left → Reads image (map f.artifact left)
-          → All Readable found → Reads image (map f.artifact found) → found ≡ left)
-          (start : MayLeaveOnly (k.calls on) (IsLeftByLives g e scheme index f s before)) (seen : MayLeave (k.calls on) (k.seen on)) where
-        -- what was left at the start
-        at-start : IsLeftByLives g e scheme index f s before (k.seen on)
-        at-start = start (k.seen on) seen
-
-        -- what is found is what was left
-        found-left : (found : List (Artifact S D P G C)) → AreFoundOn k f.artifact Readable on found → found ≡ at-start.left
-        found-left found are = found_is at-start.lives at-start.left found (k.seen on) at-start.lived at-start.reads are.readable (are.reads keeps)
-
-        -- what a crash inside the opening leaves
-        pub left-open : (image : List ℕ) → MayBeLeftOpen g e k f (setup_by g e scheme index o) Readable on o.now image → IsLeftByLives g e scheme index f s (before ++ o ∷ []) image
-        left-open image (inl reopened) =
-            let was = start reopened.before reopened.left in
-            left-skip before (o ∷ []) image (record {
-              lives = was.lives;
-              left = was.left;
-              are = was.are;
-              lived = was.lived;
-              reads = subst (λ (bodies : List (List ℕ)). Reads image bodies) (one_record reopened.before reopened.bodies (map f.artifact was.left) reopened.reads_before was.reads) reopened.reads;
-            })
-        left-open image (inr (found, are, opened)) = left-more (k.seen on) image at-start (Broken o.now opened.0) opened.1
-            (record { setup = refl; now = refl; left = o.events.items; events = refl })
-            (subst (λ (xs : List (Artifact S D P G C)). Lived g f (setup_by g e scheme index o) xs (Broken o.now opened.0) opened.1) (found-left found are) (opened.2, opened.3))
-            opened.4
-
-        -- and inside a step over one of the events
-        pub left-passed : (found : List (Artifact S D P G C)) (actions : List (Action S D P G C)) (mid : History S D P G C) → AreFoundOn k f.artifact Readable on found
-            → whole.Opens g f (setup_by g e scheme index o) o.now found actions mid → (image : List ℕ) → IsPassed g f (setup_by g e scheme index o) mid o.events.items image
-            → IsLeftByLives g e scheme index f s (before ++ o ∷ []) image
-        left-passed found actions mid are opens image passed = by passed.reached
-          where
-            t : Setup S D C
-            t = setup_by g e scheme index o
-
-            turns : (turns : List (Turn S D P G C)) × Turns g f t mid turns passed.mid × (turn_events turns ≡ passed.before)
-            turns = run-turns g f t mid passed.before passed.replies passed.mid passed.run
-
-            was : List (Artifact S D P G C) → Option (Event D × List (Point S D P G C)) → History S D P G C → Type 0
-            was xs cut end = Lived g f t xs (Lasting o.now opens.points turns.0 cut) end
-
-            by : IsReached g f t passed.mid passed.event image → IsLeftByLives g e scheme index f s (before ++ o ∷ []) image
-            by (inl reads) = left-more (k.seen on) image at-start (Lasting o.now opens.points turns.0 None) passed.mid
-                (record {
-                  setup = refl;
-                  now = refl;
-                  left = passed.event ∷ passed.behind;
-                  events = passed.split ∙ ap (λ (l : List (Event D)). l ++ passed.event ∷ passed.behind) (sym turns.2 ∙ sym (append-nil (turn_events turns.0)));
-                })
-                (subst (λ (xs : List (Artifact S D P G C)). was xs None passed.mid) (found-left found are) (mid, passed.mid, opens.opening, opens.rests, turns.1, refl))
-                reads
-            by (inr (points, end, step, goes, reads)) = left-more (k.seen on) image at-start (Lasting o.now opens.points turns.0 (Some (passed.event, points))) end
-                (record {
-                  setup = refl;
-                  now = refl;
-                  left = passed.behind;
-                  events = passed.split ∙ sym (append_assoc passed.before (passed.event ∷ []) passed.behind)
-                      ∙ ap (λ (l : List (Event D)). (l ++ passed.event ∷ []) ++ passed.behind) (sym turns.2);
-                })
-                (subst (λ (xs : List (Artifact S D P G C)). was xs (Some (passed.event, points)) end) (found-left found are) (mid, passed.mid, opens.opening, opens.rests, turns.1, (step, goes)))
-                reads
-
-  -- a stretch in which lives left what they may, and at most one behind it
-  pub leaves-on : {old mid new : List Call} {P Q : List ℕ → Type 0} (R : List ℕ → Type 0) → LeavesOnly old mid P → ((image : List ℕ) → P image → R image) → LeavesAtMost mid new Q
-      → ((image : List ℕ) → Q image → R image) → LeavesOnly old new R
-  leaves-on {old} {mid} {new} {P} {Q} R first here (inl same) there = subst (λ (l : List Call). LeavesOnly old l R) (sym same) (weaker R first here)
-  leaves-on {old} {mid} {new} {P} {Q} R first here (inr second) there = and_then (weaker R first here) (weaker R second there)
-
-module _ {S L D P G C K : Type 0} (g : Ghosts S D P G C) (e : elector.Ghosts L S D P G C) (k : disk.Ghosts K) (formats : ℕ → Formats S D P G C) (s : Setup S D C) (index : ℕ) (o : Opening L D) (now new : K) where
-  -- one life behind an opening, by this scheme, took the disk from one to the other
-  abbrev pub LifeBy : S → Type 0
-  LifeBy scheme = (earlier : List (Opening L D)) → g.own scheme ≡ Some index → g.size scheme ≤ 65535 → k.keeps → AreOfOneMember g e scheme index s (o ∷ [])
-      → MayLeaveOnly (k.calls now) (IsLeftByLives g e scheme index (formats (g.size scheme)) s earlier)
-      → LeavesOnly (k.calls now) (k.calls new) (IsLeftByLives g e scheme index (formats (g.size scheme)) s (earlier ++ o ∷ []))
+-- a stretch in which lives left what they may, and at most one behind it
+pub leaves-on : {old mid new : List Call} {P Q : List ℕ → Type 0} (R : List ℕ → Type 0) → LeavesOnly old mid P → ((image : List ℕ) → P image → R image) → LeavesAtMost mid new Q
+    → ((image : List ℕ) → Q image → R image) → LeavesOnly old new R
+leaves-on {old} {mid} {new} {P} {Q} R first here (inl same) there = subst (λ (l : List Call). LeavesOnly old l R) (sym same) (weaker R first here)
+leaves-on {old} {mid} {new} {P} {Q} R first here (inr second) there = and_then (weaker R first here) (weaker R second there)
 
 -- what is so of one index is so of another that is the same
 pub same-index : {P : ℕ → Type 0} {own : Option ℕ} {index : ℕ} → ((i : ℕ) × (own ≡ Some i) × P i) → own ≡ Some index → P index
 same-index {P} {own} {index} is same = subst P (same_Some is.0 index (sym is.1 ∙ same)) is.2
-
-module _ {S L D P G C K : Type 0} (g : Ghosts S D P G C) (e : elector.Ghosts L S D P G C) (k : disk.Ghosts K) (scheme : S) (index : ℕ) (f : Formats S D P G C) (s : Setup S D C) (before : List (Opening L D)) (on : K) where
-  -- the lives behind the openings before the rest are over, and have left this disk
-  pub record LivesOn (all rest : List (Opening L D)) (now : K) : Type 0 where
-    pub over : List (Opening L D)
-    pub split : all ≡ over ++ rest
-    pub leaves : LeavesOnly (k.calls on) (k.calls now) (IsLeftByLives g e scheme index f s (before ++ over))
-
-  -- none is over at first
-  pub none-over : (all rest : List (Opening L D)) → rest ≡ all → MayLeaveOnly (k.calls on) (IsLeftByLives g e scheme index f s before) → LivesOn all rest on
-  none-over all rest items start = record {
-    over = [];
-    split = sym items;
-    leaves = started (k.calls on) (IsLeftByLives g e scheme index f s (before ++ [])) (λ image left. left-skip g e scheme index f s before [] image (start image left));
-  }
-
-  -- one more is over
-  pub one-over : (all left rest : List (Opening L D)) (o : Opening L D) (now new : K) → left ≡ o ∷ rest → AreOfOneMember g e scheme index s (before ++ all)
-      → ((earlier : List (Opening L D)) → AreOfOneMember g e scheme index s (o ∷ []) → MayLeaveOnly (k.calls now) (IsLeftByLives g e scheme index f s earlier)
-      → LeavesOnly (k.calls now) (k.calls new) (IsLeftByLives g e scheme index f s (earlier ++ o ∷ [])))
-      → LivesOn all left now → LivesOn all rest new
-  one-over all left rest o now new left_is members life so_far = record {
-    over = so_far.over ++ o ∷ [];
-    split = so_far.split ∙ ap (λ (l : List (Opening L D)). so_far.over ++ l) left_is ∙ sym (append_assoc so_far.over (o ∷ []) rest);
-    leaves = subst (λ (l : List (Opening L D)). LeavesOnly (k.calls on) (k.calls new) (IsLeftByLives g e scheme index f s l)) (append_assoc before so_far.over (o ∷ []))
-        (and_then
-        (weaker (IsLeftByLives g e scheme index f s ((before ++ so_far.over) ++ o ∷ [])) so_far.leaves (λ image is. left-skip g e scheme index f s (before ++ so_far.over) (o ∷ []) image is))
-        (life (before ++ so_far.over) one (at_last so_far.leaves)));
-  }
-    where
-      IsMember : Opening L D → Type 0
-      IsMember p = IsOfOneMember s (setup_by g e scheme index p)
-
-      one : AreOfOneMember g e scheme index s (o ∷ [])
-      one = All-cons IsMember o [] (All-contains IsMember (before ++ all) o members
-          (Contains-append_right before all o (subst (λ (l : List (Opening L D)). Contains l o) (sym so_far.split)
-          (Contains-append_right so_far.over left o (subst (λ (l : List (Opening L D)). Contains l o) (sym left_is) (Contains-head o rest)))))) (All-nil IsMember)
-
-  -- so far they leave what lives behind all of them may leave
-  pub so-far-all : (all rest : List (Opening L D)) (now : K) → LivesOn all rest now → LeavesOnly (k.calls on) (k.calls now) (IsLeftByLives g e scheme index f s (before ++ all))
-  so-far-all all rest now so_far =
-      let whole : (before ++ so_far.over) ++ rest ≡ before ++ all = append_assoc before so_far.over rest ∙ ap (λ (l : List (Opening L D)). before ++ l) (sym so_far.split) in
-      weaker (IsLeftByLives g e scheme index f s (before ++ all)) so_far.leaves
-      (λ image is. subst (λ (l : List (Opening L D)). IsLeftByLives g e scheme index f s l image) whole (left-skip g e scheme index f s (before ++ so_far.over) rest image is))

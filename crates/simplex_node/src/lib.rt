@@ -8,7 +8,7 @@ mod running;
 mod stepping;
 mod streaming;
 
-pub use living::{Opening, live};
+pub use living::{Answered, Opening, live};
 pub use node_steps::{Node, Owner, accountability, agreement, first_refused, headline};
 pub use node_wire::{
     Answers, CountedReader, CountedWriter, EventInput, Sink, Source, StreamFault, read_event,

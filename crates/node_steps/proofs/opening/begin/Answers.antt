@@ -17,10 +17,10 @@ pub returns-in-Err-clause-memory : goal.returns-in-Err-clause-memory
 returns-in-Err-clause-memory g c = c.not_begun.ensures.faults
 
 pub returns-in-Err-clause-device : goal.returns-in-Err-clause-device
-returns-in-Err-clause-device g c = λ is. ap g.K.Disk.failed c.close.ensures ∙ c.in-Err.ensures.faults.device (let same = c.not_begun.ensures.device.0 is in cc same)
+returns-in-Err-clause-device g c = λ is. ap g.K.Disk.failed c.close.ensures.disk ∙ c.in-Err.ensures.faults.device (let same = c.not_begun.ensures.device.0 is in cc same)
 
 pub returns-in-Err-clause-no_device : goal.returns-in-Err-clause-no_device
-returns-in-Err-clause-no_device g c = λ isnt. ap g.K.Disk.failed c.close.ensures ∙ c.in-Err.ensures.faults.no_device (λ it. isnt (c.not_begun.ensures.device.1 it))
+returns-in-Err-clause-no_device g c = λ isnt. ap g.K.Disk.failed c.close.ensures.disk ∙ c.in-Err.ensures.faults.no_device (λ it. isnt (c.not_begun.ensures.device.1 it))
 
 pub returns-in-Err-clause-any_moment_of_a_fault : goal.returns-in-Err-clause-any_moment_of_a_fault
-returns-in-Err-clause-any_moment_of_a_fault g c = λ s h k keeps. stays ((c.in-Err.ensures.settled s h k.core).any_moment keeps) (ap g.K.Disk.calls c.close.ensures)
+returns-in-Err-clause-any_moment_of_a_fault g c = λ s h k keeps. stays ((c.in-Err.ensures.settled s h k.core).any_moment keeps) (ap g.K.Disk.calls c.close.ensures.disk)

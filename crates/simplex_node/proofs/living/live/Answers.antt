@@ -1,45 +1,57 @@
-use Rattle.std.proofs.Common.{◌≡◌, ℕ, ap, subst, sym}
+use Rattle.std.proofs.Common.{◌≡◌, ℕ, List, [], ◌∷◌, ap, arith, length, subst, sym, ◌∙◌}
+use Rattle.std.proofs.lemmas.List.{length-append, nil_from_length}
 use Rattle.std.proofs.lemmas.List.Elements.{All-head, All-rest, All-same}
-use Rattle.simplex_member.specs.Packet.{formats}
+use Rattle.journal_single.specs.Disk.{counted}
+use Rattle.simplex_node.specs.declared.living.Answered.{Answered}
 use Rattle.simplex_node.specs.declared.living.Opening.{Opening}
-use Rattle.simplex_node.proofs.Lived.{LifeBy, none-over, one-over, so-far-all}
+use Rattle.simplex_node.specs.Living.{failures_behind, tells_none}
+use Rattle.simplex_node.proofs.Told.{all-left, all-told, failures-more, none-over, one-over}
 use Rattle.simplex_node.proofs.living.live.Goals as goal
 
 pub loop-opening-init : goal.loop-opening-init
-loop-opening-init g c = record {
-  built = All-same (λ (o : Opening g.row.L.Denot g.row.D.Denot). g.L.Elector.built_for o.elector (g.S.Scheme.size c.args.scheme.value)) _ _ c.into_iter-opening-iterator.ensures.into_iter_gives.0 c.requires;
-  lives = λ s index before own small keeps members start. none-over g.S.Scheme g.L.Elector g.K.Disk c.args.scheme.value index _ s before c.args.disk c.args.openings.items _ c.into_iter-opening-iterator.ensures.into_iter_gives.0 start;
-}
+loop-opening-init g c =
+    let rest = c.into_iter-opening-iterator.ensures.into_iter_gives.0 in
+    record {
+      room = omega (arith, ap length rest, c.in-Ok.ensures.len, c.in-Ok.ensures.capacity);
+      each = omega (arith, ap length c.in-Ok.ensures.items, ap length rest);
+      failures = ap (λ (l : List (Answered g.row.S.Denot g.row.D.Denot g.row.S-PublicKey.Denot g.row.S-Signature.Denot g.row.S-Certificate.Denot)). failures_behind (g.K.Disk.failed c.args.disk) l) (sym c.in-Ok.ensures.items);
+      built = All-same (λ (o : Opening g.row.S.Denot g.row.L.Denot g.row.D.Denot). g.L.Elector.built_for o.elector (g.S.Scheme.size o.scheme.value)) _ _ rest c.requires;
+      lives = λ s before own small keeps members start. none-over g.S.Scheme g.L.Elector g.K.Disk _ s before c.args.disk c.args.openings.items _ _ rest c.in-Ok.ensures.items start;
+    }
 
-pub live_once-disk-requires : goal.live_once-disk-requires
-live_once-disk-requires g c =
-    let left = c.in-Some.ensures.steps.0 in
-    let same : c.in-Ok.shared.value ≡ c.args.scheme.value = c.in-Ok.ensures.cases in
-    subst (λ (n : ℕ). g.L.Elector.built_for c.in-Some.opening.elector n) (ap g.S.Scheme.size (sym same))
-    (All-head (λ (o : Opening g.row.L.Denot g.row.D.Denot). g.L.Elector.built_for o.elector (g.S.Scheme.size c.args.scheme.value)) c.in-Some.opening _ (All-same (λ (o : Opening g.row.L.Denot g.row.D.Denot). g.L.Elector.built_for o.elector (g.S.Scheme.size c.args.scheme.value)) _ _ (sym left) c.loop-opening.invariant.built))
+pub live_once-answer-requires : goal.live_once-answer-requires
+live_once-answer-requires g c =
+    All-head (λ (o : Opening g.row.S.Denot g.row.L.Denot g.row.D.Denot). g.L.Elector.built_for o.elector (g.S.Scheme.size o.scheme.value)) c.in-Some.opening _
+    (All-same (λ (o : Opening g.row.S.Denot g.row.L.Denot g.row.D.Denot). g.L.Elector.built_for o.elector (g.S.Scheme.size o.scheme.value)) _ _ (sym c.in-Some.ensures.steps.0) c.loop-opening.invariant.built)
 
 pub loop-opening-preserved : goal.loop-opening-preserved
 loop-opening-preserved g c =
     let left = c.in-Some.ensures.steps.0 in
-    let same : c.in-Ok.shared.value ≡ c.args.scheme.value = c.in-Ok.ensures.cases in
-    let f = formats {S = g.row.S.Denot} {P = g.row.S-PublicKey.Denot} g.D.PartialEq.eq g.D.Write.spelling g.S.Signature.Write.spelling g.S.Certificate.Write.spelling g.D.Read.reading g.S.Signature.Read.reading g.S.Certificate.Read.reading in
     record {
-      built = All-rest (λ (o : Opening g.row.L.Denot g.row.D.Denot). g.L.Elector.built_for o.elector (g.S.Scheme.size c.args.scheme.value)) _ _ _ left c.loop-opening.invariant.built;
-      lives = λ s index before own small keeps members start.
-          let life = subst (λ (x : g.row.S.Denot). LifeBy g.S.Scheme g.L.Elector g.K.Disk f s index c.in-Some.opening c.loop-opening.disk c.live_once-disk.result x) same (c.live_once-disk.ensures.lives s index) in
-          one-over g.S.Scheme g.L.Elector g.K.Disk c.args.scheme.value index _ s before c.args.disk c.args.openings.items _ _ c.in-Some.opening _ c.live_once-disk.result left members
-          (λ earlier one may. life earlier own small keeps one may)
-          (c.loop-opening.invariant.lives s index before own small keeps members start);
+      room = omega (arith, c.loop-opening.invariant.room, ap length left, c.push_reserved.ensures.len, c.push_reserved.ensures.capacity);
+      each = omega (arith, c.loop-opening.invariant.each, ap length left, ap length c.push_reserved.ensures.items, length-append c.loop-opening.answers.items (c.live_once-answer.result.0 ∷ []));
+      failures = c.live_once-answer.ensures.failures ∙ ap (λ (n : ℕ). counted (tells_none c.live_once-answer.result.0) n) c.loop-opening.invariant.failures
+          ∙ sym (failures-more (g.K.Disk.failed c.args.disk) c.loop-opening.answers.items c.live_once-answer.result.0)
+          ∙ ap (λ (l : List (Answered g.row.S.Denot g.row.D.Denot g.row.S-PublicKey.Denot g.row.S-Signature.Denot g.row.S-Certificate.Denot)). failures_behind (g.K.Disk.failed c.args.disk) l) (sym c.push_reserved.ensures.items);
+      built = All-rest (λ (o : Opening g.row.S.Denot g.row.L.Denot g.row.D.Denot). g.L.Elector.built_for o.elector (g.S.Scheme.size o.scheme.value)) _ _ _ left c.loop-opening.invariant.built;
+      lives = λ s before own small keeps members start.
+          one-over g.S.Scheme g.L.Elector g.K.Disk _ s before c.args.disk c.args.openings.items _ _ _ _ c.in-Some.opening c.live_once-answer.result.0 c.loop-opening.disk c.live_once-answer.result.1 left c.push_reserved.ensures.items members
+          (λ earlier one may. c.live_once-answer.ensures.lives s earlier own small keeps one may)
+          (λ earlier one may. c.live_once-answer.ensures.any_moment s earlier own small keeps one may)
+          (c.loop-opening.invariant.lives s before own small keeps members start);
     }
 
 pub returns : goal.returns
-returns g c = record {
-  lives = λ s index before own small keeps members start.
-      so-far-all g.S.Scheme g.L.Elector g.K.Disk c.args.scheme.value index _ s before c.args.disk c.args.openings.items _ c.loop-opening.disk (c.loop-opening.invariant.lives s index before own small keeps members start);
-}
-
-pub returns-in-Err : goal.returns-in-Err
-returns-in-Err g c = record {
-  lives = λ s index before own small keeps members start.
-      so-far-all g.S.Scheme g.L.Elector g.K.Disk c.args.scheme.value index _ s before c.args.disk c.args.openings.items _ c.loop-opening.disk (c.loop-opening.invariant.lives s index before own small keeps members start);
-}
+returns g c =
+    let none = nil_from_length _ (sym c.loop-opening.opening-iterator.rest.ok.0 ∙ c.in-None.ensures.steps.0) in
+    record {
+      each = omega (arith, c.loop-opening.invariant.each, ap length none);
+      failures = c.loop-opening.invariant.failures;
+      no_room = tt;
+      lives = λ s before own small keeps members start.
+          let so_far = c.loop-opening.invariant.lives s before own small keeps members start in
+          all-told g.S.Scheme g.L.Elector g.K.Disk _ s before c.args.disk c.args.openings.items _ none c.loop-opening.answers.items c.loop-opening.disk so_far;
+      any_moment = λ s before own small keeps members start.
+          let so_far = c.loop-opening.invariant.lives s before own small keeps members start in
+          all-left g.S.Scheme g.L.Elector g.K.Disk _ s before c.args.disk c.args.openings.items _ none c.loop-opening.answers.items c.loop-opening.disk so_far;
+    }
