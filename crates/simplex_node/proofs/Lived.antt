@@ -24,7 +24,7 @@ use Rattle.simplex_member.specs.Deeds.{AreActions}
 use Rattle.simplex_member.specs.First.{IsFirst}
 use Rattle.simplex_member.specs.Lives.{Broken, Course, IsCut, Lasting, Life, Lived, Lives, Refuses, Turn, Turns, Went, events_of, turn_events}
 use Rattle.simplex_member.specs.Member as whole
-use Rattle.simplex_member.specs.Member.{AreStep, Goes, HandsOut, IsOpened, IsReached, ReadsAs, Run, Steps, Takes, after}
+use Rattle.simplex_member.specs.Member.{AreStep, Goes, AreActionsOf, IsOpened, IsReached, ReadsAs, Run, Steps, Takes, after}
 use Rattle.simplex_member.specs.Packet.{Formats}
 use Rattle.simplex_member.specs.Point.{Point, History}
 use Rattle.simplex_member.specs.Recorded.{record_of}
@@ -82,7 +82,7 @@ module _ {S D P G C : Type 0} (g : Ghosts S D P G C) (f : Formats S D P G C) whe
               over = ap (λ (l : List (Event D)). e ∷ l) more.over;
               replied = (
                 is,
-                subst (λ (k : History S D P G C). HandsOut g f s h takes.points k reply.actions.items) same takes.hands_out,
+                subst (λ (k : History S D P G C). AreActionsOf g f s h takes.points k reply.actions.items) same takes.hands_out,
                 subst (λ (k : History S D P G C). AreReplies g f s k more.turns replies) same more.replied,
               );
             }
@@ -334,7 +334,7 @@ module _ {S L D P G C : Type 0} (g : Ghosts S D P G C) (e : elector.Ghosts L S D
           → Tells g f t o.events.items first replies fault (Lasting o.now opens.points is.turns is.cut)
       left-told found first mid replies fault opens image is =
           let same : mid ≡ after [] opens.points = goes-after g f t opens.points [] mid opens.rests.goes in (
-            subst (λ (h : History S D P G C). HandsOut g f t [] opens.points h first) same opens.hands_out,
+            subst (λ (h : History S D P G C). AreActionsOf g f t [] opens.points h first) same opens.hands_out,
             subst (λ (h : History S D P G C). AreReplies g f t h is.turns replies) same is.replied,
             λ none. ((is.whole none).0, over-all g f t o.events.items is.turns is.cut is.left is.split (is.whole none).0 (is.whole none).1),
           )

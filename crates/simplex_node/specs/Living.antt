@@ -16,7 +16,7 @@ use Rattle.simplex_member.specs.declared.fault.OpenFault.TheVariants as open_fau
 use Rattle.simplex_member.specs.Deeds.{AreActions}
 use Rattle.simplex_member.specs.First.{IsFirst}
 use Rattle.simplex_member.specs.Lives.{Broken, Course, IsCut, Lasting, Life, Lives, Refuses, Turn, Turns, Went, events_of, turn_events}
-use Rattle.simplex_member.specs.Member.{HandsOut, ReadsAs, after}
+use Rattle.simplex_member.specs.Member.{AreActionsOf, ReadsAs, after}
 use Rattle.simplex_member.specs.Packet.{Formats}
 use Rattle.simplex_member.specs.Point.{History, Point}
 use Rattle.simplex_member.specs.Refusals.{refused_deeds}
@@ -69,7 +69,7 @@ module _ {S D P G C : Type 0} (g : Ghosts S D P G C) (f : Formats S D P G C) (s 
   AreReplies h (Refuses e r ∷ turns) (reply ∷ replies) =
       (reply.refused ≡ Some r) × AreActions f reply.actions.items (refused_deeds g f s h e r) × AreReplies h turns replies
   AreReplies h (Went e points ∷ turns) (reply ∷ replies) =
-      (reply.refused ≡ None) × HandsOut g f s h points (after h points) reply.actions.items × AreReplies (after h points) turns replies
+      (reply.refused ≡ None) × AreActionsOf g f s h points (after h points) reply.actions.items × AreReplies (after h points) turns replies
   AreReplies h turns replies = ⊥
 
   -- a course answers this: its opening hands out these actions, and these are the replies to its turns, over all of these events, or a
@@ -77,7 +77,7 @@ module _ {S D P G C : Type 0} (g : Ghosts S D P G C) (f : Formats S D P G C) (s 
   abbrev pub Tells : List (Event D) → List (Action S D P G C) → List (Reply S D P G C) → Option NodeFault → Course S D P G C → Type 0
   Tells events first replies fault (Broken now points) = ⊥
   Tells events first replies fault (Lasting now points turns cut) =
-      HandsOut g f s [] points (after [] points) first × AreReplies (after [] points) turns replies
+      AreActionsOf g f s [] points (after [] points) first × AreReplies (after [] points) turns replies
       × (fault ≡ None → (cut ≡ None) × (turn_events turns ≡ events))
 
   -- an image reads as what turns over a front of these events have left, to which these are the replies; over all, or a fault is told
