@@ -1,3 +1,4 @@
+mod EventSize
 pub mod Answered
 pub mod Streamed
 pub mod TakenOff

@@ -1,5 +1,5 @@
 -- How what steps over a stream come to comes together.
-use Rattle.std.proofs.Common.{◌≡◌, ◌⊎◌, inl, inr, ℕ, ◌+◌, ◌<◌, ◌≤◌, ◌^◌, List, [], ◌∷◌, ◌++◌, length, map, refl, sym, ap, ◌∙◌, subst, append-nil, length-append, Option, Some, None, IfSome}
+use Rattle.std.proofs.Common.{◌≡◌, ◌⊎◌, inl, inr, ℕ, ◌+◌, ◌<◌, ◌^◌, List, [], ◌∷◌, ◌++◌, length, map, refl, sym, ap, ◌∙◌, subst, append-nil, length-append, Option, Some, None, IfSome}
 use Rattle.std.specs.Prelude.{Result, Ok, Err, IfErr, OnOk}
 use Rattle.std.specs.List.{flat_map}
 use Rattle.std.specs.Io.KnownBytes.{Appends, IsAtEnd, Keeps}
@@ -10,11 +10,11 @@ use Rattle.simplex_member.specs.declared.event.Event.{Event}
 use Rattle.simplex_member.specs.declared.fault.IoFault.{IoFault}
 use Rattle.simplex_member.specs.declared.fault.IoFault.TheVariants as fault
 use Rattle.simplex_member.specs.declared.fault.NodeFault.{NodeFault}
-use Rattle.node_wire.specs.Event.{event_spelling, event_value}
-use Rattle.node_wire.specs.Stream.{AreEvents, EndsTooFar, HasNone, InputState, IsFault, IsGivenUp, IsTaken}
+use Rattle.node_wire.specs.Event.{event_value}
+use Rattle.node_wire.specs.Stream.{AreEvents, HasNone, InputState, IsFault, IsGivenUp, IsTaken}
 use Rattle.types_codec.specs.Front.{AppendsFront}
 use Rattle.node_wire.specs.Stepper.{Answer, AnswerBefore, AnswersNone}
-use Rattle.node_wire.specs.Streaming.{AnswersAll, AnswersFront, AnswersOne, BreaksOff, EndsIn, EndsTooFarBehind, Fails, GivesUp}
+use Rattle.node_wire.specs.Streaming.{AnswersAll, AnswersFront, AnswersOne, BreaksOff, EndsIn, Fails, GivesUp}
 use Rattle.node_wire.proofs.Answered.{answer_on}
 use Rattle.node_wire.proofs.TakenOff.{TakenOff, all_taken_off, in_front, none_behind, taken_more, taken_none}
 use Rattle.node_wire.proofs.Texts.{text_more}
@@ -88,34 +88,18 @@ module _ {S D P G C N : Type 0} (steps : N → Event D → Result (Reply S D P G
       written = so_far.written;
     }
 
-    -- the next event ends too far
-    ends_far : (given left : Option (List ℕ)) (state : InputState) (events : List (Event D)) → TakenOff F p given left state.place events
-        → EndsTooFar F p state.place left → EndsTooFarBehind F p events given
-    ends_far given left state events off far =
-        let after : InputState = record { held = []; behind = 0; place = state.place + length (event_spelling p (event_value far.event)); taken = state.taken + 1 } in
-        let took : IsTaken F p (event_value far.event) state left after far.rest = record { event = far.fits; bytes = far.there; place = refl; taken = refl } in
-        let all : TakenOff F p given far.rest after.place (events ++ far.event ∷ []) = taken_more F p given left far.rest events far.event state after off took in
-        record {
-          event = far.event;
-          read = in_front F p given far.rest after.place (events ++ far.event ∷ []) all;
-          far = subst (λ (n : ℕ). 2 ^ 64 ≤ n) all.at far.far;
-        }
-
     -- why no more was read
-    why_given_up : (given left : Option (List ℕ)) (state : InputState) (events : List (Event D)) (Now Failed : Type 0) → (Now → Failed)
-        → TakenOff F p given left state.place events → length events ≡ state.taken → IsGivenUp F p state left Now
-        → (length events ≡ 2 ^ 32) ⊎ (EndsTooFarBehind F p events given ⊎ Failed)
-    why_given_up given left state events Now Failed turn off count (inl spent) = inl (count ∙ spent)
-    why_given_up given left state events Now Failed turn off count (inr (inl far)) = inr (inl (ends_far given left state events off far))
-    why_given_up given left state events Now Failed turn off count (inr (inr failed)) = inr (inr (turn failed))
+    why_given_up : (state : InputState) (events : List (Event D)) (Now Failed : Type 0) → (Now → Failed) → length events ≡ state.taken → IsGivenUp state Now → (length events ≡ 2 ^ 32) ⊎ Failed
+    why_given_up state events Now Failed turn count (inl spent) = inl (count ∙ spent)
+    why_given_up state events Now Failed turn count (inr failed) = inr (turn failed)
 
     -- the input was given up, for this reason
     pub ends_given_up : (old new : N) (given left : Option (List ℕ)) (state : InputState) (text more : Option (List ℕ)) (Now Failed : Type 0) → (Now → Failed)
-        → StreamsOn old given left state text more new → IsGivenUp F p state left Now → GivesUp F p w (Answer steps old new) Failed given text more
+        → StreamsOn old given left state text more new → IsGivenUp state Now → GivesUp F p w (Answer steps old new) Failed given text more
     unfolding ends_front
     ends_given_up old new given left state text more Now Failed turn so_far is = record {
       front = ends_front old new given left state text more so_far;
-      why = why_given_up given left state so_far.events Now Failed turn so_far.taken so_far.count is;
+      why = why_given_up state so_far.events Now Failed turn so_far.count is;
     }
 
     -- a front of the last reply was written
@@ -176,7 +160,7 @@ module _ {S D P G C N : Type 0} (steps : N → Event D → Result (Reply S D P G
 
       -- no event was taken, for this reason
       pub ends_unread : (A : Type 0) (old new : N) (given left : Option (List ℕ)) (state : InputState) (text more : Option (List ℕ)) (why : IoFault) (Now Failed : Type 0) → (Now → Failed) → state.taken < 2 ^ 32
-          → StreamsOn old given left state text more new → IsFault state.place (IsGivenUp F p state left Now) (IfSome left (HasNone q)) why
+          → StreamsOn old given left state text more new → IsFault state.place (IsGivenUp state Now) (IfSome left (HasNone q)) why
           → EndsIn F p w {A = A} q (Answer steps old new) (AnswerBefore steps old new) Failed (Err why) given text more
       unfolding ends_front
       ends_unread A old new given left state text more fault.Read Now Failed turn few so_far is = ends_given_up old new given left state text more Now Failed turn so_far is

@@ -1,16 +1,15 @@
 -- What is taken of what is held, and refused there, in the words of what is left of an input.
-use Rattle.std.proofs.Common.{◌≡◌, ◌≢◌, ℕ, ◌+◌, ◌≤◌, ◌^◌, List, [], ◌++◌, drop, length, arith, Option, None, Some, IfSome, sym, ap, ◌∙◌, subst, inl, inr}
+use Rattle.std.proofs.Common.{◌≡◌, ◌≢◌, ℕ, ◌+◌, ◌≤◌, List, [], drop, length, arith, Option, None, Some, IfSome, sym, ap, ◌∙◌, subst, inl, inr}
 use Rattle.std.specs.Prelude.{Result, Err}
 use Rattle.std.proofs.lemmas.List.{drop_all, length-drop}
-use Rattle.std.specs.Io.KnownBytes.{Consumes, Keeps, IsAtEnd, prepend_known}
+use Rattle.std.specs.Io.KnownBytes.{Keeps, IsAtEnd, prepend_known}
 use Rattle.std.proofs.KnownBytes.{prepend_known-read}
 use Rattle.types_codec.specs.declared.codec.CodecError.{CodecError}
 use Rattle.types_codec.specs.declared.codec.CodecError.TheVariants.{End}
 use Rattle.simplex_member.specs.declared.fault.IoFault.{IoFault}
 use Rattle.simplex_member.specs.declared.fault.IoFault.TheVariants as fault
-use Rattle.simplex_member.specs.declared.event.Event.{Event}
-use Rattle.node_wire.specs.Event.{EventValue, IsEvent, event_at, event_spelling, event_value}
-use Rattle.node_wire.specs.Stream.{EndsTooFar, HasNone, InputState, IsBarred, IsFault, IsTaken, left_of}
+use Rattle.node_wire.specs.Event.{EventValue, event_at, event_spelling}
+use Rattle.node_wire.specs.Stream.{HasNone, InputState, IsBarred, IsFault, IsTaken, left_of}
 
 -- what is taken of what is held is taken of what is left
 pub taken_over : {D : Type 0} {F : D → Type 0} {p : D → List ℕ} (e : EventValue D) (old mid new : InputState) (a r : Option (List ℕ)) → mid.place ≡ old.place → mid.taken ≡ old.taken
@@ -20,36 +19,6 @@ taken_over {D} {F} {p} e old mid new a r place taken kept t = record {
   bytes = (prepend_known-read (left_of old a) r mid.held new.held (event_spelling p e) ⊥ kept t.bytes (λ x. absurd x)).0;
   place = t.place ∙ ap (λ (n : ℕ). n + length (event_spelling p e)) place;
   taken = t.taken ∙ ap (λ (n : ℕ). n + 1) taken;
-}
-
--- so it is of one that ends too far
-far_rest : {D : Type 0} (p : D → List ℕ) (e : EventValue D) (old mid : InputState) (a r rest : Option (List ℕ)) → Keeps (left_of old a) (left_of mid r)
-    → Consumes (Some mid.held) rest (event_spelling p e) → (more : Option (List ℕ)) × Consumes (left_of old a) more (event_spelling p e)
-far_rest p e old mid a r None kept there = absurd there
-far_rest p e old mid a r (Some held) kept there =
-    (prepend_known held r, (prepend_known-read (left_of old a) r mid.held held (event_spelling p e) ⊥ kept there (λ x. absurd x)).0)
-
-pub far_over : {D : Type 0} {F : D → Type 0} {p : D → List ℕ} (old mid : InputState) (a r : Option (List ℕ)) → mid.place ≡ old.place → Keeps (left_of old a) (left_of mid r)
-    → EndsTooFar F p mid.place (Some mid.held) → EndsTooFar F p old.place (left_of old a)
-far_over {D} {F} {p} old mid a r place kept far =
-    let left = far_rest p (event_value far.event) old mid a r far.rest kept far.there in
-    record {
-      event = far.event;
-      fits = far.fits;
-      rest = left.0;
-      there = left.1;
-      far = subst (λ (n : ℕ). 2 ^ 64 ≤ n + length (event_spelling p (event_value far.event))) place far.far;
-    }
-
--- an event at the front that ends behind the last place of 64 bits
-pub too_far : {D : Type 0} {F : D → Type 0} {p : D → List ℕ} (event : Event D) (place size : ℕ) (held rest : List ℕ) → IsEvent F (event_value event)
-    → held ≡ event_spelling p (event_value event) ++ rest → size ≡ length (event_spelling p (event_value event)) → 2 ^ 64 ≤ place + size → EndsTooFar F p place (Some held)
-too_far event place size held rest fits whole size_is far = record {
-  event = event;
-  fits = fits;
-  rest = Some rest;
-  there = whole;
-  far = subst (λ (n : ℕ). 2 ^ 64 ≤ place + n) size_is far;
 }
 
 module _ {D : Type 0} (q : List ℕ → Result (D × List ℕ) CodecError) where

@@ -7,7 +7,7 @@ use Rattle.types_codec.specs.Varint.{varint, varint_at, max_u32, max_u64}
 use Rattle.simplex_member.specs.declared.event.Channel.{Channel}
 use Rattle.simplex_member.specs.declared.event.Event.{Event}
 use Rattle.simplex_member.specs.declared.event.Event.TheVariants as event
-use Rattle.node_wire.specs.Parts.{channel_byte, channel_at, answer_byte, answer_at, counted_spelling, counted_at, optional_spelling, optional_fits, optional_at}
+use Rattle.node_wire.specs.Parts.{channel_byte, channel_at, answer_byte, answer_at, counted_spelling, counted_at, optional_length, optional_spelling, optional_fits, optional_at}
 
 -- an event as a value, which says of a packet's bytes which they are, and not where they are kept
 pub data EventValue (D : Type 0) : Type 0 where
@@ -20,6 +20,10 @@ pub data EventValue (D : Type 0) : Type 0 where
 -- the most bytes of a packet in an event
 abbrev pub most_bytes : ℕ
 most_bytes = 16777216
+
+-- more bytes than any event has
+abbrev pub longest_event : ℕ
+longest_event = 33554432
 
 -- events on payloads D
 module _ {D : Type 0} where
@@ -66,6 +70,14 @@ module _ {D : Type 0} where
   event_within (Checked number answer) = ⊤
   event_within (Verdict view ok) = ⊤
   event_within (Moment now) = ⊤
+
+  -- how many bytes of an event are a payload's
+  abbrev pub payload_length : (D → List ℕ) → EventValue D → ℕ
+  payload_length p (Packet sender by bytes) = 0
+  payload_length p (Built number payload) = optional_length p payload
+  payload_length p (Checked number answer) = 0
+  payload_length p (Verdict view ok) = 0
+  payload_length p (Moment now) = 0
 
   -- an event that can be read, where these payloads can
   abbrev pub IsEvent : (D → Type 0) → EventValue D → Type 0

@@ -9,7 +9,7 @@ use Rattle.simplex_member.specs.declared.fault.IoFault.TheVariants as fault
 use Rattle.simplex_member.specs.declared.fault.NodeFault.{NodeFault}
 use Rattle.node_wire.specs.Event.{event_value}
 use Rattle.node_wire.specs.Stream.{AreEvents}
-use Rattle.node_wire.specs.Streaming.{AnswersAll, AnswersFront, BreaksOff, EndsIn, EndsTooFarBehind, GivesUp, StandInFront}
+use Rattle.node_wire.specs.Streaming.{AnswersAll, AnswersFront, BreaksOff, EndsIn, GivesUp, StandInFront}
 
 module _ {S D P G C : Type 0} (F : D → Type 0) (p : D → List ℕ) (w : Reply S D P G C → List ℕ) (q : List ℕ → Result (D × List ℕ) CodecError) where
   -- all events of the bytes stand at their front
@@ -83,18 +83,14 @@ module _ {S D P G C : Type 0} (F : D → Type 0) (p : D → List ℕ) (w : Reply
       ends_as (Err fault.Memory) given text more (inr (ends, none)) = inr (other_broken given text more ends, none)
 
     -- by what follows of a read that failed
-    other_why : (Many Far Other : Type 0) → (ReadFailed → Other) → Many ⊎ (Far ⊎ ReadFailed) → Many ⊎ (Far ⊎ Other)
-    other_why Many Far Other turn (inl many) = inl many
-    other_why Many Far Other turn (inr (inl far)) = inr (inl far)
-    other_why Many Far Other turn (inr (inr failed)) = inr (inr (turn failed))
+    other_why : (Many Other : Type 0) → (ReadFailed → Other) → Many ⊎ ReadFailed → Many ⊎ Other
+    other_why Many Other turn (inl many) = inl many
+    other_why Many Other turn (inr failed) = inr (turn failed)
 
     pub ends_where : {A : Type 0} (Other : Type 0) → (ReadFailed → Other) → (r : Result A IoFault) (given text more : Option (List ℕ))
         → EndsIn F p w q Answered Failed ReadFailed r given text more → EndsIn F p w q Answered Failed Other r given text more
     ends_where Other turn (Ok x) given text more ends = ends
-    ends_where Other turn (Err fault.Read) given text more ends = record {
-      front = ends.front;
-      why = other_why (length ends.front.events ≡ 2 ^ 32) (EndsTooFarBehind F p ends.front.events given) Other turn ends.why;
-    }
+    ends_where Other turn (Err fault.Read) given text more ends = record { front = ends.front; why = other_why (length ends.front.events ≡ 2 ^ 32) Other turn ends.why }
     ends_where Other turn (Err fault.Write) given text more ends = ends
     ends_where Other turn (Err (fault.BadEvent place)) given text more ends = ends
     ends_where Other turn (Err (fault.Node why)) given text more ends = ends

@@ -53,6 +53,10 @@ module _ {A : Type 0} where
   optional_body f None = []
   optional_body f (Some x) = f x
 
+  -- how many those are
+  abbrev pub optional_length : (A → List ℕ) → Option A → ℕ
+  optional_length f x = length (optional_body f x)
+
   -- a value or none: a byte that says which, then the value
   abbrev pub optional_spelling : (A → List ℕ) → Option A → List ℕ
   optional_spelling f x = optional_tag x ∷ optional_body f x

@@ -1,13 +1,12 @@
 -- The events of an input.
-use Rattle.std.specs.Prelude.{◌≡◌, ◌≢◌, ◌⊎◌, ◌≤◌, ℕ, ◌+◌, ◌^◌, List, [], ◌++◌, length, All, Option, MatchOption, Result, Ok, Err, ⊤}
+use Rattle.std.specs.Prelude.{◌≡◌, ◌≢◌, ◌⊎◌, ℕ, ◌+◌, ◌^◌, List, [], ◌++◌, length, All, Option, MatchOption, Result, Ok, Err, ⊤}
 use Rattle.std.specs.List.{flat_map}
 use Rattle.std.specs.Io.KnownBytes.{Consumes, prepend_known}
 use Rattle.types_codec.specs.declared.codec.CodecError.{CodecError}
 use Rattle.types_codec.specs.declared.codec.CodecError.TheVariants.{End, Invalid, TooLong, Memory}
 use Rattle.simplex_member.specs.declared.fault.IoFault.{IoFault}
 use Rattle.simplex_member.specs.declared.fault.IoFault.TheVariants as fault
-use Rattle.simplex_member.specs.declared.event.Event.{Event}
-use Rattle.node_wire.specs.Event.{EventValue, IsEvent, event_at, event_spelling, event_value}
+use Rattle.node_wire.specs.Event.{EventValue, IsEvent, event_at, event_spelling}
 
 -- reading was refused for what the bytes are, and not since they ended
 abbrev pub IsBarred : {A : Type 0} → Result A CodecError → Type 0
@@ -44,17 +43,9 @@ pub record HasNone {D : Type 0} (q : List ℕ → Result (D × List ℕ) CodecEr
   pub whole : bytes ≡ front ++ more
   pub refused : IsBarred (event_at q front) ⊎ ((event_at q front ≡ Err End) × (more ≡ []))
 
--- an event at the front of what is left ends, counted from this place, behind the last one of 64 bits
-pub record EndsTooFar {D : Type 0} (F : D → Type 0) (p : D → List ℕ) (place : ℕ) (left : Option (List ℕ)) : Type 0 where
-  pub event : Event D
-  pub fits : IsEvent F (event_value event)
-  pub rest : Option (List ℕ)
-  pub there : Consumes left rest (event_spelling p (event_value event))
-  pub far : 2 ^ 64 ≤ place + length (event_spelling p (event_value event))
-
--- where an input stands so, and this is left of it, it is given up: behind 2^32 events, before one that ends too far, or since a read failed
-abbrev pub IsGivenUp : {D : Type 0} → (D → Type 0) → (D → List ℕ) → InputState → Option (List ℕ) → Type 0 → Type 0
-IsGivenUp F p state left ReadFailed = (state.taken ≡ 2 ^ 32) ⊎ (EndsTooFar F p state.place left ⊎ ReadFailed)
+-- where an input stands so it is given up: behind 2^32 events, or since a read failed
+abbrev pub IsGivenUp : InputState → Type 0 → Type 0
+IsGivenUp state ReadFailed = (state.taken ≡ 2 ^ 32) ⊎ ReadFailed
 
 -- why no event was taken at this place: the input was given up; or a bad event, for that reason, is named by the place
 abbrev pub IsFault : ℕ → Type 0 → Type 0 → IoFault → Type 0

@@ -1,5 +1,5 @@
 -- What steps over the events of a stream come to: what was read, what was written, and what is left of what stepped.
-use Rattle.std.specs.Prelude.{◌≡◌, ◌++◌, ◌⊎◌, ◌<◌, ◌≤◌, ◌^◌, ℕ, List, [], ◌∷◌, length, map, Option, None, Some, IfSome, Result, Ok, Err}
+use Rattle.std.specs.Prelude.{◌≡◌, ◌++◌, ◌⊎◌, ◌<◌, ◌^◌, ℕ, List, [], ◌∷◌, length, map, Option, None, Some, IfSome, Result, Ok, Err}
 use Rattle.std.specs.List.{flat_map}
 use Rattle.std.specs.Io.KnownBytes.{Appends, Keeps}
 use Rattle.types_codec.specs.declared.codec.CodecError.{CodecError}
@@ -8,7 +8,7 @@ use Rattle.simplex_member.specs.declared.event.Event.{Event}
 use Rattle.simplex_member.specs.declared.fault.IoFault.{IoFault}
 use Rattle.simplex_member.specs.declared.fault.IoFault.TheVariants as fault
 use Rattle.simplex_member.specs.declared.fault.NodeFault.{NodeFault}
-use Rattle.node_wire.specs.Event.{event_spelling, event_value}
+use Rattle.node_wire.specs.Event.{event_value}
 use Rattle.node_wire.specs.Reply.{reply_spelling, reply_value}
 use Rattle.node_wire.specs.Stream.{AreEvents, AreTaken}
 use Rattle.types_codec.specs.Front.{AppendsFront}
@@ -20,12 +20,6 @@ spelled k p q r reply = reply_spelling k p q r (reply_value reply)
 -- these events stand at the front of the bytes, by the spelling of payloads
 abbrev pub StandInFront : {D : Type 0} → (D → Type 0) → (D → List ℕ) → List (Event D) → List ℕ → Type 0
 StandInFront F p events bytes = (rest : List ℕ) × AreTaken F p bytes (map event_value events) rest
-
--- an event behind these ends behind the last place that 64 bits tell
-pub record EndsTooFarBehind {D : Type 0} (F : D → Type 0) (p : D → List ℕ) (events : List (Event D)) (given : Option (List ℕ)) : Type 0 where
-  pub event : Event D
-  pub read : IfSome given (StandInFront F p (events ++ event ∷ []))
-  pub far : 2 ^ 64 ≤ length (flat_map (event_spelling p) (map event_value (events ++ event ∷ [])))
 
 -- by what a step over an event may answer, and leave
 module _ {S D P G C N : Type 0} (steps : N → Event D → Result (Reply S D P G C) NodeFault → N → Type 0) where
@@ -63,10 +57,10 @@ module _ {S D P G C : Type 0} (F : D → Type 0) (p : D → List ℕ) (w : Reply
       pub split : w reply ≡ front ++ rest
       pub written : Appends text more (flat_map w replies ++ front)
 
-    -- behind the answers to some events no more was read: they are 2^32, or the next ends too far, or a read failed
+    -- behind the answers to some events no more was read: they are 2^32, or a read failed
     pub record GivesUp (ReadFailed : Type 0) (given text more : Option (List ℕ)) : Type 0 where
       pub front : AnswersFront given text more
-      pub why : (length front.events ≡ 2 ^ 32) ⊎ (EndsTooFarBehind F p front.events given ⊎ ReadFailed)
+      pub why : (length front.events ≡ 2 ^ 32) ⊎ ReadFailed
 
     -- all events of the input, fewer than 2^32, were answered, and the replies were written. Behind them there is nothing, or at this place
     -- no event

@@ -1,12 +1,13 @@
 //! The events of an input, one by one.
 
-ghost use Rattle.std.specs.Prelude.{◌≡◌, ◌≢◌, ◌↔◌, ◌⊎◌, ◌<◌, ◌≤◌, ◌^◌, [], ◌++◌, drop, length, false, true, Err, Some, IfErr, IfNone, IfOk, IfSome, IsTrue, OnErr, OnOk};
+ghost use Rattle.std.specs.Prelude.{◌≡◌, ◌≢◌, ◌↔◌, ◌⊎◌, ◌<◌, ◌≤◌, ◌*◌, ◌^◌, [], ◌++◌, drop, length, false, true, Err, Some, IfErr, IfNone, IfOk, IfSome, IsTrue, OnErr, OnOk};
 ghost use Rattle.std.specs.Io.KnownBytes.{IsAtEnd, Keeps};
 ghost use Rattle.journal_single.specs.Disk.{counted};
 ghost use Rattle.types_codec.specs.declared.codec.CodecError.TheVariants.{End, Memory as NoMemory};
 ghost use Rattle.simplex_member.specs.declared.fault.IoFault.TheVariants.{BadEvent, Memory, Read};
-ghost use Rattle.node_wire.specs.Event.{IsEvent, event_at, event_spelling, event_value};
-ghost use Rattle.node_wire.specs.Stream.{EndsTooFar, HasNone, IsBarred, IsFault, IsGivenUp, IsTaken, left_of};
+ghost use Rattle.node_wire.specs.Event.{IsEvent, event_at, event_spelling, event_value, longest_event, payload_length};
+ghost use Rattle.node_wire.specs.Parts.{optional_length};
+ghost use Rattle.node_wire.specs.Stream.{HasNone, IsBarred, IsFault, IsGivenUp, IsTaken, left_of};
 
 use crate::event::read_event;
 use crate::streams::Source;
@@ -32,14 +33,40 @@ pub struct EventInput {
 }
 
 impl Model for EventInput {
-    ghost use Rattle.std.specs.Prelude.{◌≤◌, ◌^◌, drop, vec_len};
+    ghost use Rattle.std.specs.Prelude.{◌≤◌, ◌*◌, ◌^◌, drop, vec_len};
+    ghost use Rattle.node_wire.specs.Event.{longest_event};
     ghost use Rattle.node_wire.specs.Stream.{InputState};
 
     ghost Value = { InputState };
 
     ghost view = { λ i. record { held = drop i.start i.bytes.items; behind = i.start; place = i.place; taken = i.taken } };
 
-    ghost invariant = { λ i. (i.start ≤ vec_len i.bytes) × (i.taken ≤ 2 ^ 32) };
+    ghost invariant = { λ i. (i.start ≤ vec_len i.bytes) × (i.taken ≤ 2 ^ 32) × (i.place ≤ i.taken * longest_event) };
+}
+
+/// How many bytes a payload has, if there is one.
+fn optional_size<D: Digest>(payload: &Option<D>) -> usize
+    ensures size { result ≡ optional_length D.spelling payload.now }
+    ensures short { result ≤ 1024 }
+{
+    match payload {
+        Some(payload) => payload.encode_size(),
+        None => 0,
+    }
+}
+
+/// How many bytes the payload of an event has.
+fn payload_size<D: Digest>(event: &Event<D>) -> usize
+    ensures size { result ≡ payload_length D.spelling (event_value event.now) }
+    ensures short { result ≤ 1024 }
+{
+    match event {
+        Event::Built { payload, .. } => optional_size(payload),
+        Event::Packet { .. } => 0,
+        Event::Checked { .. } => 0,
+        Event::Verdict { .. } => 0,
+        Event::Moment(_) => 0,
+    }
 }
 
 /// The event at the front, and how many bytes it has.
@@ -52,10 +79,12 @@ fn front_event<D: Digest>(
     ensures whole { IfOk result (λ x. bytes.now ≡ event_spelling D.spelling (event_value x.0) ++ drop x.1 bytes.now) }
     ensures size { IfOk result (λ x. x.1 ≡ length (event_spelling D.spelling (event_value x.0))) }
     ensures within { IfOk result (λ x. x.1 ≤ length bytes.now) }
+    ensures short { IfOk result (λ x. x.1 ≤ longest_event) }
     ensures refused { IfErr result (λ e. e ≢ NoMemory → event_at (D.reading bound) bytes.now ≡ Err e) }
 {
     let mut rest = bytes;
     let event = read_event(alloc, &mut rest, bound)?;
+    let _payload = payload_size(&event);
     Ok((event, bytes.len() - rest.len()))
 }
 
@@ -128,15 +157,12 @@ impl EventInput {
         ensures cut { IfOk result (λ found. IfNone found (event_at (D.reading bound) self.old.held ≡ Err End)) }
         ensures same { IfOk result (λ found. IfNone found (self.new ≡ self.old)) }
         ensures err { OnErr result (self.new ≡ self.old) }
-        ensures fault { IfErr result (IsFault self.old.place (EndsTooFar D.fits D.spelling self.old.place (Some self.old.held))
+        ensures fault { IfErr result (IsFault self.old.place ⊥
             (IsBarred (event_at (D.reading bound) self.old.held))) }
     {
         match front_event(alloc, &self.bytes[self.start..], bound) {
             Ok((event, size)) => {
-                let Some(place) = self.place.checked_add(size as u64) else {
-                    return Err(IoFault::Read);
-                };
-                self.place = place;
+                self.place += size as u64;
                 self.start += size;
                 self.taken += 1;
                 Ok(Some(event))
@@ -160,9 +186,8 @@ impl EventInput {
     ///
     /// # Errors
     ///
-    /// [`IoFault::BadEvent`] where no event begins, or the input ends within it; [`IoFault::Read`] where a read failed, behind 2^32
-    /// events, and before an event that ends behind 2^64-1 bytes; [`IoFault::Memory`], after which it isn't said what is left. After
-    /// another nothing is lost.
+    /// [`IoFault::BadEvent`] where no event begins, or the input ends within it; [`IoFault::Read`] where a read failed, and behind 2^32
+    /// events; [`IoFault::Memory`], after which it isn't said what is left. After another nothing is lost.
     #[tactic(auto, using(crate::proofs::Taking::taken_over, crate::proofs::Taking::fault_over, crate::proofs::Taking::barred_left, crate::proofs::Taking::cut_left))]
     pub fn next_event<R: Source, D: Digest>(
         &mut self,
@@ -180,8 +205,7 @@ impl EventInput {
         ensures place { OnErr result (self.new.place ≡ self.old.place) }
         ensures taken { OnErr result (self.new.taken ≡ self.old.taken) }
         ensures fault { IfErr result (IsFault self.old.place
-            (IsGivenUp D.fits D.spelling self.old (left_of self.old (R.remaining reader.old)) (R.failed reader.new ≡ counted false
-            (R.failed reader.old))) (IfSome (left_of self.old (R.remaining reader.old)) (HasNone (D.reading bound)))) }
+            (IsGivenUp self.old (R.failed reader.new ≡ counted false (R.failed reader.old))) (IfSome (left_of self.old (R.remaining reader.old)) (HasNone (D.reading bound)))) }
         ensures limit { self.old.taken ≡ 2 ^ 32 → (result ≡ Err Read) × (reader.new ≡ reader.old) }
         ensures not_failed { result ≢ Err Read → R.failed reader.new ≡ R.failed reader.old }
     {

@@ -22,8 +22,7 @@ const LARGEST: u32 = 65_535;
 ///
 /// # Errors
 ///
-/// [`IoFault::Read`] where a read failed, behind 2^32 events, and before an event that ends behind 2^64-1 bytes;
-/// [`IoFault::BadEvent`] with the place, counted from 0, of the first byte at which no event stands, behind the answers to all before
+/// [`IoFault::Read`] where a read failed, and behind 2^32 events; [`IoFault::BadEvent`] with the place, counted from 0, of the first byte at which no event stands, behind the answers to all before
 /// it; [`IoFault::Node`] where a step failed; [`IoFault::Write`] where a write or a flush failed: then a front of the last reply was
 /// written; [`IoFault::Memory`] where there is none for an event, or for the last reply's bytes: then nothing of it was written.
 pub fn answer_stream<

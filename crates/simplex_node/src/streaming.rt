@@ -23,11 +23,10 @@ use types_terms::Elector;
 ///
 /// # Errors
 ///
-/// [`IoFault::Read`] where a read failed, behind 2^32 events, and before an event that ends behind 2^64-1 bytes;
-/// [`IoFault::BadEvent`] with the place, counted from 0, of the first byte at which no event stands, behind the answers to all before
-/// it; [`IoFault::Node`] where a step failed, behind the answers to all before it; [`IoFault::Write`] where a write or a flush failed:
-/// then a front of the last reply was written; [`IoFault::Memory`] where there is none for an event, or for the last reply's bytes:
-/// then nothing of it was written.
+/// [`IoFault::Read`] where a read failed, and behind 2^32 events; [`IoFault::BadEvent`] with the place, counted from 0, of the
+/// first byte at which no event stands, behind the answers to all before it; [`IoFault::Node`] where a step failed, behind the
+/// answers to all before it; [`IoFault::Write`] where a write or a flush failed: then a front of the last reply was written;
+/// [`IoFault::Memory`] where there is none for an event, or for the last reply's bytes: then nothing of it was written.
 pub fn run_io<S: Scheme<D> + Drop, L: Elector<S, D>, D: Digest, K: Disk, R: Source, W: Sink>(
     alloc: Global,
     node: &mut Node<S, L, D, K>,

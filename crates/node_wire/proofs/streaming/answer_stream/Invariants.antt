@@ -6,8 +6,8 @@ use Rattle.node_wire.proofs.Streamed.{StreamsOn}
 use Rattle.node_wire.proofs.streaming.answer_stream.Given as goal
 
 -- the events that were taken so far were answered; nothing is written, and no step made, where no step answers; and no stream failed
-abbrev pub invariant-loop-input : goal.invariant-loop-input
-invariant-loop-input g l = record {
+abbrev pub invariant-loop-alloc : goal.invariant-loop-alloc
+invariant-loop-alloc g l = record {
   so_far : StreamsOn g.T.Stepper.steps g.D.Write.fits g.D.Write.spelling (spelled {S = g.row.S.Denot} g.S.PublicKey.Write.spelling g.D.Write.spelling g.S.Signature.Write.spelling g.S.Certificate.Write.spelling)
       l.fn.node (g.R.Source.remaining l.fn.reader) (left_of l.input (g.R.Source.remaining l.reader)) l.input (g.W.Sink.contents l.fn.writer) (g.W.Sink.contents l.writer) l.node;
   still : AnswersNone g.T.Stepper.steps l.fn.node → (l.node ≡ l.fn.node) × (l.writer ≡ l.fn.writer);
@@ -17,5 +17,5 @@ invariant-loop-input g l = record {
 }
 
 -- how many events may still be taken
-abbrev pub decreases-loop-input : goal.decreases-loop-input
-decreases-loop-input g l = 2 ^ 32 - l.input.taken
+abbrev pub decreases-loop-alloc : goal.decreases-loop-alloc
+decreases-loop-alloc g l = 2 ^ 32 - l.input.taken
