@@ -7,7 +7,6 @@ use Rattle.journal_look.specs.declared.looking.Strange.TheVariants as strange
 use Rattle.simplex_record.specs.Record.{entries, greatest, last_finalized}
 use Rattle.simplex_record.specs.Lawful.{IsLawful, IsRefusedAt}
 use Rattle.cli_tool.specs.ToolAnswers.{Entry, IsEntry, attests_in, certifies_in, entry_spelling, owner_of}
-use Rattle.cli_opening.specs.declared.looking.Barred.{Barred}
 use Rattle.cli_opening.specs.declared.looking.Barred.TheVariants as barred
 use Rattle.cli_opening.specs.declared.looking.Found.{Found}
 use Rattle.cli_opening.specs.Looking.{IsBarred, IsFoundIn, barred_of, view_of}

@@ -169,11 +169,18 @@ fn refused_in(
     ensures refused { IfOk result
         (λ found. IfSome found (IsRefusedAt (attests_in count) (certifies_in count) (owner_of index) artifacts.now)) }
 {
-    let owner = Owner {
+    let owner = owner_at(index);
+    let scheme = scheme_of(alloc, count)?;
+    first_refused(alloc, &scheme, owner, artifacts)
+}
+
+/// Whose record a member's is that the program runs.
+fn owner_at(index: u16) -> Owner
+    ensures { result ≡ owner_of index }
+{
+    Owner {
         epoch: Epoch::new(0),
         term_length: TermLength::new(TERM),
         signer: Participant::new(u32::from(index)),
-    };
-    let scheme = scheme_of(alloc, count)?;
-    first_refused(alloc, &scheme, owner, artifacts)
+    }
 }

@@ -2,6 +2,7 @@
 //! checked what of its file is no part of it.
 #![tactic(auto)]
 
+ghost use Rattle.std.specs.Prelude.{◌<◌};
 ghost use Rattle.cli_tool.specs.Command.{IsAsked};
 
 use cli_audit::read_all;
