@@ -1,17 +1,15 @@
 -- What lives leave: one more behind those before it, by what it answered, and what a crash inside it leaves.
-use Rattle.std.proofs.Common.{◌≡◌, ◌⊎◌, ⊎_elim, inl, inr, ◌≤◌, ◌+◌, ℕ, List, [], ◌∷◌, ◌++◌, length, Option, Some, None, refl, sym, ap, ◌∙◌, subst, append_assoc, map, arith}
-use Rattle.std.specs.Prelude.{All, Contains, IfSome, MatchOption, option_map, option_to_list}
-use Rattle.std.proofs.lemmas.List.{append-nil, length-append}
-use Rattle.std.proofs.lemmas.List.Elements.{All-cons, All-contains, All-head, All-nil, Contains-append_right}
+use Rattle.std.proofs.Common.{◌≡◌, inl, inr, ℕ, List, [], ◌∷◌, ◌++◌, length, Option, Some, None, refl, sym, ap, ◌∙◌, subst, append_assoc, map, arith}
+use Rattle.std.specs.Prelude.{All, IfSome, MatchOption, option_map, option_to_list}
+use Rattle.std.proofs.lemmas.List.{append-nil}
 use Rattle.std.proofs.lemmas.Option.{same_Some}
-use Rattle.types_quorum.specs.Counting.{Contains-head}
 use Rattle.types_core.specs.declared.scheme.Scheme.{Ghosts}
 use Rattle.messages_certificates.specs.declared.artifact.Artifact.{Artifact}
 use Rattle.types_terms.specs.declared.elector.Elector as elector
 use Rattle.journal_single.specs.declared.disk.Disk as disk
 use Rattle.journal_single.specs.Disk.{Call, LeavesOnly, MayLeave}
-use Rattle.journal_single.specs.Moments.{and_then, at_last, started, weaker}
-use Rattle.journal_single.specs.Record.{IsForeign, IsReopened, Reads}
+use Rattle.journal_single.specs.Moments.{and_then, weaker}
+use Rattle.journal_single.specs.Record.{IsForeign, Reads}
 use Rattle.simplex_member.specs.declared.action.Action.{Action}
 use Rattle.simplex_member.specs.declared.action.Reply.{Reply}
 use Rattle.simplex_member.specs.declared.event.Event.{Event}
@@ -22,9 +20,9 @@ use Rattle.simplex_member.specs.declared.fault.OpenFault.TheVariants as open_fau
 use Rattle.simplex_member.specs.declared.refusal.Refusal.{Refusal}
 use Rattle.simplex_member.specs.Deeds.{AreActions}
 use Rattle.simplex_member.specs.First.{IsFirst}
-use Rattle.simplex_member.specs.Lives.{Broken, Course, IsCut, Lasting, Life, Lived, Lives, Refuses, Turn, Turns, Went, events_of, turn_events}
+use Rattle.simplex_member.specs.Lives.{Broken, Course, Lasting, Life, Lived, Lives, Refuses, Turn, Turns, Went, turn_events}
 use Rattle.simplex_member.specs.Member as whole
-use Rattle.simplex_member.specs.Member.{AreStep, Goes, AreActionsOf, IsOpened, IsReached, ReadsAs, Run, Steps, Takes, after}
+use Rattle.simplex_member.specs.Member.{Goes, AreActionsOf, IsReached, ReadsAs, Run, Steps, Takes, after}
 use Rattle.simplex_member.specs.Packet.{Formats}
 use Rattle.simplex_member.specs.Point.{Point, History}
 use Rattle.simplex_member.specs.Recorded.{record_of}
@@ -34,11 +32,9 @@ use Rattle.simplex_record.specs.declared.owner.Owner.{Owner}
 use Rattle.simplex_record.specs.Lawful.{IsRefusedAt}
 use Rattle.node_record.specs.Ledger.{AreFoundOn, IsContradiction}
 use Rattle.node_steps.specs.Opening.{MayBeLeftOpen, early, open_tests}
-use Rattle.node_wire.specs.declared.listing.Answers.{Answers}
 use Rattle.simplex_node.specs.declared.living.Answered.{Answered}
-use Rattle.simplex_node.specs.declared.living.Answered.TheVariants.{NotOpened, Opened}
 use Rattle.simplex_node.specs.declared.living.Opening.{Opening}
-use Rattle.simplex_node.specs.Living.{AreLivesOf, AreOfOneMember, AreReplies, BeginsNone, FailsFor, Gives, IsLeftByLives, IsLeftByTurns, IsLifeOf, MayLeaveOnly, Tells, Try, setup_by, tried}
+use Rattle.simplex_node.specs.Living.{AreLivesOf, AreReplies, BeginsNone, FailsFor, Gives, IsLeftByLives, IsLeftByTurns, IsLifeOf, MayLeaveOnly, Tells, Try, setup_by, tried}
 use Rattle.simplex_node.specs.Running.{IsPassed, LeavesAtMost}
 
 some-none : {X : Type 0} (x : X) → Some x ≡ None → ⊥

@@ -1,5 +1,5 @@
 -- What one opening answers, and leaves, over what lives have left; and what several do.
-use Rattle.std.proofs.Common.{◌≡◌, ◌⊎◌, ◌≤◌, ◌+◌, ℕ, List, [], ◌∷◌, ◌++◌, length, false, Option, Some, None, refl, sym, ap, ◌∙◌, subst, append_assoc, map, arith}
+use Rattle.std.proofs.Common.{◌≡◌, ◌≤◌, ℕ, List, [], ◌∷◌, ◌++◌, length, false, Option, Some, None, refl, sym, ap, ◌∙◌, subst, append_assoc, arith}
 use Rattle.std.specs.declared.vec.Vec.{Vec}
 use Rattle.std.specs.declared.alloc.Global.{Global}
 use Rattle.std.specs.Prelude.{All, Contains, IfSome}
@@ -38,7 +38,7 @@ use Rattle.simplex_node.specs.declared.living.Answered.TheVariants.{NotOpened, O
 use Rattle.simplex_node.specs.declared.living.Opening.{Opening}
 use Rattle.simplex_node.specs.Living.{AreOfOneMember, FailsFor, Gives, IsLeftByLives, IsLeftByTurns, MayLeaveOnly, OverLives, Tells, Try, failures_behind, setup_by, spares_disk, tells_none, tried}
 use Rattle.simplex_node.specs.Running.{IsPassed, LeavesAtMost, RunFails, RunsTo}
-use Rattle.simplex_node.proofs.Lived.{fails, leaves-on, left-none, left-open, left-told, left-turned, left-untold, same-index, trial, tried-more, tried-none, turns-cut, turns-passed, turns-whole}
+use Rattle.simplex_node.proofs.Lived.{fails, leaves-on, left-none, left-open, left-told, left-turned, left-untold, same-index, tried-more, tried-none, turns-cut, turns-passed, turns-whole}
 
 module _ {S L D P G C K : Type 0} (g : Ghosts S D P G C) (e : elector.Ghosts L S D P G C) (k : disk.Ghosts K) (formats : ℕ → Formats S D P G C) (Readable : Artifact S D P G C → Type 0)
     (one_record : (image : List ℕ) (bodies others : List (List ℕ)) → Reads image bodies → Reads image others → bodies ≡ others)

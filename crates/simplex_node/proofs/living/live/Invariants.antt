@@ -2,7 +2,6 @@ use Rattle.std.proofs.Common.{◌≡◌, ◌≤◌, ◌+◌, ℕ, List, Some, le
 use Rattle.std.specs.Prelude.{All, vec_capacity, vec_len}
 use Rattle.simplex_member.specs.Packet.{formats}
 use Rattle.simplex_member.specs.Setup.{Setup}
-use Rattle.simplex_node.specs.declared.living.Opening.{Opening}
 use Rattle.simplex_node.specs.Living.{AreOfOneMember, IsLeftByLives, MayLeaveOnly, Try, failures_behind}
 use Rattle.simplex_node.proofs.Told.{LivesOn}
 use Rattle.simplex_node.proofs.living.live.Given as goal

@@ -1,5 +1,4 @@
-use Rattle.std.proofs.Common.{ℕ, List, Some, ap, sym, subst, ◌≡◌, ◌∙◌}
-use Rattle.journal_single.specs.Disk.{MayLeave}
+use Rattle.std.proofs.Common.{List, Some, ap, sym, subst, ◌∙◌}
 use Rattle.simplex_member.specs.declared.action.Reply.{Reply}
 use Rattle.simplex_member.specs.declared.fault.NodeFault.TheVariants as node_fault
 use Rattle.simplex_member.specs.Packet.{formats}

@@ -1,8 +1,6 @@
-use Rattle.std.proofs.Common.{ℕ, List, sym, subst}
-use Rattle.std.specs.Prelude.{◌≡◌}
+use Rattle.std.proofs.Common.{subst}
 use Rattle.journal_single.specs.Disk.{MayLeave}
 use Rattle.journal_single.specs.Moments.{at_last}
-use Rattle.node_steps.specs.Keeps.{disk_of}
 use Rattle.node_steps.proofs.node.Node.close.Goals as goal
 
 -- a node at rest leaves what its ledger holds
