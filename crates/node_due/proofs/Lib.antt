@@ -1,5 +1,5 @@
 mod Lasting
-mod Looking
+mod Polling
 mod Trying
 mod Making
 mod Casting
